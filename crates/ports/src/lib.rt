@@ -1,0 +1,14 @@
+//! Where bytes come from and go to, and what a test may do between the two halves of a call.
+//!
+//! The traits say what their implementors mean: what a source has left, what a sink holds, and a count
+//! of faults that never falls. A failure is answered only where that count rose, so that whoever stands
+//! above can tell a fault of the port from one of its own.
+#![tactic(auto)]
+
+mod pace;
+mod sink;
+mod source;
+
+pub use pace::{NoPace, Pace};
+pub use sink::{Put, Sink};
+pub use source::{Source, Taken};
