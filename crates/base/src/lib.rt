@@ -1,10 +1,11 @@
-//! What every crate above shares: the answer for want of memory, and a list with a name.
-//!
-//! The words for finite maps that contracts share stand in `specs/`.
+//! What every crate above shares: the answer for want of memory, a list with a name, and the words for
+//! finite maps that contracts cite.
 #![tactic(auto)]
 
 mod no_memory;
+mod number_map;
 mod sequence;
 
 pub use no_memory::NoMemory;
+pub use number_map::{number_map_laws, worked_examples};
 pub use sequence::Sequence;
