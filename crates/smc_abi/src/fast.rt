@@ -1,0 +1,48 @@
+ghost use Rattle.std.specs.Prelude.{◌≡◌, ◌<◌, ◌↔◌, IsTrue};
+ghost use Rattle.smc_abi.specs.FastAnswer.{capabilities_status, fast_answer_of};
+
+use crate::answer::{Answer, ENOTAVAIL, OK};
+use crate::call::FastCall;
+use crate::capabilities::{NormalCapabilities, SecureCapabilities};
+use crate::regs::Regs;
+use bitflags::Flags;
+
+/// What a fast call is answered by a core of `threads` threads. Takes no memory and changes nothing.
+pub fn fast_answer(call: FastCall, regs: &Regs, threads: u8) -> Answer
+    ensures { result ≡ fast_answer_of call regs.now.a threads }
+{
+    match call {
+        // `OPTEE_MSG_UID_0` to `OPTEE_MSG_UID_3` of `optee_msg.h`
+        FastCall::CallsUid => Answer::Words(0x384f_b3e0, 0xe7f8_11e3, 0xaf63_0002, 0xa5d5_c51b),
+        // `OPTEE_MSG_REVISION_MAJOR` and `OPTEE_MSG_REVISION_MINOR`
+        FastCall::CallsRevision => Answer::Words(2, 0, 0, 0),
+        // `OPTEE_MSG_OS_OPTEE_UUID_0` to `OPTEE_MSG_OS_OPTEE_UUID_3`
+        FastCall::OsUuid => Answer::Words(0x4861_78e0, 0xe7f8_11e3, 0xbc5e_0002, 0xa5d5_c51b),
+        // this project's own revision
+        FastCall::OsRevision => Answer::Words(4, 0, 0, 0),
+        // there is no reserved area
+        FastCall::ShmConfig => Answer::Words(ENOTAVAIL, 0, 0, 0),
+        FastCall::Capabilities => exchange_capabilities(regs.a[1]),
+        // the cache is always empty, so there is nothing to give back
+        FastCall::DisableShmCache => Answer::Words(ENOTAVAIL, 0, 0, 0),
+        // nothing is cached afterwards either
+        FastCall::EnableShmCache => Answer::Words(OK, 0, 0, 0),
+        FastCall::ThreadCount => Answer::Words(OK, u32::from(threads), 0, 0),
+    }
+}
+
+/// Tells the core's capabilities, and refuses those of the normal world that it does not know.
+fn exchange_capabilities(normal: u32) -> Answer
+    ensures { result ≡ Answer.Words (capabilities_status normal) 0x14 0 0 }
+{
+    let status = if are_known(normal) { OK } else { ENOTAVAIL };
+    let secure = SecureCapabilities::DYNAMIC_MEMORY.union(SecureCapabilities::NULL_REFERENCE);
+    Answer::Words(status, secure.bits(), 0, 0)
+}
+
+/// Whether each of these bits of the normal world has a name.
+fn are_known(normal: u32) -> bool
+    ensures { IsTrue result ↔ (normal < 2) }
+{
+    NormalCapabilities::from_bits(normal).is_some()
+}
