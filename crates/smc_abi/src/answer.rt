@@ -1,5 +1,5 @@
-ghost use Rattle.std.specs.Prelude.{◌≡◌, ◌/◌, ◌%◌, ◌^◌};
-ghost use Rattle.smc_abi.specs.Answer.{registers_of, words_of};
+ghost use Rattle.std.specs.Prelude.{◌≡◌, [], ◌∷◌};
+ghost use Rattle.smc_abi.specs.Answer.{pair, registers_of, words_of};
 
 use crate::regs::Regs;
 
@@ -53,22 +53,8 @@ impl Answer {
         match *self {
             Answer::Words(a0, a1, a2, a3) => [a0, a1, a2, a3],
             Answer::Alloc { size, thread } => [RPC_ALLOC, size, 0, u32::from(thread)],
-            Answer::Free { cookie, thread } => {
-                [
-                    RPC_FREE,
-                    upper_half(cookie),
-                    lower_half(cookie),
-                    u32::from(thread),
-                ]
-            }
-            Answer::Cmd { cookie, thread } => {
-                [
-                    RPC_CMD,
-                    upper_half(cookie),
-                    lower_half(cookie),
-                    u32::from(thread),
-                ]
-            }
+            Answer::Free { cookie, thread } => cookie_words(RPC_FREE, cookie, thread),
+            Answer::Cmd { cookie, thread } => cookie_words(RPC_CMD, cookie, thread),
             Answer::Interrupt { thread } => [RPC_INTERRUPT, 0, 0, u32::from(thread)],
         }
     }
@@ -83,14 +69,11 @@ pub fn encode_answer(answer: &Answer, caller: &Regs) -> Regs
     Regs { a }
 }
 
-fn upper_half(pair: u64) -> u32
-    ensures { result ≡ pair / 2 ^ 32 }
+/// The words of a request about the buffer of `cookie`.
+fn cookie_words(request: u32, cookie: u64, thread: u8) -> [u32; 4]
+    ensures { result ≡ request ∷ pair cookie (thread ∷ []) }
 {
-    (pair >> 32) as u32
-}
-
-fn lower_half(pair: u64) -> u32
-    ensures { result ≡ pair % 2 ^ 32 }
-{
-    (pair & 0xffff_ffff) as u32
+    let upper = (cookie >> 32) as u32;
+    let lower = (cookie & 0xffff_ffff) as u32;
+    [request, upper, lower, u32::from(thread)]
 }

@@ -7,19 +7,24 @@ use crate::capabilities::{NormalCapabilities, SecureCapabilities};
 use crate::regs::Regs;
 use bitflags::Flags;
 
+/// `OPTEE_MSG_UID_0` to `OPTEE_MSG_UID_3` of `optee_msg.h`.
+const API_UID: Answer = Answer::Words(0x384f_b3e0, 0xe7f8_11e3, 0xaf63_0002, 0xa5d5_c51b);
+/// `OPTEE_MSG_REVISION_MAJOR` and `OPTEE_MSG_REVISION_MINOR` of `optee_msg.h`.
+const API_REVISION: Answer = Answer::Words(2, 0, 0, 0);
+/// `OPTEE_MSG_OS_OPTEE_UUID_0` to `OPTEE_MSG_OS_OPTEE_UUID_3` of `optee_msg.h`.
+const OS_UUID: Answer = Answer::Words(0x4861_78e0, 0xe7f8_11e3, 0xbc5e_0002, 0xa5d5_c51b);
+/// The revision of this core, this project's own.
+const OS_REVISION: Answer = Answer::Words(4, 0, 0, 0);
+
 /// What a fast call is answered by a core of `threads` threads. Takes no memory and changes nothing.
 pub fn fast_answer(call: FastCall, regs: &Regs, threads: u8) -> Answer
     ensures { result ≡ fast_answer_of call regs.now.a threads }
 {
     match call {
-        // `OPTEE_MSG_UID_0` to `OPTEE_MSG_UID_3` of `optee_msg.h`
-        FastCall::CallsUid => Answer::Words(0x384f_b3e0, 0xe7f8_11e3, 0xaf63_0002, 0xa5d5_c51b),
-        // `OPTEE_MSG_REVISION_MAJOR` and `OPTEE_MSG_REVISION_MINOR`
-        FastCall::CallsRevision => Answer::Words(2, 0, 0, 0),
-        // `OPTEE_MSG_OS_OPTEE_UUID_0` to `OPTEE_MSG_OS_OPTEE_UUID_3`
-        FastCall::OsUuid => Answer::Words(0x4861_78e0, 0xe7f8_11e3, 0xbc5e_0002, 0xa5d5_c51b),
-        // this project's own revision
-        FastCall::OsRevision => Answer::Words(4, 0, 0, 0),
+        FastCall::CallsUid => API_UID,
+        FastCall::CallsRevision => API_REVISION,
+        FastCall::OsUuid => OS_UUID,
+        FastCall::OsRevision => OS_REVISION,
         // there is no reserved area
         FastCall::ShmConfig => Answer::Words(ENOTAVAIL, 0, 0, 0),
         FastCall::Capabilities => exchange_capabilities(regs.a[1]),
