@@ -1,1 +1,4 @@
+pub mod FaultPlan
+pub mod MemSink
+pub mod MemSource
 pub mod Port

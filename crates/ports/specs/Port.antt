@@ -1,5 +1,5 @@
 -- What a call of a port does to what it has left or holds, and to its count of faults.
-use Rattle.std.specs.Prelude.{◌≡◌, ℕ, ◌<◌, ◌⊎◌, List, ◌++◌, Option, Some, None}
+use Rattle.std.specs.Prelude.{◌≡◌, ℕ, ◌+◌, ◌<◌, ◌⊎◌, min, List, ◌++◌, Option, Some, None}
 use Rattle.ports.specs.declared.source.Taken.{Taken}
 use Rattle.ports.specs.declared.source.Taken.TheVariants.{Bytes, End, Failed}
 
@@ -10,6 +10,10 @@ MOST_FAULTS = 18446744073709551615
 -- the count rose, or stands at its end
 abbrev pub Rose : ℕ → ℕ → Type 0
 Rose old new = (old < new) ⊎ (new ≡ MOST_FAULTS)
+
+-- a count of calls or faults after one more
+abbrev pub risen : ℕ → ℕ
+risen n = min (n + 1) MOST_FAULTS
 
 -- a fact for the number of bytes that were taken
 abbrev pub IfBytes : Taken → (ℕ → Type 0) → Type 0

@@ -5,10 +5,15 @@
 //! above can tell a fault of the port from one of its own.
 #![tactic(auto)]
 
+mod fault_plan;
+mod mem_sink;
+mod mem_source;
 mod pace;
 mod sink;
 mod source;
 
+pub use mem_sink::MemSink;
+pub use mem_source::MemSource;
 pub use pace::{NoPace, Pace};
 pub use sink::{Put, Sink};
 pub use source::{Source, Taken};

@@ -1,0 +1,135 @@
+ghost use Rattle.std.specs.Prelude.{◌≡◌, ℕ, ◌<◌, ◌≤◌, IsNone, Some, length, take};
+ghost use Rattle.std.specs.Io.KnownBytes.{Consumes, IsAtEnd, Keeps};
+ghost use Rattle.ports.specs.Port.{IfBytes, Rose};
+
+use crate::interruption::{MOST_TRIES, is_interruption};
+use crate::source::{Source, Taken};
+use std::io::Read;
+use std::marker::Model;
+
+/// Why a reader gives no more.
+#[derive(Clone, Copy, Debug, PartialEq, Eq)]
+enum Stop {
+    /// A read gave no bytes.
+    End,
+    /// A read failed.
+    Fault,
+}
+
+/// A source over a reader: the edge to the outside, of whose bytes no contract speaks. A read of 0 bytes
+/// is the end.
+///
+/// A call reads until its buffer is full, or the reader stops. Where it stops with bytes read, the call
+/// gives these, and the next call answers why it stopped.
+#[derive(Debug, Drop)]
+pub struct StdSource<R: Read> {
+    reader: R,
+    faults: u64,
+    /// Why the reader stopped, where no call has answered it yet.
+    stopped: Option<Stop>,
+}
+
+impl<R: Read> Model for StdSource<R> {
+    ghost use Rattle.ports.specs.StdSource.{Reading, StoppedAt};
+
+    ghost Value = { Reading R };
+
+    ghost view = { λ s. record { reader = s.reader; faults = s.faults } };
+
+    ghost invariant = { λ s. StoppedAt (R.remaining s.reader) s.stopped };
+}
+
+impl<R: Read> StdSource<R> {
+    /// A source of what the reader gives. Takes no memory.
+    pub fn new(reader: R) -> StdSource<R>
+        ensures { result ≡ record { reader = reader; faults = 0 } }
+    {
+        StdSource {
+            reader,
+            faults: 0,
+            stopped: None,
+        }
+    }
+
+    /// How many calls have failed. A count that has come to 2^64 - 1 stays there.
+    pub fn faults(&self) -> u64
+        ensures { result ≡ self.now.faults }
+    {
+        self.faults
+    }
+}
+
+impl<R: Read> Source for StdSource<R> {
+    ghost use Rattle.std.specs.Prelude.{None};
+
+    ghost left = { λ s. None };
+
+    ghost faults = { λ s. s.faults };
+
+    fn take(&mut self, buf: &mut [u8]) -> Taken
+        ensures bytes { IfBytes result (λ n. (0 < n) × (n ≤ length buf.old)) }
+        ensures failed { result ≡ Taken.Failed → Rose self.old.faults self.new.faults }
+        ensures count { self.old.faults ≤ self.new.faults }
+
+        // Where the reader tells what it has left.
+        ensures moved { IfBytes result (λ n.
+            Consumes (R.remaining self.old.reader) (R.remaining self.new.reader) (take n buf.new)) }
+        ensures end { result ≡ Taken.End → 0 < length buf.old → IsAtEnd (R.remaining self.new.reader) }
+        ensures kept { (result ≡ Taken.End) ⊎ (result ≡ Taken.Failed) →
+            Keeps (R.remaining self.old.reader) (R.remaining self.new.reader) }
+    {
+        let stop = match self.stopped.take() {
+            Some(stop) => Some(stop),
+            None => {
+                let (count, stop) = fill(&mut self.reader, buf);
+                if count > 0 {
+                    self.stopped = stop;
+                    return Taken::Bytes(count);
+                }
+                stop
+            }
+        };
+        if stop == Some(Stop::Fault) {
+            self.faults = self.faults.saturating_add(1);
+            return Taken::Failed;
+        }
+        Taken::End
+    }
+}
+
+/// Reads until the buffer is full or the reader stops: how many bytes were read, and why it stopped.
+fn fill<R: Read>(reader: &mut R, buf: &mut [u8]) -> (usize, Option<Stop>)
+    ensures bound { result.0 ≤ length buf.old }
+    ensures moved { Consumes (R.remaining reader.old) (R.remaining reader.new) (take result.0 buf.new) }
+    ensures full { IsNone result.1 → result.0 ≡ length buf.old }
+    ensures end { result.1 ≡ Some Stop.End → IsAtEnd (R.remaining reader.new) }
+{
+    let mut at = 0;
+    while at < buf.len() {
+        match read(reader, &mut buf[at..]) {
+            Ok(count) => at += count,
+            Err(stop) => return (at, Some(stop)),
+        }
+    }
+    (at, None)
+}
+
+/// One read, into a buffer that is not empty. An interrupted one is tried again.
+fn read<R: Read>(reader: &mut R, buf: &mut [u8]) -> Result<usize, Stop>
+    requires { 0 < length buf.old }
+    ensures bound { IfOk result (λ n. (0 < n) × (n ≤ length buf.old)) }
+    ensures moved { IfOk result (λ n.
+        Consumes (R.remaining reader.old) (R.remaining reader.new) (take n buf.new)) }
+    ensures end { result ≡ Err Stop.End → IsAtEnd (R.remaining reader.new) }
+    ensures kept { OnErr result (Keeps (R.remaining reader.old) (R.remaining reader.new)) }
+{
+    for _ in 0..MOST_TRIES {
+        match reader.read(buf) {
+            Ok(0) => return Err(Stop::End),
+            Ok(count) => return Ok(count),
+            Err(error) if is_interruption(&error) => {}
+            Err(_) => return Err(Stop::Fault),
+        }
+    }
+    Err(Stop::Fault)
+}
