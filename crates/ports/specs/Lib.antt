@@ -2,3 +2,5 @@ pub mod FaultPlan
 pub mod MemSink
 pub mod MemSource
 pub mod Port
+pub mod StdSink
+pub mod StdSource

@@ -1,14 +1,16 @@
--- What contracts see of a source over a reader.
-use Rattle.std.specs.Prelude.{◌≡◌, ℕ, List, Option, Some}
-use Rattle.std.specs.Io.KnownBytes.{IsAtEnd}
-use Rattle.ports.specs.declared.std_source.Stop.{Stop}
-use Rattle.ports.specs.declared.std_source.Stop.TheVariants.{End}
+-- What contracts see of a source over a reader, and what `take` does to the reader.
+use Rattle.std.specs.Prelude.{◌≡◌, ℕ, ◌<◌, List, length, take, Option, Some}
+use Rattle.std.specs.Io.KnownBytes.{Consumes, IsAtEnd, Keeps}
+use Rattle.ports.specs.declared.source.Taken.{Taken}
+use Rattle.ports.specs.declared.source.Taken.TheVariants.{Bytes, End, Failed}
 
 -- the reader, and how many calls have failed
 pub record Reading (R : Type 0) : Type 0 where
   pub reader : R
   pub faults : ℕ
 
--- a reader that has stopped at its end has nothing left
-abbrev pub StoppedAt : Option (List ℕ) → Option Stop → Type 0
-StoppedAt remaining stopped = stopped ≡ Some End → IsAtEnd remaining
+-- of a reader that tells what it has left: the bytes of the buffer stood at the front of it, and are gone
+abbrev pub ReadsInto : Taken → Option (List ℕ) → Option (List ℕ) → List ℕ → Type 0
+ReadsInto (Bytes n) old new buf = Consumes old new (take n buf)
+ReadsInto End old new buf = Keeps old new × (0 < length buf → IsAtEnd new)
+ReadsInto Failed old new buf = Keeps old new

@@ -6,14 +6,20 @@
 #![tactic(auto)]
 
 mod fault_plan;
+mod interruption;
 mod mem_sink;
 mod mem_source;
 mod pace;
 mod sink;
 mod source;
+mod std_sink;
+mod std_source;
 
+pub use interruption::MOST_TRIES;
 pub use mem_sink::MemSink;
 pub use mem_source::MemSource;
 pub use pace::{NoPace, Pace};
 pub use sink::{Put, Sink};
 pub use source::{Source, Taken};
+pub use std_sink::StdSink;
+pub use std_source::StdSource;

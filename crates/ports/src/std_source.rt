@@ -1,6 +1,7 @@
-ghost use Rattle.std.specs.Prelude.{◌≡◌, ℕ, ◌<◌, ◌≤◌, IsNone, Some, length, take};
+ghost use Rattle.std.specs.Prelude.{◌≡◌, ℕ, ◌<◌, ◌≤◌, IsNone, IfOk, OnErr, Some, Err, length, take};
 ghost use Rattle.std.specs.Io.KnownBytes.{Consumes, IsAtEnd, Keeps};
 ghost use Rattle.ports.specs.Port.{IfBytes, Rose};
+ghost use Rattle.ports.specs.StdSource.{ReadsInto};
 
 use crate::interruption::{MOST_TRIES, is_interruption};
 use crate::source::{Source, Taken};
@@ -30,13 +31,16 @@ pub struct StdSource<R: Read> {
 }
 
 impl<R: Read> Model for StdSource<R> {
-    ghost use Rattle.ports.specs.StdSource.{Reading, StoppedAt};
+    ghost use Rattle.std.specs.Prelude.{◌≡◌, Some};
+    ghost use Rattle.std.specs.Io.KnownBytes.{IsAtEnd};
+    ghost use Rattle.ports.specs.declared.std_source.Stop.TheVariants.{End};
+    ghost use Rattle.ports.specs.StdSource.{Reading};
 
     ghost Value = { Reading R };
 
     ghost view = { λ s. record { reader = s.reader; faults = s.faults } };
 
-    ghost invariant = { λ s. StoppedAt (R.remaining s.reader) s.stopped };
+    ghost invariant = { λ s. s.stopped ≡ Some End → IsAtEnd (R.remaining s.reader) };
 }
 
 impl<R: Read> StdSource<R> {
@@ -71,12 +75,7 @@ impl<R: Read> Source for StdSource<R> {
         ensures failed { result ≡ Taken.Failed → Rose self.old.faults self.new.faults }
         ensures count { self.old.faults ≤ self.new.faults }
 
-        // Where the reader tells what it has left.
-        ensures moved { IfBytes result (λ n.
-            Consumes (R.remaining self.old.reader) (R.remaining self.new.reader) (take n buf.new)) }
-        ensures end { result ≡ Taken.End → 0 < length buf.old → IsAtEnd (R.remaining self.new.reader) }
-        ensures kept { (result ≡ Taken.End) ⊎ (result ≡ Taken.Failed) →
-            Keeps (R.remaining self.old.reader) (R.remaining self.new.reader) }
+        ensures reader { ReadsInto result (R.remaining self.old.reader) (R.remaining self.new.reader) buf.new }
     {
         let stop = match self.stopped.take() {
             Some(stop) => Some(stop),

@@ -1,6 +1,6 @@
 -- What was copied to the front of the buffer stood at the front of what was left.
-use Rattle.std.proofs.Common.{◌≡◌, ℕ, ◌+◌, ◌-◌, ◌≤◌, List, ◌++◌, length, take, drop, arith, sym, ap, ◌∙◌, subst, take-append-drop, length-drop, length-take-le, take_all}
-use Rattle.std.proofs.lemmas.List.{drop-drop}
+use Rattle.std.proofs.Common.{◌≡◌, ℕ, ◌+◌, ◌-◌, ◌≤◌, List, ◌++◌, length, take, drop, arith, sym, ap, ◌∙◌, subst, take-append-drop, length-take-le}
+use Rattle.std.proofs.lemmas.List.{drop-drop, take_rest}
 use Rattle.std.proofs.Math.Seq.{take-append_seam}
 use Rattle.ports.proofs.mem_source.MemSourceSource.take.Goals as goal
 
@@ -9,9 +9,8 @@ split_front : (all front rest : List ℕ) (at n : ℕ) → n ≤ length (take (l
     → front ≡ take n (take (length all - at) (drop at all))
     → drop at all ≡ take n (front ++ rest) ++ drop (at + n) all
 split_front all front rest at n within copied =
-    let left_is : take (length all - at) (drop at all) ≡ drop at all = take_all (length all - at) (drop at all) (omega (arith, length-drop at all)) in
-    let same : front ≡ take n (drop at all) = copied ∙ ap (take n) left_is in
-    let fits : n ≤ length (drop at all) = subst (λ (l : List ℕ). n ≤ length l) left_is within in
+    let same : front ≡ take n (drop at all) = copied ∙ ap (take n) (take_rest all at) in
+    let fits : n ≤ length (drop at all) = subst (λ (l : List ℕ). n ≤ length l) (take_rest all at) within in
     let long : length front ≡ n = ap length same ∙ length-take-le n (drop at all) fits in
     let whole : take n (front ++ rest) ≡ front = subst (λ m. take m (front ++ rest) ≡ front) long (take-append_seam front rest) in
     sym (take-append-drop n (drop at all)) ∙ ap (λ l. l ++ drop n (drop at all)) (sym same ∙ sym whole) ∙ ap (λ l. take n (front ++ rest) ++ l) (drop-drop n at all)
