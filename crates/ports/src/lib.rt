@@ -7,6 +7,7 @@
 
 mod fault_plan;
 mod interruption;
+mod laws;
 mod mem_sink;
 mod mem_source;
 mod pace;
@@ -16,6 +17,7 @@ mod std_sink;
 mod std_source;
 
 pub use interruption::MOST_TRIES;
+pub use laws::{laws_of_ports, worked_examples};
 pub use mem_sink::MemSink;
 pub use mem_source::MemSource;
 pub use pace::{NoPace, Pace};
@@ -23,3 +25,6 @@ pub use sink::{Put, Sink};
 pub use source::{Source, Taken};
 pub use std_sink::StdSink;
 pub use std_source::StdSource;
+
+#[cfg(test)]
+mod tests;

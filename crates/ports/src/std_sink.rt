@@ -1,7 +1,7 @@
 ghost use Rattle.std.specs.Prelude.{◌≡◌, ◌≢◌, ℕ, ◌<◌, ◌≤◌, IfOk, OnOk, OnErr, length, take};
 ghost use Rattle.std.specs.Io.KnownBytes.{Appends, Keeps};
 ghost use Rattle.ports.specs.Port.{Rose};
-ghost use Rattle.ports.specs.StdSink.{WritesFrom};
+ghost use Rattle.ports.specs.StdSink.{WritesFrom, faults_after_put};
 
 use crate::interruption::{MOST_TRIES, is_interruption};
 use crate::sink::{Put, Sink};
@@ -59,6 +59,8 @@ impl<W: Write> Sink for StdSink<W> {
         ensures memory { result ≢ Put.Memory }
         ensures count { self.old.faults ≤ self.new.faults }
 
+        // The count to the last one, and what has come to a writer that tells what it holds.
+        ensures faults { self.new.faults ≡ faults_after_put result self.old.faults }
         ensures writer { WritesFrom result (W.contents self.old.writer) (W.contents self.new.writer) bytes.now }
     {
         match write_all(&mut self.writer, bytes) {

@@ -1,7 +1,7 @@
 ghost use Rattle.std.specs.Prelude.{◌≡◌, ℕ, ◌<◌, ◌≤◌, IsNone, IfOk, OnErr, Some, Err, length, take};
 ghost use Rattle.std.specs.Io.KnownBytes.{Consumes, IsAtEnd, Keeps};
 ghost use Rattle.ports.specs.Port.{IfBytes, Rose};
-ghost use Rattle.ports.specs.StdSource.{ReadsInto};
+ghost use Rattle.ports.specs.StdSource.{ReadsInto, faults_after_take};
 
 use crate::interruption::{MOST_TRIES, is_interruption};
 use crate::source::{Source, Taken};
@@ -75,6 +75,8 @@ impl<R: Read> Source for StdSource<R> {
         ensures failed { result ≡ Taken.Failed → Rose self.old.faults self.new.faults }
         ensures count { self.old.faults ≤ self.new.faults }
 
+        // The count to the last one, and what is gone from a reader that tells what it has left.
+        ensures faults { self.new.faults ≡ faults_after_take result self.old.faults }
         ensures reader { ReadsInto result (R.remaining self.old.reader) (R.remaining self.new.reader) buf.new }
     {
         let stop = match self.stopped.take() {

@@ -1,0 +1,224 @@
+ghost use Rattle.std.specs.Prelude.{◌≤◌, IfOk};
+
+use crate::{MemSink, MemSource, NoPace, Pace, Put, Sink, Source, StdSink, StdSource, Taken};
+use std::io;
+use std::io::{ErrorKind, Read, Write};
+use std::test::Fail;
+
+fn take_from<S: Source>(source: &mut S, buf: &mut [u8]) -> Taken {
+    source.take(buf)
+}
+
+fn put_to<K: Sink>(sink: &mut K, bytes: &[u8]) -> Put {
+    sink.put(bytes)
+}
+
+/// What a fake reader or writer does at a call.
+#[derive(Clone, Copy, Debug, PartialEq, Eq)]
+enum Step {
+    /// It moves at most so many bytes.
+    Moves(usize),
+    Interrupted,
+    Broken,
+}
+
+impl Step {
+    /// How many of so many bytes are moved.
+    fn count(self, most: usize) -> io::Result<usize>
+        ensures { IfOk result (λ n. n ≤ most) }
+    {
+        match self {
+            Step::Moves(count) => Ok(count.min(most)),
+            Step::Interrupted => Err(io::Error::from(ErrorKind::Interrupted)),
+            Step::Broken => Err(io::Error::from(ErrorKind::BrokenPipe)),
+        }
+    }
+}
+
+/// The steps in turn, and then the last one for ever.
+#[derive(Debug, Drop)]
+struct Steps<'a> {
+    steps: &'a [Step],
+    last: Step,
+}
+
+impl Steps<'_> {
+    fn next_step(&mut self) -> Step {
+        match self.steps.split_first() {
+            Some((step, rest)) => {
+                self.steps = rest;
+                *step
+            }
+            None => self.last,
+        }
+    }
+}
+
+#[derive(Debug, Drop)]
+struct FakeReader<'a> {
+    steps: Steps<'a>,
+    text: &'a [u8],
+}
+
+impl Read for FakeReader<'_> {
+    fn read(&mut self, buf: &mut [u8]) -> io::Result<usize> {
+        let count = self
+            .steps
+            .next_step()
+            .count(self.text.len().min(buf.len()))?;
+        let (front, rest) = self.text.split_at(count);
+        buf[..count].copy_from_slice(front);
+        self.text = rest;
+        Ok(count)
+    }
+}
+
+#[derive(Debug, Drop)]
+struct FakeWriter<'a> {
+    steps: Steps<'a>,
+    held: Vec<u8>,
+    flushed: usize,
+}
+
+impl Write for FakeWriter<'_> {
+    fn write(&mut self, buf: &[u8]) -> io::Result<usize> {
+        let count = self.steps.next_step().count(buf.len())?;
+        self.held.extend_from_slice(&buf[..count])?;
+        Ok(count)
+    }
+
+    fn flush(&mut self) -> io::Result<()> {
+        self.steps.next_step().count(0)?;
+        self.flushed = self.held.len();
+        Ok(())
+    }
+}
+
+#[test]
+fn takes_from_memory(rt: HostRuntime) -> Result<(), Fail> {
+    let bytes = b"abcde".to_vec(rt.alloc())?;
+    let fails = [1, 4].to_vec(rt.alloc())?;
+    let mut source = MemSource::new(bytes, fails);
+    let mut buf = [0; 2];
+    let wants: [(Taken, &[u8]); 8] = [
+        (Taken::Bytes(2), b"ab"),
+        (Taken::Failed, b""),
+        (Taken::Bytes(2), b"cd"),
+        (Taken::Bytes(1), b"e"),
+        (Taken::Failed, b""),
+        (Taken::End, b""),
+        (Taken::End, b""),
+        (Taken::End, b""),
+    ];
+    for (want, bytes) in wants {
+        assert_eq!(rt; take_from(&mut source, &mut buf), want);
+        assert!(rt; buf.starts_with(bytes));
+    }
+    assert_eq!(rt; source.faults(), 2);
+    Ok(())
+}
+
+#[test]
+fn an_empty_buffer_ends(rt: HostRuntime) -> Result<(), Fail> {
+    let bytes = b"a".to_vec(rt.alloc())?;
+    let mut source = MemSource::new(bytes, Vec::new(rt.alloc()));
+    assert_eq!(rt; take_from(&mut source, &mut []), Taken::End);
+    assert_eq!(rt; take_from(&mut source, &mut [0; 4]), Taken::Bytes(1));
+    Ok(())
+}
+
+#[test]
+fn puts_to_memory(rt: HostRuntime) -> Result<(), Fail> {
+    let fails = [1].to_vec(rt.alloc())?;
+    let mut sink = MemSink::new(rt.alloc(), fails);
+    assert_eq!(rt; put_to(&mut sink, b"ab"), Put::Done);
+    assert_eq!(rt; put_to(&mut sink, b"cd"), Put::Failed);
+    assert_eq!(rt; sink.bytes(), b"ab".as_slice());
+    assert_eq!(rt; put_to(&mut sink, b"ef"), Put::Done);
+    assert_eq!(rt; sink.faults(), 1);
+    assert_eq!(rt; sink.into_bytes().as_slice(), b"abef".as_slice());
+    Ok(())
+}
+
+#[test]
+fn takes_from_a_reader(rt: HostRuntime) {
+    let steps = [
+        Step::Moves(2),
+        Step::Interrupted,
+        Step::Moves(1),
+        Step::Broken,
+        Step::Moves(4),
+    ];
+    let reader = FakeReader {
+        steps: Steps {
+            steps: &steps,
+            last: Step::Moves(0),
+        },
+        text: b"abcdefgh",
+    };
+    let mut source = StdSource::new(reader);
+    let mut buf = [0; 5];
+    // The short reads are joined, the fault in mid-stream is answered once, and the bytes go on after it.
+    assert_eq!(rt; take_from(&mut source, &mut buf), Taken::Bytes(3));
+    assert!(rt; buf.starts_with(b"abc"));
+    assert_eq!(rt; source.faults(), 0);
+    assert_eq!(rt; take_from(&mut source, &mut buf), Taken::Failed);
+    assert_eq!(rt; source.faults(), 1);
+    assert_eq!(rt; take_from(&mut source, &mut buf), Taken::Bytes(4));
+    assert!(rt; buf.starts_with(b"defg"));
+    assert_eq!(rt; take_from(&mut source, &mut buf), Taken::End);
+    assert_eq!(rt; source.faults(), 1);
+}
+
+#[test]
+fn a_reader_that_is_interrupted_for_ever_is_a_fault(rt: HostRuntime) {
+    let reader = FakeReader {
+        steps: Steps {
+            steps: &[],
+            last: Step::Interrupted,
+        },
+        text: b"a",
+    };
+    let mut source = StdSource::new(reader);
+    assert_eq!(rt; take_from(&mut source, &mut [0; 2]), Taken::Failed);
+    assert_eq!(rt; source.faults(), 1);
+}
+
+#[test]
+fn puts_to_a_writer(rt: HostRuntime) {
+    // What the writer does at each call, what the call comes to, and what the writer holds then. The
+    // last step is the flush's.
+    let short = [
+        Step::Moves(2),
+        Step::Interrupted,
+        Step::Moves(9),
+        Step::Interrupted,
+    ];
+    let broken = [Step::Moves(2), Step::Broken];
+    let full = [Step::Moves(3), Step::Moves(0)];
+    let no_flush = [Step::Moves(9), Step::Broken];
+    let cases: [(&[Step], Step, Put, &[u8]); 5] = [
+        (&short, Step::Moves(0), Put::Done, b"abcdef"),
+        (&broken, Step::Moves(9), Put::Failed, b"ab"),
+        (&full, Step::Moves(9), Put::Failed, b"abc"),
+        (&no_flush, Step::Moves(9), Put::Failed, b"abcdef"),
+        (&[], Step::Interrupted, Put::Failed, b""),
+    ];
+    for (steps, last, want, held) in cases {
+        let mut writer = FakeWriter {
+            steps: Steps { steps, last },
+            held: Vec::new(rt.alloc()),
+            flushed: 0,
+        };
+        let mut sink = StdSink::new(&mut writer);
+        assert_eq!(rt; put_to(&mut sink, b"abcdef"), want);
+        assert_eq!(rt; sink.faults(), u64::from(want == Put::Failed));
+        assert_eq!(rt; writer.held.as_slice(), held);
+        assert_eq!(rt; writer.flushed == 6, want == Put::Done);
+    }
+}
+
+#[test]
+fn no_pace_does_nothing() {
+    NoPace.between(0, 1);
+}
