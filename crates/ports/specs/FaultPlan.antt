@@ -3,7 +3,8 @@ use Rattle.std.specs.Prelude.{ℕ, Bool, ◌==◌, List}
 use Rattle.std.specs.List.{list_any}
 use Rattle.ports.specs.Port.{risen}
 
--- the numbers of the calls that fail, the number of the next call, and how many have failed
+-- the numbers of the calls that fail, the number of the next call, and how many have failed. At its end the number
+-- of the next call stays where it is; the numbers of calls that fail are below 2^32, so no call fails there
 pub record Plan : Type 0 where
   pub fails : List ℕ
   pub calls : ℕ

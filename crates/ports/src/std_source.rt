@@ -80,7 +80,6 @@ impl<R: Read> Source for StdSource<R> {
         ensures reader { ReadsInto result (R.remaining self.old.reader) (R.remaining self.new.reader) buf.new }
     {
         let stop = match self.stopped.take() {
-            Some(stop) => Some(stop),
             None => {
                 let (count, stop) = fill(&mut self.reader, buf);
                 if count > 0 {
@@ -89,12 +88,16 @@ impl<R: Read> Source for StdSource<R> {
                 }
                 stop
             }
+            unanswered => unanswered,
         };
-        if stop == Some(Stop::Fault) {
-            self.faults = self.faults.saturating_add(1);
-            return Taken::Failed;
+        match stop {
+            Some(Stop::Fault) => {
+                self.faults = self.faults.saturating_add(1);
+                Taken::Failed
+            }
+            // Without a stop the buffer is full with no bytes: it is empty.
+            Some(Stop::End) | None => Taken::End,
         }
-        Taken::End
     }
 }
 
