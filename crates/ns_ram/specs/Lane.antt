@@ -1,0 +1,25 @@
+-- The RAM of the normal world as a list of bytes, of which the first stands at RAM_START.
+use Rattle.std.specs.Prelude.{ℕ, ◌+◌, ◌-◌, ◌≤◌, List, [], ◌++◌, length, take, drop, replicate, nat_le, if◌then◌else◌}
+use Rattle.ns_ram.specs.declared.ram.TheConstants.{RAM_START, RAM_BYTES}
+
+-- the bytes of this address and length lie in RAM, all of them
+abbrev pub IsInRam : ℕ → ℕ → Type 0
+IsInRam addr len = (RAM_START ≤ addr) × (addr + len ≤ RAM_START + RAM_BYTES)
+
+-- the bytes from an address on, to the end of RAM; none stand below RAM
+abbrev pub bytes_from : List ℕ → ℕ → List ℕ
+bytes_from lane addr = if nat_le RAM_START addr then drop (addr - RAM_START) lane else []
+
+-- the bytes of this address and length, as many of them as there are
+abbrev pub bytes_at : List ℕ → ℕ → ℕ → List ℕ
+bytes_at lane addr len = take len (bytes_from lane addr)
+
+-- the lane with these bytes at this address in place of those that stood there
+abbrev pub bytes_put : List ℕ → ℕ → List ℕ → List ℕ
+bytes_put lane addr bytes =
+    let offset = addr - RAM_START in
+    take offset lane ++ bytes ++ drop (offset + length bytes) lane
+
+-- so many zeros. No proof computes it, since RAM has too many bytes for that
+unfoldable pub zeros : ℕ → List ℕ
+zeros count = replicate count 0

@@ -1,0 +1,4 @@
+pub mod Examples
+pub mod Lane
+pub mod Reader
+pub mod Reads
