@@ -1,0 +1,3 @@
+pub mod ReaderLaws
+pub mod ReaderSteps
+pub mod WordList
