@@ -1,3 +1,4 @@
+pub mod LaneBytes
 pub mod ReaderLaws
 pub mod ReaderSteps
 pub mod WordList

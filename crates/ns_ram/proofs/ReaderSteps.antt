@@ -76,7 +76,7 @@ next_bytes-some addr (suc len) (read ∷ reads) got rest e =
     let same : read.bytes ≡ got = ap (λ (p : List ℕ × List Read). p.0) h.1 in
     let others : reads ≡ rest = ap (λ (p : List ℕ × List Read). p.1) h.1 in
     let n : length got ≡ suc len = rw same at (eqb-true (length read.bytes) (suc len) tests.1) in
-    let some : got ≡ [] → ⊥ = λ q. let m : length got ≡ 0 = ap length q in omega arith in
+    let some : got ≡ [] → ⊥ = λ q. let wrong : 0 ≡ suc len = sym (ap length q) ∙ n in cc in
     (n, rw (← others) (listed-one read reads addr got (eqb-true _ _ tests.0) same some))
 
 -- ---- words

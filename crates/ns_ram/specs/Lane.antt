@@ -1,5 +1,5 @@
 -- The RAM of the normal world as a list of bytes, of which the first stands at RAM_START.
-use Rattle.std.specs.Prelude.{ℕ, ◌+◌, ◌-◌, ◌≤◌, List, [], ◌++◌, length, take, drop, replicate, nat_le, if◌then◌else◌}
+use Rattle.std.specs.Prelude.{◌≡◌, ℕ, ◌+◌, ◌-◌, ◌≤◌, List, [], ◌++◌, length, take, drop, replicate, ◌⊎◌, nat_le, if◌then◌else◌}
 use Rattle.ns_ram.specs.declared.ram.TheConstants.{RAM_START, RAM_BYTES}
 
 -- the bytes of this address and length lie in RAM, all of them
@@ -19,6 +19,13 @@ abbrev pub bytes_put : List ℕ → ℕ → List ℕ → List ℕ
 bytes_put lane addr bytes =
     let offset = addr - RAM_START in
     take offset lane ++ bytes ++ drop (offset + length bytes) lane
+
+-- a write to a lane at this address, of these bytes: they are read there, no others are changed, and the
+-- lane is as long as before
+pub record ChangesItsBytesAlone (lane : List ℕ) (addr : ℕ) (bytes : List ℕ) : Type 0 where
+  pub written : bytes_at (bytes_put lane addr bytes) addr (length bytes) ≡ bytes
+  pub others : (other len : ℕ) → IsInRam other len → (other + len ≤ addr) ⊎ (addr + length bytes ≤ other) → bytes_at (bytes_put lane addr bytes) other len ≡ bytes_at lane other len
+  pub whole : length (bytes_put lane addr bytes) ≡ length lane
 
 -- so many zeros. No proof computes it, since RAM has too many bytes for that
 unfoldable pub zeros : ℕ → List ℕ
