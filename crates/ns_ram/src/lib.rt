@@ -6,6 +6,10 @@ mod laws;
 mod ram;
 mod read;
 mod reads;
+#[cfg(test)]
+mod tests;
+#[cfg(test)]
+mod worked_reader;
 
 pub use base::NoMemory;
 pub use lane::Lane;
