@@ -1,9 +1,9 @@
 -- The definitions at small inputs. The lanes here are shorter than RAM.
-use Rattle.std.specs.Prelude.{◌≡◌, ℕ, ◌+◌, ◌%◌, ◌++◌, Bool, ◌==◌, List, [], ◌∷◌, Option, Some, None, slice_index}
+use Rattle.std.specs.Prelude.{◌≡◌, ℕ, ◌+◌, ◌%◌, ◌++◌, ◌==◌, List, [], ◌∷◌, Some, None, slice_index}
 use Rattle.ns_ram.specs.declared.read.Read.{Read}
 use Rattle.ns_ram.specs.Lane.{IsInRam, bytes_at, bytes_put}
-use Rattle.ns_ram.specs.Reads.{HoldsReads, listed, total_bytes}
-use Rattle.ns_ram.specs.Reader.{Reader, done, ◌>>=◌, ◌>>◌, over_lane, reading, take_bytes, take_words}
+use Rattle.ns_ram.specs.Reads.{listed, total_bytes}
+use Rattle.ns_ram.specs.Reader.{Reader, ◌>>=◌, over_lane, reading, take_bytes, take_words}
 
 abbrev pub read_of : ℕ → List ℕ → Read
 read_of addr bytes = record { addr = addr; bytes = bytes }

@@ -24,7 +24,8 @@ bytes_put lane addr bytes =
 -- lane is as long as before
 pub record ChangesItsBytesAlone (lane : List ℕ) (addr : ℕ) (bytes : List ℕ) : Type 0 where
   pub written : bytes_at (bytes_put lane addr bytes) addr (length bytes) ≡ bytes
-  pub others : (other len : ℕ) → IsInRam other len → (other + len ≤ addr) ⊎ (addr + length bytes ≤ other) → bytes_at (bytes_put lane addr bytes) other len ≡ bytes_at lane other len
+  pub others : (other len : ℕ) → IsInRam other len → (other + len ≤ addr) ⊎ (addr + length bytes ≤ other) →
+      bytes_at (bytes_put lane addr bytes) other len ≡ bytes_at lane other len
   pub whole : length (bytes_put lane addr bytes) ≡ length lane
 
 -- so many zeros. No proof computes it, since RAM has too many bytes for that

@@ -1,6 +1,6 @@
 -- What a call wants of the normal world's RAM, and what it makes of that: a reader. It runs over a list of
 -- reads, from which it takes those it asks for, and over a lane, where it adds them to a list.
-use Rattle.std.specs.Prelude.{◌≡◌, ◌↔◌, ℕ, zero, suc, ◌+◌, ◌-◌, ◌*◌, ◌/◌, Bool, ◌==◌, ◌&&◌, List, [], ◌∷◌, ◌++◌, length, take, drop, Option, Some, None, if◌then◌else◌}
+use Rattle.std.specs.Prelude.{◌≡◌, ◌↔◌, ℕ, zero, suc, ◌*◌, ◌/◌, Bool, ◌==◌, ◌&&◌, List, [], ◌∷◌, ◌++◌, length, take, drop, Option, Some, None, if◌then◌else◌}
 use Rattle.std.specs.Option.{option_and_then, option_map}
 use Rattle.std.specs.Int.{from_le_bytes, w64}
 use Rattle.ns_ram.specs.declared.read.Read.{Read}
@@ -15,7 +15,6 @@ pub data Reader (A : Type 0) : Type 0 where
   want_words : ℕ → ℕ → (ℕ → Bool) → (List ℕ → Reader A) → Reader A
 
 infixl 1 ◌>>=◌ ◌>>◌
-
 -- the one reader, and then the other, which is told the value of the first
 abbrev pub ◌>>=◌ : {A B : Type 0} → Reader A → (A → Reader B) → Reader B
 done value >>= onward = onward value
@@ -107,7 +106,7 @@ over_lane (want_bytes addr len next) lane reads =
     option_and_then (λ got. over_lane (next got) lane (reads ++ listed addr got)) (lane_bytes lane addr len)
 over_lane (want_words addr most test next) lane reads =
     option_and_then (λ got. over_lane (next got) lane (reads ++ listed addr (bytes_at lane addr (8 * length got))))
-        (lane_words lane addr most test)
+    (lane_words lane addr most test)
 
 -- ---- laws of readers
 
@@ -121,12 +120,14 @@ IsReadFromLane A = (reader : Reader A) (lane : List ℕ) (reads : List Read) (va
 abbrev pub AddsItsReads : Type 0 → Type 0
 AddsItsReads A = (reader : Reader A) (lane : List ℕ) (before after : List Read) (value : A) →
     (over_lane reader lane before ≡ Some (value, after))
-        ↔ ((taken : List Read) × (after ≡ before ++ taken) × (over_lane reader lane [] ≡ Some (value, taken)))
+    ↔ ((taken : List Read) × (after ≡ before ++ taken) × (over_lane reader lane [] ≡ Some (value, taken)))
 
 -- of two readers in a row the second goes on with the value and the reads of the first
 pub record RunsOnward (A B : Type 0) (first : Reader A) (onward : A → Reader B) : Type 0 where
-  pub lane : (lane : List ℕ) (reads : List Read) → over_lane (first >>= onward) lane reads ≡ option_and_then (λ step. over_lane (onward step.0) lane step.1) (over_lane first lane reads)
-  pub reads : (reads : List Read) → over_reads (first >>= onward) reads ≡ option_and_then (λ step. over_reads (onward step.0) step.1) (over_reads first reads)
+  pub lane : (lane : List ℕ) (reads : List Read) →
+      over_lane (first >>= onward) lane reads ≡ option_and_then (λ step. over_lane (onward step.0) lane step.1) (over_lane first lane reads)
+  pub reads : (reads : List Read) →
+      over_reads (first >>= onward) reads ≡ option_and_then (λ step. over_reads (onward step.0) step.1) (over_reads first reads)
 
 abbrev pub RunsInTurn : Type 0 → Type 0 → Type 0
 RunsInTurn A B = (first : Reader A) (onward : A → Reader B) → RunsOnward A B first onward

@@ -11,36 +11,30 @@ use crate::ram::RAM_BYTES;
 pub fn writes_change_their_bytes_alone()
     ensures { (lane bytes : List ℕ) (addr : ℕ) → length lane ≡ RAM_BYTES → IsInRam addr (length bytes)
         → ChangesItsBytesAlone lane addr bytes }
-{
-}
+{}
 
 /// RAM of zeros has zeros everywhere.
 pub fn zeros_are_read_everywhere()
     ensures { (addr len : ℕ) → IsInRam addr len → bytes_at (zeros RAM_BYTES) addr len ≡ zeros len }
-{
-}
+{}
 
 /// What a reader makes of a lane is what it makes of the reads that it takes there, and of no others that
 /// the lane holds.
 pub fn readers_depend_on_their_reads<T>()
     ensures { IsReadFromLane T }
-{
-}
+{}
 
 /// A reader adds its reads behind those that were listed before.
 pub fn readers_add_their_reads<T>()
     ensures { AddsItsReads T }
-{
-}
+{}
 
 /// Of two readers in a row the second goes on where the first ended.
 pub fn readers_run_in_turn<T, U>()
     ensures { RunsInTurn T U }
-{
-}
+{}
 
 /// The definitions at small inputs.
 pub fn worked_examples()
     ensures { Examples }
-{
-}
+{}

@@ -1,4 +1,12 @@
-//! The RAM of the normal world, as one processor sees it, and what was read of it.
+//! The RAM of the normal world, as one processor sees it, and the list of what was read of it.
+//!
+//! Nothing there is trusted: any byte may stand at any address, and other processors write to it at any
+//! time. So this is the one place where RAM is touched. An address is tested by `in_ram`, once; a call takes
+//! the bytes that it wants once, and lists them in its `Reads`; and what it does afterwards depends on that
+//! list, and not on RAM. `specs/Reader.antt` has what a contract says of that: a reader names what a call
+//! wants and what it makes of it, and is run over a lane as well as over a list of reads.
+//!
+//! What the bytes mean is no concern of this crate.
 #![tactic(auto)]
 
 mod lane;

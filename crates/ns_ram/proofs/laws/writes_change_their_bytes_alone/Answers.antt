@@ -6,7 +6,8 @@ pub returns : goal.returns
 returns c = λ lane bytes addr whole h. record {
   written = bytes_at-bytes_put lane addr bytes whole h;
   others = λ other len g apart. elim apart [
-    inl below ↦ bytes_at-bytes_put_below lane addr bytes other len whole h g below
-    | inr above ↦ bytes_at-bytes_put_above lane addr bytes other len whole h above ];
+    | inl below ↦ bytes_at-bytes_put_below lane addr bytes other len whole h g below
+    | inr above ↦ bytes_at-bytes_put_above lane addr bytes other len whole h above
+  ];
   whole = length-bytes_put lane addr bytes whole h ∙ sym whole;
 }
