@@ -1,0 +1,4 @@
+pub mod Attribute
+pub mod Spelling
+pub mod Reading
+pub mod Examples
