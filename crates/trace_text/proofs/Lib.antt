@@ -1,0 +1,7 @@
+pub mod Options
+pub mod Digits
+pub mod EndedLines
+pub mod Splitting
+pub mod Loop
+pub mod LineLaws
+pub mod ScriptLaws

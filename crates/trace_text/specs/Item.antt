@@ -1,0 +1,28 @@
+-- Items that make a fast call.
+use Rattle.std.specs.Prelude.{◌≡◌, ◌≢◌, ℕ, List, Some, All, slice_get}
+use Rattle.trace_text.specs.declared.item.Reg.{Reg}
+use Rattle.trace_text.specs.declared.item.Reg.TheVariants.{Num, Last}
+use Rattle.trace_text.specs.declared.item.Item.{Item}
+use Rattle.trace_text.specs.declared.item.Item.TheVariants.{Smc, Enter, Leave, Write, Show}
+
+-- OPTEE_SMC_CALL_WITH_ARG of optee_smc.h, the call that is no fast call
+abbrev pub CALL_WITH_ARG : ℕ
+CALL_WITH_ARG = 0x3200_0004
+
+-- the register is given as a number
+abbrev pub IsNumber : Reg → Type 0
+IsNumber (Num n) = Unit {0}
+IsNumber (Last i) = ⊥
+
+-- the registers of a fast call: all numbers, the first not that of the call with an argument
+pub record AreFast (regs : List Reg) : Type 0 where
+  pub numbers : All IsNumber regs
+  pub no_call : slice_get regs 0 ≢ Some (Num CALL_WITH_ARG)
+
+-- a fast call of processor 0
+abbrev pub IsFastCall : Item → Type 0
+IsFastCall (Smc cpu steps regs) = (cpu ≡ 0) × AreFast regs
+IsFastCall (Enter cpu steps regs) = ⊥
+IsFastCall (Leave cpu) = ⊥
+IsFastCall (Write cpu addr bytes) = ⊥
+IsFastCall (Show cpu addr len) = ⊥

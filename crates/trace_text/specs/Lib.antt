@@ -1,0 +1,5 @@
+pub mod Word
+pub mod Item
+pub mod Line
+pub mod Script
+pub mod Reading

@@ -1,0 +1,18 @@
+//! Traces, and their text form.
+//!
+//! A trace is what one run of the core is given: what it is booted with, the bytes that stand in the normal
+//! world's memory at the start, and the items of each processor in their order. Its text form is this
+//! project's own. [`read_trace`] reads plain scripts so far: scripts of one processor that make fast calls.
+#![tactic(auto)]
+
+mod fault;
+mod item;
+mod line;
+mod reading;
+mod trace;
+mod word;
+
+pub use fault::{BadKind, TraceFault};
+pub use item::{Item, Reg};
+pub use reading::read_trace;
+pub use trace::{Fill, Trace};

@@ -1,0 +1,108 @@
+//! Lines of a text, and the words of a line.
+
+ghost use Rattle.std.specs.Prelude.{◌≡◌, ◌<◌, ◌≤◌, ◌==◌, false, IfSome, MatchOption, All, ◌∷◌, ◌++◌, List, ℕ, IsSome, IsTrue, ◌↔◌, length};
+ghost use Rattle.std.specs.Option.{option_map, option_copied};
+ghost use Rattle.trace_text.specs.Reading.{words_left, words_of, word_at, named_at, number_at, next_register_at, registers_at, is_ended};
+
+use crate::item::Reg;
+use crate::word;
+use std::marker::Model;
+
+/// What stands before the first such byte, and after it.
+pub fn split_once(bytes: &[u8], separator: u8) -> Option<(&[u8], &[u8])>
+    ensures { MatchOption result (All (λ b. (b == separator) ≡ false) bytes.now)
+        (λ x. All (λ b. (b == separator) ≡ false) x.0.now × (bytes.now ≡ x.0.now ++ separator ∷ x.1.now)) }
+{
+    let end = bytes.iter().position(|byte| *byte == separator)?;
+    Some((&bytes[..end], &bytes[end + 1..]))
+}
+
+/// The words of a line that are still to be read. Two words are parted by one space, so two spaces in a row part
+/// an empty word from its neighbours. A contract sees the list of these words.
+#[derive(Drop)]
+pub struct Words<'a> {
+    rest: Option<&'a [u8]>,
+}
+
+impl<'a> Model for Words<'a> {
+    ghost Value = { List (List ℕ) };
+
+    ghost view = { λ w. words_left (option_copied w.rest) };
+}
+
+impl<'a> Words<'a> {
+    /// The words of a line, which is given without its line feed.
+    pub fn of(line: &'a [u8]) -> Words<'a>
+        ensures { result ≡ words_of line.now }
+    {
+        Words { rest: Some(line) }
+    }
+
+    /// Takes the next word.
+    fn next_word(&mut self) -> Option<&'a [u8]>
+        ensures { word_at self.old ≡ option_map (λ word. (word.now, self.new)) result }
+    {
+        let line = self.rest?;
+        match split_once(line, b' ') {
+            Some((word, rest)) => {
+                self.rest = Some(rest);
+                Some(word)
+            }
+            None => {
+                self.rest = None;
+                Some(line)
+            }
+        }
+    }
+
+    /// Takes the next word, which has to be this one.
+    #[tactic(auto, unfolding(crate::specs::Reading::named_at))]
+    pub fn expect(&mut self, name: &[u8]) -> Option<()>
+        ensures { named_at name.now self.old ≡ option_map (λ _. self.new) result }
+    {
+        let word = self.next_word()?;
+        if word == name { Some(()) } else { None }
+    }
+
+    /// Takes the next word, which has to be a decimal number within these limits.
+    #[tactic(auto, unfolding(crate::specs::Reading::number_at))]
+    pub fn decimal(&mut self, least: u32, most: u32) -> Option<u32>
+        requires { most < u32.MAX }
+        ensures read { number_at least most self.old ≡ option_map (λ n. (n, self.new)) result }
+        ensures bound { IfSome result (λ n. n ≤ most) }
+    {
+        word::decimal_within(self.next_word()?, least, most)
+    }
+
+    /// Takes the next word, which has to be a register.
+    #[tactic(auto, unfolding(crate::specs::Reading::next_register_at))]
+    pub fn register(&mut self) -> Option<Reg>
+        ensures { next_register_at self.old ≡ option_map (λ reg. (reg, self.new)) result }
+    {
+        word::register(self.next_word()?)
+    }
+
+    /// Takes the next eight words, which have to be registers.
+    #[tactic(auto, unfolding(crate::specs::Reading::registers_at))]
+    pub fn registers(&mut self) -> Option<[Reg; 8]>
+        ensures { registers_at 8 self.old ≡ option_map (λ regs. (regs, self.new)) result }
+    {
+        Some([
+            self.register()?,
+            self.register()?,
+            self.register()?,
+            self.register()?,
+            self.register()?,
+            self.register()?,
+            self.register()?,
+            self.register()?,
+        ])
+    }
+
+    /// Whether all words were taken.
+    pub fn is_ended(&self) -> bool
+        ensures { result ≡ is_ended self.now }
+    {
+        self.rest.is_none()
+    }
+}
