@@ -1,11 +1,11 @@
 -- Numbers that words write.
-use Rattle.std.proofs.Common.{◌≡◌, ℕ, zero, suc, ◌+◌, ◌*◌, ◌^◌, ◌<◌, ◌≤◌, min, Bool, true, false, cond, not, ◌&&◌, eqb, ltb, leb, List, [], ◌∷◌, ◌++◌, length, get_or, take, Option, Some, None, refl, sym, ap, subst, ◌∙◌, arith, inl, inr, ◌⊎◌}
-use Rattle.std.specs.Prelude.{nat_lt, slice_index}
+use Rattle.std.proofs.Common.{◌≡◌, ℕ, zero, suc, ◌+◌, ◌*◌, ◌^◌, ◌<◌, ◌≤◌, min, Bool, true, false, cond, not, ◌&&◌, ltb, leb, List, [], ◌∷◌, length, get_or, take, Some, None, refl, sym, ap, subst, ◌∙◌, arith}
+use Rattle.std.specs.Prelude.{nat_lt}
 use Rattle.std.specs.Option.{option_map}
 use Rattle.std.specs.List.{list_all}
 use Rattle.std.specs.Char.{digit_value}
 use Rattle.std.specs.Str.Parse.{AllDigits, IsNumeral, digits_value}
-use Rattle.std.proofs.lemmas.Bool.{ltb-true, ltb-false, leb-true, leb-false, eqb-true, lt-ltb, le-ltb, le-leb, eq-eqb, ne_eqb, and_parts, and_from, and_cases, and_left, and_right, not-true, cond-true, cond-false, true≢false}
+use Rattle.std.proofs.lemmas.Bool.{ltb-true, leb-true, lt-ltb, le-ltb, le-leb, and_parts, and_from, and_left, and_right, not-true, cond-true, cond-false}
 use Rattle.std.proofs.lemmas.Bool.Decides.{nat_tests}
 use Rattle.std.proofs.Math.Nat.{pow-le-pow_right}
 use Rattle.std.proofs.lemmas.Int.Digits.{digits_value-lt, digits_value_more, digits_more}
@@ -14,7 +14,7 @@ use Rattle.trace_text.specs.declared.item.Reg.{Reg}
 use Rattle.trace_text.specs.declared.item.Reg.TheVariants.{Num, Last}
 use Rattle.trace_text.specs.Word.{IsDecimal, IsDecimalWithin, IsHexadecimal}
 use Rattle.trace_text.specs.Line.{IsRegister}
-use Rattle.trace_text.specs.Reading.{◌>>=◌, are_digits, has_leading_zero, decimal_at, hexadecimal_at, within_at, register_at}
+use Rattle.trace_text.specs.Reading.{are_digits, has_leading_zero, decimal_at, hexadecimal_at, within_at, register_at}
 use Rattle.trace_text.proofs.Options.{bind_some, guard_some, some_is}
 
 abbrev tests : ℕ → List ℕ → Bool
@@ -72,12 +72,10 @@ decimal_again word n d =
     let b : (are_digits 10 word && not (has_leading_zero word)) ≡ true = and_from _ _ (tests_from_numeral 10 word d.digits) (ap not (leading_zero_from word d.no_leading_zero d.digits.0)) in
     cond-true _ (Some (digits_value 10 word)) None b ∙ ap (λ (v : ℕ). Some v) (sym d.value)
 
--- with a leading zero, without a digit, or with a byte that is no digit
-pub decimal_zero : (word : List ℕ) → get_or word 0 0 ≡ 48 → 1 < length word → decimal_at word ≡ None
+-- with a leading zero, or with a byte that is no digit
+pub decimal_zero : (word : List ℕ) → has_leading_zero word ≡ true → decimal_at word ≡ None
 unfolding decimal_at
-decimal_zero word z long =
-    let zeroed : has_leading_zero word ≡ true = and_from _ _ (eq-eqb _ _ z) (lt-ltb _ _ long) in
-    cond-false _ (Some (digits_value 10 word)) None (and_right _ _ (ap not zeroed))
+decimal_zero word zeroed = cond-false _ (Some (digits_value 10 word)) None (and_right _ _ (ap not zeroed))
 
 pub decimal_none : (word : List ℕ) → are_digits 10 word ≡ false → decimal_at word ≡ None
 unfolding decimal_at
@@ -158,14 +156,13 @@ one_more radix word i byte digit lt d is v =
 pub saturated : (a b n m v digit : ℕ) → n ≡ min 4294967295 v → a ≡ min (n * 10) 4294967295 → b ≡ min (a + digit) 4294967295 → m ≡ v * 10 + digit → b ≡ min 4294967295 m
 saturated a b n m v digit is doubled added whole = omega arith
 
-pub decimal_done : (word : List ℕ) (i n : ℕ) → length word ≤ i → 0 < length word → ((get_or word 0 0 ≡ 48) × (length word ≤ 1)) ⊎ (get_or word 0 0 ≡ 48 → ⊥)
+pub decimal_done : (word : List ℕ) (i n : ℕ) → length word ≤ i → 0 < length word → has_leading_zero word ≡ false
     → AllDigits 10 (take i word) × (n ≡ min 4294967295 (digits_value 10 (take i word))) → Some n ≡ option_map (min 4294967295) (decimal_at word)
 decimal_done word i n past some lead (d, is) =
     let all = take_all i word past in
-    let lone : get_or word 0 0 ≡ 48 → length word ≡ 1 = λ z. elim lead [ inl p ↦ omega arith | inr h ↦ absurd (h z) ] in
     let all_digits : AllDigits 10 word = rw all at d in
     let value : n ≡ min 4294967295 (digits_value 10 word) = rw all at is in
-    let read = decimal_some word all_digits some lone in
+    let read = decimal_some word all_digits some (leading_zero_none word lead some) in
     ap (λ (v : ℕ). Some v) value ∙ sym (ap (option_map (min 4294967295)) read)
 
 pub hexadecimal_done : (word : List ℕ) (i n : ℕ) → length word ≤ i → 0 < length word → length word ≤ 8

@@ -1,9 +1,9 @@
 -- Lines of a text, each ended by a line feed.
-use Rattle.std.proofs.Common.{◌≡◌, ℕ, ◌<◌, Bool, true, false, cond, eqb, List, [], ◌∷◌, ◌++◌, length, Option, Some, None, refl, sym, ap, ◌∙◌, append_assoc, arith}
+use Rattle.std.proofs.Common.{◌≡◌, ℕ, ◌<◌, Bool, true, false, cond, eqb, List, [], ◌∷◌, ◌++◌, length, Option, Some, None, refl, ap, ◌∙◌, append_assoc, arith}
 use Rattle.std.specs.List.{AllByRecursion, flat_map}
-use Rattle.std.proofs.lemmas.Bool.{eqb-true, cond-true, cond-false}
+use Rattle.std.proofs.lemmas.Bool.{eqb-true, cond-false}
 use Rattle.trace_text.specs.Reading.{◌>>=◌, before_lines, lines_at}
-use Rattle.trace_text.proofs.Options.{bind_some, guard_some, some_is}
+use Rattle.trace_text.proofs.Options.{bind_some, some_is}
 
 -- no byte of it is a line feed
 abbrev pub IsUnbroken : List ℕ → Type 0

@@ -1,9 +1,9 @@
 -- What is read of the words of a line is what they say, and what they say is read.
-use Rattle.std.proofs.Common.{◌≡◌, ◌≢◌, ℕ, zero, suc, ◌≤◌, Bool, true, false, cond, eqb, List, [], ◌∷◌, ◌++◌, length, Option, Some, None, refl, sym, ap, subst, ◌∙◌, arith, lit<}
+use Rattle.std.proofs.Common.{◌≡◌, ◌≢◌, ℕ, zero, suc, false, cond, List, [], ◌∷◌, ◌++◌, length, Some, None, refl, sym, ap, subst, ◌∙◌, arith, lit<}
 use Rattle.std.specs.Prelude.{codes, slice_get}
 use Rattle.std.specs.List.{AllZip, AllByRecursion, join_with_byte}
 use Rattle.std.specs.Str.{bytes_eq}
-use Rattle.std.proofs.lemmas.Bool.{eqb-true, eqb-false, eq-eqb, ne_eqb, cond-true, cond-false}
+use Rattle.std.proofs.lemmas.Bool.{eqb-false, ne_eqb, cond-true}
 use Rattle.std.proofs.lemmas.List.{append-nil}
 use Rattle.std.proofs.lemmas.Slice.Eq.{bytes_eq-Decides}
 use Rattle.ta_isa.specs.declared.boot.Boot.{Boot}
@@ -14,7 +14,7 @@ use Rattle.trace_text.specs.declared.item.Item.TheVariants.{Smc, Enter, Leave, W
 use Rattle.trace_text.specs.Word.{IsDecimalWithin}
 use Rattle.trace_text.specs.Item.{CALL_WITH_ARG}
 use Rattle.trace_text.specs.Line.{IsRegister, IsBootLine, IsSmcLine, IsItemLine}
-use Rattle.trace_text.specs.Reading.{◌>>=◌, within_at, register_at, words_of, word_at, named_at, number_at, next_register_at, registers_at, is_ended, ended, boot_at, is_call, begins_call, item_at}
+use Rattle.trace_text.specs.Reading.{◌>>=◌, within_at, register_at, words_of, word_at, named_at, number_at, next_register_at, registers_at, ended, boot_at, begins_call, item_at}
 use Rattle.trace_text.proofs.Options.{bind_some, guard_some, bar_some, some_is}
 use Rattle.trace_text.proofs.Digits.{within_read, within_again, register_read, register_again}
 use Rattle.trace_text.proofs.Splitting.{IsSolid, IsSolid-digits, words_of-join}
@@ -36,6 +36,12 @@ named_read name words rest e =
 named_again : (name : List ℕ) (words : List (List ℕ)) → named_at name (name ∷ words) ≡ Some words
 unfolding named_at
 named_again name words = cond-true _ (Some words) None ((bytes_eq-Decides name name).1 refl)
+
+behind : (words : List (List ℕ)) (word : List ℕ) (rest others : List (List ℕ)) → words ≡ word ∷ rest → rest ≡ others → words ≡ word ∷ others
+behind words word rest others e same = e ∙ ap (λ (ws : List (List ℕ)). word ∷ ws) same
+
+nothing_behind : (words front rest : List (List ℕ)) → words ≡ front ++ rest → rest ≡ [] → words ≡ front
+nothing_behind words front rest e none = e ∙ ap (λ (ws : List (List ℕ)). front ++ ws) none ∙ append-nil front
 
 -- the first word and what it was read as
 pub record TakesWord {A : Type 0} (Says : List ℕ → A → Type 0) (words : List (List ℕ)) (value : A) (rest : List (List ℕ)) : Type 0 where
@@ -134,10 +140,10 @@ boot_read words boot e =
     let cpus = number_read 1 1 a.0 b.0 b.1 in
     let threads = number_read 1 16 b.0.1 c.0 c.1 in
     let frames = number_read 1 1024 c.0.1 d.0 d.1 in
-    let last : c.0.1 ≡ frames.word ∷ [] = frames.parts ∙ ap (λ (ws : List (List ℕ)). frames.word ∷ ws) done.0 in
-    let third : b.0.1 ≡ threads.word ∷ frames.word ∷ [] = threads.parts ∙ ap (λ (ws : List (List ℕ)). threads.word ∷ ws) last in
-    let second : a.0 ≡ cpus.word ∷ threads.word ∷ frames.word ∷ [] = cpus.parts ∙ ap (λ (ws : List (List ℕ)). cpus.word ∷ ws) third in
-    let whole : words ≡ codes "boot" ∷ cpus.word ∷ threads.word ∷ frames.word ∷ [] = named_read (codes "boot") words a.0 a.1 ∙ ap (λ (ws : List (List ℕ)). codes "boot" ∷ ws) second in
+    let last : c.0.1 ≡ frames.word ∷ [] = behind c.0.1 frames.word d.0.1 [] frames.parts done.0 in
+    let third : b.0.1 ≡ threads.word ∷ frames.word ∷ [] = behind b.0.1 threads.word c.0.1 (frames.word ∷ []) threads.parts last in
+    let second : a.0 ≡ cpus.word ∷ threads.word ∷ frames.word ∷ [] = behind a.0 cpus.word b.0.1 (threads.word ∷ frames.word ∷ []) cpus.parts third in
+    let whole : words ≡ codes "boot" ∷ cpus.word ∷ threads.word ∷ frames.word ∷ [] = behind words (codes "boot") a.0 (cpus.word ∷ threads.word ∷ frames.word ∷ []) (named_read (codes "boot") words a.0 a.1) second in
     subst (λ (made : Boot). IsBootLine words made) done.1
     (record { cpus_word = cpus.word; threads_word = threads.word; frames_word = frames.word; words_are = whole; cpus = cpus.says; threads = threads.says; frames = frames.says; no_apps = refl })
 
@@ -164,10 +170,10 @@ item_read words item e =
     let cpu = number_read 0 0 a.0 b.0 b.1 in
     let steps = number_read 1 1000000 b.0.1 c.0 c.1 in
     let regs = registers_read 8 c.0.1 d.0 d.1 in
-    let last : c.0.1 ≡ regs.reg_words = regs.parts ∙ ap (λ (ws : List (List ℕ)). regs.reg_words ++ ws) done.0 ∙ append-nil regs.reg_words in
-    let third : b.0.1 ≡ steps.word ∷ regs.reg_words = steps.parts ∙ ap (λ (ws : List (List ℕ)). steps.word ∷ ws) last in
-    let second : a.0 ≡ cpu.word ∷ steps.word ∷ regs.reg_words = cpu.parts ∙ ap (λ (ws : List (List ℕ)). cpu.word ∷ ws) third in
-    let whole : words ≡ codes "smc" ∷ cpu.word ∷ steps.word ∷ regs.reg_words = named_read (codes "smc") words a.0 a.1 ∙ ap (λ (ws : List (List ℕ)). codes "smc" ∷ ws) second in
+    let last : c.0.1 ≡ regs.reg_words = nothing_behind c.0.1 regs.reg_words d.0.1 regs.parts done.0 in
+    let third : b.0.1 ≡ steps.word ∷ regs.reg_words = behind b.0.1 steps.word c.0.1 regs.reg_words steps.parts last in
+    let second : a.0 ≡ cpu.word ∷ steps.word ∷ regs.reg_words = behind a.0 cpu.word b.0.1 (steps.word ∷ regs.reg_words) cpu.parts third in
+    let whole : words ≡ codes "smc" ∷ cpu.word ∷ steps.word ∷ regs.reg_words = behind words (codes "smc") a.0 (cpu.word ∷ steps.word ∷ regs.reg_words) (named_read (codes "smc") words a.0 a.1) second in
     let line : IsSmcLine words b.0.0 c.0.0 d.0.0 = record { cpu_word = cpu.word; steps_word = steps.word; reg_words = regs.reg_words; words_are = whole; cpu_is = cpu.says; steps_are = steps.says; eight = regs.count; regs_are = regs.says; no_call = no_call_read d.0.0 barred.0 } in
     subst (λ (made : Item). IsItemLine words made) done.1 line
 
@@ -175,7 +181,7 @@ smc_again : (words : List (List ℕ)) (cpu steps : ℕ) (regs : List Reg) → Is
 unfolding item_at
 smc_again words cpu steps regs line =
     let all : registers_at 8 line.reg_words ≡ Some (regs, []) =
-        ap (λ (n : ℕ). registers_at n line.reg_words) (sym line.eight) ∙ ap (registers_at (length line.reg_words)) (sym (append-nil line.reg_words)) ∙ registers_again line.reg_words [] regs line.regs_are in
+    ap (λ (n : ℕ). registers_at n line.reg_words) (sym line.eight) ∙ ap (registers_at (length line.reg_words)) (sym (append-nil line.reg_words)) ∙ registers_again line.reg_words [] regs line.regs_are in
     ap item_at line.words_are ∙ rw (
       named_again (codes "smc") (line.cpu_word ∷ line.steps_word ∷ line.reg_words),
       number_again 0 0 line.cpu_word (line.steps_word ∷ line.reg_words) cpu line.cpu_is,

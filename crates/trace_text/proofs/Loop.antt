@@ -1,5 +1,5 @@
 -- Reading items one after the other, as a loop does.
-use Rattle.std.proofs.Common.{◌≡◌, ℕ, ◌<◌, Bool, true, false, eqb, List, [], ◌∷◌, ◌++◌, length, All, Option, Some, None, refl, sym, ap, ◌∙◌, append_assoc, arith}
+use Rattle.std.proofs.Common.{◌≡◌, ℕ, ◌<◌, true, false, eqb, List, [], ◌∷◌, ◌++◌, length, All, Option, Some, None, refl, sym, ap, ◌∙◌, append_assoc, arith}
 use Rattle.std.proofs.lemmas.Bool.{eqb-true}
 use Rattle.std.proofs.lemmas.Bool.Decides.{nat_tests}
 use Rattle.std.proofs.lemmas.List.{append-nil, nil_from_length}
@@ -48,14 +48,14 @@ pub goes_on : (front more : List Item) (rest line after : List ℕ) (item : Item
     → Some item ≡ item_at (words_of line) → with_front front (items_in rest) ≡ total → with_front more (items_in after) ≡ total
 goes_on front more rest line after item total pushed cut e so_far =
     let one : items_in rest ≡ (items_in after >>= λ items. Some (item ∷ items)) =
-        ap (λ (o : Option (List (List ℕ))). o >>= λ lines. items_at lines) (line_first rest line after cut.0 cut.1) ∙ items_by_line line (lines_at after) item (sym e) in
+    ap (λ (o : Option (List (List ℕ))). o >>= λ lines. items_at lines) (line_first rest line after cut.0 cut.1) ∙ items_by_line line (lines_at after) item (sym e) in
     ap (λ (front' : List Item). with_front front' (items_in after)) pushed ∙ sym (regroup front item (items_in after)) ∙ sym (ap (with_front front) one) ∙ so_far
 
 pub stops : (front : List Item) (rest line after : List ℕ) (total : Option (List Item)) → HasNoFeed line × (rest ≡ line ++ 10 ∷ after) → None ≡ item_at (words_of line)
     → with_front front (items_in rest) ≡ total → total ≡ None
 stops front rest line after total cut e so_far =
     let one : items_in rest ≡ None =
-        ap (λ (o : Option (List (List ℕ))). o >>= λ lines. items_at lines) (line_first rest line after cut.0 cut.1) ∙ no_items_by_line line (lines_at after) (sym e) in
+    ap (λ (o : Option (List (List ℕ))). o >>= λ lines. items_at lines) (line_first rest line after cut.0 cut.1) ∙ no_items_by_line line (lines_at after) (sym e) in
     sym so_far ∙ ap (with_front front) one
 
 pub unended : (front : List Item) (rest : List ℕ) (total : Option (List Item)) → HasNoFeed rest → false ≡ eqb (length rest) 0

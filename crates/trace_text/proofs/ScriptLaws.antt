@@ -15,13 +15,13 @@ use Rattle.trace_text.specs.declared.fault.BadKind.TheVariants.{NotYet}
 use Rattle.trace_text.specs.declared.fault.TraceFault.{TraceFault}
 use Rattle.trace_text.specs.declared.fault.TraceFault.TheVariants.{Bad, Memory}
 use Rattle.trace_text.specs.Item.{IsNumber, IsFastCall}
-use Rattle.trace_text.specs.Line.{line_of, IsRegister, IsBootLine, IsSmcLine, IsItemLine}
+use Rattle.trace_text.specs.Line.{line_of, IsRegister, IsSmcLine, IsItemLine}
 use Rattle.trace_text.specs.Script.{SpellsLines, Spells, IsPlain, IsRefusal}
 use Rattle.trace_text.specs.Reading.{◌>>=◌, words_of, boot_at, item_at, lines_at, items_at, empty_trace, script_at, trace_at, Gives}
 use Rattle.trace_text.proofs.Options.{bind_some, some_is}
 use Rattle.trace_text.proofs.EndedLines.{whole_line, lines_read, lines_again, IsUnbroken}
 use Rattle.trace_text.proofs.Splitting.{join_is_unbroken}
-use Rattle.trace_text.proofs.LineLaws.{boot_read, boot_again, item_read, item_again, IsLine, IsLine-boot, IsLine-item}
+use Rattle.trace_text.proofs.LineLaws.{boot_read, boot_again, item_read, item_again, IsLine-boot, IsLine-item}
 
 -- ---- what is read is spelled so
 
@@ -46,7 +46,7 @@ script_read (line ∷ lines) trace e =
     let b = bind_some (items_at lines) (λ items. Some (record { boot = Some a.0; fills = []; items = items })) trace a.2 in
     let made : Trace = record { boot = Some a.0; fills = []; items = b.0 } in
     let spelled : SpellsLines (flat_map whole_line (line ∷ lines)) a.0 b.0 =
-        record { boot_words = words_of line; item_words = map words_of lines; text_is = joined_lines (line ∷ lines); boot_line = boot_read (words_of line) a.0 a.1; item_lines = items_read lines b.0 b.1 } in
+    record { boot_words = words_of line; item_words = map words_of lines; text_is = joined_lines (line ∷ lines); boot_line = boot_read (words_of line) a.0 a.1; item_lines = items_read lines b.0 b.1 } in
     subst (λ (t : Trace). Spells (flat_map whole_line (line ∷ lines)) t) (some_is made trace b.2) (record { lines = spelled; no_fills = refl })
 
 pub trace_read : (text : List ℕ) (trace : Trace) → trace_at text ≡ Some trace → Spells text trace
@@ -85,7 +85,7 @@ unfolding trace_at script_at
 lines_spelled_again text boot items s =
     let first = IsLine-boot s.boot_words boot s.boot_line in
     let whole : lines_at text ≡ Some (joined s.boot_words ∷ map joined s.item_words) =
-        ap lines_at (s.text_is ∙ cut_lines (s.boot_words ∷ s.item_words)) ∙ lines_again (joined s.boot_words ∷ map joined s.item_words) (join_is_unbroken s.boot_words first.solid, unbroken_items s.item_words items s.item_lines) in
+    ap lines_at (s.text_is ∙ cut_lines (s.boot_words ∷ s.item_words)) ∙ lines_again (joined s.boot_words ∷ map joined s.item_words) (join_is_unbroken s.boot_words first.solid, unbroken_items s.item_words items s.item_lines) in
     let boots : boot_at (words_of (joined s.boot_words)) ≡ Some boot = ap boot_at first.again ∙ boot_again s.boot_words boot s.boot_line in
     rw (whole, boots, items_again s.item_words items s.item_lines) refl
 
@@ -175,3 +175,6 @@ pub refused_from_read : (text : List ℕ) (result : Result Trace TraceFault) →
 refused_from_read text (Ok trace) h none = absurd (none (trace, trace_read text trace h))
 refused_from_read text (Err (Bad place kind)) h none = inl (rw (h.0, h.1) refl)
 refused_from_read text (Err Memory) h none = inr refl
+
+pub no_plain : (text : List ℕ) → trace_at text ≡ None → ¬ (IsPlain text)
+no_plain text none plain = refused_trace text plain.0 none plain.1

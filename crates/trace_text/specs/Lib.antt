@@ -2,4 +2,5 @@ pub mod Word
 pub mod Item
 pub mod Line
 pub mod Script
+pub mod Examples
 pub mod Reading

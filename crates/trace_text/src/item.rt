@@ -13,11 +13,21 @@ pub enum Reg {
 #[derive(Debug, Drop)]
 pub enum Item {
     /// A processor enters with these registers, is granted so many steps, 1 to 1,000,000, and exits.
-    Smc { cpu: u8, steps: u32, regs: [Reg; 8] },
+    Smc {
+        cpu: u8,
+        steps: u32,
+        regs: [Reg; 8],
+    },
     /// A processor enters, and stays inside.
-    Enter { cpu: u8, steps: u32, regs: [Reg; 8] },
+    Enter {
+        cpu: u8,
+        steps: u32,
+        regs: [Reg; 8],
+    },
     /// A processor that is inside exits.
-    Leave { cpu: u8 },
+    Leave {
+        cpu: u8,
+    },
     /// Bytes that a processor writes into its lane of the normal world's memory.
     Write {
         cpu: u8,
@@ -25,5 +35,9 @@ pub enum Item {
         bytes: Sequence<u8>,
     },
     /// Prints so many bytes of a processor's lane, 1 to 4096.
-    Show { cpu: u8, addr: u64, len: u32 },
+    Show {
+        cpu: u8,
+        addr: u64,
+        len: u32,
+    },
 }

@@ -7,6 +7,7 @@
 
 mod fault;
 mod item;
+mod laws;
 mod line;
 mod reading;
 mod trace;
@@ -14,5 +15,9 @@ mod word;
 
 pub use fault::{BadKind, TraceFault};
 pub use item::{Item, Reg};
+pub use laws::{one_spelling, worked_examples};
 pub use reading::read_trace;
 pub use trace::{Fill, Trace};
+
+#[cfg(test)]
+mod tests;

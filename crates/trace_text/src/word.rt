@@ -2,9 +2,16 @@
 
 ghost use Rattle.std.specs.Prelude.{◌≡◌, ◌<◌, ◌≤◌, ◌^◌, min, IfSome};
 ghost use Rattle.std.specs.Option.{option_map};
-ghost use Rattle.trace_text.specs.Reading.{decimal_at, hexadecimal_at, within_at, register_at};
+ghost use Rattle.trace_text.specs.Reading.{has_leading_zero, decimal_at, hexadecimal_at, within_at, register_at};
 
 use crate::item::Reg;
+
+/// Whether a word begins with a zero that is not all of it.
+fn has_leading_zero(word: &[u8]) -> bool
+    ensures { result ≡ has_leading_zero word.now }
+{
+    matches!(word, [b'0', _, ..])
+}
 
 /// The number that decimal digits write, without a sign and without a leading zero but in `0`. `u32::MAX` stands
 /// for all numbers above it.
@@ -12,7 +19,7 @@ use crate::item::Reg;
 fn decimal(word: &[u8]) -> Option<u32>
     ensures { result ≡ option_map (min u32.MAX) (decimal_at word.now) }
 {
-    if word.is_empty() || word[0] == b'0' && word.len() > 1 {
+    if word.is_empty() || has_leading_zero(word) {
         return None;
     }
     let mut number = 0u32;

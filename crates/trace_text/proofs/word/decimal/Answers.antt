@@ -1,8 +1,6 @@
-use Rattle.std.proofs.Common.{◌<◌, length, arith}
+use Rattle.std.proofs.Common.{◌<◌, length, sym, arith}
 use Rattle.std.proofs.lemmas.Bool.Decides.{nat_tests}
 use Rattle.trace_text.proofs.Digits.{one_more, saturated, decimal_done}
-use Rattle.std.specs.Str.Parse.{digits_value}
-use Rattle.std.proofs.Common.{take}
 use Rattle.trace_text.proofs.word.decimal.Goals as goal
 
 pub loop-byte-preserved : goal.loop-byte-preserved
@@ -14,4 +12,4 @@ loop-byte-preserved c =
 pub returns : goal.returns
 returns c =
     let some : 0 < length c.args.word.now = grind (arith, nat_tests) in
-    decimal_done c.args.word.now c.loop-byte.byte-index c.loop-byte.number c.loop-byte-test.false some c.if-word-gt1.either c.loop-byte.invariant
+    decimal_done c.args.word.now c.loop-byte.byte-index c.loop-byte.number c.loop-byte-test.false some (sym c.if-has_leading_zero.ensures) c.loop-byte.invariant
