@@ -1,4 +1,5 @@
 pub mod Options
+pub mod Cuts
 pub mod Digits
 pub mod EndedLines
 pub mod Splitting

@@ -1,6 +1,6 @@
 -- Reading a script from left to right, on lists. The private functions of the crate compute these; that they
 -- meet what the other modules say of words, lines and scripts is proved of them alone.
-use Rattle.std.specs.Prelude.{◌≡◌, ℕ, zero, suc, List, [], ◌∷◌, length, slice_index, Bool, true, false, ◌&&◌, not, Option, Some, None, Result, Ok, Err, option_and_then, nat_lt, nat_le, ◌==◌, if◌then◌else◌, codes}
+use Rattle.std.specs.Prelude.{◌≡◌, ℕ, zero, suc, List, [], ◌∷◌, length, slice_index, Bool, true, false, ◌&&◌, not, Option, Some, None, Result, Ok, Err, option_and_then, nat_lt, nat_le, ◌==◌, if◌then◌else◌, codes, All, ◌++◌}
 use Rattle.std.specs.List.{slice_split, list_all}
 use Rattle.std.specs.Char.{digit_value}
 use Rattle.std.specs.Str.{bytes_eq}
@@ -43,6 +43,16 @@ unfoldable pub register_at : List ℕ → Option Reg
 register_at word = do
   n ← hexadecimal_at 8 word
   Some (Num n)
+
+-- ---- cuts
+
+-- the byte stands nowhere in these
+abbrev pub Lacks : ℕ → List ℕ → Type 0
+Lacks byte bytes = All (λ b. (b == byte) ≡ false) bytes
+
+-- these are cut at the first such byte, into what stands before it and after it
+abbrev pub IsCutAt : ℕ → List ℕ → List ℕ → List ℕ → Type 0
+IsCutAt byte bytes front back = Lacks byte front × (bytes ≡ front ++ byte ∷ back)
 
 -- ---- words from the front of what is left of a line
 

@@ -2,19 +2,32 @@
 
 ghost use Rattle.std.specs.Prelude.{◌≡◌, ◌<◌, ◌≤◌, ◌==◌, false, IfSome, MatchOption, All, ◌∷◌, ◌++◌, List, ℕ, IsSome, IsTrue, ◌↔◌, length};
 ghost use Rattle.std.specs.Option.{option_map, option_copied};
-ghost use Rattle.trace_text.specs.Reading.{words_left, words_of, word_at, named_at, number_at, next_register_at, registers_at, is_ended};
+ghost use Rattle.trace_text.specs.Reading.{Lacks, IsCutAt, words_left, words_of, word_at, named_at, number_at, next_register_at, registers_at, is_ended};
 
 use crate::item::Reg;
 use crate::word;
+use memchr::memchr;
 use std::marker::Model;
 
-/// What stands before the first such byte, and after it.
-pub fn split_once(bytes: &[u8], separator: u8) -> Option<(&[u8], &[u8])>
-    ensures { MatchOption result (All (λ b. (b == separator) ≡ false) bytes.now)
-        (λ x. All (λ b. (b == separator) ≡ false) x.0.now × (bytes.now ≡ x.0.now ++ separator ∷ x.1.now)) }
+/// The first line of a text, without its line feed, and what stands behind it.
+pub fn split_line(text: &[u8]) -> Option<(&[u8], &[u8])>
+    ensures { MatchOption result (Lacks 10 text.now) (λ x. IsCutAt 10 text.now x.0.now x.1.now) }
 {
-    let end = bytes.iter().position(|byte| *byte == separator)?;
-    Some((&bytes[..end], &bytes[end + 1..]))
+    let end = memchr(b'\n', text)?;
+    Some((&text[..end], &text[end + 1..]))
+}
+
+/// The first word of a line that has others, and what stands behind the space after it.
+fn split_word(line: &[u8]) -> Option<(&[u8], &[u8])>
+    ensures { MatchOption result (Lacks 32 line.now) (λ x. IsCutAt 32 line.now x.0.now x.1.now) }
+{
+    // Words are short, and a search that reads many bytes at a time is no gain.
+    for (end, byte) in line.iter().enumerate() {
+        if *byte == b' ' {
+            return Some((&line[..end], &line[end + 1..]));
+        }
+    }
+    None
 }
 
 /// The words of a line that are still to be read. Two words are parted by one space, so two spaces in a row part
@@ -43,7 +56,7 @@ impl<'a> Words<'a> {
         ensures { word_at self.old ≡ option_map (λ word. (word.now, self.new)) result }
     {
         let line = self.rest?;
-        match split_once(line, b' ') {
+        match split_word(line) {
             Some((word, rest)) => {
                 self.rest = Some(rest);
                 Some(word)

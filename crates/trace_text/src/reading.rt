@@ -5,7 +5,7 @@ ghost use Rattle.trace_text.specs.Script.{Spells, IsPlain, IsRefusal};
 
 use crate::fault::{BadKind, TraceFault};
 use crate::item::{Item, Reg};
-use crate::line::{Words, split_once};
+use crate::line::{Words, split_line};
 use crate::trace::Trace;
 use base::Sequence;
 use std::alloc::Global;
@@ -69,7 +69,7 @@ fn items_of(alloc: Global, text: &[u8]) -> Result<Vec<Item>, TraceFault>
     let mut items = Vec::new(alloc);
     let mut rest = text;
     while !rest.is_empty() {
-        let Some((line, after)) = split_once(rest, b'\n') else {
+        let Some((line, after)) = split_line(rest) else {
             return Err(NOT_YET);
         };
         let Some(item) = item_of(line) else {
@@ -93,7 +93,7 @@ fn trace_of(alloc: Global, text: &[u8]) -> Result<Trace, TraceFault>
             items: Sequence::of(Vec::new(alloc)),
         });
     }
-    let Some((line, rest)) = split_once(text, b'\n') else {
+    let Some((line, rest)) = split_line(text) else {
         return Err(NOT_YET);
     };
     let Some(boot) = boot_of(alloc, line) else {
