@@ -1,5 +1,5 @@
 -- Bytes cut at the first byte that a search has found.
-use Rattle.std.proofs.Common.{◌≡◌, ℕ, ◌+◌, ◌-◌, ◌<◌, ◌≤◌, true, false, eqb, List, [], ◌∷◌, ◌++◌, length, get_or, take, drop, refl, sym, ap, ◌∙◌, arith}
+use Rattle.std.proofs.Common.{◌≡◌, ℕ, ◌+◌, ◌-◌, ◌<◌, ◌≤◌, true, false, eqb, List, ◌∷◌, ◌++◌, length, get_or, take, drop, sym, ap, ◌∙◌, arith}
 use Rattle.std.proofs.lemmas.Bool.{eqb-true, ne_eqb, false_from_ne_true}
 use Rattle.std.proofs.lemmas.List.{take-append-drop, take_all, drop_more, take_rest, get_or-take, length-take}
 use Rattle.std.proofs.lemmas.List.Elements.{All-from_get_or, All-more}

@@ -129,6 +129,11 @@ no_call_again (Last i ∷ regs) h = refl
 abbrev make_boot : ℕ → ℕ → ℕ → Boot
 make_boot cpus threads frames = record { cpus = cpus; threads = threads; frames = frames; apps = [] }
 
+boot_line : (words : List (List ℕ)) (cpus_word threads_word frames_word : List ℕ) (cpus threads frames : ℕ) → words ≡ codes "boot" ∷ cpus_word ∷ threads_word ∷ frames_word ∷ []
+    → IsDecimalWithin 1 1 cpus_word cpus → IsDecimalWithin 1 16 threads_word threads → IsDecimalWithin 1 1024 frames_word frames → IsBootLine words (make_boot cpus threads frames)
+boot_line words cpus_word threads_word frames_word cpus threads frames e c t f =
+    record { cpus_word = cpus_word; threads_word = threads_word; frames_word = frames_word; words_are = e; cpus = c; threads = t; frames = f; no_apps = refl }
+
 pub boot_read : (words : List (List ℕ)) (boot : Boot) → boot_at words ≡ Some boot → IsBootLine words boot
 unfolding boot_at
 boot_read words boot e =
@@ -144,8 +149,8 @@ boot_read words boot e =
     let third : b.0.1 ≡ threads.word ∷ frames.word ∷ [] = behind b.0.1 threads.word c.0.1 (frames.word ∷ []) threads.parts last in
     let second : a.0 ≡ cpus.word ∷ threads.word ∷ frames.word ∷ [] = behind a.0 cpus.word b.0.1 (threads.word ∷ frames.word ∷ []) cpus.parts third in
     let whole : words ≡ codes "boot" ∷ cpus.word ∷ threads.word ∷ frames.word ∷ [] = behind words (codes "boot") a.0 (cpus.word ∷ threads.word ∷ frames.word ∷ []) (named_read (codes "boot") words a.0 a.1) second in
-    subst (λ (made : Boot). IsBootLine words made) done.1
-    (record { cpus_word = cpus.word; threads_word = threads.word; frames_word = frames.word; words_are = whole; cpus = cpus.says; threads = threads.says; frames = frames.says; no_apps = refl })
+    subst (λ (made : Boot). IsBootLine words made) {x = make_boot b.0.0 c.0.0 d.0.0} {y = boot} done.1
+    (boot_line words cpus.word threads.word frames.word b.0.0 c.0.0 d.0.0 whole cpus.says threads.says frames.says)
 
 pub boot_again : (words : List (List ℕ)) (boot : Boot) → IsBootLine words boot → boot_at words ≡ Some boot
 unfolding boot_at
@@ -175,7 +180,7 @@ item_read words item e =
     let second : a.0 ≡ cpu.word ∷ steps.word ∷ regs.reg_words = behind a.0 cpu.word b.0.1 (steps.word ∷ regs.reg_words) cpu.parts third in
     let whole : words ≡ codes "smc" ∷ cpu.word ∷ steps.word ∷ regs.reg_words = behind words (codes "smc") a.0 (cpu.word ∷ steps.word ∷ regs.reg_words) (named_read (codes "smc") words a.0 a.1) second in
     let line : IsSmcLine words b.0.0 c.0.0 d.0.0 = record { cpu_word = cpu.word; steps_word = steps.word; reg_words = regs.reg_words; words_are = whole; cpu_is = cpu.says; steps_are = steps.says; eight = regs.count; regs_are = regs.says; no_call = no_call_read d.0.0 barred.0 } in
-    subst (λ (made : Item). IsItemLine words made) done.1 line
+    subst (λ (made : Item). IsItemLine words made) {x = Smc b.0.0 c.0.0 d.0.0} done.1 line
 
 smc_again : (words : List (List ℕ)) (cpu steps : ℕ) (regs : List Reg) → IsSmcLine words cpu steps regs → item_at words ≡ Some (Smc cpu steps regs)
 unfolding item_at

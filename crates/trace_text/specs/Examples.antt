@@ -1,5 +1,5 @@
 -- What the definitions say of a few small inputs.
-use Rattle.std.specs.Prelude.{◌≡◌, ℕ, List, [], ◌∷◌, ◌++◌, Some, None, codes}
+use Rattle.std.specs.Prelude.{◌≡◌, ℕ, List, [], ◌∷◌, ◌++◌, Some, codes}
 use Rattle.trace_text.specs.declared.item.Reg.{Reg}
 use Rattle.trace_text.specs.declared.item.Reg.TheVariants.{Num}
 use Rattle.trace_text.specs.declared.item.Item.TheVariants.{Smc}
@@ -7,7 +7,7 @@ use Rattle.trace_text.specs.declared.trace.Trace.{Trace}
 use Rattle.trace_text.specs.Word.{IsDecimal, IsDecimalWithin, IsHexadecimal}
 use Rattle.trace_text.specs.Item.{IsFastCall}
 use Rattle.trace_text.specs.Line.{line_of}
-use Rattle.trace_text.specs.Script.{Spells, IsPlain}
+use Rattle.trace_text.specs.Script.{empty_trace, Spells, IsPlain}
 
 -- the registers of a call with only the first of them set
 abbrev pub only_first : ℕ → List Reg
@@ -22,9 +22,6 @@ uid_text = boot_text ++ (codes "smc 0 1 bf00ff01 0 0 0 0 0 0 0" ++ 10 ∷ [])
 
 abbrev pub uid_trace : Trace
 uid_trace = record { boot = Some (record { cpus = 1; threads = 1; frames = 1; apps = [] }); fills = []; items = Smc 0 1 (only_first 0xbf00_ff01) ∷ [] }
-
-abbrev pub empty_trace : Trace
-empty_trace = record { boot = None; fills = []; items = [] }
 
 pub record Examples : Type 0 where
   pub zero : IsDecimal (codes "0") 0

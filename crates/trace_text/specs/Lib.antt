@@ -1,4 +1,5 @@
 pub mod Word
+pub mod Fault
 pub mod Item
 pub mod Line
 pub mod Script

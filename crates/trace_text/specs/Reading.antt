@@ -15,6 +15,7 @@ use Rattle.trace_text.specs.declared.fault.BadKind.TheVariants.{NotYet}
 use Rattle.trace_text.specs.declared.fault.TraceFault.{TraceFault}
 use Rattle.trace_text.specs.declared.fault.TraceFault.TheVariants.{Bad, Memory}
 use Rattle.trace_text.specs.Item.{CALL_WITH_ARG}
+use Rattle.trace_text.specs.Script.{empty_trace}
 
 infixl 10 ◌>>=◌
 abbrev pub ◌>>=◌ : {A B : Type 0} → Option A → (A → Option B) → Option B
@@ -150,9 +151,6 @@ abbrev pub items_in : List ℕ → Option (List Item)
 items_in text = do
   lines ← lines_at text
   items_at lines
-
-abbrev pub empty_trace : Trace
-empty_trace = record { boot = None; fills = []; items = [] }
 
 unfoldable pub script_at : List (List ℕ) → Option Trace
 script_at [] = Some empty_trace

@@ -1,7 +1,10 @@
-ghost use Rattle.std.specs.Prelude.{◌≡◌};
+ghost use Rattle.std.specs.Prelude.{◌≡◌, Some};
+ghost use Rattle.trace_text.specs.Fault.{kind_word};
 ghost use Rattle.trace_text.specs.declared.fault.TraceFault.TheVariants.{Memory};
 
 use std::alloc::{AllocError, AllocFailed};
+use std::error::Error;
+use std::fmt;
 
 /// What is wrong with a line or a record of a trace. The kinds up to [`BadKind::Inside`] stand in the order in
 /// which they are looked for in one line.
@@ -41,6 +44,40 @@ pub enum BadKind {
     NotYet,
 }
 
+impl BadKind {
+    /// The word of this kind, as it is printed.
+    pub fn word(self) -> &'static str
+        ensures { result.now ≡ kind_word self }
+    {
+        match self {
+            BadKind::Byte => "byte",
+            BadKind::Cut => "cut",
+            BadKind::Item => "item",
+            BadKind::Count => "count",
+            BadKind::Place => "place",
+            BadKind::Number => "number",
+            BadKind::Uuid => "uuid",
+            BadKind::Hex => "hex",
+            BadKind::Range => "range",
+            BadKind::Cpu => "cpu",
+            BadKind::Repeat => "repeat",
+            BadKind::Image => "image",
+            BadKind::Inside => "inside",
+            BadKind::Unended => "unended",
+            BadKind::Asm => "asm",
+            BadKind::NotYet => "notyet",
+        }
+    }
+}
+
+impl fmt::Display for BadKind {
+    ghost output = { λ kind. Some (kind_word kind) };
+
+    fn fmt<W: fmt::Write>(&self, f: &mut fmt::Formatter<W>) -> fmt::Result {
+        f.write_str(self.word())
+    }
+}
+
 /// Why a trace could not be read.
 #[derive(Clone, Copy, Debug, PartialEq, Eq)]
 pub enum TraceFault {
@@ -49,6 +86,17 @@ pub enum TraceFault {
     /// Want of memory.
     Memory,
 }
+
+impl fmt::Display for TraceFault {
+    fn fmt<W: fmt::Write>(&self, f: &mut fmt::Formatter<W>) -> fmt::Result {
+        match self {
+            TraceFault::Bad { place, kind } => write!(f, "bad trace {place} {kind}"),
+            TraceFault::Memory => f.write_str("out of memory"),
+        }
+    }
+}
+
+impl Error for TraceFault {}
 
 impl From<AllocError> for TraceFault {
     ghost from_gives = { λ _ e. e ≡ Memory };

@@ -144,3 +144,17 @@ fn refuses_all_else(rt: HostRuntime) -> Result<(), Fail> {
     }
     Ok(())
 }
+
+#[test]
+fn prints_faults(rt: HostRuntime) -> Result<(), Fail> {
+    let fault = TraceFault::Bad {
+        place: 1,
+        kind: BadKind::NotYet,
+    };
+    let text = format!(in rt.alloc(); "{fault}")?;
+    assert_eq!(rt; text.as_str(), "bad trace 1 notyet");
+    let text = format!(in rt.alloc(); "{}", TraceFault::Memory)?;
+    assert_eq!(rt; text.as_str(), "out of memory");
+    assert_eq!(rt; BadKind::Unended.word(), "unended");
+    Ok(())
+}

@@ -1,0 +1,23 @@
+-- The words of faults, as they are printed.
+use Rattle.std.specs.Prelude.{ℕ, List, codes}
+use Rattle.trace_text.specs.declared.fault.BadKind.{BadKind}
+use Rattle.trace_text.specs.declared.fault.BadKind.TheVariants.{Byte, Cut, Item, Count, Place, Number, Uuid, Hex, Range, Cpu, Repeat, Image, Inside, Unended, Asm, NotYet}
+
+-- the word of a kind
+abbrev pub kind_word : BadKind → List ℕ
+kind_word Byte = codes "byte"
+kind_word Cut = codes "cut"
+kind_word Item = codes "item"
+kind_word Count = codes "count"
+kind_word Place = codes "place"
+kind_word Number = codes "number"
+kind_word Uuid = codes "uuid"
+kind_word Hex = codes "hex"
+kind_word Range = codes "range"
+kind_word Cpu = codes "cpu"
+kind_word Repeat = codes "repeat"
+kind_word Image = codes "image"
+kind_word Inside = codes "inside"
+kind_word Unended = codes "unended"
+kind_word Asm = codes "asm"
+kind_word NotYet = codes "notyet"
