@@ -17,29 +17,36 @@ use Rattle.trace_text.specs.declared.fault.TraceFault.TheVariants.{Bad, Memory}
 use Rattle.trace_text.specs.Item.{CALL_WITH_ARG}
 use Rattle.trace_text.specs.Script.{empty_trace}
 
+-- one step after another, where either may read nothing
 infixl 10 ◌>>=◌
 abbrev pub ◌>>=◌ : {A B : Type 0} → Option A → (A → Option B) → Option B
 o >>= f = option_and_then f o
 
 -- ---- words
 
+-- one digit or more, and nothing else
 abbrev pub are_digits : ℕ → List ℕ → Bool
 are_digits radix word = nat_lt 0 (length word) && list_all (λ c. nat_lt (digit_value c) radix) word
 
+-- a zero that is not all of the word
 abbrev pub has_leading_zero : List ℕ → Bool
 has_leading_zero word = (slice_index word 0 == 48) && nat_lt 1 (length word)
 
+-- the decimal number of a word
 unfoldable pub decimal_at : List ℕ → Option ℕ
 decimal_at word = if are_digits 10 word && not (has_leading_zero word) then Some (digits_value 10 word) else None
 
+-- the number of 1 to `most` hexadecimal digits
 unfoldable pub hexadecimal_at : ℕ → List ℕ → Option ℕ
 hexadecimal_at most word = if are_digits 16 word && nat_le (length word) most then Some (digits_value 16 word) else None
 
+-- a decimal number within its limits
 unfoldable pub within_at : ℕ → ℕ → List ℕ → Option ℕ
 within_at least most word = do
   n ← decimal_at word
   if nat_le least n && nat_le n most then Some n else None
 
+-- the register of a word
 unfoldable pub register_at : List ℕ → Option Reg
 register_at word = do
   n ← hexadecimal_at 8 word
@@ -61,31 +68,37 @@ IsCutAt byte bytes front back = Lacks byte front × (bytes ≡ front ++ byte ∷
 abbrev pub words_of : List ℕ → List (List ℕ)
 words_of line = slice_split (λ b. b == 32) line
 
+-- the words that are left: none behind the last one
 abbrev pub words_left : Option (List ℕ) → List (List ℕ)
 words_left None = []
 words_left (Some line) = words_of line
 
+-- the next word and the words behind it, as each reader below gives what it read and the words behind that
 abbrev pub word_at : List (List ℕ) → Option (List ℕ × List (List ℕ))
 word_at [] = None
 word_at (word ∷ words) = Some (word, words)
 
+-- the next word, which is this name
 unfoldable pub named_at : List ℕ → List (List ℕ) → Option (List (List ℕ))
 named_at name words = do
   word ← word_at words
   if bytes_eq word.0 name then Some word.1 else None
 
+-- the next word, a decimal number within its limits
 unfoldable pub number_at : ℕ → ℕ → List (List ℕ) → Option (ℕ × List (List ℕ))
 number_at least most words = do
   word ← word_at words
   n ← within_at least most word.0
   Some (n, word.1)
 
+-- the next word, a register
 unfoldable pub next_register_at : List (List ℕ) → Option (Reg × List (List ℕ))
 next_register_at words = do
   word ← word_at words
   reg ← register_at word.0
   Some (reg, word.1)
 
+-- so many registers
 unfoldable pub registers_at : ℕ → List (List ℕ) → Option (List Reg × List (List ℕ))
 registers_at zero words = Some ([], words)
 registers_at (suc n) words = do
@@ -93,15 +106,18 @@ registers_at (suc n) words = do
   others ← registers_at n first.1
   Some (first.0 ∷ others.0, others.1)
 
+-- no words are left
 abbrev pub is_ended : List (List ℕ) → Bool
 is_ended [] = true
 is_ended (word ∷ words) = false
 
+-- what was read, where no words are left
 abbrev pub ended : {A : Type 0} → List (List ℕ) → A → Option A
 ended words value = if is_ended words then Some value else None
 
 -- ---- lines
 
+-- the boot of the words of a line
 unfoldable pub boot_at : List (List ℕ) → Option Boot
 boot_at words = do
   named ← named_at (codes "boot") words
@@ -110,14 +126,17 @@ boot_at words = do
   frames ← number_at 1 1024 threads.1
   ended frames.1 (record { cpus = cpus.0; threads = threads.0; frames = frames.0; apps = [] })
 
+-- the register has the number of the call with an argument
 abbrev pub is_call : Reg → Bool
 is_call (Num n) = n == CALL_WITH_ARG
 is_call (Last i) = false
 
+-- the first register has it
 abbrev pub begins_call : List Reg → Bool
 begins_call [] = false
 begins_call (reg ∷ regs) = is_call reg
 
+-- the item of the words of a line
 unfoldable pub item_at : List (List ℕ) → Option Item
 item_at words = do
   named ← named_at (codes "smc") words
@@ -140,6 +159,7 @@ lines_at (b ∷ bytes) = do
   lines ← lines_at bytes
   if b == 10 then Some ([] ∷ lines) else before_lines b lines
 
+-- the items of lines
 unfoldable pub items_at : List (List ℕ) → Option (List Item)
 items_at [] = Some []
 items_at (line ∷ lines) = do
@@ -147,11 +167,13 @@ items_at (line ∷ lines) = do
   items ← items_at lines
   Some (item ∷ items)
 
+-- the items of a text
 abbrev pub items_in : List ℕ → Option (List Item)
 items_in text = do
   lines ← lines_at text
   items_at lines
 
+-- the trace of the lines of a script
 unfoldable pub script_at : List (List ℕ) → Option Trace
 script_at [] = Some empty_trace
 script_at (line ∷ lines) = do
@@ -159,16 +181,18 @@ script_at (line ∷ lines) = do
   items ← items_at lines
   Some (record { boot = Some boot; fills = []; items = items })
 
+-- the trace of a text
 unfoldable pub trace_at : List ℕ → Option Trace
 trace_at text = do
   lines ← lines_at text
   script_at lines
 
--- what a function returned, seen by view, is what reading gives, unless memory ran out; a fault is the one refusal
+-- a fault is the one refusal, where reading gives nothing; want of memory is free
 abbrev pub Fails : {Y : Type 0} → TraceFault → Option Y → Type 0
 Fails (Bad place kind) read = (place ≡ 1) × (kind ≡ NotYet) × (read ≡ None)
 Fails Memory read = Unit {0}
 
+-- what a function returned, seen by view, is what reading gives
 abbrev pub Gives : {X Y : Type 0} → (X → Y) → Result X TraceFault → Option Y → Type 0
 Gives view (Ok x) read = read ≡ Some (view x)
 Gives view (Err e) read = Fails e read

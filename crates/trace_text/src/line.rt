@@ -1,6 +1,6 @@
 //! Lines of a text, and the words of a line.
 
-ghost use Rattle.std.specs.Prelude.{◌≡◌, ◌<◌, ◌≤◌, ◌==◌, false, IfSome, MatchOption, All, ◌∷◌, ◌++◌, List, ℕ, IsSome, IsTrue, ◌↔◌, length};
+ghost use Rattle.std.specs.Prelude.{◌≡◌, ℕ, ◌<◌, ◌≤◌, List, IfSome, MatchOption};
 ghost use Rattle.std.specs.Option.{option_map, option_copied};
 ghost use Rattle.trace_text.specs.Reading.{Lacks, IsCutAt, words_left, words_of, word_at, named_at, number_at, next_register_at, registers_at, is_ended};
 
