@@ -1,0 +1,24 @@
+//! Reads a script of secure monitor calls from standard input, serves them, prints each return, and ends
+//! with the number of the status.
+#![tactic(auto)]
+
+use ports::{StdSink, StdSource};
+use std::process::ExitCode;
+use std::rt::Env;
+use std::{env, io};
+use trace_runner::{Status, run};
+
+/// The words after the program's name.
+fn words(rt: &(impl Env + AllocGlobal)) -> io::Result<Vec<String>> {
+    Ok(env::args(rt)?.skip(1).collect(rt.alloc())?)
+}
+
+fn main(rt: HostRuntime) -> ExitCode {
+    let Ok(words) = words(&rt) else {
+        return ExitCode::from(Status::Memory.number());
+    };
+    let mut input = StdSource::new(rt.reader());
+    let mut out = StdSink::new(io::writer(&rt));
+    let status = run(rt.alloc(), words.as_slice(), &mut input, &mut out);
+    ExitCode::from(status.number())
+}

@@ -1,0 +1,16 @@
+use Rattle.std.proofs.Common.{◌≡◌, ◌+◌, ◌-◌, ◌≤◌, vec_len}
+use Rattle.ports.specs.Port.{Moves}
+use Rattle.trace_runner.specs.declared.input.TheConstants.{LONGEST_INPUT, CHUNK_BYTES}
+use Rattle.trace_runner.proofs.input.read_input.Given as goal
+
+-- the bytes so far were taken from the front of what was left
+abbrev pub invariant-loop-bytes : goal.invariant-loop-bytes
+invariant-loop-bytes g l = record {
+  moved : Moves (g.S.Source.left l.fn.input) (g.S.Source.left l.input) l.bytes.items;
+  count : g.S.Source.faults l.fn.input ≤ g.S.Source.faults l.input;
+  limit : vec_len l.bytes ≤ LONGEST_INPUT + 1;
+  whole : vec_len l.chunk ≡ CHUNK_BYTES;
+}
+
+abbrev pub decreases-loop-bytes : goal.decreases-loop-bytes
+decreases-loop-bytes g l = LONGEST_INPUT + 1 - vec_len l.bytes

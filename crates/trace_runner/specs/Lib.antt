@@ -1,0 +1,7 @@
+pub mod Status
+pub mod Line
+pub mod Input
+pub mod Output
+pub mod Play
+pub mod Run
+pub mod Examples

@@ -1,0 +1,48 @@
+//! The lines that are printed.
+
+ghost use Rattle.std.specs.Prelude.{◌≡◌, ◌++◌, IfOk, OnOk};
+ghost use Rattle.trace_runner.specs.Line.{bad_trace_line, register_text, ret_line};
+
+use smc_abi::Regs;
+use std::alloc::{AllocError, Global};
+use trace_text::BadKind;
+
+/// The length of a `ret` line of a processor whose number has one digit.
+const RET_LINE_BYTES: usize = 78;
+
+fn push_register(line: &mut Vec<u8>, register: u32) -> Result<(), AllocError>
+    ensures { OnOk result (line.new.items ≡ line.old.items ++ register_text register) }
+{
+    let mut digits = [0; 8];
+    hex::encode_to_slice(register.to_be_bytes(), &mut digits).unwrap();
+    line.push(b' ')?;
+    line.extend_from_slice(&digits)?;
+    Ok(())
+}
+
+/// The line of an exit: the processor and the eight registers that it has then.
+pub fn ret_line(alloc: Global, cpu: u8, regs: &Regs) -> Result<Vec<u8>, AllocError>
+    ensures { IfOk result (λ line. line.items ≡ ret_line cpu regs.now.a) }
+{
+    let mut line = Vec::with_capacity(alloc, RET_LINE_BYTES)?;
+    line.extend_from_slice(b"ret ")?;
+    line.extend_from_slice(cpu.to_string(alloc)?.as_bytes())?;
+    for register in &regs.a {
+        push_register(&mut line, *register)?;
+    }
+    line.push(b'\n')?;
+    Ok(line)
+}
+
+/// The line of an input that is no script: the place of its first fault and the kind of it.
+pub fn bad_trace_line(alloc: Global, place: u32, kind: BadKind) -> Result<Vec<u8>, AllocError>
+    ensures { IfOk result (λ line. line.items ≡ bad_trace_line place kind) }
+{
+    let mut line = Vec::new(alloc);
+    line.extend_from_slice(b"bad trace ")?;
+    line.extend_from_slice(place.to_string(alloc)?.as_bytes())?;
+    line.push(b' ')?;
+    line.extend_from_slice(kind.to_string(alloc)?.as_bytes())?;
+    line.push(b'\n')?;
+    Ok(line)
+}

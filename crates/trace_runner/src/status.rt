@@ -1,0 +1,38 @@
+ghost use Rattle.std.specs.Prelude.{◌≡◌};
+ghost use Rattle.trace_runner.specs.Status.{number_of};
+
+/// How a call of the program ends.
+#[derive(Clone, Copy, Debug, PartialEq, Eq)]
+pub enum Status {
+    /// The input was read to its end, and all that it asks for is written.
+    Ok,
+    /// The words ask for nothing that the program does; the usage line is written.
+    Usage,
+    /// The input is no script that is served; the line that says so is written.
+    BadTrace,
+    /// The source counted a fault.
+    ReadFault,
+    /// The sink counted a fault.
+    WriteFault,
+    /// Want of memory.
+    Memory,
+    /// The input is longer than 2^24 bytes.
+    TooLong,
+}
+
+impl Status {
+    /// The number that the program ends with.
+    pub fn number(self) -> u8
+        ensures { result ≡ number_of self }
+    {
+        match self {
+            Status::Ok => 0,
+            Status::Usage => 2,
+            Status::BadTrace => 3,
+            Status::ReadFault => 4,
+            Status::WriteFault => 5,
+            Status::Memory => 6,
+            Status::TooLong => 7,
+        }
+    }
+}

@@ -1,0 +1,97 @@
+use ports::{MemSink, MemSource};
+use std::alloc::{AllocError, Global};
+use std::mem;
+use trace_runner::run;
+
+/// Which bytes of a case are being read.
+#[derive(Clone, Copy)]
+enum Part {
+    Input,
+    Output,
+}
+
+/// What the top call is given, and the output that it is to write.
+#[derive(Drop)]
+pub struct Case {
+    name: String,
+    words: Vec<String>,
+    input: Vec<u8>,
+    output: Vec<u8>,
+    part: Part,
+    /// The calls of the source and of the sink that fail, counted from 0.
+    failing_takes: Vec<u32>,
+    failing_puts: Vec<u32>,
+}
+
+impl Case {
+    pub fn new(alloc: Global, name: &str) -> Result<Case, AllocError> {
+        Ok(Case {
+            name: String::from_str(alloc, name)?,
+            words: Vec::new(alloc),
+            input: Vec::new(alloc),
+            output: Vec::new(alloc),
+            part: Part::Input,
+            failing_takes: Vec::new(alloc),
+            failing_puts: Vec::new(alloc),
+        })
+    }
+
+    pub fn push_words(&mut self, alloc: Global, words: &str) -> Result<(), AllocError> {
+        for word in words.split_whitespace() {
+            self.words.push(String::from_str(alloc, word)?)?;
+        }
+        Ok(())
+    }
+
+    pub fn begin_input(&mut self) {
+        self.part = Part::Input;
+    }
+
+    pub fn begin_output(&mut self) {
+        self.part = Part::Output;
+    }
+
+    pub fn push_bytes(&mut self, bytes: &[u8]) -> Result<(), AllocError> {
+        match self.part {
+            Part::Input => self.input.extend_from_slice(bytes),
+            Part::Output => self.output.extend_from_slice(bytes),
+        }
+    }
+
+    /// A comment line of so many bytes, its line feed included.
+    pub fn push_comment(&mut self, length: u32) -> Result<(), AllocError> {
+        for _ in 1..length {
+            self.push_bytes(b"#")?;
+        }
+        self.push_bytes(b"\n")
+    }
+
+    pub fn fail_take(&mut self, call: u32) -> Result<(), AllocError> {
+        self.failing_takes.push(call)?;
+        Ok(())
+    }
+
+    pub fn fail_put(&mut self, call: u32) -> Result<(), AllocError> {
+        self.failing_puts.push(call)?;
+        Ok(())
+    }
+
+    /// Runs the case, and says what came of it. The case's bytes and failing calls are used up.
+    pub fn verdict(&mut self, alloc: Global, wanted: u32) -> Result<String, AllocError> {
+        let input = mem::replace(&mut self.input, Vec::new(alloc));
+        let takes = mem::replace(&mut self.failing_takes, Vec::new(alloc));
+        let puts = mem::replace(&mut self.failing_puts, Vec::new(alloc));
+        let mut source = MemSource::new(input, takes);
+        let mut sink = MemSink::new(alloc, puts);
+        let status = run(alloc, self.words.as_slice(), &mut source, &mut sink).number();
+        let name = self.name.as_str();
+        if u32::from(status) != wanted {
+            return format!(in alloc; "{name} ended with {status}, and not with {wanted}");
+        }
+        if sink.bytes() != self.output.as_slice() {
+            let text = String::from_utf8_lossy(alloc, sink.bytes())?;
+            return format!(in alloc; "{name} wrote {text}");
+        }
+        format!(in alloc; "{name} ok")
+    }
+}

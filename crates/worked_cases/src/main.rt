@@ -1,0 +1,54 @@
+//! Runs worked cases from standard input through the top call, over ports in memory. Prints the name of each
+//! case and `ok`, or what differs from the status and the output that the case says.
+//!
+//! A case is lines: `case NAME`, `words W..`, the bytes of the input after a line `input` and those of the
+//! output after a line `output`, and last `status N`, at which it runs. Bytes are given by lines `|TEXT` (the
+//! text and a line feed), `=TEXT` (the text alone) and `comment N` (a comment line of N bytes). `take N` and
+//! `put N` make call N of the source or the sink fail, counted from 0.
+#![tactic(auto)]
+
+mod case;
+
+use anyhow::{Context, Result, bail};
+use case::Case;
+use std::alloc::Global;
+use std::io::{BufRead, BufReader};
+
+/// Takes one line of a case. At its last line the case runs, and what came of it is printed.
+fn take_line(rt: &impl Print, alloc: Global, case: &mut Case, line: &str) -> Result<()> {
+    if let Some(text) = line.strip_prefix('|') {
+        case.push_bytes(text.as_bytes())?;
+        case.push_bytes(b"\n")?;
+        return Ok(());
+    }
+    if let Some(text) = line.strip_prefix('=') {
+        case.push_bytes(text.as_bytes())?;
+        return Ok(());
+    }
+    let (word, rest) = line.split_once(' ').unwrap_or((line, ""));
+    match word {
+        "case" => *case = Case::new(alloc, rest)?,
+        "words" => case.push_words(alloc, rest)?,
+        "input" => case.begin_input(),
+        "output" => case.begin_output(),
+        "comment" => case.push_comment(number(rest)?)?,
+        "take" => case.fail_take(number(rest)?)?,
+        "put" => case.fail_put(number(rest)?)?,
+        "status" => println!(rt; "{}", case.verdict(alloc, number(rest)?)?)?,
+        _ => bail!("no line of a case: {line}"),
+    }
+    Ok(())
+}
+
+fn number(text: &str) -> Result<u32> {
+    text.parse::<u32>().context("reading a number")
+}
+
+fn main(rt: HostRuntime) -> Result<()> {
+    let alloc = rt.alloc();
+    let mut case = Case::new(alloc, "")?;
+    for line in BufReader::new(alloc, rt.reader())?.lines(alloc) {
+        take_line(&rt, alloc, &mut case, line?.as_str())?;
+    }
+    Ok(())
+}
