@@ -1,0 +1,3 @@
+pub mod Buf
+pub mod CopiedParams
+pub mod Examples

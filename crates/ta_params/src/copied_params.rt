@@ -1,0 +1,74 @@
+ghost use Rattle.std.specs.Prelude.{◌≡◌, ◌<◌};
+ghost use Rattle.ta_params.specs.CopiedParams.{param_type, type_word};
+
+use crate::buf::Buf;
+use crate::codes::*;
+
+/// Which way a parameter goes, seen from the application.
+#[derive(Clone, Copy, Debug, PartialEq, Eq)]
+pub enum Way {
+    In,
+    Out,
+    Inout,
+}
+
+/// A parameter of a call, as the application has it: two numbers, or bytes of its own.
+#[derive(Debug, Drop)]
+pub enum GpParam {
+    Empty,
+    Value {
+        way: Way,
+        a: u32,
+        b: u32,
+    },
+    Memref {
+        way: Way,
+        buf: Buf,
+        /// The size that the client is told, which the application may set to any number.
+        size: u32,
+    },
+}
+
+impl GpParam {
+    /// The type of the parameter, as `TEE_PARAM_TYPE_VALUE_INPUT`.
+    fn param_type(&self) -> u32
+        ensures value { result ≡ param_type self.now }
+        ensures four_bits { result < 16 }
+    {
+        match self {
+            GpParam::Empty => TEE_PARAM_TYPE_NONE,
+            GpParam::Value { way, .. } => match way {
+                Way::In => TEE_PARAM_TYPE_VALUE_INPUT,
+                Way::Out => TEE_PARAM_TYPE_VALUE_OUTPUT,
+                Way::Inout => TEE_PARAM_TYPE_VALUE_INOUT,
+            },
+            GpParam::Memref { way, .. } => match way {
+                Way::In => TEE_PARAM_TYPE_MEMREF_INPUT,
+                Way::Out => TEE_PARAM_TYPE_MEMREF_OUTPUT,
+                Way::Inout => TEE_PARAM_TYPE_MEMREF_INOUT,
+            },
+        }
+    }
+}
+
+/// The four parameters of a call, copied out of shared memory.
+#[derive(Debug, Drop)]
+pub struct CopiedParams {
+    pub p0: GpParam,
+    pub p1: GpParam,
+    pub p2: GpParam,
+    pub p3: GpParam,
+}
+
+impl CopiedParams {
+    /// The types of the four parameters in one word, the first in the lowest four bits, as the macro
+    /// `TEE_PARAM_TYPES` of the TEE Internal Core API packs them.
+    pub fn type_word(&self) -> u32
+        ensures { result ≡ type_word self.now }
+    {
+        self.p0.param_type()
+            + (self.p1.param_type() << 4)
+            + (self.p2.param_type() << 8)
+            + (self.p3.param_type() << 12)
+    }
+}

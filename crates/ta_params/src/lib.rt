@@ -1,0 +1,24 @@
+//! What a trusted application is called with and answers with: four parameters copied out of shared
+//! memory, the login of the client, result codes, and the calls on its storage objects.
+//!
+//! Names and numbers are those of the GlobalPlatform TEE Internal Core API, unless a type says that it is
+//! this project's own.
+#![tactic(auto)]
+
+mod buf;
+mod call_result;
+pub mod codes;
+mod copied_params;
+mod examples;
+mod login;
+mod object_call;
+
+pub use buf::Buf;
+pub use call_result::CallResult;
+pub use copied_params::{CopiedParams, GpParam, Way};
+pub use examples::worked_examples;
+pub use login::Login;
+pub use object_call::ObjectCall;
+
+#[cfg(test)]
+mod tests;
