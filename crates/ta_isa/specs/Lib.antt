@@ -1,0 +1,5 @@
+pub mod InstructionTable
+pub mod Spelling
+pub mod Reading
+pub mod Header
+pub mod Examples

@@ -1,4 +1,19 @@
+ghost use Rattle.std.specs.Prelude.{◌≡◌, ◌≤◌, length};
+ghost use Rattle.ta_isa.specs.InstructionTable.{is_instruction};
+ghost use Rattle.ta_isa.specs.Reading.{front_instruction};
+
+use crate::row::row_of;
 use base::Sequence;
+use byteorder::{ByteOrder, LittleEndian};
+
+/// The first four bytes of an image, `OTTA`.
+pub const MAGIC: [u8; 4] = *b"OTTA";
+
+/// The pages that an instance may have at most.
+pub const MAX_PAGES: u32 = 64;
+
+/// The instructions that an image may have at most.
+pub const MAX_INSTRUCTIONS: u32 = 8192;
 
 /// One instruction of an application: an operation, three fields that name registers, and a number.
 /// A field that the operation does not use is 0.
@@ -11,6 +26,35 @@ pub struct Instr {
     pub b: u8,
     /// A constant, an address, a target or the number of a system call.
     pub imm: u32,
+}
+
+impl Instr {
+    /// The instruction in the eight bytes in front.
+    #[tactic(auto, unfolding(crate::specs::Reading::front_instruction, crate::specs::Reading::word_at))]
+    pub(crate) fn read(bytes: &[u8]) -> Instr
+        requires { 8 ≤ length bytes.now }
+        ensures { result ≡ front_instruction bytes.now }
+    {
+        Instr {
+            op: bytes[0],
+            d: bytes[1],
+            a: bytes[2],
+            b: bytes[3],
+            imm: LittleEndian::read_u32(&bytes[4..]),
+        }
+    }
+
+    /// Whether an image of so many instructions may have this one: its operation has a row in the table,
+    /// and each field holds what the row says.
+    #[tactic(auto, unfolding(crate::specs::InstructionTable::is_instruction))]
+    pub(crate) fn is_valid(self, count: u32) -> bool
+        ensures { result ≡ is_instruction count self }
+    {
+        match row_of(self.op) {
+            None => false,
+            Some(row) => row.holds(self, count),
+        }
+    }
 }
 
 /// The code of a trusted application and what an instance of it needs.

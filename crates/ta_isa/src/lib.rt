@@ -1,10 +1,23 @@
-//! Images of trusted applications, and what a core is booted with.
+//! Images of trusted applications, their bytes, and what a core is booted with.
 //!
 //! The image format, its instructions and its limits are this project's own.
 #![tactic(auto)]
 
 mod boot;
+mod decode;
+mod encode;
+mod flags;
 mod image;
+mod image_fault;
+mod laws;
+mod row;
 
+pub use base::NoMemory;
 pub use boot::{App, Boot};
-pub use image::{Image, Instr};
+pub use decode::decode_image;
+pub use encode::encode_image;
+pub use flags::{ALLOWED_FLAGS, InstanceFlags};
+pub use image::{Image, Instr, MAGIC, MAX_INSTRUCTIONS, MAX_PAGES};
+pub use image_fault::ImageFault;
+pub use laws::{instruction_fields, one_image, worked_examples};
+pub use row::{Immediate, LAST_SYSTEM_CALL, Operand, REGISTERS, Row, row_of};
