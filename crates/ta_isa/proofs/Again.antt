@@ -1,8 +1,8 @@
 -- A valid image is read from its spelling.
-use Rattle.std.proofs.Common.{◌≡◌, ℕ, zero, suc, ◌+◌, ◌*◌, ◌-◌, ◌/◌, ◌^◌, ◌<◌, ◌≤◌, Bool, true, false, List, [], ◌∷◌, ◌++◌, length, get_or, drop, map, length-append, Option, Some, None, Result, Ok, Err, refl, sym, ap, subst, ◌∙◌, append_assoc, arith}
-use Rattle.std.specs.Prelude.{nat_eq, nat_le, not, position, All}
+use Rattle.std.proofs.Common.{◌≡◌, ℕ, zero, suc, ◌+◌, ◌*◌, ◌-◌, ◌/◌, ◌^◌, ◌<◌, ◌≤◌, true, List, [], ◌∷◌, ◌++◌, length, get_or, drop, map, length-append, None, Ok, refl, sym, ap, subst, ◌∙◌, arith}
+use Rattle.std.specs.Prelude.{nat_eq, nat_le, not, position}
 use Rattle.std.specs.List.{flat_map, range_with_len, starts_with}
-use Rattle.std.specs.Option.{option_map, option_or}
+use Rattle.std.specs.Option.{option_map}
 use Rattle.std.proofs.Math.Seq.{drop-append-add}
 use Rattle.std.proofs.lemmas.Bool.{le-ltb, lt-leb, eq-eqb, ne_eqb, eqb-true}
 use Rattle.std.proofs.lemmas.List.FromFn.{fill_by_all}
@@ -11,11 +11,10 @@ use Rattle.ta_isa.specs.declared.image.Instr.{Instr}
 use Rattle.ta_isa.specs.declared.image.Image.{Image}
 use Rattle.ta_isa.specs.declared.flags.TheConstants.{ALLOWED_FLAGS}
 use Rattle.ta_isa.specs.declared.image.TheConstants.{MAGIC, MAX_PAGES, MAX_INSTRUCTIONS}
-use Rattle.ta_isa.specs.declared.image_fault.ImageFault.{ImageFault}
-use Rattle.ta_isa.specs.declared.image_fault.ImageFault.TheVariants.{BadHeader, TooLarge, BadEntry, BadOp}
+use Rattle.ta_isa.specs.declared.image_fault.ImageFault.TheVariants.{BadHeader, TooLarge, BadEntry}
 use Rattle.ta_isa.specs.InstructionTable.{is_instruction}
 use Rattle.ta_isa.specs.Spelling.{are_allowed, IsValid, word, instruction, spelling}
-use Rattle.ta_isa.specs.Reading.{word_at, front_instruction, instruction_at, count_of, entries_of, code_of, image_of, first_bad, header_fault, fault_of, answer, decoded}
+use Rattle.ta_isa.specs.Reading.{word_at, front_instruction, instruction_at, count_of, entries_of, code_of, image_of, first_bad, header_fault, decoded}
 use Rattle.byteorder.specs.Endian.{little_number}
 use Rattle.ta_isa.proofs.Decoded.{decoded-good_header}
 use Rattle.ta_isa.proofs.Words.{word-again, instruction-again}
@@ -77,11 +76,11 @@ header-again flags pages a b c d e code hflags hpages hn ha hb hc hd he =
       pages = word-again pages hpages;
       count = word-again (length code) hn;
       entries =
-        ap (λ (n : ℕ). n ∷ little_number 4 (word b) ∷ little_number 4 (word c) ∷ little_number 4 (word d) ∷ little_number 4 (word e) ∷ []) (word-again a ha)
-        ∙ ap (λ (n : ℕ). a ∷ n ∷ little_number 4 (word c) ∷ little_number 4 (word d) ∷ little_number 4 (word e) ∷ []) (word-again b hb)
-        ∙ ap (λ (n : ℕ). a ∷ b ∷ n ∷ little_number 4 (word d) ∷ little_number 4 (word e) ∷ []) (word-again c hc)
-        ∙ ap (λ (n : ℕ). a ∷ b ∷ c ∷ n ∷ little_number 4 (word e) ∷ []) (word-again d hd)
-        ∙ ap (λ (n : ℕ). a ∷ b ∷ c ∷ d ∷ n ∷ []) (word-again e he);
+          ap (λ (n : ℕ). n ∷ little_number 4 (word b) ∷ little_number 4 (word c) ∷ little_number 4 (word d) ∷ little_number 4 (word e) ∷ []) (word-again a ha)
+          ∙ ap (λ (n : ℕ). a ∷ n ∷ little_number 4 (word c) ∷ little_number 4 (word d) ∷ little_number 4 (word e) ∷ []) (word-again b hb)
+          ∙ ap (λ (n : ℕ). a ∷ b ∷ n ∷ little_number 4 (word d) ∷ little_number 4 (word e) ∷ []) (word-again c hc)
+          ∙ ap (λ (n : ℕ). a ∷ b ∷ c ∷ n ∷ little_number 4 (word e) ∷ []) (word-again d hd)
+          ∙ ap (λ (n : ℕ). a ∷ b ∷ c ∷ d ∷ n ∷ []) (word-again e he);
     }
 
 -- the header of a valid image has no fault
@@ -94,9 +93,9 @@ header-none image bytes valid reads magic len =
     let some_instruction = valid.some_instruction in
     let most_instructions = valid.most_instructions in
     let no_entry : position (nat_le (count_of bytes)) (entries_of bytes) ≡ None =
-      ap (λ (n : ℕ). position (nat_le n) (entries_of bytes)) count
-      ∙ ap (position (nat_le (length image.code))) reads.entries
-      ∙ position-none (nat_le (length image.code)) image.entries 0 (λ k lt. lt-leb (length image.code) (get_or image.entries k 0) (valid.entries k 0 lt)) in
+    ap (λ (n : ℕ). position (nat_le n) (entries_of bytes)) count
+    ∙ ap (position (nat_le (length image.code))) reads.entries
+    ∙ position-none (nat_le (length image.code)) image.entries 0 (λ k lt. lt-leb (length image.code) (get_or image.entries k 0) (valid.entries k 0 lt)) in
     passed _ (BadHeader 0) _ (neither _ _ (le-ltb (length bytes) 36 (omega arith)) (ap not magic))
     (passed _ (BadHeader 1) _ (ap not (ap are_allowed reads.flags ∙ valid.flags))
     (passed _ (BadHeader 2) _ (neither _ _ (ne_eqb (word_at 8 bytes) 0 (λ e. omega arith)) (le-ltb MAX_PAGES (word_at 8 bytes) (omega arith)))
@@ -114,10 +113,10 @@ code-none image bytes valid count code =
 decoded-again : (image : Image) (bytes : List ℕ) → IsValid image → ReadsHeader image bytes → starts_with nat_eq bytes MAGIC ≡ true → length bytes ≡ 36 + 8 * length image.code → code_of bytes ≡ image.code → decoded bytes ≡ Ok image
 decoded-again image bytes valid reads magic len code =
     let is_image : image_of bytes ≡ image =
-      ap (λ (n : ℕ). record { flags = n; pages = word_at 8 bytes; entries = entries_of bytes; code = code_of bytes }) reads.flags
-      ∙ ap (λ (n : ℕ). record { flags = image.flags; pages = n; entries = entries_of bytes; code = code_of bytes }) reads.pages
-      ∙ ap (λ (es : List ℕ). record { flags = image.flags; pages = image.pages; entries = es; code = code_of bytes }) reads.entries
-      ∙ ap (λ (is : List Instr). record { flags = image.flags; pages = image.pages; entries = image.entries; code = is }) code in
+    ap (λ (n : ℕ). record { flags = n; pages = word_at 8 bytes; entries = entries_of bytes; code = code_of bytes }) reads.flags
+    ∙ ap (λ (n : ℕ). record { flags = image.flags; pages = n; entries = entries_of bytes; code = code_of bytes }) reads.pages
+    ∙ ap (λ (es : List ℕ). record { flags = image.flags; pages = image.pages; entries = es; code = code_of bytes }) reads.entries
+    ∙ ap (λ (is : List Instr). record { flags = image.flags; pages = image.pages; entries = image.entries; code = is }) code in
     decoded-good_header bytes None (header-none image bytes valid reads magic len) (code-none image bytes valid reads.count code)
     ∙ ap (λ (i : Image). Ok i) is_image
 
@@ -152,6 +151,6 @@ pub spelling-again : (image : Image) → IsValid image → decoded (spelling ima
 spelling-again image valid =
     let es : List ℕ = image.entries in
     let e : image ≡ made image.flags image.pages (get_or es 0 0) (get_or es 1 0) (get_or es 2 0) (get_or es 3 0) (get_or es 4 0) image.code =
-      ap (λ (xs : List ℕ). record { flags = image.flags; pages = image.pages; entries = xs; code = image.code }) (five es valid.five_entries) in
+    ap (λ (xs : List ℕ). record { flags = image.flags; pages = image.pages; entries = xs; code = image.code }) (five es valid.five_entries) in
     subst (λ (i : Image). decoded (spelling i) ≡ Ok i) (sym e)
     (made-again image.flags image.pages (get_or es 0 0) (get_or es 1 0) (get_or es 2 0) (get_or es 3 0) (get_or es 4 0) image.code (subst IsValid e valid))

@@ -1,5 +1,5 @@
 -- Bytes without a fault spell the image that they are read as, and it is valid.
-use Rattle.std.proofs.Common.{◌≡◌, ℕ, zero, suc, ◌+◌, ◌*◌, ◌-◌, ◌/◌, ◌<◌, ◌≤◌, Bool, true, false, cond, eqb, List, [], ◌∷◌, ◌++◌, length, get_or, drop, map, Option, Some, None, Result, Ok, Err, ◌⊎◌, inl, inr, refl, sym, ap, subst, ◌∙◌, append_assoc, arith, length-drop}
+use Rattle.std.proofs.Common.{◌≡◌, ℕ, zero, suc, ◌+◌, ◌*◌, ◌-◌, ◌/◌, ◌≤◌, true, false, eqb, List, [], ◌∷◌, ◌++◌, length, drop, map, Option, Some, None, Result, inl, inr, refl, sym, ap, subst, ◌∙◌, arith, length-drop}
 use Rattle.std.specs.Prelude.{nat_eq, not, position, nat_le, IfOk}
 use Rattle.std.specs.List.{flat_map, range_with_len, starts_with}
 use Rattle.std.specs.Option.{option_map}
@@ -7,14 +7,12 @@ use Rattle.std.proofs.Math.ListN.{drop_of_length-le}
 use Rattle.std.proofs.lemmas.Bool.{not-false, ltb-false, leb-false, eqb-true}
 use Rattle.std.proofs.lemmas.Bool.Decides.{Decides-eqb}
 use Rattle.std.proofs.lemmas.List.{drop-drop}
-use Rattle.std.proofs.lemmas.List.Concat.{flat_map-cons}
 use Rattle.std.proofs.lemmas.List.FromFn.{length-map-range_with_len}
 use Rattle.std.proofs.lemmas.Slice.Eq.{starts_is}
-use Rattle.ta_isa.specs.declared.image.Instr.{Instr}
 use Rattle.ta_isa.specs.declared.image.Image.{Image}
 use Rattle.ta_isa.specs.declared.image.TheConstants.{MAGIC, MAX_PAGES, MAX_INSTRUCTIONS}
 use Rattle.ta_isa.specs.declared.image_fault.ImageFault.{ImageFault}
-use Rattle.ta_isa.specs.declared.image_fault.ImageFault.TheVariants.{BadHeader, TooLarge, BadEntry, BadOp, Memory}
+use Rattle.ta_isa.specs.declared.image_fault.ImageFault.TheVariants.{BadHeader, TooLarge, BadEntry, BadOp}
 use Rattle.ta_isa.specs.InstructionTable.{is_instruction}
 use Rattle.ta_isa.specs.Spelling.{are_allowed, IsValid, word, instruction, spelling}
 use Rattle.ta_isa.specs.Reading.{word_at, instruction_at, count_of, entries_of, code_of, image_of, first_bad, header_fault, fault_of, answer, decoded, IsUnlessMemory}

@@ -1,5 +1,5 @@
 -- What decoding answers, by what the header and the instructions are read as.
-use Rattle.std.proofs.Common.{◌≡◌, ℕ, List, Option, Some, None, Result, Ok, Err, ◌⊎◌, inl, inr, refl, sym, ap, ◌∙◌}
+use Rattle.std.proofs.Common.{◌≡◌, ℕ, List, Option, Some, None, Ok, Err, ◌⊎◌, inl, inr, refl, sym, ap, ◌∙◌}
 use Rattle.std.specs.Option.{option_map, option_or}
 use Rattle.ta_isa.specs.declared.decode.Header.{Header}
 use Rattle.ta_isa.specs.declared.image.Instr.{Instr}
@@ -7,7 +7,7 @@ use Rattle.ta_isa.specs.declared.image.Image.{Image}
 use Rattle.ta_isa.specs.declared.image_fault.ImageFault.{ImageFault}
 use Rattle.ta_isa.specs.declared.image_fault.ImageFault.TheVariants.{BadOp, Memory}
 use Rattle.ta_isa.specs.Header.{header_of}
-use Rattle.ta_isa.specs.Reading.{word_at, entries_of, header_fault, first_bad, count_of, code_of, image_of, answer, fault_of, decoded, IsUnlessMemory}
+use Rattle.ta_isa.specs.Reading.{word_at, entries_of, header_fault, first_bad, count_of, code_of, image_of, answer, decoded, IsUnlessMemory}
 
 -- the header has a fault
 pub decoded-bad_header : (bytes : List ℕ) (fault : ImageFault) → header_fault bytes ≡ Some fault → decoded bytes ≡ Err fault

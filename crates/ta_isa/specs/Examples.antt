@@ -1,9 +1,9 @@
 -- Examples of the definitions, worked out by hand.
-use Rattle.std.specs.Prelude.{◌≡◌, ℕ, ◌+◌, ◌*◌, Bool, true, false, List, [], ◌∷◌, ◌++◌, take, slice_set, Option, Some, None, Result, Ok, Err}
+use Rattle.std.specs.Prelude.{◌≡◌, ℕ, true, false, List, [], ◌∷◌, ◌++◌, take, slice_set, Some, None, Ok, Err}
 use Rattle.ta_isa.specs.declared.image.Instr.{Instr}
 use Rattle.ta_isa.specs.declared.image.Image.{Image}
 use Rattle.ta_isa.specs.declared.image_fault.ImageFault.TheVariants.{BadHeader, TooLarge, BadEntry, BadOp}
-use Rattle.ta_isa.specs.declared.row.Operand.TheVariants.{Unused, Register}
+use Rattle.ta_isa.specs.declared.row.Operand.TheVariants.{Unused}
 use Rattle.ta_isa.specs.declared.row.Immediate.TheVariants as immediate
 use Rattle.ta_isa.specs.InstructionTable.{row, row_of, is_instruction}
 use Rattle.ta_isa.specs.Spelling.{spelling}
@@ -19,14 +19,14 @@ sum_image = record {
   pages = 1;
   entries = 0 ∷ 0 ∷ 1 ∷ 0 ∷ 0 ∷ [];
   code =
-    instr 0x18 0 0 0 0
-    ∷ instr 0x01 0 0 0 0
-    ∷ instr 0x18 0 0 0 3
-    ∷ instr 0x03 1 0 1 0
-    ∷ instr 0x01 0 0 0 0
-    ∷ instr 0x18 0 0 0 4
-    ∷ instr 0x18 0 0 0 0
-    ∷ [];
+      instr 0x18 0 0 0 0
+      ∷ instr 0x01 0 0 0 0
+      ∷ instr 0x18 0 0 0 3
+      ∷ instr 0x03 1 0 1 0
+      ∷ instr 0x01 0 0 0 0
+      ∷ instr 0x18 0 0 0 4
+      ∷ instr 0x18 0 0 0 0
+      ∷ [];
 }
 
 -- its bytes

@@ -1,23 +1,16 @@
 //! From bytes to an image.
 ghost use Rattle.std.specs.Prelude.{◌≡◌, ◌+◌, ◌*◌, ◌<◌, ◌≤◌, List, length, drop, map, position, nat_le, Option, Some, None, IfSome, IfOk, IfErr, OnOk, ◌⊎◌};
 ghost use Rattle.std.specs.Option.{option_map};
-
 ghost use Rattle.ta_isa.specs.Reading.{IsUnlessMemory, decoded, code_of, first_bad, header_fault, word_at};
 ghost use Rattle.ta_isa.specs.Spelling.{IsValid, spelling};
 ghost use Rattle.ta_isa.specs.Header.{header_of};
 
 use crate::flags::are_allowed;
-use crate::image::{Image, Instr, MAGIC, MAX_INSTRUCTIONS, MAX_PAGES};
+use crate::image::{HEADER_LEN, INSTRUCTION_LEN, Image, Instr, MAGIC, MAX_INSTRUCTIONS, MAX_PAGES};
 use crate::image_fault::ImageFault;
 use base::Sequence;
 use byteorder::{ByteOrder, LittleEndian};
 use std::alloc::Global;
-
-/// The bytes in front of the instructions: magic, flags, pages, count and five entry points.
-const HEADER_LEN: usize = 36;
-
-/// The bytes of an instruction.
-const INSTRUCTION_LEN: usize = 8;
 
 /// What stands in front of the instructions.
 struct Header {
@@ -126,7 +119,8 @@ fn decode(alloc: Global, bytes: &[u8]) -> Result<Image, ImageFault>
     })
 }
 
-/// The image that the bytes spell, all of the bytes, or their first fault.
+/// The image that the bytes spell, all of the bytes; or their first fault, in the order of
+/// [`ImageFault`]; or want of memory.
 pub fn decode_image(alloc: Global, bytes: &[u8]) -> Result<Image, ImageFault>
     // What is read is valid, and spelled so.
     ensures valid { IfOk result IsValid }

@@ -2,7 +2,7 @@
 ghost use Rattle.std.specs.Prelude.{◌≡◌, [], ◌∷◌, ◌++◌, IfOk, OnOk};
 ghost use Rattle.ta_isa.specs.Spelling.{IsValid, instruction, spelling, word};
 
-use crate::image::{Image, Instr, MAGIC};
+use crate::image::{HEADER_LEN, INSTRUCTION_LEN, Image, Instr, MAGIC};
 use base::NoMemory;
 use byteorder::{ByteOrder, LittleEndian};
 use std::alloc::Global;
@@ -28,7 +28,8 @@ pub fn encode_image(alloc: Global, image: &Image) -> Result<Vec<u8>, NoMemory>
     requires { IsValid image.now }
     ensures { IfOk result (λ bytes. bytes.items ≡ spelling image.now) }
 {
-    let mut out = Vec::new(alloc);
+    let len = HEADER_LEN + INSTRUCTION_LEN * image.code.len();
+    let mut out = Vec::with_capacity(alloc, len)?;
     out.extend_from_slice(&MAGIC)?;
     put_word(&mut out, image.flags)?;
     put_word(&mut out, image.pages)?;

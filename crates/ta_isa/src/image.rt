@@ -9,6 +9,12 @@ use byteorder::{ByteOrder, LittleEndian};
 /// The first four bytes of an image, `OTTA`.
 pub const MAGIC: [u8; 4] = *b"OTTA";
 
+/// The bytes in front of the instructions: magic, flags, pages, count and five entry points.
+pub(crate) const HEADER_LEN: usize = 36;
+
+/// The bytes of an instruction.
+pub(crate) const INSTRUCTION_LEN: usize = 8;
+
 /// The pages that an instance may have at most.
 pub const MAX_PAGES: u32 = 64;
 

@@ -1,4 +1,4 @@
-use Rattle.std.proofs.Common.{◌≡◌, sym, inl}
+use Rattle.std.proofs.Common.{sym, inl}
 use Rattle.std.proofs.lemmas.Result.{err_from_is_err_and}
 use Rattle.ta_isa.proofs.Decoded.{decoded-bad_header, decoded-bad_code_of, decoded-good}
 use Rattle.ta_isa.proofs.decode.decode.Goals as goal

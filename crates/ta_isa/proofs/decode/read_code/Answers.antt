@@ -1,7 +1,5 @@
 use Rattle.std.proofs.Common.{◌≡◌, refl, sym, ◌∙◌, inr, arith}
-use Rattle.std.specs.Option.{option_map}
-use Rattle.ta_isa.specs.Reading.{first_bad, code_of}
-use Rattle.ta_isa.proofs.ReadInstructions.{IsReadTo, IsReadTo-none, IsReadTo-more, instruction_at-rest, first_bad-met, first_bad-none, code_of-counted}
+use Rattle.ta_isa.proofs.ReadInstructions.{IsReadTo-none, IsReadTo-more, instruction_at-rest, first_bad-met, first_bad-none, code_of-counted}
 use Rattle.ta_isa.proofs.decode.read_code.Goals as goal
 
 pub loop-number-init : goal.loop-number-init

@@ -1,4 +1,4 @@
-use Rattle.std.proofs.Common.{◌≡◌, Result, Ok, sym, ap, ◌∙◌}
+use Rattle.std.proofs.Common.{sym, ap, ◌∙◌}
 use Rattle.ta_isa.specs.Reading.{decoded}
 use Rattle.ta_isa.proofs.Again.{spelling-again}
 use Rattle.ta_isa.proofs.laws.one_image.Goals as goal
