@@ -9,6 +9,7 @@ use Rattle.ta_isa.specs.declared.row.Immediate.TheVariants as immediate
 use Rattle.ta_isa.specs.declared.row.Row.{Row}
 use Rattle.ta_isa.specs.declared.row.TheConstants.{REGISTERS, LAST_SYSTEM_CALL}
 
+-- what the fields d, a, b and imm hold
 abbrev pub row : Operand → Operand → Operand → Immediate → Row
 row d a b imm = record { d = d; a = a; b = b; imm = imm }
 
@@ -23,32 +24,33 @@ branch = row Unused Register Register immediate.Target
 -- an operation's number, and what its fields d, a, b and imm hold
 abbrev pub instruction_table : List (ℕ × Row)
 instruction_table =
-    (0x01, row Register Unused Unused immediate.Number)
-    ∷ (0x02, row Register Register Unused immediate.Unused)
-    ∷ (0x03, three)
-    ∷ (0x04, three)
-    ∷ (0x05, three)
-    ∷ (0x06, three)
-    ∷ (0x07, three)
-    ∷ (0x08, three)
-    ∷ (0x09, three)
-    ∷ (0x0a, three)
-    ∷ (0x0b, three)
-    ∷ (0x0c, three)
-    ∷ (0x0d, row Register Register Unused immediate.Number)
-    ∷ (0x0e, row Register Register Unused immediate.Number)
-    ∷ (0x0f, row Unused Register Register immediate.Number)
-    ∷ (0x10, row Unused Register Register immediate.Number)
-    ∷ (0x11, branch)
-    ∷ (0x12, branch)
-    ∷ (0x13, branch)
-    ∷ (0x14, branch)
-    ∷ (0x15, row Unused Unused Unused immediate.Target)
-    ∷ (0x16, row Unused Unused Unused immediate.Target)
-    ∷ (0x17, row Unused Unused Unused immediate.Unused)
-    ∷ (0x18, row Unused Unused Unused immediate.SystemCall)
+    (0x01, row Register Unused Unused immediate.Number)  -- const
+    ∷ (0x02, row Register Register Unused immediate.Unused)  -- move
+    ∷ (0x03, three)  -- add
+    ∷ (0x04, three)  -- sub
+    ∷ (0x05, three)  -- mul
+    ∷ (0x06, three)  -- div
+    ∷ (0x07, three)  -- rem
+    ∷ (0x08, three)  -- and
+    ∷ (0x09, three)  -- or
+    ∷ (0x0a, three)  -- xor
+    ∷ (0x0b, three)  -- shl
+    ∷ (0x0c, three)  -- shr
+    ∷ (0x0d, row Register Register Unused immediate.Number)  -- loadb
+    ∷ (0x0e, row Register Register Unused immediate.Number)  -- loadw
+    ∷ (0x0f, row Unused Register Register immediate.Number)  -- storeb
+    ∷ (0x10, row Unused Register Register immediate.Number)  -- storew
+    ∷ (0x11, branch)  -- beq
+    ∷ (0x12, branch)  -- bne
+    ∷ (0x13, branch)  -- bltu
+    ∷ (0x14, branch)  -- bgeu
+    ∷ (0x15, row Unused Unused Unused immediate.Target)  -- jump
+    ∷ (0x16, row Unused Unused Unused immediate.Target)  -- call
+    ∷ (0x17, row Unused Unused Unused immediate.Unused)  -- ret
+    ∷ (0x18, row Unused Unused Unused immediate.SystemCall)  -- sys
     ∷ []
 
+-- the row of an operation, if it has one
 abbrev pub row_of : ℕ → Option Row
 row_of op = option_map (λ e. e.1) (find (λ e. e.0 == op) instruction_table)
 

@@ -29,6 +29,7 @@ front_instruction bytes = record {
 abbrev pub count_of : List ℕ → ℕ
 count_of bytes = word_at 12 bytes
 
+-- the five entry points
 abbrev pub entries_of : List ℕ → List ℕ
 entries_of bytes = word_at 16 bytes ∷ word_at 20 bytes ∷ word_at 24 bytes ∷ word_at 28 bytes ∷ word_at 32 bytes ∷ []
 
@@ -67,6 +68,7 @@ abbrev pub answer : Option ImageFault → Image → Result Image ImageFault
 answer None image = Ok image
 answer (Some fault) image = Err fault
 
+-- the image of the bytes, or their first fault
 abbrev pub decoded : List ℕ → Result Image ImageFault
 decoded bytes = answer (fault_of bytes) (image_of bytes)
 

@@ -13,6 +13,7 @@ use Rattle.ta_isa.specs.InstructionTable.{is_instruction}
 unfoldable pub are_allowed : ℕ → Bool
 are_allowed flags = bit_and ALLOWED_FLAGS flags == flags
 
+-- an image that has a spelling, and that an application may be made of
 pub record IsValid (image : Image) : Type 0 where
   pub flags : IsTrue (are_allowed image.flags)
   pub some_page : 1 ≤ image.pages
@@ -27,10 +28,11 @@ pub record IsValid (image : Image) : Type 0 where
 abbrev pub word : ℕ → List ℕ
 word n = little_bytes 4 n
 
--- eight bytes
+-- eight bytes: the operation, its fields d, a and b, and imm as a word
 abbrev pub instruction : Instr → List ℕ
 instruction i = i.op ∷ i.d ∷ i.a ∷ i.b ∷ word i.imm
 
+-- the magic, flags, pages, the count of instructions, five entry points, and the instructions
 abbrev pub spelling : Image → List ℕ
 spelling image =
     MAGIC ++ word image.flags ++ word image.pages ++ word (length image.code) ++ flat_map word image.entries ++ flat_map instruction image.code

@@ -1,5 +1,5 @@
 //! From bytes to an image.
-ghost use Rattle.std.specs.Prelude.{◌≡◌, ◌+◌, ◌*◌, ◌<◌, ◌≤◌, List, length, drop, map, position, nat_le, Option, Some, None, IfSome, IfOk, IfErr, OnOk, ◌⊎◌};
+ghost use Rattle.std.specs.Prelude.{◌≡◌, ◌+◌, ◌*◌, ◌<◌, ◌≤◌, length, position, nat_le, Option, Some, None, IfSome, IfOk, IfErr, OnOk, ◌⊎◌};
 ghost use Rattle.std.specs.Option.{option_map};
 ghost use Rattle.ta_isa.specs.Reading.{IsUnlessMemory, decoded, code_of, first_bad, header_fault, word_at};
 ghost use Rattle.ta_isa.specs.Spelling.{IsValid, spelling};
