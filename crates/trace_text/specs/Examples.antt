@@ -4,6 +4,8 @@ use Rattle.trace_text.specs.declared.item.Reg.{Reg}
 use Rattle.trace_text.specs.declared.item.Reg.TheVariants.{Num}
 use Rattle.trace_text.specs.declared.item.Item.TheVariants.{Smc}
 use Rattle.trace_text.specs.declared.trace.Trace.{Trace}
+use Rattle.trace_text.specs.declared.fault.BadKind.TheVariants.{NotYet}
+use Rattle.trace_text.specs.Fault.{kind_word}
 use Rattle.trace_text.specs.Word.{IsDecimal, IsDecimalWithin, IsHexadecimal}
 use Rattle.trace_text.specs.Item.{IsFastCall}
 use Rattle.trace_text.specs.Line.{line_of}
@@ -38,6 +40,7 @@ pub record Examples : Type 0 where
   pub no_line_feed : ¬ (IsPlain (codes "boot 1 1 1"))
   pub empty_line : ¬ (IsPlain (10 ∷ boot_text))
   pub two_spaces : ¬ (IsPlain (codes "boot 1  1 1" ++ 10 ∷ []))
+  pub refusal : kind_word NotYet ≡ codes "notyet"
   pub fast : IsFastCall (Smc 0 1 (only_first 0xbf00_ff01))
   pub call_with_argument : ¬ (IsFastCall (Smc 0 1 (only_first 0x3200_0004)))
   pub other_processor : ¬ (IsFastCall (Smc 1 1 (only_first 0xbf00_ff01)))

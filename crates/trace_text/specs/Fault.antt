@@ -1,6 +1,9 @@
 -- The words of faults, as they are printed.
-use Rattle.std.specs.Prelude.{ℕ, List, codes}
+use Rattle.std.specs.Prelude.{ℕ, List, ◌++◌, codes}
+use Rattle.std.specs.Fmt.{decimal}
 use Rattle.trace_text.specs.declared.fault.BadKind.{BadKind}
+use Rattle.trace_text.specs.declared.fault.TraceFault.{TraceFault}
+use Rattle.trace_text.specs.declared.fault.TraceFault.TheVariants.{Bad, Memory}
 use Rattle.trace_text.specs.declared.fault.BadKind.TheVariants.{Byte, Cut, Item, Count, Place, Number, Uuid, Hex, Range, Cpu, Repeat, Image, Inside, Unended, Asm, NotYet}
 
 -- the word of a kind
@@ -21,3 +24,8 @@ kind_word Inside = codes "inside"
 kind_word Unended = codes "unended"
 kind_word Asm = codes "asm"
 kind_word NotYet = codes "notyet"
+
+-- a fault, with its place in decimal
+abbrev pub fault_text : TraceFault → List ℕ
+fault_text (Bad place kind) = codes "bad trace " ++ decimal place ++ codes " " ++ kind_word kind
+fault_text Memory = codes "out of memory"

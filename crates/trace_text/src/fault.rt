@@ -1,5 +1,5 @@
 ghost use Rattle.std.specs.Prelude.{◌≡◌, Some};
-ghost use Rattle.trace_text.specs.Fault.{kind_word};
+ghost use Rattle.trace_text.specs.Fault.{kind_word, fault_text};
 ghost use Rattle.trace_text.specs.declared.fault.TraceFault.TheVariants.{Memory};
 
 use std::alloc::{AllocError, AllocFailed};
@@ -88,6 +88,8 @@ pub enum TraceFault {
 }
 
 impl fmt::Display for TraceFault {
+    ghost output = { λ fault. Some (fault_text fault) };
+
     fn fmt<W: fmt::Write>(&self, f: &mut fmt::Formatter<W>) -> fmt::Result {
         match self {
             TraceFault::Bad { place, kind } => write!(f, "bad trace {place} {kind}"),

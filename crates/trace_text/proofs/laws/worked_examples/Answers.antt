@@ -35,6 +35,7 @@ returns c = record {
   no_line_feed = no_plain (codes "boot 1 1 1") refl;
   empty_line = no_plain (10 ∷ boot_text) refl;
   two_spaces = no_plain (codes "boot 1  1 1" ++ 10 ∷ []) refl;
+  refusal = refl;
   fast = (refl, fast_uid);
   call_with_argument = λ f. f.1.no_call refl;
   other_processor = λ f. absurd (omega (arith, f.0));
