@@ -1,5 +1,5 @@
 -- The lowest free slot, and how many are free.
-use Rattle.std.proofs.Common.{◌≡◌, ℕ, ◌+◌, ◌<◌, ◌≤◌, ◌↔◌, Bool, true, false, not, cond, List, [], ◌∷◌, length, get_or, refl, sym, subst, ◌∙◌, arith, Option, Some, None, IsNone, nat_lt}
+use Rattle.std.proofs.Common.{◌≡◌, ℕ, ◌+◌, ◌≤◌, ◌↔◌, Bool, true, false, not, cond, List, [], ◌∷◌, length, get_or, refl, sym, subst, ◌∙◌, arith, Some, None, IsNone, nat_lt}
 use Rattle.std.specs.List.{count_by, prefix_len, slice_get}
 use Rattle.std.proofs.lemmas.List.Quantifiers.{position-Some}
 use Rattle.std.proofs.lemmas.List.Sums.{sum_by-cons}
@@ -58,3 +58,6 @@ none_at_lowest slots = (
   λ none. none_in_whole_prefix is_free slots (found_below _ (length slots) none),
   λ none. nothing_past _ (length slots) (let whole = whole_prefix is_free slots none in omega arith),
 )
+
+-- what holds where a slot is entered
+pub ruleset at_lowest = (free_at_lowest, no_value_at_lowest, none_at_lowest)

@@ -60,6 +60,7 @@ impl<T> Slots<T> {
         self.slots.iter().filter(|slot| slot.is_free()).count() as u8
     }
 
+    /// What each slot holds.
     pub fn as_slice(&self) -> &[Slot<T>]
         ensures { result.now ≡ self.now }
     {
@@ -75,7 +76,7 @@ impl<T> Slots<T> {
     }
 
     /// Makes the lowest free slot active on the processor, and tells its number.
-    #[tactic(auto, using(crate::proofs::FreeSlots::free_at_lowest, crate::proofs::FreeSlots::none_at_lowest, crate::proofs::FreeSlots::no_value_at_lowest))]
+    #[tactic(auto, using(crate::proofs::FreeSlots::at_lowest))]
     pub fn enter(&mut self, cpu: u8) -> Option<u8>
         ensures slot { result ≡ lowest_free self.old }
         ensures after { MatchOption result
