@@ -65,19 +65,3 @@ fn owners_take_slots_apart(rt: HostRuntime) -> Result<(), Fail> {
     held.destroy_empty();
     Ok(())
 }
-
-#[test]
-fn refusals_say_why(rt: HostRuntime) -> Result<(), Fail> {
-    for (refusal, text) in [
-        (BadResume::NoSlot, "no such slot"),
-        (BadResume::NotSuspended, "the slot holds no suspended call"),
-        (
-            BadResume::OtherClient(7),
-            "the slot's call is that of client 7",
-        ),
-    ] {
-        let said = format!(in rt.alloc(); "{refusal}")?;
-        assert_eq!(rt; said.as_str(), text);
-    }
-    Ok(())
-}

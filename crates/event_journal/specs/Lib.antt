@@ -1,0 +1,3 @@
+pub mod Event
+pub mod Examples
+pub mod Journal

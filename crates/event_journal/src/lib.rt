@@ -1,0 +1,17 @@
+//! What happened at the border of the core, event by event, in the order in which it happened.
+//!
+//! Room for events is reserved ahead, so that what has begun can be written down without memory.
+#![tactic(auto)]
+
+mod event;
+mod examples;
+mod journal;
+#[cfg(test)]
+mod tests;
+
+pub use base::NoMemory;
+pub use event::Event;
+pub use examples::worked_examples;
+pub use journal::Journal;
+pub use ns_ram::{Read, Reads};
+pub use smc_abi::Regs;
