@@ -1,4 +1,6 @@
 pub mod LaneBytes
+pub mod PageScan
+pub mod PageWalk
 pub mod ReaderLaws
 pub mod ReaderSteps
 pub mod WordList

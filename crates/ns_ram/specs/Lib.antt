@@ -1,4 +1,5 @@
 pub mod Examples
 pub mod Lane
+pub mod Pages
 pub mod Reader
 pub mod Reads

@@ -1,0 +1,185 @@
+//! Page lists, by which the normal world names the pages of a buffer that doesn't lie in one piece. A list
+//! is one page: the addresses of 511 pages, and then the address of the next list, eight bytes each with the
+//! least one first (`OPTEE_MSG_ATTR_NONCONTIG` of `optee_msg.h`).
+
+ghost use Rattle.std.specs.Prelude.{◌≡◌, ℕ, ◌+◌, ◌*◌, ◌%◌, ◌≤◌, ◌↔◌, ◌++◌, length, take, IsTrue, IfOk, IfErr, OnOk, OnErr, Some, None, Ok, Err};
+ghost use Rattle.std.specs.List.{list_all};
+ghost use Rattle.std.specs.Int.{from_le_bytes, w64};
+ghost use Rattle.ns_ram.specs.Lane.{IsInRam};
+ghost use Rattle.ns_ram.specs.Pages.{IfBadPage, first_bad_page, is_page, page_addresses, walk};
+ghost use Rattle.ns_ram.specs.Reader.{over_lane, take_words, up_to_failing, words_of};
+
+use crate::lane::Lane;
+use crate::ram::in_ram;
+use crate::reads::Reads;
+use base::NoMemory;
+use std::alloc::Global;
+use std::error::Error;
+use std::fmt;
+
+/// The number of bytes of a page. A page's address is a multiple of it.
+pub const PAGE_BYTES: u64 = 4096;
+
+/// The number of page addresses of a list. The address of the next list stands behind them.
+pub const LIST_ENTRIES: u64 = 511;
+
+/// Why a walk over a page list gives no pages.
+#[derive(Clone, Copy, Debug, PartialEq, Eq, Hash)]
+pub enum WalkFault {
+    /// The page of this number, counted from 0, is the first whose address, or whose list's address, is not
+    /// that of a page in RAM.
+    BadPage(u32),
+    /// Want of memory.
+    Memory,
+}
+
+impl fmt::Display for WalkFault {
+    fn fmt<W: fmt::Write>(&self, f: &mut fmt::Formatter<W>) -> fmt::Result {
+        match self {
+            WalkFault::BadPage(page) => write!(f, "page {page} is no page of RAM"),
+            WalkFault::Memory => f.write_str("out of memory"),
+        }
+    }
+}
+
+impl Error for WalkFault {}
+
+impl From<NoMemory> for WalkFault {
+    ghost use Rattle.std.specs.Prelude.{◌≡◌};
+    ghost use Rattle.ns_ram.specs.declared.pages.WalkFault.TheVariants.{Memory};
+
+    ghost from_gives = { λ _ fault. fault ≡ Memory };
+
+    fn from(_refused: NoMemory) -> WalkFault {
+        WalkFault::Memory
+    }
+}
+
+/// Whether a whole page of RAM begins at the address.
+pub fn is_page(addr: u64) -> bool
+    ensures value { result ≡ is_page addr }
+    ensures page { IsTrue result ↔ ((addr % PAGE_BYTES ≡ 0) × IsInRam addr PAGE_BYTES) }
+{
+    addr % PAGE_BYTES == 0 && in_ram(addr, PAGE_BYTES)
+}
+
+/// The addresses of the first `count` pages of the chain of lists at `list`. A link is read only where a
+/// further page is needed, so a chain that returns to itself is walked to the count.
+pub fn walk_pages(
+    alloc: Global,
+    lane: &Lane,
+    list: u64,
+    count: u32,
+) -> Result<Vec<u64>, WalkFault>
+    requires { count ≤ 1024 }
+    ensures pages { IfOk result (λ pages. pages.items ≡ page_addresses lane.now list count) }
+    ensures none_bad { IfOk result (λ _. first_bad_page lane.now list count ≡ None) }
+    ensures bad { IfErr result (λ fault. IfBadPage fault (λ page.
+        first_bad_page lane.now list count ≡ Some page)) }
+{
+    take_pages(alloc, lane, list, count, &mut Reads::new(alloc))
+}
+
+/// `walk_pages`, which besides lists what it reads, also where it finds a bad page: the used entries of each
+/// list up to and with the first bad one, and where a further page is needed the eight bytes of the link. A
+/// list whose own address is bad isn't read.
+pub fn take_pages(
+    alloc: Global,
+    lane: &Lane,
+    list: u64,
+    count: u32,
+    reads: &mut Reads,
+) -> Result<Vec<u64>, WalkFault>
+    requires { count ≤ 1024 }
+    ensures pages { IfOk result (λ pages.
+        over_lane (walk list count) lane.now reads.old ≡ Some (Ok pages.items, reads.new)) }
+    ensures bad { IfErr result (λ fault. IfBadPage fault (λ page.
+        over_lane (walk list count) lane.now reads.old ≡ Some (Err page, reads.new))) }
+{
+    let mut pages: Vec<u64> = Vec::new(alloc);
+    if count == 0 {
+        return Ok(pages);
+    }
+    let mut current = list;
+    'lists: loop {
+        let found = pages.len() as u64;
+        if !is_page(current) {
+            return Err(WalkFault::BadPage(found as u32));
+        }
+        let left = u64::from(count) - found;
+        let entries = take_entries(alloc, lane, current, left.min(LIST_ENTRIES), reads)?;
+        append(&mut pages, entries.as_slice())?;
+        if !all_pages(entries.as_slice()) {
+            return Err(WalkFault::BadPage(pages.len() as u32 - 1));
+        }
+        if left <= LIST_ENTRIES {
+            return Ok(pages);
+        }
+        let link = reads.take_bytes(alloc, lane, current + 8 * LIST_ENTRIES, 8)?;
+        current = first_word(link);
+    }
+}
+
+/// Takes the first `most` entries of the list, or those up to and with the first that is no page, as one
+/// read.
+fn take_entries(
+    alloc: Global,
+    lane: &Lane,
+    list: u64,
+    most: u64,
+    reads: &mut Reads,
+) -> Result<Vec<u64>, NoMemory>
+    requires most { most ≤ LIST_ENTRIES }
+    requires list { IsInRam list PAGE_BYTES }
+    ensures ok { IfOk result (λ entries. over_lane (take_words list most is_page) lane.now reads.old
+        ≡ Some (entries.items, reads.new)) }
+    ensures len { IfOk result (λ entries. length entries.items ≤ most) }
+    ensures err { OnErr result (reads.new ≡ reads.old) }
+{
+    let bytes = lane.at(list, 8 * most);
+    let entries = words_up_to_bad(alloc, bytes, most as usize)?;
+    reads.add(alloc, list, &bytes[..8 * entries.len()])?;
+    Ok(entries)
+}
+
+/// The words that the bytes make, or those up to and with the first that is no page.
+fn words_up_to_bad(alloc: Global, bytes: &[u8], count: usize) -> Result<Vec<u64>, NoMemory>
+    requires whole { length bytes.now ≡ 8 * count }
+    requires few { count ≤ LIST_ENTRIES }
+    ensures ok { IfOk result (λ words. up_to_failing is_page (words_of count bytes.now) count
+        ≡ Some words.items) }
+    ensures len { IfOk result (λ words. length words.items ≤ count) }
+{
+    let mut words = Vec::new(alloc);
+    for i in 0..count {
+        let word = first_word(&bytes[8 * i..]);
+        words.push(word)?;
+        if !is_page(word) {
+            return Ok(words);
+        }
+    }
+    Ok(words)
+}
+
+/// The word that the bytes begin with.
+fn first_word(bytes: &[u8]) -> u64
+    requires { 8 ≤ length bytes.now }
+    ensures { result ≡ from_le_bytes w64 (take 8 bytes.now) }
+{
+    let mut word = [0; 8];
+    word.copy_from_slice(&bytes[..8]);
+    u64::from_le_bytes(word)
+}
+
+/// Whether each of the addresses is that of a page.
+fn all_pages(addresses: &[u64]) -> bool
+    ensures { result ≡ list_all is_page addresses.now }
+{
+    addresses.iter().all(|addr| is_page(*addr))
+}
+
+fn append(pages: &mut Vec<u64>, more: &[u64]) -> Result<(), NoMemory>
+    ensures ok { OnOk result (pages.new.items ≡ pages.old.items ++ more.now) }
+{
+    Ok(pages.extend_from_slice(more)?)
+}
