@@ -6,11 +6,11 @@ ghost use Rattle.std.specs.Prelude.{◌≡◌, ℕ, ◌+◌, ◌*◌, ◌%◌, �
 ghost use Rattle.std.specs.List.{list_all};
 ghost use Rattle.std.specs.Int.{from_le_bytes, w64};
 ghost use Rattle.ns_ram.specs.Lane.{IsInRam};
-ghost use Rattle.ns_ram.specs.Pages.{IfBadPage, first_bad_page, is_page, page_addresses, walk};
+ghost use Rattle.ns_ram.specs.Pages.{FindsPages, IfBadPage, first_bad_page, is_page, page_addresses, walk};
 ghost use Rattle.ns_ram.specs.Reader.{over_lane, take_words, up_to_failing, words_of};
 
 use crate::lane::Lane;
-use crate::ram::in_ram;
+use crate::ram::{RAM_BYTES, RAM_START, in_ram};
 use crate::reads::Reads;
 use base::NoMemory;
 use std::alloc::Global;
@@ -77,8 +77,22 @@ pub fn walk_pages(
     ensures bad { IfErr result (λ fault. IfBadPage fault (λ page.
         first_bad_page lane.now list count ≡ Some page)) }
 {
-    take_pages(alloc, lane, list, count, &mut Reads::new(alloc))
+    has_all_of_ram(lane);
+    let mut reads = Reads::new(alloc);
+    take_pages(alloc, lane, list, count, &mut reads)
 }
+
+/// Does nothing, and says that a lane is as long as RAM.
+fn has_all_of_ram(lane: &Lane)
+    ensures { length lane.now ≡ RAM_BYTES }
+{
+    let _none = lane.at(RAM_START, 0);
+}
+
+/// What a walk finds in all of RAM are the pages of the chain, or its first bad one.
+pub fn walks_find_pages()
+    ensures { FindsPages }
+{}
 
 /// `walk_pages`, which besides lists what it reads, also where it finds a bad page: the used entries of each
 /// list up to and with the first bad one, and where a further page is needed the eight bytes of the link. A
