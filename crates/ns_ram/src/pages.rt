@@ -6,6 +6,7 @@ ghost use Rattle.std.specs.Prelude.{◌≡◌, ℕ, ◌+◌, ◌*◌, ◌%◌, �
 ghost use Rattle.std.specs.List.{list_all};
 ghost use Rattle.std.specs.Int.{from_le_bytes, w64};
 ghost use Rattle.ns_ram.specs.Lane.{IsInRam};
+ghost use Rattle.ns_ram.specs.PageExamples.{PageExamples};
 ghost use Rattle.ns_ram.specs.Pages.{FindsPages, IfBadPage, first_bad_page, is_page, page_addresses, walk};
 ghost use Rattle.ns_ram.specs.Reader.{over_lane, take_words, up_to_failing, words_of};
 
@@ -134,6 +135,11 @@ pub fn take_pages(
     }
 }
 
+/// Page lists at small inputs.
+pub fn page_examples()
+    ensures { PageExamples }
+{}
+
 /// Takes the first `most` entries of the list, or those up to and with the first that is no page, as one
 /// read.
 fn take_entries(
@@ -196,4 +202,101 @@ fn append(pages: &mut Vec<u64>, more: &[u64]) -> Result<(), NoMemory>
     ensures ok { OnOk result (pages.new.items ≡ pages.old.items ++ more.now) }
 {
     Ok(pages.extend_from_slice(more)?)
+}
+
+#[cfg(test)]
+mod tests {
+    use super::*;
+    use std::test::Fail;
+
+    const FIRST_LIST: u64 = 0x403e8000;
+    const SECOND_LIST: u64 = 0x403e9000;
+
+    fn page(i: u64) -> u64
+        requires { i < 1024 }
+        ensures { result ≡ RAM_START + i * PAGE_BYTES }
+    {
+        RAM_START + i * PAGE_BYTES
+    }
+
+    // Writes a whole list of the pages from the given one on, and its link.
+    fn write_list(lane: &mut Lane, list: u64, first: u64, link: u64)
+        requires list { IsInRam list PAGE_BYTES }
+        requires first { first < 512 }
+    {
+        for i in 0..LIST_ENTRIES {
+            lane.write(list + 8 * i, &page(first + i).to_le_bytes());
+        }
+        lane.write(list + 8 * LIST_ENTRIES, &link.to_le_bytes());
+    }
+
+    fn two_lists(alloc: Global) -> Result<Lane, NoMemory> {
+        let mut lane = Lane::new(alloc)?;
+        write_list(&mut lane, FIRST_LIST, 0, SECOND_LIST);
+        write_list(&mut lane, SECOND_LIST, 511, FIRST_LIST);
+        Ok(lane)
+    }
+
+    #[test]
+    fn pages_over_lists(rt: HostRuntime) -> Result<(), Fail> {
+        let alloc = rt.alloc();
+        let lane = two_lists(alloc)?;
+        for (list, count, first, last) in [
+            (FIRST_LIST, 1, 0, 0),
+            (FIRST_LIST, 511, 0, 510),
+            (FIRST_LIST, 512, 0, 511),
+            (FIRST_LIST, 600, 0, 599),
+            (FIRST_LIST, 1024, 0, 1),
+            (SECOND_LIST, 513, 511, 1),
+        ] {
+            let pages = walk_pages(alloc, &lane, list, count)?;
+            assert_eq!(rt; pages.len(), count as usize);
+            assert_eq!(rt; pages.first().copied(), Some(page(first)));
+            assert_eq!(rt; pages.last().copied(), Some(page(last)));
+        }
+        assert_eq!(rt; walk_pages(alloc, &lane, 5, 0)?.len(), 0);
+        Ok(())
+    }
+
+    #[test]
+    fn bad_pages(rt: HostRuntime) -> Result<(), Fail> {
+        let alloc = rt.alloc();
+        for (entry, list, count, wanted) in [
+            (RAM_START + 1, FIRST_LIST, 600, Some(599)),
+            (RAM_START + RAM_BYTES, FIRST_LIST, 600, Some(599)),
+            (RAM_START - PAGE_BYTES, FIRST_LIST, 1024, Some(599)),
+            (RAM_START + 1, FIRST_LIST, 599, None),
+            (page(7), FIRST_LIST + 8, 600, Some(0)),
+            (page(7), RAM_START + RAM_BYTES, 1, Some(0)),
+            (page(7), FIRST_LIST, 600, None),
+        ] {
+            let mut lane = two_lists(alloc)?;
+            lane.write(SECOND_LIST + 8 * 88, &u64::to_le_bytes(entry));
+            let bad = walk_pages(alloc, &lane, list, count).err();
+            assert_eq!(rt; bad, wanted.map(WalkFault::BadPage));
+        }
+        Ok(())
+    }
+
+    #[test]
+    fn reads_of_a_walk(rt: HostRuntime) -> Result<(), Fail> {
+        let alloc = rt.alloc();
+        let mut lane = two_lists(alloc)?;
+        lane.write(SECOND_LIST + 8 * 20, &0u64.to_le_bytes());
+        for (count, wanted) in [
+            (511, vec![in alloc; (FIRST_LIST, 4088)]?),
+            (531, vec![in alloc; (FIRST_LIST, 4088), (FIRST_LIST + 4088, 8), (SECOND_LIST, 160)]?),
+            (600, vec![in alloc; (FIRST_LIST, 4088), (FIRST_LIST + 4088, 8), (SECOND_LIST, 168)]?),
+        ] {
+            let mut reads = Reads::new(alloc);
+            let _pages = take_pages(alloc, &lane, FIRST_LIST, count, &mut reads);
+            let listed = reads.into_vec();
+            assert_eq!(rt; listed.len(), wanted.len());
+            for (read, (addr, len)) in listed.iter().zip(wanted.iter()) {
+                assert_eq!(rt; read.addr, *addr);
+                assert_eq!(rt; read.bytes.len(), *len);
+            }
+        }
+        Ok(())
+    }
 }
