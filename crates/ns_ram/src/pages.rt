@@ -2,7 +2,7 @@
 //! is one page: the addresses of 511 pages, and then the address of the next list, eight bytes each with the
 //! least one first (`OPTEE_MSG_ATTR_NONCONTIG` of `optee_msg.h`).
 
-ghost use Rattle.std.specs.Prelude.{◌≡◌, ℕ, ◌+◌, ◌*◌, ◌%◌, ◌≤◌, ◌↔◌, ◌++◌, length, take, IsTrue, IfOk, IfErr, OnOk, OnErr, Some, None, Ok, Err};
+ghost use Rattle.std.specs.Prelude.{◌≡◌, ℕ, ◌+◌, ◌*◌, ◌%◌, ◌<◌, ◌≤◌, ◌↔◌, ◌++◌, length, take, IsTrue, IfOk, IfErr, OnOk, OnErr, Some, None, Ok, Err};
 ghost use Rattle.std.specs.List.{list_all};
 ghost use Rattle.std.specs.Int.{from_le_bytes, w64};
 ghost use Rattle.ns_ram.specs.Lane.{IsInRam};
@@ -270,6 +270,7 @@ mod tests {
             (page(7), RAM_START + RAM_BYTES, 1, Some(0)),
             (page(7), FIRST_LIST, 600, None),
         ] {
+            assert!(rt; count <= 1024);
             let mut lane = two_lists(alloc)?;
             lane.write(SECOND_LIST + 8 * 88, &u64::to_le_bytes(entry));
             let bad = walk_pages(alloc, &lane, list, count).err();

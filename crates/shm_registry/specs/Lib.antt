@@ -1,0 +1,4 @@
+pub mod Examples
+pub mod Pieces
+pub mod Registered
+pub mod Search

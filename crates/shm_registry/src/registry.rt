@@ -1,0 +1,188 @@
+ghost use Rattle.std.specs.Prelude.{◌≡◌, ℕ, ◌+◌, ◌<◌, ◌≤◌, ◌↔◌, ◌==◌, [], ◌∷◌, length, sum_by, IsTrue, IsSome, IsNone, IsOk, IfOk, OnOk, OnErr, IsErrOf, IsSomeAnd, Some, None};
+ghost use Rattle.std.specs.List.{AllByRecursion, list_any};
+ghost use Rattle.base.specs.NumberMap.{IsRising, NumberMap, get, insert, remove};
+ghost use Rattle.shm_registry.specs.Pieces.{IsBuffer, IsPieceOfRam};
+ghost use Rattle.shm_registry.specs.Registered.{IsSound, is_pin, lowest_slot, pieces_of, with_pin, without_slot};
+ghost use Rattle.shm_registry.specs.Search.{IsPlaceOf};
+
+use crate::fault::{RegisterFault, ResolveFault, UnregisterFault};
+use crate::page_buffer::PageBuffer;
+use crate::piece::{Piece, pieces};
+use crate::pin::Pin;
+use base::NoMemory;
+use std::alloc::Global;
+use std::marker::Model;
+
+/// How many buffers may be registered.
+pub const REGISTRY_LIMIT: usize = 64;
+
+/// How many thread slots there are at most.
+pub const SLOT_LIMIT: u8 = 16;
+
+/// The most pins: one of each slot on each buffer.
+const PIN_LIMIT: usize = 1024;
+
+/// The registered buffers and their pins. Its memory is taken when it is made.
+#[derive(Drop)]
+pub struct Registry {
+    // by their cookies, which rise
+    buffers: Vec<(u64, PageBuffer)>,
+    pins: Vec<Pin>,
+}
+
+impl Model for Registry {
+    ghost use Rattle.std.specs.Prelude.{◌≤◌};
+    ghost use Rattle.std.specs.Vec.{vec_capacity};
+    ghost use Rattle.shm_registry.specs.Registered.{IsSound, Registered};
+
+    ghost Value = { Registered };
+
+    ghost view = { λ r. record { buffers = r.buffers.items; pins = r.pins.items } };
+
+    ghost invariant = { λ r. IsSound (record { buffers = r.buffers.items; pins = r.pins.items })
+        × (64 ≤ vec_capacity r.buffers) × (1024 ≤ vec_capacity r.pins) };
+}
+
+impl Registry {
+    /// No buffers, with room for 64.
+    pub fn new(alloc: Global) -> Result<Registry, NoMemory>
+        ensures { IfOk result (λ registry. registry ≡ record { buffers = []; pins = [] }) }
+    {
+        Ok(Registry {
+            buffers: Vec::with_capacity(alloc, REGISTRY_LIMIT)?,
+            pins: Vec::with_capacity(alloc, PIN_LIMIT)?,
+        })
+    }
+
+    /// How many buffers are registered.
+    pub fn len(&self) -> usize
+        ensures len { result ≡ length self.now.buffers }
+        ensures sound { IsSound self.now }
+    {
+        self.buffers.len()
+    }
+
+    /// Whether the cookie is registered.
+    pub fn contains(&self, cookie: u64) -> bool
+        ensures { IsTrue result ↔ IsSome (get self.now.buffers cookie) }
+    {
+        place_of(self.buffers.as_slice(), cookie).is_ok()
+    }
+
+    /// Registers the buffer.
+    pub fn register(&mut self, cookie: u64, buffer: PageBuffer) -> Result<(), RegisterFault>
+        requires { IsBuffer buffer }
+        ensures added { OnOk result (self.new
+            ≡ record self.old { buffers = insert self.old.buffers cookie buffer }) }
+        ensures ok { IsOk result
+            ↔ (IsNone (get self.old.buffers cookie) × (length self.old.buffers < 64)) }
+        ensures repeated { IsErrOf result (RegisterFault.Repeated cookie)
+            ↔ IsSome (get self.old.buffers cookie) }
+        ensures full { IsErrOf result RegisterFault.Full
+            ↔ (IsNone (get self.old.buffers cookie) × (length self.old.buffers ≡ 64)) }
+        ensures refused { OnErr result (self.new ≡ self.old) }
+    {
+        let Err(place) = place_of(self.buffers.as_slice(), cookie) else {
+            return Err(RegisterFault::Repeated(cookie));
+        };
+        if self.buffers.len() == REGISTRY_LIMIT {
+            return Err(RegisterFault::Full);
+        }
+        self.buffers.insert(place, (cookie, buffer)).unwrap();
+        Ok(())
+    }
+
+    /// Forgets the buffer, and gives it back.
+    pub fn unregister(&mut self, cookie: u64) -> Result<PageBuffer, UnregisterFault>
+        ensures kept { IfOk result (λ buffer. get self.old.buffers cookie ≡ Some buffer) }
+        ensures removed { OnOk result (self.new
+            ≡ record self.old { buffers = remove self.old.buffers cookie }) }
+        ensures unknown { IsErrOf result UnregisterFault.Unknown
+            ↔ IsNone (get self.old.buffers cookie) }
+        ensures pinned { (slot : ℕ) → IsErrOf result (UnregisterFault.Pinned slot)
+            ↔ (lowest_slot self.old.pins cookie ≡ Some slot) }
+        ensures refused { OnErr result (self.new ≡ self.old) }
+    {
+        let Ok(place) = place_of(self.buffers.as_slice(), cookie) else {
+            return Err(UnregisterFault::Unknown);
+        };
+        if let Some(slot) = lowest_slot(self.pins.as_slice(), cookie) {
+            return Err(UnregisterFault::Pinned(slot));
+        }
+        let (_cookie, buffer) = self.buffers.remove(place);
+        Ok(buffer)
+    }
+
+    /// The slot uses the buffer of the cookie. A pin that is there isn't added again.
+    pub fn pin(&mut self, cookie: u64, slot: u8)
+        requires kept { IsSome (get self.old.buffers cookie) }
+        requires slot { slot < 16 }
+        ensures { self.new ≡ record self.old { pins = with_pin self.old.pins cookie slot } }
+    {
+        if !is_pinned(self.pins.as_slice(), cookie, slot) {
+            self.pins.push(Pin { cookie, slot }).unwrap();
+        }
+    }
+
+    /// The slot uses no buffer any more.
+    pub fn unpin(&mut self, slot: u8)
+        ensures { self.new ≡ record self.old { pins = without_slot self.old.pins slot } }
+    {
+        self.pins.retain(|pin| pin.slot != slot);
+    }
+
+    /// The pieces of the `size` bytes at `offs` in the buffer of the cookie.
+    pub fn resolve(
+        &self,
+        alloc: Global,
+        cookie: u64,
+        offs: u64,
+        size: u64,
+    ) -> Result<Vec<Piece>, ResolveFault>
+        ensures pieces { IfOk result (λ pieces.
+            pieces_of self.now.buffers cookie offs size ≡ Some pieces.items) }
+        ensures in_ram { IfOk result (λ pieces. AllByRecursion IsPieceOfRam pieces.items) }
+        ensures size { IfOk result (λ pieces.
+            sum_by (λ piece. piece.len) pieces.items ≡ size) }
+        ensures unknown { IsErrOf result ResolveFault.Unknown
+            ↔ IsNone (get self.now.buffers cookie) }
+        ensures range { IsErrOf result ResolveFault.Range
+            ↔ IsSomeAnd (get self.now.buffers cookie) (λ buffer. buffer.size < offs + size) }
+    {
+        let Ok(place) = place_of(self.buffers.as_slice(), cookie) else {
+            return Err(ResolveFault::Unknown);
+        };
+        let buffer = &self.buffers[place].1;
+        if size > buffer.size || offs > buffer.size - size {
+            return Err(ResolveFault::Range);
+        }
+        let start = u64::from(buffer.offset) + offs;
+        Ok(pieces(alloc, buffer.pages.as_slice(), start, size)?)
+    }
+}
+
+/// Where the cookie stands, or else where it would.
+fn place_of(buffers: &[(u64, PageBuffer)], cookie: u64) -> Result<usize, usize>
+    requires { IsRising buffers.now }
+    ensures { IsPlaceOf buffers.now cookie result }
+{
+    buffers.binary_search_by_key(&cookie, |kept| kept.0)
+}
+
+/// Whether the slot pins the cookie.
+fn is_pinned(pins: &[Pin], cookie: u64, slot: u8) -> bool
+    ensures { result ≡ list_any (is_pin cookie slot) pins.now }
+{
+    pins.iter()
+        .any(|pin| pin.cookie == cookie && pin.slot == slot)
+}
+
+/// The lowest slot that pins the cookie.
+fn lowest_slot(pins: &[Pin], cookie: u64) -> Option<u8>
+    ensures { result ≡ lowest_slot pins.now cookie }
+{
+    pins.iter()
+        .filter(|pin| pin.cookie == cookie)
+        .map(|pin| pin.slot)
+        .min()
+}
