@@ -1,21 +1,18 @@
 -- A walk over a chain of lists: list by list, and what it finds in all of RAM.
-use Rattle.std.proofs.Common.{◌≡◌, ℕ, zero, suc, ◌+◌, ◌-◌, ◌*◌, ◌/◌, ◌%◌, ◌<◌, ◌≤◌, Bool, true, false, not, ◌&&◌, ◌==◌, nat_le, List, [], ◌∷◌, ◌++◌, length, map, min, Option, Some, None, Ok, Err, refl, sym, ◌∙◌, ap, arith, append_assoc, append-nil, length-append, cond}
+use Rattle.std.proofs.Common.{◌≡◌, ℕ, zero, suc, ◌+◌, ◌-◌, ◌%◌, ◌<◌, ◌≤◌, Bool, true, false, ◌&&◌, ◌==◌, nat_le, List, [], ◌∷◌, ◌++◌, length, min, Option, Some, None, Ok, Err, refl, sym, ◌∙◌, ap, arith, append_assoc, append-nil, length-append, cond}
 use Rattle.std.proofs.lemmas.Bool.{leb-true, le-leb}
 use Rattle.std.proofs.lemmas.Bool.Decides.{nat_tests}
 use Rattle.std.proofs.lemmas.Option.{option_and_then_some}
-use Rattle.std.specs.List.{list_all, position_from}
+use Rattle.std.specs.List.{list_all}
 use Rattle.std.specs.Option.{option_map}
 use Rattle.std.specs.Int.{from_le_bytes, w64}
 use Rattle.ns_ram.specs.declared.ram.TheConstants.{RAM_START, RAM_BYTES}
 use Rattle.ns_ram.specs.declared.read.Read.{Read}
-use Rattle.ns_ram.specs.Lane.{IsInRam, bytes_from, bytes_at}
-use Rattle.ns_ram.specs.Reader.{Reader, done, ◌>>=◌, words_of, up_to_failing, take_bytes, take_words, lane_bytes, lane_words, over_lane}
-use Rattle.ns_ram.specs.Pages.{Page, Walk, is_page, is_bad, lists_of, link_of_list, pages_of_lists, walk, walk_lists, walk_by, FindsPages}
-use Rattle.ns_ram.proofs.LaneBytes.{length-bytes_at}
-use Rattle.ns_ram.proofs.ReaderLaws.{over_lane-bind}
-use Rattle.ns_ram.proofs.ReaderSteps.{lane_bytes-held}
-use Rattle.ns_ram.proofs.WordList.{length-words_of}
-use Rattle.ns_ram.proofs.PageScan.{lane_words-from}
+use Rattle.ns_ram.specs.Lane.{IsInRam}
+use Rattle.ns_ram.specs.Reader.{Reader, done, ◌>>=◌, up_to_failing, take_bytes, take_words, lane_words, over_lane}
+use Rattle.ns_ram.specs.Pages.{AppendsReads, Walk, is_page, lists_of, walk, walk_lists}
+use Rattle.ns_ram.proofs.ReaderLaws.{over_lane-bind, over_lane-taken}
+use Rattle.ns_ram.proofs.ReaderSteps.{HoldsReads-append}
 
 some-is : {A : Type 0} {x y : A} → Some x ≡ Some y → x ≡ y
 some-is e = cc
@@ -75,13 +72,13 @@ passed test (w ∷ ws) (suc n) got e p =
       | true ↦ elim [
         | None ↦ λ q r t. absurd (cc)
         | Some more ↦ λ q r t.
-          let is : got ≡ w ∷ more = cc in
-          let tests = both (test w) (list_all test more) (rw is at p) in
-          ap length is ∙ ap (λ k. suc k) (passed test ws n more (sym r) tests.1)
+            let is : got ≡ w ∷ more = cc in
+            let tests = both (test w) (list_all test more) (rw is at p) in
+            ap length is ∙ ap (λ k. suc k) (passed test ws n more (sym r) tests.1)
       ]
       | false ↦ λ others q r t.
-        let is : got ≡ w ∷ [] = cc in
-        let tests = both (test w) true (rw is at p) in absurd (let wrong : false ≡ true = q ∙ tests.0 in cc)
+          let is : got ≡ w ∷ [] = cc in
+          let tests = both (test w) true (rw is at p) in absurd (let wrong : false ≡ true = q ∙ tests.0 in cc)
     ] in
     by_cases (test w) (up_to_failing test ws n) refl refl e
 
@@ -96,14 +93,29 @@ take_words-passed lane list most before between entries e p =
 
 -- ---- a whole walk
 
+AppendsReads-none : (lane : List ℕ) (reads : List Read) → AppendsReads lane reads reads
+AppendsReads-none lane reads = record { taken = []; appended = sym (append-nil reads); held = tt }
+
+-- a reader goes on
+pub AppendsReads-step : {A : Type 0} (reader : Reader A) (lane : List ℕ) (before between after : List Read) (value : A) →
+    AppendsReads lane before between → over_lane reader lane between ≡ Some (value, after) → AppendsReads lane before after
+AppendsReads-step reader lane before between after value a e =
+    let t = over_lane-taken reader lane between after value e in
+    record {
+      taken = a.taken ++ t.taken;
+      appended = t.appended ∙ ap (λ xs. xs ++ t.taken) a.appended ∙ append_assoc before a.taken t.taken;
+      held = HoldsReads-append lane a.taken t.taken a.held t.held;
+    }
+
 -- so far the pages were found, and the walk goes on with this list
 pub record Walked (lane : List ℕ) (chain count : ℕ) (before : List Read) (list : ℕ) (found : List ℕ) (reads : List Read) : Type 0 where
   pub whole : over_lane (walk chain count) lane before ≡ over_lane (walk_lists (lists_of (count - length found)) list (count - length found) found) lane reads
   pub more : length found < count
+  pub added : AppendsReads lane before reads
 
 pub Walked-none : (lane : List ℕ) (chain count : ℕ) (before : List Read) → 0 < count → Walked lane chain count before chain [] before
 Walked-none lane chain count before h =
-    let left : count - 0 ≡ count = omega arith in record { whole = rw left refl; more = h }
+    let left : count - 0 ≡ count = omega arith in record { whole = rw left refl; more = h; added = AppendsReads-none lane before }
 
 pub Walked-bad_list : (lane : List ℕ) (chain count : ℕ) (before : List Read) (list : ℕ) (found : List ℕ) (reads : List Read) →
     Walked lane chain count before list found reads → is_page list ≡ false →
@@ -153,4 +165,5 @@ Walked-next lane chain count before list found reads between after entries word 
           ∙ after_list-more (lists_of (count - length found - 511)) list (count - length found) found entries lane between after word pages more link
           ∙ rw left refl;
       more = omega arith;
+      added = AppendsReads-step (take_bytes (list + 4088) 8) lane before between after word (AppendsReads-step (take_words list (min (count - length found) 511) is_page) lane before reads between entries w.added taken) link;
     }

@@ -1,22 +1,20 @@
 -- What a walk finds in all of RAM: the pages of the chain, or the first bad one.
-use Rattle.std.proofs.Common.{◌≡◌, ℕ, zero, suc, ◌+◌, ◌-◌, ◌*◌, ◌<◌, ◌≤◌, Bool, true, false, not, ◌&&◌, nat_le, List, [], ◌∷◌, ◌++◌, length, map, min, Option, Some, None, Result, Ok, Err, IfOk, IfErr, refl, sym, ◌∙◌, ap, arith, append_assoc, append-nil, length-append, cond, inl, inr}
+use Rattle.std.proofs.Common.{◌≡◌, ℕ, zero, suc, ◌+◌, ◌-◌, ◌*◌, ◌<◌, ◌≤◌, true, false, nat_le, List, [], ◌∷◌, ◌++◌, length, map, min, Option, Some, None, Result, Ok, Err, IfOk, IfErr, refl, sym, ◌∙◌, ap, arith, append_assoc, append-nil, length-append, inl, inr}
 use Rattle.std.proofs.lemmas.Bool.{cases_Bool, leb-true, leb-false}
 use Rattle.std.specs.List.{list_all, position_from}
-use Rattle.std.specs.Option.{option_map}
-use Rattle.std.specs.Int.{from_le_bytes, w64}
-use Rattle.ns_ram.specs.declared.ram.TheConstants.{RAM_START, RAM_BYTES}
+use Rattle.ns_ram.specs.declared.ram.TheConstants.{RAM_BYTES}
 use Rattle.ns_ram.specs.declared.read.Read.{Read}
 use Rattle.ns_ram.specs.Lane.{IsInRam, bytes_from, bytes_at}
 use Rattle.ns_ram.specs.Reads.{listed}
-use Rattle.ns_ram.specs.Reader.{words_of, up_to_failing, take_bytes, take_words, lane_bytes, lane_words, over_lane}
-use Rattle.ns_ram.specs.Pages.{Page, Walk, is_page, is_bad, lists_of, link_of_list, pages_of_list, pages_of_lists, page_addresses, first_bad_page, walk, walk_lists, walk_by, FindsPages, IfBadPage}
+use Rattle.ns_ram.specs.Reader.{words_of, up_to_failing, take_bytes, take_words, lane_bytes, over_lane}
+use Rattle.ns_ram.specs.Pages.{Page, Walk, is_page, is_bad, lists_of, link_of_list, pages_of_lists, page_addresses, first_bad_page, walk, walk_lists, walk_by, FindsPages, IfBadPage}
 use Rattle.ns_ram.specs.declared.pages.WalkFault.{WalkFault}
 use Rattle.ns_ram.specs.declared.pages.WalkFault.TheVariants.{BadPage, Memory}
 use Rattle.ns_ram.proofs.LaneBytes.{length-bytes_at}
 use Rattle.ns_ram.proofs.ReaderSteps.{lane_bytes-held}
 use Rattle.ns_ram.proofs.WordList.{length-words_of}
 use Rattle.ns_ram.proofs.PageScan.{lane_words-from}
-use Rattle.ns_ram.proofs.PageWalk.{is_page-inside, lists_of-suc, walk-bad_list, walk-list, after_list, after_list-bad, after_list-last, after_list-more}
+use Rattle.ns_ram.proofs.PageWalk.{is_page-inside, lists_of-suc, walk-bad_list, walk-list, after_list-bad, after_list-last, after_list-more}
 
 -- ---- the words of a good list, and the pages that they name
 
@@ -38,15 +36,15 @@ names list (w ∷ ws) others n good =
     elim (cases_Bool (is_page w)) [
       | inl p ↦ elim (names list ws others (n + 1) good) [
         | all q r s ↦
-          let m : n + suc (length ws) ≡ n + 1 + length ws = omega arith in
-          all (rw (p, q) refl) (rw (p, r) refl) (rw (m, good, p) s)
+            let m : n + suc (length ws) ≡ n + 1 + length ws = omega arith in
+            all (rw (p, q) refl) (rw (p, r) refl) (rw (m, good, p) s)
         | ends got q r k s ↦
-          let m : n + suc (length got) - 1 ≡ n + 1 + length got - 1 = omega (arith, k) in
-          ends (w ∷ got) (rw (p, q) refl) (rw (p, r) refl) (omega arith) (rw (m, good, p) s)
+            let m : n + suc (length got) - 1 ≡ n + 1 + length got - 1 = omega (arith, k) in
+            ends (w ∷ got) (rw (p, q) refl) (rw (p, r) refl) (omega arith) (rw (m, good, p) s)
       ]
       | inr p ↦
-        let m : n + 1 - 1 ≡ n = omega arith in
-        ends (w ∷ []) (rw p refl) (rw p refl) (omega arith) (rw (m, good, p) refl)
+          let m : n + 1 - 1 ≡ n = omega arith in
+          ends (w ∷ []) (rw p refl) (rw p refl) (omega arith) (rw (m, good, p) refl)
     ]
 
 addresses-named : (list : ℕ) (words : List ℕ) (others : List Page) →
@@ -124,34 +122,34 @@ comes (suc lists) lane list count found reads whole e =
       | inr bad ↦ bad_list lane list count found reads others some bad
       | inl good ↦ elim (names list words others (length found) good) [
         | ends got q r k s ↦
-          let between : List Read = with_list lane list got reads in
-          let many : length (found ++ got) - 1 ≡ length found + length got - 1 = omega (arith, length-append found got) in (
-            between,
-            rw (s, ← many)
-            (walk-list list count found lane reads between got some good (taken lane list most got reads whole good few r)
-            ∙ after_list-bad (lists_of (count - 511)) list count found got lane between q),
-          )
+            let between : List Read = with_list lane list got reads in
+            let many : length (found ++ got) - 1 ≡ length found + length got - 1 = omega (arith, length-append found got) in (
+              between,
+              rw (s, ← many)
+                  (walk-list list count found lane reads between got some good (taken lane list most got reads whole good few r)
+                  ∙ after_list-bad (lists_of (count - 511)) list count found got lane between q),
+            )
         | all q r s ↦
-          let between : List Read = with_list lane list words reads in
-          let onward = walk-list list count found lane reads between words some good (taken lane list most words reads whole good few r) in
-          elim (cases_Bool (nat_le count 511)) [
-            | inl last ↦
-              let at_most : count ≤ 511 = leb-true count 511 last in
-              let none : others ≡ [] = no_pages lane link (count - 511) (omega arith) in (
-                between,
-                rw (s, addresses-named list words others, none, append-nil words)
-                (onward ∙ after_list-last (lists_of (count - 511)) list count found words lane between q at_most),
-              )
-            | inr further ↦
-              let more : 511 < count = omega (arith, leb-false) in
-              let after : List Read = with_link lane list between in
-              let rest = comes lists lane link (count - 511) (found ++ words) after whole fewer in
-              let many : length found + length words ≡ length (found ++ words) = sym (length-append found words) in (
-                rest.0,
-                rw (s, addresses-named list words others, many, ← append_assoc found words (map (λ page. page.addr) others))
-                (onward ∙ after_list-more (lists_of (count - 511)) list count found words lane between after (bytes_at lane (list + 4088) 8) q more (link_taken lane list between whole good) ∙ rest.1),
-              )
-          ]
+            let between : List Read = with_list lane list words reads in
+            let onward = walk-list list count found lane reads between words some good (taken lane list most words reads whole good few r) in
+            elim (cases_Bool (nat_le count 511)) [
+              | inl last ↦
+                  let at_most : count ≤ 511 = leb-true count 511 last in
+                  let none : others ≡ [] = no_pages lane link (count - 511) (omega arith) in (
+                    between,
+                    rw (s, addresses-named list words others, none, append-nil words)
+                        (onward ∙ after_list-last (lists_of (count - 511)) list count found words lane between q at_most),
+                  )
+              | inr further ↦
+                  let more : 511 < count = omega (arith, leb-false) in
+                  let after : List Read = with_link lane list between in
+                  let rest = comes lists lane link (count - 511) (found ++ words) after whole fewer in
+                  let many : length found + length words ≡ length (found ++ words) = sym (length-append found words) in (
+                    rest.0,
+                    rw (s, addresses-named list words others, many, ← append_assoc found words (map (λ page. page.addr) others))
+                        (onward ∙ after_list-more (lists_of (count - 511)) list count found words lane between after (bytes_at lane (list + 4088) 8) q more (link_taken lane list between whole good) ∙ rest.1),
+                  )
+            ]
       ]
     ])
 

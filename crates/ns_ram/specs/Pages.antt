@@ -1,6 +1,6 @@
 -- Page lists in the RAM of the normal world: 511 addresses of pages, and then the address of the next list,
 -- eight bytes each, as a noncontiguous buffer of optee_msg.h has them.
-use Rattle.std.specs.Prelude.{◌≡◌, ℕ, zero, suc, ◌+◌, ◌-◌, ◌*◌, ◌/◌, ◌%◌, Bool, IsTrue, not, ◌==◌, ◌&&◌, nat_le, min, List, [], ◌∷◌, ◌++◌, length, map, Option, Some, None, Result, Ok, Err, if◌then◌else◌}
+use Rattle.std.specs.Prelude.{◌≡◌, ℕ, zero, suc, ◌+◌, ◌-◌, ◌*◌, ◌/◌, ◌%◌, Bool, not, ◌==◌, ◌&&◌, nat_le, min, List, [], ◌++◌, length, map, Option, Some, None, Result, Ok, Err, if◌then◌else◌}
 use Rattle.std.specs.List.{list_all, position_from}
 use Rattle.std.specs.Int.{from_le_bytes, w64}
 use Rattle.ns_ram.specs.declared.ram.TheConstants.{RAM_START, RAM_BYTES}
@@ -9,6 +9,7 @@ use Rattle.ns_ram.specs.declared.pages.WalkFault.{WalkFault}
 use Rattle.ns_ram.specs.declared.pages.WalkFault.TheVariants.{BadPage, Memory}
 use Rattle.ns_ram.specs.declared.read.Read.{Read}
 use Rattle.ns_ram.specs.Lane.{bytes_from, bytes_at}
+use Rattle.ns_ram.specs.Reads.{HoldsReads}
 use Rattle.ns_ram.specs.Reader.{Reader, done, ◌>>=◌, over_lane, take_bytes, take_words, words_of}
 
 -- a page's address: a multiple of 4096 at which a whole page lies in RAM
@@ -87,6 +88,13 @@ walk_by (Some page) addresses = Err page
 abbrev pub FindsPages : Type 0
 FindsPages = (lane : List ℕ) (list count : ℕ) (before : List Read) → length lane ≡ RAM_BYTES →
     (after : List Read) × (over_lane (walk list count) lane before ≡ Some (walk_by (first_bad_page lane list count) (page_addresses lane list count), after))
+
+-- what a walk adds to a list of reads, whatever it answers: further reads behind those that the list had,
+-- each with the lane's bytes
+pub record AppendsReads (lane : List ℕ) (before after : List Read) : Type 0 where
+  pub taken : List Read
+  pub appended : after ≡ before ++ taken
+  pub held : HoldsReads lane taken
 
 -- a fact of the number of the bad page, where that is the fault
 abbrev pub IfBadPage : WalkFault → (ℕ → Type 0) → Type 0

@@ -26,7 +26,10 @@ pub use laws::{
     readers_add_their_reads, readers_depend_on_their_reads, readers_run_in_turn, worked_examples,
     writes_change_their_bytes_alone, zeros_are_read_everywhere,
 };
-pub use pages::{LIST_ENTRIES, PAGE_BYTES, WalkFault, is_page, page_examples, take_pages, walk_pages, walks_find_pages};
+pub use pages::{
+    LIST_ENTRIES, PAGE_BYTES, WalkFault, is_page, page_examples, take_pages, walk_pages,
+    walks_find_pages,
+};
 pub use ram::{RAM_BYTES, RAM_START, in_ram};
 pub use read::Read;
 pub use reads::Reads;

@@ -7,7 +7,7 @@ ghost use Rattle.std.specs.List.{list_all};
 ghost use Rattle.std.specs.Int.{from_le_bytes, w64};
 ghost use Rattle.ns_ram.specs.Lane.{IsInRam};
 ghost use Rattle.ns_ram.specs.PageExamples.{PageExamples};
-ghost use Rattle.ns_ram.specs.Pages.{FindsPages, IfBadPage, first_bad_page, is_page, page_addresses, walk};
+ghost use Rattle.ns_ram.specs.Pages.{AppendsReads, FindsPages, IfBadPage, first_bad_page, is_page, page_addresses, walk};
 ghost use Rattle.ns_ram.specs.Reader.{over_lane, take_words, up_to_failing, words_of};
 
 use crate::lane::Lane;
@@ -66,12 +66,7 @@ pub fn is_page(addr: u64) -> bool
 
 /// The addresses of the first `count` pages of the chain of lists at `list`. A link is read only where a
 /// further page is needed, so a chain that returns to itself is walked to the count.
-pub fn walk_pages(
-    alloc: Global,
-    lane: &Lane,
-    list: u64,
-    count: u32,
-) -> Result<Vec<u64>, WalkFault>
+pub fn walk_pages(alloc: Global, lane: &Lane, list: u64, count: u32) -> Result<Vec<u64>, WalkFault>
     requires { count ≤ 1024 }
     ensures pages { IfOk result (λ pages. pages.items ≡ page_addresses lane.now list count) }
     ensures none_bad { IfOk result (λ _. first_bad_page lane.now list count ≡ None) }
@@ -106,6 +101,7 @@ pub fn take_pages(
     reads: &mut Reads,
 ) -> Result<Vec<u64>, WalkFault>
     requires { count ≤ 1024 }
+    ensures appended { AppendsReads lane.now reads.old reads.new }
     ensures pages { IfOk result (λ pages.
         over_lane (walk list count) lane.now reads.old ≡ Some (Ok pages.items, reads.new)) }
     ensures bad { IfErr result (λ fault. IfBadPage fault (λ page.
@@ -210,6 +206,7 @@ mod tests {
     use std::test::Fail;
 
     const FIRST_LIST: u64 = 0x403e8000;
+
     const SECOND_LIST: u64 = 0x403e9000;
 
     fn page(i: u64) -> u64
@@ -286,8 +283,22 @@ mod tests {
         lane.write(SECOND_LIST + 8 * 20, &0u64.to_le_bytes());
         for (count, wanted) in [
             (511, vec![in alloc; (FIRST_LIST, 4088)]?),
-            (531, vec![in alloc; (FIRST_LIST, 4088), (FIRST_LIST + 4088, 8), (SECOND_LIST, 160)]?),
-            (600, vec![in alloc; (FIRST_LIST, 4088), (FIRST_LIST + 4088, 8), (SECOND_LIST, 168)]?),
+            (
+                531,
+                vec![in alloc;
+                    (FIRST_LIST, 4088),
+                    (FIRST_LIST + 4088, 8),
+                    (SECOND_LIST, 160),
+                ]?,
+            ),
+            (
+                600,
+                vec![in alloc;
+                    (FIRST_LIST, 4088),
+                    (FIRST_LIST + 4088, 8),
+                    (SECOND_LIST, 168),
+                ]?,
+            ),
         ] {
             let mut reads = Reads::new(alloc);
             let _pages = take_pages(alloc, &lane, FIRST_LIST, count, &mut reads);

@@ -1,5 +1,5 @@
 -- Pieces of pages, one after the other: where they lie, and how many bytes they have.
-use Rattle.std.proofs.Common.{◌≡◌, ℕ, zero, suc, ◌+◌, ◌-◌, ◌*◌, ◌/◌, ◌%◌, ◌<◌, ◌≤◌, Bool, true, false, IsTrue, ◌&&◌, List, [], ◌∷◌, ◌++◌, length, drop, take, get_or, min, sum_by, refl, sym, ◌∙◌, ap, arith, append_assoc, append-nil, add-one, drop-cons, length-drop, inl, inr}
+use Rattle.std.proofs.Common.{◌≡◌, ℕ, zero, suc, ◌+◌, ◌-◌, ◌*◌, ◌/◌, ◌%◌, ◌<◌, ◌≤◌, Bool, true, false, IsTrue, ◌&&◌, List, [], ◌∷◌, ◌++◌, length, drop, take, get_or, min, sum_by, refl, sym, ◌∙◌, arith, append_assoc, append-nil, add-one, drop-cons, length-drop, inl, inr}
 use Rattle.std.proofs.lemmas.List.{take_all, drop_all}
 use Rattle.std.proofs.lemmas.List.Sums.{sum_by-cons}
 use Rattle.std.specs.List.{AllByRecursion, list_all}

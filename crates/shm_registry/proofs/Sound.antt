@@ -1,21 +1,19 @@
 -- Each change keeps what holds of each registry.
-use Rattle.std.proofs.Common.{◌≡◌, ℕ, zero, suc, ◌+◌, ◌*◌, ◌<◌, ◌≤◌, Bool, true, false, not, ◌&&◌, ◌||◌, ◌==◌, cond, List, [], ◌∷◌, ◌++◌, length, map, filter, get_or, take, drop, Option, Some, None, IsSome, IsNone, is_some, refl, sym, ◌∙◌, ap, arith, inl, inr, length-append, length-drop}
+use Rattle.std.proofs.Common.{◌≡◌, ℕ, zero, suc, ◌+◌, ◌*◌, ◌<◌, ◌≤◌, Bool, true, false, not, ◌&&◌, ◌||◌, ◌==◌, cond, List, [], ◌∷◌, ◌++◌, length, map, filter, get_or, take, drop, Option, Some, None, IsSome, IsNone, refl, sym, ◌∙◌, ap, arith, inl, inr, length-append, length-drop}
 use Rattle.std.proofs.lemmas.List.{length-map, length-take-le, take-append-drop}
 use Rattle.std.specs.Ordering.{nat_cmp, eq_by_cmp}
-use Rattle.std.specs.declared.cmp.Ordering.TheVariants.{Less, Equal, Greater}
-use Rattle.std.specs.List.{AllByRecursion, IsDistinct, list_any, reduce}
+use Rattle.std.specs.List.{AllByRecursion, IsDistinct, list_any}
 use Rattle.std.specs.Cmp.{nat_eq_equiv}
-use Rattle.std.specs.FinMap.Entries as Entries
 use Rattle.std.proofs.lemmas.Bool.{cases_Bool, eqb-true, eq-eqb}
 use Rattle.std.proofs.lemmas.Bool.Decides.{nat_tests}
 use Rattle.std.proofs.lemmas.List.Folds.{list_any-append}
 use Rattle.std.proofs.lemmas.Map.Made.{length-le_from_is_member}
-use Rattle.base.specs.NumberMap.{NumberMap, get, insert, remove, IsRising, get-insert, get-remove, IsRising-insert, IsRising-remove}
+use Rattle.base.specs.NumberMap.{NumberMap, get, insert, remove, get-insert, get-remove, IsRising-insert, IsRising-remove}
 use Rattle.shm_registry.specs.declared.page_buffer.PageBuffer.{PageBuffer}
 use Rattle.shm_registry.specs.declared.pin.Pin.{Pin}
 use Rattle.shm_registry.specs.Pieces.{IsBuffer}
-use Rattle.shm_registry.specs.Registered.{Registered, IsKeptPin, IsSound, is_pin, with_pin, without_slot, slots_of, lowest_slot}
-use Rattle.shm_registry.specs.Search.{IsAt, IsBefore}
+use Rattle.shm_registry.specs.Registered.{IsKeptPin, IsSound, is_pin, without_slot, lowest_slot}
+use Rattle.shm_registry.specs.Search.{IsBefore}
 
 -- ---- facts of each element
 
@@ -215,8 +213,8 @@ run-has from (suc n) k h =
     elim (cases_Bool ((from + k) == (from + n))) [
       | inl p ↦ rw p refl
       | inr p ↦
-        let less : k < n = grind (arith, nat_tests) in
-        rw p (run-has from n k less)
+          let less : k < n = grind (arith, nat_tests) in
+          rw p (run-has from n k less)
     ]
 
 all_codes-has : (m : NumberMap PageBuffer) (k slot : ℕ) → IsSome (get m k) → slot < 16 →
@@ -227,9 +225,9 @@ all_codes-has (e ∷ es) k slot h low =
     rw (list_any-append test (run (16 * e.0) 16) (all_codes es))
     (elim (cases_Bool (eq_by_cmp nat_cmp k e.0)) [
       | inl p ↦
-        let same : k ≡ e.0 = grind (arith, nat_tests) in
-        let there : list_any test (run (16 * e.0) 16) ≡ true = rw same (run-has (16 * e.0) 16 slot low) in
-        rw there refl
+          let same : k ≡ e.0 = grind (arith, nat_tests) in
+          let there : list_any test (run (16 * e.0) 16) ≡ true = rw same (run-has (16 * e.0) 16 slot low) in
+          rw there refl
       | inr p ↦ or_true (list_any test (run (16 * e.0) 16)) _ (all_codes-has es k slot (rw p at h) low)
     ])
 
@@ -241,12 +239,12 @@ codes_apart m pin low (other ∷ pins) d h =
     let apart : (code pin == code other) ≡ false =
     elim (cases_Bool (code pin == code other)) as (λ _. (code pin == code other) ≡ false) [
       | inl p ↦
-        let same : 16 * pin.cookie + pin.slot ≡ 16 * other.cookie + other.slot = eqb-true _ _ p in
-        let low_too : other.slot < 16 = h.0.slot in
-        let cookies : other.cookie ≡ pin.cookie = omega arith in
-        let slots : other.slot ≡ pin.slot = omega arith in
-        let is : is_pin pin.cookie pin.slot other ≡ true = rw (cookies, slots, eq-eqb pin.cookie pin.cookie refl, eq-eqb pin.slot pin.slot refl) refl in
-        absurd (let wrong : true ≡ false = sym is ∙ d.0 in cc)
+          let same : 16 * pin.cookie + pin.slot ≡ 16 * other.cookie + other.slot = eqb-true _ _ p in
+          let low_too : other.slot < 16 = h.0.slot in
+          let cookies : other.cookie ≡ pin.cookie = omega arith in
+          let slots : other.slot ≡ pin.slot = omega arith in
+          let is : is_pin pin.cookie pin.slot other ≡ true = rw (cookies, slots, eq-eqb pin.cookie pin.cookie refl, eq-eqb pin.slot pin.slot refl) refl in
+          absurd (let wrong : true ≡ false = sym is ∙ d.0 in cc)
       | inr p ↦ p
     ] in
     (apart, codes_apart m pin low pins d.1 h.1)
@@ -263,8 +261,8 @@ codes-kept m [] q h e = absurd (cc)
 codes-kept m (pin ∷ pins) q h e =
     elim (cases_Bool (q == code pin)) [
       | inl p ↦
-        let same : q ≡ code pin = eqb-true q (code pin) p in
-        rw same (all_codes-has m pin.cookie pin.slot h.0.cookie h.0.slot)
+          let same : q ≡ code pin = eqb-true q (code pin) p in
+          rw same (all_codes-has m pin.cookie pin.slot h.0.cookie h.0.slot)
       | inr p ↦ codes-kept m pins q h.1 (rw p at e)
     ]
 

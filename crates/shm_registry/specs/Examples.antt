@@ -1,6 +1,6 @@
 -- Pieces, and registries of few buffers.
 use Rattle.std.specs.Prelude.{◌≡◌, ℕ, List, [], ◌∷◌, Some, None}
-use Rattle.base.specs.NumberMap.{NumberMap, get, insert, remove}
+use Rattle.base.specs.NumberMap.{NumberMap}
 use Rattle.shm_registry.specs.declared.page_buffer.PageBuffer.{PageBuffer}
 use Rattle.shm_registry.specs.declared.piece.Piece.{Piece}
 use Rattle.shm_registry.specs.declared.pin.Pin.{Pin}

@@ -1,5 +1,5 @@
 -- Where a number stands in a map, or would.
-use Rattle.std.specs.Prelude.{◌≡◌, ℕ, suc, ◌<◌, ◌≤◌, List, ◌∷◌, ◌++◌, length, take, drop, Option, Some, None, IsSome, Result, Ok, Err, slice_index_or}
+use Rattle.std.specs.Prelude.{◌≡◌, ℕ, suc, ◌<◌, ◌≤◌, ◌∷◌, ◌++◌, length, take, drop, Some, None, IsSome, Result, Ok, Err, slice_index_or}
 use Rattle.base.specs.NumberMap.{NumberMap, get, insert, remove}
 
 -- the index at which the number stands, and what the map is then without it

@@ -21,4 +21,4 @@ pub use laws::worked_examples;
 pub use page_buffer::PageBuffer;
 pub use piece::{Piece, pieces};
 pub use pin::Pin;
-pub use registry::{REGISTRY_LIMIT, Registry, SLOT_LIMIT};
+pub use registry::{REGISTRY_LIMIT, Registry};

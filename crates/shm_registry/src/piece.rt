@@ -18,12 +18,7 @@ pub struct Piece {
 
 /// The pieces of the `size` bytes that begin `start` bytes behind the first byte of the first page. The
 /// bytes go through the pages in their order, with one piece for each page that they touch.
-pub fn pieces(
-    alloc: Global,
-    pages: &[u64],
-    start: u64,
-    size: u64,
-) -> Result<Vec<Piece>, NoMemory>
+pub fn pieces(alloc: Global, pages: &[u64], start: u64, size: u64) -> Result<Vec<Piece>, NoMemory>
     requires pages { IsTrue (list_all is_page pages.now) }
     requires few { length pages.now ≤ 1024 }
     requires enough { 0 < size → start + size ≤ PAGE_BYTES * length pages.now }

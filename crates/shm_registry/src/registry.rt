@@ -16,9 +16,6 @@ use std::marker::Model;
 /// How many buffers may be registered.
 pub const REGISTRY_LIMIT: usize = 64;
 
-/// How many thread slots there are at most.
-pub const SLOT_LIMIT: u8 = 16;
-
 /// The most pins: one of each slot on each buffer.
 const PIN_LIMIT: usize = 1024;
 
@@ -131,32 +128,32 @@ impl Registry {
         self.pins.retain(|pin| pin.slot != slot);
     }
 
-    /// The pieces of the `size` bytes at `offs` in the buffer of the cookie.
+    /// The pieces of the `size` bytes at `offset` in the buffer of the cookie.
     pub fn resolve(
         &self,
         alloc: Global,
         cookie: u64,
-        offs: u64,
+        offset: u64,
         size: u64,
     ) -> Result<Vec<Piece>, ResolveFault>
         ensures pieces { IfOk result (λ pieces.
-            pieces_of self.now.buffers cookie offs size ≡ Some pieces.items) }
+            pieces_of self.now.buffers cookie offset size ≡ Some pieces.items) }
         ensures in_ram { IfOk result (λ pieces. AllByRecursion IsPieceOfRam pieces.items) }
         ensures size { IfOk result (λ pieces.
             sum_by (λ piece. piece.len) pieces.items ≡ size) }
         ensures unknown { IsErrOf result ResolveFault.Unknown
             ↔ IsNone (get self.now.buffers cookie) }
         ensures range { IsErrOf result ResolveFault.Range
-            ↔ IsSomeAnd (get self.now.buffers cookie) (λ buffer. buffer.size < offs + size) }
+            ↔ IsSomeAnd (get self.now.buffers cookie) (λ buffer. buffer.size < offset + size) }
     {
         let Ok(place) = place_of(self.buffers.as_slice(), cookie) else {
             return Err(ResolveFault::Unknown);
         };
         let buffer = &self.buffers[place].1;
-        if size > buffer.size || offs > buffer.size - size {
+        if size > buffer.size || offset > buffer.size - size {
             return Err(ResolveFault::Range);
         }
-        let start = u64::from(buffer.offset) + offs;
+        let start = u64::from(buffer.offset) + offset;
         Ok(pieces(alloc, buffer.pages.as_slice(), start, size)?)
     }
 }

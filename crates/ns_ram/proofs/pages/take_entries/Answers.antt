@@ -1,6 +1,4 @@
-use Rattle.std.proofs.Common.{◌≡◌, ◌*◌, ◌++◌, ◌≤◌, List, ℕ, length, take, arith, ◌∙◌}
-use Rattle.ns_ram.specs.Reads.{listed}
-use Rattle.ns_ram.specs.Lane.{bytes_at}
+use Rattle.std.proofs.Common.{◌≡◌, List, ℕ, length, arith}
 use Rattle.ns_ram.proofs.PageScan.{over_lane-take_words}
 use Rattle.ns_ram.proofs.pages.take_entries.Goals as goal
 

@@ -1,10 +1,10 @@
-use Rattle.std.proofs.Common.{◌≡◌, ℕ, ◌+◌, ◌-◌, ◌*◌, ◌<◌, ◌≤◌, ◌++◌, ◌∙◌, true, false, List, length, length-append, min, Some, sym, ap, arith}
+use Rattle.std.proofs.Common.{◌≡◌, ℕ, ◌-◌, ◌<◌, ◌++◌, ◌∙◌, true, false, List, length, length-append, min, ap, arith}
 use Rattle.std.proofs.lemmas.List.{take_all}
 use Rattle.std.specs.Int.{from_le_bytes, w64}
 use Rattle.std.specs.List.{list_all}
 use Rattle.ns_ram.specs.Pages.{is_page, lists_of}
-use Rattle.ns_ram.specs.Reader.{over_lane, take_bytes, take_words}
-use Rattle.ns_ram.proofs.PageWalk.{Walked-bad_list, Walked-list, Walked-next, after_list-bad, take_words-passed}
+use Rattle.ns_ram.specs.Reader.{take_words}
+use Rattle.ns_ram.proofs.PageWalk.{AppendsReads-step, Walked-bad_list, Walked-list, Walked-next, after_list-bad, take_words-passed}
 use Rattle.ns_ram.proofs.pages.take_pages.Goals as goal
 
 pub returns-then-not-is_page-clause-bad : goal.returns-then-not-is_page-clause-bad
@@ -54,3 +54,21 @@ lists-preserved c =
     c.first_word-current.ensures ∙ ap (from_le_bytes w64) (take_all 8 c.in_ok-link.link.now (omega (arith, c.in_ok-link.ensures.len))) in
     rw (all, next)
     (Walked-next lane c.args.list count c.args.reads.now c.lists.current found c.lists.reads c.take_entries.new.reads c.take_bytes.new.self entries c.in_ok-link.link.now c.lists.invariant good (rw most at c.in_ok-entries.ensures.ok) pages more c.in_ok-link.ensures.ok)
+
+-- the reads after the list was taken
+pub returns-in_err-append-clause-appended : goal.returns-in_err-append-clause-appended
+returns-in_err-append-clause-appended c =
+    AppendsReads-step (take_words c.lists.current _ is_page) c.args.lane.now c.args.reads.now c.lists.reads c.take_entries.new.reads c.in_ok-entries.entries.items c.lists.invariant.added c.in_ok-entries.ensures.ok
+
+pub returns-then-not-all_pages-clause-appended : goal.returns-then-not-all_pages-clause-appended
+returns-then-not-all_pages-clause-appended c =
+    AppendsReads-step (take_words c.lists.current _ is_page) c.args.lane.now c.args.reads.now c.lists.reads c.take_entries.new.reads c.in_ok-entries.entries.items c.lists.invariant.added c.in_ok-entries.ensures.ok
+
+pub returns-then-left-le-LIST_ENTRIES-clause-appended : goal.returns-then-left-le-LIST_ENTRIES-clause-appended
+returns-then-left-le-LIST_ENTRIES-clause-appended c =
+    AppendsReads-step (take_words c.lists.current _ is_page) c.args.lane.now c.args.reads.now c.lists.reads c.take_entries.new.reads c.in_ok-entries.entries.items c.lists.invariant.added c.in_ok-entries.ensures.ok
+
+pub returns-in_err-link-clause-appended : goal.returns-in_err-link-clause-appended
+returns-in_err-link-clause-appended c =
+    rw c.in_err-link.ensures.err
+    (AppendsReads-step (take_words c.lists.current _ is_page) c.args.lane.now c.args.reads.now c.lists.reads c.take_entries.new.reads c.in_ok-entries.entries.items c.lists.invariant.added c.in_ok-entries.ensures.ok)

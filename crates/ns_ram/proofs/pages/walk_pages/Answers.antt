@@ -1,5 +1,3 @@
-use Rattle.std.proofs.Common.{◌≡◌, List, ℕ, length, None}
-use Rattle.ns_ram.specs.Pages.{first_bad_page, page_addresses}
 use Rattle.ns_ram.proofs.PagesFound.{answer-bad, answer-none_bad, answer-pages}
 use Rattle.ns_ram.proofs.pages.walk_pages.Goals as goal
 

@@ -1,4 +1,4 @@
-use Rattle.std.proofs.Common.{◌≡◌, ◌<◌, ◌++◌, ◌∷◌, take, drop, length, List, ℕ, IsSome, IsNone, refl, arith}
+use Rattle.std.proofs.Common.{◌≡◌, ◌<◌, ◌++◌, ◌∷◌, take, drop, length, IsSome, refl, arith}
 use Rattle.base.specs.NumberMap.{NumberMap, get}
 use Rattle.shm_registry.specs.Search.{IsAt, IsBefore}
 use Rattle.shm_registry.specs.declared.page_buffer.PageBuffer.{PageBuffer}
@@ -31,7 +31,7 @@ invariant_of-self c =
     rw c.unwrap.ensures at c.insert.ensures.items in
     let room : length buffers < 64 = omega (arith, c.self.invariant.0.few) in (
       rw (items, ← before.with c.args.buffer)
-      (IsSound-insert buffers c.self.inside.pins.items c.args.cookie c.in-Err.place c.args.buffer c.self.invariant.0 before room c.requires),
+          (IsSound-insert buffers c.self.inside.pins.items c.args.cookie c.in-Err.place c.args.buffer c.self.invariant.0 before room c.requires),
       omega (arith, c.insert.ensures.capacity, c.self.invariant.1),
       c.self.invariant.2,
     )

@@ -1,4 +1,4 @@
-use Rattle.std.proofs.Common.{◌≡◌, ◌+◌, ◌*◌, ◌<◌, ◌≤◌, length, get_or, ℕ, arith}
+use Rattle.std.proofs.Common.{◌≡◌, ◌<◌, length, get_or, ℕ, arith}
 use Rattle.std.specs.List.{AllByRecursion}
 use Rattle.base.specs.NumberMap.{NumberMap}
 use Rattle.shm_registry.specs.declared.page_buffer.PageBuffer.{PageBuffer}

@@ -1,4 +1,4 @@
-use Rattle.std.proofs.Common.{◌≡◌, ◌==◌, ℕ, not, refl, rules}
+use Rattle.std.proofs.Common.{◌≡◌, ◌==◌, not, refl, rules}
 use Rattle.std.proofs.lemmas.Fn.{filter_same}
 use Rattle.shm_registry.specs.declared.pin.Pin.{Pin}
 use Rattle.shm_registry.specs.Registered.{without_slot}

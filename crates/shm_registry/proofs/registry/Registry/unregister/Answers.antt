@@ -1,4 +1,4 @@
-use Rattle.std.proofs.Common.{◌≡◌, ◌++◌, suc, take, drop, IsSome, Some, None, refl, sym, arith}
+use Rattle.std.proofs.Common.{◌≡◌, IsSome, Some, None, refl, sym}
 use Rattle.base.specs.NumberMap.{NumberMap, get}
 use Rattle.shm_registry.specs.Search.{IsAt, IsBefore}
 use Rattle.shm_registry.specs.Registered.{lowest_slot}
@@ -12,8 +12,8 @@ returns-in_default-clause-pinned c = λ slot.
     let before : IsBefore PageBuffer buffers c.args.cookie _ = rw c.as_slice.ensures.value at c.in_default.ensures in
     let pinned : lowest_slot c.args.self.now.pins c.args.cookie ≡ Some slot → ⊥ =
     λ e.
-        let some : IsSome (get buffers c.args.cookie) = lowest_kept buffers c.self.inside.pins.items c.args.cookie slot c.self.invariant.0.pins (rw (← c.self.view_is) at e) in
-        some_or_none (get buffers c.args.cookie) some (rw before.none refl) in
+    let some : IsSome (get buffers c.args.cookie) = lowest_kept buffers c.self.inside.pins.items c.args.cookie slot c.self.invariant.0.pins (rw (← c.self.view_is) at e) in
+    some_or_none (get buffers c.args.cookie) some (rw before.none refl) in
     (λ wrong. absurd (cc), λ e. absurd (pinned e))
 
 pub returns-in-Some-clause-unknown : goal.returns-in-Some-clause-unknown
@@ -28,7 +28,7 @@ invariant_of-self c =
     let at : IsAt PageBuffer buffers c.args.cookie c.in-Ok.place = rw c.as_slice.ensures.value at c.in-Ok.ensures in
     let free : lowest_slot c.self.inside.pins.items c.args.cookie ≡ None = sym (rw c.as_slice-2.ensures.value at c.in_default-lowest_slot.ensures) in (
       rw (c.remove-cookie.ensures.items, ← at.without)
-      (IsSound-remove buffers c.self.inside.pins.items c.args.cookie c.self.invariant.0 free),
+          (IsSound-remove buffers c.self.inside.pins.items c.args.cookie c.self.invariant.0 free),
       rw c.remove-cookie.ensures.capacity c.self.invariant.1,
       c.self.invariant.2,
     )
