@@ -1,0 +1,25 @@
+-- The definitions on small inputs.
+use Rattle.std.specs.Prelude.{◌≡◌, ℕ, true, false, List, [], ◌∷◌, Some, None, count_by, replicate}
+use Rattle.base.specs.NumberMap.{NumberMap, get, insert}
+use Rattle.ta_params.specs.declared.login.Login.{Login}
+use Rattle.session_table.specs.declared.session.Session.{Session}
+use Rattle.session_table.specs.Session.{reserved_for, opened_with, is_of, is_opened_of}
+use Rattle.session_table.specs.Sessions.{SessionTable, has_room, place_of}
+
+abbrev pub public : Login
+public = record { client = replicate 16 0; kind = 0 }
+
+-- session 1 of client 7 is opened with context 20, and session 3 of client 8 is being opened
+abbrev pub two : NumberMap Session
+two = (1, opened_with (reserved_for 7 public 5) 20) ∷ (3, reserved_for 8 public 5) ∷ []
+
+pub record Examples : Type 0 where
+  pub second : place_of two 3 ≡ Some 1
+  pub absent : place_of two 2 ≡ None
+  pub users : count_by (λ entry. is_of 5 entry.1) two ≡ 2
+  pub opened : count_by (λ entry. is_opened_of 5 entry.1) two ≡ 1
+  pub of_another : count_by (λ entry. is_of 6 entry.1) two ≡ 0
+  pub room : has_room (record { kept = two; next = 4 }) ≡ true
+  pub last_number : has_room (record { kept = two; next = 4294967295 }) ≡ true
+  pub no_number : has_room (record { kept = two; next = 4294967296 }) ≡ false
+  pub full : has_room (record { kept = replicate 64 (1, reserved_for 7 public 5); next = 70 }) ≡ false

@@ -1,0 +1,17 @@
+//! Which sessions there are, and which calls wait for an instance.
+//!
+//! A session ties a client to an instance of a trusted application, from the open that reserves its
+//! number to its close. A call that finds its instance held by another call waits in line for it.
+#![tactic(auto)]
+
+mod examples;
+mod session;
+mod sessions;
+#[cfg(test)]
+mod tests;
+
+pub use base::NoMemory;
+pub use examples::worked_examples;
+pub use session::Session;
+pub use sessions::{MAX_SESSIONS, Sessions, Users};
+pub use ta_params::Login;
