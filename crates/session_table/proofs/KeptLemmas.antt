@@ -1,18 +1,18 @@
 -- Maps as lists of pairs in rising order of their numbers: what stands at a place, and what a change of
 -- the list is to the map.
-use Rattle.std.proofs.Common.{◌≡◌, ℕ, suc, ◌+◌, ◌<◌, ◌≤◌, Bool, true, false, not, cond, ◌&&◌, T, IsTrue, List, [], ◌∷◌, ◌++◌, ◌==◌, nat_lt, length, get_or, set, refl, sym, ap, subst, ◌∙◌, arith, Option, Some, None}
+use Rattle.std.proofs.Common.{◌≡◌, ℕ, suc, ◌+◌, ◌<◌, ◌≤◌, Bool, true, false, not, cond, ◌&&◌, T, [], ◌∷◌, ◌++◌, ◌==◌, nat_lt, length, get_or, set, refl, sym, ap, subst, ◌∙◌, arith, Some, None}
 use Rattle.std.specs.List.{All, filter, find, position, position_or_len, slice_get}
 use Rattle.std.specs.Option.{option_map}
 use Rattle.std.specs.declared.cmp.Ordering.TheVariants.{Less, Equal, Greater}
 use Rattle.std.specs.Ordering.{nat_cmp, eq_by_cmp, is_lt}
 use Rattle.std.specs.FinMap.Entries as Entries
 use Rattle.std.proofs.lemmas.Bool.Decides.{nat_tests}
-use Rattle.std.proofs.lemmas.List.Elements.{All-cons, All-head, All-tail, All-nil, All-filter, All-get_or, All-push, All-set, All-weaker, filter_agree}
+use Rattle.std.proofs.lemmas.List.Elements.{All-cons, All-head, All-tail, All-nil, All-get_or, filter_agree}
 use Rattle.std.proofs.lemmas.List.Folds.{find_at}
 use Rattle.std.proofs.lemmas.List.Sums.{passes_at_first}
 use Rattle.std.proofs.lemmas.Option.{cond_some, slice_get-get_or, slice_get_past}
 use Rattle.std.proofs.lemmas.List.Quantifiers.{position-Some}
-use Rattle.base.specs.NumberMap.{NumberMap, get, insert, remove, IsRising, IsRising-insert, IsRising-remove}
+use Rattle.base.specs.NumberMap.{NumberMap, get, insert, remove, IsRising}
 
 -- the tests of two numbers that maps and searches make are one
 same_test : (k q : ℕ) → eq_by_cmp nat_cmp k q ≡ (q == k)

@@ -1,11 +1,11 @@
 -- What a table keeps to, after each change.
-use Rattle.std.proofs.Common.{◌≡◌, ℕ, suc, ◌+◌, ◌<◌, ◌≤◌, Bool, true, false, not, cond, ◌&&◌, List, [], ◌∷◌, ◌++◌, ◌==◌, nat_lt, length, get_or, set, length-set, Some, refl, sym, ap, subst, ◌∙◌, arith, length-append}
-use Rattle.std.specs.List.{All, filter}
+use Rattle.std.proofs.Common.{◌≡◌, ℕ, ◌+◌, ◌<◌, ◌≤◌, Bool, true, false, not, cond, ◌&&◌, List, [], ◌∷◌, ◌++◌, ◌==◌, nat_lt, length, set, length-set, Some, sym, subst, arith, length-append}
+use Rattle.std.specs.List.{filter}
 use Rattle.std.specs.Ordering.{nat_cmp, eq_by_cmp}
 use Rattle.std.proofs.lemmas.Bool.Decides.{nat_tests}
 use Rattle.std.proofs.lemmas.List.Elements.{All-filter, All-get_or, All-push, All-set, All-weaker}
 use Rattle.std.proofs.lemmas.List.Quantifiers.{position-Some}
-use Rattle.base.specs.NumberMap.{NumberMap, insert, remove, IsRising, IsRising-insert, IsRising-remove}
+use Rattle.base.specs.NumberMap.{NumberMap, remove, IsRising, IsRising-insert, IsRising-remove}
 use Rattle.session_table.specs.declared.session.Session.{Session}
 use Rattle.session_table.specs.Sessions.{SessionTable, IsNumbered, has_room, place_of}
 use Rattle.session_table.proofs.KeptLemmas.{push_is_insert, set_is_insert}

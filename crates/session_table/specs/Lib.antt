@@ -1,3 +1,4 @@
 pub mod Examples
 pub mod Session
 pub mod Sessions
+pub mod Waiters

@@ -9,9 +9,12 @@ mod session;
 mod sessions;
 #[cfg(test)]
 mod tests;
+mod waiters;
 
 pub use base::NoMemory;
 pub use examples::worked_examples;
 pub use session::Session;
 pub use sessions::{MAX_SESSIONS, Sessions, Users};
 pub use ta_params::Login;
+pub use uuid::Uuid;
+pub use waiters::{MAX_WAITERS, Waiter, Waiters};

@@ -57,3 +57,26 @@ fn sixty_four_are_kept(rt: HostRuntime) -> Result<(), Fail> {
     assert_eq!(rt; sessions.users(5), Users { all: 64, opened: 0 });
     Ok(())
 }
+
+#[test]
+fn calls_wait_in_line(rt: HostRuntime) {
+    let (one, two) = (Uuid::NAMESPACE_DNS, Uuid::NAMESPACE_URL);
+    let mut waiters = Waiters::new();
+    assert_eq!(rt; (waiters.first(5), waiters.instance_of(&one)), (None, None));
+    waiters.join(5, one, 2);
+    waiters.join(6, two, 0);
+    waiters.join(6, two, 1);
+    waiters.join(7, one, 15);
+    assert_eq!(rt; (waiters.first(5), waiters.first(6)), (Some(2), Some(0)));
+    assert_eq!(rt;
+        (waiters.instance_of(&one), waiters.instance_of(&two)),
+        (Some(5), Some(6))
+    );
+    waiters.leave(0);
+    assert_eq!(rt; waiters.first(6), Some(1));
+    waiters.leave(2);
+    assert_eq!(rt;
+        (waiters.first(5), waiters.instance_of(&one)),
+        (None, Some(7))
+    );
+}

@@ -1,5 +1,4 @@
-use Rattle.std.proofs.Common.{◌≡◌, ℕ, ◌+◌, ◌==◌, not, ap, sym, ◌∙◌, arith, rules}
-use Rattle.std.specs.List.{filter}
+use Rattle.std.proofs.Common.{◌≡◌, ℕ, ◌+◌, ◌==◌, not, ap, ◌∙◌, arith, rules}
 use Rattle.std.proofs.lemmas.Fn.{filter_same}
 use Rattle.base.specs.NumberMap.{NumberMap, remove}
 use Rattle.session_table.specs.declared.session.Session.{Session}

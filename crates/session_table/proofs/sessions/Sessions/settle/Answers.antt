@@ -1,6 +1,6 @@
-use Rattle.std.proofs.Common.{◌≡◌, ℕ, ◌+◌, ◌≤◌, Option, Some, false, slice_set, ap, sym, subst, ◌∙◌, arith}
+use Rattle.std.proofs.Common.{◌≡◌, ℕ, ◌+◌, Option, Some, false, slice_set, ap, sym, subst, ◌∙◌}
 use Rattle.std.specs.Option.{IsSomeAnd, option_map_or}
-use Rattle.base.specs.NumberMap.{NumberMap, get, insert}
+use Rattle.base.specs.NumberMap.{NumberMap, insert}
 use Rattle.session_table.specs.declared.session.Session.{Session}
 use Rattle.session_table.specs.Session.{opened_with}
 use Rattle.session_table.specs.Sessions.{SessionTable, place_of, settled}
