@@ -1,2 +1,11 @@
 pub mod State
 pub mod Machine
+pub mod Bytes
+pub mod Addresses
+pub mod Parameters
+pub mod Outcome
+pub mod SystemCalls
+pub mod Operations
+pub mod Step
+pub mod Runs
+pub mod Examples

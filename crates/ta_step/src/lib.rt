@@ -3,11 +3,16 @@
 //! The machine, its instructions and its system calls are this project's own.
 #![tactic(auto)]
 
+mod laws;
 mod machine;
 mod memory;
+pub mod panic_code;
+mod ranges;
 mod stop;
 
 pub use base::NoMemory;
+pub use laws::worked_examples;
 pub use machine::{Machine, REGISTERS, STACK_DEPTH};
 pub use memory::{Plain, TaMemory};
+pub use ranges::RANGE;
 pub use stop::{Request, Stop};

@@ -1,0 +1,38 @@
+-- The addresses of a machine. Those of the instance's memory begin at 0, and those of the buffer of
+-- parameter k at 0x10000000 * (k + 1): the highest hexadecimal digit names the range, and the others
+-- the place in it.
+use Rattle.std.specs.Prelude.{ℕ, zero, suc, ◌/◌, ◌%◌, Bool, if◌then◌else◌, List, [], ◌∷◌, length, map, Option, slice_get, slice_index_or}
+use Rattle.ta_step.specs.declared.ranges.TheConstants.{RANGE}
+use Rattle.ta_step.specs.State.{State}
+use Rattle.ta_step.specs.Bytes.{has_bytes, word_at, overwritten}
+use Rattle.ta_step.specs.Parameters.{four, with_param, buffer, with_buffer}
+
+-- the bytes of each range: the instance's memory, then the parameters' buffers
+abbrev pub ranges : State → List (List ℕ)
+ranges s = s.memory ∷ map buffer (four s.params)
+
+-- the machine with other bytes in a range
+abbrev pub with_range : State → ℕ → List ℕ → State
+with_range s zero bytes = record s { memory = bytes }
+with_range s (suc number) bytes =
+    let p = slice_index_or (four s.params) number s.params.p0 in
+    record s { params = with_param s.params number (with_buffer p bytes) }
+
+-- the bytes of the range that an address names, none where it names none
+abbrev pub range_at : State → ℕ → List ℕ
+range_at s addr = slice_index_or (ranges s) (addr / RANGE) []
+
+-- so many bytes from an address on are all in one range
+abbrev pub is_inside : State → ℕ → ℕ → Bool
+is_inside s addr count = has_bytes (range_at s addr) (addr % RANGE) count
+
+abbrev pub load : State → ℕ → Option ℕ
+load s addr = slice_get (range_at s addr) (addr % RANGE)
+
+abbrev pub load_word : State → ℕ → Option ℕ
+load_word s addr = word_at (range_at s addr) (addr % RANGE)
+
+-- the machine with bytes written from an address on, where they are all in one range
+abbrev pub store : State → ℕ → List ℕ → State
+store s addr new =
+    if is_inside s addr (length new) then with_range s (addr / RANGE) (overwritten (range_at s addr) (addr % RANGE) new) else s

@@ -1,0 +1,117 @@
+-- The instructions: what each does, from the instruction and the machine. Sums wrap at 2 ^ 32.
+use Rattle.std.specs.Prelude.{ℕ, ◌+◌, ◌-◌, ◌*◌, ◌/◌, ◌%◌, ◌^◌, ◌==◌, Bool, not, nat_lt, nat_le, if◌then◌else◌, List, [], ◌∷◌, ◌++◌, length, take, Option, Some, None, option_and_then, find, slice_index}
+use Rattle.std.specs.Int.{w32, to_le_bytes}
+use Rattle.std.specs.Int.RustNames.{bit_and, bit_or, bit_xor}
+use Rattle.ta_isa.specs.declared.image.Instr.{Instr}
+use Rattle.ta_step.specs.declared.machine.TheConstants.{STACK_DEPTH}
+use Rattle.ta_step.specs.declared.panic_code.TheConstants.{BAD_ADDRESS, DIVISION_BY_ZERO, BAD_STACK}
+use Rattle.ta_step.specs.State.{State}
+use Rattle.ta_step.specs.Addresses.{is_inside, load, load_word, store}
+use Rattle.ta_step.specs.Outcome.{Outcome, Goes, Returns, Panics, Asks}
+use Rattle.ta_step.specs.SystemCalls.{reg, put, goes_on, system_call_of}
+
+-- on to the instruction of this number
+abbrev pub goes_to : State → ℕ → Outcome
+goes_to s place = Goes (record s { place = place })
+
+abbrev pub constant : Instr → State → Outcome
+constant i s = goes_on (put s i.d i.imm)
+
+abbrev pub move_ : Instr → State → Outcome
+move_ i s = goes_on (put s i.d (reg s i.a))
+
+-- what is made of two registers
+abbrev pub made : (ℕ → ℕ → ℕ) → Instr → State → Outcome
+made f i s = goes_on (put s i.d (f (reg s i.a) (reg s i.b)))
+
+-- what is made of two registers of which the second is not 0
+abbrev pub divided : (ℕ → ℕ → ℕ) → Instr → State → Outcome
+divided f i s = if reg s i.b == 0 then Panics DIVISION_BY_ZERO else made f i s
+
+-- the address that an instruction names
+abbrev pub address : Instr → State → ℕ
+address i s = (reg s i.a + i.imm) % 2 ^ 32
+
+-- on with what was found at an address
+abbrev pub loads : Instr → State → Option ℕ → Outcome
+loads i s None = Panics BAD_ADDRESS
+loads i s (Some value) = goes_on (put s i.d value)
+
+-- on with bytes written to an address
+abbrev pub stores : Instr → State → List ℕ → Outcome
+stores i s bytes =
+    if is_inside s (address i s) (length bytes) then goes_on (store s (address i s) bytes) else Panics BAD_ADDRESS
+
+abbrev pub load_byte_ : Instr → State → Outcome
+load_byte_ i s = loads i s (load s (address i s))
+
+abbrev pub load_word_ : Instr → State → Outcome
+load_word_ i s = loads i s (load_word s (address i s))
+
+abbrev pub store_byte : Instr → State → Outcome
+store_byte i s = stores i s (reg s i.b % 256 ∷ [])
+
+abbrev pub store_word : Instr → State → Outcome
+store_word i s = stores i s (to_le_bytes w32 (reg s i.b))
+
+-- to the target where two registers compare so
+abbrev pub branches : (ℕ → ℕ → Bool) → Instr → State → Outcome
+branches test i s = if test (reg s i.a) (reg s i.b) then goes_to s i.imm else goes_on s
+
+abbrev pub jump : Instr → State → Outcome
+jump i s = goes_to s i.imm
+
+-- to the target, with the next instruction as where to return to
+abbrev pub call : Instr → State → Outcome
+call i s =
+    if nat_lt (length s.stack) STACK_DEPTH
+    then Goes (record s { place = i.imm; stack = s.stack ++ (s.place + 1) ∷ [] })
+    else Panics BAD_STACK
+
+-- back to where the last call goes on
+abbrev pub ret : Instr → State → Outcome
+ret i s =
+    let last = length s.stack - 1 in
+    if length s.stack == 0
+    then Panics BAD_STACK
+    else Goes (record s { place = slice_index s.stack last; stack = take last s.stack })
+
+-- what an instruction does to a machine
+abbrev pub Effect : Type 0
+Effect = State → Outcome
+
+abbrev pub always : (Instr → Effect) → Instr → Option Effect
+always row i = Some (row i)
+
+-- an operation's number, and what an instruction with it does
+abbrev pub operations : List (ℕ × (Instr → Option Effect))
+operations =
+    (0x01, always constant)
+    ∷ (0x02, always move_)
+    ∷ (0x03, always (made (λ a b. (a + b) % 2 ^ 32)))
+    ∷ (0x04, always (made (λ a b. (a + (2 ^ 32 - b)) % 2 ^ 32)))
+    ∷ (0x05, always (made (λ a b. (a * b) % 2 ^ 32)))
+    ∷ (0x06, always (divided (λ a b. a / b)))
+    ∷ (0x07, always (divided (λ a b. a % b)))
+    ∷ (0x08, always (made bit_and))
+    ∷ (0x09, always (made bit_or))
+    ∷ (0x0a, always (made bit_xor))
+    ∷ (0x0b, always (made (λ a b. (a * 2 ^ (b % 32)) % 2 ^ 32)))
+    ∷ (0x0c, always (made (λ a b. a / 2 ^ (b % 32))))
+    ∷ (0x0d, always load_byte_)
+    ∷ (0x0e, always load_word_)
+    ∷ (0x0f, always store_byte)
+    ∷ (0x10, always store_word)
+    ∷ (0x11, always (branches (λ a b. a == b)))
+    ∷ (0x12, always (branches (λ a b. not (a == b))))
+    ∷ (0x13, always (branches nat_lt))
+    ∷ (0x14, always (branches (λ a b. nat_le b a)))
+    ∷ (0x15, always jump)
+    ∷ (0x16, always call)
+    ∷ (0x17, always ret)
+    ∷ (0x18, λ i. system_call_of i.imm)
+    ∷ []
+
+-- what an instruction does, if its operation has a row, and its system call where it is one
+abbrev pub effect_of : Instr → Option Effect
+effect_of i = option_and_then (λ e. e.1 i) (find (λ e. e.0 == i.op) operations)

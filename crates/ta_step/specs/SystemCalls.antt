@@ -1,0 +1,104 @@
+-- The system calls. They take their arguments from the first registers and give their results there.
+use Rattle.std.specs.Prelude.{ℕ, ◌+◌, ◌==◌, Bool, true, false, not, ◌&&◌, if◌then◌else◌, List, [], ◌∷◌, length, Option, Some, None, option_and_then, find, slice_index, slice_set}
+use Rattle.std.specs.Option.{option_map}
+use Rattle.ta_params.specs.declared.copied_params.GpParam.{GpParam}
+use Rattle.ta_params.specs.declared.copied_params.GpParam.TheVariants.{Empty, Value, Memref}
+use Rattle.ta_params.specs.CopiedParams.{type_word}
+use Rattle.ta_step.specs.State.{State}
+use Rattle.ta_step.specs.Parameters.{param_at, with_param, with_value, with_size}
+use Rattle.ta_step.specs.Addresses.{is_inside, store}
+use Rattle.ta_step.specs.Outcome.{Outcome, Goes, Returns, Panics, Asks}
+use Rattle.ta_step.specs.declared.panic_code.TheConstants.{BAD_ADDRESS, BAD_CALL}
+
+-- a register
+abbrev pub reg : State → ℕ → ℕ
+reg s number = slice_index s.registers number
+
+-- the machine with a number in a register
+abbrev pub put : State → ℕ → ℕ → State
+put s number value = record s { registers = slice_set s.registers number value }
+
+-- on to the next instruction
+abbrev pub goes_on : State → Outcome
+goes_on s = Goes (record s { place = s.place + 1 })
+
+abbrev pub bit : Bool → ℕ
+bit b = if b then 1 else 0
+
+abbrev pub returns : State → Outcome
+returns s = Returns (reg s 0) (reg s 1)
+
+abbrev pub panics : State → Outcome
+panics s = Panics (reg s 0)
+
+-- the types of the parameters in one word
+abbrev pub types : State → Outcome
+types s = goes_on (put s 0 (type_word s.params))
+
+abbrev pub gives_value : State → Option GpParam → Outcome
+gives_value s None = Panics BAD_CALL
+gives_value s (Some Empty) = Panics BAD_CALL
+gives_value s (Some (Value way a b)) = goes_on (put (put s 0 a) 1 b)
+gives_value s (Some (Memref way buf size)) = Panics BAD_CALL
+
+-- the two numbers of a value
+abbrev pub value : State → Outcome
+value s = gives_value s (param_at s.params (reg s 0))
+
+abbrev pub gives_size : State → Option GpParam → Outcome
+gives_size s None = Panics BAD_CALL
+gives_size s (Some Empty) = Panics BAD_CALL
+gives_size s (Some (Value way a b)) = Panics BAD_CALL
+gives_size s (Some (Memref way buf size)) = goes_on (put s 0 size)
+
+-- the size of a memory parameter
+abbrev pub size : State → Outcome
+size s = gives_size s (param_at s.params (reg s 0))
+
+-- on with another parameter in the place of the one that r0 names, if there may be another
+abbrev pub changes_param : State → Option GpParam → Outcome
+changes_param s None = Panics BAD_CALL
+changes_param s (Some p) = goes_on (record s { params = with_param s.params (reg s 0) p })
+
+abbrev pub set_value : State → Outcome
+set_value s = changes_param s (option_and_then (λ p. with_value p (reg s 1) (reg s 2)) (param_at s.params (reg s 0)))
+
+abbrev pub set_size : State → Outcome
+set_size s = changes_param s (option_and_then (λ p. with_size p (reg s 1)) (param_at s.params (reg s 0)))
+
+-- the client's UUID to an address, and how it logged in
+abbrev pub login : State → Outcome
+login s =
+    if is_inside s (reg s 0) (length s.login.client)
+    then goes_on (put (store s (reg s 0) s.login.client) 0 s.login.kind)
+    else Panics BAD_ADDRESS
+
+-- the flag is set, and the application is to be told
+abbrev pub is_cancelled : State → Bool
+is_cancelled s = s.cancelled && not s.masked
+
+abbrev pub cancelled : State → Outcome
+cancelled s = goes_on (put s 0 (bit (is_cancelled s)))
+
+-- masks or unmasks, and gives the old mask
+abbrev pub masks : Bool → State → Outcome
+masks masked s = goes_on (record (put s 0 (bit s.masked)) { masked = masked })
+
+abbrev pub system_calls : List (ℕ × (State → Outcome))
+system_calls =
+    (0, returns)
+    ∷ (1, panics)
+    ∷ (2, types)
+    ∷ (3, value)
+    ∷ (4, set_value)
+    ∷ (5, size)
+    ∷ (6, set_size)
+    ∷ (7, login)
+    ∷ (8, cancelled)
+    ∷ (9, masks true)
+    ∷ (10, masks false)
+    ∷ []
+
+-- what a system call does, if there is one of this number
+abbrev pub system_call_of : ℕ → Option (State → Outcome)
+system_call_of number = option_map (λ e. e.1) (find (λ e. e.0 == number) system_calls)
