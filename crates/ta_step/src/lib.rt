@@ -11,7 +11,7 @@ mod ranges;
 mod stop;
 
 pub use base::NoMemory;
-pub use laws::worked_examples;
+pub use laws::{sum_of_grants, worked_examples};
 pub use machine::{Machine, REGISTERS, STACK_DEPTH};
 pub use memory::{Plain, TaMemory};
 pub use ranges::RANGE;
