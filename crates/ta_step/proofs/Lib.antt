@@ -1,1 +1,4 @@
 pub mod Grants
+pub mod Present
+pub mod Words
+pub mod Overwritten

@@ -1,10 +1,10 @@
 -- The addresses of a machine. Those of the instance's memory begin at 0, and those of the buffer of
 -- parameter k at 0x10000000 * (k + 1): the highest hexadecimal digit names the range, and the others
 -- the place in it.
-use Rattle.std.specs.Prelude.{ℕ, zero, suc, ◌/◌, ◌%◌, Bool, if◌then◌else◌, List, [], ◌∷◌, length, map, Option, slice_get, slice_index_or}
-use Rattle.ta_step.specs.declared.ranges.TheConstants.{RANGE}
+use Rattle.std.specs.Prelude.{ℕ, zero, suc, ◌/◌, ◌%◌, Bool, List, [], ◌∷◌, length, map, Option, slice_get, slice_index_or}
+use Rattle.ta_step.specs.declared.addresses.TheConstants.{RANGE}
 use Rattle.ta_step.specs.State.{State}
-use Rattle.ta_step.specs.Bytes.{has_bytes, word_at, overwritten}
+use Rattle.ta_step.specs.Bytes.{has_bytes, word_at, written}
 use Rattle.ta_step.specs.Parameters.{four, with_param, buffer, with_buffer}
 
 -- the bytes of each range: the instance's memory, then the parameters' buffers
@@ -34,5 +34,4 @@ load_word s addr = word_at (range_at s addr) (addr % RANGE)
 
 -- the machine with bytes written from an address on, where they are all in one range
 abbrev pub store : State → ℕ → List ℕ → State
-store s addr new =
-    if is_inside s addr (length new) then with_range s (addr / RANGE) (overwritten (range_at s addr) (addr % RANGE) new) else s
+store s addr new = with_range s (addr / RANGE) (written (range_at s addr) (addr % RANGE) new)

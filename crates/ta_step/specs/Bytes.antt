@@ -13,3 +13,7 @@ word_at bytes place = if has_bytes bytes place 4 then Some (from_le_bytes w32 (d
 -- the bytes with others written over them from a place on
 abbrev pub overwritten : List ℕ → ℕ → List ℕ → List ℕ
 overwritten bytes place new = take place bytes ++ new ++ drop (place + length new) bytes
+
+-- the same where they are all there, and else the bytes as they are
+abbrev pub written : List ℕ → ℕ → List ℕ → List ℕ
+written bytes place new = if has_bytes bytes place (length new) then overwritten bytes place new else bytes

@@ -3,16 +3,18 @@
 //! The machine, its instructions and its system calls are this project's own.
 #![tactic(auto)]
 
+mod access;
+mod addresses;
 mod laws;
 mod machine;
 mod memory;
+mod parameters;
 pub mod panic_code;
-mod ranges;
 mod stop;
 
+pub use addresses::RANGE;
 pub use base::NoMemory;
 pub use laws::{sum_of_grants, worked_examples};
 pub use machine::{Machine, REGISTERS, STACK_DEPTH};
 pub use memory::{Plain, TaMemory};
-pub use ranges::RANGE;
 pub use stop::{Request, Stop};
