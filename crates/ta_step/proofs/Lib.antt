@@ -2,3 +2,4 @@ pub mod Grants
 pub mod Present
 pub mod Words
 pub mod Overwritten
+pub mod RangeLemmas

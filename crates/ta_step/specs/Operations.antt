@@ -24,57 +24,69 @@ move_ i s = goes_on (put s i.d (reg s i.a))
 abbrev pub made : (ℕ → ℕ → ℕ) → Instr → State → Outcome
 made f i s = goes_on (put s i.d (f (reg s i.a) (reg s i.b)))
 
--- what is made of two registers of which the second is not 0
+-- on with a quotient or a remainder in a register, where the divisor is not 0
+abbrev pub divided_by : State → ℕ → ℕ → ℕ → Outcome
+divided_by s divisor number value = if divisor == 0 then Panics DIVISION_BY_ZERO else goes_on (put s number value)
+
 abbrev pub divided : (ℕ → ℕ → ℕ) → Instr → State → Outcome
-divided f i s = if reg s i.b == 0 then Panics DIVISION_BY_ZERO else made f i s
+divided f i s = divided_by s (reg s i.b) i.d (f (reg s i.a) (reg s i.b))
 
 -- the address that an instruction names
 abbrev pub address : Instr → State → ℕ
 address i s = (reg s i.a + i.imm) % 2 ^ 32
 
--- on with what was found at an address
-abbrev pub loads : Instr → State → Option ℕ → Outcome
-loads i s None = Panics BAD_ADDRESS
-loads i s (Some value) = goes_on (put s i.d value)
+-- on with what was found at an address, in a register
+abbrev pub loaded : State → ℕ → Option ℕ → Outcome
+loaded s number None = Panics BAD_ADDRESS
+loaded s number (Some value) = goes_on (put s number value)
 
 -- on with bytes written to an address
-abbrev pub stores : Instr → State → List ℕ → Outcome
-stores i s bytes =
-    if is_inside s (address i s) (length bytes) then goes_on (store s (address i s) bytes) else Panics BAD_ADDRESS
+abbrev pub stored : State → ℕ → List ℕ → Outcome
+stored s addr bytes = if is_inside s addr (length bytes) then goes_on (store s addr bytes) else Panics BAD_ADDRESS
 
 abbrev pub load_byte_ : Instr → State → Outcome
-load_byte_ i s = loads i s (load s (address i s))
+load_byte_ i s = loaded s i.d (load s (address i s))
 
 abbrev pub load_word_ : Instr → State → Outcome
-load_word_ i s = loads i s (load_word s (address i s))
+load_word_ i s = loaded s i.d (load_word s (address i s))
 
 abbrev pub store_byte : Instr → State → Outcome
-store_byte i s = stores i s (reg s i.b % 256 ∷ [])
+store_byte i s = stored s (address i s) (reg s i.b % 256 ∷ [])
 
 abbrev pub store_word : Instr → State → Outcome
-store_word i s = stores i s (to_le_bytes w32 (reg s i.b))
+store_word i s = stored s (address i s) (to_le_bytes w32 (reg s i.b))
+
+-- to the target, or on
+abbrev pub branched : State → Bool → ℕ → Outcome
+branched s taken target = if taken then goes_to s target else goes_on s
 
 -- to the target where two registers compare so
 abbrev pub branches : (ℕ → ℕ → Bool) → Instr → State → Outcome
-branches test i s = if test (reg s i.a) (reg s i.b) then goes_to s i.imm else goes_on s
+branches test i s = branched s (test (reg s i.a) (reg s i.b)) i.imm
 
 abbrev pub jump : Instr → State → Outcome
 jump i s = goes_to s i.imm
 
 -- to the target, with the next instruction as where to return to
-abbrev pub call : Instr → State → Outcome
-call i s =
+abbrev pub called : State → ℕ → Outcome
+called s target =
     if nat_lt (length s.stack) STACK_DEPTH
-    then Goes (record s { place = i.imm; stack = s.stack ++ (s.place + 1) ∷ [] })
+    then Goes (record s { place = target; stack = s.stack ++ (s.place + 1) ∷ [] })
     else Panics BAD_STACK
 
+abbrev pub call : Instr → State → Outcome
+call i s = called s i.imm
+
 -- back to where the last call goes on
-abbrev pub ret : Instr → State → Outcome
-ret i s =
+abbrev pub returned : State → Outcome
+returned s =
     let last = length s.stack - 1 in
     if length s.stack == 0
     then Panics BAD_STACK
     else Goes (record s { place = slice_index s.stack last; stack = take last s.stack })
+
+abbrev pub ret : Instr → State → Outcome
+ret i s = returned s
 
 -- what an instruction does to a machine
 abbrev pub Effect : Type 0

@@ -1,3 +1,67 @@
+//! The addresses of a machine: which bytes stand where.
+ghost use Rattle.std.specs.Prelude.{◌≡◌, ◌+◌, ◌^◌, ◌<◌, ◌≤◌, [], ◌∷◌, length};
+ghost use Rattle.ta_step.specs.Addresses.{is_inside, load, load_word, store};
+ghost use Rattle.ta_step.specs.Machine.{state_of};
+
+use crate::access;
+use crate::machine::Machine;
+use crate::memory::TaMemory;
+use crate::parameters;
+
 /// How far apart the ranges of addresses begin: the instance's memory at 0, and the buffer of parameter k
 /// at `RANGE * (k + 1)`.
 pub const RANGE: u32 = 0x1000_0000;
+
+impl<M: TaMemory> Machine<M> {
+    /// The byte at an address of the instance's memory or of a parameter's buffer, or `None` where the
+    /// address is in none of them.
+    #[tactic(auto, using(crate::proofs::RangeLemmas::ranges_of_addresses))]
+    pub fn load(&self, addr: u32) -> Option<u8>
+        ensures { result ≡ load (state_of M.bytes self.now) addr }
+    {
+        let place = addr % RANGE;
+        match addr / RANGE {
+            0 => self.memory.load(place),
+            number => parameters::load(parameters::param_at(&self.params, number - 1)?, place),
+        }
+    }
+
+    /// Writes the byte at an address and no other, or answers `false` where the address is in no range.
+    pub fn store(&mut self, addr: u32, value: u8) -> bool
+        ensures found { result ≡ is_inside (state_of M.bytes self.old) addr 1 }
+        ensures state { state_of M.bytes self.new ≡ store (state_of M.bytes self.old) addr (value ∷ []) }
+    {
+        self.write(addr, &[value])
+    }
+
+    /// The word from an address on, its lowest byte first, if its four bytes are all in one range.
+    #[tactic(auto, using(crate::proofs::RangeLemmas::ranges_of_addresses))]
+    pub(crate) fn word_at(&self, addr: u32) -> Option<u32>
+        ensures { result ≡ load_word (state_of M.bytes self.now) addr }
+    {
+        let place = addr % RANGE;
+        match addr / RANGE {
+            0 => access::load_word(&self.memory, place),
+            number => parameters::load_word(parameters::param_at(&self.params, number - 1)?, place),
+        }
+    }
+
+    /// Writes bytes from an address on, or answers `false` where they are not all in one range.
+    #[tactic(auto, using(crate::proofs::RangeLemmas::ranges_of_addresses))]
+    pub(crate) fn write(&mut self, addr: u32, bytes: &[u8]) -> bool
+        requires some { 0 < length bytes.now }
+        requires few { length bytes.now ≤ 16 }
+        ensures inside { result ≡ is_inside (state_of M.bytes self.old) addr (length bytes.now) }
+        ensures state { state_of M.bytes self.new ≡ store (state_of M.bytes self.old) addr bytes.now }
+    {
+        let place = addr % RANGE;
+        match addr / RANGE {
+            0 => access::write_bytes(&mut self.memory, place, bytes),
+            1 => parameters::write(&mut self.params.p0, place, bytes),
+            2 => parameters::write(&mut self.params.p1, place, bytes),
+            3 => parameters::write(&mut self.params.p2, place, bytes),
+            4 => parameters::write(&mut self.params.p3, place, bytes),
+            _ => false,
+        }
+    }
+}

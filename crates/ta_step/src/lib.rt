@@ -5,6 +5,7 @@
 
 mod access;
 mod addresses;
+mod execute;
 mod laws;
 mod machine;
 mod memory;

@@ -1,0 +1,139 @@
+//! What each instruction does.
+ghost use Rattle.std.specs.Prelude.{◌≡◌, ◌+◌, ◌/◌, ◌%◌, ◌^◌, ◌<◌, ◌≤◌, length};
+ghost use Rattle.ta_step.specs.Addresses.{load};
+ghost use Rattle.ta_step.specs.Machine.{state_of};
+ghost use Rattle.ta_step.specs.Operations.{branched, called, divided_by, goes_to, loaded, returned, stored};
+ghost use Rattle.ta_step.specs.Outcome.{Leads};
+ghost use Rattle.ta_step.specs.SystemCalls.{goes_on, put, reg};
+
+use crate::machine::Machine;
+use crate::memory::TaMemory;
+use crate::panic_code::{BAD_ADDRESS, BAD_STACK, DIVISION_BY_ZERO};
+use crate::stop::Stop;
+
+impl<M: TaMemory> Machine<M> {
+    pub(crate) fn register(&self, number: u8) -> u32
+        requires { number < 16 }
+        ensures { result ≡ reg (state_of M.bytes self.now) number }
+    {
+        self.registers[number as usize]
+    }
+
+    /// Puts a number into a register and goes on to the next instruction.
+    pub(crate) fn put(&mut self, number: u8, value: u32) -> Result<(), Stop>
+        requires register { number < 16 }
+        requires place { (state_of M.bytes self.old).place + 1 < 2 ^ 32 }
+        ensures { let old = state_of M.bytes self.old in
+            Leads old (goes_on (put old number value)) result (state_of M.bytes self.new) }
+    {
+        self.registers[number as usize] = value;
+        self.place += 1;
+        Ok(())
+    }
+
+    /// Puts the quotient of two numbers into a register.
+    fn divide(&mut self, number: u8, dividend: u32, divisor: u32) -> Result<(), Stop>
+        requires register { number < 16 }
+        requires place { (state_of M.bytes self.old).place + 1 < 2 ^ 32 }
+        ensures { let old = state_of M.bytes self.old in
+            Leads old (divided_by old divisor number (dividend / divisor)) result (state_of M.bytes self.new) }
+    {
+        if divisor == 0 {
+            return Err(Stop::Panicked(DIVISION_BY_ZERO));
+        }
+        self.put(number, dividend / divisor)
+    }
+
+    /// Puts the remainder of two numbers into a register.
+    fn remain(&mut self, number: u8, dividend: u32, divisor: u32) -> Result<(), Stop>
+        requires register { number < 16 }
+        requires place { (state_of M.bytes self.old).place + 1 < 2 ^ 32 }
+        ensures { let old = state_of M.bytes self.old in
+            Leads old (divided_by old divisor number (dividend % divisor)) result (state_of M.bytes self.new) }
+    {
+        if divisor == 0 {
+            return Err(Stop::Panicked(DIVISION_BY_ZERO));
+        }
+        self.put(number, dividend % divisor)
+    }
+
+    /// Puts what was found at an address, if anything was, into a register.
+    fn put_loaded(&mut self, number: u8, found: Option<u32>) -> Result<(), Stop>
+        requires register { number < 16 }
+        requires place { (state_of M.bytes self.old).place + 1 < 2 ^ 32 }
+        ensures { let old = state_of M.bytes self.old in
+            Leads old (loaded old number found) result (state_of M.bytes self.new) }
+    {
+        match found {
+            None => Err(Stop::Panicked(BAD_ADDRESS)),
+            Some(value) => self.put(number, value),
+        }
+    }
+
+    /// The byte at an address, widened with zeros.
+    fn widened_byte(&self, addr: u32) -> Option<u32>
+        ensures { result ≡ load (state_of M.bytes self.now) addr }
+    {
+        let byte = self.load(addr)?;
+        Some(u32::from(byte))
+    }
+
+    /// Writes bytes to an address.
+    fn put_stored(&mut self, addr: u32, bytes: &[u8]) -> Result<(), Stop>
+        requires some { 0 < length bytes.now }
+        requires few { length bytes.now ≤ 16 }
+        requires place { (state_of M.bytes self.old).place + 1 < 2 ^ 32 }
+        ensures { let old = state_of M.bytes self.old in
+            Leads old (stored old addr bytes.now) result (state_of M.bytes self.new) }
+    {
+        if !self.write(addr, bytes) {
+            return Err(Stop::Panicked(BAD_ADDRESS));
+        }
+        self.place += 1;
+        Ok(())
+    }
+
+    /// Goes to a target, or on to the next instruction.
+    fn branch(&mut self, taken: bool, target: u32) -> Result<(), Stop>
+        requires place { (state_of M.bytes self.old).place + 1 < 2 ^ 32 }
+        ensures { let old = state_of M.bytes self.old in
+            Leads old (branched old taken target) result (state_of M.bytes self.new) }
+    {
+        self.place = if taken { target } else { self.place + 1 };
+        Ok(())
+    }
+
+    fn jump(&mut self, target: u32) -> Result<(), Stop>
+        ensures { let old = state_of M.bytes self.old in
+            Leads old (goes_to old target) result (state_of M.bytes self.new) }
+    {
+        self.place = target;
+        Ok(())
+    }
+
+    fn call(&mut self, target: u32) -> Result<(), Stop>
+        requires place { (state_of M.bytes self.old).place + 1 < 2 ^ 32 }
+        ensures { let old = state_of M.bytes self.old in
+            Leads old (called old target) result (state_of M.bytes self.new) }
+    {
+        if self.stack.is_full() {
+            return Err(Stop::Panicked(BAD_STACK));
+        }
+        self.stack.push(self.place + 1);
+        self.place = target;
+        Ok(())
+    }
+
+    fn ret(&mut self) -> Result<(), Stop>
+        ensures { let old = state_of M.bytes self.old in
+            Leads old (returned old) result (state_of M.bytes self.new) }
+    {
+        match self.stack.pop() {
+            None => Err(Stop::Panicked(BAD_STACK)),
+            Some(place) => {
+                self.place = place;
+                Ok(())
+            }
+        }
+    }
+}
