@@ -1,8 +1,9 @@
 //! What each instruction does.
-ghost use Rattle.std.specs.Prelude.{◌≡◌, ◌+◌, ◌/◌, ◌%◌, ◌^◌, ◌<◌, ◌≤◌, length};
+ghost use Rattle.std.specs.Prelude.{◌≡◌, ◌+◌, ◌/◌, ◌%◌, ◌^◌, ◌<◌, ◌≤◌, length, IsSome, IfSome};
+ghost use Rattle.ta_isa.specs.InstructionTable.{HasFields};
 ghost use Rattle.ta_step.specs.Addresses.{load};
 ghost use Rattle.ta_step.specs.Machine.{state_of};
-ghost use Rattle.ta_step.specs.Operations.{branched, called, divided_by, goes_to, loaded, returned, stored};
+ghost use Rattle.ta_step.specs.Operations.{branched, called, divided_by, effect_of, goes_to, loaded, returned, stored};
 ghost use Rattle.ta_step.specs.Outcome.{Leads};
 ghost use Rattle.ta_step.specs.SystemCalls.{goes_on, put, reg};
 
@@ -10,6 +11,7 @@ use crate::machine::Machine;
 use crate::memory::TaMemory;
 use crate::panic_code::{BAD_ADDRESS, BAD_STACK, DIVISION_BY_ZERO};
 use crate::stop::Stop;
+use ta_isa::Instr;
 
 impl<M: TaMemory> Machine<M> {
     pub(crate) fn register(&self, number: u8) -> u32
@@ -134,6 +136,46 @@ impl<M: TaMemory> Machine<M> {
                 self.place = place;
                 Ok(())
             }
+        }
+    }
+
+    /// Does what an instruction says.
+    pub(crate) fn execute(&mut self, instr: Instr) -> Result<(), Stop>
+        requires fields { HasFields instr }
+        requires known { IsSome (effect_of instr) }
+        requires place { (state_of M.bytes self.old).place + 1 < 2 ^ 32 }
+        ensures { let old = state_of M.bytes self.old in
+            IfSome (effect_of instr) (λ effect. Leads old (effect old) result (state_of M.bytes self.new)) }
+    {
+        let a = self.register(instr.a);
+        let b = self.register(instr.b);
+        let addr = a.wrapping_add(instr.imm);
+        match instr.op {
+            0x01 => self.put(instr.d, instr.imm),
+            0x02 => self.put(instr.d, a),
+            0x03 => self.put(instr.d, a.wrapping_add(b)),
+            0x04 => self.put(instr.d, a.wrapping_sub(b)),
+            0x05 => self.put(instr.d, a.wrapping_mul(b)),
+            0x06 => self.divide(instr.d, a, b),
+            0x07 => self.remain(instr.d, a, b),
+            0x08 => self.put(instr.d, a & b),
+            0x09 => self.put(instr.d, a | b),
+            0x0a => self.put(instr.d, a ^ b),
+            0x0b => self.put(instr.d, a.wrapping_shl(b)),
+            0x0c => self.put(instr.d, a.wrapping_shr(b)),
+            0x0d => self.put_loaded(instr.d, self.widened_byte(addr)),
+            0x0e => self.put_loaded(instr.d, self.word_at(addr)),
+            0x0f => self.put_stored(addr, &[(b % 256) as u8]),
+            0x10 => self.put_stored(addr, &b.to_le_bytes()),
+            0x11 => self.branch(a == b, instr.imm),
+            0x12 => self.branch(a != b, instr.imm),
+            0x13 => self.branch(a < b, instr.imm),
+            0x14 => self.branch(a >= b, instr.imm),
+            0x15 => self.jump(instr.imm),
+            0x16 => self.call(instr.imm),
+            0x17 => self.ret(),
+            0x18 => self.system_call(instr.imm),
+            _ => unreachable!(),
         }
     }
 }

@@ -12,6 +12,7 @@ mod memory;
 mod parameters;
 pub mod panic_code;
 mod stop;
+mod system_calls;
 
 pub use addresses::RANGE;
 pub use base::NoMemory;
