@@ -10,7 +10,7 @@ use Rattle.ta_step.specs.Outcome.{Outcome, Goes, Returns, Panics, Asks}
 use Rattle.ta_step.specs.Step.{step}
 use Rattle.ta_step.specs.Runs.{Ran, later, continued, runs, granted_again, runs_twice}
 
-later-zero : (ran : Option Ran) → option_map (later 0) ran ≡ ran
+pub later-zero : (ran : Option Ran) → option_map (later 0) ran ≡ ran
 later-zero None = refl
 later-zero (Some ran) = ap (λ (k : ℕ). Some (record ran { steps = k })) (zero-add ran.steps)
 
@@ -29,8 +29,8 @@ and_then-later code n None = refl
 and_then-later code n (Some ran) = again-later code n ran.stop ran
 
 continued-twice : (code : List Instr) (m n : ℕ) (s : State) (o : Option Outcome)
-  → ((t : State) → runs code (m + n) t ≡ runs_twice code m n t)
-  → option_and_then (continued (runs code (m + n)) s) o
+    → ((t : State) → runs code (m + n) t ≡ runs_twice code m n t)
+    → option_and_then (continued (runs code (m + n)) s) o
     ≡ option_and_then (λ r. granted_again code n r.stop r) (option_and_then (continued (runs code m) s) o)
 continued-twice code m n s None twice = refl
 continued-twice code m n s (Some (Goes next)) twice = ap (option_map (later 1)) (twice next) ∙ and_then-later code n (runs code m next)

@@ -3,3 +3,5 @@ pub mod Present
 pub mod Words
 pub mod Overwritten
 pub mod RangeLemmas
+pub mod EffectLemmas
+pub mod RunLemmas

@@ -5,7 +5,7 @@ use Rattle.std.proofs.lemmas.List.{drop_more, take_more, length-take}
 use Rattle.ta_step.specs.Bytes.{overwritten}
 
 seam : (front xs : List ℕ) (at byte : ℕ) → length front ≡ at → at < length xs
-  → set (front ++ drop at xs) at byte ≡ (front ++ byte ∷ []) ++ drop (at + 1) xs
+    → set (front ++ drop at xs) at byte ≡ (front ++ byte ∷ []) ++ drop (at + 1) xs
 seam front xs at byte e lt =
     ap (λ (t : List ℕ). set (front ++ t) at byte) (drop_more xs at 0 lt)
     ∙ ap (λ (k : ℕ). set (front ++ (get_or xs at 0 ∷ drop (at + 1) xs)) k byte) (sym e)
@@ -13,8 +13,8 @@ seam front xs at byte e lt =
     ∙ sym (append_assoc front (byte ∷ []) (drop (at + 1) xs))
 
 pub one_more : (xs all : List ℕ) (place number at byte : ℕ) → at ≡ place + number → number < length all
-  → place + length all ≤ length xs → byte ≡ get_or all number 0
-  → set (overwritten xs place (take number all)) at byte ≡ overwritten xs place (take (number + 1) all)
+    → place + length all ≤ length xs → byte ≡ get_or all number 0
+    → set (overwritten xs place (take number all)) at byte ≡ overwritten xs place (take (number + 1) all)
 one_more xs all place number at byte e lt fits is =
     let so_far : length (take number all) ≡ number = omega (arith, length-take number all) in
     let then : length (take (number + 1) all) ≡ number + 1 = omega (arith, length-take (number + 1) all) in
@@ -27,6 +27,6 @@ one_more xs all place number at byte e lt fits is =
     ∙ seam (take place xs ++ take number all) xs at byte long within
     ∙ ap (λ (k : ℕ). ((take place xs ++ take number all) ++ byte ∷ []) ++ drop k xs) next
     ∙ ap (λ (t : List ℕ). t ++ drop (place + length (take (number + 1) all)) xs)
-      (append_assoc (take place xs) (take number all) (byte ∷ [])
-        ∙ ap (λ (t : List ℕ). take place xs ++ t)
-          (ap (λ (b : ℕ). take number all ++ b ∷ []) is ∙ sym (take_more all number 0 lt)))
+    (append_assoc (take place xs) (take number all) (byte ∷ [])
+    ∙ ap (λ (t : List ℕ). take place xs ++ t)
+    (ap (λ (b : ℕ). take number all ++ b ∷ []) is ∙ sym (take_more all number 0 lt)))

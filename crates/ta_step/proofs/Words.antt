@@ -20,8 +20,8 @@ byte_at : (xs : List ℕ) (place k b : ℕ) → slice_get xs (place + k) ≡ Som
 byte_at xs place k b e = get_or-drop place xs k 0 ∙ get_or_from_slice_get xs (place + k) b 0 e
 
 pub word_found : (xs : List ℕ) (place b0 b1 b2 b3 : ℕ) → slice_get xs place ≡ Some b0 → slice_get xs (place + 1) ≡ Some b1
-  → slice_get xs (place + 2) ≡ Some b2 → slice_get xs (place + 3) ≡ Some b3
-  → word_at xs place ≡ Some (from_le_bytes w32 (b0 ∷ b1 ∷ b2 ∷ b3 ∷ []))
+    → slice_get xs (place + 2) ≡ Some b2 → slice_get xs (place + 3) ≡ Some b3
+    → word_at xs place ≡ Some (from_le_bytes w32 (b0 ∷ b1 ∷ b2 ∷ b3 ∷ []))
 word_found xs place b0 b1 b2 b3 e0 e1 e2 e3 =
     let same : place + 0 ≡ place = omega arith in
     let first : slice_get xs (place + 0) ≡ Some b0 = ap (λ (k : ℕ). slice_get xs k) same ∙ e0 in

@@ -3,10 +3,9 @@ ghost use Rattle.std.specs.Prelude.{◌≡◌, ◌+◌, ◌^◌, ◌<◌, ◌≤
 ghost use Rattle.ta_step.specs.Addresses.{is_inside, load, load_word, store};
 ghost use Rattle.ta_step.specs.Machine.{state_of};
 
-use crate::access;
 use crate::machine::Machine;
 use crate::memory::TaMemory;
-use crate::parameters;
+use crate::{access, parameters};
 
 /// How far apart the ranges of addresses begin: the instance's memory at 0, and the buffer of parameter k
 /// at `RANGE * (k + 1)`.

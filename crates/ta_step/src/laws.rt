@@ -1,18 +1,24 @@
 //! What holds of the definitions themselves.
-ghost use Rattle.std.specs.Prelude.{◌≡◌, ℕ, ◌+◌, List};
+ghost use Rattle.std.specs.Prelude.{◌≡◌, ℕ, ◌+◌, List, IsSome};
+ghost use Rattle.ta_isa.specs.declared.image.Image.{Image as AnyImage};
 ghost use Rattle.ta_isa.specs.declared.image.Instr.{Instr as AnyInstr};
+ghost use Rattle.ta_isa.specs.Spelling.{IsValid};
 ghost use Rattle.ta_step.specs.Examples.{Examples};
 ghost use Rattle.ta_step.specs.Runs.{runs, runs_twice};
 ghost use Rattle.ta_step.specs.State.{State};
+ghost use Rattle.ta_step.specs.Step.{step};
 
 /// Two grants of steps, one after the other, are one grant of their sum.
 pub fn sum_of_grants()
     ensures { (code : List AnyInstr) (m n : ℕ) (s : State) → runs code (m + n) s ≡ runs_twice code m n s }
-{
-}
+{}
+
+/// A machine whose image is valid comes to one outcome at each step.
+pub fn one_outcome()
+    ensures { (image : AnyImage) (s : State) → IsValid image → IsSome (step image.code s) }
+{}
 
 /// Examples of the definitions, worked out by hand.
 pub fn worked_examples()
     ensures { Examples }
-{
-}
+{}

@@ -9,14 +9,15 @@ mod execute;
 mod laws;
 mod machine;
 mod memory;
-mod parameters;
 pub mod panic_code;
+mod parameters;
+mod run;
 mod stop;
 mod system_calls;
 
 pub use addresses::RANGE;
 pub use base::NoMemory;
-pub use laws::{sum_of_grants, worked_examples};
+pub use laws::{one_outcome, sum_of_grants, worked_examples};
 pub use machine::{Machine, REGISTERS, STACK_DEPTH};
 pub use memory::{Plain, TaMemory};
 pub use stop::{Request, Stop};

@@ -10,4 +10,4 @@ returns-in_ok-param_at-in_default g c =
     let behind : 0 < c.args.addr / RANGE = omega arith in
     c.load_word-in_default.ensures
     ∙ ap (λ (bytes : List ℕ). word_at bytes (c.args.addr % RANGE))
-      (sym (in_buffer (state_of g.M.TaMemory.bytes c.args.self.now) (c.args.addr / RANGE) _ behind (sym c.in_ok-param_at-in_default.ensures)))
+    (sym (in_buffer (state_of g.M.TaMemory.bytes c.args.self.now) (c.args.addr / RANGE) _ behind (sym c.in_ok-param_at-in_default.ensures)))
