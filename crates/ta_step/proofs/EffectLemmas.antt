@@ -1,5 +1,5 @@
 -- An instruction that an image may have does something: each has a row, and each system call too.
-use Rattle.std.proofs.Common.{◌≡◌, ℕ, zero, suc, ◌≤◌, ◌<◌, ◌^◌, Bool, true, false, List, [], ◌∷◌, length, Option, Some, None, refl, ap, sym, subst, ◌∙◌, arith}
+use Rattle.std.proofs.Common.{◌≡◌, ℕ, zero, suc, ◌≤◌, ◌<◌, ◌^◌, Bool, true, false, List, [], ◌∷◌, length, Option, Some, None, refl, ap, sym, subst, arith}
 use Rattle.std.specs.Prelude.{◌==◌, ◌&&◌, if◌then◌else◌, find, slice_get, IsSome, option_and_then, All, nat_le}
 use Rattle.std.specs.Option.{option_map, option_map_or}
 use Rattle.std.proofs.lemmas.Bool.{and_parts, leb-true}
@@ -7,15 +7,14 @@ use Rattle.std.proofs.lemmas.Option.{get_or_from_slice_get, slice_get_within}
 use Rattle.ta_isa.specs.declared.image.Instr.{Instr}
 use Rattle.ta_isa.specs.declared.image.Image.{Image}
 use Rattle.ta_isa.specs.declared.row.Row.{Row}
-use Rattle.ta_isa.specs.declared.row.Operand.TheVariants.{Unused, Register}
+use Rattle.ta_isa.specs.declared.row.Operand.TheVariants.{Unused}
 use Rattle.ta_isa.specs.declared.row.Immediate.TheVariants as immediate
-use Rattle.ta_isa.specs.InstructionTable.{HasFields, row, is_operand, is_immediate, follows_row, row_of, is_instruction, instruction_table}
+use Rattle.ta_isa.specs.InstructionTable.{HasFields, row, is_operand, follows_row, is_instruction, instruction_table}
 use Rattle.ta_isa.specs.Spelling.{IsValid}
 use Rattle.ta_isa.proofs.Instructions.{is_instruction-fields}
 use Rattle.ta_step.specs.State.{State}
 use Rattle.ta_step.specs.SystemCalls.{system_call_of}
 use Rattle.ta_step.specs.Operations.{Effect, operations, effect_of}
-use Rattle.ta_step.specs.Outcome.{Outcome}
 use Rattle.ta_step.specs.Step.{step, outcome_of}
 
 system_call-IsSome : (n : ℕ) → n ≤ 10 → IsSome (system_call_of n)

@@ -1,13 +1,10 @@
 -- Which range an address names.
-use Rattle.std.proofs.Common.{◌≡◌, ℕ, zero, suc, ◌+◌, ◌-◌, ◌/◌, ◌%◌, ◌<◌, ◌≤◌, Bool, true, false, List, [], ◌∷◌, length, Option, Some, None, refl, ap, sym, ◌∙◌, arith, subst, get_or}
+use Rattle.std.proofs.Common.{◌≡◌, ℕ, zero, suc, ◌-◌, ◌<◌, List, [], ◌∷◌, Some, None, refl, ap, ◌∙◌, arith, get_or}
 use Rattle.std.specs.Prelude.{slice_get, map, slice_index_or}
-use Rattle.std.proofs.lemmas.Bool.Decides.{nat_tests}
 use Rattle.ta_params.specs.declared.copied_params.GpParam.{GpParam}
-use Rattle.ta_params.specs.declared.copied_params.CopiedParams.{CopiedParams}
 use Rattle.ta_step.specs.State.{State}
-use Rattle.ta_step.specs.Bytes.{has_bytes, written}
 use Rattle.ta_step.specs.Parameters.{four, param_at, buffer}
-use Rattle.ta_step.specs.Addresses.{ranges, range_at, with_range}
+use Rattle.ta_step.specs.Addresses.{ranges}
 
 bytes_of : (s : State) (number : ℕ) → List ℕ
 bytes_of s number = slice_index_or (ranges s) number []

@@ -1,7 +1,7 @@
 -- The addresses of a machine. Those of the instance's memory begin at 0, and those of the buffer of
 -- parameter k at 0x10000000 * (k + 1): the highest hexadecimal digit names the range, and the others
 -- the place in it.
-use Rattle.std.specs.Prelude.{ℕ, zero, suc, ◌/◌, ◌%◌, Bool, List, [], ◌∷◌, length, map, Option, slice_get, slice_index_or}
+use Rattle.std.specs.Prelude.{ℕ, zero, suc, ◌/◌, ◌%◌, Bool, List, [], ◌∷◌, map, Option, slice_get, slice_index_or}
 use Rattle.ta_step.specs.declared.addresses.TheConstants.{RANGE}
 use Rattle.ta_step.specs.State.{State}
 use Rattle.ta_step.specs.Bytes.{has_bytes, word_at, written}

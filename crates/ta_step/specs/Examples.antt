@@ -1,8 +1,8 @@
 -- Examples of the definitions, worked out by hand.
-use Rattle.std.specs.Prelude.{◌≡◌, ℕ, ◌+◌, ◌*◌, List, [], ◌∷◌, ◌++◌, replicate, slice_set, length, Option, Some, None}
+use Rattle.std.specs.Prelude.{◌≡◌, ℕ, List, [], ◌∷◌, replicate, Option, Some, None}
 use Rattle.std.specs.Option.{option_map}
 use Rattle.ta_isa.specs.declared.image.Instr.{Instr}
-use Rattle.ta_params.specs.declared.copied_params.Way.TheVariants.{In, Out, Inout}
+use Rattle.ta_params.specs.declared.copied_params.Way.TheVariants.{In, Inout}
 use Rattle.ta_params.specs.declared.copied_params.GpParam.{GpParam}
 use Rattle.ta_params.specs.declared.copied_params.GpParam.TheVariants.{Empty, Value, Memref}
 use Rattle.ta_params.specs.declared.copied_params.CopiedParams.{CopiedParams}
@@ -10,10 +10,9 @@ use Rattle.ta_params.specs.declared.login.Login.{Login}
 use Rattle.ta_step.specs.declared.stop.Stop.{Stop}
 use Rattle.ta_step.specs.declared.stop.Stop.TheVariants.{Ended, Panicked, Interrupted}
 use Rattle.ta_step.specs.State.{State, started}
-use Rattle.ta_step.specs.Bytes.{word_at, overwritten}
-use Rattle.ta_step.specs.Addresses.{load, load_word, store, is_inside}
+use Rattle.ta_step.specs.Addresses.{load, load_word, store}
 use Rattle.ta_step.specs.Outcome.{Outcome, Goes, Panics}
-use Rattle.ta_step.specs.SystemCalls.{goes_on, put}
+use Rattle.ta_step.specs.SystemCalls.{goes_on}
 use Rattle.ta_step.specs.Step.{step}
 use Rattle.ta_step.specs.Runs.{Ran, runs, runs_twice}
 
@@ -96,6 +95,7 @@ pub record Examples : Type 0 where
   pub shift_by_33 : alone (instr 0x0b 2 0 1 0) (3 ∷ 33 ∷ 0 ∷ []) ≡ Some (goes_on (at_start (3 ∷ 33 ∷ 6 ∷ [])))
   pub unsigned : alone (instr 0x13 0 0 1 7) (1 ∷ 0xffffffff ∷ 0 ∷ []) ≡ Some (Goes (record (at_start (1 ∷ 0xffffffff ∷ 0 ∷ [])) { place = 7 }))
   pub by_zero : alone (instr 0x06 2 0 1 0) (1 ∷ 0 ∷ 0 ∷ []) ≡ Some (Panics 3)
+  pub no_address : alone (instr 0x0d 2 0 0 3) (5 ∷ 0 ∷ 0 ∷ []) ≡ Some (Panics 1)
   pub empty_stack : alone (instr 0x17 0 0 0 0) [] ≡ Some (Panics 4)
   pub memory_byte : load (invoked 0 with_byte) 4 ≡ Some 9
   pub past_memory : load (invoked 0 with_byte) 8 ≡ None

@@ -3,11 +3,10 @@ use Rattle.std.specs.Prelude.{ℕ, ◌+◌, ◌-◌, ◌*◌, ◌/◌, ◌%◌, 
 use Rattle.std.specs.Int.{w32, to_le_bytes}
 use Rattle.std.specs.Int.RustNames.{bit_and, bit_or, bit_xor}
 use Rattle.ta_isa.specs.declared.image.Instr.{Instr}
-use Rattle.ta_step.specs.declared.machine.TheConstants.{STACK_DEPTH}
 use Rattle.ta_step.specs.declared.panic_code.TheConstants.{BAD_ADDRESS, DIVISION_BY_ZERO, BAD_STACK}
 use Rattle.ta_step.specs.State.{State}
 use Rattle.ta_step.specs.Addresses.{is_inside, load, load_word, store}
-use Rattle.ta_step.specs.Outcome.{Outcome, Goes, Returns, Panics, Asks}
+use Rattle.ta_step.specs.Outcome.{Outcome, Goes, Panics}
 use Rattle.ta_step.specs.SystemCalls.{reg, put, goes_on, system_call_of}
 
 -- on to the instruction of this number
@@ -70,7 +69,7 @@ jump i s = goes_to s i.imm
 -- to the target, with the next instruction as where to return to
 abbrev pub called : State → ℕ → Outcome
 called s target =
-    if nat_lt (length s.stack) STACK_DEPTH
+    if nat_lt (length s.stack) 64
     then Goes (record s { place = target; stack = s.stack ++ (s.place + 1) ∷ [] })
     else Panics BAD_STACK
 

@@ -1,5 +1,5 @@
 -- What one step of a machine comes to.
-use Rattle.std.specs.Prelude.{◌≡◌, ℕ, Result, Ok, Err, IsOk}
+use Rattle.std.specs.Prelude.{◌≡◌, ℕ, Result, Err, IsOk}
 use Rattle.ta_step.specs.declared.stop.Request.{Request}
 use Rattle.ta_step.specs.declared.stop.Stop.{Stop}
 use Rattle.ta_step.specs.declared.stop.Stop.TheVariants as stop

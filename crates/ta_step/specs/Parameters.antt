@@ -1,5 +1,6 @@
 -- The four parameters as a list by number, and what an application may change of one.
-use Rattle.std.specs.Prelude.{ℕ, zero, suc, List, [], ◌∷◌, Option, Some, None, slice_get}
+use Rattle.std.specs.Prelude.{ℕ, zero, suc, Bool, true, false, if◌then◌else◌, List, [], ◌∷◌, Option, Some, None, slice_get}
+use Rattle.ta_params.specs.declared.copied_params.Way.{Way}
 use Rattle.ta_params.specs.declared.copied_params.Way.TheVariants.{In, Out, Inout}
 use Rattle.ta_params.specs.declared.copied_params.GpParam.{GpParam}
 use Rattle.ta_params.specs.declared.copied_params.GpParam.TheVariants.{Empty, Value, Memref}
@@ -32,18 +33,20 @@ with_buffer Empty bytes = Empty
 with_buffer (Value way a b) bytes = Value way a b
 with_buffer (Memref way buf size) bytes = Memref way bytes size
 
+-- the client is handed what the application leaves
+abbrev pub goes_out : Way → Bool
+goes_out In = false
+goes_out Out = true
+goes_out Inout = true
+
 -- the parameter with other numbers, if it is a value that goes out
 abbrev pub with_value : GpParam → ℕ → ℕ → Option GpParam
 with_value Empty x y = None
-with_value (Value In a b) x y = None
-with_value (Value Out a b) x y = Some (Value Out x y)
-with_value (Value Inout a b) x y = Some (Value Inout x y)
+with_value (Value way a b) x y = if goes_out way then Some (Value way x y) else None
 with_value (Memref way buf size) x y = None
 
 -- the parameter with another size, if it is a buffer that goes out: any size, whatever the buffer has
 abbrev pub with_size : GpParam → ℕ → Option GpParam
 with_size Empty n = None
 with_size (Value way a b) n = None
-with_size (Memref In buf size) n = None
-with_size (Memref Out buf size) n = Some (Memref Out buf n)
-with_size (Memref Inout buf size) n = Some (Memref Inout buf n)
+with_size (Memref way buf size) n = if goes_out way then Some (Memref way buf n) else None

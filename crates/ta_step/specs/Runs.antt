@@ -1,5 +1,5 @@
 -- Steps one after another, up to the first stop or the end of those granted.
-use Rattle.std.specs.Prelude.{ℕ, zero, suc, ◌+◌, List, Option, Some, None, option_and_then}
+use Rattle.std.specs.Prelude.{ℕ, zero, suc, ◌+◌, List, Option, Some, option_and_then}
 use Rattle.std.specs.Option.{option_map}
 use Rattle.ta_isa.specs.declared.image.Instr.{Instr}
 use Rattle.ta_step.specs.declared.stop.Stop.{Stop}

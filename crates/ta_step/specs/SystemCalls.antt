@@ -7,7 +7,7 @@ use Rattle.ta_params.specs.CopiedParams.{type_word}
 use Rattle.ta_step.specs.State.{State}
 use Rattle.ta_step.specs.Parameters.{param_at, with_param, with_value, with_size}
 use Rattle.ta_step.specs.Addresses.{is_inside, store}
-use Rattle.ta_step.specs.Outcome.{Outcome, Goes, Returns, Panics, Asks}
+use Rattle.ta_step.specs.Outcome.{Outcome, Goes, Returns, Panics}
 use Rattle.ta_step.specs.declared.panic_code.TheConstants.{BAD_ADDRESS, BAD_CALL}
 
 -- a register

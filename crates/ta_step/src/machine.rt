@@ -9,7 +9,7 @@ use ta_isa::Image;
 use ta_params::{CopiedParams, Login};
 
 /// The registers of a machine, each of 32 bits.
-pub const REGISTERS: usize = 16;
+const REGISTERS: usize = ta_isa::REGISTERS as usize;
 
 /// The calls that a machine's stack holds at most.
 pub const STACK_DEPTH: usize = 64;

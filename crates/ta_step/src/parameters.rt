@@ -2,7 +2,7 @@
 ghost use Rattle.std.specs.Prelude.{◌≡◌, ◌+◌, ◌^◌, ◌<◌, length, slice_get, slice_set, is_some, unwrap_or};
 ghost use Rattle.std.specs.Option.{option_copied};
 ghost use Rattle.ta_step.specs.Bytes.{has_bytes, word_at, written};
-ghost use Rattle.ta_step.specs.Parameters.{buffer, param_at, with_buffer, with_size, with_value};
+ghost use Rattle.ta_step.specs.Parameters.{buffer, goes_out, param_at, with_buffer, with_size, with_value};
 
 use crate::access;
 use crate::memory::TaMemory;
@@ -72,17 +72,23 @@ pub(crate) fn write(param: &mut GpParam, place: u32, bytes: &[u8]) -> bool
     }
 }
 
+/// Whether the client is handed what the application leaves.
+fn goes_out(way: Way) -> bool
+    ensures { result ≡ goes_out way }
+{
+    match way {
+        Way::In => false,
+        Way::Out | Way::Inout => true,
+    }
+}
+
 /// Changes the two numbers of a value, or answers `false` where it is none that goes out.
 pub(crate) fn set_value(param: &mut GpParam, first: u32, second: u32) -> bool
     ensures done { result ≡ is_some (with_value param.old first second) }
     ensures param { param.new ≡ unwrap_or (with_value param.old first second) param.old }
 {
     match param {
-        GpParam::Value {
-            way: Way::Out | Way::Inout,
-            a,
-            b,
-        } => {
+        GpParam::Value { way, a, b } if goes_out(*way) => {
             *a = first;
             *b = second;
             true
@@ -97,11 +103,7 @@ pub(crate) fn set_size(param: &mut GpParam, new_size: u32) -> bool
     ensures param { param.new ≡ unwrap_or (with_size param.old new_size) param.old }
 {
     match param {
-        GpParam::Memref {
-            way: Way::Out | Way::Inout,
-            size,
-            ..
-        } => {
+        GpParam::Memref { way, size, .. } if goes_out(*way) => {
             *size = new_size;
             true
         }
