@@ -5,3 +5,4 @@ pub mod Overwritten
 pub mod RangeLemmas
 pub mod EffectLemmas
 pub mod RunLemmas
+pub mod Kept

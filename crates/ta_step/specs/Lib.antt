@@ -8,4 +8,5 @@ pub mod SystemCalls
 pub mod Operations
 pub mod Step
 pub mod Runs
+pub mod Shape
 pub mod Examples

@@ -1,10 +1,11 @@
 //! What holds of the definitions themselves.
-ghost use Rattle.std.specs.Prelude.{◌≡◌, ℕ, ◌+◌, List, IsSome};
+ghost use Rattle.std.specs.Prelude.{◌≡◌, ℕ, ◌+◌, List, IsSome, Some};
 ghost use Rattle.ta_isa.specs.declared.image.Image.{Image as AnyImage};
 ghost use Rattle.ta_isa.specs.declared.image.Instr.{Instr as AnyInstr};
 ghost use Rattle.ta_isa.specs.Spelling.{IsValid};
 ghost use Rattle.ta_step.specs.Examples.{Examples};
-ghost use Rattle.ta_step.specs.Runs.{runs, runs_twice};
+ghost use Rattle.ta_step.specs.Runs.{Ran, runs, runs_twice};
+ghost use Rattle.ta_step.specs.Shape.{SameShape};
 ghost use Rattle.ta_step.specs.State.{State};
 ghost use Rattle.ta_step.specs.Step.{step};
 
@@ -12,6 +13,13 @@ ghost use Rattle.ta_step.specs.Step.{step};
 pub fn sum_of_grants()
     ensures { (code : List AnyInstr) (m n : ℕ) (s : State) → runs code (m + n) s ≡ runs_twice code m n s }
 {}
+
+/// A run leaves as many registers and bytes of memory, parameters of the same types with as many bytes, the
+/// login, and the cancellation flag.
+pub fn shape_of_runs()
+    ensures { (code : List AnyInstr) (n : ℕ) (s : State) (ran : Ran) → runs code n s ≡ Some ran → SameShape s ran.state }
+{
+}
 
 /// A machine whose image is valid comes to one outcome at each step.
 pub fn one_outcome()
