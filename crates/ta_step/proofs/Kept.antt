@@ -1,27 +1,23 @@
 -- No step changes the shape of a machine.
-use Rattle.std.proofs.Common.{◌≡◌, ℕ, zero, suc, ◌+◌, ◌≤◌, Bool, true, false, List, [], ◌∷◌, ◌++◌, length, take, drop, set, Option, Some, None, refl, ap, sym, subst, ◌∙◌, arith, length-append, length-drop}
+use Rattle.std.proofs.Common.{◌≡◌, ℕ, zero, suc, ◌+◌, ◌≤◌, Bool, true, false, List, [], ◌∷◌, ◌++◌, length, take, drop, Option, Some, None, refl, ap, sym, subst, ◌∙◌, arith, length-append, length-drop}
 use Rattle.std.specs.Prelude.{◌==◌, ◌-◌, nat_lt, slice_index, ◌%◌, ◌/◌, if◌then◌else◌, find, slice_get, slice_index_or, option_and_then}
 use Rattle.std.specs.Option.{option_map}
 use Rattle.std.specs.Int.{w32, to_le_bytes}
 use Rattle.std.proofs.lemmas.Bool.{leb-true}
 use Rattle.std.proofs.lemmas.List.{length-set, length-take}
 use Rattle.ta_isa.specs.declared.image.Instr.{Instr}
-use Rattle.ta_params.specs.declared.copied_params.Way.{Way}
 use Rattle.ta_params.specs.declared.copied_params.Way.TheVariants.{In, Out, Inout}
 use Rattle.ta_params.specs.declared.copied_params.GpParam.{GpParam}
 use Rattle.ta_params.specs.declared.copied_params.GpParam.TheVariants.{Empty, Value, Memref}
 use Rattle.ta_params.specs.declared.copied_params.CopiedParams.{CopiedParams}
 use Rattle.ta_params.specs.CopiedParams.{way_bits}
-use Rattle.ta_step.specs.declared.stop.Stop.{Stop}
-use Rattle.ta_step.specs.declared.stop.Stop.TheVariants as stop
 use Rattle.ta_step.specs.declared.addresses.TheConstants.{RANGE}
-use Rattle.ta_step.specs.State.{State}
+use Rattle.ta_step.specs.State.{State, reg, put}
 use Rattle.ta_step.specs.Bytes.{has_bytes, overwritten, written}
-use Rattle.ta_step.specs.Parameters.{four, param_at, with_param, buffer, with_buffer, with_value, with_size}
+use Rattle.ta_step.specs.Parameters.{param_at, with_param, buffer, with_buffer, with_value, with_size}
 use Rattle.ta_step.specs.Addresses.{ranges, range_at, with_range, is_inside, store}
-use Rattle.ta_step.specs.Outcome.{Outcome, Goes, Returns, Panics, Asks}
+use Rattle.ta_step.specs.Outcome.{Outcome, goes_on, goes_to, Goes, Returns, Panics, Asks}
 use Rattle.ta_step.specs.SystemCalls as calls
-use Rattle.ta_step.specs.SystemCalls.{reg, put, goes_on, system_call_of}
 use Rattle.ta_step.specs.Operations as ops
 use Rattle.ta_step.specs.Operations.{Effect, operations, effect_of}
 use Rattle.ta_step.specs.Step.{step, outcome_of}
@@ -111,7 +107,7 @@ store-same : (s : State) (addr : ℕ) (new : List ℕ) → SameShape s (store s 
 store-same s addr new =
     let place = addr % RANGE in
     with_range-same s (addr / RANGE) (written (range_at s addr) place new)
-      (length-written (range_at s addr) place new (has_bytes (range_at s addr) place (length new)) refl)
+    (length-written (range_at s addr) place new (has_bytes (range_at s addr) place (length new)) refl)
 
 -- a change of a parameter that keeps its shape
 abbrev KeepsParam : (GpParam → Option GpParam) → Type 0
@@ -122,7 +118,7 @@ KeepsParams ps number None = Unit {0}
 KeepsParams ps number (Some p) = shapes (with_param ps number p) ≡ shapes ps
 
 params-kept : (ps : CopiedParams) (number : ℕ) (change : GpParam → Option GpParam) (o : Option GpParam) → KeepsParam change
-  → option_and_then change (param_at ps number) ≡ o → KeepsParams ps number o
+    → option_and_then change (param_at ps number) ≡ o → KeepsParams ps number o
 params-kept ps number change None keeps e = tt
 params-kept ps zero change (Some p) keeps e = first ps p (keeps ps.p0 p e)
 params-kept ps (suc zero) change (Some p) keeps e = second ps p (keeps ps.p1 p e)
@@ -172,7 +168,7 @@ login-kept : (s : State) → Keeps s (calls.login s)
 login-kept s =
     let written = store s (reg s 0) s.login.client in
     either s (is_inside s (reg s 0) (length s.login.client)) (goes_on (put written 0 s.login.kind)) (Panics 1)
-      (onward s (put written 0 s.login.kind) (put-same s written 0 s.login.kind (store-same s (reg s 0) s.login.client))) tt
+    (onward s (put written 0 s.login.kind) (put-same s written 0 s.login.kind (store-same s (reg s 0) s.login.client))) tt
 
 masks-kept : (masked : Bool) (s : State) → Keeps s (calls.masks masked s)
 masks-kept masked s = record {
@@ -190,7 +186,7 @@ divided-kept : (s : State) (divisor number value : ℕ) → Keeps s (ops.divided
 divided-kept s divisor number value = either s (divisor == 0) (Panics 3) (goes_on (put s number value)) tt (puts s number value)
 
 branched-kept : (s : State) (taken : Bool) (target : ℕ) → Keeps s (ops.branched s taken target)
-branched-kept s taken target = either s taken (ops.goes_to s target) (goes_on s) (moved s target s.stack) (onward s s (same s))
+branched-kept s taken target = either s taken (goes_to s target) (goes_on s) (moved s target s.stack) (onward s s (same s))
 
 called-kept : (s : State) (target : ℕ) → Keeps s (ops.called s target)
 called-kept s target =
@@ -217,7 +213,7 @@ RowsKeep [] = Unit {0}
 RowsKeep (e ∷ es) = ((i : Instr) → EffectKeeps (e.1 i)) × RowsKeep es
 
 call_at : (e : ℕ × Effect) (o : Option (ℕ × Effect)) (b : Bool) → ((s : State) → Keeps s (e.1 s)) → EffectKeeps (option_map (λ x. x.1) o)
-  → EffectKeeps (option_map (λ x. x.1) (if b then Some e else o))
+    → EffectKeeps (option_map (λ x. x.1) (if b then Some e else o))
 call_at e o true h k = h
 call_at e o false h k = k
 
@@ -226,7 +222,7 @@ call_found [] number h = tt
 call_found (e ∷ es) number h = call_at e (find (λ x. x.0 == number) es) (e.0 == number) h.0 (call_found es number h.1)
 
 row_at : (i : Instr) (e : ℕ × (Instr → Option Effect)) (o : Option (ℕ × (Instr → Option Effect))) (b : Bool) → EffectKeeps (e.1 i)
-  → EffectKeeps (option_and_then (λ x. x.1 i) o) → EffectKeeps (option_and_then (λ x. x.1 i) (if b then Some e else o))
+    → EffectKeeps (option_and_then (λ x. x.1 i) o) → EffectKeeps (option_and_then (λ x. x.1 i) (if b then Some e else o))
 row_at i e o true h k = h
 row_at i e o false h k = k
 
@@ -235,45 +231,109 @@ row_found [] i h = tt
 row_found (e ∷ es) i h = row_at i e (find (λ x. x.0 == i.op) es) (e.0 == i.op) (h.0 i) (row_found es i h.1)
 
 calls_keep : CallsKeep calls.system_calls
-calls_keep =
-    (λ s. tt,
-    (λ s. tt,
-    (λ s. puts s 0 _,
-    (λ s. value-given s _,
-    (λ s. param-changed s _ (params-kept s.params (reg s 0) (λ p. with_value p (reg s 1) (reg s 2)) _ (with_value-shape (reg s 1) (reg s 2)) refl),
-    (λ s. size-given s _,
-    (λ s. param-changed s _ (params-kept s.params (reg s 0) (λ p. with_size p (reg s 1)) _ (with_size-shape (reg s 1)) refl),
-    (login-kept,
-    (λ s. puts s 0 _,
-    (masks-kept true,
-    (masks-kept false, tt)))))))))))
+calls_keep = (
+  λ s. tt,
+  (
+    λ s. tt,
+    (
+      λ s. puts s 0 _,
+      (
+        λ s. value-given s _,
+        (
+          λ s. param-changed s _ (params-kept s.params (reg s 0) (λ p. with_value p (reg s 1) (reg s 2)) _ (with_value-shape (reg s 1) (reg s 2)) refl),
+          (
+            λ s. size-given s _,
+            (
+              λ s. param-changed s _ (params-kept s.params (reg s 0) (λ p. with_size p (reg s 1)) _ (with_size-shape (reg s 1)) refl),
+              (
+                login-kept,
+                (
+                  λ s. puts s 0 _,
+                  (
+                    masks-kept true,
+                    (masks-kept false, tt),
+                  ),
+                ),
+              ),
+            ),
+          ),
+        ),
+      ),
+    ),
+  ),
+)
 
 rows_keep : RowsKeep operations
-rows_keep =
-    (λ i s. puts s _ _,
-    (λ i s. puts s _ _,
-    (λ i s. puts s _ _,
-    (λ i s. puts s _ _,
-    (λ i s. puts s _ _,
-    (λ i s. divided-kept s _ _ _,
-    (λ i s. divided-kept s _ _ _,
-    (λ i s. puts s _ _,
-    (λ i s. puts s _ _,
-    (λ i s. puts s _ _,
-    (λ i s. puts s _ _,
-    (λ i s. puts s _ _,
-    (λ i s. loaded-kept s _ _,
-    (λ i s. loaded-kept s _ _,
-    (λ i s. stored-kept s (ops.address i s) (reg s i.b % 256 ∷ []),
-    (λ i s. stored-kept s (ops.address i s) (to_le_bytes w32 (reg s i.b)),
-    (λ i s. branched-kept s _ _,
-    (λ i s. branched-kept s _ _,
-    (λ i s. branched-kept s _ _,
-    (λ i s. branched-kept s _ _,
-    (λ i s. moved s _ _,
-    (λ i s. called-kept s _,
-    (λ i s. returned-kept s,
-    (λ i. call_found calls.system_calls i.imm calls_keep, tt))))))))))))))))))))))))
+rows_keep = (
+  λ i s. puts s _ _,
+  (
+    λ i s. puts s _ _,
+    (
+      λ i s. puts s _ _,
+      (
+        λ i s. puts s _ _,
+        (
+          λ i s. puts s _ _,
+          (
+            λ i s. divided-kept s _ _ _,
+            (
+              λ i s. divided-kept s _ _ _,
+              (
+                λ i s. puts s _ _,
+                (
+                  λ i s. puts s _ _,
+                  (
+                    λ i s. puts s _ _,
+                    (
+                      λ i s. puts s _ _,
+                      (
+                        λ i s. puts s _ _,
+                        (
+                          λ i s. loaded-kept s _ _,
+                          (
+                            λ i s. loaded-kept s _ _,
+                            (
+                              λ i s. stored-kept s (ops.address i s) (reg s i.b % 256 ∷ []),
+                              (
+                                λ i s. stored-kept s (ops.address i s) (to_le_bytes w32 (reg s i.b)),
+                                (
+                                  λ i s. branched-kept s _ _,
+                                  (
+                                    λ i s. branched-kept s _ _,
+                                    (
+                                      λ i s. branched-kept s _ _,
+                                      (
+                                        λ i s. branched-kept s _ _,
+                                        (
+                                          λ i s. moved s _ _,
+                                          (
+                                            λ i s. called-kept s _,
+                                            (
+                                              λ i s. returned-kept s,
+                                              (λ i. call_found calls.system_calls i.imm calls_keep, tt),
+                                            ),
+                                          ),
+                                        ),
+                                      ),
+                                    ),
+                                  ),
+                                ),
+                              ),
+                            ),
+                          ),
+                        ),
+                      ),
+                    ),
+                  ),
+                ),
+              ),
+            ),
+          ),
+        ),
+      ),
+    ),
+  ),
+)
 
 abbrev OutcomeKeeps : State → Option Outcome → Type 0
 OutcomeKeeps s None = Unit {0}
@@ -294,7 +354,7 @@ ended s ran last at e =
     subst P (sym at ∙ ap (λ (r : Ran). r.state) is) (same s)
 
 later-kept : (s next : State) (ran : Ran) (rest : Option Ran) → SameShape s next → ((r : Ran) → rest ≡ Some r → SameShape next r.state)
-  → option_map (later 1) rest ≡ Some ran → SameShape s ran.state
+    → option_map (later 1) rest ≡ Some ran → SameShape s ran.state
 later-kept s next ran None h k e = absurd cc
 later-kept s next ran (Some r) h k e =
     let is : later 1 r ≡ ran = cc in
@@ -302,7 +362,7 @@ later-kept s next ran (Some r) h k e =
     subst P (ap (λ (x : Ran). x.state) is) (both s next r.state h (k r refl))
 
 continued-kept : (s : State) (ran : Ran) (rest : State → Option Ran) (o : Option Outcome) → OutcomeKeeps s o
-  → ((t : State) (r : Ran) → rest t ≡ Some r → SameShape t r.state) → option_and_then (continued rest s) o ≡ Some ran → SameShape s ran.state
+    → ((t : State) (r : Ran) → rest t ≡ Some r → SameShape t r.state) → option_and_then (continued rest s) o ≡ Some ran → SameShape s ran.state
 continued-kept s ran rest None h k e = absurd cc
 continued-kept s ran rest (Some (Goes next)) h k e = later-kept s next ran (rest next) h (k next) e
 continued-kept s ran rest (Some (Returns result context)) h k e = ended s ran _ refl e

@@ -11,8 +11,8 @@ use Rattle.ta_step.specs.declared.stop.Stop.{Stop}
 use Rattle.ta_step.specs.declared.stop.Stop.TheVariants.{Ended, Panicked, Interrupted}
 use Rattle.ta_step.specs.State.{State, started}
 use Rattle.ta_step.specs.Addresses.{load, load_word, store}
-use Rattle.ta_step.specs.Outcome.{Outcome, Goes, Panics}
-use Rattle.ta_step.specs.SystemCalls.{goes_on}
+use Rattle.ta_step.specs.Outcome.{Outcome, Goes, Panics, goes_on}
+use Rattle.ta_step.specs.Shape.{shapes}
 use Rattle.ta_step.specs.Step.{step}
 use Rattle.ta_step.specs.Runs.{Ran, runs, runs_twice}
 
@@ -106,4 +106,5 @@ pub record Examples : Type 0 where
   pub word_past_buffer : load_word (invoked 0 with_byte) 0x10000002 ≡ None
   pub in_memory : store (invoked 0 with_byte) 1 (8 ∷ []) ≡ record (invoked 0 with_byte) { memory = 1 ∷ 8 ∷ 0 ∷ 0 ∷ 9 ∷ 0 ∷ 0 ∷ 0 ∷ [] }
   pub in_buffer : store (invoked 0 with_byte) 0x10000001 (8 ∷ 7 ∷ []) ≡ invoked 0 (Memref Inout (1 ∷ 8 ∷ 7 ∷ 4 ∷ 5 ∷ []) 5)
+  pub shape_of_params : shapes (params_of with_byte) ≡ (7, 5) ∷ (0, 0) ∷ (0, 0) ∷ (0, 0) ∷ []
   pub out_of_buffer : store (invoked 0 with_byte) 0x10000004 (8 ∷ 7 ∷ []) ≡ invoked 0 with_byte

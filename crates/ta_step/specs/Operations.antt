@@ -4,20 +4,17 @@ use Rattle.std.specs.Int.{w32, to_le_bytes}
 use Rattle.std.specs.Int.RustNames.{bit_and, bit_or, bit_xor}
 use Rattle.ta_isa.specs.declared.image.Instr.{Instr}
 use Rattle.ta_step.specs.declared.panic_code.TheConstants.{BAD_ADDRESS, DIVISION_BY_ZERO, BAD_STACK}
-use Rattle.ta_step.specs.State.{State}
+use Rattle.ta_step.specs.State.{State, reg, put}
 use Rattle.ta_step.specs.Addresses.{is_inside, load, load_word, store}
-use Rattle.ta_step.specs.Outcome.{Outcome, Goes, Panics}
-use Rattle.ta_step.specs.SystemCalls.{reg, put, goes_on, system_call_of}
+use Rattle.ta_step.specs.Outcome.{Outcome, goes_on, goes_to, Goes, Panics}
+use Rattle.ta_step.specs.SystemCalls.{system_call_of}
 
--- on to the instruction of this number
-abbrev pub goes_to : State → ℕ → Outcome
-goes_to s place = Goes (record s { place = place })
-
+-- a constant
 abbrev pub constant : Instr → State → Outcome
 constant i s = goes_on (put s i.d i.imm)
 
-abbrev pub move_ : Instr → State → Outcome
-move_ i s = goes_on (put s i.d (reg s i.a))
+abbrev pub register_move : Instr → State → Outcome
+register_move i s = goes_on (put s i.d (reg s i.a))
 
 -- what is made of two registers
 abbrev pub made : (ℕ → ℕ → ℕ) → Instr → State → Outcome
@@ -43,17 +40,17 @@ loaded s number (Some value) = goes_on (put s number value)
 abbrev pub stored : State → ℕ → List ℕ → Outcome
 stored s addr bytes = if is_inside s addr (length bytes) then goes_on (store s addr bytes) else Panics BAD_ADDRESS
 
-abbrev pub load_byte_ : Instr → State → Outcome
-load_byte_ i s = loaded s i.d (load s (address i s))
+abbrev pub byte_load : Instr → State → Outcome
+byte_load i s = loaded s i.d (load s (address i s))
 
-abbrev pub load_word_ : Instr → State → Outcome
-load_word_ i s = loaded s i.d (load_word s (address i s))
+abbrev pub word_load : Instr → State → Outcome
+word_load i s = loaded s i.d (load_word s (address i s))
 
-abbrev pub store_byte : Instr → State → Outcome
-store_byte i s = stored s (address i s) (reg s i.b % 256 ∷ [])
+abbrev pub byte_store : Instr → State → Outcome
+byte_store i s = stored s (address i s) (reg s i.b % 256 ∷ [])
 
-abbrev pub store_word : Instr → State → Outcome
-store_word i s = stored s (address i s) (to_le_bytes w32 (reg s i.b))
+abbrev pub word_store : Instr → State → Outcome
+word_store i s = stored s (address i s) (to_le_bytes w32 (reg s i.b))
 
 -- to the target, or on
 abbrev pub branched : State → Bool → ℕ → Outcome
@@ -98,7 +95,7 @@ always row i = Some (row i)
 abbrev pub operations : List (ℕ × (Instr → Option Effect))
 operations =
     (0x01, always constant)
-    ∷ (0x02, always move_)
+    ∷ (0x02, always register_move)
     ∷ (0x03, always (made (λ a b. (a + b) % 2 ^ 32)))
     ∷ (0x04, always (made (λ a b. (a + (2 ^ 32 - b)) % 2 ^ 32)))
     ∷ (0x05, always (made (λ a b. (a * b) % 2 ^ 32)))
@@ -109,10 +106,10 @@ operations =
     ∷ (0x0a, always (made bit_xor))
     ∷ (0x0b, always (made (λ a b. (a * 2 ^ (b % 32)) % 2 ^ 32)))
     ∷ (0x0c, always (made (λ a b. a / 2 ^ (b % 32))))
-    ∷ (0x0d, always load_byte_)
-    ∷ (0x0e, always load_word_)
-    ∷ (0x0f, always store_byte)
-    ∷ (0x10, always store_word)
+    ∷ (0x0d, always byte_load)
+    ∷ (0x0e, always word_load)
+    ∷ (0x0f, always byte_store)
+    ∷ (0x10, always word_store)
     ∷ (0x11, always (branches (λ a b. a == b)))
     ∷ (0x12, always (branches (λ a b. not (a == b))))
     ∷ (0x13, always (branches nat_lt))

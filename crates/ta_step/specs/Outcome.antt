@@ -1,5 +1,5 @@
 -- What one step of a machine comes to.
-use Rattle.std.specs.Prelude.{◌≡◌, ℕ, Result, Err, IsOk}
+use Rattle.std.specs.Prelude.{◌≡◌, ℕ, ◌+◌, Result, Err, IsOk}
 use Rattle.ta_step.specs.declared.stop.Request.{Request}
 use Rattle.ta_step.specs.declared.stop.Stop.{Stop}
 use Rattle.ta_step.specs.declared.stop.Stop.TheVariants as stop
@@ -11,6 +11,14 @@ pub data Outcome : Type 0 where
   Returns : (result context : ℕ) → Outcome
   Panics : (code : ℕ) → Outcome
   Asks : (request : Request) → Outcome
+
+-- on to the next instruction
+abbrev pub goes_on : State → Outcome
+goes_on s = Goes (record s { place = s.place + 1 })
+
+-- on to the instruction of this number
+abbrev pub goes_to : State → ℕ → Outcome
+goes_to s place = Goes (record s { place = place })
 
 -- an answer and the machine after it are those of an outcome
 abbrev pub Leads : {Done : Type 0} → State → Outcome → Result Done Stop → State → Type 0

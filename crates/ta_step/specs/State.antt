@@ -1,5 +1,5 @@
 -- A machine as contracts see it, and where it starts. This project's own.
-use Rattle.std.specs.Prelude.{ℕ, Bool, true, false, List, [], ◌++◌, replicate, slice_index}
+use Rattle.std.specs.Prelude.{ℕ, Bool, true, false, not, ◌&&◌, List, [], ◌++◌, replicate, slice_index, slice_set}
 use Rattle.ta_params.specs.declared.copied_params.CopiedParams.{CopiedParams}
 use Rattle.ta_params.specs.declared.login.Login.{Login}
 
@@ -18,6 +18,18 @@ pub record State : Type 0 where
   pub masked : Bool
   -- the cancellation flag
   pub cancelled : Bool
+
+-- a register
+abbrev pub reg : State → ℕ → ℕ
+reg s number = slice_index s.registers number
+
+-- the machine with a number in a register
+abbrev pub put : State → ℕ → ℕ → State
+put s number value = record s { registers = slice_set s.registers number value }
+
+-- the flag is set, and the application is to be told
+abbrev pub is_cancelled : State → Bool
+is_cancelled s = s.cancelled && not s.masked
 
 -- the machine at the start of an entry point: the given registers first and zeros behind them, no call
 -- open, masked, and the flag clear

@@ -1,27 +1,16 @@
 -- The system calls. They take their arguments from the first registers and give their results there.
-use Rattle.std.specs.Prelude.{ℕ, ◌+◌, ◌==◌, Bool, true, false, not, ◌&&◌, if◌then◌else◌, List, [], ◌∷◌, length, Option, Some, None, option_and_then, find, slice_index, slice_set}
+use Rattle.std.specs.Prelude.{ℕ, ◌==◌, Bool, true, false, if◌then◌else◌, List, [], ◌∷◌, length, Option, Some, None, option_and_then, find}
 use Rattle.std.specs.Option.{option_map}
 use Rattle.ta_params.specs.declared.copied_params.GpParam.{GpParam}
 use Rattle.ta_params.specs.declared.copied_params.GpParam.TheVariants.{Empty, Value, Memref}
 use Rattle.ta_params.specs.CopiedParams.{type_word}
-use Rattle.ta_step.specs.State.{State}
+use Rattle.ta_step.specs.State.{State, reg, put, is_cancelled}
 use Rattle.ta_step.specs.Parameters.{param_at, with_param, with_value, with_size}
 use Rattle.ta_step.specs.Addresses.{is_inside, store}
-use Rattle.ta_step.specs.Outcome.{Outcome, Goes, Returns, Panics}
+use Rattle.ta_step.specs.Outcome.{Outcome, goes_on, Returns, Panics}
 use Rattle.ta_step.specs.declared.panic_code.TheConstants.{BAD_ADDRESS, BAD_CALL}
 
--- a register
-abbrev pub reg : State → ℕ → ℕ
-reg s number = slice_index s.registers number
-
--- the machine with a number in a register
-abbrev pub put : State → ℕ → ℕ → State
-put s number value = record s { registers = slice_set s.registers number value }
-
--- on to the next instruction
-abbrev pub goes_on : State → Outcome
-goes_on s = Goes (record s { place = s.place + 1 })
-
+-- 1 for true
 abbrev pub bit : Bool → ℕ
 bit b = if b then 1 else 0
 
@@ -73,10 +62,7 @@ login s =
     then goes_on (put (store s (reg s 0) s.login.client) 0 s.login.kind)
     else Panics BAD_ADDRESS
 
--- the flag is set, and the application is to be told
-abbrev pub is_cancelled : State → Bool
-is_cancelled s = s.cancelled && not s.masked
-
+-- whether the call was cancelled, where the application is to know
 abbrev pub cancelled : State → Outcome
 cancelled s = goes_on (put s 0 (bit (is_cancelled s)))
 

@@ -3,9 +3,9 @@ ghost use Rattle.std.specs.Prelude.{◌≡◌, ◌+◌, ◌/◌, ◌%◌, ◌^�
 ghost use Rattle.ta_isa.specs.InstructionTable.{HasFields};
 ghost use Rattle.ta_step.specs.Addresses.{load};
 ghost use Rattle.ta_step.specs.Machine.{state_of};
-ghost use Rattle.ta_step.specs.Operations.{branched, called, divided_by, effect_of, goes_to, loaded, returned, stored};
-ghost use Rattle.ta_step.specs.Outcome.{Leads};
-ghost use Rattle.ta_step.specs.SystemCalls.{goes_on, put, reg};
+ghost use Rattle.ta_step.specs.Operations.{branched, called, divided_by, effect_of, loaded, returned, stored};
+ghost use Rattle.ta_step.specs.Outcome.{Leads, goes_on, goes_to};
+ghost use Rattle.ta_step.specs.State.{put, reg};
 
 use crate::machine::Machine;
 use crate::memory::TaMemory;

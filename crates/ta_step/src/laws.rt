@@ -18,8 +18,7 @@ pub fn sum_of_grants()
 /// login, and the cancellation flag.
 pub fn shape_of_runs()
     ensures { (code : List AnyInstr) (n : ℕ) (s : State) (ran : Ran) → runs code n s ≡ Some ran → SameShape s ran.state }
-{
-}
+{}
 
 /// A machine whose image is valid comes to one outcome at each step.
 pub fn one_outcome()

@@ -1,6 +1,6 @@
 //! The machine of one entry point: where it starts, what becomes of it, and its cancellation flag.
 ghost use Rattle.std.specs.Prelude.{◌≡◌, ◌<◌, ◌&&◌, not, length, true};
-ghost use Rattle.ta_step.specs.State.{started};
+ghost use Rattle.ta_step.specs.State.{is_cancelled, started};
 ghost use Rattle.ta_step.specs.Machine.{state_of};
 
 use crate::memory::TaMemory;
@@ -65,7 +65,7 @@ impl<M: TaMemory> Machine<M> {
 
     /// Whether the application is told that its call was cancelled: the flag is set, and not masked.
     pub fn cancelled(&self) -> bool
-        ensures { let state = state_of M.bytes self.now in result ≡ (state.cancelled && not state.masked) }
+        ensures { result ≡ is_cancelled (state_of M.bytes self.now) }
     {
         self.cancelled && !self.masked
     }
