@@ -1,13 +1,11 @@
 -- Which range an address names.
-use Rattle.std.proofs.Common.{◌≡◌, ℕ, zero, suc, ◌-◌, ◌<◌, List, [], ◌∷◌, Some, None, refl, ap, ◌∙◌, arith, get_or}
+use Rattle.std.proofs.Common.{◌≡◌, ℕ, zero, suc, ◌+◌, ◌-◌, ◌*◌, ◌/◌, ◌%◌, ◌<◌, List, [], ◌∷◌, Some, None, refl, ap, ◌∙◌, arith, get_or}
 use Rattle.std.specs.Prelude.{slice_get, map, slice_index_or}
 use Rattle.ta_params.specs.declared.copied_params.GpParam.{GpParam}
 use Rattle.ta_step.specs.State.{State}
 use Rattle.ta_step.specs.Parameters.{four, param_at, buffer}
-use Rattle.ta_step.specs.Addresses.{ranges}
-
-bytes_of : (s : State) (number : ℕ) → List ℕ
-bytes_of s number = slice_index_or (ranges s) number []
+use Rattle.ta_step.specs.Addresses.{load, ranges}
+use Rattle.ta_step.specs.declared.addresses.TheConstants.{RANGE}
 
 buffer-Some : (ps : List GpParam) (number : ℕ) (p : GpParam) → slice_get ps number ≡ Some p → get_or (map buffer ps) number [] ≡ buffer p
 buffer-Some [] number p e = absurd cc
@@ -30,3 +28,15 @@ pub in_none : (s : State) (n : ℕ) → 0 < n → param_at s.params (n - 1) ≡ 
 in_none s n lt e = ap (λ (k : ℕ). slice_index_or (ranges s) k []) (from_one n lt) ∙ buffer-None (four s.params) (n - 1) e
 
 pub ruleset ranges_of_addresses = (in_buffer, in_none)
+
+number_of : (number place : ℕ) → place < RANGE → (RANGE * number + place) / RANGE ≡ number
+number_of number place lt = omega arith
+
+place_of : (number place : ℕ) → place < RANGE → (RANGE * number + place) % RANGE ≡ place
+place_of number place lt = let same = number_of number place lt in omega (arith, same)
+
+-- the ranges begin at multiples of RANGE
+pub ranges_begin : (s : State) (number place : ℕ) → place < RANGE → load s (RANGE * number + place) ≡ slice_get (slice_index_or (ranges s) number []) place
+ranges_begin s number place lt =
+    ap (λ (k : ℕ). slice_get (slice_index_or (ranges s) k []) ((RANGE * number + place) % RANGE)) (number_of number place lt)
+    ∙ ap (λ (k : ℕ). slice_get (slice_index_or (ranges s) number []) k) (place_of number place lt)

@@ -46,7 +46,6 @@ impl<M: TaMemory> Machine<M> {
     }
 
     /// Writes bytes from an address on, or answers `false` where they are not all in one range.
-    #[tactic(auto, using(crate::proofs::RangeLemmas::ranges_of_addresses))]
     pub(crate) fn write(&mut self, addr: u32, bytes: &[u8]) -> bool
         requires some { 0 < length bytes.now }
         requires few { length bytes.now ≤ 16 }

@@ -17,10 +17,11 @@ mod system_calls;
 
 pub use addresses::RANGE;
 pub use base::NoMemory;
-pub use laws::{one_outcome, shape_of_runs, sum_of_grants, worked_examples};
+pub use laws::{one_outcome, ranges_begin, shape_of_runs, sum_of_grants, worked_examples};
 pub use machine::{Machine, STACK_DEPTH};
 pub use memory::{Plain, TaMemory};
 pub use stop::{Request, Stop};
+pub use ta_params::{Login, ObjectCall};
 
 #[cfg(test)]
 mod tests;
