@@ -1,0 +1,34 @@
+use Rattle.std.proofs.Common.{◌≡◌, ◌+◌, ◌*◌, length, refl, sym, ◌∙◌, ap, arith}
+use Rattle.frame_pool.specs.declared.frame.TheConstants.{PAGE_BYTES}
+use Rattle.frame_pool.specs.Pages.{zeros}
+use Rattle.frame_pool.proofs.PageBytes.{length-zeros, no_zeros, zeros_more}
+use Rattle.frame_pool.proofs.pool.take_cleared.Goals as goal
+
+pub loop-i-init : goal.loop-i-init
+loop-i-init c = record {
+  pages = c.none-pages.ensures ∙ sym no_zeros;
+  len = omega arith;
+  room = refl;
+  whole = c.requires.whole;
+}
+
+pub add-requires-clause-room : goal.add-requires-clause-room
+add-requires-clause-room c =
+    omega (arith, ap length c.loop-i.invariant.pages, length-zeros (PAGE_BYTES * c.loop-i._i))
+
+pub add-requires-clause-whole : goal.add-requires-clause-whole
+add-requires-clause-whole c = ap length c.pop_cleared.ensures.zeros ∙ length-zeros PAGE_BYTES
+
+pub loop-i-preserved : goal.loop-i-preserved
+loop-i-preserved c =
+    let sum : PAGE_BYTES * c.loop-i._i + PAGE_BYTES ≡ PAGE_BYTES * (c.loop-i._i + 1) = omega arith in
+    record {
+      pages = rw (c.add.ensures, c.loop-i.invariant.pages, c.pop_cleared.ensures.zeros, zeros_more) (ap zeros sum);
+      len = omega arith;
+      room = c.pop_cleared.ensures.room ∙ c.loop-i.invariant.room;
+      whole = c.pop_cleared.ensures.whole;
+    }
+
+pub returns-clause-count : goal.returns-clause-count
+returns-clause-count c =
+    omega (arith, ap length c.loop-i.invariant.pages, length-zeros (PAGE_BYTES * c.loop-i._i))

@@ -1,0 +1,66 @@
+ghost use Rattle.std.specs.Prelude.{◌≡◌, ◌<◌, [], length, slice_get, slice_set, IfOk, Some};
+ghost use Rattle.frame_pool.specs.Pages.{zeros};
+
+use base::NoMemory;
+use std::alloc::Global;
+use std::default::MadeWith;
+use std::marker::Model;
+
+/// The bytes of a page.
+pub const PAGE_BYTES: usize = 4096;
+
+/// What one page lies in, which contracts see as the list of its bytes.
+#[derive(Drop)]
+pub(crate) struct Frame {
+    bytes: Vec<u8>,
+}
+
+impl Model for Frame {
+    ghost use Rattle.std.specs.Prelude.{ℕ, List};
+
+    ghost Value = { List ℕ };
+
+    ghost view = { λ frame. frame.bytes.items };
+}
+
+impl Frame {
+    /// A frame of so many bytes.
+    pub(crate) fn new(alloc: Global, len: usize) -> Result<Frame, NoMemory>
+        ensures { IfOk result (λ frame. length frame ≡ len) }
+    {
+        Ok(Frame {
+            bytes: vec![in alloc; 0; len]?,
+        })
+    }
+
+    /// Makes zeros of all bytes.
+    #[tactic(auto, unfolding(crate::specs::Pages::zeros))]
+    pub(crate) fn clear(&mut self)
+        ensures { self.new ≡ zeros (length self.old) }
+    {
+        self.bytes.fill(0);
+    }
+
+    pub(crate) fn get(&self, at: usize) -> u8
+        requires { at < length self.now }
+        ensures { slice_get self.now at ≡ Some result }
+    {
+        self.bytes[at]
+    }
+
+    pub(crate) fn set(&mut self, at: usize, value: u8)
+        requires { at < length self.old }
+        ensures { self.new ≡ slice_set self.old at value }
+    {
+        self.bytes[at] = value;
+    }
+}
+
+/// A frame of no bytes stands in the unused places of a list of fixed capacity.
+impl MadeWith<Global> for Frame {
+    fn made_with(alloc: Global) -> Frame {
+        Frame {
+            bytes: Vec::new(alloc),
+        }
+    }
+}

@@ -1,0 +1,22 @@
+//! The page frames of the instances' memory. All memory is taken at the start; from then on a page is moved
+//! between the pool and its one owner, and comes out of the pool as zeros, whatever was in it.
+//!
+//! The pool and the size of a page are this project's own.
+#![tactic(auto)]
+
+mod examples;
+mod frame;
+mod laws;
+mod pages;
+mod pool;
+mod short;
+#[cfg(test)]
+mod tests;
+
+pub use base::NoMemory;
+pub use examples::worked_examples;
+pub use frame::PAGE_BYTES;
+pub use laws::zeros_are_zeros;
+pub use pages::{MAX_PAGES, Pages};
+pub use pool::{MAX_FRAMES, Pool};
+pub use short::Short;

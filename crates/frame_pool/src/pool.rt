@@ -1,0 +1,143 @@
+ghost use Rattle.std.specs.Prelude.{◌≡◌, ◌+◌, ◌-◌, ◌*◌, ◌<◌, ◌≤◌, ◌↔◌, length, vec_len, vec_capacity, IfOk, IfErr, IsErr, MatchResult};
+ghost use Rattle.frame_pool.specs.Pages.{AreWhole, page_count, zeros};
+ghost use Rattle.frame_pool.specs.Pool.{Frames};
+
+use crate::frame::{Frame, PAGE_BYTES};
+use crate::pages::{MAX_PAGES, Pages};
+use crate::short::Short;
+use base::NoMemory;
+use std::alloc::Global;
+use std::marker::Model;
+
+/// The most frames that a pool has.
+pub const MAX_FRAMES: u16 = 1024;
+
+/// The page frames of a core. Contracts see how many there are in all, and how many of them are free.
+#[derive(Drop)]
+pub struct Pool {
+    frames: u16,
+    free: Vec<Frame>,
+}
+
+impl Model for Pool {
+    ghost use Rattle.std.specs.Prelude.{◌≤◌, vec_len, vec_capacity};
+    ghost use Rattle.frame_pool.specs.Pages.{AreWhole};
+    ghost use Rattle.frame_pool.specs.Pool.{Frames};
+    ghost use Rattle.frame_pool.specs.declared.pool.TheConstants.{MAX_FRAMES};
+
+    ghost Value = { Frames };
+
+    ghost view = { λ pool. record { frames = pool.frames; free = vec_len pool.free } };
+
+    ghost invariant = { λ pool. (vec_len pool.free ≤ pool.frames) × (pool.frames ≤ vec_capacity pool.free)
+        × (pool.frames ≤ MAX_FRAMES) × AreWhole pool.free.items };
+}
+
+impl Pool {
+    /// A pool of so many frames, all free. No call after this one takes memory.
+    pub fn new(alloc: Global, frames: u16) -> Result<Pool, NoMemory>
+        requires some { 0 < frames }
+        requires at_most { frames ≤ MAX_FRAMES }
+        ensures { IfOk result (λ pool. pool ≡ record { frames = frames; free = frames }) }
+    {
+        let mut free = Vec::with_capacity(alloc, usize::from(frames))?;
+        for _i in 0..frames {
+            free.push_reserved(Frame::new(alloc, PAGE_BYTES)?);
+        }
+        Ok(Pool { frames, free })
+    }
+
+    /// How many pages are free.
+    pub fn free(&self) -> u16
+        ensures free { result ≡ self.now.free }
+        ensures at_most { self.now.free ≤ self.now.frames }
+        ensures in_all { self.now.frames ≤ MAX_FRAMES }
+    {
+        self.free.len() as u16
+    }
+
+    /// Gives `n` pages of zeros, or tells how many are free where these are fewer.
+    pub fn take(&mut self, n: u16) -> Result<Pages, Short>
+        requires { n ≤ MAX_PAGES }
+        ensures short { IsErr result ↔ (self.old.free < n) }
+        ensures free { IfErr result (λ short. short.0 ≡ self.old.free) }
+        ensures zeros { IfOk result (λ pages. pages ≡ zeros (PAGE_BYTES * n)) }
+        ensures count { IfOk result (λ pages. page_count pages ≡ n) }
+        ensures after { MatchResult result
+            (λ _. self.new ≡ record self.old { free = self.old.free - n })
+            (λ _. self.new ≡ self.old) }
+    {
+        let free = self.free();
+        if free < n {
+            return Err(Short(free));
+        }
+        Ok(take_cleared(&mut self.free, n))
+    }
+
+    /// Takes pages back.
+    pub fn release(&mut self, pages: Pages)
+        requires { page_count pages ≤ self.old.frames - self.old.free }
+        ensures { self.new ≡ record self.old { free = self.old.free + page_count pages } }
+    {
+        put_back(&mut self.free, pages);
+    }
+}
+
+/// Moves `n` frames out of the free ones, and makes pages of zeros of them.
+fn take_cleared(free: &mut Vec<Frame>, n: u16) -> Pages
+    requires enough { n ≤ vec_len free.old }
+    requires at_most { n ≤ MAX_PAGES }
+    requires whole { AreWhole free.old.items }
+    ensures zeros { result ≡ zeros (PAGE_BYTES * n) }
+    ensures count { page_count result ≡ n }
+    ensures len { vec_len free.new + n ≡ vec_len free.old }
+    ensures room { vec_capacity free.new ≡ vec_capacity free.old }
+    ensures whole { AreWhole free.new.items }
+{
+    let mut pages = Pages::none(*free.allocator());
+    for _i in 0..n {
+        pages.add(pop_cleared(free));
+    }
+    pages
+}
+
+/// Moves one frame out of the free ones, and makes zeros of its bytes.
+fn pop_cleared(free: &mut Vec<Frame>) -> Frame
+    requires some { 0 < vec_len free.old }
+    requires whole { AreWhole free.old.items }
+    ensures zeros { result ≡ zeros PAGE_BYTES }
+    ensures len { vec_len free.new + 1 ≡ vec_len free.old }
+    ensures room { vec_capacity free.new ≡ vec_capacity free.old }
+    ensures whole { AreWhole free.new.items }
+{
+    let mut frame = pop_frame(free);
+    frame.clear();
+    frame
+}
+
+/// Moves one frame out of the free ones, with the bytes that it was released with.
+fn pop_frame(free: &mut Vec<Frame>) -> Frame
+    requires some { 0 < vec_len free.old }
+    requires whole { AreWhole free.old.items }
+    ensures page { length result ≡ PAGE_BYTES }
+    ensures len { vec_len free.new + 1 ≡ vec_len free.old }
+    ensures room { vec_capacity free.new ≡ vec_capacity free.old }
+    ensures whole { AreWhole free.new.items }
+{
+    free.pop().unwrap()
+}
+
+/// Moves the frames of the pages behind the free ones.
+fn put_back(free: &mut Vec<Frame>, pages: Pages)
+    requires room { vec_len free.old + page_count pages ≤ vec_capacity free.old }
+    requires whole { AreWhole free.old.items }
+    ensures len { vec_len free.new ≡ vec_len free.old + page_count pages }
+    ensures room { vec_capacity free.new ≡ vec_capacity free.old }
+    ensures whole { AreWhole free.new.items }
+{
+    let mut frames = pages.into_frames();
+    for _i in 0..frames.len() {
+        let frame = frames.pop().unwrap();
+        free.push_reserved(frame);
+    }
+}
