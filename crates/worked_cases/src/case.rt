@@ -1,3 +1,5 @@
+ghost use Rattle.std.specs.Prelude.{◌≡◌, ◌↔◌, [], ◌∷◌, ◌++◌, IsNone, OnOk};
+
 use ports::{MemSink, MemSource};
 use std::alloc::{AllocError, Global};
 use std::mem;
@@ -7,6 +9,13 @@ use trace_runner::run;
 #[derive(Clone, Copy)]
 enum Part {
     Input,
+    Output,
+}
+
+/// In what a run is not what its case says.
+#[derive(Clone, Copy)]
+enum Difference {
+    Status,
     Output,
 }
 
@@ -43,15 +52,24 @@ impl Case {
         Ok(())
     }
 
-    pub fn begin_input(&mut self) {
+    pub fn begin_input(&mut self)
+        ensures { self.new.part ≡ Part.Input }
+    {
         self.part = Part::Input;
     }
 
-    pub fn begin_output(&mut self) {
+    pub fn begin_output(&mut self)
+        ensures { self.new.part ≡ Part.Output }
+    {
         self.part = Part::Output;
     }
 
-    pub fn push_bytes(&mut self, bytes: &[u8]) -> Result<(), AllocError> {
+    pub fn push_bytes(&mut self, bytes: &[u8]) -> Result<(), AllocError>
+        ensures input { self.old.part ≡ Part.Input
+            → OnOk result (self.new.input.items ≡ self.old.input.items ++ bytes.now) }
+        ensures output { self.old.part ≡ Part.Output
+            → OnOk result (self.new.output.items ≡ self.old.output.items ++ bytes.now) }
+    {
         match self.part {
             Part::Input => self.input.extend_from_slice(bytes),
             Part::Output => self.output.extend_from_slice(bytes),
@@ -66,12 +84,16 @@ impl Case {
         self.push_bytes(b"\n")
     }
 
-    pub fn fail_take(&mut self, call: u32) -> Result<(), AllocError> {
+    pub fn fail_take(&mut self, call: u32) -> Result<(), AllocError>
+        ensures { OnOk result (self.new.failing_takes.items ≡ self.old.failing_takes.items ++ call ∷ []) }
+    {
         self.failing_takes.push(call)?;
         Ok(())
     }
 
-    pub fn fail_put(&mut self, call: u32) -> Result<(), AllocError> {
+    pub fn fail_put(&mut self, call: u32) -> Result<(), AllocError>
+        ensures { OnOk result (self.new.failing_puts.items ≡ self.old.failing_puts.items ++ call ∷ []) }
+    {
         self.failing_puts.push(call)?;
         Ok(())
     }
@@ -85,13 +107,28 @@ impl Case {
         let mut sink = MemSink::new(alloc, puts);
         let status = run(alloc, self.words.as_slice(), &mut source, &mut sink).number();
         let name = self.name.as_str();
-        if u32::from(status) != wanted {
-            return format!(in alloc; "{name} ended with {status}, and not with {wanted}");
+        match self.difference(u32::from(status), wanted, sink.bytes()) {
+            None => format!(in alloc; "{name} ok"),
+            Some(Difference::Status) => format!(in alloc;
+                "{name} ended with {status}, and not with {wanted}"
+            ),
+            Some(Difference::Output) => {
+                let text = String::from_utf8_lossy(alloc, sink.bytes())?;
+                format!(in alloc; "{name} wrote {text}")
+            }
         }
-        if sink.bytes() != self.output.as_slice() {
-            let text = String::from_utf8_lossy(alloc, sink.bytes())?;
-            return format!(in alloc; "{name} wrote {text}");
+    }
+
+    /// In what a run with this status and output is not what the case says, if in anything.
+    fn difference(&self, status: u32, wanted: u32, written: &[u8]) -> Option<Difference>
+        ensures { IsNone result ↔ (status ≡ wanted) × (written.now ≡ self.now.output.items) }
+    {
+        if status != wanted {
+            return Some(Difference::Status);
         }
-        format!(in alloc; "{name} ok")
+        if written != self.output.as_slice() {
+            return Some(Difference::Output);
+        }
+        None
     }
 }
