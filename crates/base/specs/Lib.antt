@@ -1,2 +1,4 @@
 pub mod NumberMap
 pub mod Examples
+pub mod Places
+pub mod Zeros

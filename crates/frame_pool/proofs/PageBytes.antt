@@ -2,10 +2,9 @@
 use Rattle.std.proofs.Common.{◌≡◌, ℕ, zero, suc, ◌+◌, ◌-◌, ◌*◌, ◌<◌, ◌≤◌, List, [], ◌∷◌, ◌++◌, length, Some, None, refl, sym, ◌∙◌, ap, arith, length-append, append_assoc}
 use Rattle.std.proofs.Math.ListN.{set}
 use Rattle.std.proofs.Math.Nat.{mul-le-mul_left}
-use Rattle.std.proofs.lemmas.List.{set-append_left, set-append_right, replicate-append-replicate, length-replicate, append-nil}
+use Rattle.std.proofs.lemmas.List.{set-append_left, set-append_right, append-nil}
 use Rattle.std.proofs.lemmas.Option.{slice_get_past}
 use Rattle.std.specs.List.{All, concat, slice_get}
-use Rattle.frame_pool.specs.Pages.{zeros}
 
 -- ---- bytes of two lists in a row
 
@@ -75,23 +74,3 @@ set-concat size (p ∷ ps) (suc q) r n page v all below found e =
     let whole : length p ≡ size = first size p ps all in
     ap (λ bytes. p ++ bytes) (set-concat size ps q r (n - size) page v (others size p ps all) below found (omega arith))
     ∙ sym (set-append_right p (concat ps) size n v whole (omega arith))
-
--- ---- zeros
-
-pub zeros_more : (m n : ℕ) → zeros m ++ zeros n ≡ zeros (m + n)
-unfolding zeros
-zeros_more m n = replicate-append-replicate m n 0
-
-pub length-zeros : (n : ℕ) → length (zeros n) ≡ n
-unfolding zeros
-length-zeros n = length-replicate n 0
-
-pub no_zeros : zeros 0 ≡ []
-unfolding zeros
-no_zeros = refl
-
-pub slice_get-zeros : (count at : ℕ) → at < count → slice_get (zeros count) at ≡ Some 0
-unfolding zeros
-slice_get-zeros zero at h = absurd (omega arith)
-slice_get-zeros (suc count) zero h = refl
-slice_get-zeros (suc count) (suc at) h = slice_get-zeros count at (omega arith)

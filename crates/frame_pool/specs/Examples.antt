@@ -1,6 +1,7 @@
 -- The definitions on small inputs.
 use Rattle.std.specs.Prelude.{◌≡◌, [], ◌∷◌}
-use Rattle.frame_pool.specs.Pages.{page_count, zeros}
+use Rattle.base.specs.Zeros.{zeros}
+use Rattle.frame_pool.specs.Pages.{page_count}
 
 pub record Examples : Type 0 where
   pub no_zeros : zeros 0 ≡ []

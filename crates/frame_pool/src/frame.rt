@@ -1,5 +1,5 @@
 ghost use Rattle.std.specs.Prelude.{◌≡◌, ◌<◌, [], length, slice_get, slice_set, IfOk, Some};
-ghost use Rattle.frame_pool.specs.Pages.{zeros};
+ghost use Rattle.base.specs.Zeros.{zeros};
 
 use base::NoMemory;
 use std::alloc::Global;
@@ -34,7 +34,7 @@ impl Frame {
     }
 
     /// Makes zeros of all bytes.
-    #[tactic(auto, unfolding(crate::specs::Pages::zeros))]
+    #[tactic(auto, unfolding(base::specs::Zeros::zeros))]
     pub(crate) fn clear(&mut self)
         ensures { self.new ≡ zeros (length self.old) }
     {

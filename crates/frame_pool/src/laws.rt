@@ -1,8 +1,8 @@
 //! Laws over the definitions of `specs/`, each the contract of a function that does nothing.
 
-ghost use Rattle.frame_pool.specs.Pages.{ZerosAreZeros};
+ghost use Rattle.frame_pool.specs.Pages.{PagesOfZeros};
 
-/// A list of zeros is as long as it says, and has 0 at each place.
-pub fn zeros_are_zeros()
-    ensures { ZerosAreZeros }
+/// So many pages of zeros are so many pages.
+pub fn pages_of_zeros()
+    ensures { PagesOfZeros }
 {}

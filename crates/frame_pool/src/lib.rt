@@ -16,7 +16,7 @@ mod tests;
 pub use base::NoMemory;
 pub use examples::worked_examples;
 pub use frame::PAGE_BYTES;
-pub use laws::zeros_are_zeros;
+pub use laws::pages_of_zeros;
 pub use pages::{MAX_PAGES, Pages};
 pub use pool::{MAX_FRAMES, Pool};
 pub use short::Short;

@@ -1,5 +1,6 @@
 ghost use Rattle.std.specs.Prelude.{◌≡◌, ◌+◌, ◌-◌, ◌*◌, ◌<◌, ◌≤◌, ◌↔◌, length, vec_len, vec_capacity, IfOk, IfErr, IsErr, MatchResult};
-ghost use Rattle.frame_pool.specs.Pages.{AreWhole, page_count, zeros};
+ghost use Rattle.base.specs.Zeros.{zeros};
+ghost use Rattle.frame_pool.specs.Pages.{AreWhole, page_count};
 ghost use Rattle.frame_pool.specs.Pool.{Frames};
 
 use crate::frame::{Frame, PAGE_BYTES};

@@ -1,10 +1,12 @@
 -- What a lane has at an address, after a write to it too.
 use Rattle.std.proofs.Common.{◌≡◌, ℕ, ◌+◌, ◌-◌, ◌≤◌, List, ◌++◌, length, take, drop, refl, sym, ◌∙◌, ap, arith, append_assoc, length-append, length-drop}
-use Rattle.std.proofs.lemmas.List.{take-take, drop-take, length-take-le, take-append-le, length-replicate, drop-replicate, take-replicate, drop-drop}
+use Rattle.std.proofs.lemmas.List.{take-take, drop-take, length-take-le, take-append-le, drop-drop}
 use Rattle.std.proofs.lemmas.Bool.{le-leb}
 use Rattle.std.proofs.Math.Seq.{take-append_seam, drop-append_seam, drop-append-add}
 use Rattle.ns_ram.specs.declared.ram.TheConstants.{RAM_START, RAM_BYTES}
-use Rattle.ns_ram.specs.Lane.{IsInRam, bytes_from, bytes_at, bytes_put, zeros}
+use Rattle.ns_ram.specs.Lane.{IsInRam, bytes_from, bytes_at, bytes_put}
+use Rattle.base.specs.Zeros.{zeros}
+use Rattle.base.proofs.ZeroLemmas.{zeros-part}
 
 pub bytes_from-is : (lane : List ℕ) (addr : ℕ) → RAM_START ≤ addr →
     bytes_from lane addr ≡ drop (addr - RAM_START) lane
@@ -78,14 +80,6 @@ bytes_at-bytes_put_above lane addr bytes other len whole h above =
     rw n at (drop-append-add put (drop (offset + length bytes) lane) more)
     ∙ drop-drop more (offset + length bytes) lane ∙ ap (λ k. drop k lane) m in
     rw (bytes_at-is (bytes_put lane addr bytes) other len (omega arith), bytes_at-is lane other len (omega arith), same) refl
-
-pub length-zeros : (count : ℕ) → length (zeros count) ≡ count
-unfolding zeros
-length-zeros count = length-replicate count 0
-
-zeros-part : (count at len : ℕ) → at + len ≤ count → take len (drop at (zeros count)) ≡ zeros len
-unfolding zeros
-zeros-part count at len h = rw (drop-replicate {X = ℕ} at count 0) (take-replicate {X = ℕ} len (count - at) 0 (omega arith))
 
 pub bytes_at-zeros : (addr len : ℕ) → IsInRam addr len → bytes_at (zeros RAM_BYTES) addr len ≡ zeros len
 bytes_at-zeros addr len h =

@@ -1,10 +1,14 @@
 -- The RAM of the normal world as a list of bytes, of which the first stands at RAM_START.
-use Rattle.std.specs.Prelude.{◌≡◌, ℕ, ◌+◌, ◌-◌, ◌≤◌, List, [], ◌++◌, length, take, drop, replicate, ◌⊎◌, nat_le, if◌then◌else◌}
+use Rattle.std.specs.Prelude.{◌≡◌, ℕ, ◌+◌, ◌-◌, ◌≤◌, List, [], ◌++◌, length, take, drop, ◌⊎◌, Bool, ◌&&◌, nat_le, if◌then◌else◌}
 use Rattle.ns_ram.specs.declared.ram.TheConstants.{RAM_START, RAM_BYTES}
 
 -- the bytes of this address and length lie in RAM, all of them
 abbrev pub IsInRam : ℕ → ℕ → Type 0
 IsInRam addr len = (RAM_START ≤ addr) × (addr + len ≤ RAM_START + RAM_BYTES)
+
+-- the same as a test
+abbrev pub is_in_ram : ℕ → ℕ → Bool
+is_in_ram addr len = nat_le RAM_START addr && nat_le (addr + len) (RAM_START + RAM_BYTES)
 
 -- the bytes from an address on, to the end of RAM; none stand below RAM
 abbrev pub bytes_from : List ℕ → ℕ → List ℕ
@@ -27,7 +31,3 @@ pub record ChangesItsBytesAlone (lane : List ℕ) (addr : ℕ) (bytes : List ℕ
   pub others : (other len : ℕ) → IsInRam other len → (other + len ≤ addr) ⊎ (addr + length bytes ≤ other) →
       bytes_at (bytes_put lane addr bytes) other len ≡ bytes_at lane other len
   pub whole : length (bytes_put lane addr bytes) ≡ length lane
-
--- so many zeros. No proof computes it, since RAM has too many bytes for that
-unfoldable pub zeros : ℕ → List ℕ
-zeros count = replicate count 0

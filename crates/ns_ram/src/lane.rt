@@ -1,5 +1,6 @@
 ghost use Rattle.std.specs.Prelude.{◌≡◌, length, IfOk};
-ghost use Rattle.ns_ram.specs.Lane.{IsInRam, bytes_at, bytes_put, zeros};
+ghost use Rattle.base.specs.Zeros.{zeros};
+ghost use Rattle.ns_ram.specs.Lane.{IsInRam, bytes_at, bytes_put};
 
 use crate::ram::{RAM_BYTES, RAM_START};
 use base::NoMemory;
@@ -67,7 +68,7 @@ impl Lane {
 }
 
 /// So many zeros.
-#[tactic(auto, unfolding(crate::specs::Lane::zeros))]
+#[tactic(auto, unfolding(base::specs::Zeros::zeros))]
 fn zeroed(alloc: Global, count: usize) -> Result<Vec<u8>, NoMemory>
     ensures zeros { IfOk result (λ bytes. bytes.items ≡ zeros count) }
     ensures len { IfOk result (λ bytes. length bytes.items ≡ count) }

@@ -1,8 +1,9 @@
 //! Laws over the definitions of `specs/`, each the contract of a function that does nothing.
 
 ghost use Rattle.std.specs.Prelude.{◌≡◌, ℕ, List, length};
+ghost use Rattle.base.specs.Zeros.{zeros};
 ghost use Rattle.ns_ram.specs.Examples.{Examples};
-ghost use Rattle.ns_ram.specs.Lane.{ChangesItsBytesAlone, IsInRam, bytes_at, zeros};
+ghost use Rattle.ns_ram.specs.Lane.{ChangesItsBytesAlone, IsInRam, bytes_at};
 ghost use Rattle.ns_ram.specs.Reader.{AddsItsReads, IsReadFromLane, RunsInTurn};
 
 use crate::ram::RAM_BYTES;

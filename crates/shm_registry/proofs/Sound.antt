@@ -13,7 +13,7 @@ use Rattle.shm_registry.specs.declared.page_buffer.PageBuffer.{PageBuffer}
 use Rattle.shm_registry.specs.declared.pin.Pin.{Pin}
 use Rattle.shm_registry.specs.Pieces.{IsBuffer}
 use Rattle.shm_registry.specs.Registered.{IsKeptPin, IsSound, is_pin, without_slot, lowest_slot}
-use Rattle.shm_registry.specs.Search.{IsBefore}
+use Rattle.base.specs.Places.{IsBefore}
 
 -- ---- facts of each element
 

@@ -1,4 +1,3 @@
 pub mod Examples
 pub mod Pieces
 pub mod Registered
-pub mod Search

@@ -3,7 +3,7 @@ ghost use Rattle.std.specs.List.{AllByRecursion, list_any};
 ghost use Rattle.base.specs.NumberMap.{IsRising, NumberMap, get, insert, remove};
 ghost use Rattle.shm_registry.specs.Pieces.{IsBuffer, IsPieceOfRam};
 ghost use Rattle.shm_registry.specs.Registered.{IsSound, is_pin, lowest_slot, pieces_of, with_pin, without_slot};
-ghost use Rattle.shm_registry.specs.Search.{IsPlaceOf};
+ghost use Rattle.base.specs.Places.{IsPlaceOf};
 
 use crate::fault::{RegisterFault, ResolveFault, UnregisterFault};
 use crate::page_buffer::PageBuffer;

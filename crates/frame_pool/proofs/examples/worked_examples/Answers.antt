@@ -1,7 +1,7 @@
 use Rattle.std.proofs.Common.{◌≡◌, ◌/◌, [], ◌∷◌, refl, ap}
 use Rattle.frame_pool.specs.declared.frame.TheConstants.{PAGE_BYTES}
-use Rattle.frame_pool.specs.Pages.{zeros}
-use Rattle.frame_pool.proofs.PageBytes.{length-zeros, no_zeros}
+use Rattle.base.specs.Zeros.{zeros}
+use Rattle.base.proofs.ZeroLemmas.{length-zeros, no_zeros}
 use Rattle.frame_pool.proofs.examples.worked_examples.Goals as goal
 
 three_zeros : zeros 3 ≡ 0 ∷ 0 ∷ 0 ∷ []

@@ -1,7 +1,7 @@
 use Rattle.std.proofs.Common.{◌≡◌, ◌+◌, ◌*◌, length, refl, sym, ◌∙◌, ap, arith}
 use Rattle.frame_pool.specs.declared.frame.TheConstants.{PAGE_BYTES}
-use Rattle.frame_pool.specs.Pages.{zeros}
-use Rattle.frame_pool.proofs.PageBytes.{length-zeros, no_zeros, zeros_more}
+use Rattle.base.specs.Zeros.{zeros}
+use Rattle.base.proofs.ZeroLemmas.{length-zeros, no_zeros, zeros_more}
 use Rattle.frame_pool.proofs.pool.take_cleared.Goals as goal
 
 pub loop-i-init : goal.loop-i-init

@@ -1,6 +1,7 @@
 use Rattle.std.proofs.Common.{◌≡◌, ◌+◌, ◌*◌, vec_len, vec_capacity}
 use Rattle.frame_pool.specs.declared.frame.TheConstants.{PAGE_BYTES}
-use Rattle.frame_pool.specs.Pages.{AreWhole, zeros}
+use Rattle.base.specs.Zeros.{zeros}
+use Rattle.frame_pool.specs.Pages.{AreWhole}
 use Rattle.frame_pool.proofs.pool.take_cleared.Given as goal
 
 abbrev pub invariant-loop-i : goal.invariant-loop-i

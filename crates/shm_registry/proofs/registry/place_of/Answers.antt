@@ -1,6 +1,6 @@
 use Rattle.std.proofs.Common.{rules}
 use Rattle.std.proofs.lemmas.List.Sorted.{answers_always}
-use Rattle.shm_registry.proofs.Places.{searched}
+use Rattle.base.proofs.PlaceLemmas.{searched}
 use Rattle.shm_registry.proofs.registry.place_of.Goals as goal
 
 -- the closure gives an entry's number

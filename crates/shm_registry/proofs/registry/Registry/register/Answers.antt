@@ -1,6 +1,6 @@
 use Rattle.std.proofs.Common.{◌≡◌, ◌<◌, ◌++◌, ◌∷◌, take, drop, length, IsSome, refl, arith}
 use Rattle.base.specs.NumberMap.{NumberMap, get}
-use Rattle.shm_registry.specs.Search.{IsAt, IsBefore}
+use Rattle.base.specs.Places.{IsAt, IsBefore}
 use Rattle.shm_registry.specs.declared.page_buffer.PageBuffer.{PageBuffer}
 use Rattle.shm_registry.proofs.Sound.{IsSound-insert, some_or_none}
 use Rattle.shm_registry.proofs.registry.Registry.register.Goals as goal

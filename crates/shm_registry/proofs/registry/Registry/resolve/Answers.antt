@@ -3,7 +3,7 @@ use Rattle.std.specs.List.{AllByRecursion}
 use Rattle.base.specs.NumberMap.{NumberMap}
 use Rattle.shm_registry.specs.declared.page_buffer.PageBuffer.{PageBuffer}
 use Rattle.shm_registry.specs.Pieces.{IsBuffer}
-use Rattle.shm_registry.specs.Search.{IsAt}
+use Rattle.base.specs.Places.{IsAt}
 use Rattle.shm_registry.proofs.Cutting.{buffer-room, buffer-small}
 use Rattle.shm_registry.proofs.Sound.{All-at}
 use Rattle.shm_registry.proofs.registry.Registry.resolve.Goals as goal

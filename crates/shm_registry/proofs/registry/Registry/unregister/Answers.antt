@@ -1,6 +1,6 @@
 use Rattle.std.proofs.Common.{◌≡◌, IsSome, Some, None, refl, sym}
 use Rattle.base.specs.NumberMap.{NumberMap, get}
-use Rattle.shm_registry.specs.Search.{IsAt, IsBefore}
+use Rattle.base.specs.Places.{IsAt, IsBefore}
 use Rattle.shm_registry.specs.Registered.{lowest_slot}
 use Rattle.shm_registry.specs.declared.page_buffer.PageBuffer.{PageBuffer}
 use Rattle.shm_registry.proofs.Sound.{IsSound-remove, lowest_kept, some_or_none}

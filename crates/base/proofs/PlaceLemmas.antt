@@ -1,13 +1,13 @@
 -- Where a number stands in a map, or would: what a binary search finds, and the map with it and without it.
 use Rattle.std.proofs.Common.{◌≡◌, ℕ, zero, suc, ◌<◌, ◌≤◌, Bool, true, false, ◌&&◌, [], ◌∷◌, length, get_or, Result, Ok, Err, refl, sym, ap, arith}
 use Rattle.std.specs.Ordering.{nat_cmp, is_lt, eq_by_cmp, ordering_index}
-use Rattle.std.specs.declared.cmp.Ordering.TheVariants.{Less, Greater}
+use Rattle.std.specs.declared.cmp.Ordering.TheVariants.{Less, Equal, Greater}
 use Rattle.std.specs.List.Sorted.{IsSearchInRange, IsBinarySearchResult, IsNonDecreasingBy}
 use Rattle.std.specs.FinMap.Entries as Entries
 use Rattle.std.proofs.lemmas.Bool.Decides.{nat_tests}
 use Rattle.std.proofs.lemmas.Cmp.{ranked}
 use Rattle.base.specs.NumberMap.{NumberMap, remove, IsRising}
-use Rattle.shm_registry.specs.Search.{IsAt, IsBefore, IsPlaceOf}
+use Rattle.base.specs.Places.{IsAt, IsBefore, IsPlaceOf}
 
 both : (a b : Bool) → (a && b) ≡ true → (a ≡ true) × (b ≡ true)
 both true b e = (refl, e)
@@ -47,23 +47,29 @@ found : {X : Type 0} (m : NumberMap X) (k i : ℕ) → IsRising m → i < length
 found [] k i h q is = absurd (omega arith)
 found {X} (e ∷ es) k zero h q is =
     let here : e.0 ≡ k = is e in
+    let order : nat_cmp k e.0 ≡ Equal = grind (arith, nat_tests) in
     let hit : eq_by_cmp nat_cmp k e.0 ≡ true = same k e.0 here in
     record {
       inside = q;
+      numbered = is;
       some = rw hit refl;
       value = λ d. rw hit refl;
+      with = λ value. rw order (ap (λ n. (n, value) ∷ es) here);
       without = rw hit (kept k e.0 es (omega arith) (both _ _ h).0);
     }
 found {X} (e ∷ es) k (suc i) h q is =
     let inner : i < length es = omega arith in
-    let rest : IsAt X es k i = found es k i (both _ _ h).1 inner is in
     let low : e.0 < (get_or es i e).0 = below_at e.0 es i e (both _ _ h).0 inner in
     let after : e.0 < k = rw (is e) at low in
+    let order : nat_cmp k e.0 ≡ Greater = grind (arith, nat_tests) in
     let miss : eq_by_cmp nat_cmp k e.0 ≡ false = other k e.0 (λ p. omega arith) in
+    let rest : IsAt X es k i = found es k i (both _ _ h).1 inner is in
     record {
       inside = q;
+      numbered = is;
       some = rw miss rest.some;
       value = λ d. rw miss (rest.value d);
+      with = λ value. rw order (ap (λ others. e ∷ others) (rest.with value));
       without = rw miss (ap (λ others. e ∷ others) rest.without);
     }
 
