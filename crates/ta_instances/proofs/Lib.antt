@@ -1,0 +1,2 @@
+pub mod KeptInstances
+pub mod LeastNumber

@@ -1,0 +1,147 @@
+ghost use Rattle.std.specs.Prelude.{◌≡◌, ◌<◌, [], true, None, Some, IfOk, find, length};
+ghost use Rattle.std.specs.Option.{IsSomeAnd, option_copied, option_map};
+ghost use Rattle.std.specs.Str.{bytes_eq};
+ghost use Rattle.base.specs.NumberMap.{IsRising, get, insert, remove};
+ghost use Rattle.base.specs.Places.{IsPlaceOf};
+ghost use Rattle.ta_instances.specs.Instance.{given_back, held_by, killed, made};
+ghost use Rattle.ta_instances.specs.Instances.{AreInstances, changed, is_free, is_held, least_with};
+
+use crate::instance::Instance;
+use base::NoMemory;
+use frame_pool::Pages;
+use std::alloc::Global;
+use std::marker::Model;
+use tee_storage::Handles;
+use uuid::Uuid;
+
+/// The most instances that are kept at a time.
+pub const MAX_INSTANCES: usize = 80;
+
+/// The instances by their numbers.
+#[derive(Drop)]
+pub struct Instances {
+    /// In rising order of numbers, with room for all that may be kept.
+    kept: Vec<(u32, Instance)>,
+}
+
+impl Model for Instances {
+    ghost use Rattle.std.specs.Prelude.{◌≤◌, vec_capacity};
+    ghost use Rattle.base.specs.NumberMap.{NumberMap};
+    ghost use Rattle.ta_instances.specs.declared.instance.Instance.{Instance};
+    ghost use Rattle.ta_instances.specs.Instances.{AreInstances};
+
+    ghost Value = { NumberMap Instance };
+
+    ghost view = { λ i. i.kept.items };
+
+    ghost invariant = { λ i. AreInstances i.kept.items × (80 ≤ vec_capacity i.kept) };
+}
+
+impl Instances {
+    /// No instance. No call after this one takes memory.
+    pub fn new(alloc: Global) -> Result<Instances, NoMemory>
+        ensures { IfOk result (λ instances. instances ≡ []) }
+    {
+        let kept = Vec::with_capacity(alloc, MAX_INSTANCES)?;
+        Ok(Instances { kept })
+    }
+
+    /// The instance of this number, if it is kept.
+    pub fn get(&self, number: u32) -> Option<&Instance>
+        ensures instance { option_copied result ≡ get self.now number }
+        ensures instances { AreInstances self.now }
+    {
+        let Ok(place) = place_of(self.kept.as_slice(), number) else {
+            return None;
+        };
+        Some(&self.kept[place].1)
+    }
+
+    /// The least number of an instance of the application with this UUID, if one is kept.
+    pub fn find(&self, uuid: &Uuid) -> Option<u32>
+        ensures { result ≡ least_with self.now uuid.now }
+    {
+        first_with(self.kept.as_slice(), uuid)
+    }
+
+    /// Keeps a new instance, which is alive, and which no call holds.
+    pub fn make(&mut self, number: u32, uuid: Uuid, flags: u32, memory: Option<Pages>)
+        requires absent { get self.old number ≡ None }
+        requires room { length self.old < 80 }
+        ensures { self.new ≡ insert self.old number (made uuid flags memory) }
+    {
+        let Err(place) = place_of(self.kept.as_slice(), number) else {
+            unreachable!()
+        };
+        let instance = Instance::new(uuid, flags, memory);
+        self.kept.insert(place, (number, instance)).unwrap();
+    }
+
+    /// Lets the call of a slot hold an instance that no call holds, and moves its memory and open objects out.
+    pub fn hold(&mut self, number: u32, slot: u8) -> (Option<Pages>, Handles)
+        requires { is_free self.old number ≡ true }
+        ensures moved { option_map (λ instance. (instance.memory, instance.objects))
+            (get self.old number) ≡ Some result }
+        ensures after { self.new ≡ changed self.old number (held_by slot) }
+    {
+        let Ok(place) = place_of(self.kept.as_slice(), number) else {
+            unreachable!()
+        };
+        self.kept[place].1.hold(slot)
+    }
+
+    /// Puts memory and open objects of an instance that a call holds back, and nobody holds it.
+    pub fn give_back(&mut self, number: u32, memory: Option<Pages>, objects: Handles)
+        requires held { is_held self.old number ≡ true }
+        requires dead { IsSomeAnd (get self.old number)
+            (λ instance. instance.dead ≡ true → memory ≡ None) }
+        ensures { self.new ≡ changed self.old number (given_back memory objects) }
+    {
+        let Ok(place) = place_of(self.kept.as_slice(), number) else {
+            unreachable!()
+        };
+        self.kept[place].1.give_back(memory, objects);
+    }
+
+    /// Kills an instance that a call holds. What was moved out of it does not come back.
+    pub fn kill(&mut self, number: u32)
+        requires { is_held self.old number ≡ true }
+        ensures { self.new ≡ changed self.old number killed }
+    {
+        let Ok(place) = place_of(self.kept.as_slice(), number) else {
+            unreachable!()
+        };
+        self.kept[place].1.kill();
+    }
+
+    /// Takes an instance away that no call holds, and gives its memory. Its open objects are forgotten.
+    pub fn remove(&mut self, number: u32) -> Option<Pages>
+        requires { is_free self.old number ≡ true }
+        ensures memory { option_map (λ instance. instance.memory) (get self.old number) ≡ Some result }
+        ensures after { self.new ≡ remove self.old number }
+    {
+        let Ok(place) = place_of(self.kept.as_slice(), number) else {
+            unreachable!()
+        };
+        let (_number, instance) = self.kept.remove(place);
+        let Instance { memory, .. } = instance;
+        memory
+    }
+}
+
+/// The number of the first instance of the application with this UUID.
+fn first_with(kept: &[(u32, Instance)], uuid: &Uuid) -> Option<u32>
+    ensures { result ≡ option_map (λ entry. entry.0)
+        (find (λ entry. bytes_eq entry.1.uuid uuid.now) kept.now) }
+{
+    let first = kept.iter().find(|entry| entry.1.uuid == *uuid)?;
+    Some(first.0)
+}
+
+/// Where the instance of the number stands, or else where it would.
+fn place_of(kept: &[(u32, Instance)], number: u32) -> Result<usize, usize>
+    requires { IsRising kept.now }
+    ensures { IsPlaceOf kept.now number result }
+{
+    kept.binary_search_by_key(&number, |entry| entry.0)
+}
