@@ -1,0 +1,131 @@
+-- Writes to a lane, one after the other.
+use Rattle.std.proofs.Common.{◌≡◌, ℕ, zero, suc, ◌+◌, ◌<◌, ◌≤◌, Bool, true, false, nat_le, List, [], ◌∷◌, ◌++◌, length, take, drop, get_or, Some, inl, inr, refl, sym, ◌∙◌, cond, arith}
+use Rattle.std.proofs.lemmas.List.{length-take}
+use Rattle.std.proofs.Math.Seq.{drop-cons, drop-length}
+use Rattle.std.specs.Prelude.{slice_get}
+use Rattle.std.specs.List.{AllByRecursion}
+use Rattle.ns_ram.specs.declared.ram.TheConstants.{RAM_BYTES}
+use Rattle.ns_ram.specs.Lane.{IsInRam, bytes_put}
+use Rattle.ns_ram.proofs.LaneBytes.{bytes_at-bytes_put_above, bytes_at-bytes_put_below, length-bytes_put}
+use Rattle.shm_registry.specs.declared.piece.Piece.{Piece}
+use Rattle.shm_registry.specs.Pieces.{IsPieceOfRam}
+use Rattle.ta_params.specs.declared.copied_params.Way.TheVariants.{In, Out, Inout}
+use Rattle.ta_params.specs.declared.copied_params.GpParam.{GpParam}
+use Rattle.ta_params.specs.declared.copied_params.GpParam.TheVariants.{Empty, Value, Memref}
+use Rattle.param_copy.specs.declared.copied.Place.{Place}
+use Rattle.param_copy.specs.Places.{IsWritable}
+use Rattle.param_copy.specs.WritingBack.{ChangeTheirBytesAlone, IsWriteOfRam, Write, bytes_to, lane_after, memory_to, param_addr, param_writes, values_to, word_to, writes_of}
+
+pub lane_after-append : (lane : List ℕ) (first second : List Write) → lane_after lane (first ++ second) ≡ lane_after (lane_after lane first) second
+lane_after-append lane [] second = refl
+lane_after-append lane (write ∷ first) second = lane_after-append (bytes_put lane write.addr write.bytes) first second
+
+-- ---- bytes into pieces
+
+-- so far the pieces before this index are written, and these bytes are left
+pub record PiecesPut (pieces : List Piece) (bytes before : List ℕ) (index : ℕ) (left lane : List ℕ) : Type 0 where
+  pub whole : lane_after before (bytes_to pieces bytes) ≡ lane_after lane (bytes_to (drop index pieces) left)
+  pub in_ram : AllByRecursion IsPieceOfRam (drop index pieces)
+
+pub PiecesPut-none : (pieces : List Piece) (bytes before : List ℕ) → AllByRecursion IsPieceOfRam pieces → PiecesPut pieces bytes before 0 bytes before
+PiecesPut-none pieces bytes before h = record { whole = refl; in_ram = h }
+
+-- ---- one parameter after the other
+
+-- so far the parameters before this index are written
+pub record PlacesPut (arg : ℕ) (places : List Place) (params : List GpParam) (before : List ℕ) (index : ℕ) (lane : List ℕ) : Type 0 where
+  pub whole : lane_after before (writes_of arg places params) ≡ lane_after lane (writes_of arg (drop index places) (drop index params))
+  pub writable : AllByRecursion (IsWritable arg) (drop index places)
+
+pub PlacesPut-none : (arg : ℕ) (places : List Place) (params : List GpParam) (before : List ℕ) → AllByRecursion (IsWritable arg) places →
+    PlacesPut arg places params before 0 before
+PlacesPut-none arg places params before h = record { whole = refl; writable = h }
+
+pub PlacesPut-writable : (arg : ℕ) (places : List Place) (params : List GpParam) (before : List ℕ) (index : ℕ) (lane : List ℕ) (place d : Place) →
+    PlacesPut arg places params before index lane → index < length places → place ≡ get_or places index d → IsWritable arg place
+PlacesPut-writable arg places params before index lane place d p inside e =
+    let all : AllByRecursion (IsWritable arg) (get_or places index d ∷ drop (suc index) places) = rw (drop-cons places index d inside) at p.writable in
+    rw e all.0
+
+drop-slice_get : {A : Type 0} (xs : List A) (index : ℕ) (x : A) → slice_get xs index ≡ Some x → drop index xs ≡ x ∷ drop (suc index) xs
+drop-slice_get [] zero x e = absurd (cc)
+drop-slice_get [] (suc index) x e = absurd (cc)
+drop-slice_get (y ∷ xs) zero x e = let same : y ≡ x = cc in rw same refl
+drop-slice_get (y ∷ xs) (suc index) x e = drop-slice_get xs index x e
+
+pub PlacesPut-next : (arg : ℕ) (places : List Place) (params : List GpParam) (before : List ℕ) (index : ℕ) (lane : List ℕ) (place d : Place) (param : GpParam) (after : List ℕ) →
+    PlacesPut arg places params before index lane → index < length places → place ≡ get_or places index d → slice_get params index ≡ Some param →
+    after ≡ lane_after lane (param_writes arg place param) → PlacesPut arg places params before (index + 1) after
+PlacesPut-next arg places params before index lane place d param after p inside e f put =
+    let one_more : index + 1 ≡ suc index = omega arith in
+    let here : drop index places ≡ place ∷ drop (suc index) places = rw e (drop-cons places index d inside) in
+    let there : drop index params ≡ param ∷ drop (suc index) params = drop-slice_get params index param f in
+    let all : AllByRecursion (IsWritable arg) (place ∷ drop (suc index) places) = rw here at p.writable in
+    rw (one_more, put)
+    record {
+      whole = p.whole ∙ rw (here, there) (lane_after-append lane (param_writes arg place param) (writes_of arg (drop (suc index) places) (drop (suc index) params)));
+      writable = all.1;
+    }
+
+pub PlacesPut-all : (arg : ℕ) (places : List Place) (params : List GpParam) (before : List ℕ) (lane : List ℕ) →
+    PlacesPut arg places params before (length places) lane → lane ≡ lane_after before (writes_of arg places params)
+PlacesPut-all arg places params before lane p = sym (p.whole ∙ rw (drop-length places) refl)
+
+-- ---- what writes leave alone
+
+pub lane_after-alone : (lane : List ℕ) (writes : List Write) → length lane ≡ RAM_BYTES → AllByRecursion IsWriteOfRam writes → ChangeTheirBytesAlone lane writes
+lane_after-alone lane [] whole h = record { others = λ addr len inside apart. refl; whole = refl }
+lane_after-alone lane (write ∷ writes) whole h =
+    let still : length (bytes_put lane write.addr write.bytes) ≡ RAM_BYTES = length-bytes_put lane write.addr write.bytes whole h.0 in
+    let rest = lane_after-alone (bytes_put lane write.addr write.bytes) writes still h.1 in
+    record {
+      others = λ addr len inside apart. rest.others addr len inside apart.1 ∙ elim apart.0 [
+        | inl below ↦ bytes_at-bytes_put_below lane write.addr write.bytes addr len whole h.0 inside below
+        | inr above ↦ bytes_at-bytes_put_above lane write.addr write.bytes addr len whole h.0 above
+      ];
+      whole = rest.whole ∙ still ∙ sym whole;
+    }
+
+All-append : (xs ys : List Write) → AllByRecursion IsWriteOfRam xs → AllByRecursion IsWriteOfRam ys → AllByRecursion IsWriteOfRam (xs ++ ys)
+All-append [] ys p q = q
+All-append (x ∷ xs) ys p q = (p.0, All-append xs ys p.1 q)
+
+bytes_to-in_ram : (pieces : List Piece) (bytes : List ℕ) → AllByRecursion IsPieceOfRam pieces → AllByRecursion IsWriteOfRam (bytes_to pieces bytes)
+bytes_to-in_ram [] [] h = tt
+bytes_to-in_ram (piece ∷ pieces) [] h = tt
+bytes_to-in_ram [] (byte ∷ bytes) h = tt
+bytes_to-in_ram (piece ∷ pieces) (byte ∷ bytes) h =
+    let inside : IsPieceOfRam piece = h.0 in
+    let len : length (take piece.len (byte ∷ bytes)) ≤ piece.len = omega (arith, length-take piece.len (byte ∷ bytes)) in
+    ((inside.0, omega arith), bytes_to-in_ram pieces (drop piece.len (byte ∷ bytes)) h.1)
+
+word-in_ram : (addr offset number : ℕ) → IsInRam addr 32 → offset ≤ 24 → IsWriteOfRam (word_to (addr + offset) number)
+word-in_ram addr offset number h few = (omega (arith, h.0), omega (arith, h.1))
+
+values-in_ram : (addr a b : ℕ) → IsInRam addr 32 → AllByRecursion IsWriteOfRam (values_to addr a b)
+values-in_ram addr a b h = (word-in_ram addr 8 a h (omega arith), (word-in_ram addr 16 b h (omega arith), tt))
+
+bytes-in_ram : (b : Bool) (pieces : List Piece) (bytes : List ℕ) → AllByRecursion IsPieceOfRam pieces → AllByRecursion IsWriteOfRam (cond b (bytes_to pieces bytes) [])
+bytes-in_ram true pieces bytes h = bytes_to-in_ram pieces bytes h
+bytes-in_ram false pieces bytes h = tt
+
+memory-in_ram : (addr : ℕ) (pieces : List Piece) (bytes : List ℕ) (size : ℕ) → IsInRam addr 32 → AllByRecursion IsPieceOfRam pieces →
+    AllByRecursion IsWriteOfRam (memory_to addr pieces bytes size)
+memory-in_ram addr pieces bytes size h in_ram =
+    (word-in_ram addr 16 size h (omega arith), bytes-in_ram (nat_le size (length bytes)) pieces (take size bytes) in_ram)
+
+param-in_ram : (arg : ℕ) (place : Place) (param : GpParam) → IsWritable arg place → AllByRecursion IsWriteOfRam (param_writes arg place param)
+param-in_ram arg place Empty w = tt
+param-in_ram arg place (Value In a b) w = tt
+param-in_ram arg place (Value Out a b) w = values-in_ram (param_addr arg place) a b w.argument
+param-in_ram arg place (Value Inout a b) w = values-in_ram (param_addr arg place) a b w.argument
+param-in_ram arg place (Memref In bytes size) w = tt
+param-in_ram arg place (Memref Out bytes size) w = memory-in_ram (param_addr arg place) place.pieces bytes size w.argument w.pieces
+param-in_ram arg place (Memref Inout bytes size) w = memory-in_ram (param_addr arg place) place.pieces bytes size w.argument w.pieces
+
+pub writes_of-in_ram : (arg : ℕ) (places : List Place) (params : List GpParam) → AllByRecursion (IsWritable arg) places →
+    AllByRecursion IsWriteOfRam (writes_of arg places params)
+writes_of-in_ram arg [] params w = tt
+writes_of-in_ram arg (place ∷ places) [] w = tt
+writes_of-in_ram arg (place ∷ places) (param ∷ params) w =
+    All-append (param_writes arg place param) (writes_of arg places params) (param-in_ram arg place param w.0) (writes_of-in_ram arg places params w.1)

@@ -1,0 +1,87 @@
+-- What a call writes back of its parameters, in order. Each write stands over the ones before it.
+use Rattle.std.specs.Prelude.{◌≡◌, ℕ, ◌+◌, ◌*◌, ◌≤◌, ◌⊎◌, nat_le, List, [], ◌∷◌, ◌++◌, length, take, drop, if◌then◌else◌}
+use Rattle.std.specs.List.{AllByRecursion}
+use Rattle.std.specs.Int.{to_le_bytes, w64}
+use Rattle.ns_ram.specs.Lane.{IsInRam, bytes_at, bytes_put}
+use Rattle.shm_registry.specs.declared.piece.Piece.{Piece}
+use Rattle.ta_params.specs.declared.copied_params.Way.TheVariants.{In, Out, Inout}
+use Rattle.ta_params.specs.declared.copied_params.GpParam.{GpParam}
+use Rattle.ta_params.specs.declared.copied_params.GpParam.TheVariants.{Empty, Value, Memref}
+use Rattle.ta_params.specs.declared.copied_params.CopiedParams.{CopiedParams}
+use Rattle.param_copy.specs.declared.copied.Place.{Place}
+
+-- bytes that go to an address
+pub record Write : Type 0 where
+  pub addr : ℕ
+  pub bytes : List ℕ
+
+-- the lane after these writes
+abbrev pub lane_after : List ℕ → List Write → List ℕ
+lane_after lane [] = lane
+lane_after lane (write ∷ writes) = lane_after (bytes_put lane write.addr write.bytes) writes
+
+-- a number of eight bytes, the lowest first
+abbrev pub word_to : ℕ → ℕ → Write
+word_to addr number = record { addr = addr; bytes = to_le_bytes w64 number }
+
+-- the address of a parameter of the argument; its p stands at 8 there, and its q at 16
+abbrev pub param_addr : ℕ → Place → ℕ
+param_addr arg place = arg + 32 + 32 * place.number
+
+-- bytes into pieces, the first piece first
+abbrev pub bytes_to : List Piece → List ℕ → List Write
+bytes_to pieces [] = []
+bytes_to [] (byte ∷ bytes) = []
+bytes_to (piece ∷ pieces) (byte ∷ bytes) =
+    let all = byte ∷ bytes in
+    record { addr = piece.addr; bytes = take piece.len all } ∷ bytes_to pieces (drop piece.len all)
+
+-- the size, and as many of the bytes, where there are so many
+abbrev pub memory_to : ℕ → List Piece → List ℕ → ℕ → List Write
+memory_to addr pieces bytes size =
+    let byte_writes = if nat_le size (length bytes) then bytes_to pieces (take size bytes) else [] in
+    word_to (addr + 16) size ∷ byte_writes
+
+-- two numbers
+abbrev pub values_to : ℕ → ℕ → ℕ → List Write
+values_to addr a b = word_to (addr + 8) a ∷ word_to (addr + 16) b ∷ []
+
+-- the writes of one parameter: an input has none
+abbrev pub param_writes : ℕ → Place → GpParam → List Write
+param_writes arg place Empty = []
+param_writes arg place (Value In a b) = []
+param_writes arg place (Value Out a b) = values_to (param_addr arg place) a b
+param_writes arg place (Value Inout a b) = values_to (param_addr arg place) a b
+param_writes arg place (Memref In bytes size) = []
+param_writes arg place (Memref Out bytes size) = memory_to (param_addr arg place) place.pieces bytes size
+param_writes arg place (Memref Inout bytes size) = memory_to (param_addr arg place) place.pieces bytes size
+
+-- one parameter after the other
+abbrev pub writes_of : ℕ → List Place → List GpParam → List Write
+writes_of arg [] params = []
+writes_of arg (place ∷ places) [] = []
+writes_of arg (place ∷ places) (param ∷ params) = param_writes arg place param ++ writes_of arg places params
+
+-- the four parameters of a call
+abbrev pub params_of : CopiedParams → List GpParam
+params_of params = params.p0 ∷ params.p1 ∷ params.p2 ∷ params.p3 ∷ []
+
+-- what is written back to the argument at an address, and to the places of its parameters
+abbrev pub writes_back : ℕ → List Place → CopiedParams → List Write
+writes_back arg places params = writes_of arg places (params_of params)
+
+-- ---- what writes leave alone
+
+-- all bytes of the write lie in RAM
+abbrev pub IsWriteOfRam : Write → Type 0
+IsWriteOfRam write = IsInRam write.addr (length write.bytes)
+
+-- the bytes of this address and length lie apart from the write's
+abbrev pub IsApart : ℕ → ℕ → Write → Type 0
+IsApart addr len write = (addr + len ≤ write.addr) ⊎ (write.addr + length write.bytes ≤ addr)
+
+-- bytes apart from all writes stay, and the lane is as long as before
+pub record ChangeTheirBytesAlone (lane : List ℕ) (writes : List Write) : Type 0 where
+  pub others : (addr len : ℕ) → IsInRam addr len → AllByRecursion (IsApart addr len) writes →
+      bytes_at (lane_after lane writes) addr len ≡ bytes_at lane addr len
+  pub whole : length (lane_after lane writes) ≡ length lane

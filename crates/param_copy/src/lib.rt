@@ -1,0 +1,29 @@
+//! The parameters of a call, copied out of the RAM of the normal world once, and what a call writes back.
+//!
+//! A parameter that is memory stands in RAM in pieces, which the normal world names by an address, by a
+//! chain of page lists, or by a registered buffer. What is copied of them at a call's entry is all that the
+//! call ever sees, so this is the one place where its buffers are read; what was read is listed, also where
+//! a parameter is refused. Where the bytes came from is kept beside the copy, and that is where results go.
+//!
+//! The definitions follow `optee_msg.h`, and the parameters are those of the GlobalPlatform TEE Internal
+//! Core API.
+#![tactic(auto)]
+
+mod copied;
+mod fault;
+mod laws;
+mod memory;
+mod take;
+mod taken;
+#[cfg(test)]
+mod tests;
+mod write_back;
+
+pub use copied::{Copied, MAX_MEMREF_BYTES, Place, Places, copy_in};
+pub use fault::CopyFault;
+pub use laws::{
+    pieces_have_the_size, worked_examples, writes_back_lie_in_ram, writes_change_their_bytes_alone,
+};
+pub use take::take_params;
+pub use taken::TakenParams;
+pub use write_back::copy_out;
