@@ -1,0 +1,149 @@
+-- Steps of a job one after another, and its one stop.
+use Rattle.std.proofs.Common.{◌≡◌, ℕ, zero, suc, ◌+◌, ◌≤◌, Option, Some, None, refl, ap, sym, subst, ◌∙◌, zero-add, arith}
+use Rattle.std.specs.Option.{option_map, option_or, option_and_then}
+use Rattle.ta_isa.specs.declared.image.Image.{Image}
+use Rattle.ta_step.specs.Outcome.{Outcome}
+use Rattle.ta_step.specs.Outcome as outcome
+use Rattle.ta_step.specs.State.{State}
+use Rattle.ta_step.specs.Step.{step}
+use Rattle.job_model.specs.Point.{Point}
+use Rattle.job_model.specs.Job.{Body, Machine, Nothing, Job, at_point}
+use Rattle.job_model.specs.Steps.{JobStop, Advance, Goes, Stops, returned, still_to_come, followed, advanced, advance_of, advance, where_it_goes, after, ended_at_once, stop_behind, stop_at, After, Stop, Grant, Left, Stopped, one_later, granted_behind, run_for, granted, IsGrant}
+use Rattle.std.specs.Prelude.{List, [], ◌∷◌}
+
+after_advance : (m n : ℕ) (o : Option Advance) → ((job : Job) → after (m + n) job ≡ option_and_then (after n) (after m job))
+    → option_and_then (where_it_goes (after (m + n))) o ≡ option_and_then (after n) (option_and_then (where_it_goes (after m)) o)
+after_advance m n None adds = refl
+after_advance m n (Some (Goes job)) adds = adds job
+after_advance m n (Some (Stops why)) adds = refl
+
+pub after-sum : (job : Job) (m n : ℕ) → after (m + n) job ≡ option_and_then (after n) (after m job)
+after-sum job zero n = ap (λ (k : ℕ). after k job) (zero-add n)
+after-sum job (suc m) n =
+    let e : suc m + n ≡ suc (m + n) = omega arith in
+    ap (λ (k : ℕ). after k job) e ∙ after_advance m n (advance job) (λ next. after-sum next m n)
+
+stop_advance : (m n : ℕ) (left : Job) (o : Option Advance) → ((job : Job) → After job m left → stop_at (m + n) job ≡ stop_at n left)
+    → option_and_then (where_it_goes (after m)) o ≡ Some left → option_and_then (stop_behind (stop_at (m + n)) (m + n)) o ≡ stop_at n left
+stop_advance m n left None adds h = absurd cc
+stop_advance m n left (Some (Goes job)) adds h = adds job h
+stop_advance m n left (Some (Stops why)) adds h = absurd cc
+
+pub stop_at-sum : (job left : Job) (m n : ℕ) → After job m left → stop_at (m + n) job ≡ stop_at n left
+stop_at-sum job left zero n h =
+    let same : job ≡ left = cc in
+    ap (λ (k : ℕ). stop_at k job) (zero-add n) ∙ ap (λ (j : Job). stop_at n j) same
+stop_at-sum job left (suc m) n h =
+    let e : suc m + n ≡ suc (m + n) = omega arith in
+    ap (λ (k : ℕ). stop_at k job) e ∙ stop_advance m n left (advance job) (λ next. stop_at-sum next left m n) h
+
+-- a job that has ended at once has no step
+at_once : (job : Job) (body : Body) (rest : Advance → Option JobStop) (first second : JobStop)
+    → ended_at_once job body ≡ Some first → option_and_then rest (advance_of job body) ≡ Some second → ⊥
+at_once job (Machine image point machine) rest first second e f = cc
+at_once job Nothing rest first second e f = cc
+
+stops_at_one : (m n : ℕ) (why first second : JobStop) (rest other : Job → Option JobStop)
+    → stop_behind rest m (Stops why) ≡ Some first → stop_behind other n (Stops why) ≡ Some second → (suc m ≡ suc n) × (first ≡ second)
+stops_at_one zero zero why first second rest other e f = (refl, cc)
+stops_at_one zero (suc n) why first second rest other e f = absurd cc
+stops_at_one (suc m) n why first second rest other e f = absurd cc
+
+later_stops : (m n : ℕ) (o : Option Advance) (first second : JobStop)
+    → ((job : Job) → Stop job m first → Stop job n second → (m ≡ n) × (first ≡ second))
+    → option_and_then (stop_behind (stop_at m) m) o ≡ Some first → option_and_then (stop_behind (stop_at n) n) o ≡ Some second
+    → (suc m ≡ suc n) × (first ≡ second)
+later_stops m n None first second same e f = absurd cc
+later_stops m n (Some (Goes job)) first second same e f = let h = same job e f in (ap suc h.0, h.1)
+later_stops m n (Some (Stops why)) first second same e f = stops_at_one m n why first second (stop_at m) (stop_at n) e f
+
+pub one_stop : (job : Job) (m n : ℕ) (first second : JobStop) → Stop job m first → Stop job n second → (m ≡ n) × (first ≡ second)
+one_stop job zero zero first second e f = (refl, cc)
+one_stop job zero (suc n) first second e f = absurd (at_once job job.body (stop_behind (stop_at n) n) first second e f)
+one_stop job (suc m) zero first second e f = absurd (at_once job job.body (stop_behind (stop_at m) m) second first f e)
+one_stop job (suc m) (suc n) first second e f = later_stops m n (advance job) first second (λ next. one_stop next m n first second) e f
+
+-- ---- grants
+
+followed_runs : (job next : Job) (image : Image) (point : Point) (machine : State) (points : List Point)
+    → followed job image point machine points ≡ Goes next → stop_at 0 next ≡ None
+followed_runs job next image point machine [] e = absurd cc
+followed_runs job next image point machine (first ∷ behind) e =
+    let mid : Job = at_point image machine.memory machine.cancelled job first behind in
+    let same : mid ≡ next = cc in
+    ap (λ (j : Job). stop_at 0 j) (sym same)
+
+advanced_runs : (job next : Job) (image : Image) (point : Point) (machine : State) (o : Option Outcome)
+    → option_and_then (advanced job image point machine) o ≡ Some (Goes next) → stop_at 0 next ≡ None
+advanced_runs job next image point machine None e = absurd cc
+advanced_runs job next image point machine (Some (outcome.Goes state)) e =
+    let mid : Job = record job { body = Machine image point state } in
+    let same : mid ≡ next = cc in
+    ap (λ (j : Job). stop_at 0 j) (sym same)
+advanced_runs job next image point machine (Some (outcome.Returns r0 r1)) e =
+    followed_runs (returned job point machine.params r0 r1) next image point machine (still_to_come point r0 job.points) cc
+advanced_runs job next image point machine (Some (outcome.Panics code)) e = absurd cc
+advanced_runs job next image point machine (Some (outcome.Asks request)) e = absurd cc
+
+-- a job that goes on has something to run
+advance_runs : (job next : Job) (body : Body) → advance_of job body ≡ Some (Goes next) → stop_at 0 next ≡ None
+advance_runs job next (Machine image point machine) e = advanced_runs job next image point machine (step image.code machine) e
+advance_runs job next Nothing e = absurd cc
+
+no_later : (n m : ℕ) (job : Job) (o : Option Advance) → stop_at 0 job ≡ None
+    → ((k : ℕ) → k ≤ n → option_and_then (stop_behind (stop_at k) k) o ≡ None) → advance job ≡ o
+    → m ≤ suc n → stop_at m job ≡ None
+no_later n zero job o first rest e le = first
+no_later n (suc m) job o first rest e le = ap (λ (a : Option Advance). option_and_then (stop_behind (stop_at m) m) a) e ∙ rest m (omega arith)
+
+-- one step, and then a grant
+later_grant : (n : ℕ) (job next : Job) (grant : Grant) → stop_at 0 job ≡ None → advance job ≡ Some (Goes next)
+    → IsGrant next n grant → IsGrant job (suc n) (one_later grant)
+later_grant n job next (Left left) first e h = (
+  ap (λ (a : Option Advance). option_and_then (where_it_goes (after n)) a) e ∙ h.0,
+  λ m le. no_later n m job (Some (Goes next)) first (λ k lek. h.1 k lek) e le,
+)
+later_grant n job next (Stopped m why) first e h =
+    (omega arith, ap (λ (a : Option Advance). option_and_then (stop_behind (stop_at m) m) a) e ∙ h.1)
+
+some_grant : (n : ℕ) (job next : Job) (o : Option Grant) (grant : Grant) → stop_at 0 job ≡ None → advance job ≡ Some (Goes next)
+    → ((g : Grant) → o ≡ Some g → IsGrant next n g) → option_map one_later o ≡ Some grant → IsGrant job (suc n) grant
+some_grant n job next None grant first e is h = absurd cc
+some_grant n job next (Some g) grant first e is h =
+    let same : one_later g ≡ grant = cc in
+    subst (λ (other : Grant). IsGrant job (suc n) other) same (later_grant n job next g first e (is g refl))
+
+granted_advance : (n : ℕ) (job : Job) (o : Option Advance) (grant : Grant) → stop_at 0 job ≡ None → advance job ≡ o
+    → ((next : Job) (g : Grant) → stop_at 0 next ≡ None → run_for n next ≡ Some g → IsGrant next n g)
+    → option_and_then (granted_behind (run_for n)) o ≡ Some grant → IsGrant job (suc n) grant
+granted_advance n job None grant first e is h = absurd cc
+granted_advance n job (Some (Goes next)) grant first e is h =
+    some_grant n job next (run_for n next) grant first e (λ g. is next g (advance_runs job next job.body e)) h
+granted_advance n job (Some (Stops why)) grant first e is h =
+    let here : Grant = Stopped 1 why in
+    let same : here ≡ grant = cc in
+    let stops : Stop job 1 why = ap (λ (a : Option Advance). option_and_then (stop_behind (stop_at 0) 0) a) e in
+    subst (λ (other : Grant). IsGrant job (suc n) other) same (omega arith, stops)
+
+none_at_zero : (job : Job) (m : ℕ) → stop_at 0 job ≡ None → m ≤ 0 → stop_at m job ≡ None
+none_at_zero job zero first le = first
+none_at_zero job (suc m) first le = absurd (omega arith)
+
+run_for-IsGrant : (n : ℕ) (job : Job) (grant : Grant) → stop_at 0 job ≡ None → run_for n job ≡ Some grant → IsGrant job n grant
+run_for-IsGrant zero job grant first h =
+    let here : Grant = Left job in
+    let same : here ≡ grant = cc in
+    subst (λ (other : Grant). IsGrant job 0 other) same (refl, λ m le. none_at_zero job m first le)
+run_for-IsGrant (suc n) job grant first h =
+    granted_advance n job (advance job) grant first refl (λ next g. run_for-IsGrant n next g) h
+
+granted_at_once : (n : ℕ) (job : Job) (o : Option JobStop) (grant : Grant) → stop_at 0 job ≡ o
+    → option_or (option_map (Stopped 0) o) (run_for n job) ≡ Some grant → IsGrant job n grant
+granted_at_once n job None grant first h = run_for-IsGrant n job grant first h
+granted_at_once n job (Some why) grant first h =
+    let here : Grant = Stopped 0 why in
+    let same : here ≡ grant = cc in
+    subst (λ (other : Grant). IsGrant job n other) same (omega arith, first)
+
+pub granted-IsGrant : (job : Job) (n : ℕ) (grant : Grant) → granted n job ≡ Some grant → IsGrant job n grant
+granted-IsGrant job n grant h = granted_at_once n job (stop_at 0 job) grant refl h

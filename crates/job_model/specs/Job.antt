@@ -1,0 +1,59 @@
+-- A job: what a call has its application do. This project's own.
+use Rattle.std.specs.Prelude.{ℕ, Bool, List, []}
+use Rattle.base.specs.NumberMap.{NumberMap}
+use Rattle.ta_isa.specs.declared.image.Image.{Image}
+use Rattle.ta_params.specs.declared.call_result.CallResult.{CallResult}
+use Rattle.ta_params.specs.declared.copied_params.CopiedParams.{CopiedParams}
+use Rattle.ta_params.specs.declared.login.Login.{Login}
+use Rattle.tee_storage.specs.declared.handle.Handle.{Handle}
+use Rattle.ta_step.specs.State.{State, started}
+use Rattle.job_model.specs.Point.{Point, number_of, first_registers, params_at}
+
+-- what runs: the machine of an image at one of its entry points; or nothing, of a dead instance. An application
+-- without an image will be a case of its own
+pub data Body : Type 0 where
+  Machine : (image : Image) (point : Point) (machine : State) → Body
+  Nothing : Body
+
+-- a job
+pub record Job : Type 0 where
+  pub body : Body
+  -- the application's UUID
+  pub uuid : List ℕ
+  -- who opened the session
+  pub login : Login
+  -- the word that the application keeps with the session
+  pub context : ℕ
+  -- the instance's open objects, by their handles
+  pub objects : NumberMap Handle
+  -- the call's parameters, as they are while no entry point has them
+  pub params : CopiedParams
+  -- the result so far
+  pub result : CallResult
+  -- the entry points still to come; destroy behind open comes only where open fails
+  pub points : List Point
+
+-- a result that no application returned: TEE_ORIGIN_TEE
+abbrev pub of_tee : ℕ → CallResult
+of_tee code = record { result = code; origin = 3 }
+
+-- a result that the application returned: TEE_ORIGIN_TRUSTED_APP
+abbrev pub of_application : ℕ → CallResult
+of_application code = record { result = code; origin = 4 }
+
+-- a job that has nothing to run: TEE_SUCCESS
+abbrev pub idle : List ℕ → Login → ℕ → NumberMap Handle → CopiedParams → Job
+idle uuid login context objects params =
+    record { body = Nothing; uuid = uuid; login = login; context = context; objects = objects; params = params; result = of_tee 0; points = [] }
+
+-- the machine at the start of an entry point: masked, with the cancellation flag as the call has seen it
+abbrev pub machine_at : Image → Point → List ℕ → Bool → Job → State
+machine_at image point memory seen job =
+    let first = first_registers point job.params job.context in
+    let fresh = started image.entries (number_of point) first memory (params_at point job.params) job.login in
+    record fresh { cancelled = seen }
+
+-- the job at the start of this entry point, with these behind it
+abbrev pub at_point : Image → List ℕ → Bool → Job → Point → List Point → Job
+at_point image memory seen job point behind =
+    record job { body = Machine image point (machine_at image point memory seen job); points = behind }

@@ -1,0 +1,4 @@
+pub mod Point
+pub mod Job
+pub mod Steps
+pub mod Examples

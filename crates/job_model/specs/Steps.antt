@@ -1,0 +1,156 @@
+-- What so many steps make of a job, and its stop. This project's own.
+use Rattle.std.specs.Prelude.{◌≡◌, ℕ, zero, suc, ◌≤◌, ◌==◌, Bool, true, false, if◌then◌else◌, List, [], ◌∷◌, Option, Some, None}
+use Rattle.std.specs.Option.{option_map, option_or, option_and_then}
+use Rattle.base.specs.NumberMap.{NumberMap}
+use Rattle.ta_isa.specs.declared.image.Image.{Image}
+use Rattle.ta_params.specs.declared.call_result.CallResult.{CallResult}
+use Rattle.ta_params.specs.declared.copied_params.CopiedParams.{CopiedParams}
+use Rattle.ta_step.specs.Outcome.{Outcome}
+use Rattle.ta_step.specs.Outcome as outcome
+use Rattle.ta_step.specs.State.{State}
+use Rattle.ta_step.specs.Step.{step}
+use Rattle.tee_storage.specs.declared.handle.Handle.{Handle}
+use Rattle.job_model.specs.Point.{Point, Create, Open, Invoke, Close, Destroy}
+use Rattle.job_model.specs.Job.{Body, Machine, Nothing, Job, of_application, at_point}
+
+-- what an ended job leaves
+pub record End : Type 0 where
+  pub result : CallResult
+  pub context : ℕ
+  pub memory : List ℕ
+  pub objects : NumberMap Handle
+  pub params : CopiedParams
+  -- the instance is at its end: its create failed, or its destroy has run
+  pub is_last : Bool
+
+-- why a job stops: it has ended, or an entry point panicked
+pub data JobStop : Type 0 where
+  Ends : End → JobStop
+  Panics : (code : ℕ) → JobStop
+
+-- what one step comes to: the job goes on, or it stops
+pub data Advance : Type 0 where
+  Goes : Job → Advance
+  Stops : JobStop → Advance
+
+-- ---- the return of an entry point, with r0 and r1
+
+-- the job after it: a create that fails, and each open and invoke, give the result; an open gives the context
+-- too; a close and a destroy leave both as they are. Open and invoke give the parameters back
+abbrev pub returned : Job → Point → CopiedParams → ℕ → ℕ → Job
+returned job Create params r0 r1 = if r0 == 0 then job else record job { result = of_application r0 }
+returned job Open params r0 r1 = record job { result = of_application r0; context = r1; params = params }
+returned job (Invoke func) params r0 r1 = record job { result = of_application r0; params = params }
+returned job Close params r0 r1 = job
+returned job Destroy params r0 r1 = job
+
+-- the entry points that still come after it: none where create fails, and none where open succeeds
+abbrev pub still_to_come : Point → ℕ → List Point → List Point
+still_to_come Create r0 points = if r0 == 0 then points else []
+still_to_come Open r0 points = if r0 == 0 then [] else points
+still_to_come (Invoke func) r0 points = points
+still_to_come Close r0 points = points
+still_to_come Destroy r0 points = points
+
+-- a job that ends with this entry point leaves its instance at its end
+abbrev pub ends_instance : Point → Bool
+ends_instance Create = true
+ends_instance Open = false
+ends_instance (Invoke func) = false
+ends_instance Close = false
+ends_instance Destroy = true
+
+-- what an ended job leaves, with this memory
+abbrev pub end_of : Job → List ℕ → Bool → End
+end_of job memory is_last =
+    record { result = job.result; context = job.context; memory = memory; objects = job.objects; params = job.params; is_last = is_last }
+
+-- on to the first of the entry points that come, with memory and flag as they are; to the end where none does
+abbrev pub followed : Job → Image → Point → State → List Point → Advance
+followed job image point machine [] = Stops (Ends (end_of job machine.memory (ends_instance point)))
+followed job image point machine (next ∷ behind) = Goes (at_point image machine.memory machine.cancelled job next behind)
+
+-- ---- steps
+
+-- what an outcome of the machine is for its job. That a machine asks for something isn't defined yet: no valid
+-- image has a system call that does
+abbrev pub advanced : Job → Image → Point → State → Outcome → Option Advance
+advanced job image point machine (outcome.Goes next) = Some (Goes (record job { body = Machine image point next }))
+advanced job image point machine (outcome.Returns r0 r1) =
+    Some (followed (returned job point machine.params r0 r1) image point machine (still_to_come point r0 job.points))
+advanced job image point machine (outcome.Panics code) = Some (Stops (Panics code))
+advanced job image point machine (outcome.Asks request) = None
+
+-- what the next step of what runs comes to; nothing has none
+abbrev pub advance_of : Job → Body → Option Advance
+advance_of job (Machine image point machine) = option_and_then (advanced job image point machine) (step image.code machine)
+advance_of job Nothing = None
+
+-- what the next step comes to
+abbrev pub advance : Job → Option Advance
+advance job = advance_of job job.body
+
+-- on from an advance, where the job goes on
+abbrev pub where_it_goes : (Job → Option Job) → Advance → Option Job
+where_it_goes rest (Goes job) = rest job
+where_it_goes rest (Stops why) = None
+
+-- the job after so many steps, where none of them stops it
+abbrev pub after : ℕ → Job → Option Job
+after zero job = Some job
+after (suc n) job = option_and_then (where_it_goes (after n)) (advance job)
+
+-- a job with nothing to run has ended after no steps
+abbrev pub ended_at_once : Job → Body → Option JobStop
+ended_at_once job (Machine image point machine) = None
+ended_at_once job Nothing = Some (Ends (end_of job [] false))
+
+-- the stop of so many more steps after this one
+abbrev pub stop_behind : (Job → Option JobStop) → ℕ → Advance → Option JobStop
+stop_behind rest n (Goes job) = rest job
+stop_behind rest zero (Stops why) = Some why
+stop_behind rest (suc n) (Stops why) = None
+
+-- why the step of this number stops the job, where it does: 1 is the first step
+abbrev pub stop_at : ℕ → Job → Option JobStop
+stop_at zero job = ended_at_once job job.body
+stop_at (suc n) job = option_and_then (stop_behind (stop_at n) n) (advance job)
+
+-- the job is this one after so many steps
+abbrev pub After : Job → ℕ → Job → Type 0
+After job n left = after n job ≡ Some left
+
+-- the job stops so at this step
+abbrev pub Stop : Job → ℕ → JobStop → Type 0
+Stop job n why = stop_at n job ≡ Some why
+
+-- ---- a grant of steps
+
+-- what a grant comes to: the job that all of its steps leave, or the step that stopped it, and why
+pub data Grant : Type 0 where
+  Left : Job → Grant
+  Stopped : ℕ → JobStop → Grant
+
+-- the same with one step before it
+abbrev pub one_later : Grant → Grant
+one_later (Left job) = Left job
+one_later (Stopped n why) = Stopped (suc n) why
+
+-- what a grant comes to behind its first step
+abbrev pub granted_behind : (Job → Option Grant) → Advance → Option Grant
+granted_behind rest (Goes job) = option_map one_later (rest job)
+granted_behind rest (Stops why) = Some (Stopped 1 why)
+
+-- what so many steps make of a job that has something to run
+abbrev pub run_for : ℕ → Job → Option Grant
+run_for zero job = Some (Left job)
+run_for (suc n) job = option_and_then (granted_behind (run_for n)) (advance job)
+
+-- what a grant of so many steps makes of a job
+abbrev pub granted : ℕ → Job → Option Grant
+granted n job = option_or (option_map (Stopped 0) (ended_at_once job job.body)) (run_for n job)
+
+-- a grant is what After and Stop say
+abbrev pub IsGrant : Job → ℕ → Grant → Type 0
+IsGrant job n (Left left) = After job n left × ((m : ℕ) → m ≤ n → stop_at m job ≡ None)
+IsGrant job n (Stopped m why) = (m ≤ n) × Stop job m why

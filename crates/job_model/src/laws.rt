@@ -1,0 +1,32 @@
+//! What holds of the definitions themselves.
+ghost use Rattle.std.specs.Prelude.{◌≡◌, ℕ, ◌+◌, Some};
+ghost use Rattle.std.specs.Option.{option_and_then};
+ghost use Rattle.job_model.specs.Examples.{Examples};
+ghost use Rattle.job_model.specs.Job.{Job};
+ghost use Rattle.job_model.specs.Steps.{After, Grant, IsGrant, JobStop, Stop, after, granted, stop_at};
+
+/// So many steps and then so many more are their sum.
+pub fn steps_add_up()
+    ensures { (job : Job) (m n : ℕ) → after (m + n) job ≡ option_and_then (after n) (after m job) }
+{}
+
+/// Where some steps don't stop a job, those behind them do just where they stop what is left of it.
+pub fn stops_add_up()
+    ensures { (job left : Job) (m n : ℕ) → After job m left → stop_at (m + n) job ≡ stop_at n left }
+{}
+
+/// A job has at most one stop.
+pub fn one_stop()
+    ensures { (job : Job) (m n : ℕ) (first second : JobStop) → Stop job m first → Stop job n second
+        → (m ≡ n) × (first ≡ second) }
+{}
+
+/// A grant leaves the job after all of its steps where none of them stops it, and else comes to its stop.
+pub fn grants_take_on()
+    ensures { (job : Job) (n : ℕ) (grant : Grant) → granted n job ≡ Some grant → IsGrant job n grant }
+{}
+
+/// Examples of the definitions, worked out by hand.
+pub fn worked_examples()
+    ensures { Examples }
+{}

@@ -1,0 +1,14 @@
+//! What a call of an application is, as data: its job, how many steps take it where, and its one stop.
+//!
+//! A job is the machine of an application at one of its entry points, with those still to come. `specs/` says
+//! what so many steps make of it, however they are cut into grants. The crate is one of definitions: the
+//! kernel's entries and exits, the continuations of calls and the machine of one session cite it.
+#![tactic(auto)]
+
+mod call_kind;
+mod laws;
+mod phase;
+
+pub use call_kind::CallKind;
+pub use laws::{grants_take_on, one_stop, steps_add_up, stops_add_up, worked_examples};
+pub use phase::Phase;
