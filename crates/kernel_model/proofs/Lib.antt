@@ -1,0 +1,4 @@
+pub mod Parts
+pub mod FixedAnswer
+pub mod Past
+pub mod Suspended

@@ -1,0 +1,126 @@
+-- The kernel: all that an entry and an exit change, as one record of finite maps. This project's own.
+use Rattle.std.specs.Prelude.{ℕ, Bool, true, false, List, [], Option, position, replicate, slice_set}
+use Rattle.base.specs.NumberMap.{NumberMap}
+use Rattle.job_model.specs.declared.call_kind.CallKind.{CallKind}
+use Rattle.job_model.specs.Job.{Job}
+use Rattle.param_copy.specs.declared.copied.Place.{Place}
+use Rattle.session_table.specs.declared.session.Session.{Session}
+use Rattle.shm_registry.specs.Registered.{Registered}
+use Rattle.smc_abi.specs.declared.answer.Answer.{Answer}
+use Rattle.ta_isa.specs.declared.boot.Boot.{Boot}
+use Rattle.ta_params.specs.declared.call_result.CallResult.{CallResult}
+use Rattle.ta_params.specs.declared.copied_params.CopiedParams.{CopiedParams}
+use Rattle.tee_storage.specs.declared.handle.Handle.{Handle}
+
+-- ---- calls
+
+-- how far it has come
+pub data CallPhase : Type 0 where
+  -- its application runs
+  Runs : Job → CallPhase
+  -- it has this result, and leaves these parameters, which are written back where its application returned the result
+  Ends : CallResult → CopiedParams → CallPhase
+
+-- a call, from its entry to the exit that answers OK
+pub record PendingCall : Type 0 where
+  -- a7 at its entry
+  pub client : ℕ
+  pub kind : CallKind
+  -- its application's UUID, where it has an application
+  pub uuid : Option (List ℕ)
+  -- the address of its argument
+  pub arg : ℕ
+  -- where the results of its parameters go
+  pub places : List Place
+  -- its session and its instance, 0 where it has none
+  pub session : ℕ
+  pub instance : ℕ
+  -- the number by which it can be cancelled
+  pub cancel_id : ℕ
+  -- the steps that its application has done
+  pub steps : ℕ
+  pub phase : CallPhase
+
+-- ---- the parts
+
+-- a thread slot
+pub data ThreadSlot : Type 0 where
+  Free : ThreadSlot
+  -- a processor works on its call
+  Active : (cpu : ℕ) (call : PendingCall) → ThreadSlot
+  -- its call waits to be resumed by its client
+  Suspended : (client : ℕ) (call : PendingCall) → ThreadSlot
+
+-- an instance of an application
+pub record Instance : Type 0 where
+  pub uuid : List ℕ
+  -- one of its entry points panicked
+  pub dead : Bool
+  -- the slot of the call that holds it
+  pub holder : Option ℕ
+  -- its memory and its open objects, by their handles: nothing of a dead one, and of a held one, since the job of the
+  -- call has them
+  pub memory : List ℕ
+  pub objects : NumberMap Handle
+
+-- what a processor that is inside came for
+pub data Errand : Type 0 where
+  -- an answer that was fixed as it came in
+  Fixed : Answer → Errand
+  -- the call of this slot
+  InSlot : (slot : ℕ) → Errand
+
+-- a processor
+pub data Processor : Type 0 where
+  Outside : Processor
+  -- it came in with these registers, and is granted so many steps
+  Inside : (regs : List ℕ) (steps : ℕ) (errand : Errand) → Processor
+
+-- the whole state
+pub record Kernel : Type 0 where
+  -- the thread slots, by their number
+  pub slots : List ThreadSlot
+  pub sessions : NumberMap Session
+  pub instances : NumberMap Instance
+  -- by the number of the instance, the slots of the calls that wait for it, the first one first
+  pub waiters : NumberMap (List ℕ)
+  -- the registered buffers by their cookies, and the pins
+  pub registered : Registered
+  -- the processors, by their number
+  pub processors : List Processor
+  -- the number that the next session gets, and the next instance
+  pub next_session : ℕ
+  pub next_instance : ℕ
+
+-- the kernel as it boots: all slots free, all processors outside, and nothing else
+abbrev pub first_kernel : Boot → Kernel
+first_kernel boot = record {
+  slots = replicate boot.threads Free;
+  sessions = [];
+  instances = [];
+  waiters = [];
+  registered = record { buffers = []; pins = [] };
+  processors = replicate boot.cpus Outside;
+  next_session = 1;
+  next_instance = 1;
+}
+
+-- ---- one part changed
+
+-- no call is in the slot
+abbrev pub is_free : ThreadSlot → Bool
+is_free Free = true
+is_free (Active cpu call) = false
+is_free (Suspended client call) = false
+
+-- the lowest free slot, if one is free
+abbrev pub lowest_free : Kernel → Option ℕ
+lowest_free kernel = position is_free kernel.slots
+
+-- the kernel with this in a slot
+abbrev pub with_slot : Kernel → ℕ → ThreadSlot → Kernel
+with_slot kernel slot held = record kernel { slots = slice_set kernel.slots slot held }
+
+-- the kernel with a processor in this state
+abbrev pub with_processor : Kernel → ℕ → Processor → Kernel
+with_processor kernel cpu processor = record kernel { processors = slice_set kernel.processors cpu processor }

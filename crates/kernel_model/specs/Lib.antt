@@ -1,0 +1,17 @@
+pub mod Codes
+pub mod Kernel
+pub mod Served
+pub mod Instances
+pub mod Sessions
+pub mod Argument
+pub mod Decision
+pub mod NewCall
+pub mod Resume
+pub mod Entry
+pub mod Exit
+pub mod History
+pub mod Laws
+pub mod Worked
+pub mod AnswerExamples
+pub mod ResultExamples
+pub mod Examples

@@ -1,0 +1,15 @@
+//! The kernel, written down: what its state is, what one entry of a processor and one exit do to it, which
+//! histories are legal, and what a resume continues.
+//!
+//! The crate is one of definitions. `specs/` reads in the order of its modules: `Kernel` has the state, `Entry`
+//! and `Exit` the two kinds of event, each by short functions, one for each kind of call, and `History` what
+//! they make of a whole history. An entry is a reader: it depends on the normal world's RAM only through the
+//! reads that it lists. An exit is a function of the kernel alone. `Served` names what isn't served yet.
+#![tactic(auto)]
+
+mod laws;
+
+pub use laws::{
+    exits_follow_from_the_past, fixed_answers_change_one_processor, resumes_continue_what_was_left,
+    some_history_is_legal, worked_examples,
+};
