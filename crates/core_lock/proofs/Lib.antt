@@ -1,0 +1,15 @@
+pub mod Totals
+pub mod Tickets
+pub mod Histories
+pub mod Facts
+pub mod Drawing
+pub mod Looking
+pub mod Counting
+pub mod Serving
+pub mod Splitting
+pub mod Joining
+pub mod Passing
+pub mod Dealing
+pub mod Gathering
+pub mod Ending
+pub mod Opening
