@@ -17,7 +17,7 @@ use crate::play::play;
 use crate::status::Status;
 use ports::{Put, Sink, Source};
 use std::alloc::Global;
-use trace_text::{BadKind, TraceFault, read_trace};
+use trace_text::{BadKind, TraceFault, read_plain};
 
 const USAGE_LINE: &[u8] = b"usage: optee_run run | run-binary | threads | asm | work SEED COUNT\n";
 
@@ -57,7 +57,7 @@ fn answer<K: Sink>(alloc: Global, input: &[u8], out: &mut K) -> Status
     ensures write_fault { result ≡ Status.WriteFault → Rose (K.faults out.old) (K.faults out.new) }
     ensures count { K.faults out.old ≤ K.faults out.new }
 {
-    match read_trace(alloc, input, &[]) {
+    match read_plain(alloc, input) {
         Ok(trace) => status_after(Status::Ok, play(alloc, &trace, out)),
         Err(TraceFault::Bad { place, kind }) => refuse(alloc, place, kind, out),
         Err(TraceFault::Memory) => Status::Memory,

@@ -140,12 +140,19 @@ register_again word (Last i) d = absurd d
 
 -- ---- digits one after the other
 
--- seven hexadecimal digits leave room for one more
-pub room : (word : List ℕ) (i : ℕ) → i < 8 → AllDigits 16 (take i word) → digits_value 16 (take i word) < 16 ^ 7
+-- fifteen hexadecimal digits leave room for one more in 64 bits
+pub room : (word : List ℕ) (i : ℕ) → i < 16 → AllDigits 16 (take i word) → digits_value 16 (take i word) < 16 ^ 15
 room word i lt d =
     let below = digits_value-lt 16 (take i word) d in
-    let short : length (take i word) ≤ 7 = omega (arith, length-take i word) in
+    let short : length (take i word) ≤ 15 = omega (arith, length-take i word) in
     omega (arith, below, pow-le-pow_right {n = 16} (omega arith) short)
+
+-- eight digits fit 32 bits
+pub hexadecimal_fits : (word : List ℕ) (n : ℕ) → Some n ≡ hexadecimal_at 8 word → n < 2 ^ 32
+hexadecimal_fits word n e =
+    let read = hexadecimal_read 8 word n (sym e) in
+    let below = digits_value-lt 16 word read.digits.1 in
+    omega (arith, below, read.value, pow-le-pow_right {n = 16} (omega arith) read.short)
 
 pub one_more : (radix : ℕ) (word : List ℕ) (i byte digit : ℕ) → i < length word → AllDigits radix (take i word) → byte ≡ get_or word i 0 → (digit_value byte < radix) × (digit ≡ digit_value byte)
     → AllDigits radix (take (i + 1) word) × (digits_value radix (take (i + 1) word) ≡ digits_value radix (take i word) * radix + digit)
@@ -165,10 +172,10 @@ decimal_done word i n past some lead (d, is) =
     let read = decimal_some word all_digits some (leading_zero_none word lead some) in
     ap (λ (v : ℕ). Some v) value ∙ sym (ap (option_map (min 4294967295)) read)
 
-pub hexadecimal_done : (word : List ℕ) (i n : ℕ) → length word ≤ i → 0 < length word → length word ≤ 8
-    → AllDigits 16 (take i word) × (n ≡ digits_value 16 (take i word)) → Some n ≡ hexadecimal_at 8 word
-hexadecimal_done word i n past some short (d, is) =
+pub hexadecimal_done : (most : ℕ) (word : List ℕ) (i n : ℕ) → length word ≤ i → 0 < length word → length word ≤ most
+    → AllDigits 16 (take i word) × (n ≡ digits_value 16 (take i word)) → Some n ≡ hexadecimal_at most word
+hexadecimal_done most word i n past some short (d, is) =
     let all = take_all i word past in
     let all_digits : AllDigits 16 word = rw all at d in
     let value : n ≡ digits_value 16 word = rw all at is in
-    ap (λ (v : ℕ). Some v) value ∙ sym (hexadecimal_some 8 word all_digits some short)
+    ap (λ (v : ℕ). Some v) value ∙ sym (hexadecimal_some most word all_digits some short)

@@ -1,6 +1,11 @@
 pub mod Options
 pub mod Cuts
 pub mod Digits
+pub mod Uuids
+pub mod Images
+pub mod Inside
+pub mod Pieces
+pub mod GrammarLaws
 pub mod EndedLines
 pub mod Splitting
 pub mod Loop

@@ -12,7 +12,7 @@ use Rattle.trace_text.specs.declared.item.Reg.TheVariants.{Num, Last}
 use Rattle.trace_text.specs.declared.item.Item.{Item}
 use Rattle.trace_text.specs.declared.item.Item.TheVariants.{Smc, Enter, Leave, Write, Show}
 use Rattle.trace_text.specs.Word.{IsDecimalWithin}
-use Rattle.trace_text.specs.Item.{CALL_WITH_ARG}
+use Rattle.smc_abi.specs.declared.call.TheConstants.{CALL_WITH_ARG}
 use Rattle.trace_text.specs.Line.{IsRegister, IsBootLine, IsSmcLine, IsItemLine}
 use Rattle.trace_text.specs.Reading.{◌>>=◌, within_at, register_at, words_of, word_at, named_at, number_at, next_register_at, registers_at, ended, boot_at, begins_call, item_at}
 use Rattle.trace_text.proofs.Options.{bind_some, guard_some, bar_some, some_is}

@@ -1,13 +1,10 @@
 -- Items that make a fast call.
-use Rattle.std.specs.Prelude.{◌≡◌, ◌≢◌, ℕ, List, Some, All, slice_get}
+use Rattle.std.specs.Prelude.{◌≡◌, ◌≢◌, List, Some, All, slice_get}
+use Rattle.smc_abi.specs.declared.call.TheConstants.{CALL_WITH_ARG}
 use Rattle.trace_text.specs.declared.item.Reg.{Reg}
 use Rattle.trace_text.specs.declared.item.Reg.TheVariants.{Num, Last}
 use Rattle.trace_text.specs.declared.item.Item.{Item}
 use Rattle.trace_text.specs.declared.item.Item.TheVariants.{Smc, Enter, Leave, Write, Show}
-
--- OPTEE_SMC_CALL_WITH_ARG of optee_smc.h, the call that is no fast call
-abbrev pub CALL_WITH_ARG : ℕ
-CALL_WITH_ARG = 0x3200_0004
 
 -- the register is given as a number
 abbrev pub IsNumber : Reg → Type 0

@@ -5,3 +5,8 @@ pub mod Line
 pub mod Script
 pub mod Examples
 pub mod Reading
+pub mod Forms
+pub mod Rules
+pub mod Grammar
+pub mod Judging
+pub mod GrammarExamples

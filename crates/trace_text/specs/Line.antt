@@ -7,7 +7,7 @@ use Rattle.trace_text.specs.declared.item.Reg.TheVariants.{Num, Last}
 use Rattle.trace_text.specs.declared.item.Item.{Item}
 use Rattle.trace_text.specs.declared.item.Item.TheVariants.{Smc, Enter, Leave, Write, Show}
 use Rattle.trace_text.specs.Word.{IsDecimalWithin, IsHexadecimal}
-use Rattle.trace_text.specs.Item.{CALL_WITH_ARG}
+use Rattle.smc_abi.specs.declared.call.TheConstants.{CALL_WITH_ARG}
 
 -- the words, a space between each two, and a line feed
 abbrev pub line_of : List (List ℕ) → List ℕ

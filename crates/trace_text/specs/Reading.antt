@@ -14,7 +14,7 @@ use Rattle.trace_text.specs.declared.trace.Trace.{Trace}
 use Rattle.trace_text.specs.declared.fault.BadKind.TheVariants.{NotYet}
 use Rattle.trace_text.specs.declared.fault.TraceFault.{TraceFault}
 use Rattle.trace_text.specs.declared.fault.TraceFault.TheVariants.{Bad, Memory}
-use Rattle.trace_text.specs.Item.{CALL_WITH_ARG}
+use Rattle.smc_abi.specs.declared.call.TheConstants.{CALL_WITH_ARG}
 use Rattle.trace_text.specs.Script.{empty_trace}
 
 -- one step after another, where either may read nothing

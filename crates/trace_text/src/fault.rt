@@ -1,10 +1,13 @@
 ghost use Rattle.std.specs.Prelude.{◌≡◌, Some};
 ghost use Rattle.trace_text.specs.Fault.{kind_word, fault_text};
 ghost use Rattle.trace_text.specs.declared.fault.TraceFault.TheVariants.{Memory};
+ghost use Rattle.trace_text.specs.declared.fault.LineFault.TheVariants.{NoRoom};
+ghost use Rattle.trace_text.specs.Judging.{of_image, placed};
 
 use std::alloc::{AllocError, AllocFailed};
 use std::error::Error;
 use std::fmt;
+use ta_isa::ImageFault;
 
 /// What is wrong with a line or a record of a trace. The kinds up to [`BadKind::Inside`] stand in the order in
 /// which they are looked for in one line.
@@ -113,5 +116,52 @@ impl<T: Drop> From<AllocFailed<T>> for TraceFault {
 
     fn from(_refused: AllocFailed<T>) -> TraceFault {
         TraceFault::Memory
+    }
+}
+
+/// Why a line was not taken.
+#[derive(Clone, Copy, Debug, PartialEq, Eq)]
+pub enum LineFault {
+    /// What is wrong with it.
+    Broken(BadKind),
+    /// Want of memory.
+    NoRoom,
+}
+
+impl LineFault {
+    /// The fault of the trace whose line has this one.
+    pub fn at(self, place: u32) -> TraceFault
+        ensures { result ≡ placed place self }
+    {
+        match self {
+            LineFault::Broken(kind) => TraceFault::Bad { place, kind },
+            LineFault::NoRoom => TraceFault::Memory,
+        }
+    }
+
+    /// The fault of a line whose bytes are no image.
+    pub fn of_image(fault: ImageFault) -> LineFault
+        ensures { result ≡ of_image fault }
+    {
+        match fault {
+            ImageFault::Memory => LineFault::NoRoom,
+            _ => LineFault::Broken(BadKind::Image),
+        }
+    }
+}
+
+impl From<AllocError> for LineFault {
+    ghost from_gives = { λ _ e. e ≡ NoRoom };
+
+    fn from(_refused: AllocError) -> LineFault {
+        LineFault::NoRoom
+    }
+}
+
+impl<T: Drop> From<AllocFailed<T>> for LineFault {
+    ghost from_gives = { λ _ e. e ≡ NoRoom };
+
+    fn from(_refused: AllocFailed<T>) -> LineFault {
+        LineFault::NoRoom
     }
 }

@@ -9,15 +9,22 @@ mod fault;
 mod item;
 mod laws;
 mod line;
+mod line_kind;
+mod plain;
+mod reader;
 mod reading;
+mod said;
 mod trace;
 mod word;
 
 pub use fault::{BadKind, TraceFault};
 pub use item::{Item, Reg};
-pub use laws::{one_spelling, worked_examples};
+pub use laws::{grammar_examples, one_meaning, one_spelling, worked_examples};
+pub use plain::read_plain;
 pub use reading::read_trace;
 pub use trace::{Fill, Trace};
 
+#[cfg(test)]
+mod grammar_tests;
 #[cfg(test)]
 mod tests;

@@ -1,8 +1,10 @@
 //! Lines of a text, and the words of a line.
 
-ghost use Rattle.std.specs.Prelude.{◌≡◌, ℕ, ◌<◌, ◌≤◌, List, IfSome, MatchOption};
+ghost use Rattle.std.specs.Prelude.{◌≡◌, ℕ, ◌<◌, ◌≤◌, List, ◌∷◌, length, IfSome, MatchOption};
+ghost use Rattle.std.specs.List.{list_all};
 ghost use Rattle.std.specs.Option.{option_map, option_copied};
 ghost use Rattle.trace_text.specs.Reading.{Lacks, IsCutAt, words_left, words_of, word_at, named_at, number_at, next_register_at, registers_at, is_ended};
+ghost use Rattle.trace_text.specs.Rules.{counts, is_skipped, is_text_byte};
 
 use crate::item::Reg;
 use crate::word;
@@ -28,6 +30,38 @@ fn split_word(line: &[u8]) -> Option<(&[u8], &[u8])>
         }
     }
     None
+}
+
+/// Whether a line is empty or a comment.
+#[tactic(auto, unfolding(crate::specs::Rules::is_skipped))]
+pub fn is_skipped(line: &[u8]) -> bool
+    ensures { result ≡ is_skipped line.now }
+{
+    line.is_empty() || line[0] == b'#'
+}
+
+/// Whether all bytes of a line may stand in a text.
+pub fn is_text(line: &[u8]) -> bool
+    ensures { result ≡ list_all is_text_byte line.now }
+{
+    line.iter().all(|byte| matches!(*byte, 0x20..=0x7e))
+}
+
+/// Whether a line has a first word and so many behind it, none of them empty.
+#[tactic(auto, unfolding(crate::specs::Rules::counts))]
+pub fn has_words(line: &[u8], behind: usize) -> bool
+    requires { behind < 100 }
+    ensures { result ≡ counts behind (words_of line.now) }
+{
+    let mut words = Words::of(line);
+    let mut count = 0;
+    while let Some(word) = words.next_word() {
+        if word.is_empty() || count > behind {
+            return false;
+        }
+        count += 1;
+    }
+    count == behind + 1
 }
 
 /// The words of a line that are still to be read. Two words are parted by one space, so two spaces in a row part
@@ -65,6 +99,17 @@ impl<'a> Words<'a> {
                 self.rest = None;
                 Some(line)
             }
+        }
+    }
+
+    /// Takes the next word, where there is one.
+    pub fn word(&mut self) -> &'a [u8]
+        requires { 0 < length self.old }
+        ensures { self.old ≡ result.now ∷ self.new }
+    {
+        match self.next_word() {
+            Some(word) => word,
+            None => unreachable!(),
         }
     }
 

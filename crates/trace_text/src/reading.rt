@@ -1,132 +1,57 @@
-ghost use Rattle.std.specs.Prelude.{◌≡◌, ◌<◌, ◌^◌, ◌+◌, ◌⊎◌, length, Ok, Err, IfOk, IfErr, All};
-ghost use Rattle.trace_text.specs.Reading.{Gives, boot_at, item_at, words_of, items_in, trace_at};
-ghost use Rattle.trace_text.specs.Item.{IsFastCall};
-ghost use Rattle.trace_text.specs.Script.{Spells, IsPlain, IsRefusal};
+ghost use Rattle.std.specs.Prelude.{◌≡◌, ℕ, ◌<◌, ◌^◌, ◌+◌, ◌⊎◌, length, Ok, Err, IfOk, IfErr};
+ghost use Rattle.trace_text.specs.Grammar.{pieces_of, Spells, IsFirstFault, IsFaultOf, IsPlacedIn};
+ghost use Rattle.trace_text.specs.Judging.{IsUnlessMemory, read_pieces};
+ghost use Rattle.trace_text.specs.Script.{empty_trace};
+ghost use Rattle.trace_text.specs.declared.fault.BadKind.{BadKind};
+ghost use Rattle.trace_text.specs.declared.trace.Trace.{Trace};
 
-use crate::fault::{BadKind, TraceFault};
-use crate::item::{Item, Reg};
-use crate::line::{Words, split_line};
+use crate::fault::TraceFault;
+use crate::line::split_line;
+use crate::reader::Reader;
 use crate::trace::Trace;
-use base::Sequence;
 use std::alloc::Global;
-use ta_isa::Boot;
 use uuid::Uuid;
 
-/// The one refusal so far.
-const NOT_YET: TraceFault = TraceFault::Bad {
-    place: 1,
-    kind: BadKind::NotYet,
-};
-
-/// OPTEE_SMC_CALL_WITH_ARG of `optee_smc.h`.
-const CALL_WITH_ARG: u32 = 0x3200_0004;
-
-/// Reads a line `boot CPUS THREADS FRAMES`, given without its line feed.
-#[tactic(auto, unfolding(crate::specs::Reading::boot_at))]
-fn boot_of(alloc: Global, line: &[u8]) -> Option<Boot>
-    ensures { result ≡ boot_at (words_of line.now) }
+/// Reads line after line, up to the first fault.
+fn read_lines(alloc: Global, text: &[u8], natives: &[Uuid]) -> Result<Trace, TraceFault>
+    requires { length text.now + 1 < 2 ^ 32 }
+    ensures { IsUnlessMemory result (read_pieces natives.now 1 empty_trace (pieces_of text.now)) }
 {
-    let mut words = Words::of(line);
-    words.expect(b"boot")?;
-    let cpus = words.decimal(1, 1)?;
-    let threads = words.decimal(1, 16)?;
-    let frames = words.decimal(1, 1024)?;
-    if !words.is_ended() {
-        return None;
-    }
-    Some(Boot {
-        cpus: cpus as u8,
-        threads: threads as u8,
-        frames: frames as u16,
-        apps: Sequence::of(Vec::new(alloc)),
-    })
-}
-
-/// Reads a line `smc CPU STEPS R0 R1 R2 R3 R4 R5 R6 R7`, given without its line feed.
-#[tactic(auto, unfolding(crate::specs::Reading::item_at))]
-fn item_of(line: &[u8]) -> Option<Item>
-    ensures { result ≡ item_at (words_of line.now) }
-{
-    let mut words = Words::of(line);
-    words.expect(b"smc")?;
-    let cpu = words.decimal(0, 0)?;
-    let steps = words.decimal(1, 1_000_000)?;
-    let regs = words.registers()?;
-    if regs[0] == Reg::Num(CALL_WITH_ARG) || !words.is_ended() {
-        return None;
-    }
-    Some(Item::Smc {
-        cpu: cpu as u8,
-        steps,
-        regs,
-    })
-}
-
-/// Reads the lines behind the boot line.
-fn items_of(alloc: Global, text: &[u8]) -> Result<Vec<Item>, TraceFault>
-    ensures { Gives (λ v. v.items) result (items_in text.now) }
-{
-    let mut items = Vec::new(alloc);
+    let mut reader = Reader::new(alloc);
+    let mut place = 1u32;
     let mut rest = text;
-    while !rest.is_empty() {
-        let Some((line, after)) = split_line(rest) else {
-            return Err(NOT_YET);
-        };
-        let Some(item) = item_of(line) else {
-            return Err(NOT_YET);
-        };
-        items.push(item)?;
+    while let Some((line, after)) = split_line(rest) {
+        if let Err(fault) = reader.take(alloc, natives, line) {
+            return Err(fault.at(place));
+        }
+        place += 1;
         rest = after;
     }
-    Ok(items)
-}
-
-/// Reads a script.
-#[tactic(auto, unfolding(crate::specs::Reading::trace_at))]
-fn trace_of(alloc: Global, text: &[u8]) -> Result<Trace, TraceFault>
-    ensures { Gives (λ t. t) result (trace_at text.now) }
-{
-    if text.is_empty() {
-        return Ok(Trace {
-            boot: None,
-            fills: Sequence::of(Vec::new(alloc)),
-            items: Sequence::of(Vec::new(alloc)),
-        });
+    match reader.finish(rest) {
+        Ok(trace) => Ok(trace),
+        Err(kind) => Err(TraceFault::Bad { place, kind }),
     }
-    let Some((line, rest)) = split_line(text) else {
-        return Err(NOT_YET);
-    };
-    let Some(boot) = boot_of(alloc, line) else {
-        return Err(NOT_YET);
-    };
-    let items = items_of(alloc, rest)?;
-    Ok(Trace {
-        boot: Some(boot),
-        fills: Sequence::of(Vec::new(alloc)),
-        items: Sequence::of(items),
-    })
 }
 
-/// Reads the text of a trace. So far exactly the plain scripts are read: the empty input, or a line
-/// `boot 1 THREADS FRAMES` and lines `smc 0 STEPS R0 R1 R2 R3 R4 R5 R6 R7`, none of them the call with an argument,
-/// each line ended by a line feed and its words parted by one space. All else is refused as a whole.
+/// Reads the text of a trace, whose format `docs/formats.md` states. `natives` are the UUIDs of the applications that
+/// are built in, which no `ta` line may repeat.
 ///
-/// `natives` are the UUIDs of the applications that are built in, which no `ta` line may repeat.
+/// The first line with a fault decides, and in it the first kind in the order of [`BadKind`]. `Bad` has its place, its
+/// line counted from 1; [`BadKind::Unended`] has the place behind the last line.
 pub fn read_trace(alloc: Global, text: &[u8], natives: &[Uuid]) -> Result<Trace, TraceFault>
     requires { length text.now + 1 < 2 ^ 32 }
     // What is read is spelled so.
-    ensures found { IfOk result (λ trace. Spells text.now trace) }
+    ensures found { IfOk result (λ trace. Spells natives.now text.now trace) }
     // What is spelled so is read, unless memory runs out.
-    ensures only { (trace : Trace) → Spells text.now trace
+    ensures only { (trace : Trace) → Spells natives.now text.now trace
         → (result ≡ Ok trace) ⊎ (result ≡ Err TraceFault.Memory) }
-    // A fault is the one refusal, and comes only where the text is no plain script.
-    ensures bad { IfErr result (IsRefusal text.now) }
-    // What is no plain script is refused, unless memory runs out.
-    ensures refused { ¬ (IsPlain text.now)
-        → (result ≡ Err (TraceFault.Bad 1 BadKind.NotYet)) ⊎ (result ≡ Err TraceFault.Memory) }
-    // Each item of what is read is a fast call.
-    ensures served { IfOk result (λ trace. All IsFastCall trace.items) }
+    // A fault is the first one.
+    ensures bad { IfErr result (IsFaultOf natives.now text.now) }
+    // A text with a fault is refused by its first one, unless memory runs out.
+    ensures refused { (place : ℕ) (kind : BadKind) → IsFirstFault natives.now text.now place kind
+        → (result ≡ Err (TraceFault.Bad place kind)) ⊎ (result ≡ Err TraceFault.Memory) }
+    // It stands in a line, or behind the last one.
+    ensures placed { IfErr result (IsPlacedIn text.now) }
 {
-    let _ = natives;
-    trace_of(alloc, text)
+    read_lines(alloc, text, natives)
 }

@@ -16,7 +16,7 @@ fn check_script(
     calls: &[Call],
 ) -> Result<(), Fail> {
     assert!(rt; text.len() < 10_000);
-    let trace = read_trace(alloc, text, &[])?;
+    let trace = read_plain(alloc, text)?;
     let boot = trace.boot.ok_or("a boot")?;
     assert_eq!(rt; boot.cpus, 1);
     assert_eq!(rt; boot.threads, threads);
@@ -81,7 +81,7 @@ fn reads_plain_scripts(rt: HostRuntime) -> Result<(), Fail> {
 
 #[test]
 fn reads_the_empty_input(rt: HostRuntime) -> Result<(), Fail> {
-    let trace = read_trace(rt.alloc(), b"", &[])?;
+    let trace = read_plain(rt.alloc(), b"")?;
     assert!(rt; trace.boot.is_none());
     assert_eq!(rt; trace.fills.len(), 0);
     assert_eq!(rt; trace.items.len(), 0);
@@ -134,7 +134,7 @@ fn refuses_all_else(rt: HostRuntime) -> Result<(), Fail> {
     ];
     for text in texts {
         assert!(rt; text.len() < 10_000);
-        match read_trace(rt.alloc(), text, &[]) {
+        match read_plain(rt.alloc(), text) {
             Err(TraceFault::Bad { place, kind }) => {
                 assert_eq!(rt; place, 1);
                 assert_eq!(rt; kind, BadKind::NotYet);

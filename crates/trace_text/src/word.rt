@@ -1,10 +1,19 @@
 //! Words of a line: the numbers that they write.
 
-ghost use Rattle.std.specs.Prelude.{◌≡◌, ◌<◌, ◌≤◌, min, IfSome};
+ghost use Rattle.std.specs.Prelude.{◌≡◌, ◌<◌, ◌≤◌, [], ◌∷◌, min, IfSome};
 ghost use Rattle.std.specs.Option.{option_map};
 ghost use Rattle.trace_text.specs.Reading.{has_leading_zero, decimal_at, hexadecimal_at, within_at, register_at};
+ghost use Rattle.trace_text.specs.Forms.{is_decimal, decimal, is_hexadecimal, hexadecimal, is_register, register, is_uuid, uuid, is_hex, bytes};
+ghost use Rattle.trace_text.specs.Judging.{Reads, Judged};
 
+use crate::fault::{BadKind, LineFault};
 use crate::item::Reg;
+use hex::FromHexError;
+use std::alloc::Global;
+use uuid::Uuid;
+
+/// The length of a UUID in the hyphenated form, 8-4-4-4-12.
+const HYPHENATED_LEN: usize = 36;
 
 /// Whether a word begins with a zero that is not all of it.
 fn has_leading_zero(word: &[u8]) -> bool
@@ -45,26 +54,88 @@ pub fn decimal_within(word: &[u8], least: u32, most: u32) -> Option<u32>
     }
 }
 
-/// The number that 1 to 8 hexadecimal digits write, of either case.
-#[tactic(auto, unfolding(crate::specs::Reading::hexadecimal_at))]
-fn hexadecimal(word: &[u8]) -> Option<u32>
-    ensures { result ≡ hexadecimal_at 8 word.now }
+/// The number that decimal digits write, where `u32::MAX` stands for all numbers above it.
+#[tactic(auto, unfolding(crate::specs::Forms::is_decimal, crate::specs::Forms::decimal, crate::specs::Reading::decimal_at))]
+pub fn number(word: &[u8]) -> Option<u32>
+    ensures { Reads result (is_decimal word.now) (min u32.MAX (decimal word.now)) }
 {
-    if word.is_empty() || word.len() > 8 {
+    decimal(word)
+}
+
+/// The number that 1 to `most` hexadecimal digits write, of either case.
+#[tactic(auto, unfolding(crate::specs::Reading::hexadecimal_at))]
+fn hexadecimal(word: &[u8], most: usize) -> Option<u64>
+    requires { most ≤ 16 }
+    ensures { result ≡ hexadecimal_at most word.now }
+{
+    if word.is_empty() {
         return None;
     }
-    let mut number = 0u32;
+    if word.len() > most {
+        return None;
+    }
+    let mut number = 0u64;
     for byte in word {
         let digit = char::from(*byte).to_digit(16)?;
-        number = number * 16 + digit;
+        number = number * 16 + u64::from(digit);
     }
     Some(number)
 }
 
-/// The register of a word.
+/// The number that 1 to 8 hexadecimal digits write, of either case.
+fn short_hexadecimal(word: &[u8]) -> Option<u32>
+    ensures { result ≡ hexadecimal_at 8 word.now }
+{
+    let number = hexadecimal(word, 8)?;
+    Some(number as u32)
+}
+
+/// The address of a word: 1 to 16 hexadecimal digits.
+#[tactic(auto, unfolding(crate::specs::Forms::is_hexadecimal, crate::specs::Forms::hexadecimal, crate::specs::Reading::hexadecimal_at))]
+pub fn address(word: &[u8]) -> Option<u64>
+    ensures { Reads result (is_hexadecimal 16 word.now) (hexadecimal word.now) }
+{
+    hexadecimal(word, 16)
+}
+
+/// The register of a word that writes a number.
 #[tactic(auto, unfolding(crate::specs::Reading::register_at))]
 pub fn register(word: &[u8]) -> Option<Reg>
     ensures { result ≡ register_at word.now }
 {
-    Some(Reg::Num(hexadecimal(word)?))
+    Some(Reg::Num(short_hexadecimal(word)?))
+}
+
+/// The register of a word that writes a number, or names a register of the last answer.
+#[tactic(auto, unfolding(crate::specs::Forms::is_register, crate::specs::Forms::register, crate::specs::Forms::is_last, crate::specs::Forms::is_hexadecimal, crate::specs::Forms::hexadecimal, crate::specs::Reading::hexadecimal_at))]
+pub fn any_register(word: &[u8]) -> Option<Reg>
+    ensures { Reads result (is_register word.now) (register word.now) }
+{
+    match word {
+        [b'=', digit @ b'0'..=b'7'] => Some(Reg::Last(*digit - b'0')),
+        _ => Some(Reg::Num(short_hexadecimal(word)?)),
+    }
+}
+
+/// The UUID of a word in the hyphenated form, the only one that is taken.
+#[tactic(auto, unfolding(crate::specs::Forms::is_uuid, crate::specs::Forms::uuid))]
+pub fn uuid(word: &[u8]) -> Option<Uuid>
+    ensures { Reads result (is_uuid word.now) (uuid word.now) }
+{
+    if word.len() != HYPHENATED_LEN {
+        return None;
+    }
+    Uuid::try_parse_ascii(word).ok()
+}
+
+/// The bytes that hexadecimal digits write.
+#[tactic(auto, unfolding(crate::specs::Forms::is_hex, crate::specs::Forms::bytes))]
+pub fn bytes(alloc: Global, word: &[u8]) -> Result<Vec<u8>, LineFault>
+    ensures { Judged (λ v. v.items) result ((BadKind.Hex, is_hex word.now) ∷ []) (bytes word.now) }
+{
+    match hex::decode(alloc, word) {
+        Ok(bytes) => Ok(bytes),
+        Err(FromHexError::OutOfMemory) => Err(LineFault::NoRoom),
+        Err(_) => Err(LineFault::Broken(BadKind::Hex)),
+    }
 }

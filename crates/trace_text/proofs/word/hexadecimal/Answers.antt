@@ -22,4 +22,4 @@ loop-byte-preserved c =
 pub returns : goal.returns
 returns c =
     let some : 0 < length c.args.word.now = grind (arith, nat_tests) in
-    hexadecimal_done c.args.word.now c.loop-byte.byte-index c.loop-byte.number c.loop-byte-test.false some (omega arith) c.loop-byte.invariant
+    hexadecimal_done c.args.most c.args.word.now c.loop-byte.byte-index c.loop-byte.number c.loop-byte-test.false some (omega arith) c.loop-byte.invariant

@@ -1,7 +1,7 @@
 use Rattle.std.proofs.Common.{refl, ◌∙◌}
 use Rattle.std.proofs.lemmas.Result.{err_from_is_err_and}
 use Rattle.trace_text.proofs.Loop.{trace_at-empty, trace_at-unended, trace_at-no_boot, trace_at-items, trace_at-fault}
-use Rattle.trace_text.proofs.reading.trace_of.Goals as goal
+use Rattle.trace_text.proofs.plain.trace_of.Goals as goal
 
 pub returns-then-is_empty : goal.returns-then-is_empty
 returns-then-is_empty c =

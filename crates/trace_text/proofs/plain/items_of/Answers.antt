@@ -1,7 +1,7 @@
 use Rattle.std.proofs.Common.{refl}
 use Rattle.trace_text.specs.Reading.{items_in}
 use Rattle.trace_text.proofs.Loop.{goes_on, stops, unended, is_done}
-use Rattle.trace_text.proofs.reading.items_of.Goals as goal
+use Rattle.trace_text.proofs.plain.items_of.Goals as goal
 
 pub returns-in_default : goal.returns-in_default
 returns-in_default c =

@@ -1,0 +1,41 @@
+use Rattle.std.proofs.Common.{[], ◌∷◌, ◌++◌, refl}
+use Rattle.std.specs.Prelude.{codes}
+use Rattle.hex.specs.Hex.{decode_pairs}
+use Rattle.uuid.specs.Text.{by_index}
+use Rattle.trace_text.specs.declared.fault.BadKind.TheVariants as bad
+use Rattle.trace_text.specs.Forms.{is_decimal, decimal, is_hexadecimal, hexadecimal, is_last, is_register, register, is_uuid, uuid, is_hex, bytes}
+use Rattle.trace_text.specs.Grammar.{piece_fault}
+use Rattle.trace_text.specs.GrammarExamples.{boot_line, enter_line, small_trace, text_of}
+use Rattle.trace_text.specs.Judging.{read_pieces}
+use Rattle.trace_text.specs.Rules.{added, after_line, counts, inside_after, lies_in_ram, is_skipped, kind_named, line_rules, rules_behind}
+use Rattle.trace_text.specs.Script.{empty_trace}
+use Rattle.trace_text.proofs.GrammarLaws.{first_fault_read, spelled_read}
+use Rattle.trace_text.proofs.laws.grammar_examples.Goals as goal
+
+pub returns : goal.returns
+unfolding is_decimal decimal is_hexadecimal hexadecimal is_last is_register register is_uuid uuid is_hex bytes piece_fault read_pieces added after_line counts inside_after lies_in_ram is_skipped kind_named line_rules rules_behind decode_pairs by_index
+returns c = record {
+  ten = refl;
+  tens_value = refl;
+  leading_zero = refl;
+  nine_digits = refl;
+  either_case = refl;
+  last = refl;
+  no_eighth = refl;
+  id = refl;
+  braces = refl;
+  two_bytes = refl;
+  odd = refl;
+  last_byte = refl;
+  past_ram = refl;
+  comment = refl;
+  inside = refl;
+  nothing = spelled_read [] [] empty_trace refl;
+  small = spelled_read [] (text_of (codes "# small" ∷ [] ∷ boot_line ∷ codes "mem 40000000 00fF" ∷ enter_line ∷ codes "leave 1" ∷ [])) small_trace refl;
+  early = first_fault_read [] (text_of (codes "leave 1" ∷ [])) 1 bad.Place refl;
+  second_boot = first_fault_read [] (text_of (boot_line ∷ boot_line ∷ [])) 2 bad.Place refl;
+  cut = first_fault_read [] (text_of (boot_line ∷ []) ++ codes "leave x") 2 bad.Cut refl;
+  range_before_cpu = first_fault_read [] (text_of (boot_line ∷ codes "show 2 40000000 0" ∷ [])) 2 bad.Range refl;
+  twice_inside = first_fault_read [] (text_of (boot_line ∷ enter_line ∷ enter_line ∷ [])) 3 bad.Inside refl;
+  unended = first_fault_read [] (text_of (boot_line ∷ enter_line ∷ [])) 3 bad.Unended refl;
+}

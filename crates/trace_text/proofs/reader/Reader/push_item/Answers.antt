@@ -1,0 +1,12 @@
+use Rattle.std.proofs.Common.{sym, ap, ◌∙◌}
+use Rattle.trace_text.specs.Rules.{inside_after}
+use Rattle.trace_text.proofs.Inside.{inside_push}
+use Rattle.trace_text.proofs.reader.Reader.push_item.Goals as goal
+
+pub invariant_of-self-2 : goal.invariant_of-self-2
+invariant_of-self-2 c = record {
+  no_apps = c.self.invariant.no_apps;
+  few_cpus = c.self.invariant.few_cpus;
+  inside_is =
+      c.moved-inside.ensures ∙ rw c.self.invariant.inside_is (sym (inside_push c.self.inside.items.items c.args.item)) ∙ sym (ap inside_after c.in_ok-push.ensures.items);
+}

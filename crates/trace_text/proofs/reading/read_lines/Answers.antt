@@ -1,0 +1,30 @@
+use Rattle.std.proofs.Common.{arith, length, ◌∷◌, ap}
+use Rattle.std.proofs.lemmas.List.{length-append}
+use Rattle.trace_text.specs.Judging.{read_pieces}
+use Rattle.trace_text.specs.Grammar.{pieces_of}
+use Rattle.trace_text.specs.Script.{empty_trace}
+use Rattle.trace_text.proofs.Pieces.{goes_on, stops, ends, ends_badly}
+use Rattle.trace_text.proofs.reading.read_lines.Goals as goal
+
+pub returns-in-Err : goal.returns-in-Err
+returns-in-Err c =
+    stops c.args.natives.now c.loop-line.place c.loop-line.reader c.take.new.self c.loop-line.rest.now c.in-Some.line.now c.in-Some.after.now (read_pieces c.args.natives.now 1 empty_trace (pieces_of c.args.text.now)) c.in-Err.fault c.at.result
+    c.in-Some.ensures c.in-Err.ensures c.at.ensures c.loop-line.invariant.so_far
+
+pub loop-line-preserved : goal.loop-line-preserved
+loop-line-preserved c = record {
+  so_far =
+      goes_on c.args.natives.now c.loop-line.place c.loop-line.reader c.take.new.self c.loop-line.rest.now c.in-Some.line.now c.in-Some.after.now (read_pieces c.args.natives.now 1 empty_trace (pieces_of c.args.text.now))
+      c.in-Some.ensures c.in_default-take.ensures c.loop-line.invariant.so_far;
+  few = omega (arith, c.loop-line.invariant.few, ap length c.in-Some.ensures.1, length-append c.in-Some.line.now (10 ∷ c.in-Some.after.now));
+}
+
+pub returns-in-Ok : goal.returns-in-Ok
+returns-in-Ok c =
+    ends c.args.natives.now c.loop-line.place c.loop-line.reader c.in-Ok.trace c.loop-line.rest.now (read_pieces c.args.natives.now 1 empty_trace (pieces_of c.args.text.now))
+    c.in_default.ensures (c.in-Ok.ensures c.args.natives.now) c.loop-line.invariant.so_far
+
+pub returns-in-Err-finish : goal.returns-in-Err-finish
+returns-in-Err-finish c =
+    ends_badly c.args.natives.now c.loop-line.place c.loop-line.reader c.loop-line.rest.now (read_pieces c.args.natives.now 1 empty_trace (pieces_of c.args.text.now)) c.in-Err-finish.kind
+    c.in_default.ensures (c.in-Err-finish.ensures c.args.natives.now) c.loop-line.invariant.so_far

@@ -1,0 +1,14 @@
+use Rattle.std.proofs.Common.{◌≡◌, ◌≤◌, ◌+◌, length}
+use Rattle.trace_text.specs.Grammar.{pieces_of}
+use Rattle.trace_text.specs.Judging.{read_pieces}
+use Rattle.trace_text.specs.Script.{empty_trace}
+use Rattle.trace_text.proofs.reading.read_lines.Given as goal
+
+abbrev pub invariant-loop-line : goal.invariant-loop-line
+invariant-loop-line l = record {
+  so_far : read_pieces l.natives l.place l.reader (pieces_of l.rest) ≡ read_pieces l.natives 1 empty_trace (pieces_of l.text);
+  few : l.place + length l.rest ≤ length l.text + 1;
+}
+
+abbrev pub decreases-loop-line : goal.decreases-loop-line
+decreases-loop-line l = length l.rest

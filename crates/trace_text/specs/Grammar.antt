@@ -1,0 +1,70 @@
+-- The texts of traces: which trace a text spells, and what the first fault of any other text is.
+use Rattle.std.specs.Prelude.{◌≡◌, ℕ, ◌+◌, ◌≤◌, ◌⊎◌, List, [], ◌∷◌, ◌++◌, length, true, false, ◌==◌, if◌then◌else◌, Option, None, Some}
+use Rattle.std.specs.List.{count_by, list_any, slice_split}
+use Rattle.trace_text.specs.declared.fault.BadKind.{BadKind}
+use Rattle.trace_text.specs.declared.fault.BadKind.TheVariants as bad
+use Rattle.trace_text.specs.declared.fault.TraceFault.{TraceFault}
+use Rattle.trace_text.specs.declared.fault.TraceFault.TheVariants.{Bad, Memory}
+use Rattle.trace_text.specs.declared.trace.Trace.{Trace}
+use Rattle.trace_text.specs.Rules.{first_broken, line_rules, after_line, inside_after}
+use Rattle.trace_text.specs.Script.{empty_trace}
+
+-- what the line feeds of a text part: its lines, and at the end what stands behind the last line feed
+abbrev pub pieces_of : List ℕ → List (List ℕ)
+pieces_of text = slice_split (λ b. b == 10) text
+
+-- lines that follow each other, each ended and with every rule kept, and lead from one trace to another
+abbrev pub Leads : List (List ℕ) → Trace → List (List ℕ) → Trace → Type 0
+Leads natives before [] after = before ≡ after
+Leads natives before (line ∷ lines) after = (first_broken (line_rules natives before true line) ≡ None) × Leads natives (after_line before line) lines after
+
+-- the fault at the end of a text, behind its last line
+abbrev pub end_fault : Trace → Option BadKind
+end_fault before = if list_any (λ inside. inside) (inside_after before.items) then Some bad.Unended else None
+
+-- the fault of a piece, given the pieces behind it: a line is ended where there are any, and the text ends where
+-- there are none and this one is empty
+unfoldable pub piece_fault : List (List ℕ) → Trace → List ℕ → List (List ℕ) → Option BadKind
+piece_fault natives before piece (next ∷ pieces) = first_broken (line_rules natives before true piece)
+piece_fault natives before [] [] = end_fault before
+piece_fault natives before (b ∷ bytes) [] = first_broken (line_rules natives before false (b ∷ bytes))
+
+-- the text spells the trace, beside built-in applications of these UUIDs: each of its lines is ended and keeps
+-- its rules, and at the end no processor is inside
+pub record Spells (natives : List (List ℕ)) (text : List ℕ) (trace : Trace) : Type 0 where
+  pub lines : List (List ℕ)
+  pub text_is : pieces_of text ≡ lines ++ [] ∷ []
+  pub spelled : Leads natives empty_trace lines trace
+  pub no_end_fault : end_fault trace ≡ None
+
+-- the first fault of the text: what stands before its place keeps every rule
+pub record IsFirstFault (natives : List (List ℕ)) (text : List ℕ) (place : ℕ) (kind : BadKind) : Type 0 where
+  pub front : List (List ℕ)
+  pub piece : List ℕ
+  pub back : List (List ℕ)
+  pub text_is : pieces_of text ≡ front ++ piece ∷ back
+  pub before : Trace
+  pub kept : Leads natives empty_trace front before
+  pub place_is : place ≡ length front + 1
+  pub fault : piece_fault natives before piece back ≡ Some kind
+
+-- what was answered is the text's first fault, or want of memory
+abbrev pub IsFaultOf : List (List ℕ) → List ℕ → TraceFault → Type 0
+IsFaultOf natives text (Bad place kind) = IsFirstFault natives text place kind
+IsFaultOf natives text Memory = Unit {0}
+
+-- a place from 1 to the number of lines and one more; each line but a last one without its line feed has one
+abbrev pub IsPlacedIn : List ℕ → TraceFault → Type 0
+IsPlacedIn text (Bad place kind) = (1 ≤ place) × (place ≤ count_by (λ b. b == 10) text + 1)
+IsPlacedIn text Memory = Unit {0}
+
+-- a text spells one trace, or has one first fault, and not both
+pub record Meaning (natives : List (List ℕ)) (text : List ℕ) : Type 0 where
+  pub spells_or_is_faulty : ((trace : Trace) × Spells natives text trace) ⊎ ((place : ℕ) × (kind : BadKind) × IsFirstFault natives text place kind)
+  pub one_trace : (one other : Trace) → Spells natives text one → Spells natives text other → one ≡ other
+  pub one_fault : (place : ℕ) (kind : BadKind) (other_place : ℕ) (other_kind : BadKind) → IsFirstFault natives text place kind → IsFirstFault natives text other_place other_kind
+      → (place ≡ other_place) × (kind ≡ other_kind)
+  pub not_both : (trace : Trace) (place : ℕ) (kind : BadKind) → Spells natives text trace → IsFirstFault natives text place kind → ⊥
+
+abbrev pub EveryText : Type 0
+EveryText = (natives : List (List ℕ)) (text : List ℕ) → Meaning natives text

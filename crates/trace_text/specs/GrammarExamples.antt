@@ -1,0 +1,61 @@
+-- What the rules of lines say of a few small inputs.
+use Rattle.std.specs.Prelude.{◌≡◌, ℕ, List, [], ◌∷◌, ◌++◌, true, false, Some, codes}
+use Rattle.std.specs.List.{flat_map}
+use Rattle.trace_text.specs.declared.fault.BadKind.TheVariants as bad
+use Rattle.trace_text.specs.declared.item.Item.TheVariants.{Enter, Leave}
+use Rattle.trace_text.specs.declared.item.Reg.{Reg}
+use Rattle.trace_text.specs.declared.item.Reg.TheVariants.{Num, Last}
+use Rattle.trace_text.specs.declared.trace.Trace.{Trace}
+use Rattle.trace_text.specs.Forms.{is_decimal, decimal, is_hexadecimal, hexadecimal, is_register, register, is_uuid, uuid, is_hex, bytes}
+use Rattle.trace_text.specs.Grammar.{Spells, IsFirstFault}
+use Rattle.trace_text.specs.Rules.{inside_after, lies_in_ram, is_skipped}
+use Rattle.trace_text.specs.Script.{empty_trace}
+
+-- the text of these lines, each with its line feed
+abbrev pub text_of : List (List ℕ) → List ℕ
+text_of lines = flat_map (λ line. line ++ 10 ∷ []) lines
+
+abbrev pub boot_line : List ℕ
+boot_line = codes "boot 2 1 1"
+
+abbrev pub enter_line : List ℕ
+enter_line = codes "enter 1 5 =7 0 0 0 0 0 0 a"
+
+-- the registers of that line
+abbrev pub entered : List Reg
+entered = Last 7 ∷ Num 0 ∷ Num 0 ∷ Num 0 ∷ Num 0 ∷ Num 0 ∷ Num 0 ∷ Num 10 ∷ []
+
+abbrev pub small_trace : Trace
+small_trace = record {
+  boot = Some (record { cpus = 2; threads = 1; frames = 1; apps = [] });
+  fills = record { addr = 0x4000_0000; bytes = 0 ∷ 255 ∷ [] } ∷ [];
+  items = Enter 1 5 entered ∷ Leave 1 ∷ [];
+}
+
+abbrev pub hyphenated : List ℕ
+hyphenated = codes "11111111-2222-3333-4444-5555555555aB"
+
+pub record GrammarExamples : Type 0 where
+  pub ten : is_decimal (codes "10") ≡ true
+  pub tens_value : decimal (codes "10") ≡ 10
+  pub leading_zero : is_decimal (codes "01") ≡ false
+  pub nine_digits : is_hexadecimal 8 (codes "000000001") ≡ false
+  pub either_case : hexadecimal (codes "aF") ≡ 175
+  pub last : register (codes "=7") ≡ Last 7
+  pub no_eighth : is_register (codes "=8") ≡ false
+  pub id : uuid hyphenated ≡ 17 ∷ 17 ∷ 17 ∷ 17 ∷ 34 ∷ 34 ∷ 51 ∷ 51 ∷ 68 ∷ 68 ∷ 85 ∷ 85 ∷ 85 ∷ 85 ∷ 85 ∷ 171 ∷ []
+  pub braces : is_uuid (codes "{" ++ hyphenated ++ codes "}") ≡ false
+  pub two_bytes : bytes (codes "00fF") ≡ 0 ∷ 255 ∷ []
+  pub odd : is_hex (codes "0") ≡ false
+  pub last_byte : lies_in_ram 0x403f_ffff 1 ≡ true
+  pub past_ram : lies_in_ram 0x403f_ffff 2 ≡ false
+  pub comment : is_skipped (codes "# boot") ≡ true
+  pub inside : inside_after (Enter 1 5 entered ∷ []) ≡ false ∷ true ∷ false ∷ false ∷ false ∷ false ∷ false ∷ false ∷ []
+  pub nothing : Spells [] [] empty_trace
+  pub small : Spells [] (text_of (codes "# small" ∷ [] ∷ boot_line ∷ codes "mem 40000000 00fF" ∷ enter_line ∷ codes "leave 1" ∷ [])) small_trace
+  pub early : IsFirstFault [] (text_of (codes "leave 1" ∷ [])) 1 bad.Place
+  pub second_boot : IsFirstFault [] (text_of (boot_line ∷ boot_line ∷ [])) 2 bad.Place
+  pub cut : IsFirstFault [] (text_of (boot_line ∷ []) ++ codes "leave x") 2 bad.Cut
+  pub range_before_cpu : IsFirstFault [] (text_of (boot_line ∷ codes "show 2 40000000 0" ∷ [])) 2 bad.Range
+  pub twice_inside : IsFirstFault [] (text_of (boot_line ∷ enter_line ∷ enter_line ∷ [])) 3 bad.Inside
+  pub unended : IsFirstFault [] (text_of (boot_line ∷ enter_line ∷ [])) 3 bad.Unended

@@ -1,0 +1,96 @@
+-- What the private functions of the crate answer, in the words of the rules; and the pieces of a text read one
+-- after the other, which the loop of the reader computes.
+use Rattle.std.specs.Prelude.{◌≡◌, ℕ, ◌+◌, List, [], ◌∷◌, Bool, true, false, ◌≤◌, Option, Some, None, is_none, IfSome, Result, Ok, Err, ◌⊎◌}
+use Rattle.ta_isa.specs.declared.boot.App.{App}
+use Rattle.ta_isa.specs.declared.boot.Boot.{Boot}
+use Rattle.ta_isa.specs.declared.image_fault.ImageFault.{ImageFault}
+use Rattle.ta_isa.specs.declared.image_fault.ImageFault.TheVariants.{BadHeader, TooLarge, BadEntry, BadOp}
+use Rattle.ta_isa.specs.declared.image_fault.ImageFault.TheVariants as image
+use Rattle.trace_text.specs.declared.fault.BadKind.{BadKind}
+use Rattle.trace_text.specs.declared.fault.BadKind.TheVariants as bad
+use Rattle.trace_text.specs.declared.fault.LineFault.{LineFault}
+use Rattle.trace_text.specs.declared.fault.LineFault.TheVariants.{Broken, NoRoom}
+use Rattle.trace_text.specs.declared.fault.TraceFault.{TraceFault}
+use Rattle.trace_text.specs.declared.fault.TraceFault.TheVariants.{Bad, Memory}
+use Rattle.trace_text.specs.declared.item.Item.{Item}
+use Rattle.trace_text.specs.declared.item.Item.TheVariants as item
+use Rattle.trace_text.specs.declared.said.Size.{Size}
+use Rattle.trace_text.specs.declared.trace.Trace.{Trace}
+use Rattle.trace_text.specs.Rules.{first_broken, after_line, inside_after}
+use Rattle.trace_text.specs.Grammar.{piece_fault}
+
+-- a word was read: it has the form, and this is what it writes; or it hasn't
+abbrev pub Reads : {A : Type 0} → Option A → Bool → A → Type 0
+Reads None form value = form ≡ false
+Reads (Some read) form value = (form ≡ true) × (read ≡ value)
+
+-- a part of a line was read: it keeps its rules, and this is what it says; or it broke one; or memory ran out
+abbrev pub Judged : {X Y : Type 0} → (X → Y) → Result X LineFault → List (BadKind × Bool) → Y → Type 0
+Judged view (Ok x) rules value = (first_broken rules ≡ None) × (view x ≡ value)
+Judged view (Err (Broken kind)) rules value = first_broken rules ≡ Some kind
+Judged view (Err NoRoom) rules value = Unit {0}
+
+-- what an image's fault makes of its line
+abbrev pub of_image : ImageFault → LineFault
+of_image (BadHeader n) = Broken bad.Image
+of_image TooLarge = Broken bad.Image
+of_image (BadEntry n) = Broken bad.Image
+of_image (BadOp n) = Broken bad.Image
+of_image image.Memory = NoRoom
+
+-- a line's fault, with the line's place
+abbrev pub placed : ℕ → LineFault → TraceFault
+placed place (Broken kind) = Bad place kind
+placed place NoRoom = Memory
+
+-- the processor of an item
+abbrev pub item_cpu : Item → ℕ
+item_cpu (item.Smc cpu steps regs) = cpu
+item_cpu (item.Enter cpu steps regs) = cpu
+item_cpu (item.Leave cpu) = cpu
+item_cpu (item.Write cpu addr bytes) = cpu
+item_cpu (item.Show cpu addr len) = cpu
+
+-- something was put into the trace, or memory ran out
+abbrev pub IsPut : Result Unit LineFault → Trace → Trace → Type 0
+IsPut (Ok u) wanted after = after ≡ wanted
+IsPut (Err fault) wanted after = fault ≡ NoRoom
+
+-- the text ends here: there is no fault, and this is its trace; or there is one
+abbrev pub Ends : Result Trace BadKind → Option BadKind → Trace → Type 0
+Ends (Ok trace) fault before = (fault ≡ None) × (trace ≡ before)
+Ends (Err kind) fault before = fault ≡ Some kind
+
+-- the verdict on a piece, where it has no fault
+abbrev pub unless : Option BadKind → ℕ → Result Trace TraceFault → Result Trace TraceFault
+unless None place verdict = verdict
+unless (Some kind) place verdict = Err (Bad place kind)
+
+-- the trace of the pieces from this place on, or the first fault
+unfoldable pub read_pieces : List (List ℕ) → ℕ → Trace → List (List ℕ) → Result Trace TraceFault
+read_pieces natives place before [] = Ok before
+read_pieces natives place before (piece ∷ []) = unless (piece_fault natives before piece []) place (Ok before)
+read_pieces natives place before (piece ∷ (next ∷ pieces)) =
+    unless (piece_fault natives before piece (next ∷ pieces)) place (read_pieces natives (place + 1) (after_line before piece) (next ∷ pieces))
+
+-- it was answered so, unless memory ran out
+abbrev pub IsUnlessMemory : Result Trace TraceFault → Result Trace TraceFault → Type 0
+IsUnlessMemory result wanted = (result ≡ wanted) ⊎ (result ≡ Err Memory)
+
+-- a line was taken: it keeps its rules, and leads from the trace before it to the one after it; or it broke a rule;
+-- or memory ran out
+abbrev pub IsTaken : Result Unit LineFault → List (BadKind × Bool) → Trace → Trace → Type 0
+IsTaken (Ok u) rules wanted after = (first_broken rules ≡ None) × (after ≡ wanted)
+IsTaken (Err (Broken kind)) rules wanted after = first_broken rules ≡ Some kind
+IsTaken (Err NoRoom) rules wanted after = Unit {0}
+
+-- the boot of a size and its applications
+abbrev pub booted : Option Size → List App → Option Boot
+booted None apps = None
+booted (Some size) apps = Some (record { cpus = size.cpus; threads = size.threads; frames = size.frames; apps = apps })
+
+-- what the fields of a reader keep: no application before the boot, at most eight processors, and which are inside
+pub record IsTracked (size : Option Size) (apps : List App) (items : List Item) (inside : List Bool) : Type 0 where
+  pub no_apps : is_none size ≡ true → apps ≡ []
+  pub few_cpus : IfSome size (λ s. s.cpus ≤ 8)
+  pub inside_is : inside ≡ inside_after items

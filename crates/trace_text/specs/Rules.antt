@@ -1,0 +1,249 @@
+-- The rules of a line, in the order in which a fault is looked for, and what a line adds to a trace. Both
+-- look at the line as a whole, and at the trace that the lines before it spell.
+use Rattle.std.specs.Prelude.{ℕ, ◌+◌, List, [], ◌∷◌, ◌++◌, codes, drop, length, map, slice_index_or, slice_index, slice_set, nat_lt, nat_le, Bool, true, false, ◌&&◌, ◌||◌, not, ◌==◌, if◌then◌else◌, Option, None, Some, is_none, is_some}
+use Rattle.std.specs.List.{fold, list_all, list_any}
+use Rattle.std.specs.Str.{bytes_eq}
+use Rattle.ns_ram.specs.Lane.{is_in_ram}
+use Rattle.ta_isa.specs.declared.boot.App.{App}
+use Rattle.ta_isa.specs.declared.boot.Boot.{Boot}
+use Rattle.ta_isa.specs.Reading.{fault_of, image_of}
+use Rattle.trace_text.specs.declared.fault.BadKind.{BadKind}
+use Rattle.trace_text.specs.declared.fault.BadKind.TheVariants as bad
+use Rattle.trace_text.specs.declared.item.Item.{Item}
+use Rattle.trace_text.specs.declared.item.Item.TheVariants as item
+use Rattle.trace_text.specs.declared.line_kind.LineKind.{LineKind}
+use Rattle.trace_text.specs.declared.line_kind.LineKind.TheVariants as kind
+use Rattle.trace_text.specs.declared.trace.Fill.{Fill}
+use Rattle.trace_text.specs.declared.trace.Trace.{Trace}
+use Rattle.trace_text.specs.Forms.{is_decimal, decimal, is_hexadecimal, hexadecimal, is_register, register, is_uuid, uuid, is_hex, bytes}
+use Rattle.trace_text.specs.Reading.{words_of}
+
+-- ---- rules
+
+-- the kind of the first rule that isn't kept; each rule is a kind, and whether it is kept
+abbrev pub first_broken : List (BadKind × Bool) → Option BadKind
+first_broken [] = None
+first_broken (rule ∷ rules) = if rule.1 then first_broken rules else Some rule.0
+
+-- ---- what a line is told by
+
+-- the first word of each kind of line
+abbrev pub line_table : List (List ℕ × LineKind)
+line_table =
+    (codes "boot", kind.Boot)
+    ∷ (codes "ta", kind.Ta)
+    ∷ (codes "mem", kind.Mem)
+    ∷ (codes "smc", kind.Smc)
+    ∷ (codes "enter", kind.Enter)
+    ∷ (codes "leave", kind.Leave)
+    ∷ (codes "write", kind.Write)
+    ∷ (codes "show", kind.Show)
+    ∷ []
+
+-- the kind beside the first row of this word
+abbrev pub kind_in : List (List ℕ × LineKind) → List ℕ → Option LineKind
+kind_in [] word = None
+kind_in (row ∷ rows) word = if bytes_eq word row.0 then Some row.1 else kind_in rows word
+
+unfoldable pub kind_named : List ℕ → Option LineKind
+kind_named word = kind_in line_table word
+
+-- how many words stand behind the first one
+abbrev pub words_behind : LineKind → ℕ
+words_behind kind.Boot = 3
+words_behind kind.Ta = 2
+words_behind kind.Mem = 2
+words_behind kind.Smc = 10
+words_behind kind.Enter = 10
+words_behind kind.Leave = 1
+words_behind kind.Write = 3
+words_behind kind.Show = 3
+
+-- ---- what the lines before have set
+
+-- how many processors there are
+abbrev pub cpus_of : Option Boot → ℕ
+cpus_of None = 0
+cpus_of (Some boot) = boot.cpus
+
+abbrev pub apps_of : Option Boot → List App
+apps_of None = []
+apps_of (Some boot) = boot.apps
+
+-- no item stands yet
+abbrev pub has_no_item : List Item → Bool
+has_no_item [] = true
+has_no_item (i ∷ items) = false
+
+-- which processors are inside, by number, after an item
+abbrev pub moved : List Bool → Item → List Bool
+moved inside (item.Smc cpu steps regs) = inside
+moved inside (item.Enter cpu steps regs) = slice_set inside cpu true
+moved inside (item.Leave cpu) = slice_set inside cpu false
+moved inside (item.Write cpu addr bytes) = inside
+moved inside (item.Show cpu addr len) = inside
+
+-- at the start none of the eight is
+abbrev pub outside : List Bool
+outside = false ∷ false ∷ false ∷ false ∷ false ∷ false ∷ false ∷ false ∷ []
+
+unfoldable pub inside_after : List Item → List Bool
+inside_after items = fold moved outside items
+
+abbrev pub is_inside : List Item → ℕ → Bool
+is_inside items cpu = slice_index_or (inside_after items) cpu false
+
+-- some application, in an image or built in, has this UUID
+unfoldable pub is_known : List (List ℕ) → List App → List ℕ → Bool
+is_known natives apps id = list_any (λ app. bytes_eq app.uuid id) apps || list_any (λ native. bytes_eq native id) natives
+
+-- ---- limits
+
+abbrev pub is_within : ℕ → ℕ → ℕ → Bool
+is_within least most n = nat_le least n && nat_le n most
+
+-- so many bytes at this address lie in RAM, all of them
+unfoldable pub lies_in_ram : ℕ → ℕ → Bool
+lies_in_ram addr len = is_in_ram addr len
+
+-- the bytes are a valid image
+unfoldable pub is_image : List ℕ → Bool
+is_image image = is_none (fault_of image)
+
+-- ---- the rules of each kind of line, on the words behind the first
+
+abbrev pub boot_rules : List ℕ → List ℕ → List ℕ → List (BadKind × Bool)
+boot_rules cpus threads frames =
+    (bad.Number, is_decimal cpus)
+    ∷ (bad.Number, is_decimal threads)
+    ∷ (bad.Number, is_decimal frames)
+    ∷ (bad.Range, is_within 1 8 (decimal cpus))
+    ∷ (bad.Range, is_within 1 16 (decimal threads))
+    ∷ (bad.Range, is_within 1 1024 (decimal frames))
+    ∷ []
+
+abbrev pub ta_rules : List (List ℕ) → List App → List ℕ → List ℕ → List (BadKind × Bool)
+ta_rules natives apps id image =
+    (bad.Uuid, is_uuid id)
+    ∷ (bad.Hex, is_hex image)
+    ∷ (bad.Range, nat_lt (length apps) 16)
+    ∷ (bad.Repeat, not (is_known natives apps (uuid id)))
+    ∷ (bad.Image, is_image (bytes image))
+    ∷ []
+
+abbrev pub mem_rules : List ℕ → List ℕ → List (BadKind × Bool)
+mem_rules addr hex =
+    (bad.Number, is_hexadecimal 16 addr)
+    ∷ (bad.Hex, is_hex hex)
+    ∷ (bad.Range, lies_in_ram (hexadecimal addr) (length (bytes hex)))
+    ∷ []
+
+-- of `smc` and `enter`, but for who is inside
+abbrev pub call_rules : ℕ → List ℕ → List ℕ → List (List ℕ) → List (BadKind × Bool)
+call_rules cpus cpu steps regs =
+    (bad.Number, is_decimal cpu)
+    ∷ (bad.Number, is_decimal steps)
+    ∷ (bad.Number, list_all is_register regs)
+    ∷ (bad.Range, is_within 1 1000000 (decimal steps))
+    ∷ (bad.Cpu, nat_lt (decimal cpu) cpus)
+    ∷ []
+
+-- of `leave`, but for who is inside
+abbrev pub cpu_rules : ℕ → List ℕ → List (BadKind × Bool)
+cpu_rules cpus cpu = (bad.Number, is_decimal cpu) ∷ (bad.Cpu, nat_lt (decimal cpu) cpus) ∷ []
+
+abbrev pub write_rules : ℕ → List ℕ → List ℕ → List ℕ → List (BadKind × Bool)
+write_rules cpus cpu addr hex =
+    (bad.Number, is_decimal cpu)
+    ∷ (bad.Number, is_hexadecimal 16 addr)
+    ∷ (bad.Hex, is_hex hex)
+    ∷ (bad.Range, lies_in_ram (hexadecimal addr) (length (bytes hex)))
+    ∷ (bad.Cpu, nat_lt (decimal cpu) cpus)
+    ∷ []
+
+abbrev pub show_rules : ℕ → List ℕ → List ℕ → List ℕ → List (BadKind × Bool)
+show_rules cpus cpu addr len =
+    (bad.Number, is_decimal cpu)
+    ∷ (bad.Number, is_hexadecimal 16 addr)
+    ∷ (bad.Number, is_decimal len)
+    ∷ (bad.Range, is_within 1 4096 (decimal len))
+    ∷ (bad.Range, lies_in_ram (hexadecimal addr) (decimal len))
+    ∷ (bad.Cpu, nat_lt (decimal cpu) cpus)
+    ∷ []
+
+-- a word by its number, behind the first one
+abbrev pub word : List (List ℕ) → ℕ → List ℕ
+word words n = slice_index_or words n []
+
+-- where a line of this kind may stand, and then the rules of its words
+unfoldable pub rules_behind : LineKind → List (List ℕ) → Trace → List (List ℕ) → List (BadKind × Bool)
+rules_behind kind.Boot natives before ws = (bad.Place, is_none before.boot) ∷ boot_rules (word ws 0) (word ws 1) (word ws 2)
+rules_behind kind.Ta natives before ws =
+    (bad.Place, is_some before.boot) ∷ (bad.Place, has_no_item before.items) ∷ ta_rules natives (apps_of before.boot) (word ws 0) (word ws 1)
+rules_behind kind.Mem natives before ws = (bad.Place, is_some before.boot) ∷ (bad.Place, has_no_item before.items) ∷ mem_rules (word ws 0) (word ws 1)
+rules_behind kind.Smc natives before ws = (bad.Place, is_some before.boot) ∷ call_rules (cpus_of before.boot) (word ws 0) (word ws 1) (drop 2 ws) ++ (bad.Inside, not (is_inside before.items (decimal (word ws 0)))) ∷ []
+rules_behind kind.Enter natives before ws = (bad.Place, is_some before.boot) ∷ call_rules (cpus_of before.boot) (word ws 0) (word ws 1) (drop 2 ws) ++ (bad.Inside, not (is_inside before.items (decimal (word ws 0)))) ∷ []
+rules_behind kind.Leave natives before ws = (bad.Place, is_some before.boot) ∷ cpu_rules (cpus_of before.boot) (word ws 0) ++ (bad.Inside, is_inside before.items (decimal (word ws 0))) ∷ []
+rules_behind kind.Write natives before ws = (bad.Place, is_some before.boot) ∷ write_rules (cpus_of before.boot) (word ws 0) (word ws 1) (word ws 2)
+rules_behind kind.Show natives before ws = (bad.Place, is_some before.boot) ∷ show_rules (cpus_of before.boot) (word ws 0) (word ws 1) (word ws 2)
+
+-- as many words as the kind has, and none of them empty
+unfoldable pub counts : ℕ → List (List ℕ) → Bool
+counts behind words = (length words == behind + 1) && list_all (λ w. nat_lt 0 (length w)) words
+
+abbrev pub rules_of_kind : Option LineKind → List (List ℕ) → Trace → List (List ℕ) → List (BadKind × Bool)
+rules_of_kind None natives before words = (bad.Item, false) ∷ []
+rules_of_kind (Some kind) natives before words = (bad.Count, counts (words_behind kind) words) ∷ rules_behind kind natives before (drop 1 words)
+
+-- ---- whole lines
+
+-- an empty line, or a comment
+unfoldable pub is_skipped : List ℕ → Bool
+is_skipped line = (length line == 0) || (slice_index line 0 == 35)
+
+-- 20 to 7e, hexadecimal
+abbrev pub is_text_byte : ℕ → Bool
+is_text_byte byte = nat_le 32 byte && nat_le byte 126
+
+-- the rules of a line, given whether a line feed ends it
+unfoldable pub line_rules : List (List ℕ) → Trace → Bool → List ℕ → List (BadKind × Bool)
+line_rules natives before ended line =
+    (bad.Byte, list_all is_text_byte line)
+    ∷ (bad.Cut, ended)
+    ∷ (if is_skipped line then [] else rules_of_kind (kind_named (word (words_of line) 0)) natives before (words_of line))
+
+-- ---- what a line that keeps its rules adds
+
+abbrev pub with_item : Trace → Item → Trace
+with_item before i = record before { items = before.items ++ i ∷ [] }
+
+abbrev pub with_app : Option Boot → App → Option Boot
+with_app None app = None
+with_app (Some boot) app = Some (record boot { apps = boot.apps ++ app ∷ [] })
+
+abbrev pub app_of : List ℕ → List ℕ → App
+app_of id image = record { uuid = uuid id; image = image_of (bytes image) }
+
+abbrev pub boot_of : List ℕ → List ℕ → List ℕ → Boot
+boot_of cpus threads frames = record { cpus = decimal cpus; threads = decimal threads; frames = decimal frames; apps = [] }
+
+abbrev pub fill_of : List ℕ → List ℕ → Fill
+fill_of addr hex = record { addr = hexadecimal addr; bytes = bytes hex }
+
+unfoldable pub added : LineKind → Trace → List (List ℕ) → Trace
+added kind.Boot before ws = record before { boot = Some (boot_of (word ws 0) (word ws 1) (word ws 2)) }
+added kind.Ta before ws = record before { boot = with_app before.boot (app_of (word ws 0) (word ws 1)) }
+added kind.Mem before ws = record before { fills = before.fills ++ fill_of (word ws 0) (word ws 1) ∷ [] }
+added kind.Smc before ws = with_item before (item.Smc (decimal (word ws 0)) (decimal (word ws 1)) (map register (drop 2 ws)))
+added kind.Enter before ws = with_item before (item.Enter (decimal (word ws 0)) (decimal (word ws 1)) (map register (drop 2 ws)))
+added kind.Leave before ws = with_item before (item.Leave (decimal (word ws 0)))
+added kind.Write before ws = with_item before (item.Write (decimal (word ws 0)) (hexadecimal (word ws 1)) (bytes (word ws 2)))
+added kind.Show before ws = with_item before (item.Show (decimal (word ws 0)) (hexadecimal (word ws 1)) (decimal (word ws 2)))
+
+abbrev pub added_by_kind : Option LineKind → Trace → List (List ℕ) → Trace
+added_by_kind None before words = before
+added_by_kind (Some kind) before words = added kind before (drop 1 words)
+
+-- the trace that the lines before and this one spell
+unfoldable pub after_line : Trace → List ℕ → Trace
+after_line before line = if is_skipped line then before else added_by_kind (kind_named (word (words_of line) 0)) before (words_of line)

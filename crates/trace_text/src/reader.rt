@@ -1,0 +1,365 @@
+//! Taking lines one after the other.
+
+ghost use Rattle.std.specs.Prelude.{◌≡◌, ℕ, ◌<◌, ◌≤◌, ◌++◌, ◌∷◌, [], List, length, map, is_none, is_some, true, false, not, IfOk, IfSome, None, Some};
+ghost use Rattle.std.specs.List.{list_any};
+ghost use Rattle.trace_text.specs.Forms.{bytes, decimal, hexadecimal, register};
+ghost use Rattle.trace_text.specs.Grammar.{piece_fault};
+ghost use Rattle.trace_text.specs.Judging.{Ends, IsPut, IsTaken, Judged, Reads, booted, item_cpu};
+ghost use Rattle.trace_text.specs.Rules.{added, after_line, app_of, apps_of, boot_of, boot_rules, call_rules, cpu_rules, cpus_of, fill_of, has_no_item, inside_after, is_inside, line_rules, mem_rules, moved, rules_behind, show_rules, ta_rules, with_app, with_item, words_behind, write_rules};
+ghost use Rattle.trace_text.specs.Script.{empty_trace};
+ghost use Rattle.trace_text.specs.declared.item.Item.TheVariants as item;
+
+use crate::fault::{BadKind, LineFault};
+use crate::item::Item;
+use crate::line::{Words, has_words, is_skipped, is_text};
+use crate::line_kind::LineKind;
+use crate::said::{
+    Call, Size, app_of, boot_of, call_of, cpu_of, fill_of, show_of, size_of, write_of,
+};
+use crate::trace::{Fill, Trace};
+use base::Sequence;
+use std::alloc::Global;
+use std::marker::Model;
+use ta_isa::App;
+use uuid::Uuid;
+
+/// Which processors are inside after an item, of those that were before.
+fn moved(mut inside: [bool; 8], item: &Item) -> [bool; 8]
+    requires { item_cpu item.now < 8 }
+    ensures { result ≡ moved inside item.now }
+{
+    match item {
+        Item::Enter { cpu, .. } => inside[usize::from(*cpu)] = true,
+        Item::Leave { cpu } => inside[usize::from(*cpu)] = false,
+        _ => {}
+    }
+    inside
+}
+
+/// The trace that the lines so far spell, and which processors are inside.
+#[derive(Drop)]
+pub struct Reader {
+    size: Option<Size>,
+    apps: Vec<App>,
+    fills: Vec<Fill>,
+    items: Vec<Item>,
+    inside: [bool; 8],
+}
+
+impl Model for Reader {
+    ghost use Rattle.trace_text.specs.declared.trace.Trace.{Trace};
+    ghost use Rattle.trace_text.specs.Judging.{booted, IsTracked};
+
+    ghost Value = { Trace };
+
+    ghost view = { λ r. record { boot = booted r.size r.apps.items; fills = r.fills.items; items = r.items.items } };
+
+    ghost invariant = { λ r. IsTracked r.size r.apps.items r.items.items r.inside };
+}
+
+impl Reader {
+    /// Before the first line.
+    #[tactic(auto, unfolding(crate::specs::Rules::inside_after))]
+    pub fn new(alloc: Global) -> Reader
+        ensures { result ≡ empty_trace }
+    {
+        Reader {
+            size: None,
+            apps: Vec::new(alloc),
+            fills: Vec::new(alloc),
+            items: Vec::new(alloc),
+            inside: [false; 8],
+        }
+    }
+
+    /// The trace of all lines.
+    fn into_trace(self) -> Trace
+        ensures { result ≡ self }
+    {
+        let Reader {
+            size,
+            apps,
+            fills,
+            items,
+            inside: _,
+        } = self;
+        Trace {
+            boot: boot_of(size, apps),
+            fills: Sequence::of(fills),
+            items: Sequence::of(items),
+        }
+    }
+
+    /// How many processors there are, after a line `boot`.
+    fn cpus(&self) -> Option<u8>
+        ensures read { Reads result (is_some self.now.boot) (cpus_of self.now.boot) }
+        ensures few { IfSome result (λ n. n ≤ 8) }
+    {
+        let size = self.size?;
+        Some(size.cpus)
+    }
+
+    fn has_no_item(&self) -> bool
+        ensures { result ≡ has_no_item self.now.items }
+    {
+        self.items.is_empty()
+    }
+
+    fn apps(&self) -> &[App]
+        ensures { result.now ≡ apps_of self.now.boot }
+    {
+        self.apps.as_slice()
+    }
+
+    fn is_inside(&self, cpu: u8) -> bool
+        requires { cpu < 8 }
+        ensures { result ≡ is_inside self.now.items cpu }
+    {
+        self.inside[usize::from(cpu)]
+    }
+
+    fn is_anyone_inside(&self) -> bool
+        ensures { result ≡ list_any (λ inside. inside) (inside_after self.now.items) }
+    {
+        self.inside.iter().any(|inside| *inside)
+    }
+
+    fn set_size(&mut self, size: Size)
+        requires first { is_some self.old.boot ≡ false }
+        requires few { size.cpus ≤ 8 }
+        ensures { self.new ≡ record self.old { boot = booted (Some size) [] } }
+    {
+        self.size = Some(size);
+    }
+
+    fn push_app(&mut self, app: App) -> Result<(), LineFault>
+        requires { is_some self.old.boot ≡ true }
+        ensures { IsPut result (record self.old { boot = with_app self.old.boot app }) self.new }
+    {
+        self.apps.push(app)?;
+        Ok(())
+    }
+
+    fn push_fill(&mut self, fill: Fill) -> Result<(), LineFault>
+        ensures { IsPut result (record self.old { fills = self.old.fills ++ fill ∷ [] }) self.new }
+    {
+        self.fills.push(fill)?;
+        Ok(())
+    }
+
+    fn push_item(&mut self, item: Item) -> Result<(), LineFault>
+        requires { item_cpu item < 8 }
+        ensures { IsPut result (with_item self.old item) self.new }
+    {
+        let inside = moved(self.inside, &item);
+        self.items.push(item)?;
+        self.inside = inside;
+        Ok(())
+    }
+
+    /// A line `boot`, by its words.
+    fn take_boot(&mut self, cpus: &[u8], threads: &[u8], frames: &[u8]) -> Result<(), LineFault>
+        ensures { IsTaken result ((BadKind.Place, is_none self.old.boot) ∷ boot_rules cpus.now threads.now frames.now)
+            (record self.old { boot = Some (boot_of cpus.now threads.now frames.now) }) self.new }
+    {
+        if self.cpus().is_some() {
+            return Err(LineFault::Broken(BadKind::Place));
+        }
+        let size = size_of(cpus, threads, frames)?;
+        self.set_size(size);
+        Ok(())
+    }
+
+    /// A line `ta`, by its words.
+    fn take_ta(
+        &mut self,
+        alloc: Global,
+        natives: &[Uuid],
+        id: &[u8],
+        image: &[u8],
+    ) -> Result<(), LineFault>
+        ensures { IsTaken result
+            ((BadKind.Place, is_some self.old.boot) ∷ (BadKind.Place, has_no_item self.old.items) ∷ ta_rules natives.now (apps_of self.old.boot) id.now image.now)
+            (record self.old { boot = with_app self.old.boot (app_of id.now image.now) }) self.new }
+    {
+        if self.cpus().is_none() {
+            return Err(LineFault::Broken(BadKind::Place));
+        }
+        if !self.has_no_item() {
+            return Err(LineFault::Broken(BadKind::Place));
+        }
+        let app = app_of(alloc, natives, self.apps(), id, image)?;
+        self.push_app(app)
+    }
+
+    /// A line `mem`, by its words.
+    fn take_mem(&mut self, alloc: Global, addr: &[u8], hex: &[u8]) -> Result<(), LineFault>
+        ensures { IsTaken result
+            ((BadKind.Place, is_some self.old.boot) ∷ (BadKind.Place, has_no_item self.old.items) ∷ mem_rules addr.now hex.now)
+            (record self.old { fills = self.old.fills ++ fill_of addr.now hex.now ∷ [] }) self.new }
+    {
+        if self.cpus().is_none() {
+            return Err(LineFault::Broken(BadKind::Place));
+        }
+        if !self.has_no_item() {
+            return Err(LineFault::Broken(BadKind::Place));
+        }
+        let fill = fill_of(alloc, addr, hex)?;
+        self.push_fill(fill)
+    }
+
+    /// What a line `smc` or `enter` says, by its words.
+    fn call(&self, cpu: &[u8], steps: &[u8], regs: Words) -> Result<Call, LineFault>
+        requires { length regs ≡ 8 }
+        ensures said { Judged (λ c. c) result
+            ((BadKind.Place, is_some self.now.boot) ∷ call_rules (cpus_of self.now.boot) cpu.now steps.now regs.entry
+            ++ (BadKind.Inside, not (is_inside self.now.items (decimal cpu.now))) ∷ [])
+            (record { cpu = decimal cpu.now; steps = decimal steps.now; regs = map register regs.entry }) }
+        ensures few { IfOk result (λ c. c.cpu < 8) }
+    {
+        let Some(cpus) = self.cpus() else {
+            return Err(LineFault::Broken(BadKind::Place));
+        };
+        let call = call_of(cpus, cpu, steps, regs)?;
+        if self.is_inside(call.cpu) {
+            return Err(LineFault::Broken(BadKind::Inside));
+        }
+        Ok(call)
+    }
+
+    /// A line `leave`, by its words.
+    fn take_leave(&mut self, cpu: &[u8]) -> Result<(), LineFault>
+        ensures { IsTaken result
+            ((BadKind.Place, is_some self.old.boot) ∷ cpu_rules (cpus_of self.old.boot) cpu.now
+            ++ (BadKind.Inside, is_inside self.old.items (decimal cpu.now)) ∷ [])
+            (with_item self.old (item.Leave (decimal cpu.now))) self.new }
+    {
+        let Some(cpus) = self.cpus() else {
+            return Err(LineFault::Broken(BadKind::Place));
+        };
+        let cpu = cpu_of(cpus, cpu)?;
+        if !self.is_inside(cpu) {
+            return Err(LineFault::Broken(BadKind::Inside));
+        }
+        self.push_item(Item::Leave { cpu })
+    }
+
+    /// A line `write`, by its words.
+    fn take_write(
+        &mut self,
+        alloc: Global,
+        cpu: &[u8],
+        addr: &[u8],
+        hex: &[u8],
+    ) -> Result<(), LineFault>
+        ensures { IsTaken result
+            ((BadKind.Place, is_some self.old.boot) ∷ write_rules (cpus_of self.old.boot) cpu.now addr.now hex.now)
+            (with_item self.old (item.Write (decimal cpu.now) (hexadecimal addr.now) (bytes hex.now))) self.new }
+    {
+        let Some(cpus) = self.cpus() else {
+            return Err(LineFault::Broken(BadKind::Place));
+        };
+        let item = write_of(alloc, cpus, cpu, addr, hex)?;
+        self.push_item(item)
+    }
+
+    /// A line `show`, by its words.
+    fn take_show(&mut self, cpu: &[u8], addr: &[u8], len: &[u8]) -> Result<(), LineFault>
+        ensures { IsTaken result
+            ((BadKind.Place, is_some self.old.boot) ∷ show_rules (cpus_of self.old.boot) cpu.now addr.now len.now)
+            (with_item self.old (item.Show (decimal cpu.now) (hexadecimal addr.now) (decimal len.now))) self.new }
+    {
+        let Some(cpus) = self.cpus() else {
+            return Err(LineFault::Broken(BadKind::Place));
+        };
+        let item = show_of(cpus, cpu, addr, len)?;
+        self.push_item(item)
+    }
+
+    /// A line `smc`, by its words.
+    fn take_smc(&mut self, cpu: &[u8], steps: &[u8], regs: Words) -> Result<(), LineFault>
+        requires { length regs ≡ 8 }
+        ensures { IsTaken result
+            ((BadKind.Place, is_some self.old.boot) ∷ call_rules (cpus_of self.old.boot) cpu.now steps.now regs.entry
+            ++ (BadKind.Inside, not (is_inside self.old.items (decimal cpu.now))) ∷ [])
+            (with_item self.old (item.Smc (decimal cpu.now) (decimal steps.now) (map register regs.entry))) self.new }
+    {
+        let Call { cpu, steps, regs } = self.call(cpu, steps, regs)?;
+        self.push_item(Item::Smc { cpu, steps, regs })
+    }
+
+    /// A line `enter`, by its words.
+    fn take_enter(&mut self, cpu: &[u8], steps: &[u8], regs: Words) -> Result<(), LineFault>
+        requires { length regs ≡ 8 }
+        ensures { IsTaken result
+            ((BadKind.Place, is_some self.old.boot) ∷ call_rules (cpus_of self.old.boot) cpu.now steps.now regs.entry
+            ++ (BadKind.Inside, not (is_inside self.old.items (decimal cpu.now))) ∷ [])
+            (with_item self.old (item.Enter (decimal cpu.now) (decimal steps.now) (map register regs.entry))) self.new }
+    {
+        let Call { cpu, steps, regs } = self.call(cpu, steps, regs)?;
+        self.push_item(Item::Enter { cpu, steps, regs })
+    }
+
+    /// A line of this kind, by the words behind its first one.
+    #[tactic(auto, unfolding(crate::specs::Rules::rules_behind, crate::specs::Rules::added))]
+    fn take_words(
+        &mut self,
+        alloc: Global,
+        natives: &[Uuid],
+        kind: LineKind,
+        mut words: Words,
+    ) -> Result<(), LineFault>
+        requires { length words ≡ words_behind kind }
+        ensures { IsTaken result (rules_behind kind natives.now self.old words.entry) (added kind self.old words.entry) self.new }
+    {
+        match kind {
+            LineKind::Boot => self.take_boot(words.word(), words.word(), words.word()),
+            LineKind::Ta => self.take_ta(alloc, natives, words.word(), words.word()),
+            LineKind::Mem => self.take_mem(alloc, words.word(), words.word()),
+            LineKind::Smc => self.take_smc(words.word(), words.word(), words),
+            LineKind::Enter => self.take_enter(words.word(), words.word(), words),
+            LineKind::Leave => self.take_leave(words.word()),
+            LineKind::Write => self.take_write(alloc, words.word(), words.word(), words.word()),
+            LineKind::Show => self.take_show(words.word(), words.word(), words.word()),
+        }
+    }
+
+    /// Takes a line, which is given without its line feed.
+    #[tactic(auto, unfolding(crate::specs::Rules::line_rules, crate::specs::Rules::after_line))]
+    pub fn take(&mut self, alloc: Global, natives: &[Uuid], line: &[u8]) -> Result<(), LineFault>
+        ensures { IsTaken result (line_rules natives.now self.old true line.now) (after_line self.old line.now) self.new }
+    {
+        if !is_text(line) {
+            return Err(LineFault::Broken(BadKind::Byte));
+        }
+        if is_skipped(line) {
+            return Ok(());
+        }
+        let mut words = Words::of(line);
+        let Some(kind) = LineKind::named(words.word()) else {
+            return Err(LineFault::Broken(BadKind::Item));
+        };
+        if !has_words(line, kind.words_behind()) {
+            return Err(LineFault::Broken(BadKind::Count));
+        }
+        self.take_words(alloc, natives, kind, words)
+    }
+
+    /// The trace, where the text ends with these bytes behind its last line feed.
+    #[tactic(auto, unfolding(crate::specs::Grammar::piece_fault, crate::specs::Rules::line_rules))]
+    pub fn finish(self, rest: &[u8]) -> Result<Trace, BadKind>
+        ensures { (natives : List (List ℕ)) → Ends result (piece_fault natives self rest.now []) self }
+    {
+        if !rest.is_empty() {
+            return Err(if is_text(rest) {
+                BadKind::Cut
+            } else {
+                BadKind::Byte
+            });
+        }
+        if self.is_anyone_inside() {
+            return Err(BadKind::Unended);
+        }
+        Ok(self.into_trace())
+    }
+}

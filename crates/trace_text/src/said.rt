@@ -1,0 +1,313 @@
+//! What each kind of line says, by its words.
+
+ghost use Rattle.std.specs.Prelude.{◌≡◌, ◌<◌, ◌≤◌, ◌∷◌, [], length, map, nat_lt, IfOk};
+ghost use Rattle.std.specs.List.{list_all, list_any};
+ghost use Rattle.std.specs.Str.{bytes_eq};
+ghost use Rattle.ta_isa.specs.Reading.{image_of};
+ghost use Rattle.trace_text.specs.Forms.{bytes, decimal, hexadecimal, is_register, register};
+ghost use Rattle.trace_text.specs.Judging.{Judged, Reads, booted, item_cpu};
+ghost use Rattle.trace_text.specs.Rules.{app_of, boot_rules, call_rules, cpu_rules, fill_of, is_image, is_known, is_within, lies_in_ram, mem_rules, show_rules, ta_rules, write_rules};
+ghost use Rattle.trace_text.specs.declared.item.Item.TheVariants as item;
+
+use crate::fault::{BadKind, LineFault};
+use crate::item::{Item, Reg};
+use crate::line::Words;
+use crate::trace::Fill;
+use crate::word::{address, any_register, bytes, number, uuid};
+use base::Sequence;
+use ns_ram::in_ram;
+use std::alloc::Global;
+use ta_isa::{App, Boot, Image, decode_image};
+use uuid::Uuid;
+
+/// The applications that a trace may have in images.
+const MAX_APPS: usize = 16;
+
+/// The steps that an entry may be granted.
+const MAX_STEPS: u32 = 1_000_000;
+
+/// The bytes that a line `show` may print.
+const MAX_SHOWN: u32 = 4096;
+
+/// What a line `boot` says.
+#[derive(Clone, Copy, Debug, Drop)]
+pub struct Size {
+    pub cpus: u8,
+    pub threads: u8,
+    pub frames: u16,
+}
+
+/// What a line `smc` or `enter` says.
+#[derive(Debug, Drop)]
+pub struct Call {
+    pub cpu: u8,
+    pub steps: u32,
+    pub regs: [Reg; 8],
+}
+
+/// What a core is booted with.
+pub fn boot_of(size: Option<Size>, apps: Vec<App>) -> Option<Boot>
+    ensures { result ≡ booted size apps.items }
+{
+    let Size {
+        cpus,
+        threads,
+        frames,
+    } = size?;
+    Some(Boot {
+        cpus,
+        threads,
+        frames,
+        apps: Sequence::of(apps),
+    })
+}
+
+/// Whether a number lies within these limits.
+fn is_within(least: u32, most: u32, number: u32) -> bool
+    ensures { result ≡ is_within least most number }
+{
+    least <= number && number <= most
+}
+
+/// Whether a core of so many processors has the one of this number.
+fn is_there(cpus: u8, cpu: u32) -> bool
+    ensures { result ≡ nat_lt cpu cpus }
+{
+    cpu < u32::from(cpus)
+}
+
+/// Whether so many bytes at this address lie in RAM, all of them.
+#[tactic(auto, unfolding(crate::specs::Rules::lies_in_ram))]
+fn lies_in_ram(addr: u64, len: u64) -> bool
+    ensures { result ≡ lies_in_ram addr len }
+{
+    in_ram(addr, len)
+}
+
+/// Whether an application in an image has this UUID.
+fn is_in_image(apps: &[App], id: Uuid) -> bool
+    ensures { result ≡ list_any (λ app. bytes_eq app.uuid id) apps.now }
+{
+    apps.iter().any(|app| app.uuid == id)
+}
+
+/// Whether a built-in application has this UUID.
+fn is_built_in(natives: &[Uuid], id: Uuid) -> bool
+    ensures { result ≡ list_any (λ native. bytes_eq native id) natives.now }
+{
+    natives.iter().any(|native| *native == id)
+}
+
+/// Whether some application has this UUID.
+#[tactic(auto, unfolding(crate::specs::Rules::is_known))]
+fn is_known(natives: &[Uuid], apps: &[App], id: Uuid) -> bool
+    ensures { result ≡ is_known natives.now apps.now id }
+{
+    is_in_image(apps, id) || is_built_in(natives, id)
+}
+
+/// Reads the words of a line `boot`.
+pub fn size_of(cpus: &[u8], threads: &[u8], frames: &[u8]) -> Result<Size, LineFault>
+    ensures few { IfOk result (λ s. s.cpus ≤ 8) }
+    ensures said { Judged (λ s. s) result (boot_rules cpus.now threads.now frames.now)
+        (record { cpus = decimal cpus.now; threads = decimal threads.now; frames = decimal frames.now }) }
+{
+    let Some(cpus) = number(cpus) else {
+        return Err(LineFault::Broken(BadKind::Number));
+    };
+    let Some(threads) = number(threads) else {
+        return Err(LineFault::Broken(BadKind::Number));
+    };
+    let Some(frames) = number(frames) else {
+        return Err(LineFault::Broken(BadKind::Number));
+    };
+    if !is_within(1, 8, cpus) {
+        return Err(LineFault::Broken(BadKind::Range));
+    }
+    if !is_within(1, 16, threads) {
+        return Err(LineFault::Broken(BadKind::Range));
+    }
+    if !is_within(1, 1024, frames) {
+        return Err(LineFault::Broken(BadKind::Range));
+    }
+    Ok(Size {
+        cpus: cpus as u8,
+        threads: threads as u8,
+        frames: frames as u16,
+    })
+}
+
+/// The image of these bytes.
+#[tactic(auto, unfolding(crate::specs::Rules::is_image))]
+fn image_of(alloc: Global, image: &[u8]) -> Result<Image, LineFault>
+    ensures { Judged (λ i. i) result ((BadKind.Image, is_image image.now) ∷ []) (image_of image.now) }
+{
+    match decode_image(alloc, image) {
+        Ok(image) => Ok(image),
+        Err(fault) => Err(LineFault::of_image(fault)),
+    }
+}
+
+/// Reads the words of a line `ta`.
+pub fn app_of(
+    alloc: Global,
+    natives: &[Uuid],
+    apps: &[App],
+    id: &[u8],
+    image: &[u8],
+) -> Result<App, LineFault>
+    ensures { Judged (λ a. a) result (ta_rules natives.now apps.now id.now image.now) (app_of id.now image.now) }
+{
+    let Some(uuid) = uuid(id) else {
+        return Err(LineFault::Broken(BadKind::Uuid));
+    };
+    let image = bytes(alloc, image)?;
+    if apps.len() >= MAX_APPS {
+        return Err(LineFault::Broken(BadKind::Range));
+    }
+    if is_known(natives, apps, uuid) {
+        return Err(LineFault::Broken(BadKind::Repeat));
+    }
+    let image = image_of(alloc, image.as_slice())?;
+    Ok(App { uuid, image })
+}
+
+/// Reads the words of a line `mem`.
+pub fn fill_of(alloc: Global, addr: &[u8], hex: &[u8]) -> Result<Fill, LineFault>
+    ensures { Judged (λ f. f) result (mem_rules addr.now hex.now) (fill_of addr.now hex.now) }
+{
+    let Some(addr) = address(addr) else {
+        return Err(LineFault::Broken(BadKind::Number));
+    };
+    let bytes = bytes(alloc, hex)?;
+    if !lies_in_ram(addr, bytes.len() as u64) {
+        return Err(LineFault::Broken(BadKind::Range));
+    }
+    Ok(Fill {
+        addr,
+        bytes: Sequence::of(bytes),
+    })
+}
+
+/// Reads the eight registers of a line.
+fn registers_of(mut words: Words) -> Option<[Reg; 8]>
+    requires { length words ≡ 8 }
+    ensures { Reads result (list_all is_register words.entry) (map register words.entry) }
+{
+    Some([
+        any_register(words.word())?,
+        any_register(words.word())?,
+        any_register(words.word())?,
+        any_register(words.word())?,
+        any_register(words.word())?,
+        any_register(words.word())?,
+        any_register(words.word())?,
+        any_register(words.word())?,
+    ])
+}
+
+/// Reads the words of a line `smc` or `enter`, but for who is inside.
+pub fn call_of(cpus: u8, cpu: &[u8], steps: &[u8], regs: Words) -> Result<Call, LineFault>
+    requires { length regs ≡ 8 }
+    ensures below { IfOk result (λ c. c.cpu < cpus) }
+    ensures said { Judged (λ c. c) result (call_rules cpus cpu.now steps.now regs.entry)
+        (record { cpu = decimal cpu.now; steps = decimal steps.now; regs = map register regs.entry }) }
+{
+    let Some(cpu) = number(cpu) else {
+        return Err(LineFault::Broken(BadKind::Number));
+    };
+    let Some(steps) = number(steps) else {
+        return Err(LineFault::Broken(BadKind::Number));
+    };
+    let Some(regs) = registers_of(regs) else {
+        return Err(LineFault::Broken(BadKind::Number));
+    };
+    if !is_within(1, MAX_STEPS, steps) {
+        return Err(LineFault::Broken(BadKind::Range));
+    }
+    if !is_there(cpus, cpu) {
+        return Err(LineFault::Broken(BadKind::Cpu));
+    }
+    Ok(Call {
+        cpu: cpu as u8,
+        steps,
+        regs,
+    })
+}
+
+/// Reads the word of a line `leave`, but for who is inside.
+pub fn cpu_of(cpus: u8, cpu: &[u8]) -> Result<u8, LineFault>
+    ensures below { IfOk result (λ c. c < cpus) }
+    ensures said { Judged (λ c. c) result (cpu_rules cpus cpu.now) (decimal cpu.now) }
+{
+    let Some(cpu) = number(cpu) else {
+        return Err(LineFault::Broken(BadKind::Number));
+    };
+    if !is_there(cpus, cpu) {
+        return Err(LineFault::Broken(BadKind::Cpu));
+    }
+    Ok(cpu as u8)
+}
+
+/// Reads the words of a line `write`.
+pub fn write_of(
+    alloc: Global,
+    cpus: u8,
+    cpu: &[u8],
+    addr: &[u8],
+    hex: &[u8],
+) -> Result<Item, LineFault>
+    ensures below { IfOk result (λ i. item_cpu i < cpus) }
+    ensures said { Judged (λ i. i) result (write_rules cpus cpu.now addr.now hex.now)
+        (item.Write (decimal cpu.now) (hexadecimal addr.now) (bytes hex.now)) }
+{
+    let Some(cpu) = number(cpu) else {
+        return Err(LineFault::Broken(BadKind::Number));
+    };
+    let Some(addr) = address(addr) else {
+        return Err(LineFault::Broken(BadKind::Number));
+    };
+    let bytes = bytes(alloc, hex)?;
+    if !lies_in_ram(addr, bytes.len() as u64) {
+        return Err(LineFault::Broken(BadKind::Range));
+    }
+    if !is_there(cpus, cpu) {
+        return Err(LineFault::Broken(BadKind::Cpu));
+    }
+    Ok(Item::Write {
+        cpu: cpu as u8,
+        addr,
+        bytes: Sequence::of(bytes),
+    })
+}
+
+/// Reads the words of a line `show`.
+pub fn show_of(cpus: u8, cpu: &[u8], addr: &[u8], len: &[u8]) -> Result<Item, LineFault>
+    ensures below { IfOk result (λ i. item_cpu i < cpus) }
+    ensures said { Judged (λ i. i) result (show_rules cpus cpu.now addr.now len.now)
+        (item.Show (decimal cpu.now) (hexadecimal addr.now) (decimal len.now)) }
+{
+    let Some(cpu) = number(cpu) else {
+        return Err(LineFault::Broken(BadKind::Number));
+    };
+    let Some(addr) = address(addr) else {
+        return Err(LineFault::Broken(BadKind::Number));
+    };
+    let Some(len) = number(len) else {
+        return Err(LineFault::Broken(BadKind::Number));
+    };
+    if !is_within(1, MAX_SHOWN, len) {
+        return Err(LineFault::Broken(BadKind::Range));
+    }
+    if !lies_in_ram(addr, u64::from(len)) {
+        return Err(LineFault::Broken(BadKind::Range));
+    }
+    if !is_there(cpus, cpu) {
+        return Err(LineFault::Broken(BadKind::Cpu));
+    }
+    Ok(Item::Show {
+        cpu: cpu as u8,
+        addr,
+        len,
+    })
+}
