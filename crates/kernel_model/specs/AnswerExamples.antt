@@ -44,7 +44,7 @@ pub record AnswerExamples : Type 0 where
   pub cancel : AnswersAt 0x40000000 (read_of 0x40000000 (head 3 0 1 0) ∷ []) (refused 5)
   pub bottom_half : AnswersAt 0x40000000 (read_of 0x40000000 (head 6 0 0 0) ∷ []) (refused 5)
   pub command_eight : AnswersAt 0x40000000 (read_of 0x40000000 (head 8 0 0 0) ∷ []) (refused 5)
-  -- an argument in the last bytes of RAM
+  -- five of the six steps of an invoke
   pub interrupted : returns_after (boot 1 1 1 add) opens (call 0 5 (adds 5 7)) ≡ Some (interrupt 0 ∷ [])
   -- a processor that is inside doesn't come in, and one that is outside doesn't go out
   pub comes_twice : returns_of (boot 1 1 1 add) (Comes 0 (fast 0xbf00ff01 0) 1 [] ∷ Comes 0 (fast 0xbf00ff01 0) 1 [] ∷ []) ≡ None
