@@ -10,6 +10,7 @@ use Rattle.job_model.specs.Point.{Point, Create, Open, Invoke, Close, no_params}
 use Rattle.msg_args.specs.declared.head.MsgHead.{MsgHead}
 use Rattle.msg_args.specs.declared.param.MsgParam.{MsgParam}
 use Rattle.msg_args.specs.Reading.{head_at}
+use Rattle.ns_ram.specs.declared.pages.TheConstants.{PAGE_BYTES}
 use Rattle.ns_ram.specs.Lane.{is_in_ram}
 use Rattle.ns_ram.specs.Pages.{walk}
 use Rattle.ns_ram.specs.Reader.{take_bytes}
@@ -214,7 +215,7 @@ close_session c = do
 
 -- the low twelve bits of p are the offset in the first page, the rest is the address of the first page list
 abbrev pub offset_in : MsgParam → ℕ
-offset_in param = param.p % 4096
+offset_in param = param.p % PAGE_BYTES
 
 -- how many pages the buffer touches
 abbrev pub pages_in : MsgParam → ℕ
