@@ -8,10 +8,9 @@ crates/optee_run. Usage: bench/fast_calls.py [N]
 
 import pathlib
 import random
-import re
-import subprocess
 import sys
-import tempfile
+
+from callgrind import counted
 
 PROGRAM = pathlib.Path(__file__).resolve().parent.parent / "crates/optee_run/out/optee_run"
 IDS = [
@@ -33,13 +32,9 @@ def script(calls):
 
 def instructions(calls):
     """How many instructions the program needs for a script of so many calls."""
-    with tempfile.TemporaryDirectory() as folder:
-        run = subprocess.run(
-            ["valgrind", "--tool=callgrind", f"--callgrind-out-file={folder}/out", PROGRAM, "run"],
-            input=script(calls), capture_output=True, check=True,
-        )
-    assert run.stdout.count(b"\n") == calls, "a line for each call"
-    return int(re.search(rb"Collected : (\d+)", run.stderr).group(1))
+    count, printed = counted(PROGRAM, "run", given=script(calls))
+    assert printed.count(b"\n") == calls, "a line for each call"
+    return count
 
 
 def main():

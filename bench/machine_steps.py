@@ -7,11 +7,10 @@ Usage: bench/machine_steps.py [N]
 """
 
 import pathlib
-import re
 import struct
-import subprocess
 import sys
-import tempfile
+
+from callgrind import counted
 
 PROGRAM = pathlib.Path(__file__).resolve().parent.parent / "crates/machine_loops/out/machine_loops"
 
@@ -43,14 +42,9 @@ def image(code):
 
 def instructions(code, steps):
     """How many instructions the program needs for so many steps."""
-    with tempfile.TemporaryDirectory() as folder:
-        run = subprocess.run(
-            ["valgrind", "--tool=callgrind", f"--callgrind-out-file={folder}/out", PROGRAM,
-             image(code).hex(), str(steps)],
-            capture_output=True, check=True,
-        )
-    assert run.stdout == b"Interrupted after %d\n" % steps
-    return int(re.search(rb"Collected : (\d+)", run.stderr).group(1))
+    count, printed = counted(PROGRAM, image(code).hex(), str(steps))
+    assert printed == b"Interrupted after %d\n" % steps
+    return count
 
 
 def main():

@@ -10,11 +10,12 @@ Usage: bench/reading.py [N]
 import os
 import pathlib
 import random
-import re
 import resource
 import subprocess
 import sys
 import tempfile
+
+from callgrind import counted
 
 PROGRAM = pathlib.Path(__file__).resolve().parent.parent / "crates/trace_check/out/trace_check"
 BOOT = b"boot 4 4 256\n"
@@ -51,13 +52,9 @@ def text(line, size):
 
 def instructions(content):
     """How many instructions the program needs for this text."""
-    with tempfile.TemporaryDirectory() as folder:
-        run = subprocess.run(
-            ["valgrind", "--tool=callgrind", f"--callgrind-out-file={folder}/out", PROGRAM],
-            input=content, capture_output=True, check=True,
-        )
-    assert run.stdout.startswith(b"0 applications"), run.stdout
-    return int(re.search(rb"Collected : (\d+)", run.stderr).group(1))
+    count, printed = counted(PROGRAM, given=content)
+    assert printed.startswith(b"0 applications"), printed
+    return count
 
 
 def small_stack():
