@@ -5,3 +5,4 @@ pub mod PagesFound
 pub mod ReaderLaws
 pub mod ReaderSteps
 pub mod WordList
+pub mod WriteList

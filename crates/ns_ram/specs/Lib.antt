@@ -4,3 +4,4 @@ pub mod PageExamples
 pub mod Pages
 pub mod Reader
 pub mod Reads
+pub mod Writes

@@ -108,6 +108,10 @@ over_lane (want_words addr most test next) lane reads =
     option_and_then (λ got. over_lane (next got) lane (reads ++ listed addr (bytes_at lane addr (8 * length got))))
     (lane_words lane addr most test)
 
+-- what the reader makes of the lane, without the list
+abbrev pub outcome_over : {A : Type 0} → Reader A → List ℕ → Option A
+outcome_over reader lane = option_map (λ end. end.0) (over_lane reader lane [])
+
 -- ---- laws of readers
 
 -- over a lane a reader gives a value and takes these reads exactly where it makes that value of these reads,

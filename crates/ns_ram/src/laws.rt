@@ -1,17 +1,21 @@
 //! Laws over the definitions of `specs/`, each the contract of a function that does nothing.
 
 ghost use Rattle.std.specs.Prelude.{◌≡◌, ℕ, List, length};
+ghost use Rattle.std.specs.List.{AllByRecursion};
 ghost use Rattle.base.specs.Zeros.{zeros};
 ghost use Rattle.ns_ram.specs.Examples.{Examples};
 ghost use Rattle.ns_ram.specs.Lane.{ChangesItsBytesAlone, IsInRam, bytes_at};
 ghost use Rattle.ns_ram.specs.Reader.{AddsItsReads, IsReadFromLane, RunsInTurn};
+ghost use Rattle.ns_ram.specs.Writes.{ChangeTheirBytesAlone, IsWriteOfRam, Write};
 
 use crate::ram::RAM_BYTES;
 
-/// A write in RAM changes its own bytes alone.
+/// Writes in RAM change their own bytes alone.
 pub fn writes_change_their_bytes_alone()
-    ensures { (lane bytes : List ℕ) (addr : ℕ) → length lane ≡ RAM_BYTES → IsInRam addr (length bytes)
-        → ChangesItsBytesAlone lane addr bytes }
+    ensures one { (lane bytes : List ℕ) (addr : ℕ) → length lane ≡ RAM_BYTES
+        → IsInRam addr (length bytes) → ChangesItsBytesAlone lane addr bytes }
+    ensures all { (lane : List ℕ) (writes : List Write) → length lane ≡ RAM_BYTES
+        → AllByRecursion IsWriteOfRam writes → ChangeTheirBytesAlone lane writes }
 {}
 
 /// RAM of zeros has zeros everywhere.

@@ -1,4 +1,4 @@
-ghost use Rattle.std.specs.Prelude.{◌≡◌, ◌^◌, ◌<◌, ◌↔◌, [], ◌++◌, length, IsTrue, IfOk, OnOk, OnErr, Some};
+ghost use Rattle.std.specs.Prelude.{◌≡◌, ◌^◌, ◌<◌, ◌↔◌, [], ◌++◌, length, take, IsTrue, IfOk, OnOk, OnErr, Some};
 ghost use Rattle.ns_ram.specs.Lane.{IsInRam};
 ghost use Rattle.ns_ram.specs.Reads.{listed, total_bytes};
 ghost use Rattle.ns_ram.specs.Reader.{over_lane, take_bytes};
@@ -87,6 +87,13 @@ impl Reads {
         let bytes = Sequence::of(Vec::from_slice(alloc, bytes)?);
         self.list.push(Read { addr, bytes })?;
         Ok(())
+    }
+
+    /// Keeps the first `count` reads, or all where there are fewer.
+    pub fn truncate(&mut self, count: usize)
+        ensures { self.new ≡ take count self.old }
+    {
+        self.list.truncate(count);
     }
 
     /// The `len` bytes of the lane at `addr`, and lists that they were read.

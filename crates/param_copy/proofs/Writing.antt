@@ -1,12 +1,12 @@
 -- Writes to a lane, one after the other.
-use Rattle.std.proofs.Common.{◌≡◌, ℕ, zero, suc, ◌+◌, ◌<◌, ◌≤◌, Bool, true, false, nat_le, List, [], ◌∷◌, ◌++◌, length, take, drop, get_or, Some, inl, inr, refl, sym, ◌∙◌, cond, arith}
+use Rattle.std.proofs.Common.{◌≡◌, ℕ, zero, suc, ◌+◌, ◌<◌, ◌≤◌, Bool, true, false, nat_le, List, [], ◌∷◌, length, take, drop, get_or, Some, refl, sym, ◌∙◌, cond, arith}
 use Rattle.std.proofs.lemmas.List.{length-take}
 use Rattle.std.proofs.Math.Seq.{drop-cons, drop-length}
 use Rattle.std.specs.Prelude.{slice_get}
 use Rattle.std.specs.List.{AllByRecursion}
-use Rattle.ns_ram.specs.declared.ram.TheConstants.{RAM_BYTES}
-use Rattle.ns_ram.specs.Lane.{IsInRam, bytes_put}
-use Rattle.ns_ram.proofs.LaneBytes.{bytes_at-bytes_put_above, bytes_at-bytes_put_below, length-bytes_put}
+use Rattle.ns_ram.specs.Lane.{IsInRam}
+use Rattle.ns_ram.specs.Writes.{IsWriteOfRam, lane_after}
+use Rattle.ns_ram.proofs.WriteList.{AllInRam-append, lane_after-append}
 use Rattle.shm_registry.specs.declared.piece.Piece.{Piece}
 use Rattle.shm_registry.specs.Pieces.{IsPieceOfRam}
 use Rattle.ta_params.specs.declared.copied_params.Way.TheVariants.{In, Out, Inout}
@@ -14,11 +14,7 @@ use Rattle.ta_params.specs.declared.copied_params.GpParam.{GpParam}
 use Rattle.ta_params.specs.declared.copied_params.GpParam.TheVariants.{Empty, Value, Memref}
 use Rattle.param_copy.specs.declared.copied.Place.{Place}
 use Rattle.param_copy.specs.Places.{IsWritable}
-use Rattle.param_copy.specs.WritingBack.{ChangeTheirBytesAlone, IsWriteOfRam, Write, bytes_to, lane_after, memory_to, param_addr, param_writes, values_to, word_to, writes_of}
-
-pub lane_after-append : (lane : List ℕ) (first second : List Write) → lane_after lane (first ++ second) ≡ lane_after (lane_after lane first) second
-lane_after-append lane [] second = refl
-lane_after-append lane (write ∷ first) second = lane_after-append (bytes_put lane write.addr write.bytes) first second
+use Rattle.param_copy.specs.WritingBack.{bytes_to, memory_to, param_addr, param_writes, values_to, word_to, writes_of}
 
 -- ---- bytes into pieces
 
@@ -71,24 +67,7 @@ pub PlacesPut-all : (arg : ℕ) (places : List Place) (params : List GpParam) (b
     PlacesPut arg places params before (length places) lane → lane ≡ lane_after before (writes_of arg places params)
 PlacesPut-all arg places params before lane p = sym (p.whole ∙ rw (drop-length places) refl)
 
--- ---- what writes leave alone
-
-pub lane_after-alone : (lane : List ℕ) (writes : List Write) → length lane ≡ RAM_BYTES → AllByRecursion IsWriteOfRam writes → ChangeTheirBytesAlone lane writes
-lane_after-alone lane [] whole h = record { others = λ addr len inside apart. refl; whole = refl }
-lane_after-alone lane (write ∷ writes) whole h =
-    let still : length (bytes_put lane write.addr write.bytes) ≡ RAM_BYTES = length-bytes_put lane write.addr write.bytes whole h.0 in
-    let rest = lane_after-alone (bytes_put lane write.addr write.bytes) writes still h.1 in
-    record {
-      others = λ addr len inside apart. rest.others addr len inside apart.1 ∙ elim apart.0 [
-        | inl below ↦ bytes_at-bytes_put_below lane write.addr write.bytes addr len whole h.0 inside below
-        | inr above ↦ bytes_at-bytes_put_above lane write.addr write.bytes addr len whole h.0 above
-      ];
-      whole = rest.whole ∙ still ∙ sym whole;
-    }
-
-All-append : (xs ys : List Write) → AllByRecursion IsWriteOfRam xs → AllByRecursion IsWriteOfRam ys → AllByRecursion IsWriteOfRam (xs ++ ys)
-All-append [] ys p q = q
-All-append (x ∷ xs) ys p q = (p.0, All-append xs ys p.1 q)
+-- ---- where the writes lie
 
 bytes_to-in_ram : (pieces : List Piece) (bytes : List ℕ) → AllByRecursion IsPieceOfRam pieces → AllByRecursion IsWriteOfRam (bytes_to pieces bytes)
 bytes_to-in_ram [] [] h = tt
@@ -128,4 +107,4 @@ pub writes_of-in_ram : (arg : ℕ) (places : List Place) (params : List GpParam)
 writes_of-in_ram arg [] params w = tt
 writes_of-in_ram arg (place ∷ places) [] w = tt
 writes_of-in_ram arg (place ∷ places) (param ∷ params) w =
-    All-append (param_writes arg place param) (writes_of arg places params) (param-in_ram arg place param w.0) (writes_of-in_ram arg places params w.1)
+    AllInRam-append (param_writes arg place param) (writes_of arg places params) (param-in_ram arg place param w.0) (writes_of-in_ram arg places params w.1)

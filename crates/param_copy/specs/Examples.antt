@@ -7,6 +7,7 @@ use Rattle.msg_args.specs.declared.param.MsgParam.{MsgParam}
 use Rattle.ns_ram.specs.declared.read.Read.{Read}
 use Rattle.ns_ram.specs.Examples.{read_of}
 use Rattle.ns_ram.specs.Reader.{reading, over_lane}
+use Rattle.ns_ram.specs.Writes.{Write, lane_after}
 use Rattle.shm_registry.specs.declared.page_buffer.PageBuffer.{PageBuffer}
 use Rattle.shm_registry.specs.declared.piece.Piece.{Piece}
 use Rattle.ta_params.specs.declared.copied_params.Way.TheVariants.{In, Out, Inout}
@@ -16,7 +17,7 @@ use Rattle.param_copy.specs.declared.copied.Place.{Place}
 use Rattle.param_copy.specs.declared.fault.CopyFault.{CopyFault}
 use Rattle.param_copy.specs.declared.fault.CopyFault.TheVariants.{TooLong, Cookie, Range, Page}
 use Rattle.param_copy.specs.Copying.{copying, four}
-use Rattle.param_copy.specs.WritingBack.{Write, lane_after, writes_back}
+use Rattle.param_copy.specs.WritingBack.{writes_back}
 
 -- the first eight bytes of RAM
 abbrev pub lane : List ℕ

@@ -1,7 +1,4 @@
 -- What a call of this crate answers, beside the definition's outcome.
-use Rattle.std.specs.Prelude.{ℕ, List, [], Option}
-use Rattle.std.specs.Option.{option_map}
-use Rattle.ns_ram.specs.Reader.{Reader, over_lane}
 use Rattle.param_copy.specs.declared.copied.Copied.{Copied}
 use Rattle.param_copy.specs.declared.fault.CopyFault.{CopyFault}
 use Rattle.param_copy.specs.declared.fault.CopyFault.TheVariants.{TooLong, Cookie, Range, Page, Memory}
@@ -23,10 +20,6 @@ IfMemory (Cookie number) P = Unit {0}
 IfMemory (Range number) P = Unit {0}
 IfMemory (Page number page) P = Unit {0}
 IfMemory Memory P = P
-
--- what a reader makes of a lane
-abbrev pub outcome_over : {A : Type 0} → Reader A → List ℕ → Option A
-outcome_over reader lane = option_map (λ end. end.0) (over_lane reader lane [])
 
 -- what the code keeps of a call's parameters
 abbrev pub copies_of : Copied → Copies

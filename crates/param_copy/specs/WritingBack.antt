@@ -1,24 +1,13 @@
 -- What a call writes back of its parameters, in order. Each write stands over the ones before it.
-use Rattle.std.specs.Prelude.{◌≡◌, ℕ, ◌+◌, ◌*◌, ◌≤◌, ◌⊎◌, nat_le, List, [], ◌∷◌, ◌++◌, length, take, drop, if◌then◌else◌}
-use Rattle.std.specs.List.{AllByRecursion}
+use Rattle.std.specs.Prelude.{ℕ, ◌+◌, ◌*◌, nat_le, List, [], ◌∷◌, ◌++◌, length, take, drop, if◌then◌else◌}
 use Rattle.std.specs.Int.{to_le_bytes, w64}
-use Rattle.ns_ram.specs.Lane.{IsInRam, bytes_at, bytes_put}
+use Rattle.ns_ram.specs.Writes.{Write}
 use Rattle.shm_registry.specs.declared.piece.Piece.{Piece}
 use Rattle.ta_params.specs.declared.copied_params.Way.TheVariants.{In, Out, Inout}
 use Rattle.ta_params.specs.declared.copied_params.GpParam.{GpParam}
 use Rattle.ta_params.specs.declared.copied_params.GpParam.TheVariants.{Empty, Value, Memref}
 use Rattle.ta_params.specs.declared.copied_params.CopiedParams.{CopiedParams}
 use Rattle.param_copy.specs.declared.copied.Place.{Place}
-
--- bytes that go to an address
-pub record Write : Type 0 where
-  pub addr : ℕ
-  pub bytes : List ℕ
-
--- the lane after these writes
-abbrev pub lane_after : List ℕ → List Write → List ℕ
-lane_after lane [] = lane
-lane_after lane (write ∷ writes) = lane_after (bytes_put lane write.addr write.bytes) writes
 
 -- a number of eight bytes, the lowest first
 abbrev pub word_to : ℕ → ℕ → Write
@@ -69,19 +58,3 @@ params_of params = params.p0 ∷ params.p1 ∷ params.p2 ∷ params.p3 ∷ []
 -- what is written back to the argument at an address, and to the places of its parameters
 abbrev pub writes_back : ℕ → List Place → CopiedParams → List Write
 writes_back arg places params = writes_of arg places (params_of params)
-
--- ---- what writes leave alone
-
--- all bytes of the write lie in RAM
-abbrev pub IsWriteOfRam : Write → Type 0
-IsWriteOfRam write = IsInRam write.addr (length write.bytes)
-
--- the bytes of this address and length lie apart from the write's
-abbrev pub IsApart : ℕ → ℕ → Write → Type 0
-IsApart addr len write = (addr + len ≤ write.addr) ⊎ (write.addr + length write.bytes ≤ addr)
-
--- bytes apart from all writes stay, and the lane is as long as before
-pub record ChangeTheirBytesAlone (lane : List ℕ) (writes : List Write) : Type 0 where
-  pub others : (addr len : ℕ) → IsInRam addr len → AllByRecursion (IsApart addr len) writes →
-      bytes_at (lane_after lane writes) addr len ≡ bytes_at lane addr len
-  pub whole : length (lane_after lane writes) ≡ length lane

@@ -1,8 +1,8 @@
 ghost use Rattle.std.specs.Prelude.{◌≡◌, ◌≤◌, [], length, IfOk, IfErr, Some, Ok, Err};
-ghost use Rattle.ns_ram.specs.Reader.{over_lane, reading};
+ghost use Rattle.ns_ram.specs.Reader.{outcome_over, over_lane, reading};
 ghost use Rattle.ns_ram.specs.Reads.{HoldsReads};
 ghost use Rattle.param_copy.specs.Copying.{copying};
-ghost use Rattle.param_copy.specs.Outcome.{UnlessMemory, copies_of, outcome_over};
+ghost use Rattle.param_copy.specs.Outcome.{UnlessMemory, copies_of};
 ghost use Rattle.param_copy.specs.Places.{ArePlaced};
 ghost use Rattle.param_copy.specs.WritingBack.{params_of};
 

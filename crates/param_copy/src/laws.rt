@@ -1,10 +1,10 @@
 //! Laws over the definitions of `specs/`, each the contract of a function that does nothing.
 
-ghost use Rattle.std.specs.Prelude.{◌≡◌, ℕ, List, length};
+ghost use Rattle.std.specs.Prelude.{ℕ, List};
 ghost use Rattle.std.specs.List.{AllByRecursion};
 ghost use Rattle.base.specs.NumberMap.{NumberMap};
 ghost use Rattle.msg_args.specs.declared.param.MsgParam.{MsgParam};
-ghost use Rattle.ns_ram.specs.declared.ram.TheConstants.{RAM_BYTES};
+ghost use Rattle.ns_ram.specs.Writes.{IsWriteOfRam};
 ghost use Rattle.shm_registry.specs.declared.page_buffer.PageBuffer.{PageBuffer};
 ghost use Rattle.shm_registry.specs.Pieces.{IsBuffer};
 ghost use Rattle.ta_params.specs.declared.copied_params.CopiedParams.{CopiedParams};
@@ -12,7 +12,7 @@ ghost use Rattle.param_copy.specs.declared.copied.Place.{Place};
 ghost use Rattle.param_copy.specs.Examples.{Examples};
 ghost use Rattle.param_copy.specs.Memory.{HaveSize, rmem_pieces, tmem_pieces, tmem_size};
 ghost use Rattle.param_copy.specs.Places.{IsWritable};
-ghost use Rattle.param_copy.specs.WritingBack.{ChangeTheirBytesAlone, IsWriteOfRam, Write, writes_back};
+ghost use Rattle.param_copy.specs.WritingBack.{writes_back};
 
 /// The pieces of memory lie in RAM, and their lengths sum to its size.
 pub fn pieces_have_the_size()
@@ -21,12 +21,6 @@ pub fn pieces_have_the_size()
         → HaveSize (rmem_pieces buffers number param) param.q }
     ensures named { (number : ℕ) (param : MsgParam)
         → HaveSize (tmem_pieces number param) (tmem_size param) }
-{}
-
-/// Writes in RAM change their own bytes alone.
-pub fn writes_change_their_bytes_alone()
-    ensures { (lane : List ℕ) (writes : List Write) → length lane ≡ RAM_BYTES
-        → AllByRecursion IsWriteOfRam writes → ChangeTheirBytesAlone lane writes }
 {}
 
 /// What is written back of parameters whose places lie in RAM lies in RAM.

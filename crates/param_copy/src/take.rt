@@ -1,6 +1,6 @@
 //! The parameters of a call, one after the other.
 
-ghost use Rattle.std.specs.Prelude.{◌≡◌, ◌≤◌, ◌↔◌, [], length, take, IsTrue, IsErrOf, IfOk, IfErr, Some, None, Ok, Err};
+ghost use Rattle.std.specs.Prelude.{◌≡◌, ◌≤◌, ◌↔◌, [], length, IsTrue, IsErrOf, IfOk, IfErr, Some, None, Ok, Err};
 ghost use Rattle.std.specs.List.{AllByRecursion};
 ghost use Rattle.ns_ram.specs.Pages.{AppendsReads};
 ghost use Rattle.ns_ram.specs.Reader.{over_lane};
@@ -20,7 +20,6 @@ use msg_args::{MsgParam, ParamKind};
 use ns_ram::{Lane, Reads};
 use shm_registry::{Piece, Registry};
 use std::alloc::Global;
-use std::mem;
 use ta_params::{Buf, GpParam, Way};
 
 /// Copies the parameters of a call, of which the first has the number `first` in the argument, and lists what
@@ -49,7 +48,7 @@ pub fn take_params(
     let listed = reads.len();
     let taken = take_all(alloc, lane, registry, params, first, reads);
     if is_want_of_memory(&taken) {
-        cut_back(alloc, reads, listed);
+        reads.truncate(listed);
     }
     taken
 }
@@ -58,15 +57,6 @@ fn is_want_of_memory(taken: &Result<TakenParams, CopyFault>) -> bool
     ensures { IsTrue result ↔ IsErrOf taken.now CopyFault.Memory }
 {
     matches!(taken, Err(CopyFault::Memory))
-}
-
-/// Keeps the first reads of the list, so many.
-fn cut_back(alloc: Global, reads: &mut Reads, count: usize)
-    ensures { reads.new ≡ take count reads.old }
-{
-    let mut list = mem::replace(reads, Reads::new(alloc)).into_vec();
-    list.truncate(count);
-    *reads = Reads::of(list);
 }
 
 fn take_all(

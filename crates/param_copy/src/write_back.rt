@@ -3,9 +3,10 @@
 ghost use Rattle.std.specs.Prelude.{◌≡◌, ◌+◌, ◌<◌, ◌≤◌, ◌∷◌, ◌++◌, [], slice_get, Some};
 ghost use Rattle.std.specs.List.{AllByRecursion};
 ghost use Rattle.ns_ram.specs.Lane.{IsInRam};
+ghost use Rattle.ns_ram.specs.Writes.{lane_after};
 ghost use Rattle.shm_registry.specs.Pieces.{IsPieceOfRam};
 ghost use Rattle.param_copy.specs.Places.{IsWritable};
-ghost use Rattle.param_copy.specs.WritingBack.{bytes_to, lane_after, memory_to, param_addr, param_writes, params_of, values_to, word_to, writes_back};
+ghost use Rattle.param_copy.specs.WritingBack.{bytes_to, memory_to, param_addr, param_writes, params_of, values_to, word_to, writes_back};
 
 use crate::copied::{Place, Places};
 use ns_ram::Lane;
