@@ -53,7 +53,9 @@ pub record Examples : Type 0 where
   pub nothing : decoded [] ≡ Err (BadHeader 0)
   pub cut : decoded (take 35 sum_bytes) ≡ Err (BadHeader 0)
   pub magic : decoded (changed 3 0x42) ≡ Err (BadHeader 0)
-  pub flags : decoded (changed 4 1) ≡ Err (BadHeader 1)
+  pub flags : decoded (changed 4 0x1c) ≡ Ok (record sum_image { flags = 0x1c })
+  pub flag_below : decoded (changed 4 2) ≡ Err (BadHeader 1)
+  pub flag_above : decoded (changed 4 0x20) ≡ Err (BadHeader 1)
   pub flags_first : decoded (slice_set (changed 4 1) 8 0) ≡ Err (BadHeader 1)
   pub no_page : decoded (changed 8 0) ≡ Err (BadHeader 2)
   pub many_pages : decoded (changed 8 65) ≡ Err (BadHeader 2)
@@ -70,3 +72,5 @@ pub record Examples : Type 0 where
   pub past_last_row : row_of 0x19 ≡ None
   pub target : is_instruction 7 (instr 0x11 0 1 2 6) ≡ true
   pub target_at_count : is_instruction 7 (instr 0x11 0 1 2 7) ≡ false
+  pub last_system_call : is_instruction 7 (instr 0x18 0 0 0 19) ≡ true
+  pub past_last_system_call : is_instruction 7 (instr 0x18 0 0 0 20) ≡ false

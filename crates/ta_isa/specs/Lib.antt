@@ -2,4 +2,5 @@ pub mod InstructionTable
 pub mod Spelling
 pub mod Reading
 pub mod Header
+pub mod Boots
 pub mod Examples

@@ -40,9 +40,8 @@ impl Flags for InstanceFlags {
     }
 }
 
-/// The bits of the instance flags that an image may have: none, as long as each session has an instance
-/// of its own.
-pub const ALLOWED_FLAGS: u32 = 0;
+/// The bits that a word of instance flags may have: those of the three flags.
+pub const ALLOWED_FLAGS: u32 = 0x1c;
 
 /// Whether a word of flags has only bits that an image may have.
 #[tactic(auto, unfolding(crate::specs::Spelling::are_allowed))]

@@ -7,9 +7,8 @@ use crate::image::Instr;
 /// The registers, numbered from 0.
 pub const REGISTERS: u8 = 16;
 
-/// The last system call that an instruction may name: those above ask the normal world, which applications
-/// cannot do yet.
-pub const LAST_SYSTEM_CALL: u32 = 10;
+/// The last system call that an instruction may name.
+pub const LAST_SYSTEM_CALL: u32 = 19;
 
 /// What one of the fields `d`, `a` and `b` holds.
 #[derive(Clone, Copy, Debug, PartialEq, Eq)]

@@ -97,7 +97,7 @@ fn images_come_back(rt: HostRuntime) -> Result<(), Fail> {
 }
 
 #[test]
-fn calls_of_the_normal_world_are_refused(rt: HostRuntime) -> Result<(), Fail> {
+fn calls_of_the_normal_world(rt: HostRuntime) -> Result<(), Fail> {
     // A wait; a wait with cancellation unmasked; an object created.
     let wait = [0x1800000000000000, 0x180000000c000000, 0x1800000000000000];
     let unmasked = [
@@ -117,15 +117,20 @@ fn calls_of_the_normal_world_are_refused(rt: HostRuntime) -> Result<(), Fail> {
         0x180000000d000000,
         0x1800000000000000,
     ];
-    for (code, place) in [
-        (wait.as_slice(), 1),
-        (unmasked.as_slice(), 4),
-        (store.as_slice(), 5),
-    ] {
+    for code in [wait.as_slice(), unmasked.as_slice(), store.as_slice()] {
         let bytes = image_bytes(rt.alloc(), code)?;
-        let fault = decode_image(rt.alloc(), &bytes).err();
-        assert_eq!(rt; fault, Some(BadOp(place)));
+        let image = decode_image(rt.alloc(), &bytes)?;
+        let spelled = encode_image(rt.alloc(), &image)?;
+        assert_eq!(rt; spelled.as_slice(), bytes.as_slice());
     }
+    // The last system call deletes an object, and there is none behind it.
+    let last = [0x1800000000000000, 0x1800000013000000];
+    let bytes = image_bytes(rt.alloc(), &last)?;
+    assert_eq!(rt; decode_image(rt.alloc(), &bytes)?.code.len(), 2);
+    let behind = [0x1800000000000000, 0x1800000014000000];
+    let bytes = image_bytes(rt.alloc(), &behind)?;
+    let fault = decode_image(rt.alloc(), &bytes).err();
+    assert_eq!(rt; fault, Some(BadOp(1)));
     Ok(())
 }
 
@@ -147,7 +152,7 @@ fn faults_in_their_order(rt: HostRuntime) -> Result<(), Fail> {
     for (first, second, want) in [
         ((0, 0x4e), (4, 1), BadHeader(0)),
         ((3, 0), (3, 0), BadHeader(0)),
-        ((4, 4), (8, 0), BadHeader(1)),
+        ((4, 1), (8, 0), BadHeader(1)),
         ((7, 0x80), (7, 0x80), BadHeader(1)),
         ((8, 65), (13, 0x20), BadHeader(2)),
         ((8, 0), (8, 0), BadHeader(2)),
@@ -170,7 +175,7 @@ fn faults_in_their_order(rt: HostRuntime) -> Result<(), Fail> {
         ((64, 1), (64, 1), BadOp(3)),
         ((46, 1), (46, 1), BadOp(1)),
         ((53, 1), (53, 1), BadOp(2)),
-        ((56, 11), (56, 11), BadOp(2)),
+        ((56, 20), (56, 20), BadOp(2)),
         ((59, 1), (59, 1), BadOp(2)),
         ((84, 0x15), (88, 7), BadOp(6)),
     ] {

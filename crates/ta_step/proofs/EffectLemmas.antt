@@ -1,8 +1,9 @@
 -- An instruction that an image may have does something: each has a row, and each system call too.
-use Rattle.std.proofs.Common.{◌≡◌, ℕ, zero, suc, ◌≤◌, ◌<◌, ◌^◌, Bool, true, false, List, [], ◌∷◌, length, Option, Some, None, refl, ap, sym, subst, arith}
+use Rattle.std.proofs.Common.{◌≡◌, ℕ, suc, ◌≤◌, ◌<◌, ◌^◌, Bool, true, false, ◌+◌, List, [], ◌∷◌, length, Option, Some, None, refl, ap, sym, subst, arith}
 use Rattle.std.specs.Prelude.{◌==◌, ◌&&◌, if◌then◌else◌, find, slice_get, IsSome, option_and_then, All, nat_le}
 use Rattle.std.specs.Option.{option_map, option_map_or}
 use Rattle.std.proofs.lemmas.Bool.{and_parts, leb-true}
+use Rattle.std.proofs.lemmas.Bool.Decides.{nat_tests}
 use Rattle.std.proofs.lemmas.Option.{get_or_from_slice_get, slice_get_within}
 use Rattle.ta_isa.specs.declared.image.Instr.{Instr}
 use Rattle.ta_isa.specs.declared.image.Image.{Image}
@@ -13,28 +14,37 @@ use Rattle.ta_isa.specs.InstructionTable.{HasFields, row, is_operand, follows_ro
 use Rattle.ta_isa.specs.Spelling.{IsValid}
 use Rattle.ta_isa.proofs.Instructions.{is_instruction-fields}
 use Rattle.ta_step.specs.State.{State}
-use Rattle.ta_step.specs.SystemCalls.{system_call_of}
+use Rattle.ta_step.specs.SystemCalls.{system_calls, system_call_of}
 use Rattle.ta_step.specs.Operations.{Effect, operations, effect_of}
 use Rattle.ta_step.specs.Step.{step, outcome_of}
 
-system_call-IsSome : (n : ℕ) → n ≤ 10 → IsSome (system_call_of n)
-system_call-IsSome zero le = refl
-system_call-IsSome (suc zero) le = refl
-system_call-IsSome (suc (suc zero)) le = refl
-system_call-IsSome (suc (suc (suc zero))) le = refl
-system_call-IsSome (suc (suc (suc (suc zero)))) le = refl
-system_call-IsSome (suc (suc (suc (suc (suc zero))))) le = refl
-system_call-IsSome (suc (suc (suc (suc (suc (suc zero)))))) le = refl
-system_call-IsSome (suc (suc (suc (suc (suc (suc (suc zero))))))) le = refl
-system_call-IsSome (suc (suc (suc (suc (suc (suc (suc (suc zero)))))))) le = refl
-system_call-IsSome (suc (suc (suc (suc (suc (suc (suc (suc (suc zero))))))))) le = refl
-system_call-IsSome (suc (suc (suc (suc (suc (suc (suc (suc (suc (suc zero)))))))))) le = refl
-system_call-IsSome (suc (suc (suc (suc (suc (suc (suc (suc (suc (suc (suc n))))))))))) le = absurd (omega arith)
+-- the calls are numbered in a row from here on
+abbrev is_numbered : ℕ → List (ℕ × Effect) → Bool
+is_numbered first [] = true
+is_numbered first (e ∷ es) = (e.0 == first) && is_numbered (suc first) es
+
+abbrev call_in : List (ℕ × Effect) → ℕ → Option Effect
+call_in es n = option_map (λ e. e.1) (find (λ e. e.0 == n) es)
+
+call_at : (e : ℕ × Effect) (es : Option (ℕ × Effect)) (b : Bool) → (b ≡ false → IsSome (option_map (λ x. x.1) es))
+    → IsSome (option_map (λ x. x.1) (if b then Some e else es))
+call_at e es true rest = refl
+call_at e es false rest = rest refl
+
+call_in-IsSome : (es : List (ℕ × Effect)) (first n : ℕ) → is_numbered first es ≡ true → first ≤ n → n < first + length es → IsSome (call_in es n)
+call_in-IsSome [] first n numbered from to = absurd (omega arith)
+call_in-IsSome (e ∷ es) first n numbered from to =
+    let here = and_parts (e.0 == first) (is_numbered (suc first) es) numbered in
+    call_at e (find (λ x. x.0 == n) es) (e.0 == n)
+    (λ (other : (e.0 == n) ≡ false). call_in-IsSome es (suc first) n here.1 (grind (arith, nat_tests, here.0, other)) (omega arith))
+
+system_call-IsSome : (n : ℕ) → n ≤ 19 → IsSome (system_call_of n)
+system_call-IsSome n le = call_in-IsSome system_calls 0 n refl (omega arith) (omega arith)
 
 -- the system call of an instruction that follows its row
-last_call : (count : ℕ) (i : Instr) → follows_row count i (row Unused Unused Unused immediate.SystemCall) ≡ true → i.imm ≤ 10
+last_call : (count : ℕ) (i : Instr) → follows_row count i (row Unused Unused Unused immediate.SystemCall) ≡ true → i.imm ≤ 19
 last_call count i e =
-    leb-true i.imm 10 (and_parts (is_operand Unused i.d && is_operand Unused i.a && is_operand Unused i.b) (nat_le i.imm 10) e).1
+    leb-true i.imm 19 (and_parts (is_operand Unused i.d && is_operand Unused i.a && is_operand Unused i.b) (nat_le i.imm 19) e).1
 
 -- two tables have the same operations in the same order, and where an instruction follows the row of the
 -- one, the other says what it does

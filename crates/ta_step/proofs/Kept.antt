@@ -1,4 +1,4 @@
--- No step changes the shape of a machine.
+-- No step changes the shape of a machine, and one that goes on doesn't change what it waits for.
 use Rattle.std.proofs.Common.{◌≡◌, ℕ, zero, suc, ◌+◌, ◌≤◌, Bool, true, false, List, [], ◌∷◌, ◌++◌, length, take, drop, Option, Some, None, refl, ap, sym, subst, ◌∙◌, arith, length-append, length-drop}
 use Rattle.std.specs.Prelude.{◌==◌, ◌-◌, nat_lt, slice_index, ◌%◌, ◌/◌, if◌then◌else◌, find, slice_get, slice_index_or, option_and_then}
 use Rattle.std.specs.Option.{option_map}
@@ -6,29 +6,39 @@ use Rattle.std.specs.Int.{w32, to_le_bytes}
 use Rattle.std.proofs.lemmas.Bool.{leb-true}
 use Rattle.std.proofs.lemmas.List.{length-set, length-take}
 use Rattle.ta_isa.specs.declared.image.Instr.{Instr}
+use Rattle.ta_params.specs.declared.codes.TheConstants.{TEE_ERROR_CANCEL}
+use Rattle.ta_params.specs.declared.object_call.ObjectCall.{ObjectCall}
+use Rattle.ta_params.specs.declared.object_call.ObjectCall.TheVariants.{Create, Opened, Read, Write}
 use Rattle.ta_params.specs.declared.copied_params.Way.TheVariants.{In, Out, Inout}
 use Rattle.ta_params.specs.declared.copied_params.GpParam.{GpParam}
 use Rattle.ta_params.specs.declared.copied_params.GpParam.TheVariants.{Empty, Value, Memref}
 use Rattle.ta_params.specs.declared.copied_params.CopiedParams.{CopiedParams}
 use Rattle.ta_params.specs.CopiedParams.{way_bits}
 use Rattle.ta_step.specs.declared.addresses.TheConstants.{RANGE}
-use Rattle.ta_step.specs.State.{State, reg, put}
+use Rattle.ta_step.specs.declared.stop.Request.{Request}
+use Rattle.ta_step.specs.declared.stop.Request.TheVariants.{Suspend, Object}
+use Rattle.ta_step.specs.State.{State, reg, put, is_cancelled}
 use Rattle.ta_step.specs.Bytes.{has_bytes, overwritten, written}
 use Rattle.ta_step.specs.Parameters.{param_at, with_param, buffer, with_buffer, with_value, with_size}
 use Rattle.ta_step.specs.Addresses.{ranges, range_at, with_range, is_inside, store}
-use Rattle.ta_step.specs.Outcome.{Outcome, goes_on, goes_to, Goes, Returns, Panics, Asks}
+use Rattle.ta_step.specs.Outcome.{Outcome, goes_on, goes_to, asking, Goes, Returns, Panics, Asks}
 use Rattle.ta_step.specs.SystemCalls as calls
 use Rattle.ta_step.specs.Operations as ops
 use Rattle.ta_step.specs.Operations.{Effect, operations, effect_of}
 use Rattle.ta_step.specs.Step.{step, outcome_of}
-use Rattle.ta_step.specs.Runs.{Ran, later, continued, runs}
+use Rattle.ta_step.specs.Runs.{Ran, request_of, later, continued, runs}
 use Rattle.ta_step.specs.Shape.{shape, shapes, SameShape}
 
-same : (s : State) → SameShape s s
-same s = record { registers = refl; memory = refl; params = refl; login = refl; cancelled = refl }
+-- the same shape, and the same request to wait for
+record SameRest (old new : State) : Type 0 where
+  shape : SameShape old new
+  asked : new.asked ≡ old.asked
 
-both : (s t u : State) → SameShape s t → SameShape t u → SameShape s u
-both s t u h k = record {
+shape-same : (s : State) → SameShape s s
+shape-same s = record { registers = refl; memory = refl; params = refl; login = refl; cancelled = refl }
+
+shape-both : (s t u : State) → SameShape s t → SameShape t u → SameShape s u
+shape-both s t u h k = record {
   registers = k.registers ∙ h.registers;
   memory = k.memory ∙ h.memory;
   params = k.params ∙ h.params;
@@ -36,9 +46,12 @@ both s t u h k = record {
   cancelled = k.cancelled ∙ h.cancelled;
 }
 
--- where the outcome is another machine, it has the same shape
+same : (s : State) → SameRest s s
+same s = record { shape = shape-same s; asked = refl }
+
+-- where the outcome is another machine, it has the same shape, and waits for the same
 abbrev Keeps : State → Outcome → Type 0
-Keeps s (Goes next) = SameShape s next
+Keeps s (Goes next) = SameRest s next
 Keeps s (Returns result context) = Unit {0}
 Keeps s (Panics code) = Unit {0}
 Keeps s (Asks request) = Unit {0}
@@ -47,16 +60,29 @@ either : (s : State) (b : Bool) (x y : Outcome) → Keeps s x → Keeps s y → 
 either s true x y h k = h
 either s false x y h k = k
 
-onward : (s t : State) → SameShape s t → Keeps s (goes_on t)
-onward s t h = record { registers = h.registers; memory = h.memory; params = h.params; login = h.login; cancelled = h.cancelled }
+-- what is kept does not depend on the place
+onward : (s t : State) → SameRest s t → Keeps s (goes_on t)
+onward s t h = record {
+  shape = record {
+    registers = h.shape.registers;
+    memory = h.shape.memory;
+    params = h.shape.params;
+    login = h.shape.login;
+    cancelled = h.shape.cancelled;
+  };
+  asked = h.asked;
+}
 
-put-same : (s t : State) (number value : ℕ) → SameShape s t → SameShape s (put t number value)
+put-same : (s t : State) (number value : ℕ) → SameRest s t → SameRest s (put t number value)
 put-same s t number value h = record {
-  registers = length-set t.registers number value ∙ h.registers;
-  memory = h.memory;
-  params = h.params;
-  login = h.login;
-  cancelled = h.cancelled;
+  shape = record {
+    registers = length-set t.registers number value ∙ h.shape.registers;
+    memory = h.shape.memory;
+    params = h.shape.params;
+    login = h.shape.login;
+    cancelled = h.shape.cancelled;
+  };
+  asked = h.asked;
 }
 
 puts : (s : State) (number value : ℕ) → Keeps s (goes_on (put s number value))
@@ -76,8 +102,11 @@ with_buffer-shape (Value way a b) bytes e = refl
 with_buffer-shape (Memref way buf size) bytes e = ap (λ (n : ℕ). (4 + way_bits way, n)) e
 
 -- the shapes where one of the four parameters has the shape that it had
-params-same : (s : State) (ps : CopiedParams) → shapes ps ≡ shapes s.params → SameShape s (record s { params = ps })
-params-same s ps e = record { registers = refl; memory = refl; params = e; login = refl; cancelled = refl }
+params-same : (s : State) (ps : CopiedParams) → shapes ps ≡ shapes s.params → SameRest s (record s { params = ps })
+params-same s ps e = record {
+  shape = record { registers = refl; memory = refl; params = e; login = refl; cancelled = refl };
+  asked = refl;
+}
 
 first : (ps : CopiedParams) (p : GpParam) → shape p ≡ shape ps.p0 → shapes (with_param ps 0 p) ≡ shapes ps
 first ps p e = ap (λ (x : ℕ × ℕ). x ∷ shape ps.p1 ∷ shape ps.p2 ∷ shape ps.p3 ∷ []) e
@@ -91,8 +120,11 @@ third ps p e = ap (λ (x : ℕ × ℕ). shape ps.p0 ∷ shape ps.p1 ∷ x ∷ sh
 fourth : (ps : CopiedParams) (p : GpParam) → shape p ≡ shape ps.p3 → shapes (with_param ps 3 p) ≡ shapes ps
 fourth ps p e = ap (λ (x : ℕ × ℕ). shape ps.p0 ∷ shape ps.p1 ∷ shape ps.p2 ∷ x ∷ []) e
 
-with_range-same : (s : State) (number : ℕ) (bytes : List ℕ) → length bytes ≡ length (slice_index_or (ranges s) number []) → SameShape s (with_range s number bytes)
-with_range-same s zero bytes e = record { registers = refl; memory = e; params = refl; login = refl; cancelled = refl }
+with_range-same : (s : State) (number : ℕ) (bytes : List ℕ) → length bytes ≡ length (slice_index_or (ranges s) number []) → SameRest s (with_range s number bytes)
+with_range-same s zero bytes e = record {
+  shape = record { registers = refl; memory = e; params = refl; login = refl; cancelled = refl };
+  asked = refl;
+}
 with_range-same s (suc zero) bytes e =
     params-same s (with_param s.params 0 (with_buffer s.params.p0 bytes)) (first s.params (with_buffer s.params.p0 bytes) (with_buffer-shape s.params.p0 bytes e))
 with_range-same s (suc (suc zero)) bytes e =
@@ -103,7 +135,7 @@ with_range-same s (suc (suc (suc (suc zero)))) bytes e =
     params-same s (with_param s.params 3 (with_buffer s.params.p3 bytes)) (fourth s.params (with_buffer s.params.p3 bytes) (with_buffer-shape s.params.p3 bytes e))
 with_range-same s (suc (suc (suc (suc (suc number))))) bytes e = same s
 
-store-same : (s : State) (addr : ℕ) (new : List ℕ) → SameShape s (store s addr new)
+store-same : (s : State) (addr : ℕ) (new : List ℕ) → SameRest s (store s addr new)
 store-same s addr new =
     let place = addr % RANGE in
     with_range-same s (addr / RANGE) (written (range_at s addr) place new)
@@ -142,7 +174,17 @@ with_size-shape n (Memref Inout buf size) q e = let is : Memref Inout buf n ≡ 
 
 param-changed : (s : State) (o : Option GpParam) → KeepsParams s.params (reg s 0) o → Keeps s (calls.changes_param s o)
 param-changed s None h = tt
-param-changed s (Some p) h = record { registers = refl; memory = refl; params = h; login = refl; cancelled = refl }
+param-changed s (Some p) h = record {
+  shape = record { registers = refl; memory = refl; params = h; login = refl; cancelled = refl };
+  asked = refl;
+}
+
+set_value-kept : (s : State) → Keeps s (calls.set_value s)
+set_value-kept s =
+    param-changed s _ (params-kept s.params (reg s 0) (λ p. with_value p (reg s 1) (reg s 2)) _ (with_value-shape (reg s 1) (reg s 2)) refl)
+
+set_size-kept : (s : State) → Keeps s (calls.set_size s)
+set_size-kept s = param-changed s _ (params-kept s.params (reg s 0) (λ p. with_size p (reg s 1)) _ (with_size-shape (reg s 1)) refl)
 
 value-given : (s : State) (o : Option GpParam) → Keeps s (calls.gives_value s o)
 value-given s None = tt
@@ -172,15 +214,39 @@ login-kept s =
 
 masks-kept : (masked : Bool) (s : State) → Keeps s (calls.masks masked s)
 masks-kept masked s = record {
-  registers = length-set s.registers 0 (calls.bit s.masked);
-  memory = refl;
-  params = refl;
-  login = refl;
-  cancelled = refl;
+  shape = record {
+    registers = length-set s.registers 0 (calls.bit s.masked);
+    memory = refl;
+    params = refl;
+    login = refl;
+    cancelled = refl;
+  };
+  asked = refl;
 }
 
-moved : (s : State) (place : ℕ) (stack : List ℕ) → SameShape s (record s { place = place; stack = stack })
-moved s place stack = record { registers = refl; memory = refl; params = refl; login = refl; cancelled = refl }
+wait-kept : (s : State) → Keeps s (calls.wait s)
+wait-kept s = either s (is_cancelled s) (goes_on (put s 0 TEE_ERROR_CANCEL)) (Asks (Suspend (reg s 0))) (puts s 0 TEE_ERROR_CANCEL) tt
+
+object_with-kept : (s : State) (call : ObjectCall) (addr count : ℕ) → Keeps s (calls.object_with call addr count s)
+object_with-kept s call addr count = either s (calls.is_range s addr count) (Asks (Object call)) (Panics 1) tt tt
+
+create-kept : (s : State) → Keeps s (calls.object_create s)
+create-kept s = object_with-kept s (Create (reg s 0) (reg s 1)) (reg s 0) (reg s 1)
+
+open-kept : (s : State) → Keeps s (calls.object_open s)
+open-kept s = object_with-kept s (Opened (reg s 0) (reg s 1)) (reg s 0) (reg s 1)
+
+read-kept : (s : State) → Keeps s (calls.object_read s)
+read-kept s = object_with-kept s (Read (reg s 0) (reg s 1) (reg s 2)) (reg s 1) (reg s 2)
+
+write-kept : (s : State) → Keeps s (calls.object_write s)
+write-kept s = object_with-kept s (Write (reg s 0) (reg s 1) (reg s 2)) (reg s 1) (reg s 2)
+
+moved : (s : State) (place : ℕ) (stack : List ℕ) → SameRest s (record s { place = place; stack = stack })
+moved s place stack = record {
+  shape = record { registers = refl; memory = refl; params = refl; login = refl; cancelled = refl };
+  asked = refl;
+}
 
 divided-kept : (s : State) (divisor number value : ℕ) → Keeps s (ops.divided_by s divisor number value)
 divided-kept s divisor number value = either s (divisor == 0) (Panics 3) (goes_on (put s number value)) tt (puts s number value)
@@ -230,38 +296,12 @@ row_found : (es : List (ℕ × (Instr → Option Effect))) (i : Instr) → RowsK
 row_found [] i h = tt
 row_found (e ∷ es) i h = row_at i e (find (λ x. x.0 == i.op) es) (e.0 == i.op) (h.0 i) (row_found es i h.1)
 
+-- the calls from number 11 on ask the world outside
+asks_keep : CallsKeep (drop 11 calls.system_calls)
+asks_keep = (λ s. tt, (wait-kept, (create-kept, (open-kept, (read-kept, (write-kept, (λ s. tt, (λ s. tt, (λ s. tt, tt)))))))))
+
 calls_keep : CallsKeep calls.system_calls
-calls_keep = (
-  λ s. tt,
-  (
-    λ s. tt,
-    (
-      λ s. puts s 0 _,
-      (
-        λ s. value-given s _,
-        (
-          λ s. param-changed s _ (params-kept s.params (reg s 0) (λ p. with_value p (reg s 1) (reg s 2)) _ (with_value-shape (reg s 1) (reg s 2)) refl),
-          (
-            λ s. size-given s _,
-            (
-              λ s. param-changed s _ (params-kept s.params (reg s 0) (λ p. with_size p (reg s 1)) _ (with_size-shape (reg s 1)) refl),
-              (
-                login-kept,
-                (
-                  λ s. puts s 0 _,
-                  (
-                    masks-kept true,
-                    (masks-kept false, tt),
-                  ),
-                ),
-              ),
-            ),
-          ),
-        ),
-      ),
-    ),
-  ),
-)
+calls_keep = (λ s. tt, (λ s. tt, (λ s. puts s 0 _, (λ s. value-given s _, (set_value-kept, (λ s. size-given s _, (set_size-kept, (login-kept, (λ s. puts s 0 _, (masks-kept true, (masks-kept false, asks_keep)))))))))))
 
 rows_keep : RowsKeep operations
 rows_keep = (
@@ -347,28 +387,54 @@ step-kept : (s : State) (found : Option Instr) → OutcomeKeeps s (outcome_of fo
 step-kept s None = tt
 step-kept s (Some i) = applied s (effect_of i) (row_found operations i rows_keep)
 
-ended : (s : State) (ran last : Ran) → last.state ≡ s → Some last ≡ Some ran → SameShape s ran.state
-ended s ran last at e =
+ended : (s : State) (ran last : Ran) → SameShape s last.state → Some last ≡ Some ran → SameShape s ran.state
+ended s ran last h e =
     let is : last ≡ ran = cc in
-    let P : State → Type 0 = λ t. SameShape s t in
-    subst P (sym at ∙ ap (λ (r : Ran). r.state) is) (same s)
+    let P : Ran → Type 0 = λ r. SameShape s r.state in
+    subst P is h
 
 later-kept : (s next : State) (ran : Ran) (rest : Option Ran) → SameShape s next → ((r : Ran) → rest ≡ Some r → SameShape next r.state)
     → option_map (later 1) rest ≡ Some ran → SameShape s ran.state
 later-kept s next ran None h k e = absurd cc
-later-kept s next ran (Some r) h k e =
-    let is : later 1 r ≡ ran = cc in
-    let P : State → Type 0 = λ t. SameShape s t in
-    subst P (ap (λ (x : Ran). x.state) is) (both s next r.state h (k r refl))
+later-kept s next ran (Some r) h k e = ended s ran (later 1 r) (shape-both s next r.state h (k r refl)) e
+
+asking-shape : (s : State) (request : Request) → SameShape s (asking request s)
+asking-shape s request = record { registers = refl; memory = refl; params = refl; login = refl; cancelled = refl }
 
 continued-kept : (s : State) (ran : Ran) (rest : State → Option Ran) (o : Option Outcome) → OutcomeKeeps s o
     → ((t : State) (r : Ran) → rest t ≡ Some r → SameShape t r.state) → option_and_then (continued rest s) o ≡ Some ran → SameShape s ran.state
 continued-kept s ran rest None h k e = absurd cc
-continued-kept s ran rest (Some (Goes next)) h k e = later-kept s next ran (rest next) h (k next) e
-continued-kept s ran rest (Some (Returns result context)) h k e = ended s ran _ refl e
-continued-kept s ran rest (Some (Panics code)) h k e = ended s ran _ refl e
-continued-kept s ran rest (Some (Asks request)) h k e = ended s ran _ refl e
+continued-kept s ran rest (Some (Goes next)) h k e = later-kept s next ran (rest next) h.shape (k next) e
+continued-kept s ran rest (Some (Returns result context)) h k e = ended s ran _ (shape-same s) e
+continued-kept s ran rest (Some (Panics code)) h k e = ended s ran _ (shape-same s) e
+continued-kept s ran rest (Some (Asks request)) h k e = ended s ran _ (asking-shape s request) e
 
 pub runs-kept : (code : List Instr) (n : ℕ) (s : State) (ran : Ran) → runs code n s ≡ Some ran → SameShape s ran.state
-runs-kept code zero s ran e = ended s ran _ refl e
+runs-kept code zero s ran e = ended s ran _ (shape-same s) e
 runs-kept code (suc n) s ran e = continued-kept s ran (runs code n) (step code s) (step-kept s (slice_get code s.place)) (runs-kept code n) e
+
+-- a run leaves the request of its stop
+abbrev Waits : Ran → Type 0
+Waits ran = ran.state.asked ≡ request_of ran.stop
+
+waits : (ran last : Ran) → Waits last → Some last ≡ Some ran → Waits ran
+waits ran last h e =
+    let is : last ≡ ran = cc in
+    subst Waits is h
+
+later-waits : (ran : Ran) (rest : Option Ran) → ((r : Ran) → rest ≡ Some r → Waits r) → option_map (later 1) rest ≡ Some ran → Waits ran
+later-waits ran None k e = absurd cc
+later-waits ran (Some r) k e = waits ran (later 1 r) (k r refl) e
+
+continued-waits : (s : State) (ran : Ran) (rest : State → Option Ran) (o : Option Outcome) → OutcomeKeeps s o → s.asked ≡ None
+    → ((t : State) (r : Ran) → t.asked ≡ None → rest t ≡ Some r → Waits r) → option_and_then (continued rest s) o ≡ Some ran → Waits ran
+continued-waits s ran rest None h none k e = absurd cc
+continued-waits s ran rest (Some (Goes next)) h none k e = later-waits ran (rest next) (λ r. k next r (h.asked ∙ none)) e
+continued-waits s ran rest (Some (Returns result context)) h none k e = waits ran _ none e
+continued-waits s ran rest (Some (Panics code)) h none k e = waits ran _ none e
+continued-waits s ran rest (Some (Asks request)) h none k e = waits ran _ refl e
+
+pub runs-waits : (code : List Instr) (n : ℕ) (s : State) (ran : Ran) → s.asked ≡ None → runs code n s ≡ Some ran → ran.state.asked ≡ request_of ran.stop
+runs-waits code zero s ran none e = waits ran _ none e
+runs-waits code (suc n) s ran none e =
+    continued-waits s ran (runs code n) (step code s) (step-kept s (slice_get code s.place)) none (runs-waits code n) e

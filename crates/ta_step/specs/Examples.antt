@@ -1,5 +1,5 @@
 -- Examples of the definitions, worked out by hand.
-use Rattle.std.specs.Prelude.{◌≡◌, ℕ, List, [], ◌∷◌, replicate, Option, Some, None}
+use Rattle.std.specs.Prelude.{◌≡◌, ℕ, true, false, List, [], ◌∷◌, replicate, Option, Some, None}
 use Rattle.std.specs.Option.{option_map}
 use Rattle.ta_isa.specs.declared.image.Instr.{Instr}
 use Rattle.ta_params.specs.declared.copied_params.Way.TheVariants.{In, Inout}
@@ -7,11 +7,15 @@ use Rattle.ta_params.specs.declared.copied_params.GpParam.{GpParam}
 use Rattle.ta_params.specs.declared.copied_params.GpParam.TheVariants.{Empty, Value, Memref}
 use Rattle.ta_params.specs.declared.copied_params.CopiedParams.{CopiedParams}
 use Rattle.ta_params.specs.declared.login.Login.{Login}
+use Rattle.ta_params.specs.declared.object_call.ObjectCall.TheVariants.{Create, Opened, Read, Write, Seek, Close, Delete}
+use Rattle.ta_step.specs.declared.stop.Request.TheVariants.{Time, Suspend, Object}
 use Rattle.ta_step.specs.declared.stop.Stop.{Stop}
 use Rattle.ta_step.specs.declared.stop.Stop.TheVariants.{Ended, Panicked, Interrupted}
+use Rattle.ta_step.specs.declared.stop.Stop.TheVariants as stop
 use Rattle.ta_step.specs.State.{State, started}
 use Rattle.ta_step.specs.Addresses.{load, load_word, store}
-use Rattle.ta_step.specs.Outcome.{Outcome, Goes, Panics, goes_on}
+use Rattle.ta_step.specs.Outcome.{Outcome, Goes, Panics, Asks, goes_on, asking}
+use Rattle.ta_step.specs.SystemCalls.{answered}
 use Rattle.ta_step.specs.Shape.{shapes}
 use Rattle.ta_step.specs.Step.{step}
 use Rattle.ta_step.specs.Runs.{Ran, runs, runs_twice}
@@ -76,6 +80,25 @@ at_start first = started (0 ∷ []) 0 first [] (params_of Empty) somebody
 abbrev pub with_byte : GpParam
 with_byte = Memref Inout (1 ∷ 2 ∷ 3 ∷ 4 ∷ 5 ∷ []) 5
 
+-- a machine with eight bytes of memory, five in the first buffer, and its first registers
+abbrev pub with_registers : List ℕ → State
+with_registers first = started (0 ∷ []) 0 first (1 ∷ 2 ∷ 0 ∷ 0 ∷ 9 ∷ 0 ∷ 0 ∷ 0 ∷ []) (params_of with_byte) somebody
+
+-- the same, cancelled and told so
+abbrev pub told : List ℕ → State
+told first = record (with_registers first) { masked = false; cancelled = true }
+
+-- a system call alone in a machine
+abbrev pub calls : ℕ → State → Option Outcome
+calls number s = step (instr 0x18 0 0 0 number ∷ []) s
+
+abbrev pub call : ℕ → List ℕ → Option Outcome
+call number first = calls number (with_registers first)
+
+-- asks for the time, and returns what it is told
+abbrev pub time_code : List Instr
+time_code = instr 0x18 0 0 0 0 ∷ instr 0x18 0 0 0 11 ∷ instr 0x18 0 0 0 0 ∷ []
+
 pub record Examples : Type 0 where
   pub sum : stop_of (runs sum_code 100 (invoked 0 (Value Inout 5 7))) ≡ Some (Ended 0 12, 6)
   pub sum_given : params_after (runs sum_code 100 (invoked 0 (Value Inout 5 7))) ≡ Some (params_of (Value Inout 12 0))
@@ -108,3 +131,27 @@ pub record Examples : Type 0 where
   pub in_buffer : store (invoked 0 with_byte) 0x10000001 (8 ∷ 7 ∷ []) ≡ invoked 0 (Memref Inout (1 ∷ 8 ∷ 7 ∷ 4 ∷ 5 ∷ []) 5)
   pub shape_of_params : shapes (params_of with_byte) ≡ (7, 5) ∷ (0, 0) ∷ (0, 0) ∷ (0, 0) ∷ []
   pub out_of_buffer : store (invoked 0 with_byte) 0x10000004 (8 ∷ 7 ∷ []) ≡ invoked 0 with_byte
+  pub time : call 11 (1 ∷ 2 ∷ 3 ∷ []) ≡ Some (Asks Time)
+  pub wait : call 12 (5 ∷ 2 ∷ 3 ∷ []) ≡ Some (Asks (Suspend 5))
+  pub wait_masked : calls 12 (record (told (5 ∷ 2 ∷ 3 ∷ [])) { masked = true }) ≡ Some (Asks (Suspend 5))
+  pub wait_cancelled : calls 12 (told (5 ∷ 2 ∷ 3 ∷ [])) ≡ Some (goes_on (told (0xffff0002 ∷ 2 ∷ 3 ∷ [])))
+  pub create : call 13 (6 ∷ 2 ∷ 3 ∷ []) ≡ Some (Asks (Object (Create 6 2)))
+  pub create_cut : call 13 (6 ∷ 3 ∷ 3 ∷ []) ≡ Some (Panics 1)
+  pub opened : call 14 (0x10000000 ∷ 5 ∷ 3 ∷ []) ≡ Some (Asks (Object (Opened 0x10000000 5)))
+  pub opened_cut : call 14 (0x10000001 ∷ 5 ∷ 3 ∷ []) ≡ Some (Panics 1)
+  pub read : call 15 (7 ∷ 4 ∷ 4 ∷ []) ≡ Some (Asks (Object (Read 7 4 4)))
+  pub read_cut : call 15 (7 ∷ 4 ∷ 5 ∷ []) ≡ Some (Panics 1)
+  pub read_nothing : call 15 (7 ∷ 0x50000000 ∷ 0 ∷ []) ≡ Some (Asks (Object (Read 7 0x50000000 0)))
+  pub write : call 16 (7 ∷ 0x10000002 ∷ 3 ∷ []) ≡ Some (Asks (Object (Write 7 0x10000002 3)))
+  pub write_nowhere : call 16 (7 ∷ 0x20000000 ∷ 1 ∷ []) ≡ Some (Panics 1)
+  pub write_too_much : call 16 (7 ∷ 0 ∷ 0xffffffff ∷ []) ≡ Some (Panics 1)
+  pub seek : call 17 (7 ∷ 100 ∷ 3 ∷ []) ≡ Some (Asks (Object (Seek 7 100)))
+  pub close : call 18 (7 ∷ 2 ∷ 3 ∷ []) ≡ Some (Asks (Object (Close 7)))
+  pub delete : call 19 (7 ∷ 2 ∷ 3 ∷ []) ≡ Some (Asks (Object (Delete 7)))
+  pub no_call : call 20 (7 ∷ 2 ∷ 3 ∷ []) ≡ None
+  pub time_answered : answered Time 0 10 20 (asking Time (with_registers (1 ∷ 2 ∷ 3 ∷ []))) ≡ record (with_registers (0 ∷ 10 ∷ 20 ∷ [])) { place = 1 }
+  pub wait_answered : answered (Suspend 5) 0 10 20 (asking (Suspend 5) (with_registers (5 ∷ 2 ∷ 3 ∷ []))) ≡ record (with_registers (0 ∷ 2 ∷ 3 ∷ [])) { place = 1 }
+  pub read_answered : answered (Object (Read 7 4 4)) 0 10 20 (asking (Object (Read 7 4 4)) (with_registers (7 ∷ 4 ∷ 4 ∷ []))) ≡ record (with_registers (0 ∷ 10 ∷ 4 ∷ [])) { place = 1 }
+  pub asks : stop_of (runs time_code 100 (invoked 0 Empty)) ≡ Some (stop.Asks Time, 1)
+  pub asks_once : runs_twice time_code 1 1 (invoked 0 Empty) ≡ runs time_code 1 (invoked 0 Empty)
+  pub behind_the_answer : stop_of (runs time_code 100 (answered Time 0 10 20 (asking Time (invoked 0 Empty)))) ≡ Some (Ended 0 10, 1)

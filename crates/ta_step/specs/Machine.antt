@@ -14,4 +14,5 @@ state_of bytes machine = record {
   login = machine.login;
   masked = machine.masked;
   cancelled = machine.cancelled;
+  asked = machine.asked;
 }

@@ -1,11 +1,12 @@
 -- Steps one after another, up to the first stop or the end of those granted.
-use Rattle.std.specs.Prelude.{ℕ, zero, suc, ◌+◌, List, Option, Some, option_and_then}
+use Rattle.std.specs.Prelude.{ℕ, zero, suc, ◌+◌, List, Option, Some, None, option_and_then}
 use Rattle.std.specs.Option.{option_map}
 use Rattle.ta_isa.specs.declared.image.Instr.{Instr}
+use Rattle.ta_step.specs.declared.stop.Request.{Request}
 use Rattle.ta_step.specs.declared.stop.Stop.{Stop}
 use Rattle.ta_step.specs.declared.stop.Stop.TheVariants as stop
 use Rattle.ta_step.specs.State.{State}
-use Rattle.ta_step.specs.Outcome.{Outcome, Goes, Returns, Panics, Asks}
+use Rattle.ta_step.specs.Outcome.{Outcome, Goes, Returns, Panics, Asks, asking}
 use Rattle.ta_step.specs.Step.{step}
 
 -- what a grant of steps came to: why the machine stopped, how many steps it used, and what is left of it
@@ -13,6 +14,13 @@ pub record Ran : Type 0 where
   pub stop : Stop
   pub steps : ℕ
   pub state : State
+
+-- what a machine that stopped so waits for
+abbrev pub request_of : Stop → Option Request
+request_of (stop.Ended result context) = None
+request_of (stop.Panicked code) = None
+request_of (stop.Asks request) = Some request
+request_of stop.Interrupted = None
 
 -- the same with steps before it
 abbrev pub later : ℕ → Ran → Ran
@@ -26,7 +34,7 @@ abbrev pub continued : (State → Option Ran) → State → Outcome → Option R
 continued rest s (Goes next) = option_map (later 1) (rest next)
 continued rest s (Returns result context) = stopped s (stop.Ended result context)
 continued rest s (Panics code) = stopped s (stop.Panicked code)
-continued rest s (Asks request) = stopped s (stop.Asks request)
+continued rest s (Asks request) = stopped (asking request s) (stop.Asks request)
 
 -- what so many granted steps come to
 abbrev pub runs : List Instr → ℕ → State → Option Ran

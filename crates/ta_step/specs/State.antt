@@ -1,7 +1,8 @@
 -- A machine as contracts see it, and where it starts. This project's own.
-use Rattle.std.specs.Prelude.{ℕ, Bool, true, false, not, ◌&&◌, List, [], ◌++◌, replicate, slice_index, slice_set}
+use Rattle.std.specs.Prelude.{ℕ, Bool, true, false, not, ◌&&◌, List, [], ◌++◌, Option, None, replicate, slice_index, slice_set}
 use Rattle.ta_params.specs.declared.copied_params.CopiedParams.{CopiedParams}
 use Rattle.ta_params.specs.declared.login.Login.{Login}
+use Rattle.ta_step.specs.declared.stop.Request.{Request}
 
 pub record State : Type 0 where
   -- sixteen numbers of 32 bits
@@ -18,6 +19,8 @@ pub record State : Type 0 where
   pub masked : Bool
   -- the cancellation flag
   pub cancelled : Bool
+  -- the request that waits for its answer
+  pub asked : Option Request
 
 -- a register
 abbrev pub reg : State → ℕ → ℕ
@@ -32,7 +35,7 @@ abbrev pub is_cancelled : State → Bool
 is_cancelled s = s.cancelled && not s.masked
 
 -- the machine at the start of an entry point: the given registers first and zeros behind them, no call
--- open, masked, and the flag clear
+-- open, masked, the flag clear, and nothing asked for
 abbrev pub started : List ℕ → ℕ → List ℕ → List ℕ → CopiedParams → Login → State
 started entries point first memory params login = record {
   registers = first ++ replicate 13 0;
@@ -43,4 +46,5 @@ started entries point first memory params login = record {
   login = login;
   masked = true;
   cancelled = false;
+  asked = None;
 }

@@ -1,13 +1,19 @@
 -- The system calls. They take their arguments from the first registers and give their results there.
-use Rattle.std.specs.Prelude.{ℕ, ◌==◌, Bool, true, false, if◌then◌else◌, List, [], ◌∷◌, length, Option, Some, None, option_and_then, find}
+use Rattle.std.specs.Prelude.{ℕ, ◌+◌, ◌%◌, ◌==◌, nat_le, Bool, true, false, ◌&&◌, ◌||◌, if◌then◌else◌, List, [], ◌∷◌, ◌++◌, length, take, drop, Option, Some, None, option_and_then, find}
 use Rattle.std.specs.Option.{option_map}
+use Rattle.ta_params.specs.declared.codes.TheConstants.{TEE_ERROR_CANCEL}
 use Rattle.ta_params.specs.declared.copied_params.GpParam.{GpParam}
 use Rattle.ta_params.specs.declared.copied_params.GpParam.TheVariants.{Empty, Value, Memref}
+use Rattle.ta_params.specs.declared.object_call.ObjectCall.{ObjectCall}
+use Rattle.ta_params.specs.declared.object_call.ObjectCall.TheVariants.{Create, Opened, Read, Write, Seek, Close, Delete}
 use Rattle.ta_params.specs.CopiedParams.{type_word}
 use Rattle.ta_step.specs.State.{State, reg, put, is_cancelled}
 use Rattle.ta_step.specs.Parameters.{param_at, with_param, with_value, with_size}
+use Rattle.ta_step.specs.declared.addresses.TheConstants.{RANGE}
 use Rattle.ta_step.specs.Addresses.{is_inside, store}
-use Rattle.ta_step.specs.Outcome.{Outcome, goes_on, Returns, Panics}
+use Rattle.ta_step.specs.Outcome.{Outcome, goes_on, Returns, Panics, Asks}
+use Rattle.ta_step.specs.declared.stop.Request.{Request}
+use Rattle.ta_step.specs.declared.stop.Request.TheVariants.{Time, Suspend, Object}
 use Rattle.ta_step.specs.declared.panic_code.TheConstants.{BAD_ADDRESS, BAD_CALL}
 
 -- 1 for true
@@ -70,6 +76,73 @@ cancelled s = goes_on (put s 0 (bit (is_cancelled s)))
 abbrev pub masks : Bool → State → Outcome
 masks masked s = goes_on (record (put s 0 (bit s.masked)) { masked = masked })
 
+-- ---- what asks the world outside
+
+-- the time
+abbrev pub time : State → Outcome
+time s = Asks Time
+
+-- to be suspended for r0 milliseconds, unless the call is cancelled already
+abbrev pub wait : State → Outcome
+wait s = if is_cancelled s then goes_on (put s 0 TEE_ERROR_CANCEL) else Asks (Suspend (reg s 0))
+
+-- so many bytes from an address on are all in one range, and their addresses too; no bytes are, at every address
+abbrev pub is_range : State → ℕ → ℕ → Bool
+is_range s addr count = (count == 0) || (nat_le (addr % RANGE + count) RANGE && is_inside s addr count)
+
+-- a call on an object, with the bytes that it names
+abbrev pub object_with : ObjectCall → ℕ → ℕ → State → Outcome
+object_with call addr count s = if is_range s addr count then Asks (Object call) else Panics BAD_ADDRESS
+
+-- a call on an object that names no bytes
+abbrev pub object : ObjectCall → Outcome
+object call = Asks (Object call)
+
+abbrev pub object_create : State → Outcome
+object_create s = object_with (Create (reg s 0) (reg s 1)) (reg s 0) (reg s 1) s
+
+abbrev pub object_open : State → Outcome
+object_open s = object_with (Opened (reg s 0) (reg s 1)) (reg s 0) (reg s 1) s
+
+abbrev pub object_read : State → Outcome
+object_read s = object_with (Read (reg s 0) (reg s 1) (reg s 2)) (reg s 1) (reg s 2) s
+
+abbrev pub object_write : State → Outcome
+object_write s = object_with (Write (reg s 0) (reg s 1) (reg s 2)) (reg s 1) (reg s 2) s
+
+abbrev pub object_seek : State → Outcome
+object_seek s = object (Seek (reg s 0) (reg s 1))
+
+abbrev pub object_close : State → Outcome
+object_close s = object (Close (reg s 0))
+
+abbrev pub object_delete : State → Outcome
+object_delete s = object (Delete (reg s 0))
+
+-- how many of the first registers a call on an object gives: the result, and a handle or a number of bytes
+abbrev pub object_gives : ObjectCall → ℕ
+object_gives (Create id len) = 2
+object_gives (Opened id len) = 2
+object_gives (Read handle addr len) = 2
+object_gives (Write handle addr len) = 1
+object_gives (Seek handle position) = 1
+object_gives (Close handle) = 1
+object_gives (Delete handle) = 1
+
+-- how many of the first registers the answer to a request gives
+abbrev pub gives : Request → ℕ
+gives Time = 3
+gives (Suspend ms) = 1
+gives (Object call) = object_gives call
+
+-- the machine when its request is answered with these: those that the request gives are in the first registers
+abbrev pub answered : Request → ℕ → ℕ → ℕ → State → State
+answered request r0 r1 r2 s =
+    let first = take (gives request) (r0 ∷ r1 ∷ r2 ∷ []) in
+    record s { registers = first ++ drop (gives request) s.registers; asked = None }
+
+-- ---- the table
+
 abbrev pub system_calls : List (ℕ × (State → Outcome))
 system_calls =
     (0, returns)
@@ -83,6 +156,15 @@ system_calls =
     ∷ (8, cancelled)
     ∷ (9, masks true)
     ∷ (10, masks false)
+    ∷ (11, time)
+    ∷ (12, wait)
+    ∷ (13, object_create)
+    ∷ (14, object_open)
+    ∷ (15, object_read)
+    ∷ (16, object_write)
+    ∷ (17, object_seek)
+    ∷ (18, object_close)
+    ∷ (19, object_delete)
     ∷ []
 
 -- what a system call does, if there is one of this number

@@ -6,7 +6,7 @@ use crate::memory::TaMemory;
 
 /// Whether so many bytes from a place on are all there.
 #[tactic(auto, using(crate::proofs::Present::present))]
-fn has_bytes<T: TaMemory>(memory: &T, place: u32, count: u32) -> bool
+pub(crate) fn has_bytes<T: TaMemory>(memory: &T, place: u32, count: u32) -> bool
     requires some { 0 < count }
     requires fits { place + count < 2 ^ 32 }
     ensures { result ≡ has_bytes (T.bytes memory.now) place count }

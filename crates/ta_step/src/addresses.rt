@@ -1,7 +1,8 @@
 //! The addresses of a machine: which bytes stand where.
-ghost use Rattle.std.specs.Prelude.{◌≡◌, ◌+◌, ◌^◌, ◌<◌, ◌≤◌, [], ◌∷◌, length};
+ghost use Rattle.std.specs.Prelude.{◌≡◌, ◌+◌, ◌%◌, ◌^◌, ◌<◌, ◌≤◌, [], ◌∷◌, length};
 ghost use Rattle.ta_step.specs.Addresses.{is_inside, load, load_word, store};
 ghost use Rattle.ta_step.specs.Machine.{state_of};
+ghost use Rattle.ta_step.specs.SystemCalls.{is_range};
 
 use crate::machine::Machine;
 use crate::memory::TaMemory;
@@ -43,6 +44,30 @@ impl<M: TaMemory> Machine<M> {
             0 => access::load_word(&self.memory, place),
             number => parameters::load_word(parameters::param_at(&self.params, number - 1)?, place),
         }
+    }
+
+    /// Whether so many bytes from an address on are all there, in the range that it names.
+    #[tactic(auto, using(crate::proofs::RangeLemmas::ranges_of_addresses))]
+    fn is_inside(&self, addr: u32, count: u32) -> bool
+        requires some { 0 < count }
+        requires fits { addr % RANGE + count ≤ RANGE }
+        ensures { result ≡ is_inside (state_of M.bytes self.now) addr count }
+    {
+        let place = addr % RANGE;
+        match addr / RANGE {
+            0 => access::has_bytes(&self.memory, place, count),
+            number => match parameters::param_at(&self.params, number - 1) {
+                Some(param) => parameters::has_bytes(param, place, count),
+                None => false,
+            },
+        }
+    }
+
+    /// Whether so many bytes from an address on are all in one range. No bytes are, at every address.
+    pub(crate) fn is_range(&self, addr: u32, count: u32) -> bool
+        ensures { result ≡ is_range (state_of M.bytes self.now) addr count }
+    {
+        count == 0 || (count <= RANGE - addr % RANGE && self.is_inside(addr, count))
     }
 
     /// Writes bytes from an address on, or answers `false` where they are not all in one range.

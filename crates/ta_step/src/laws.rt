@@ -1,11 +1,11 @@
 //! What holds of the definitions themselves.
-ghost use Rattle.std.specs.Prelude.{◌≡◌, ℕ, ◌+◌, ◌*◌, ◌<◌, List, [], IsSome, Some, slice_get, slice_index_or};
+ghost use Rattle.std.specs.Prelude.{◌≡◌, ℕ, ◌+◌, ◌*◌, ◌<◌, List, [], IsSome, Some, None, slice_get, slice_index_or};
 ghost use Rattle.ta_isa.specs.declared.image.Image.{Image as AnyImage};
 ghost use Rattle.ta_isa.specs.declared.image.Instr.{Instr as AnyInstr};
 ghost use Rattle.ta_isa.specs.Spelling.{IsValid};
 ghost use Rattle.ta_step.specs.Addresses.{load, ranges};
 ghost use Rattle.ta_step.specs.Examples.{Examples};
-ghost use Rattle.ta_step.specs.Runs.{Ran, runs, runs_twice};
+ghost use Rattle.ta_step.specs.Runs.{Ran, request_of, runs, runs_twice};
 ghost use Rattle.ta_step.specs.Shape.{SameShape};
 ghost use Rattle.ta_step.specs.State.{State};
 ghost use Rattle.ta_step.specs.Step.{step};
@@ -28,6 +28,13 @@ pub fn ranges_begin()
 /// login, and the cancellation flag.
 pub fn shape_of_runs()
     ensures { (code : List AnyInstr) (n : ℕ) (s : State) (ran : Ran) → runs code n s ≡ Some ran → SameShape s ran.state }
+{}
+
+/// A machine that waits for no answer waits, after a run, for the answer to the request that it stopped with,
+/// and for none where it stopped otherwise.
+pub fn asked_of_runs()
+    ensures { (code : List AnyInstr) (n : ℕ) (s : State) (ran : Ran) → s.asked ≡ None → runs code n s ≡ Some ran
+        → ran.state.asked ≡ request_of ran.stop }
 {}
 
 /// A machine whose image is valid comes to one outcome at each step.

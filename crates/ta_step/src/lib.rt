@@ -11,13 +11,16 @@ mod machine;
 mod memory;
 pub mod panic_code;
 mod parameters;
+mod requests;
 mod run;
 mod stop;
 mod system_calls;
 
 pub use addresses::RANGE;
 pub use base::NoMemory;
-pub use laws::{one_outcome, ranges_begin, shape_of_runs, sum_of_grants, worked_examples};
+pub use laws::{
+    asked_of_runs, one_outcome, ranges_begin, shape_of_runs, sum_of_grants, worked_examples,
+};
 pub use machine::{Machine, STACK_DEPTH};
 pub use memory::{Plain, TaMemory};
 pub use stop::{Request, Stop};

@@ -4,6 +4,7 @@ ghost use Rattle.ta_step.specs.State.{is_cancelled, started};
 ghost use Rattle.ta_step.specs.Machine.{state_of};
 
 use crate::memory::TaMemory;
+use crate::stop::Request;
 use arrayvec::ArrayVec;
 use ta_isa::Image;
 use ta_params::{CopiedParams, Login};
@@ -17,7 +18,8 @@ pub const STACK_DEPTH: usize = 64;
 /// A trusted application on its way through one of its entry points.
 ///
 /// Contracts see it as the record `State`: registers, place, call stack, memory as one list of bytes, the
-/// copied parameters, the client's login, the mask and the cancellation flag.
+/// copied parameters, the client's login, the mask, the cancellation flag, and the request that waits for
+/// its answer.
 #[derive(Drop)]
 pub struct Machine<M> {
     pub(crate) registers: [u32; REGISTERS],
@@ -30,11 +32,13 @@ pub struct Machine<M> {
     pub(crate) login: Login,
     pub(crate) masked: bool,
     pub(crate) cancelled: bool,
+    /// The request that waits for its answer.
+    pub(crate) asked: Option<Request>,
 }
 
 impl<M: TaMemory> Machine<M> {
     /// A machine at the image's entry point of this number, 0 to 4, with its first three registers. It
-    /// starts masked, with the flag clear. Takes no memory.
+    /// starts masked, with the flag clear, and has asked for nothing. Takes no memory.
     pub fn start(
         image: &Image,
         memory: M,
@@ -60,6 +64,7 @@ impl<M: TaMemory> Machine<M> {
             login,
             masked: true,
             cancelled: false,
+            asked: None,
         }
     }
 
@@ -68,6 +73,13 @@ impl<M: TaMemory> Machine<M> {
         ensures { result ≡ is_cancelled (state_of M.bytes self.now) }
     {
         self.cancelled && !self.masked
+    }
+
+    /// The request that waits for its answer, if there is one.
+    pub fn asked(&self) -> Option<Request>
+        ensures { result ≡ (state_of M.bytes self.now).asked }
+    {
+        self.asked
     }
 
     /// Sets the cancellation flag.
@@ -91,6 +103,7 @@ impl<M: TaMemory> Machine<M> {
             login: _,
             masked: _,
             cancelled: _,
+            asked: _,
         } = self;
         (memory, params)
     }

@@ -59,6 +59,18 @@ pub(crate) fn load_word(param: &GpParam, place: u32) -> Option<u32>
     }
 }
 
+/// Whether so many bytes of a parameter's buffer from a place on are all there.
+pub(crate) fn has_bytes(param: &GpParam, place: u32, count: u32) -> bool
+    requires some { 0 < count }
+    requires fits { place + count < 2 ^ 32 }
+    ensures { result ≡ has_bytes (buffer param.now) place count }
+{
+    match param {
+        GpParam::Memref { buf, .. } => access::has_bytes(buf, place, count),
+        _ => false,
+    }
+}
+
 /// Writes bytes into a parameter's buffer, or answers `false` where they are not all there.
 pub(crate) fn write(param: &mut GpParam, place: u32, bytes: &[u8]) -> bool
     requires some { 0 < length bytes.now }

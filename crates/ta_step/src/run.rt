@@ -1,9 +1,9 @@
 //! Steps of a machine, one after another.
-ghost use Rattle.std.specs.Prelude.{◌≡◌, Some, IsSomeAnd, slice_get};
+ghost use Rattle.std.specs.Prelude.{◌≡◌, Some, None, IsSomeAnd, slice_get};
 ghost use Rattle.ta_isa.specs.Spelling.{IsValid};
 ghost use Rattle.ta_step.specs.Machine.{state_of};
 ghost use Rattle.ta_step.specs.Outcome.{Leads};
-ghost use Rattle.ta_step.specs.Runs.{runs};
+ghost use Rattle.ta_step.specs.Runs.{request_of, runs};
 ghost use Rattle.ta_step.specs.Step.{step};
 
 use crate::machine::Machine;
@@ -33,11 +33,14 @@ impl<M: TaMemory> Machine<M> {
     }
 
     /// Does at most so many steps, up to the first stop. Answers why it stopped, and how many steps it
-    /// used, that at which it stopped among them. Takes no memory.
+    /// used, that at which it stopped among them. Where it stopped with a request, it runs again once that
+    /// is answered. Takes no memory.
     pub fn run(&mut self, image: &Image, steps: u32) -> (Stop, u32)
-        requires { IsValid image.now }
-        ensures { runs image.now.code steps (state_of M.bytes self.old)
+        requires valid { IsValid image.now }
+        requires unasked { (state_of M.bytes self.old).asked ≡ None }
+        ensures runs { runs image.now.code steps (state_of M.bytes self.old)
             ≡ Some (record { stop = result.0; steps = result.1; state = state_of M.bytes self.new }) }
+        ensures asked { (state_of M.bytes self.new).asked ≡ request_of result.0 }
     {
         for used in 0..steps {
             if let Err(stop) = self.step(image) {

@@ -1,14 +1,16 @@
 //! Why a machine stops.
 use ta_params::ObjectCall;
 
-/// What an application asks the world outside for.
+/// What an application asks the world outside for. The system calls with these numbers ask, and their answer
+/// is given in the first registers: the result in r0, and what is named beside it in the next ones.
 #[derive(Clone, Copy, Debug, PartialEq, Eq)]
 pub enum Request {
-    /// The time of day.
+    /// The time of day, of 11: seconds and milliseconds.
     Time,
-    /// To be suspended for so many milliseconds.
+    /// To be suspended for so many milliseconds, of 12.
     Suspend(u32),
-    /// A call on its storage objects.
+    /// A call on its storage objects, of 13 to 19: the handle of a create or an open, and how many bytes a
+    /// read has read.
     Object(ObjectCall),
 }
 

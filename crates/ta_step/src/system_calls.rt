@@ -160,6 +160,15 @@ impl<M: TaMemory> Machine<M> {
             8 => self.tell_cancelled(),
             9 => self.mask(true),
             10 => self.mask(false),
+            11 => self.time(),
+            12 => self.wait(),
+            13 => self.object_create(),
+            14 => self.object_open(),
+            15 => self.object_read(),
+            16 => self.object_write(),
+            17 => self.object_seek(),
+            18 => self.object_close(),
+            19 => self.object_delete(),
             _ => unreachable!(),
         }
     }

@@ -1,4 +1,4 @@
-ghost use Rattle.std.specs.Prelude.{IfOk};
+ghost use Rattle.std.specs.Prelude.{◌≡◌, None, IfOk};
 ghost use Rattle.ta_isa.specs.Spelling.{IsValid};
 
 use super::*;
@@ -51,7 +51,9 @@ fn invoked(
     image: &Image,
     func: u32,
     params: CopiedParams,
-) -> Result<Machine<Plain>, Fail> {
+) -> Result<Machine<Plain>, Fail>
+    ensures { IfOk result (λ machine. machine.asked ≡ None) }
+{
     let login = Login {
         client: [7; 16],
         kind: 4,
@@ -108,6 +110,7 @@ fn a_sum(rt: HostRuntime) -> Result<(), Fail> {
     let params = params_of(value(Way::Inout, 5, 7), GpParam::Empty);
     let mut machine = invoked(rt.alloc(), &image, 0, params)?;
     assert_eq!(rt; machine.run(&image, 2), (Stop::Interrupted, 2));
+    assert!(rt; machine.asked().is_none());
     let ended = Stop::Ended {
         result: 0,
         context: 12,
@@ -282,6 +285,7 @@ fn every_operation(rt: HostRuntime) -> Result<(), Fail> {
     assert!(rt; !machine.cancelled());
     // Up to the unmasking, and to the end.
     assert_eq!(rt; machine.run(&image, 46), (Stop::Interrupted, 46));
+    assert!(rt; machine.asked().is_none());
     assert!(rt; machine.cancelled());
     let ended = Stop::Ended {
         result: 0x0b00_0002,
@@ -352,6 +356,129 @@ fn panics_of_the_machine(rt: HostRuntime) -> Result<(), Fail> {
         let params = params_of(GpParam::Empty, GpParam::Empty);
         let mut machine = invoked(rt.alloc(), &image, 0, params)?;
         assert_eq!(rt; machine.run(&image, 1000), (Stop::Panicked(want), used));
+    }
+    Ok(())
+}
+
+/// A system call with these numbers in its registers, and a return of its result and of the sum of the other
+/// two registers.
+fn call_code(number: u8, r0: u32, r1: u32, r2: u32) -> [u64; 7] {
+    [
+        0x1800000000000000,
+        0x0100000000000000 | u64::from(r0.swap_bytes()),
+        0x0101000000000000 | u64::from(r1.swap_bytes()),
+        0x0102000000000000 | u64::from(r2.swap_bytes()),
+        0x1800000000000000 | u64::from(u32::from(number).swap_bytes()),
+        0x0301010200000000,
+        0x1800000000000000,
+    ]
+}
+
+#[test]
+fn every_request(rt: HostRuntime) -> Result<(), Fail> {
+    let (handle, position, len) = (0x40, 0x20, 0x10);
+    let (id, id_len, addr) = (0x40, 0x20, 0x20);
+    for (number, request, rest) in [
+        (11, Request::Time, 0x300),
+        (12, Request::Suspend(0x40), 0x30),
+        (
+            13,
+            Request::Object(ObjectCall::Create { id, len: id_len }),
+            0x210,
+        ),
+        (
+            14,
+            Request::Object(ObjectCall::Opened { id, len: id_len }),
+            0x210,
+        ),
+        (
+            15,
+            Request::Object(ObjectCall::Read { handle, addr, len }),
+            0x210,
+        ),
+        (
+            16,
+            Request::Object(ObjectCall::Write { handle, addr, len }),
+            0x30,
+        ),
+        (
+            17,
+            Request::Object(ObjectCall::Seek { handle, position }),
+            0x30,
+        ),
+        (18, Request::Object(ObjectCall::Close { handle }), 0x30),
+        (19, Request::Object(ObjectCall::Delete { handle }), 0x30),
+    ] {
+        let image = image_of(rt.alloc(), &call_code(number, 0x40, 0x20, 0x10))?;
+        let params = params_of(GpParam::Empty, GpParam::Empty);
+        let mut machine = invoked(rt.alloc(), &image, 0, params)?;
+        assert_eq!(rt; machine.run(&image, 1000), (Stop::Asks(request), 4));
+        let asked = machine.asked().ok_or("a request")?;
+        assert_eq!(rt; asked, request);
+        machine.answer(7, 0x200, 0x100);
+        assert!(rt; machine.asked().is_none());
+        let ended = Stop::Ended {
+            result: 7,
+            context: rest,
+        };
+        assert_eq!(rt; machine.run(&image, 1000), (ended, 2));
+    }
+    Ok(())
+}
+
+#[test]
+fn a_wait_and_its_cancellation(rt: HostRuntime) -> Result<(), Fail> {
+    let told = Stop::Ended {
+        result: 0xffff_0002,
+        context: 0,
+    };
+    // masked, and unmasked before it waits
+    for (first, want, used) in [
+        (0x0100000005000000, Stop::Asks(Request::Suspend(5)), 3),
+        (0x180000000a000000, told, 4),
+    ] {
+        let wait = 0x180000000c000000;
+        let code = [
+            0x1800000000000000,
+            first,
+            0x0100000005000000,
+            wait,
+            0x1800000000000000,
+        ];
+        let image = image_of(rt.alloc(), &code)?;
+        let params = params_of(GpParam::Empty, GpParam::Empty);
+        let mut machine = invoked(rt.alloc(), &image, 0, params)?;
+        machine.see_cancel();
+        assert_eq!(rt; machine.run(&image, 1000), (want, used));
+    }
+    Ok(())
+}
+
+#[test]
+fn ranges_of_object_calls(rt: HostRuntime) -> Result<(), Fail> {
+    // The memory has 0x1000 bytes, the first buffer 20, and there is no second one.
+    for (number, r0, r1, r2, asks) in [
+        (13, 0xfff, 1, 0, true),
+        (13, 0xfff, 2, 0, false),
+        (13, 0x5000_0000, 0, 0, true),
+        (14, 0x1000_0000, 20, 0, true),
+        (14, 0x1000_0000, 21, 0, false),
+        (15, 9, 0x1000_0013, 1, true),
+        (15, 9, 0x1000_0014, 1, false),
+        (15, 9, 0x2000_0000, 1, false),
+        (15, 9, 0xffff_ffff, 0, true),
+        (16, 9, 0, 0x1000, true),
+        (16, 9, 0, 0x1001, false),
+        (16, 9, 0x0fff_ffff, 2, false),
+        (16, 9, 0x0fff_ffff, 0xffff_ffff, false),
+    ] {
+        let image = image_of(rt.alloc(), &call_code(number, r0, r1, r2))?;
+        let params = params_of(buffer(rt.alloc(), Way::In, 20)?, GpParam::Empty);
+        let mut machine = invoked(rt.alloc(), &image, 0, params)?;
+        let (stop, used) = machine.run(&image, 1000);
+        assert_eq!(rt; used, 4);
+        assert_eq!(rt; stop == Stop::Panicked(1), !asks);
+        assert_eq!(rt; machine.asked().is_some(), asks);
     }
     Ok(())
 }
