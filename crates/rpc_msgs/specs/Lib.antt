@@ -1,2 +1,5 @@
+pub mod Answer
 pub mod Examples
 pub mod FileName
+pub mod Reply
+pub mod Request

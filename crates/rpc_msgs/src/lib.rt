@@ -1,15 +1,37 @@
-//! The messages in which a call asks the normal world for something. So far: the names of storage files that
-//! such a message carries.
+//! The messages in which a call asks the normal world for something: the time, to sleep or to wake another
+//! thread, to be suspended, or a file's bytes.
 //!
-//! Nothing here takes memory.
+//! A message stands in a buffer of 4096 bytes that the normal world has lent: an argument of `optee_msg.h` at its
+//! start, and the bytes that go with it, its payload, at 512. This crate writes a request there and reads the
+//! reply. It trusts nothing that stands in a reply: each number is read once, and a size above what was asked for
+//! gives no bytes. What a reply means is no concern of this crate.
+//!
+//! `specs/Request.antt` has what is written of each request, `specs/Reply.antt` what is read of the reply to it,
+//! and `specs/Answer.antt` which replies there are. The commands go by the names of OP-TEE's `optee_rpc_cmd.h`;
+//! their numbers and parameters are this project's own.
+//!
+//! Only `take_reply` takes memory, for its list of reads.
 #![tactic(auto)]
 
 mod examples;
 mod fault;
+mod fields;
 mod file_name;
+mod laws;
+mod payload;
+mod reply;
+mod request;
+mod rpc;
+mod take;
 #[cfg(test)]
 mod tests;
 
 pub use examples::worked_examples;
 pub use fault::FileNameFault;
 pub use file_name::{FileName, MAX_FILE_NAME};
+pub use laws::{readings_are_replies, replies_are_read, requests_stay_in_their_message};
+pub use payload::{MAX_PAYLOAD, Payload};
+pub use reply::read_reply;
+pub use request::{MESSAGE_BYTES, PAYLOAD_OFFSET, put_request};
+pub use rpc::{Rpc, RpcReply};
+pub use take::take_reply;

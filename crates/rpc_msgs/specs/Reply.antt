@@ -1,0 +1,76 @@
+-- What is read of the reply to a request: each number by itself, in this order, whatever the result says.
+use Rattle.std.specs.Prelude.{ℕ, ◌+◌, ◌*◌, nat_le, List, [], if◌then◌else◌}
+use Rattle.std.specs.Int.{from_le_bytes, w32, w64}
+use Rattle.ns_ram.specs.Reader.{Reader, done, ◌>>=◌, take_bytes}
+use Rattle.rpc_msgs.specs.declared.rpc.Rpc.{Rpc}
+use Rattle.rpc_msgs.specs.declared.rpc.Rpc.TheVariants.{Time, Sleep, Wake, Suspend, FsOpen, FsCreate, FsClose, FsRead, FsWrite, FsRemove}
+use Rattle.rpc_msgs.specs.declared.rpc.RpcReply.{RpcReply}
+use Rattle.rpc_msgs.specs.Answer.{nothing_read}
+use Rattle.rpc_msgs.specs.Request.{payload_at}
+
+-- a number of four bytes, and one of eight
+abbrev pub take_u32 : ℕ → Reader ℕ
+take_u32 addr = do
+  bytes ← take_bytes addr 4
+  done (from_le_bytes w32 bytes)
+
+abbrev pub take_u64 : ℕ → Reader ℕ
+take_u64 addr = do
+  bytes ← take_bytes addr 8
+  done (from_le_bytes w64 bytes)
+
+-- where the result of an argument stands, and the numbers p and q of its parameters
+abbrev pub ret_at : ℕ → ℕ
+ret_at buffer = buffer + 20
+
+abbrev pub p_at : ℕ → ℕ → ℕ
+p_at buffer number = buffer + 32 + 32 * number + 8
+
+abbrev pub q_at : ℕ → ℕ → ℕ
+q_at buffer number = buffer + 32 + 32 * number + 16
+
+-- the result alone
+abbrev pub ret_alone : ℕ → Reader RpcReply
+ret_alone buffer = do
+  ret ← take_u32 (ret_at buffer)
+  done (record nothing_read { ret = ret })
+
+-- seconds and nanoseconds
+abbrev pub time_of : ℕ → Reader RpcReply
+time_of buffer = do
+  ret ← take_u32 (ret_at buffer)
+  seconds ← take_u64 (p_at buffer 0)
+  nanoseconds ← take_u64 (q_at buffer 0)
+  done (record nothing_read { ret = ret; v = seconds; w = nanoseconds })
+
+-- the descriptor of an open file
+abbrev pub descriptor_of : ℕ → Reader RpcReply
+descriptor_of buffer = do
+  ret ← take_u32 (ret_at buffer)
+  fd ← take_u64 (p_at buffer 2)
+  done (record nothing_read { ret = ret; v = fd })
+
+-- so many bytes of the payload, where they are no more than were asked for, and else none
+abbrev pub payload_of : ℕ → ℕ → ℕ → Reader (List ℕ)
+payload_of buffer most size = if nat_le size most then take_bytes (payload_at buffer) size else done []
+
+-- a piece of a file: its size, and its bytes
+abbrev pub piece_of : ℕ → ℕ → Reader RpcReply
+piece_of buffer most = do
+  ret ← take_u32 (ret_at buffer)
+  size ← take_u64 (q_at buffer 1)
+  bytes ← payload_of buffer most size
+  done (record nothing_read { ret = ret; size = size; bytes = bytes })
+
+-- what each request reads of the reply in the buffer at an address
+abbrev pub reply_reader : ℕ → Rpc → Reader RpcReply
+reply_reader buffer Time = time_of buffer
+reply_reader buffer (Sleep key) = done nothing_read
+reply_reader buffer (Wake key) = done nothing_read
+reply_reader buffer (Suspend ms) = done nothing_read
+reply_reader buffer (FsOpen name) = descriptor_of buffer
+reply_reader buffer (FsCreate name) = descriptor_of buffer
+reply_reader buffer (FsClose fd) = ret_alone buffer
+reply_reader buffer (FsRead fd offset len) = piece_of buffer len
+reply_reader buffer (FsWrite fd offset len) = ret_alone buffer
+reply_reader buffer (FsRemove name) = ret_alone buffer

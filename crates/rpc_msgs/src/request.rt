@@ -1,0 +1,199 @@
+//! The message of a request.
+
+ghost use Rattle.std.specs.Prelude.{◌≡◌, ◌≤◌, ℕ, List, [], ◌∷◌, length};
+ghost use Rattle.ns_ram.specs.Lane.{IsInRam};
+ghost use Rattle.ns_ram.specs.Writes.{lane_after};
+ghost use Rattle.rpc_msgs.specs.Request.{IsPayloadOf, IsRequest, argument, files, param, payload_in, payload_out, request_arg, request_writes, value_in, value_out};
+
+use crate::file_name::FileName;
+use crate::payload::MAX_PAYLOAD;
+use crate::rpc::Rpc;
+use arrayvec::ArrayVec;
+use msg_args::{MsgArg, MsgHead, MsgParam, ParamKind, write_arg};
+use ns_ram::Lane;
+
+/// The bytes of a message: an argument at its start, and the payload.
+pub const MESSAGE_BYTES: u64 = 4096;
+
+/// Where the payload stands in a message.
+pub const PAYLOAD_OFFSET: u64 = 512;
+
+const OPTEE_RPC_CMD_FS: u32 = 2;
+
+const OPTEE_RPC_CMD_GET_TIME: u32 = 3;
+
+const OPTEE_RPC_CMD_NOTIFICATION: u32 = 4;
+
+const OPTEE_RPC_CMD_SUSPEND: u32 = 5;
+
+const OPTEE_RPC_NOTIFICATION_WAIT: u64 = 0;
+
+const OPTEE_RPC_NOTIFICATION_SEND: u64 = 1;
+
+const OPTEE_RPC_FS_OPEN: u64 = 0;
+
+const OPTEE_RPC_FS_CREATE: u64 = 1;
+
+const OPTEE_RPC_FS_CLOSE: u64 = 2;
+
+const OPTEE_RPC_FS_READ: u64 = 3;
+
+const OPTEE_RPC_FS_WRITE: u64 = 4;
+
+const OPTEE_RPC_FS_REMOVE: u64 = 6;
+
+/// The result of a request that isn't answered.
+const NO_RESULT: u32 = 0xffff0000;
+
+/// Writes a request into the message buffer at `buffer`, which the normal world knows by `cookie`: the argument,
+/// all of its head and its parameters, and then the payload. It changes no other byte, and takes no memory.
+///
+/// The payload is the name's bytes of a request that names a file, the `len` bytes of a write, and else empty.
+pub fn put_request(lane: &mut Lane, buffer: u64, cookie: u64, rpc: &Rpc, payload: &[u8])
+    requires in_ram { IsInRam buffer MESSAGE_BYTES }
+    requires request { IsRequest rpc.now }
+    requires payload { IsPayloadOf rpc.now payload.now }
+    ensures { lane.new ≡ lane_after lane.old (request_writes buffer cookie rpc.now payload.now) }
+{
+    let arg = request_arg(buffer, cookie, rpc);
+    lane.write(buffer, write_arg(&arg).as_slice());
+    if !payload.is_empty() {
+        lane.write(buffer + PAYLOAD_OFFSET, payload);
+    }
+}
+
+/// The argument of a request.
+fn request_arg(buffer: u64, cookie: u64, rpc: &Rpc) -> MsgArg
+    requires { IsInRam buffer MESSAGE_BYTES }
+    ensures arg { result ≡ request_arg buffer cookie rpc.now }
+    // The payload has a place in the message.
+    ensures room { (payload : List ℕ) → IsRequest rpc.now → IsPayloadOf rpc.now payload
+        → length payload ≤ MAX_PAYLOAD }
+{
+    match rpc {
+        Rpc::Time => argument(OPTEE_RPC_CMD_GET_TIME, &[value_out()]),
+        Rpc::Sleep(key) => notification(OPTEE_RPC_NOTIFICATION_WAIT, *key),
+        Rpc::Wake(key) => notification(OPTEE_RPC_NOTIFICATION_SEND, *key),
+        Rpc::Suspend(ms) => argument(OPTEE_RPC_CMD_SUSPEND, &[value_in(u64::from(*ms), 0, 0)]),
+        Rpc::FsOpen(name) => opening(OPTEE_RPC_FS_OPEN, buffer, cookie, name),
+        Rpc::FsCreate(name) => opening(OPTEE_RPC_FS_CREATE, buffer, cookie, name),
+        Rpc::FsClose(fd) => files(OPTEE_RPC_FS_CLOSE, *fd, 0, &[]),
+        Rpc::FsRead { fd, offset, len } => {
+            let payload = payload_out(buffer, cookie, u64::from(*len));
+            files(OPTEE_RPC_FS_READ, *fd, *offset, &[payload])
+        }
+        Rpc::FsWrite { fd, offset, len } => {
+            let payload = payload_in(buffer, cookie, u64::from(*len));
+            files(OPTEE_RPC_FS_WRITE, *fd, *offset, &[payload])
+        }
+        Rpc::FsRemove(name) => {
+            let payload = payload_in(buffer, cookie, name_len(name));
+            files(OPTEE_RPC_FS_REMOVE, 0, 0, &[payload])
+        }
+    }
+}
+
+/// To sleep, or to wake who sleeps.
+fn notification(function: u64, key: u32) -> MsgArg
+    ensures { result ≡ argument 4 (value_in function key 0 ∷ []) }
+{
+    argument(
+        OPTEE_RPC_CMD_NOTIFICATION,
+        &[value_in(function, u64::from(key), 0)],
+    )
+}
+
+/// To open a file of a name, or to create it.
+fn opening(function: u64, buffer: u64, cookie: u64, name: &FileName) -> MsgArg
+    requires { IsInRam buffer MESSAGE_BYTES }
+    ensures arg { result ≡ files function 0 0
+        (payload_in buffer cookie (length name.now) ∷ value_out ∷ []) }
+    ensures room { length name.now ≤ MAX_PAYLOAD }
+{
+    let payload = payload_in(buffer, cookie, name_len(name));
+    files(function, 0, 0, &[payload, value_out()])
+}
+
+/// A function of the file system, with the parameters behind its own.
+fn files(function: u64, fd: u64, offset: u64, others: &[MsgParam]) -> MsgArg
+    requires { length others.now ≤ 2 }
+    ensures { result ≡ files function fd offset others.now }
+{
+    let mut params = ArrayVec::<MsgParam, 3>::new();
+    params.push(value_in(function, fd, offset));
+    params.try_extend_from_slice(others).unwrap();
+    argument(OPTEE_RPC_CMD_FS, params.as_slice())
+}
+
+/// A command with its parameters.
+fn argument(cmd: u32, params: &[MsgParam]) -> MsgArg
+    requires { length params.now ≤ 6 }
+    ensures { result ≡ argument cmd params.now }
+{
+    let head = MsgHead {
+        cmd,
+        func: 0,
+        session: 0,
+        cancel_id: 0,
+        pad: 0,
+        ret: NO_RESULT,
+        origin: 0,
+        count: params.len() as u32,
+    };
+    match ArrayVec::try_from(params) {
+        Ok(params) => MsgArg { head, params },
+        Err(_) => unreachable!(),
+    }
+}
+
+/// How many bytes a name has.
+fn name_len(name: &FileName) -> u64
+    ensures len { result ≡ length name.now }
+    ensures room { result ≤ MAX_PAYLOAD }
+{
+    name.bytes().len() as u64
+}
+
+/// Numbers for the normal world.
+fn value_in(p: u64, q: u64, s: u64) -> MsgParam
+    ensures { result ≡ value_in p q s }
+{
+    param(ParamKind::ValueIn, p, q, s)
+}
+
+/// Numbers from the normal world.
+fn value_out() -> MsgParam
+    ensures { result ≡ value_out }
+{
+    param(ParamKind::ValueOut, 0, 0, 0)
+}
+
+/// `len` bytes of the payload, for the normal world.
+fn payload_in(buffer: u64, cookie: u64, len: u64) -> MsgParam
+    requires { IsInRam buffer MESSAGE_BYTES }
+    ensures { result ≡ payload_in buffer cookie len }
+{
+    param(ParamKind::TmemIn, buffer + PAYLOAD_OFFSET, len, cookie)
+}
+
+/// `len` bytes of the payload, from the normal world.
+fn payload_out(buffer: u64, cookie: u64, len: u64) -> MsgParam
+    requires { IsInRam buffer MESSAGE_BYTES }
+    ensures { result ≡ payload_out buffer cookie len }
+{
+    param(ParamKind::TmemOut, buffer + PAYLOAD_OFFSET, len, cookie)
+}
+
+fn param(kind: ParamKind, p: u64, q: u64, s: u64) -> MsgParam
+    ensures { result ≡ param kind p q s }
+{
+    MsgParam {
+        kind,
+        meta: false,
+        noncontig: false,
+        cache: 0,
+        p,
+        q,
+        s,
+    }
+}
