@@ -1,1 +1,4 @@
 pub mod NumberedObjects
+pub mod Names
+pub mod Overwriting
+pub mod Standing

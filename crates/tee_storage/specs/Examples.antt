@@ -3,6 +3,8 @@ use Rattle.std.specs.Prelude.{◌≡◌, ℕ, [], ◌∷◌, Some, None, replica
 use Rattle.base.specs.NumberMap.{NumberMap, get, insert, remove}
 use Rattle.tee_storage.specs.declared.handle.Handle.{Handle}
 use Rattle.tee_storage.specs.Handles.{lowest_free, numbered_from}
+use Rattle.tee_storage.specs.OpenObjectExamples.{OpenObjectExamples}
+use Rattle.tee_storage.specs.OpeningExamples.{OpeningExamples}
 
 -- an object of ten bytes, read up to the third; its file is named `1/A`
 abbrev pub object : ℕ → Handle
@@ -11,7 +13,7 @@ object fd = record { name = 0x31 ∷ 0x2f ∷ 0x41 ∷ []; fd = fd; length = 10;
 abbrev pub two : NumberMap Handle
 two = (0, object 70) ∷ (2, object 72) ∷ []
 
-pub record Examples : Type 0 where
+pub record HandleExamples : Type 0 where
   pub none_open : lowest_free [] ≡ Some 0
   pub between : lowest_free two ≡ Some 1
   pub after : lowest_free (insert two 1 (object 71)) ≡ Some 3
@@ -21,3 +23,8 @@ pub record Examples : Type 0 where
   pub absent : get two 1 ≡ None
   pub taken : remove two 0 ≡ (2, object 72) ∷ []
   pub listed : numbered_from 0 (Some (object 70) ∷ None ∷ Some (object 72) ∷ None ∷ []) ≡ two
+
+pub record Examples : Type 0 where
+  pub handles : HandleExamples
+  pub opening : OpeningExamples
+  pub open_objects : OpenObjectExamples

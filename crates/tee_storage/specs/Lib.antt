@@ -1,2 +1,12 @@
 pub mod Examples
 pub mod Handles
+pub mod ObjectCalls
+pub mod ObjectFiles
+pub mod OpenObjectExamples
+pub mod OpenObjects
+pub mod Opening
+pub mod OpeningExamples
+pub mod Program
+pub mod Replies
+pub mod States
+pub mod Transfers

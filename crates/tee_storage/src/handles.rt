@@ -1,9 +1,10 @@
-ghost use Rattle.std.specs.Prelude.{◌≡◌, ◌<◌, [], None, is_none, position, slice_set};
+ghost use Rattle.std.specs.Prelude.{◌≡◌, ◌<◌, [], None, is_none, IfSome, OnSome, length, position, slice_set};
 ghost use Rattle.std.specs.Option.{option_copied};
 ghost use Rattle.base.specs.NumberMap.{get, insert, remove};
 ghost use Rattle.tee_storage.specs.Handles.{AreHandles, lowest_free, object_at};
 
 use crate::handle::Handle;
+use crate::object_file::copy_of;
 use std::marker::Model;
 
 /// The most objects that an instance has open at a time.
@@ -43,14 +44,30 @@ impl Handles {
     /// The object of the handle, if it is open.
     pub fn get(&self, number: u32) -> Option<&Handle>
         ensures handle { option_copied result ≡ get self.now number }
+        ensures in_range { OnSome result (number < 8) }
         ensures handles { AreHandles self.now }
     {
         self.objects.get(number as usize)?.as_ref()
     }
 
+    /// A copy of the object of the handle, if it is open. Takes no memory.
+    pub(crate) fn copy_of(&self, number: u32) -> Option<Handle>
+        ensures handle { result ≡ get self.now number }
+        ensures in_range { OnSome result (number < 8) }
+    {
+        let object = self.get(number)?;
+        Some(Handle {
+            name: copy_of(&object.name),
+            fd: object.fd,
+            length: object.length,
+            position: object.position,
+        })
+    }
+
     /// The lowest number of which no object is open, if there is one.
     pub fn lowest_free(&self) -> Option<u32>
-        ensures { result ≡ lowest_free self.now }
+        ensures lowest { result ≡ lowest_free self.now }
+        ensures in_range { IfSome result (λ number. number < 8) }
     {
         let number = first_none(&self.objects)?;
         Some(number as u32)
@@ -75,7 +92,8 @@ impl Handles {
 
 /// Where the first place without an object stands.
 fn first_none(objects: &[Option<Handle>]) -> Option<usize>
-    ensures { result ≡ position is_none objects.now }
+    ensures place { result ≡ position is_none objects.now }
+    ensures inside { IfSome result (λ place. place < length objects.now) }
 {
     objects.iter().position(|object| object.is_none())
 }

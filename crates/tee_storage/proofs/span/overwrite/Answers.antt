@@ -1,0 +1,9 @@
+use Rattle.std.proofs.Common.{ℕ, ◌+◌, List, set, get_or, ap, ◌∙◌, refl}
+use Rattle.tee_storage.proofs.Overwriting.{one_more}
+use Rattle.tee_storage.proofs.span.overwrite.Goals as goal
+
+pub loop-number-preserved : goal.loop-number-preserved
+loop-number-preserved g c =
+    c.set.ensures
+    ∙ ap (λ (bytes : List ℕ). set bytes (c.args.start + c.loop-number.number) (get_or c.args.bytes.now c.loop-number.number 0)) c.loop-number.invariant
+    ∙ one_more _ _ c.args.start c.loop-number.number _ _ refl c.loop-number-test.true c.requires.within refl

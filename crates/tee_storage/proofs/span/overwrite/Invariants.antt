@@ -1,0 +1,6 @@
+use Rattle.std.proofs.Common.{◌≡◌, take}
+use Rattle.tee_storage.specs.ObjectFiles.{overwritten}
+use Rattle.tee_storage.proofs.span.overwrite.Given as goal
+
+abbrev pub invariant-loop-number : goal.invariant-loop-number
+invariant-loop-number g l = g.M.Span.bytes l.span ≡ overwritten (g.M.Span.bytes l.initial.span) l.start (take l.number l.bytes)

@@ -1,0 +1,47 @@
+//! The memory range that a call on an object names.
+ghost use Rattle.std.specs.Prelude.{◌≡◌, ℕ, ◌<◌, ◌≤◌, ◌+◌, ◌^◌, List, length, take, drop, slice_get, slice_set, Some};
+ghost use Rattle.tee_storage.specs.ObjectFiles.{overwritten};
+
+use arrayvec::ArrayVec;
+use rpc_msgs::{MAX_PAYLOAD, Payload};
+
+/// The bytes of a memory range, of which the first stands at 0.
+pub trait Span {
+    /// What it means: the bytes.
+    ghost bytes: { Self → List ℕ };
+
+    /// The byte at a place.
+    fn get(&self, at: u32) -> u8
+        requires { at < length (bytes self.now) }
+        ensures { slice_get (bytes self.now) at ≡ Some result };
+
+    /// Writes the byte at a place and no other.
+    fn set(&mut self, at: u32, byte: u8)
+        requires { at < length (bytes self.old) }
+        ensures { bytes self.new ≡ slice_set (bytes self.old) at byte };
+}
+
+/// The bytes of a piece of the range.
+pub(crate) fn bytes_of<M: Span>(span: &M, start: u32, len: u32) -> Payload
+    requires few { len ≤ MAX_PAYLOAD }
+    requires within { start + len ≤ length (M.bytes span.now) }
+    requires fits { start + len < 2 ^ 32 }
+    ensures { result ≡ take len (drop start (M.bytes span.now)) }
+{
+    let mut bytes = ArrayVec::<u8, MAX_PAYLOAD>::new();
+    for place in 0..len {
+        bytes.push(span.get(start + place));
+    }
+    Payload::of(bytes.as_slice())
+}
+
+/// Writes bytes over the range from a place on.
+pub(crate) fn overwrite<M: Span>(span: &mut M, start: u32, bytes: &[u8])
+    requires within { start + length bytes.now ≤ length (M.bytes span.old) }
+    requires fits { start + length bytes.now < 2 ^ 32 }
+    ensures { M.bytes span.new ≡ overwritten (M.bytes span.old) start bytes.now }
+{
+    for (number, byte) in bytes.iter().enumerate() {
+        span.set(start + number as u32, *byte);
+    }
+}

@@ -1,0 +1,130 @@
+ghost use Rattle.std.specs.Prelude.{◌≡◌, None, ℕ, [], ◌∷◌, ◌++◌, List, length, Some};
+ghost use Rattle.base.specs.NumberMap.{NumberMap};
+ghost use Rattle.rpc_msgs.specs.Answer.{RpcAnswer, Replied, NoBuffer};
+ghost use Rattle.rpc_msgs.specs.declared.rpc.Rpc.{Rpc};
+ghost use Rattle.ta_params.specs.declared.codes.TheConstants.{TEE_ERROR_OUT_OF_MEMORY};
+ghost use Rattle.ta_params.specs.declared.object_call.ObjectCall.{ObjectCall};
+ghost use Rattle.tee_storage.specs.declared.handle.Handle.{Handle};
+ghost use Rattle.tee_storage.specs.ObjectCalls.{Serving, panic_code, panic_of, program_of, range_len, serving};
+ghost use Rattle.tee_storage.specs.Program.{now_at};
+ghost use Rattle.tee_storage.specs.States.{CanGoOn, IsReady, StandsFor, left_at, onward};
+
+use crate::handles::Handles;
+use crate::span::Span;
+use crate::step::StorageStep;
+use crate::turn::Turn;
+use crate::waits::Waits;
+use crate::{closing, opening, reading, writing};
+use rpc_msgs::RpcReply;
+use std::mem;
+use ta_params::ObjectCall;
+use ta_params::codes::*;
+use uuid::Uuid;
+
+/// A call on an object that has asked the normal world for something, as plain data: what it goes on with once a
+/// reply is there. This project's own.
+#[derive(Debug, Drop)]
+pub struct ObjectState {
+    pub(crate) waits: Waits,
+}
+
+impl ObjectState {
+    /// Begins a call of the application of this UUID. The span is the memory range that the call names: the id
+    /// of a create or an open, the bytes of a read or a write, and else empty. Takes no memory.
+    ///
+    /// Panics with BAD_HANDLE exactly where the call's handle isn't open.
+    pub fn start<M: Span>(
+        call: ObjectCall,
+        uuid: Uuid,
+        span: &M,
+        handles: &mut Handles,
+    ) -> (ObjectState, StorageStep)
+        requires { length (M.bytes span.now) ≡ range_len call }
+        ensures panics { panic_code result.1 ≡ panic_of call handles.old }
+        ensures ready { CanGoOn result.0 (M.bytes span.now) }
+        ensures stands { StandsFor result.0 call uuid (M.bytes span.now) handles.old []
+            (record { step = result.1; range = M.bytes span.now; objects = handles.new }) }
+    {
+        let turn = begun(call, uuid, span, handles);
+        (ObjectState { waits: turn.waits }, turn.step)
+    }
+
+    /// Goes on with the reply to what the last step asked for, over the span and the handles as that step left
+    /// them. The bytes of a read are in the span as soon as their piece is. Takes no memory.
+    pub fn answer<M: Span>(
+        &mut self,
+        reply: &RpcReply,
+        span: &mut M,
+        handles: &mut Handles,
+    ) -> StorageStep
+        requires { CanGoOn self.old (M.bytes span.old) }
+        ensures no_panic { panic_code result ≡ None }
+        ensures ready { CanGoOn self.new (M.bytes span.new) }
+        ensures stands { (call : ObjectCall) (uuid range : List ℕ) (objects : NumberMap Handle) (answers : List RpcAnswer)
+            (rpc : Rpc) (payload : List ℕ)
+            → StandsFor self.old call uuid range objects answers
+            (record { step = StorageStep.Ask rpc payload; range = M.bytes span.old; objects = handles.old })
+            → StandsFor self.new call uuid range objects (answers ++ Replied reply.now ∷ [])
+            (record { step = result; range = M.bytes span.new; objects = handles.new }) }
+    {
+        let waits = mem::replace(&mut self.waits, Waits::Nothing);
+        let turn = answered(waits, reply, span, handles);
+        self.waits = turn.waits;
+        turn.step
+    }
+
+    /// Ends the call, since there is no buffer for what it asks: its result. Takes no memory.
+    pub fn no_buffer(self) -> u32
+        ensures code { result ≡ TEE_ERROR_OUT_OF_MEMORY }
+        ensures serves { (call : ObjectCall) (uuid range now : List ℕ) (objects then : NumberMap Handle)
+            (answers : List RpcAnswer) (rpc : Rpc) (payload : List ℕ)
+            → StandsFor self call uuid range objects answers
+            (record { step = StorageStep.Ask rpc payload; range = now; objects = then })
+            → serving call uuid range objects (answers ++ NoBuffer ∷ [])
+            ≡ Some (record { step = StorageStep.Done result 0; range = now; objects = then }) }
+    {
+        TEE_ERROR_OUT_OF_MEMORY
+    }
+}
+
+/// What a call begins with.
+fn begun<M: Span>(call: ObjectCall, uuid: Uuid, span: &M, handles: &mut Handles) -> Turn
+    requires { length (M.bytes span.now) ≡ range_len call }
+    ensures left { program_of call uuid (now_at (M.bytes span.now) handles.old)
+        ≡ left_at result (now_at (M.bytes span.now) handles.new) }
+    ensures ready { IsReady result.waits (M.bytes span.now) }
+    ensures panics { panic_code result.step ≡ panic_of call handles.old }
+{
+    match call {
+        ObjectCall::Create { len, .. } => opening::create(uuid, len, span, handles),
+        ObjectCall::Opened { len, .. } => opening::open(uuid, len, span, handles),
+        ObjectCall::Read { handle, len, .. } => reading::read(handle, len, handles),
+        ObjectCall::Write { handle, len, .. } => writing::write(handle, len, span, handles),
+        ObjectCall::Seek { handle, position } => closing::seek(handle, position, handles),
+        ObjectCall::Close { handle } => closing::close(handle, handles),
+        ObjectCall::Delete { handle } => closing::delete(handle, handles),
+    }
+}
+
+/// What a call goes on with after a reply.
+fn answered<M: Span>(waits: Waits, reply: &RpcReply, span: &mut M, handles: &mut Handles) -> Turn
+    requires { IsReady waits (M.bytes span.old) }
+    ensures left { onward waits (now_at (M.bytes span.old) handles.old) reply.now
+        ≡ left_at result (now_at (M.bytes span.new) handles.new) }
+    ensures ready { IsReady result.waits (M.bytes span.new) }
+    ensures no_panic { panic_code result.step ≡ None }
+{
+    match waits {
+        Waits::Nothing => Turn::ended(0),
+        Waits::Created(new) => opening::created(new, reply),
+        Waits::HeaderWritten(new, fd) => opening::header_written(new, fd, reply, handles),
+        Waits::Opened(new) => opening::file_opened(new, reply),
+        Waits::HeaderRead(new, fd) => opening::header_read(new, fd, reply, handles),
+        Waits::PieceRead(transfer) => reading::piece_read(transfer, reply, span, handles),
+        Waits::PieceWritten(transfer) => writing::piece_written(transfer, reply, span, handles),
+        Waits::LengthWritten(transfer) => writing::length_written(transfer, reply, handles),
+        Waits::Closed(handle) => closing::closed(handle, reply, handles),
+        Waits::ClosedToDelete(handle, name) => closing::closed_to_delete(handle, name, handles),
+        Waits::Removed => closing::removed(reply),
+    }
+}
