@@ -1,0 +1,4 @@
+pub mod Examples
+pub mod Native
+pub mod Relation
+pub mod Table

@@ -1,0 +1,6 @@
+ghost use Rattle.native_tas.specs.Examples.{Examples};
+
+/// Examples of the definitions, worked out by hand.
+pub fn worked_examples()
+    ensures { Examples }
+{}

@@ -1,0 +1,100 @@
+ghost use Rattle.std.specs.Prelude.{◌≡◌, ◌≢◌, ◌≤◌, ◌↔◌, [], ◌∷◌, ◌++◌, length, map, position, false, true, Err, OnOk, OnErr, AllPairs};
+ghost use Rattle.std.specs.Option.{option_copied, option_map};
+ghost use Rattle.std.specs.Str.{bytes_eq};
+ghost use Rattle.std.proofs.Props.{props};
+ghost use Rattle.native_tas.specs.Native.{entry_of, find_entry, has};
+ghost use Rattle.native_tas.specs.declared.natives.AddFault.TheVariants.{Full, Repeated};
+ghost use Rattle.native_tas.specs.declared.natives.TheConstants.{MAX_NATIVES};
+
+use crate::native::Native;
+use arrayvec::ArrayVec;
+use std::alloc::Global;
+use uuid::Uuid;
+
+/// The most native applications that are kept.
+pub const MAX_NATIVES: usize = 16;
+
+/// Why an application was not added.
+#[derive(Clone, Copy, Debug, PartialEq, Eq)]
+pub enum AddFault {
+    /// An application with this UUID is kept.
+    Repeated,
+    /// As many as may be are kept.
+    Full,
+    Memory,
+}
+
+/// The native applications, in the order in which they were added, each with a UUID of its own. Contracts
+/// see the list of each one's UUID and relation.
+#[derive(Drop)]
+pub struct Natives {
+    kept: Vec<Native>,
+    ghost few: { length kept.items ≤ MAX_NATIVES },
+    ghost apart: { AllPairs (λ earlier later. earlier.uuid ≢ later.uuid) kept.items } by { Prim.hlevel props },
+}
+
+impl Natives {
+    ghost use Rattle.native_tas.specs.Table.{entries};
+
+    /// No applications. Takes no memory.
+    pub fn new(alloc: Global) -> Natives
+        ensures { entries result ≡ [] }
+    {
+        Natives {
+            kept: Vec::new(alloc),
+        }
+    }
+
+    /// Adds an application behind the others. Repeated exactly where its UUID is there, else Full exactly
+    /// where sixteen are kept. After a refusal the table is as it was.
+    pub fn add(&mut self, native: Native) -> Result<(), AddFault>
+        ensures ok { OnOk result (entries self.new ≡ entries self.old ++ entry_of native ∷ []) }
+        ensures err { OnErr result (entries self.new ≡ entries self.old) }
+        ensures repeated { (result ≡ Err Repeated) ↔ (has (entries self.old) native.uuid ≡ true) }
+        ensures full { (result ≡ Err Full)
+            ↔ (has (entries self.old) native.uuid ≡ false) × (16 ≤ length (entries self.old)) }
+    {
+        if self.has(&native.uuid) {
+            return Err(AddFault::Repeated);
+        }
+        if self.kept.len() >= MAX_NATIVES {
+            return Err(AddFault::Full);
+        }
+        match self.kept.push(native) {
+            Ok(()) => Ok(()),
+            Err(_refused) => Err(AddFault::Memory),
+        }
+    }
+
+    /// The UUIDs of the applications, in their order. Takes no memory.
+    pub fn uuids(&self) -> ArrayVec<Uuid, MAX_NATIVES>
+        ensures order { result.items ≡ map (λ entry. entry.0) (entries self.now) }
+        ensures apart { AllPairs (λ earlier later. earlier ≢ later) result.items }
+    {
+        let mut uuids = ArrayVec::new();
+        for native in &self.kept {
+            uuids.push(native.uuid);
+        }
+        uuids
+    }
+
+    /// The application with this UUID.
+    pub fn get(&self, uuid: &Uuid) -> Option<&Native>
+        ensures { option_map entry_of (option_copied result) ≡ find_entry (entries self.now) uuid.now }
+    {
+        let place = place_among(self.uuids().as_slice(), uuid)?;
+        Some(&self.kept[place])
+    }
+
+    fn has(&self, uuid: &Uuid) -> bool
+        ensures { result ≡ has (entries self.now) uuid.now }
+    {
+        self.get(uuid).is_some()
+    }
+}
+
+fn place_among(uuids: &[Uuid], uuid: &Uuid) -> Option<usize>
+    ensures { result ≡ position (λ kept. bytes_eq kept uuid.now) uuids.now }
+{
+    uuids.iter().position(|kept| *kept == *uuid)
+}
