@@ -4,11 +4,16 @@ use Rattle.std.specs.Option.{option_map, option_or, option_and_then}
 use Rattle.ta_isa.specs.declared.image.Image.{Image}
 use Rattle.ta_step.specs.Outcome.{Outcome}
 use Rattle.ta_step.specs.Outcome as outcome
-use Rattle.ta_step.specs.State.{State}
+use Rattle.base.specs.NumberMap.{NumberMap}
+use Rattle.ta_step.specs.Outcome.{asking}
+use Rattle.ta_step.specs.State.{State, is_cancelled}
+use Rattle.ta_step.specs.SystemCalls.{answered}
+use Rattle.tee_storage.specs.declared.handle.Handle.{Handle}
+use Rattle.job_model.specs.Asking.{Asked, Asking, Needs, Gives, Bad, Ask, ask}
 use Rattle.ta_step.specs.Step.{step}
 use Rattle.job_model.specs.Point.{Point}
-use Rattle.job_model.specs.Job.{Body, Machine, Nothing, Job, at_point}
-use Rattle.job_model.specs.Steps.{JobStop, Advance, Goes, Stops, returned, still_to_come, followed, advanced, advance_of, advance, where_it_goes, after, ended_at_once, stop_behind, stop_at, After, Stop, Grant, Left, Stopped, one_later, granted_behind, run_for, granted, IsGrant}
+use Rattle.job_model.specs.Job.{Body, Machine, Native, Nothing, Job, at_point}
+use Rattle.job_model.specs.Steps.{with_machine, on_from, with_bytes, made, JobStop, Advance, Goes, Stops, returned, still_to_come, followed, advanced, advance_of, advance, where_it_goes, after, ended_at_once, stop_behind, stop_at, After, Stop, Grant, Left, Stopped, one_later, granted_behind, run_for, granted, IsGrant}
 use Rattle.std.specs.Prelude.{List, [], ◌∷◌}
 
 after_advance : (m n : ℕ) (o : Option Advance) → ((job : Job) → after (m + n) job ≡ option_and_then (after n) (after m job))
@@ -41,6 +46,7 @@ stop_at-sum job left (suc m) n h =
 at_once : (job : Job) (body : Body) (rest : Advance → Option JobStop) (first second : JobStop)
     → ended_at_once job body ≡ Some first → option_and_then rest (advance_of job body) ≡ Some second → ⊥
 at_once job (Machine image point machine) rest first second e f = cc
+at_once job (Native relation func) rest first second e f = cc
 at_once job Nothing rest first second e f = cc
 
 stops_at_one : (m n : ℕ) (why first second : JobStop) (rest other : Job → Option JobStop)
@@ -73,6 +79,22 @@ followed_runs job next image point machine (first ∷ behind) e =
     let same : mid ≡ next = cc in
     ap (λ (j : Job). stop_at 0 j) (sym same)
 
+on_from_runs : (job next : Job) (image : Image) (point : Point) (machine : State) (asked : Asked) (objects : NumberMap Handle) (came : Asking)
+    → on_from job image point machine asked objects came ≡ Goes next → stop_at 0 next ≡ None
+on_from_runs job next image point machine asked objects (Needs wanted payload) e = absurd cc
+on_from_runs job next image point machine asked objects (Gives r0 r1 r2) e =
+    let mid : Job = with_machine job image point (answered asked.request r0 r1 r2 machine) objects None in
+    let same : mid ≡ next = cc in
+    ap (λ (j : Job). stop_at 0 j) (sym same)
+on_from_runs job next image point machine asked objects (Bad code) e = absurd cc
+
+served_runs : (job next : Job) (image : Image) (point : Point) (machine : State) (asked : Asked) (came : Option Ask)
+    → option_map (λ (c : Ask). on_from job image point (with_bytes machine asked.request c.range) asked c.objects c.next) came ≡ Some (Goes next)
+    → stop_at 0 next ≡ None
+served_runs job next image point machine asked None e = absurd cc
+served_runs job next image point machine asked (Some came) e =
+    on_from_runs job next image point (with_bytes machine asked.request came.range) asked came.objects came.next cc
+
 advanced_runs : (job next : Job) (image : Image) (point : Point) (machine : State) (o : Option Outcome)
     → option_and_then (advanced job image point machine) o ≡ Some (Goes next) → stop_at 0 next ≡ None
 advanced_runs job next image point machine None e = absurd cc
@@ -83,11 +105,14 @@ advanced_runs job next image point machine (Some (outcome.Goes state)) e =
 advanced_runs job next image point machine (Some (outcome.Returns r0 r1)) e =
     followed_runs (returned job point machine.params r0 r1) next image point machine (still_to_come point r0 job.points) cc
 advanced_runs job next image point machine (Some (outcome.Panics code)) e = absurd cc
-advanced_runs job next image point machine (Some (outcome.Asks request)) e = absurd cc
+advanced_runs job next image point machine (Some (outcome.Asks request)) e =
+    let asked : Asked = made job machine request in
+    served_runs job next image point (asking request machine) asked (ask job.uuid (is_cancelled (asking request machine)) asked) e
 
 -- a job that goes on has something to run
 advance_runs : (job next : Job) (body : Body) → advance_of job body ≡ Some (Goes next) → stop_at 0 next ≡ None
 advance_runs job next (Machine image point machine) e = advanced_runs job next image point machine (step image.code machine) e
+advance_runs job next (Native relation func) e = absurd cc
 advance_runs job next Nothing e = absurd cc
 
 no_later : (n m : ℕ) (job : Job) (o : Option Advance) → stop_at 0 job ≡ None

@@ -1,1 +1,3 @@
 pub mod JobSteps
+pub mod Programs
+pub mod TakenAnswers

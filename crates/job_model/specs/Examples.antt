@@ -1,5 +1,5 @@
 -- Jobs of small applications, worked out by hand.
-use Rattle.std.specs.Prelude.{◌≡◌, ℕ, true, false, List, [], ◌∷◌, Option, Some, None, Bool, ◌++◌, replicate}
+use Rattle.std.specs.Prelude.{◌≡◌, ℕ, true, false, List, [], ◌∷◌, length, Option, Some, None, Bool, ◌++◌, replicate}
 use Rattle.std.specs.Option.{option_and_then, option_map}
 use Rattle.base.specs.NumberMap.{NumberMap}
 use Rattle.ta_isa.specs.declared.image.Image.{Image}
@@ -9,9 +9,16 @@ use Rattle.ta_params.specs.declared.copied_params.CopiedParams.{CopiedParams}
 use Rattle.ta_step.specs.State.{State}
 use Rattle.ta_step.specs.Examples.{instr, sum_code, params_of, somebody}
 use Rattle.tee_storage.specs.declared.handle.Handle.{Handle}
-use Rattle.job_model.specs.Point.{Create, Open, Invoke, Close, Destroy, no_params}
-use Rattle.job_model.specs.Job.{Job, of_tee, of_application, idle, at_point, Body, Machine, Nothing}
-use Rattle.job_model.specs.Steps.{Ends, Panics, Left, Stopped, after, stop_at, granted}
+use Rattle.job_model.specs.Point.{Point, Create, Open, Invoke, Close, Destroy, no_params}
+use Rattle.job_model.specs.Job.{Job, of_tee, of_application, idle, at_point, native_at, seen, Body, Machine, Native, Nothing}
+use Rattle.native_tas.specs.declared.relation.Relation.TheVariants.{Fixed}
+use Rattle.rpc_msgs.specs.Answer.{RpcAnswer, Replied, NoBuffer}
+use Rattle.rpc_msgs.specs.declared.rpc.Rpc.{Rpc}
+use Rattle.rpc_msgs.specs.declared.rpc.Rpc.TheVariants as rpc
+use Rattle.rpc_msgs.specs.declared.rpc.RpcReply.{RpcReply}
+use Rattle.ta_params.specs.declared.call_result.CallResult.{CallResult}
+use Rattle.job_model.specs.Asking.{Gives, asks_time}
+use Rattle.job_model.specs.Steps.{JobStop, Ends, Panics, Asks, Advance, Goes, Stops, Grant, Left, Stopped, after, stop_at, granted, given}
 
 abbrev pub uuid : List ℕ
 uuid = 1 ∷ 2 ∷ 3 ∷ []
@@ -75,6 +82,102 @@ closes image = at_point image memory false (idle uuid somebody 20 one_object no_
 abbrev pub closes_alone : Image → Job
 closes_alone image = at_point image memory false (idle uuid somebody 20 one_object no_params) Close []
 
+-- one that asks, and returns the result: for the time, for a wait of `func` milliseconds, and for the object of the id
+-- of one byte at address 0 to be made
+abbrev pub asks_for : ℕ → Image
+asks_for number = record {
+  flags = 0;
+  pages = 1;
+  entries = 0 ∷ 0 ∷ 1 ∷ 0 ∷ 0 ∷ [];
+  code = instr 0x18 0 0 0 0 ∷ instr 0x18 0 0 0 number ∷ instr 0x18 0 0 0 0 ∷ [];
+}
+
+-- a wait that may be cancelled
+abbrev pub waits : Image
+waits = record {
+  flags = 0;
+  pages = 1;
+  entries = 0 ∷ 0 ∷ 1 ∷ 0 ∷ 0 ∷ [];
+  code =
+      instr 0x18 0 0 0 0 ∷ instr 0x02 3 0 0 0 ∷ instr 0x18 0 0 0 10 ∷ instr 0x02 0 3 0 0 ∷ instr 0x18 0 0 0 12
+      ∷ instr 0x18 0 0 0 0 ∷ [];
+}
+
+-- an invoke of the function 250 of such an application, whose cancellation was seen or not
+abbrev pub invokes_of : Bool → Image → Job
+invokes_of was_seen image = at_point image memory was_seen (idle uuid somebody 20 [] no_params) (Invoke 250) []
+
+-- an invoke of a function with this context, of an instance that has an object open
+abbrev pub invokes_with : ℕ → ℕ → Image → Job
+invokes_with func context image = at_point image memory false (idle uuid somebody context one_object no_params) (Invoke func) []
+
+-- the same object, at another position
+abbrev pub object_at : ℕ → NumberMap Handle
+object_at position = (3, record { name = 0x31 ∷ []; fd = 70; length = 10; position = position }) ∷ []
+
+-- what an invoke ends with that leaves this memory and these objects
+abbrev pub ends_as : ℕ → ℕ → List ℕ → NumberMap Handle → JobStop
+ends_as code context bytes objects =
+    Ends (record { result = of_application code; context = context; memory = bytes; objects = objects; params = no_params; is_last = false })
+
+-- an entry point of a native application that answers each invoke so
+abbrev pub native : ℕ → Point → List Point → Job
+native result point behind = native_at (Fixed result) (idle uuid somebody 20 [] terms) point behind
+
+-- what a grant asks for, after how many steps
+abbrev pub wanted_in : JobStop → Option (Rpc × List ℕ)
+wanted_in (Ends end) = None
+wanted_in (Panics code) = None
+wanted_in (Asks wanted payload left) = Some (wanted, payload)
+
+abbrev pub wanted_after : Option Grant → Option (ℕ × Option (Rpc × List ℕ))
+wanted_after None = None
+wanted_after (Some (Left job)) = None
+wanted_after (Some (Stopped n why)) = Some (n, wanted_in why)
+
+-- the job that it leaves there
+abbrev pub left_in : JobStop → Option Job
+left_in (Ends end) = None
+left_in (Panics code) = None
+left_in (Asks wanted payload left) = Some left
+
+abbrev pub left_after : Option Grant → Option Job
+left_after None = None
+left_after (Some (Left job)) = None
+left_after (Some (Stopped n why)) = left_in why
+
+-- a request answered so, and many steps more
+abbrev pub where_it_runs : Advance → Option Grant
+where_it_runs (Goes job) = granted 1000 job
+where_it_runs (Stops why) = Some (Stopped 0 why)
+
+abbrev pub answered_with : RpcAnswer → Option Job → Option Grant
+answered_with answer job = option_and_then where_it_runs (option_and_then (given answer) job)
+
+-- what has been answered is answered once more
+abbrev pub answered_again : Advance → Option Advance
+answered_again (Goes job) = given NoBuffer job
+answered_again (Stops why) = Some (Stops why)
+
+-- the result that it ends with, and the r1 of its return, which its invoke gives nobody
+abbrev pub result_in : JobStop → Option CallResult
+result_in (Ends end) = Some end.result
+result_in (Panics code) = None
+result_in (Asks wanted payload left) = None
+
+abbrev pub result_after : Option Grant → Option CallResult
+result_after None = None
+result_after (Some (Left job)) = None
+result_after (Some (Stopped n why)) = result_in why
+
+-- a reply that brings a piece of a file
+abbrev pub piece : List ℕ → RpcReply
+piece bytes = record { ret = 0; v = 0; w = 0; size = length bytes; bytes = bytes }
+
+-- a reply to a request for the time
+abbrev pub time_reply : ℕ → ℕ → ℕ → RpcReply
+time_reply ret v w = record { ret = ret; v = v; w = w; size = 0; bytes = [] }
+
 -- what is left of a job, and of its machine
 abbrev pub still : Option Job → Option (List ℕ × CopiedParams)
 still job = option_map (λ j. (j.uuid, j.params)) job
@@ -82,6 +185,7 @@ still job = option_map (λ j. (j.uuid, j.params)) job
 -- the machine that runs
 abbrev pub machine_in : Body → Option State
 machine_in (Machine image point machine) = Some machine
+machine_in (Native relation func) = None
 machine_in Nothing = None
 
 -- a machine at its start, masked, with these in r0, r1 and r2, at this place and with the flag so
@@ -95,6 +199,7 @@ starts_with first place seen = record {
   login = somebody;
   masked = true;
   cancelled = seen;
+  asked = None;
 }
 
 pub record Examples : Type 0 where
@@ -123,4 +228,38 @@ pub record Examples : Type 0 where
   pub closed_alone : stop_at 3 (closes_alone (returns 0 0 7 8)) ≡ Some (Ends (record { result = of_tee 0; context = 20; memory = memory; objects = one_object; params = no_params; is_last = false }))
   -- nothing has ended after no steps
   pub ended_already : stop_at 0 nothing_to_run ≡ Some (Ends (record { result = of_tee 0; context = 20; memory = []; objects = one_object; params = no_params; is_last = false }))
+  -- the time: seconds below 2^32, and milliseconds
+  pub time_asks : wanted_after (granted 9 (invokes_of false (asks_for 11))) ≡ Some (1, Some (rpc.Time, []))
+  pub time_told : asks_time (Replied (time_reply 0 0x100000005 2500000) ∷ []) ≡ Some (Gives 0 5 2)
+  pub time_refused : asks_time (Replied (time_reply 7 5 2500000) ∷ []) ≡ Some (Gives 0xffff0000 0 0)
+  pub time_without_buffer : asks_time (NoBuffer ∷ []) ≡ Some (Gives 0xffff000c 0 0)
+  pub time_asks_once : asks_time (NoBuffer ∷ NoBuffer ∷ []) ≡ None
+  pub time_answered : result_after (answered_with (Replied (time_reply 0 5 2500000)) (left_after (granted 9 (invokes_of false (asks_for 11))))) ≡ Some (of_application 0)
+  -- a wait, by a function that goes to r0
+  pub wait_asks : wanted_after (granted 9 (invokes_of false waits)) ≡ Some (4, Some (rpc.Suspend 250, []))
+  pub wait_answered : result_after (answered_with (Replied (time_reply 9 0 0)) (left_after (granted 9 (invokes_of false waits)))) ≡ Some (of_application 0)
+  pub wait_without_buffer : result_after (answered_with NoBuffer (left_after (granted 9 (invokes_of false waits)))) ≡ Some (of_application 0xffff000c)
+  -- that is cancelled before it asks, or by the time of the answer, where the application is to be told
+  pub wait_cancelled : result_after (granted 9 (invokes_of true waits)) ≡ Some (of_application 0xffff0002)
+  pub wait_cancelled_later : result_after (answered_with (Replied (time_reply 0 0 0)) (option_map seen (left_after (granted 9 (invokes_of false waits))))) ≡ Some (of_application 0xffff0002)
+  pub wait_masked : result_after (answered_with (Replied (time_reply 0 0 0)) (option_map seen (left_after (granted 9 (invokes_of false (asks_for 12)))))) ≡ Some (of_application 0)
+  -- objects: a seek needs nothing of the normal world, an application that names an object which isn't open panics,
+  -- and so does one whose bytes aren't all there; a read stores what comes
+  pub seek : stop_at 2 (invokes_with 3 20 (asks_for 17)) ≡ Some (ends_as 0 20 memory (object_at 0))
+  pub seek_of_none : stop_at 1 (invokes_with 4 20 (asks_for 17)) ≡ Some (Panics 5)
+  pub read_past_memory : stop_at 1 (invokes_with 3 9 (asks_for 15)) ≡ Some (Panics 1)
+  pub read_asks : wanted_after (granted 9 (invokes_with 3 4 (asks_for 15))) ≡ Some (1, Some (rpc.FsRead 70 11 4, []))
+  pub read_stores : answered_with (Replied (piece (5 ∷ 6 ∷ 7 ∷ 8 ∷ []))) (left_after (granted 9 (invokes_with 3 4 (asks_for 15))))
+      ≡ Some (Stopped 1 (ends_as 0 4 (5 ∷ 6 ∷ 7 ∷ 8 ∷ 9 ∷ 0 ∷ 0 ∷ 0 ∷ []) (object_at 7)))
+  pub read_fails : answered_with NoBuffer (left_after (granted 9 (invokes_with 3 4 (asks_for 15))))
+      ≡ Some (Stopped 1 (ends_as 0xffff000c 4 memory (object_at 3)))
+  -- an answer that nothing was asked for, and a second one
+  pub answered_twice : option_map (λ a. answered_again a) (option_and_then (given NoBuffer) (left_after (granted 9 (invokes_of false waits)))) ≡ Some None
+  pub nothing_asked : given NoBuffer (invokes_of false waits) ≡ None
+  -- a native application: an invoke is one step that gives its answer, and all else has ended after none
+  pub native_invoked : stop_at 1 (native 9 (Invoke 5) []) ≡ Some (Ends (record { result = of_application 9; context = 20; memory = []; objects = []; params = terms; is_last = false }))
+  pub native_not_at_once : stop_at 0 (native 9 (Invoke 5) []) ≡ None
+  pub native_opened : stop_at 0 (native 9 Create (Open ∷ Destroy ∷ [])) ≡ Some (Ends (record { result = of_tee 0; context = 20; memory = []; objects = []; params = terms; is_last = false }))
+  pub native_closed : stop_at 0 (native 9 Close (Destroy ∷ [])) ≡ Some (Ends (record { result = of_tee 0; context = 20; memory = []; objects = []; params = terms; is_last = true }))
+  pub native_closed_alone : stop_at 0 (native 9 Close []) ≡ Some (Ends (record { result = of_tee 0; context = 20; memory = []; objects = []; params = terms; is_last = false }))
   pub ended_whatever_is_granted : granted 5 nothing_to_run ≡ Some (Stopped 0 (Ends (record { result = of_tee 0; context = 20; memory = []; objects = one_object; params = no_params; is_last = false })))

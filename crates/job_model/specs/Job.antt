@@ -1,18 +1,21 @@
 -- A job: what a call has its application do. This project's own.
-use Rattle.std.specs.Prelude.{ℕ, Bool, List, []}
+use Rattle.std.specs.Prelude.{ℕ, Bool, true, List, [], Option, None}
 use Rattle.base.specs.NumberMap.{NumberMap}
+use Rattle.native_tas.specs.declared.relation.Relation.{Relation}
 use Rattle.ta_isa.specs.declared.image.Image.{Image}
 use Rattle.ta_params.specs.declared.call_result.CallResult.{CallResult}
 use Rattle.ta_params.specs.declared.copied_params.CopiedParams.{CopiedParams}
 use Rattle.ta_params.specs.declared.login.Login.{Login}
 use Rattle.tee_storage.specs.declared.handle.Handle.{Handle}
 use Rattle.ta_step.specs.State.{State, started}
-use Rattle.job_model.specs.Point.{Point, number_of, first_registers, params_at}
+use Rattle.job_model.specs.Asking.{Asked}
+use Rattle.job_model.specs.Point.{Point, Create, Open, Invoke, Close, Destroy, number_of, first_registers, params_at}
 
--- what runs: the machine of an image at one of its entry points; or nothing, of a dead instance. An application
--- without an image will be a case of its own
+-- what runs: the machine of an image at one of its entry points; the function of a native application, for an
+-- invoke; or nothing, of a dead instance and for the other entry points of a native application
 pub data Body : Type 0 where
   Machine : (image : Image) (point : Point) (machine : State) → Body
+  Native : (relation : Relation) (func : ℕ) → Body
   Nothing : Body
 
 -- a job
@@ -26,6 +29,8 @@ pub record Job : Type 0 where
   pub context : ℕ
   -- the instance's open objects, by their handles
   pub objects : NumberMap Handle
+  -- what its machine has asked for and has no answer to
+  pub asked : Option Asked
   -- the call's parameters, as they are while no entry point has them
   pub params : CopiedParams
   -- the result so far
@@ -44,7 +49,7 @@ of_application code = record { result = code; origin = 4 }
 -- a job that has nothing to run: TEE_SUCCESS
 abbrev pub idle : List ℕ → Login → ℕ → NumberMap Handle → CopiedParams → Job
 idle uuid login context objects params =
-    record { body = Nothing; uuid = uuid; login = login; context = context; objects = objects; params = params; result = of_tee 0; points = [] }
+    record { body = Nothing; uuid = uuid; login = login; context = context; objects = objects; asked = None; params = params; result = of_tee 0; points = [] }
 
 -- the machine at the start of an entry point: masked, with the cancellation flag as the call has seen it
 abbrev pub machine_at : Image → Point → List ℕ → Bool → Job → State
@@ -57,3 +62,21 @@ machine_at image point memory seen job =
 abbrev pub at_point : Image → List ℕ → Bool → Job → Point → List Point → Job
 at_point image memory seen job point behind =
     record job { body = Machine image point (machine_at image point memory seen job); points = behind }
+
+-- the same job, whose call has seen that it was cancelled
+abbrev pub seen_in : Body → Body
+seen_in (Machine image point machine) = Machine image point (record machine { cancelled = true })
+seen_in (Native relation func) = Native relation func
+seen_in Nothing = Nothing
+
+abbrev pub seen : Job → Job
+seen job = record job { body = seen_in job.body }
+
+-- the job of a native application at this entry point, with these behind it: an invoke calls its function, and the
+-- others have nothing to run
+abbrev pub native_at : Relation → Job → Point → List Point → Job
+native_at relation job Create behind = job
+native_at relation job Open behind = job
+native_at relation job (Invoke func) behind = record job { body = Native relation func; points = behind }
+native_at relation job Close behind = record job { points = behind }
+native_at relation job Destroy behind = job

@@ -1,4 +1,6 @@
 pub mod Point
+pub mod Asking
 pub mod Job
 pub mod Steps
+pub mod Taken
 pub mod Examples

@@ -1,17 +1,24 @@
 -- What so many steps make of a job, and its stop. This project's own.
-use Rattle.std.specs.Prelude.{◌≡◌, ℕ, zero, suc, ◌≤◌, ◌==◌, Bool, true, false, if◌then◌else◌, List, [], ◌∷◌, Option, Some, None}
+use Rattle.std.specs.Prelude.{◌≡◌, ℕ, zero, suc, ◌≤◌, ◌==◌, Bool, true, false, if◌then◌else◌, List, [], ◌∷◌, ◌++◌, Option, Some, None}
 use Rattle.std.specs.Option.{option_map, option_or, option_and_then}
 use Rattle.base.specs.NumberMap.{NumberMap}
 use Rattle.ta_isa.specs.declared.image.Image.{Image}
 use Rattle.ta_params.specs.declared.call_result.CallResult.{CallResult}
 use Rattle.ta_params.specs.declared.copied_params.CopiedParams.{CopiedParams}
-use Rattle.ta_step.specs.Outcome.{Outcome}
+use Rattle.native_tas.specs.Relation.{answer_of}
+use Rattle.rpc_msgs.specs.Answer.{RpcAnswer}
+use Rattle.rpc_msgs.specs.declared.rpc.Rpc.{Rpc}
+use Rattle.ta_step.specs.Addresses.{store}
+use Rattle.ta_step.specs.Outcome.{Outcome, asking}
 use Rattle.ta_step.specs.Outcome as outcome
-use Rattle.ta_step.specs.State.{State}
+use Rattle.ta_step.specs.State.{State, is_cancelled}
 use Rattle.ta_step.specs.Step.{step}
+use Rattle.ta_step.specs.SystemCalls.{answered}
+use Rattle.ta_step.specs.declared.stop.Request.{Request}
 use Rattle.tee_storage.specs.declared.handle.Handle.{Handle}
 use Rattle.job_model.specs.Point.{Point, Create, Open, Invoke, Close, Destroy}
-use Rattle.job_model.specs.Job.{Body, Machine, Nothing, Job, of_application, at_point}
+use Rattle.job_model.specs.Asking.{Asked, Asking, Needs, Gives, Bad, Ask, ask, span_of, range_of}
+use Rattle.job_model.specs.Job.{Body, Machine, Native, Nothing, Job, of_application, at_point}
 
 -- what an ended job leaves
 pub record End : Type 0 where
@@ -23,10 +30,14 @@ pub record End : Type 0 where
   -- the instance is at its end: its create failed, or its destroy has run
   pub is_last : Bool
 
--- why a job stops: it has ended, or an entry point panicked
+-- why a job stops
 pub data JobStop : Type 0 where
+  -- it has ended
   Ends : End → JobStop
+  -- an entry point panicked
   Panics : (code : ℕ) → JobStop
+  -- it asks the normal world for this, with these bytes, and leaves this job
+  Asks : (wanted : Rpc) (payload : List ℕ) (left : Job) → JobStop
 
 -- what one step comes to: the job goes on, or it stops
 pub data Advance : Type 0 where
@@ -70,20 +81,66 @@ abbrev pub followed : Job → Image → Point → State → List Point → Advan
 followed job image point machine [] = Stops (Ends (end_of job machine.memory (ends_instance point)))
 followed job image point machine (next ∷ behind) = Goes (at_point image machine.memory machine.cancelled job next behind)
 
+-- ---- requests
+
+-- the job with this machine, these open objects, and this request on its way
+abbrev pub with_machine : Job → Image → Point → State → NumberMap Handle → Option Asked → Job
+with_machine job image point machine objects asked =
+    record job { body = Machine image point machine; objects = objects; asked = asked }
+
+-- on from what a request comes to, with memory and open objects as they then are
+abbrev pub on_from : Job → Image → Point → State → Asked → NumberMap Handle → Asking → Advance
+on_from job image point machine asked objects (Needs wanted payload) =
+    Stops (Asks wanted payload (with_machine job image point machine objects (Some asked)))
+on_from job image point machine asked objects (Gives r0 r1 r2) =
+    Goes (with_machine job image point (answered asked.request r0 r1 r2 machine) objects None)
+on_from job image point machine asked objects (Bad code) = Stops (Panics code)
+
+-- the machine with other bytes where its request names some
+abbrev pub with_bytes : State → Request → List ℕ → State
+with_bytes machine request bytes = let span = span_of request in store machine span.0 bytes
+
+-- on with a machine that has asked, by the answers so far
+abbrev pub served : Job → Image → Point → State → Asked → Option Advance
+served job image point machine asked =
+    let on = λ (came : Ask). on_from job image point (with_bytes machine asked.request came.range) asked came.objects came.next in
+    option_map on (ask job.uuid (is_cancelled machine) asked)
+
+-- a request as the machine makes it
+abbrev pub made : Job → State → Request → Asked
+made job machine request =
+    record { request = request; range = range_of request machine; objects = job.objects; answers = [] }
+
+-- the job when what it asked for is answered so
+abbrev pub answered_in : Job → RpcAnswer → Body → Option Asked → Option Advance
+answered_in job answer (Machine image point machine) (Some asked) =
+    served job image point machine (record asked { answers = asked.answers ++ answer ∷ [] })
+answered_in job answer (Machine image point machine) None = None
+answered_in job answer (Native relation func) asked = None
+answered_in job answer Nothing asked = None
+
+abbrev pub given : RpcAnswer → Job → Option Advance
+given answer job = answered_in job answer job.body job.asked
+
 -- ---- steps
 
--- what an outcome of the machine is for its job. That a machine asks for something isn't defined yet: no valid
--- image has a system call that does
+-- what an outcome of the machine is for its job: a request that needs nothing of the normal world is answered at once
 abbrev pub advanced : Job → Image → Point → State → Outcome → Option Advance
 advanced job image point machine (outcome.Goes next) = Some (Goes (record job { body = Machine image point next }))
 advanced job image point machine (outcome.Returns r0 r1) =
     Some (followed (returned job point machine.params r0 r1) image point machine (still_to_come point r0 job.points))
 advanced job image point machine (outcome.Panics code) = Some (Stops (Panics code))
-advanced job image point machine (outcome.Asks request) = None
+advanced job image point machine (outcome.Asks request) =
+    served job image point (asking request machine) (made job machine request)
+
+-- the answer of a native application to an invoke, in one step
+abbrev pub native_end : Job → ℕ × CopiedParams → JobStop
+native_end job answer = Ends (end_of (record job { result = of_application answer.0; params = answer.1 }) [] false)
 
 -- what the next step of what runs comes to; nothing has none
 abbrev pub advance_of : Job → Body → Option Advance
 advance_of job (Machine image point machine) = option_and_then (advanced job image point machine) (step image.code machine)
+advance_of job (Native relation func) = Some (Stops (native_end job (answer_of relation func job.params)))
 advance_of job Nothing = None
 
 -- what the next step comes to
@@ -100,10 +157,16 @@ abbrev pub after : ℕ → Job → Option Job
 after zero job = Some job
 after (suc n) job = option_and_then (where_it_goes (after n)) (advance job)
 
--- a job with nothing to run has ended after no steps
+-- a destroy is among the entry points to come
+abbrev pub has_destroy : List Point → Bool
+has_destroy [] = false
+has_destroy (point ∷ points) = true
+
+-- a job with nothing to run has ended after no steps, a destroy with it where one was to come
 abbrev pub ended_at_once : Job → Body → Option JobStop
 ended_at_once job (Machine image point machine) = None
-ended_at_once job Nothing = Some (Ends (end_of job [] false))
+ended_at_once job (Native relation func) = None
+ended_at_once job Nothing = Some (Ends (end_of job [] (has_destroy job.points)))
 
 -- the stop of so many more steps after this one
 abbrev pub stop_behind : (Job → Option JobStop) → ℕ → Advance → Option JobStop

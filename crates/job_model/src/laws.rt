@@ -3,6 +3,7 @@ ghost use Rattle.std.specs.Prelude.{◌≡◌, ℕ, ◌+◌, Some};
 ghost use Rattle.std.specs.Option.{option_and_then};
 ghost use Rattle.job_model.specs.Examples.{Examples};
 ghost use Rattle.job_model.specs.Job.{Job};
+ghost use Rattle.job_model.specs.Taken.{AnswersAreTaken};
 ghost use Rattle.job_model.specs.Steps.{After, Grant, IsGrant, JobStop, Stop, after, granted, stop_at};
 
 /// So many steps and then so many more are their sum.
@@ -24,6 +25,12 @@ pub fn one_stop()
 /// A grant leaves the job after all of its steps where none of them stops it, and else comes to its stop.
 pub fn grants_take_on()
     ensures { (job : Job) (n : ℕ) (grant : Grant) → granted n job ≡ Some grant → IsGrant job n grant }
+{}
+
+/// A job that stops with a request waits for its answer, and takes each answer: it goes on, or asks for something
+/// else.
+pub fn answers_are_taken()
+    ensures { AnswersAreTaken }
 {}
 
 /// Examples of the definitions, worked out by hand.

@@ -10,5 +10,7 @@ mod laws;
 mod phase;
 
 pub use call_kind::CallKind;
-pub use laws::{grants_take_on, one_stop, steps_add_up, stops_add_up, worked_examples};
+pub use laws::{
+    answers_are_taken, grants_take_on, one_stop, steps_add_up, stops_add_up, worked_examples,
+};
 pub use phase::Phase;

@@ -1,0 +1,121 @@
+-- What an application's request comes to: what it asks the normal world for, or what the application gets. By the
+-- TEE Internal Core API, "Wait Function" and "Time Functions"; its numbers are this project's own.
+use Rattle.std.specs.Prelude.{ℕ, ◌/◌, ◌%◌, ◌^◌, ◌==◌, Bool, if◌then◌else◌, List, [], ◌∷◌, Option, Some, None, take, drop}
+use Rattle.std.specs.Option.{option_map}
+use Rattle.base.specs.NumberMap.{NumberMap}
+use Rattle.rpc_msgs.specs.Answer.{RpcAnswer, Replied, NoBuffer}
+use Rattle.rpc_msgs.specs.declared.rpc.Rpc.{Rpc}
+use Rattle.rpc_msgs.specs.declared.rpc.Rpc.TheVariants as rpc
+use Rattle.rpc_msgs.specs.declared.rpc.RpcReply.{RpcReply}
+use Rattle.ta_params.specs.declared.codes.TheConstants.{TEE_SUCCESS, TEE_ERROR_GENERIC, TEE_ERROR_CANCEL, TEE_ERROR_OUT_OF_MEMORY}
+use Rattle.ta_params.specs.declared.object_call.ObjectCall.{ObjectCall}
+use Rattle.ta_params.specs.declared.object_call.ObjectCall.TheVariants.{Create, Opened, Read, Write, Seek, Close, Delete}
+use Rattle.ta_step.specs.Addresses.{range_at}
+use Rattle.ta_step.specs.State.{State}
+use Rattle.ta_step.specs.declared.addresses.TheConstants.{RANGE}
+use Rattle.ta_step.specs.declared.stop.Request.{Request}
+use Rattle.ta_step.specs.declared.stop.Request.TheVariants as request
+use Rattle.tee_storage.specs.declared.handle.Handle.{Handle}
+use Rattle.tee_storage.specs.declared.step.StorageStep.{StorageStep}
+use Rattle.tee_storage.specs.declared.step.StorageStep.TheVariants as storage
+use Rattle.tee_storage.specs.ObjectCalls.{Serving, serving}
+
+-- a request on its way: the bytes of memory that it names and the open objects, as they were when the application
+-- asked, and the answers that the normal world has given since
+pub record Asked : Type 0 where
+  pub request : Request
+  pub range : List ℕ
+  pub objects : NumberMap Handle
+  pub answers : List RpcAnswer
+
+-- what it comes to next
+pub data Asking : Type 0 where
+  -- the normal world is asked for this, with these bytes
+  Needs : (wanted : Rpc) (payload : List ℕ) → Asking
+  -- the application gets these in r0, r1 and r2, as many as its request gives
+  Gives : (r0 r1 r2 : ℕ) → Asking
+  -- the application panics
+  Bad : (code : ℕ) → Asking
+
+-- the same, with the bytes of memory and the open objects as they then are
+pub record Ask : Type 0 where
+  pub next : Asking
+  pub range : List ℕ
+  pub objects : NumberMap Handle
+
+-- ---- time and wait
+
+-- seconds and milliseconds of a time that is told in seconds and nanoseconds
+abbrev pub told_time : RpcReply → Asking
+told_time reply =
+    if reply.ret == 0
+    then Gives TEE_SUCCESS (reply.v % 2 ^ 32) ((reply.w % 2 ^ 32) / 1000000)
+    else Gives TEE_ERROR_GENERIC 0 0
+
+abbrev pub asks_time : List RpcAnswer → Option Asking
+asks_time [] = Some (Needs rpc.Time [])
+asks_time (Replied reply ∷ []) = Some (told_time reply)
+asks_time (NoBuffer ∷ []) = Some (Gives TEE_ERROR_OUT_OF_MEMORY 0 0)
+asks_time (answer ∷ another ∷ more) = None
+
+-- the result of a wait, which no reply changes
+abbrev pub waited : RpcAnswer → ℕ
+waited (Replied reply) = TEE_SUCCESS
+waited NoBuffer = TEE_ERROR_OUT_OF_MEMORY
+
+-- a call that is cancelled by the time of the answer has waited no longer
+abbrev pub asks_wait : ℕ → Bool → List RpcAnswer → Option Asking
+asks_wait ms cancelled [] = Some (Needs (rpc.Suspend ms) [])
+asks_wait ms cancelled (answer ∷ []) = Some (Gives (if cancelled then TEE_ERROR_CANCEL else waited answer) 0 0)
+asks_wait ms cancelled (answer ∷ another ∷ more) = None
+
+-- ---- objects
+
+-- where the bytes stand that a call on an object names, and how many they are
+abbrev pub object_span : ObjectCall → ℕ × ℕ
+object_span (Create id len) = (id, len)
+object_span (Opened id len) = (id, len)
+object_span (Read handle addr len) = (addr, len)
+object_span (Write handle addr len) = (addr, len)
+object_span (Seek handle position) = (0, 0)
+object_span (Close handle) = (0, 0)
+object_span (Delete handle) = (0, 0)
+
+abbrev pub object_asking : StorageStep → Asking
+object_asking (storage.Ask wanted payload) = Needs wanted payload
+object_asking (storage.Done result value) = Gives result value 0
+object_asking (storage.Panic code) = Bad code
+
+abbrev pub object_ask : Serving → Ask
+object_ask s = record { next = object_asking s.step; range = s.range; objects = s.objects }
+
+-- ---- the request
+
+-- where the bytes stand that a request names, and how many they are
+abbrev pub span_of : Request → ℕ × ℕ
+span_of request.Time = (0, 0)
+span_of (request.Suspend ms) = (0, 0)
+span_of (request.Object call) = object_span call
+
+-- so many bytes from an address on
+abbrev pub bytes_at : State → ℕ → ℕ → List ℕ
+bytes_at machine addr count = take count (drop (addr % RANGE) (range_at machine addr))
+
+-- those that a request names
+abbrev pub range_of : Request → State → List ℕ
+range_of wanted machine = let span = span_of wanted in bytes_at machine span.0 span.1
+
+-- of a request that changes neither memory nor objects
+abbrev pub unchanged : Asked → Asking → Ask
+unchanged asked next = record { next = next; range = asked.range; objects = asked.objects }
+
+-- what a request of this application comes to, where the call is cancelled or not by the time of the last answer;
+-- none where there are answers behind the last one that it asks for
+abbrev pub comes_to : List ℕ → Bool → Asked → Request → Option Ask
+comes_to uuid cancelled asked request.Time = option_map (unchanged asked) (asks_time asked.answers)
+comes_to uuid cancelled asked (request.Suspend ms) = option_map (unchanged asked) (asks_wait ms cancelled asked.answers)
+comes_to uuid cancelled asked (request.Object call) =
+    option_map object_ask (serving call uuid asked.range asked.objects asked.answers)
+
+abbrev pub ask : List ℕ → Bool → Asked → Option Ask
+ask uuid cancelled asked = comes_to uuid cancelled asked asked.request

@@ -1,0 +1,48 @@
+-- A job that has asked for something takes each answer. This project's own.
+use Rattle.std.specs.Prelude.{ℕ, Bool, List, Option, Some, None}
+use Rattle.rpc_msgs.specs.Answer.{RpcAnswer}
+use Rattle.rpc_msgs.specs.declared.rpc.Rpc.{Rpc}
+use Rattle.job_model.specs.Asking.{Asked, Asking, Needs, Gives, Bad, Ask, ask}
+use Rattle.job_model.specs.Job.{Body, Machine, Native, Nothing, Job, seen}
+use Rattle.job_model.specs.Steps.{Ends, Panics, Asks, Advance, Goes, Stops, Stop, given}
+
+-- a request to the normal world comes next
+abbrev pub IsNeeded : Asking → Type 0
+IsNeeded (Needs wanted payload) = Unit {0}
+IsNeeded (Gives r0 r1 r2) = ⊥
+IsNeeded (Bad code) = ⊥
+
+-- what was asked for comes to one, whether the call is cancelled or not
+abbrev pub IsNeededBy : Option Ask → Type 0
+IsNeededBy None = ⊥
+IsNeededBy (Some came) = IsNeeded came.next
+
+abbrev pub IsUnanswered : List ℕ → Option Asked → Type 0
+IsUnanswered uuid None = ⊥
+IsUnanswered uuid (Some asked) = (cancelled : Bool) → IsNeededBy (ask uuid cancelled asked)
+
+-- a machine runs
+abbrev pub HasMachine : Body → Type 0
+HasMachine (Machine image point machine) = Unit {0}
+HasMachine (Native relation func) = ⊥
+HasMachine Nothing = ⊥
+
+-- the job waits for the answer to a request
+pub record WaitsForAnswer (job : Job) : Type 0 where
+  pub machine : HasMachine job.body
+  pub asked : IsUnanswered job.uuid job.asked
+
+-- the job goes on, or asks for something else
+abbrev pub IsTaken : Option Advance → Type 0
+IsTaken None = ⊥
+IsTaken (Some (Goes job)) = Unit {0}
+IsTaken (Some (Stops (Ends end))) = ⊥
+IsTaken (Some (Stops (Panics code))) = ⊥
+IsTaken (Some (Stops (Asks wanted payload left))) = WaitsForAnswer left
+
+-- a job that stops with a request waits for its answer, also once it has seen that its call was cancelled, and takes
+-- each answer
+pub record AnswersAreTaken : Type 0 where
+  pub stops : (job left : Job) (n : ℕ) (wanted : Rpc) (payload : List ℕ) → Stop job n (Asks wanted payload left) → WaitsForAnswer left
+  pub sees : (job : Job) → WaitsForAnswer job → WaitsForAnswer (seen job)
+  pub takes : (job : Job) (answer : RpcAnswer) → WaitsForAnswer job → IsTaken (given answer job)
