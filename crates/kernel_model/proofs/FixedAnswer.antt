@@ -5,9 +5,9 @@ use Rattle.std.specs.Option.{option_and_then}
 use Rattle.ns_ram.specs.declared.read.Read.{Read}
 use Rattle.smc_abi.specs.Call.{call_of}
 use Rattle.smc_abi.specs.declared.answer.Answer.{Answer}
-use Rattle.ta_isa.specs.declared.boot.Boot.{Boot}
+use Rattle.kernel_model.specs.Application.{Booted}
 use Rattle.kernel_model.specs.Argument.{reg}
-use Rattle.kernel_model.specs.Decision.{Decision, Answers, Takes}
+use Rattle.kernel_model.specs.Decision.{Decision, Answers, Takes, Cancels}
 use Rattle.kernel_model.specs.Entry.{decision_of, entered, after_entry}
 use Rattle.kernel_model.specs.Exit.{exit, exit_of, goes_out}
 use Rattle.kernel_model.specs.Kernel.{Processor, Outside, Inside, Fixed, InSlot, Kernel, with_processor}
@@ -31,8 +31,12 @@ after_decision kernel next cpu steps regs answer (Takes slot call after) e fixed
     let is_set = ap (λ (k : Kernel). slice_get k.processors cpu) e ∙ fixed in
     let inside = set_then_read kernel.processors cpu (Inside regs steps (InSlot slot)) (Inside regs steps (Fixed answer)) is_set in
     absurd (no_slot regs steps slot answer inside)
+after_decision kernel next cpu steps regs answer (Cancels slot call session cancel_id) e fixed =
+    let is_set = ap (λ (k : Kernel). slice_get k.processors cpu) e ∙ fixed in
+    let inside = set_then_read kernel.processors cpu (Inside regs steps (InSlot slot)) (Inside regs steps (Fixed answer)) is_set in
+    absurd (no_slot regs steps slot answer inside)
 
-fixed_entry : (boot : Boot) (kernel next : Kernel) (cpu steps : ℕ) (regs : List ℕ) (reads : List Read) (answer : Answer)
+fixed_entry : (boot : Booted) (kernel next : Kernel) (cpu steps : ℕ) (regs : List ℕ) (reads : List Read) (answer : Answer)
     → after_entry boot kernel cpu regs steps reads ≡ Some next → IsFixed next cpu regs steps answer
     → next ≡ with_processor kernel cpu (Inside regs steps (Fixed answer))
 fixed_entry boot kernel next cpu steps regs reads answer e fixed =
@@ -43,7 +47,7 @@ fixed_exit : (kernel : Kernel) (cpu steps : ℕ) (regs : List ℕ) (answer : Ans
     → IsFixed kernel cpu regs steps answer → exit kernel cpu ≡ Some (goes_out kernel cpu regs answer [])
 fixed_exit kernel cpu steps regs answer fixed = ap (λ (p : Option Processor). option_and_then (exit_of kernel cpu) p) fixed
 
-fixed_in_a_row : (boot : Boot) (kernel next : Kernel) (cpu steps : ℕ) (regs : List ℕ) (reads : List Read) (answer : Answer)
+fixed_in_a_row : (boot : Booted) (kernel next : Kernel) (cpu steps : ℕ) (regs : List ℕ) (reads : List Read) (answer : Answer)
     → slice_get kernel.processors cpu ≡ Some Outside
     → after_entry boot kernel cpu regs steps reads ≡ Some next → IsFixed next cpu regs steps answer
     → with_processor next cpu Outside ≡ kernel

@@ -48,3 +48,46 @@ pub reading-mapped : {A B : Type 0} (reader : Reader A) (f : A → B) (reads : L
 reading-mapped reader f reads result e =
     option_and_then_some if_used_up (over_reads (reader >>= (λ value. done (f value))) reads) result e
     (λ step there onward. let found = over_reads-mapped reader f reads step there in (found.0, found.1 ∙ used_up step result onward))
+
+-- ---- what holds of each value that a reader can have
+
+abbrev pub AllOf : {A : Type 0} → (A → Type 0) → Reader A → Type 0
+AllOf P (done value) = P value
+AllOf P (want_bytes addr len next) = (got : List ℕ) → AllOf P (next got)
+AllOf P (want_words addr most test next) = (got : List ℕ) → AllOf P (next got)
+
+pub AllOf-mapped : {A B : Type 0} (reader : Reader A) (f : A → B) (P : B → Type 0) → ((a : A) → P (f a)) → AllOf P (reader >>= (λ a. done (f a)))
+AllOf-mapped (done value) f P all = all value
+AllOf-mapped (want_bytes addr len next) f P all = λ got. AllOf-mapped (next got) f P all
+AllOf-mapped (want_words addr most test next) f P all = λ got. AllOf-mapped (next got) f P all
+
+pub AllOf-onward : {A : Type 0} (reader : Reader A) (P Q : A → Type 0) → ((a : A) → P a → Q a) → AllOf P reader → AllOf Q reader
+AllOf-onward (done value) P Q onward all = onward value all
+AllOf-onward (want_bytes addr len next) P Q onward all = λ got. AllOf-onward (next got) P Q onward (all got)
+AllOf-onward (want_words addr most test next) P Q onward all = λ got. AllOf-onward (next got) P Q onward (all got)
+
+-- a value of which something holds, and what a function gives for it
+pub record Found {A B : Type 0} (f : A → B) (P : A → Type 0) (result : B) : Type 0 where
+  pub value : A
+  pub holds : P value
+  pub gives : f value ≡ result
+
+over_reads-all : {A B : Type 0} (reader : Reader A) (f : A → B) (P : A → Type 0) → AllOf P reader → (reads : List Read) (step : B × List Read)
+    → over_reads (reader >>= (λ value. done (f value))) reads ≡ Some step → Found f P step.0
+over_reads-all (done value) f P all reads step e =
+    let here : _ × List Read = (f value, reads) in
+    let same : here ≡ step = cc in
+    record { value = value; holds = all; gives = ap (λ s. s.0) same }
+over_reads-all (want_bytes addr len next) f P all reads step e =
+    option_and_then_some _ (next_bytes addr len reads) step e (λ got there onward. over_reads-all (next got.0) f P (all got.0) got.1 step onward)
+over_reads-all (want_words addr most test next) f P all reads step e =
+    option_and_then_some _ (next_words addr most test reads) step e (λ got there onward. over_reads-all (next got.0) f P (all got.0) got.1 step onward)
+
+-- what a mapped reader makes of reads is the function of a value that it can have
+pub reading-all : {A B : Type 0} (reader : Reader A) (f : A → B) (P : A → Type 0) → AllOf P reader → (reads : List Read) (result : B)
+    → reading (reader >>= (λ value. done (f value))) reads ≡ Some result → Found f P result
+reading-all reader f P all reads result e =
+    option_and_then_some if_used_up (over_reads (reader >>= (λ value. done (f value))) reads) result e
+    (λ step there onward.
+    let found = over_reads-all reader f P all reads step there in
+    record { value = found.value; holds = found.holds; gives = found.gives ∙ used_up step result onward })

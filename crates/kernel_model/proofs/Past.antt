@@ -5,20 +5,20 @@ use Rattle.std.specs.Option.{option_and_then, option_map}
 use Rattle.std.proofs.lemmas.Slice.Eq.{bytes_eq-Decides}
 use Rattle.event_journal.specs.declared.event.Event.{Event}
 use Rattle.event_journal.specs.declared.event.Event.TheVariants as event
-use Rattle.ta_isa.specs.declared.boot.Boot.{Boot}
+use Rattle.kernel_model.specs.Application.{Booted}
 use Rattle.kernel_model.specs.Exit.{Exited, exit}
 use Rattle.kernel_model.specs.History.{after_event, after_events, exit_to}
 use Rattle.kernel_model.specs.Kernel.{Kernel, first_kernel}
 use Rattle.kernel_model.specs.Laws.{ExitsFollow}
 
-onward : (boot : Boot) (more : List Event) (o : Option Kernel) (events : List Event)
+onward : (boot : Booted) (more : List Event) (o : Option Kernel) (events : List Event)
     → ((kernel : Kernel) → after_events boot kernel (events ++ more) ≡ option_and_then (λ k. after_events boot k more) (after_events boot kernel events))
     → option_and_then (λ k. after_events boot k (events ++ more)) o
     ≡ option_and_then (λ k. after_events boot k more) (option_and_then (λ k. after_events boot k events) o)
 onward boot more None events adds = refl
 onward boot more (Some kernel) events adds = adds kernel
 
-pub after_events-append : (boot : Boot) (kernel : Kernel) (events more : List Event)
+pub after_events-append : (boot : Booted) (kernel : Kernel) (events more : List Event)
     → after_events boot kernel (events ++ more) ≡ option_and_then (λ k. after_events boot k more) (after_events boot kernel events)
 after_events-append boot kernel [] more = refl
 after_events-append boot kernel (first ∷ events) more =
@@ -34,7 +34,7 @@ registers_told : (regs : List ℕ) (f : Kernel → Option Kernel) (o : Option Ex
 registers_told regs f None some = absurd cc
 registers_told regs f (Some exited) some = ap Some (exited_by regs exited f (bytes_eq exited.regs regs) refl some)
 
-told_after : (boot : Boot) (behind : List Event) (cpu : ℕ) (regs : List ℕ) (o : Option Kernel)
+told_after : (boot : Booted) (behind : List Event) (cpu : ℕ) (regs : List ℕ) (o : Option Kernel)
     → IsSome (option_and_then (λ k. option_and_then (λ next. after_events boot next behind) (option_and_then (exit_to regs) (exit k cpu))) o)
     → option_map (λ exited. exited.regs) (option_and_then (λ k. exit k cpu) o) ≡ Some regs
 told_after boot behind cpu regs None some = absurd cc

@@ -1,6 +1,6 @@
 -- A suspended slot holds what the last exit from it left there, for the client of its call.
 use Rattle.std.proofs.Common.{◌≡◌, ℕ, zero, suc, ◌+◌, List, [], ◌∷◌, ◌++◌, Option, Some, None, Bool, true, false, refl, ap, sym, subst, ◌∙◌}
-use Rattle.std.specs.Prelude.{slice_get, slice_set, replicate, length, ◌==◌, ◌&&◌, bytes_eq, if◌then◌else◌}
+use Rattle.std.specs.Prelude.{map, slice_get, slice_set, replicate, length, ◌==◌, ◌&&◌, bytes_eq, if◌then◌else◌}
 use Rattle.std.specs.Option.{option_map, option_map_or, option_and_then}
 use Rattle.std.proofs.lemmas.Bool.Decides.{Decides-eqb}
 use Rattle.std.proofs.lemmas.Option.{option_and_then_some}
@@ -8,7 +8,13 @@ use Rattle.std.proofs.Math.Seq.{take-append_seam, take-append-add}
 use Rattle.event_journal.specs.declared.event.Event.{Event}
 use Rattle.event_journal.specs.declared.event.Event.TheVariants as event
 use Rattle.job_model.specs.Steps.{Grant, Left, Stopped, JobStop, granted}
+use Rattle.job_model.specs.Job.{of_tee}
+use Rattle.job_model.specs.Point.{no_params}
 use Rattle.job_model.specs.Steps as steps
+use Rattle.rpc_msgs.specs.declared.rpc.Rpc.{Rpc}
+use Rattle.rpc_msgs.specs.declared.rpc.Rpc.TheVariants as rpc
+use Rattle.ta_params.specs.declared.call_result.CallResult.{CallResult}
+use Rattle.ta_params.specs.declared.copied_params.CopiedParams.{CopiedParams}
 use Rattle.ns_ram.specs.declared.read.Read.{Read}
 use Rattle.ns_ram.specs.Reader.{done, reading, ◌>>=◌ as read_then}
 use Rattle.smc_abi.specs.Call.{call_of}
@@ -16,23 +22,29 @@ use Rattle.smc_abi.specs.declared.answer.Answer.{Answer}
 use Rattle.smc_abi.specs.declared.call.Call.{Call}
 use Rattle.smc_abi.specs.declared.call.Call.TheVariants.{Resume}
 use Rattle.smc_abi.specs.declared.regs.Regs.{Regs}
-use Rattle.ta_isa.specs.declared.boot.Boot.{Boot}
-use Rattle.kernel_model.specs.Argument.{reg, client_in, thread_in}
-use Rattle.kernel_model.specs.Codes.{eresume}
-use Rattle.kernel_model.specs.Decision.{Decision, Answers, Takes}
+use Rattle.kernel_model.specs.Application.{Booted}
+use Rattle.kernel_model.specs.Argument.{reg, client_in}
+use Rattle.kernel_model.specs.Codes.{target_dead}
+use Rattle.kernel_model.specs.Decision.{Decision, Answers, Takes, Cancels}
 use Rattle.kernel_model.specs.Entry.{decision_of, entered, after_entry}
-use Rattle.kernel_model.specs.Resume.{resume, resumes_slot}
-use Rattle.kernel_model.specs.Exit.{Exited, answered, goes_out, exit, exit_of, exit_from, exit_in, taken_on, stopped}
-use Rattle.kernel_model.specs.History.{after_event, after_events, entry_from, exit_to, goes_out_of, can_be_granted, is_outside, kernel_after, left_by_exits, IsEntryFor, Resumes, slot_of_processor}
-use Rattle.kernel_model.specs.Kernel.{CallPhase, Runs, Ends, PendingCall, ThreadSlot, Free, Active, Suspended, Fixed, InSlot, Processor, Outside, Inside, Kernel, first_kernel}
+use Rattle.kernel_model.specs.Resume.{resume}
+use Rattle.kernel_model.specs.Exit.{Exited, after_end, after_nothing, after_panic, asks_for, asks_in, ended, ends, frees_or_is_answered, goes_out, exit, exit_of, exit_from, exit_in, taken_on, stopped, woken_by}
+use Rattle.kernel_model.specs.History.{after_event, after_events, entry_from, exit_to, goes_out_of, can_be_granted, is_outside, kernel_after, left_by_exits, Continues, IsEntryFor, Resumes, slot_of_processor}
+use Rattle.kernel_model.specs.Kernel.{CallPhase, Runs, Asks, Waits, Ends, RpcBuffer, PendingCall, cancelled_call, cancelled_slot, cancelled_slots, ThreadSlot, Free, Active, Suspended, Fixed, InSlot, Processor, Outside, Inside, Kernel, first_kernel}
 use Rattle.kernel_model.specs.Laws.{ResumesContinue}
-use Rattle.kernel_model.proofs.Parts.{reading-mapped, set_then_read, set_found, set_other, used_up}
+use Rattle.kernel_model.proofs.Parts.{reading-all, reading-mapped, set_then_read, set_found, set_other}
+use Rattle.kernel_model.proofs.Resuming.{Resuming, resume-Resuming}
 use Rattle.kernel_model.proofs.Past.{after_events-append}
 
--- what the slot holds suspended is what exits left there, for the client of its call
+-- what exits left is the call, but that it may be cancelled since, for the client of the call
+record Since (left : Option ThreadSlot) (client : ℕ) (call : PendingCall) : Type 0 where
+  was : Bool
+  same : left ≡ Some (Suspended client (record call { marked = was }))
+  own : client ≡ call.client
+
+-- what the slot holds suspended is what exits left there
 abbrev Kept : ℕ → Kernel → Option ThreadSlot → Type 0
-Kept slot kernel left = (client : ℕ) (call : PendingCall) → slice_get kernel.slots slot ≡ Some (Suspended client call)
-    → (left ≡ Some (Suspended client call)) × (client ≡ call.client)
+Kept slot kernel left = (client : ℕ) (call : PendingCall) → slice_get kernel.slots slot ≡ Some (Suspended client call) → Since left client call
 
 -- ---- entries
 
@@ -49,19 +61,42 @@ same_slot slots taken slot cpu client made call false e h =
     let apart : taken ≡ slot → ⊥ = λ at. let yes = (Decides-eqb taken slot).1 at in absurd cc in
     sym (set_other slots taken slot (Active cpu made) apart) ∙ h
 
+get_mapped : (slots : List ThreadSlot) (i : ℕ) (f : ThreadSlot → ThreadSlot) → slice_get (map f slots) i ≡ option_map f (slice_get slots i)
+get_mapped [] i f = refl
+get_mapped (first ∷ slots) zero f = refl
+get_mapped (first ∷ slots) (suc i) f = get_mapped slots i f
+
+-- a call that is cancelled now was left by the same exit
+cancelled_kept : (session cancel_id : ℕ) (held left : Option ThreadSlot) (client : ℕ) (call : PendingCall)
+    → ((before : PendingCall) → held ≡ Some (Suspended client before) → Since left client before)
+    → option_map (cancelled_slot session cancel_id) held ≡ Some (Suspended client call) → Since left client call
+cancelled_kept session cancel_id None left client call kept h = absurd cc
+cancelled_kept session cancel_id (Some Free) left client call kept h = absurd cc
+cancelled_kept session cancel_id (Some (Active cpu before)) left client call kept h = absurd cc
+cancelled_kept session cancel_id (Some (Suspended owner before)) left client call kept h =
+    let mine : owner ≡ client = cc in
+    let is : cancelled_call session cancel_id before ≡ call = cc in
+    let since = kept before (ap (λ (c : ℕ). Some (Suspended c before)) mine) in
+    subst (λ (c : PendingCall). Since left client c) is (record { was = since.was; same = since.same; own = since.own })
+
 decided_kept : (slot : ℕ) (kernel : Kernel) (cpu steps : ℕ) (regs : List ℕ) (left : Option ThreadSlot) (decision : Decision)
     → Kept slot kernel left → Kept slot (entered kernel cpu regs steps decision) left
 decided_kept slot kernel cpu steps regs left (Answers answer) kept client call h = kept client call h
 decided_kept slot kernel cpu steps regs left (Takes taken made after) kept client call h =
     kept client call (same_slot kernel.slots taken slot cpu client made call (taken == slot) refl h)
+decided_kept slot kernel cpu steps regs left (Cancels taken made session cancel_id) kept client call h =
+    let slots = cancelled_slots kernel.slots session cancel_id in
+    let there = same_slot slots taken slot cpu client made call (taken == slot) refl h in
+    let found = sym (get_mapped kernel.slots slot (cancelled_slot session cancel_id)) ∙ there in
+    cancelled_kept session cancel_id (slice_get kernel.slots slot) left client call (λ before is. kept client before is) found
 
-entry_kept : (boot : Boot) (slot : ℕ) (kernel next : Kernel) (cpu steps : ℕ) (regs : List ℕ) (reads : List Read) (left : Option ThreadSlot)
+entry_kept : (boot : Booted) (slot : ℕ) (kernel next : Kernel) (cpu steps : ℕ) (regs : List ℕ) (reads : List Read) (left : Option ThreadSlot)
     → Kept slot kernel left → after_entry boot kernel cpu regs steps reads ≡ Some next → Kept slot next left
 entry_kept boot slot kernel next cpu steps regs reads left kept e =
     let decided = reading-mapped (decision_of boot kernel regs (call_of (reg regs 0))) (entered kernel cpu regs steps) reads next e in
     subst (λ (k : Kernel). Kept slot k left) decided.1 (decided_kept slot kernel cpu steps regs left decided.0 kept)
 
-allowed_kept : (boot : Boot) (slot : ℕ) (kernel next : Kernel) (cpu steps : ℕ) (regs : List ℕ) (reads : List Read) (left : Option ThreadSlot) (allowed : Bool)
+allowed_kept : (boot : Booted) (slot : ℕ) (kernel next : Kernel) (cpu steps : ℕ) (regs : List ℕ) (reads : List Read) (left : Option ThreadSlot) (allowed : Bool)
     → Kept slot kernel left → (if allowed then after_entry boot kernel cpu regs steps reads else None) ≡ Some next → Kept slot next left
 allowed_kept boot slot kernel next cpu steps regs reads left true kept e = entry_kept boot slot kernel next cpu steps regs reads left kept e
 allowed_kept boot slot kernel next cpu steps regs reads left false kept e = absurd cc
@@ -74,43 +109,81 @@ Own Free = Unit {0}
 Own (Active cpu call) = ⊥
 Own (Suspended client call) = client ≡ call.client
 
-record LeftIn (kernel : Kernel) (slot : ℕ) (exited : Exited) : Type 0 where
+record LeftIn (slots : List ThreadSlot) (slot : ℕ) (exited : Exited) : Type 0 where
   held : ThreadSlot
   own : Own held
-  slots : exited.kernel.slots ≡ slice_set kernel.slots slot held
+  after : exited.kernel.slots ≡ slice_set slots slot held
 
-free_after : (kernel : Kernel) (slot : ℕ) (made exited : Exited) → made.kernel.slots ≡ slice_set kernel.slots slot Free → made ≡ exited → LeftIn kernel slot exited
-free_after kernel slot made exited e same =
-    record { held = Free; own = tt; slots = ap (λ (x : Exited). x.kernel.slots) (sym same) ∙ e }
+asks_left : (kernel : Kernel) (cpu : ℕ) (regs : List ℕ) (slot : ℕ) (call : PendingCall) (wanted : Rpc) (payload : List ℕ) (buffer : Option RpcBuffer) (exited : Exited)
+    → asks_in kernel cpu regs slot call wanted payload buffer ≡ exited → LeftIn kernel.slots slot exited
+asks_left kernel cpu regs slot call wanted payload None exited e =
+    record { held = Suspended call.client call; own = refl; after = ap (λ (x : Exited). x.kernel.slots) (sym e) }
+asks_left kernel cpu regs slot call wanted payload (Some buffer) exited e =
+    record { held = Suspended call.client call; own = refl; after = ap (λ (x : Exited). x.kernel.slots) (sym e) }
 
-stopped_in : (kernel : Kernel) (cpu : ℕ) (regs : List ℕ) (slot : ℕ) (call : PendingCall) (why : JobStop) (exited : Exited)
-    → stopped kernel cpu regs slot call why ≡ exited → LeftIn kernel slot exited
-stopped_in kernel cpu regs slot call (steps.Ends end) exited e = free_after kernel slot (stopped kernel cpu regs slot call (steps.Ends end)) exited refl e
-stopped_in kernel cpu regs slot call (steps.Panics code) exited e = free_after kernel slot (stopped kernel cpu regs slot call (steps.Panics code)) exited refl e
+frees_left : (kernel : Kernel) (cpu : ℕ) (regs : List ℕ) (slot : ℕ) (call : PendingCall) (result : CallResult) (params : CopiedParams) (buffer : Option RpcBuffer) (exited : Exited)
+    → frees_or_is_answered kernel cpu regs slot call result params buffer ≡ exited → LeftIn kernel.slots slot exited
+frees_left kernel cpu regs slot call result params None exited e =
+    record { held = Free; own = tt; after = ap (λ (x : Exited). x.kernel.slots) (sym e) }
+frees_left kernel cpu regs slot call result params (Some buffer) exited e =
+    let rest : PendingCall = record call { buffer = None; phase = Ends result params true None } in
+    record { held = Suspended call.client rest; own = refl; after = ap (λ (x : Exited). x.kernel.slots) (sym e) }
+
+ended_left : (kernel : Kernel) (cpu : ℕ) (regs : List ℕ) (slot : ℕ) (call : PendingCall) (result : CallResult) (params : CopiedParams) (wakes : Option ℕ) (exited : Exited)
+    → ended kernel cpu regs slot call result params wakes ≡ exited → LeftIn kernel.slots slot exited
+ended_left kernel cpu regs slot call result params None exited e = frees_left kernel cpu regs slot call result params call.buffer exited e
+ended_left kernel cpu regs slot call result params (Some woken) exited e =
+    let rest : PendingCall = record call { phase = Ends result params true (Some woken) } in
+    asks_left kernel cpu regs slot rest (rpc.Wake woken) [] call.buffer exited e
+
+stopped_in : (kernel : Kernel) (cpu : ℕ) (regs : List ℕ) (slot : ℕ) (call : PendingCall) (used : ℕ) (why : JobStop) (exited : Exited)
+    → stopped kernel cpu regs slot call used why ≡ exited → LeftIn kernel.slots slot exited
+stopped_in kernel cpu regs slot call used (steps.Ends end) exited e =
+    let after = after_end kernel call end in
+    ended_left after cpu regs slot call end.result end.params (woken_by after call call.kind) exited e
+stopped_in kernel cpu regs slot call used (steps.Panics code) exited e =
+    let after = after_panic kernel call in
+    ended_left after cpu regs slot call (of_tee target_dead) no_params (woken_by after call call.kind) exited e
+stopped_in kernel cpu regs slot call used (steps.Asks wanted payload left) exited e =
+    let rest : PendingCall = record call { steps = call.steps + used; phase = Asks left wanted payload } in
+    asks_left kernel cpu regs slot rest wanted payload call.buffer exited e
 
 granted_in : (kernel : Kernel) (cpu : ℕ) (regs : List ℕ) (count slot : ℕ) (call : PendingCall) (grant : Option Grant) (exited : Exited)
-    → option_map (taken_on kernel cpu regs count slot call) grant ≡ Some exited → LeftIn kernel slot exited
+    → option_map (taken_on kernel cpu regs count slot call) grant ≡ Some exited → LeftIn kernel.slots slot exited
 granted_in kernel cpu regs count slot call None exited e = absurd cc
 granted_in kernel cpu regs count slot call (Some (Left job)) exited e =
     let made : Exited = taken_on kernel cpu regs count slot call (Left job) in
     let same : made ≡ exited = cc in
     let rest : PendingCall = record call { steps = call.steps + count; phase = Runs job } in
-    record { held = Suspended call.client rest; own = refl; slots = ap (λ (x : Exited). x.kernel.slots) (sym same) }
+    record { held = Suspended call.client rest; own = refl; after = ap (λ (x : Exited). x.kernel.slots) (sym same) }
 granted_in kernel cpu regs count slot call (Some (Stopped used why)) exited e =
-    let made : Exited = stopped kernel cpu regs slot call why in
+    let made : Exited = stopped kernel cpu regs slot call used why in
     let same : made ≡ exited = cc in
-    stopped_in kernel cpu regs slot call why exited same
+    stopped_in kernel cpu regs slot call used why exited same
 
 phase_in : (kernel : Kernel) (cpu : ℕ) (regs : List ℕ) (count slot : ℕ) (call : PendingCall) (phase : CallPhase) (exited : Exited)
-    → exit_in kernel cpu regs count slot call phase ≡ Some exited → LeftIn kernel slot exited
+    → exit_in kernel cpu regs count slot call phase ≡ Some exited → LeftIn kernel.slots slot exited
 phase_in kernel cpu regs count slot call (Runs job) exited e = granted_in kernel cpu regs count slot call (granted count job) exited e
-phase_in kernel cpu regs count slot call (Ends result params) exited e =
-    let made : Exited = answered kernel cpu regs slot call result params in
+phase_in kernel cpu regs count slot call (Asks job wanted payload) exited e =
+    let made : Exited = asks_for kernel cpu regs slot call wanted payload in
     let same : made ≡ exited = cc in
-    free_after kernel slot made exited refl same
+    asks_left kernel cpu regs slot call wanted payload call.buffer exited same
+phase_in kernel cpu regs count slot call (Waits params) exited e =
+    let made : Exited = asks_for kernel cpu regs slot call (rpc.Sleep slot) [] in
+    let same : made ≡ exited = cc in
+    asks_left kernel cpu regs slot call (rpc.Sleep slot) [] call.buffer exited same
+phase_in kernel cpu regs count slot call (Ends result params false wakes) exited e =
+    let after : Kernel = after_nothing kernel call in
+    let made : Exited = ends after cpu regs slot call result params in
+    let same : made ≡ exited = cc in
+    ended_left after cpu regs slot call result params (woken_by after call call.kind) exited same
+phase_in kernel cpu regs count slot call (Ends result params true wakes) exited e =
+    let made : Exited = ended kernel cpu regs slot call result params wakes in
+    let same : made ≡ exited = cc in
+    ended_left kernel cpu regs slot call result params wakes exited same
 
 slot_in : (kernel : Kernel) (cpu : ℕ) (regs : List ℕ) (count slot : ℕ) (held : Option ThreadSlot) (exited : Exited)
-    → option_and_then (exit_from kernel cpu regs count slot) held ≡ Some exited → LeftIn kernel slot exited
+    → option_and_then (exit_from kernel cpu regs count slot) held ≡ Some exited → LeftIn kernel.slots slot exited
 slot_in kernel cpu regs count slot None exited e = absurd cc
 slot_in kernel cpu regs count slot (Some Free) exited e = absurd cc
 slot_in kernel cpu regs count slot (Some (Active worker call)) exited e = phase_in kernel cpu regs count slot call call.phase exited e
@@ -124,15 +197,16 @@ abbrev now_left : ℕ → ℕ → Kernel → Option ThreadSlot → Bool → Opti
 now_left slot from after left same = if same then slice_get after.slots slot else left
 
 slot_kept : (slot from : ℕ) (kernel : Kernel) (left : Option ThreadSlot) (exited : Exited) (same : Bool) → (from == slot) ≡ same
-    → Kept slot kernel left → LeftIn kernel from exited → Kept slot exited.kernel (now_left slot from exited.kernel left same)
+    → Kept slot kernel left → LeftIn kernel.slots from exited → Kept slot exited.kernel (now_left slot from exited.kernel left same)
 slot_kept slot from kernel left exited true e kept gone client call h =
     let at = (Decides-eqb from slot).0 e in
-    let here = ap (λ (xs : List ThreadSlot). slice_get xs slot) (sym gone.slots) ∙ h in
+    let here = ap (λ (xs : List ThreadSlot). slice_get xs slot) (sym gone.after) ∙ h in
     let there = subst (λ (i : ℕ). slice_get (slice_set kernel.slots from gone.held) i ≡ Some (Suspended client call)) (sym at) here in
-    (h, own_client gone.held client call (set_then_read kernel.slots from gone.held (Suspended client call) there) gone.own)
+    let own = own_client gone.held client call (set_then_read kernel.slots from gone.held (Suspended client call) there) gone.own in
+    record { was = call.marked; same = h; own = own }
 slot_kept slot from kernel left exited false e kept gone client call h =
     let apart : from ≡ slot → ⊥ = λ at. let yes = (Decides-eqb from slot).1 at in absurd cc in
-    let here = ap (λ (xs : List ThreadSlot). slice_get xs slot) (sym gone.slots) ∙ h in
+    let here = ap (λ (xs : List ThreadSlot). slice_get xs slot) (sym gone.after) ∙ h in
     kept client call (sym (set_other kernel.slots from slot gone.held apart) ∙ here)
 
 abbrev goes_from : ℕ → Option Processor → Bool
@@ -162,7 +236,7 @@ exit_of_kept slot next left exited false kept e = absurd cc
 abbrev after_one : Kernel → ℕ → Option ThreadSlot → Event → Kernel → Option ThreadSlot
 after_one kernel slot left happened next = if goes_out_of kernel slot happened then slice_get next.slots slot else left
 
-event_kept : (boot : Boot) (slot : ℕ) (kernel next : Kernel) (left : Option ThreadSlot) (happened : Event)
+event_kept : (boot : Booted) (slot : ℕ) (kernel next : Kernel) (left : Option ThreadSlot) (happened : Event)
     → Kept slot kernel left → after_event boot kernel happened ≡ Some next → Kept slot next (after_one kernel slot left happened next)
 event_kept boot slot kernel next left (event.Entry cpu regs count reads) kept e =
     option_and_then_some (entry_from boot kernel cpu regs.a count reads) (slice_get kernel.processors cpu) next e
@@ -173,7 +247,7 @@ event_kept boot slot kernel next left (event.Exit cpu regs) kept e =
     (λ (exited : Exited) there onward.
     exit_of_kept slot next left_in exited (bytes_eq exited.regs regs.a) (exit_kept slot kernel cpu left (slice_get kernel.processors cpu) exited kept there) onward)
 
-later_kept : (boot : Boot) (slot : ℕ) (kernel last : Kernel) (left : Option ThreadSlot) (happened : Event) (events : List Event) (o : Option Kernel)
+later_kept : (boot : Booted) (slot : ℕ) (kernel last : Kernel) (left : Option ThreadSlot) (happened : Event) (events : List Event) (o : Option Kernel)
     → after_event boot kernel happened ≡ o → Kept slot kernel left
     → ((next : Kernel) (now : Option ThreadSlot) → Kept slot next now → after_events boot next events ≡ Some last → Kept slot last (left_by_exits boot next slot now events))
     → option_and_then (λ k. after_events boot k events) o ≡ Some last
@@ -182,7 +256,7 @@ later_kept boot slot kernel last left happened events None e kept rest h = absur
 later_kept boot slot kernel last left happened events (Some next) e kept rest h =
     rest next (after_one kernel slot left happened next) (event_kept boot slot kernel next left happened kept e) h
 
-events_kept : (boot : Boot) (slot : ℕ) (kernel last : Kernel) (left : Option ThreadSlot) (events : List Event)
+events_kept : (boot : Booted) (slot : ℕ) (kernel last : Kernel) (left : Option ThreadSlot) (events : List Event)
     → Kept slot kernel left → after_events boot kernel events ≡ Some last → Kept slot last (left_by_exits boot kernel slot left events)
 events_kept boot slot kernel last left [] kept e =
     let is : kernel ≡ last = cc in
@@ -196,18 +270,20 @@ none_suspended zero slot client call e = cc
 none_suspended (suc count) zero client call e = cc
 none_suspended (suc count) (suc slot) client call e = none_suspended count slot client call e
 
-first_kept : (boot : Boot) (slot : ℕ) → Kept slot (first_kernel boot) None
+first_kept : (boot : Booted) (slot : ℕ) → Kept slot (first_kernel boot) None
 first_kept boot slot client call h = absurd (none_suspended boot.threads slot client call h)
 
 -- ---- resumes
 
--- the call that a resume takes, from the slot that its registers name
+-- the call that a resume takes, from the slot that its registers name, and what it has become
 record Taken (kernel : Kernel) (regs : List ℕ) (slot : ℕ) (next : Kernel) (cpu : ℕ) : Type 0 where
   call : PendingCall
   owner : ℕ
   was : slice_get kernel.slots slot ≡ Some (Suspended owner call)
   is_client : owner ≡ client_in regs
-  now : slice_get next.slots slot ≡ Some (Active cpu call)
+  now : PendingCall
+  active : slice_get next.slots slot ≡ Some (Active cpu now)
+  continues : Continues call now
 
 fixed_no_slot : (regs : List ℕ) (steps slot : ℕ) (answer : Answer) → Inside regs steps (Fixed answer) ≡ Inside regs steps (InSlot slot) → ⊥
 fixed_no_slot regs steps slot answer e = cc
@@ -215,47 +291,35 @@ fixed_no_slot regs steps slot answer e = cc
 same_number : (regs : List ℕ) (steps first second : ℕ) → Inside regs steps (InSlot first) ≡ Inside regs steps (InSlot second) → first ≡ second
 same_number regs steps first second e = cc
 
-refused_takes : (kernel next : Kernel) (regs : List ℕ) (cpu count slot : ℕ) (answer : Answer)
-    → entered kernel cpu regs count (Answers answer) ≡ next → slice_get next.processors cpu ≡ Some (Inside regs count (InSlot slot)) → Taken kernel regs slot next cpu
-refused_takes kernel next regs cpu count slot answer e inside =
+decided_takes : (kernel next : Kernel) (regs : List ℕ) (cpu count slot : ℕ) (decision : Decision) → Resuming kernel regs decision
+    → entered kernel cpu regs count decision ≡ next → slice_get next.processors cpu ≡ Some (Inside regs count (InSlot slot)) → Taken kernel regs slot next cpu
+decided_takes kernel next regs cpu count slot (Answers answer) fits e inside =
     let is_set = ap (λ (k : Kernel). slice_get k.processors cpu) e ∙ inside in
     absurd (fixed_no_slot regs count slot answer (set_then_read kernel.processors cpu (Inside regs count (Fixed answer)) (Inside regs count (InSlot slot)) is_set))
-
-client_takes : (kernel next : Kernel) (regs : List ℕ) (cpu count slot owner : ℕ) (call : PendingCall) (same : Bool) → (owner == client_in regs) ≡ same
-    → slice_get kernel.slots (thread_in regs) ≡ Some (Suspended owner call)
-    → entered kernel cpu regs count (if same then Takes (thread_in regs) call kernel else Answers eresume) ≡ next
-    → slice_get next.processors cpu ≡ Some (Inside regs count (InSlot slot)) → Taken kernel regs slot next cpu
-client_takes kernel next regs cpu count slot owner call true is was e inside =
+decided_takes kernel next regs cpu count slot (Takes taken call after) fits e inside =
     let is_set = ap (λ (k : Kernel). slice_get k.processors cpu) e ∙ inside in
-    let number = same_number regs count (thread_in regs) slot (set_then_read kernel.processors cpu (Inside regs count (InSlot (thread_in regs))) (Inside regs count (InSlot slot)) is_set) in
-    let active = ap (λ (k : Kernel). slice_get k.slots (thread_in regs)) (sym e) ∙ set_found kernel.slots (thread_in regs) (Active cpu call) (Suspended owner call) was in
+    let number = same_number regs count taken slot (set_then_read kernel.processors cpu (Inside regs count (InSlot taken)) (Inside regs count (InSlot slot)) is_set) in
+    let active = ap (λ (k : Kernel). slice_get k.slots taken) (sym e) ∙ set_found kernel.slots taken (Active cpu call) (Suspended fits.owner fits.was) fits.held in
     record {
-      call = call;
-      owner = owner;
-      was = subst (λ (i : ℕ). slice_get kernel.slots i ≡ Some (Suspended owner call)) number was;
-      is_client = (Decides-eqb owner (client_in regs)).0 is;
-      now = subst (λ (i : ℕ). slice_get next.slots i ≡ Some (Active cpu call)) number active;
+      call = fits.was;
+      owner = fits.owner;
+      was = subst (λ (i : ℕ). slice_get kernel.slots i ≡ Some (Suspended fits.owner fits.was)) number fits.held;
+      is_client = fits.is_client;
+      now = call;
+      active = subst (λ (i : ℕ). slice_get next.slots i ≡ Some (Active cpu call)) number active;
+      continues = fits.continues;
     }
-client_takes kernel next regs cpu count slot owner call false is was e inside = refused_takes kernel next regs cpu count slot eresume e inside
+decided_takes kernel next regs cpu count slot (Cancels taken call session cancel_id) fits e inside = absurd fits
 
-resume_takes : (kernel next : Kernel) (regs : List ℕ) (cpu count slot : ℕ) (held : Option ThreadSlot) → slice_get kernel.slots (thread_in regs) ≡ held
-    → entered kernel cpu regs count (resumes_slot kernel (thread_in regs) (client_in regs) held) ≡ next
-    → slice_get next.processors cpu ≡ Some (Inside regs count (InSlot slot)) → Taken kernel regs slot next cpu
-resume_takes kernel next regs cpu count slot None was e inside = refused_takes kernel next regs cpu count slot eresume e inside
-resume_takes kernel next regs cpu count slot (Some Free) was e inside = refused_takes kernel next regs cpu count slot eresume e inside
-resume_takes kernel next regs cpu count slot (Some (Active worker call)) was e inside = refused_takes kernel next regs cpu count slot eresume e inside
-resume_takes kernel next regs cpu count slot (Some (Suspended owner call)) was e inside =
-    client_takes kernel next regs cpu count slot owner call (owner == client_in regs) refl was e inside
-
-read_takes : (boot : Boot) (kernel next : Kernel) (regs : List ℕ) (cpu count slot : ℕ) (reads : List Read) (asked : Call) → asked ≡ Resume
+read_takes : (boot : Booted) (kernel next : Kernel) (regs : List ℕ) (cpu count slot : ℕ) (reads : List Read) (asked : Call) → asked ≡ Resume
     → reading (read_then (decision_of boot kernel regs asked) (λ decision. done (entered kernel cpu regs count decision))) reads ≡ Some next
     → slice_get next.processors cpu ≡ Some (Inside regs count (InSlot slot)) → Taken kernel regs slot next cpu
 read_takes boot kernel next regs cpu count slot reads asked is e inside =
     let decides : Call → Type 0 = λ c. reading (read_then (decision_of boot kernel regs c) (λ decision. done (entered kernel cpu regs count decision))) reads ≡ Some next in
-    let resumed = used_up (entered kernel cpu regs count (resume kernel regs), reads) next (subst decides is e) in
-    resume_takes kernel next regs cpu count slot (slice_get kernel.slots (thread_in regs)) refl resumed inside
+    let found = reading-all (resume boot kernel regs) (entered kernel cpu regs count) (Resuming kernel regs) (resume-Resuming boot kernel regs) reads next (subst decides is e) in
+    decided_takes kernel next regs cpu count slot found.value found.holds found.gives inside
 
-allowed_takes : (boot : Boot) (kernel next : Kernel) (regs : List ℕ) (cpu count slot : ℕ) (reads : List Read) (allowed : Bool) → call_of (reg regs 0) ≡ Resume
+allowed_takes : (boot : Booted) (kernel next : Kernel) (regs : List ℕ) (cpu count slot : ℕ) (reads : List Read) (allowed : Bool) → call_of (reg regs 0) ≡ Resume
     → (if allowed then after_entry boot kernel cpu regs count reads else None) ≡ Some next
     → slice_get next.processors cpu ≡ Some (Inside regs count (InSlot slot)) → Taken kernel regs slot next cpu
 allowed_takes boot kernel next regs cpu count slot reads true is e inside = read_takes boot kernel next regs cpu count slot reads (call_of (reg regs 0)) is e inside
@@ -265,7 +329,7 @@ only_one : (o : Option Kernel) (next : Kernel) → option_and_then (λ k. Some k
 only_one None next e = absurd cc
 only_one (Some kernel) next e = e
 
-event_takes : (boot : Boot) (kernel next : Kernel) (cpu count slot : ℕ) (regs : Regs) (reads : List Read) → call_of (reg regs.a 0) ≡ Resume
+event_takes : (boot : Booted) (kernel next : Kernel) (cpu count slot : ℕ) (regs : Regs) (reads : List Read) → call_of (reg regs.a 0) ≡ Resume
     → after_event boot kernel (event.Entry cpu regs count reads) ≡ Some next
     → slice_get next.processors cpu ≡ Some (Inside regs.a count (InSlot slot)) → Taken kernel regs.a slot next cpu
 event_takes boot kernel next cpu count slot regs reads is e inside =
@@ -276,25 +340,30 @@ at_seam : (before : List Event) (last : Event) → slice_get (before ++ last ∷
 at_seam [] last = refl
 at_seam (first ∷ before) last = at_seam before last
 
-taken_resumes : (boot : Boot) (before : List Event) (kernel next : Kernel) (cpu count slot : ℕ) (regs : Regs) (reads : List Read)
+taken_resumes : (boot : Booted) (before : List Event) (kernel next : Kernel) (cpu count slot : ℕ) (regs : Regs) (reads : List Read)
     → kernel_after boot before ≡ Some kernel → kernel_after boot (before ++ event.Entry cpu regs count reads ∷ []) ≡ Some next
-    → (taken : Taken kernel regs.a slot next cpu)
-    → Resumes boot (before ++ event.Entry cpu regs count reads ∷ []) (length before) cpu slot taken.call
+    → Taken kernel regs.a slot next cpu
+    → (call : PendingCall) × Resumes boot (before ++ event.Entry cpu regs count reads ∷ []) (length before) cpu slot call
 taken_resumes boot before kernel next cpu count slot regs reads there e taken =
     let last : Event = event.Entry cpu regs count reads in
     let kept = events_kept boot slot (first_kernel boot) kernel None before (first_kept boot slot) there taken.owner taken.call taken.was in
-    let came : client_in regs.a ≡ taken.call.client = sym taken.is_client ∙ kept.1 in
+    let left_call : PendingCall = record taken.call { marked = kept.was } in
+    let came : client_in regs.a ≡ taken.call.client = sym taken.is_client ∙ kept.own in
     let cut = take-append_seam before (last ∷ []) in
-    let whole = take-append-add before (last ∷ []) 1 in
-    record {
-      comes_in = subst (IsEntryFor cpu taken.call.client) (sym (at_seam before last)) (refl, came);
-      left =
-          ap (λ (events : List Event). left_by_exits boot (first_kernel boot) slot None events) cut
-          ∙ kept.0 ∙ ap (λ (client : ℕ). Some (Suspended client taken.call)) kept.1;
-      goes_on =
-          ap (λ (events : List Event). option_and_then (λ k. slice_get k.slots slot) (kernel_after boot events)) whole
-          ∙ ap (λ (o : Option Kernel). option_and_then (λ k. slice_get k.slots slot) o) e ∙ taken.now;
-    }
+    let whole = take-append-add before (last ∷ []) 1 in (
+      left_call,
+      record {
+        comes_in = subst (IsEntryFor cpu taken.call.client) (sym (at_seam before last)) (refl, came);
+        left =
+            ap (λ (events : List Event). left_by_exits boot (first_kernel boot) slot None events) cut
+            ∙ kept.same ∙ ap (λ (client : ℕ). Some (Suspended client left_call)) kept.own;
+        now = taken.now;
+        goes_on =
+            ap (λ (events : List Event). option_and_then (λ k. slice_get k.slots slot) (kernel_after boot events)) whole
+            ∙ ap (λ (o : Option Kernel). option_and_then (λ k. slice_get k.slots slot) o) e ∙ taken.active;
+        continues = taken.continues;
+      },
+    )
 
 pub resumes_continue : ResumesContinue
 resumes_continue boot before cpu count slot regs reads next e is inside =
@@ -303,4 +372,4 @@ resumes_continue boot before cpu count slot regs reads next e is inside =
     option_and_then_some (λ k. after_events boot k (last ∷ [])) (kernel_after boot before) next (sym cut ∙ e)
     (λ (kernel : Kernel) there onward.
     let taken = event_takes boot kernel next cpu count slot regs reads is (only_one (after_event boot kernel last) next onward) inside in
-    (taken.call, taken_resumes boot before kernel next cpu count slot regs reads there e taken))
+    taken_resumes boot before kernel next cpu count slot regs reads there e taken)

@@ -41,7 +41,6 @@ pub record AnswerExamples : Type 0 where
   pub count_before_command : AnswersAt 0x40000000 (read_of 0x40000000 (head 6 0 0 7) ∷ []) (refused 4)
   pub params_past_ram : AnswersAt 0x403fffe0 (read_of 0x403fffe0 (head 0 0 0 1) ∷ []) (refused 4)
   -- commands that aren't served
-  pub cancel : AnswersAt 0x40000000 (read_of 0x40000000 (head 3 0 1 0) ∷ []) (refused 5)
   pub bottom_half : AnswersAt 0x40000000 (read_of 0x40000000 (head 6 0 0 0) ∷ []) (refused 5)
   pub command_eight : AnswersAt 0x40000000 (read_of 0x40000000 (head 8 0 0 0) ∷ []) (refused 5)
   -- five of the six steps of an invoke

@@ -8,8 +8,10 @@ use Rattle.kernel_model.specs.Kernel.{Kernel, PendingCall}
 pub data Decision : Type 0 where
   -- this answer, which takes no slot and changes nothing
   Answers : Answer → Decision
-  -- the slot of this number works on this call, in this kernel
+  -- the slot of this number works on this call, and the rest of the kernel is this one's
   Takes : (slot : ℕ) (call : PendingCall) (kernel : Kernel) → Decision
+  -- the slot of this number works on this call, and the pending calls of a session are cancelled that have this number
+  Cancels : (slot : ℕ) (call : PendingCall) (session cancel_id : ℕ) → Decision
 
 -- a reader that is decided by the first test that fails, and else has a value
 abbrev pub Tested : Type 0 → Type 0

@@ -9,7 +9,9 @@ use Rattle.kernel_model.specs.Instances.{fresh_memory}
 use Rattle.kernel_model.specs.History.{IsLegal, held_after, kernel_after, left_before}
 use Rattle.kernel_model.specs.Kernel.{Active, Suspended, ThreadSlot, Kernel, first_kernel}
 use Rattle.kernel_model.specs.ResultExamples.{ResultExamples}
-use Rattle.kernel_model.specs.Worked.{add, panic, mark, size, create_fails, open_fails, open_panics, open_succeeds, boot, half, word, names, kernel_of, open_argument, adds, invokes, closes, argument, head, used_head, param, Comes, Leaves, Move, call_of, resume_of, both, call, resume, opens, returns_of, returns_after, history_of, answer, writes_at, ok, ok_with, opened, summed, interrupt, refused, by_client, register_argument, unregister_argument, list_of}
+use Rattle.kernel_model.specs.RpcExamples.{RpcExamples}
+use Rattle.kernel_model.specs.StorageExamples.{StorageExamples}
+use Rattle.kernel_model.specs.Worked.{add, panic, mark, size, create_fails, open_fails, open_panics, open_succeeds, boot, boot_native, half, word, names, kernel_of, open_argument, adds, invokes, closes, argument, head, used_head, param, Comes, Leaves, Move, call_of, resume_of, both, call, resume, opens, returns_of, returns_after, history_of, answer, writes_at, ok, ok_with, opened, summed, interrupt, refused, by_client, register_argument, unregister_argument, list_of}
 
 -- a kernel whose next session and instance have this number
 abbrev pub numbered : Kernel → ℕ → Kernel
@@ -102,13 +104,14 @@ pub record Examples : Type 0 where
       ≡ Some (ok_with (writes_at 0x40000068 (word 5) ∷ writes_at 0x40000070 (word 7) ∷ writes_at 0x40000008 (half 1) ∷ []) 0 4 ∷ [])
   -- the page of a dead instance is free for another
   pub page_of_the_dead : returns_of (boot 1 1 1 panic) (opens ++ call 0 1000 (invokes 1 1) ++ opens) ≡ Some (opened 1 ∷ ok 0xffff3024 3 ∷ opened 2 ∷ [])
-  pub a_page : length (fresh_memory add) ≡ 4096
+  pub a_page : length (fresh_memory 1) ≡ 4096
   -- what these leave is the kernel of the boot, but for the next numbers
   pub nothing_left : kernel_of (boot 1 1 1 add) (opens ++ call 0 1000 (adds 5 7) ++ call 0 1000 (closes 1)) ≡ Some (numbered (first_kernel (boot 1 1 1 add)) 2)
   pub nothing_left_of_the_dead : kernel_of (boot 1 1 1 panic) (opens ++ call 0 1000 (invokes 1 1) ++ call 0 1000 (closes 1)) ≡ Some (numbered (first_kernel (boot 1 1 1 panic)) 2)
   pub nothing_left_of_create : kernel_of (boot 1 1 1 create_fails) opens ≡ Some (numbered (first_kernel (boot 1 1 1 create_fails)) 2)
   pub nothing_left_of_open : kernel_of (boot 1 1 1 open_fails) opens ≡ Some (numbered (first_kernel (boot 1 1 1 open_fails)) 2)
   pub nothing_left_unopened : kernel_of (boot 1 1 1 open_panics) opens ≡ Some (numbered (first_kernel (boot 1 1 1 open_panics)) 2)
+  pub nothing_left_built_in : kernel_of (boot_native 1 1 1 7) (opens ++ call 0 1 (closes 1)) ≡ Some (numbered (first_kernel (boot_native 1 1 1 7)) 2)
   -- legal histories, and those that aren't: with another register at an exit, with an event left out
   pub legal : is_legal legal_history ≡ true
   pub nothing_is_legal : is_legal [] ≡ true
@@ -120,3 +123,5 @@ pub record Examples : Type 0 where
   pub goes_on : option_map (λ history. steps_active (held_after (boot 2 1 1 add) history 9 0)) (history_of (boot 2 1 1 add) (opens ++ stale)) ≡ Some (Some (0, 1))
   pub answers : AnswerExamples
   pub results : ResultExamples
+  pub requests : RpcExamples
+  pub storage : StorageExamples

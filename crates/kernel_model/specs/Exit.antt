@@ -1,6 +1,6 @@
 -- An exit: what a processor goes out with, what is written, and what the kernel is after it. It depends on the
 -- kernel alone. By optee_smc.h and optee_msg.h.
-use Rattle.std.specs.Prelude.{ℕ, ◌+◌, ◌==◌, Bool, false, if◌then◌else◌, List, [], ◌∷◌, ◌++◌, Option, Some, None, slice_get}
+use Rattle.std.specs.Prelude.{ℕ, ◌+◌, ◌==◌, Bool, true, false, if◌then◌else◌, List, [], ◌∷◌, ◌++◌, Option, Some, None, slice_get}
 use Rattle.std.specs.Int.{w32, to_le_bytes}
 use Rattle.std.specs.Option.{option_map, option_map_or, option_and_then}
 use Rattle.base.specs.NumberMap.{NumberMap, get}
@@ -10,18 +10,24 @@ use Rattle.job_model.specs.Job.{Job, of_tee}
 use Rattle.job_model.specs.Point.{no_params}
 use Rattle.job_model.specs.Steps.{JobStop, End, Grant, Left, Stopped, granted}
 use Rattle.job_model.specs.Steps as steps
-use Rattle.param_copy.specs.WritingBack.{Write, writes_back}
+use Rattle.ns_ram.specs.Writes.{Write}
+use Rattle.param_copy.specs.WritingBack.{writes_back}
 use Rattle.session_table.specs.declared.session.Session.{Session}
+use Rattle.rpc_msgs.specs.declared.rpc.Rpc.{Rpc}
+use Rattle.rpc_msgs.specs.declared.rpc.Rpc.TheVariants as rpc
+use Rattle.rpc_msgs.specs.Request.{request_writes}
+use Rattle.session_table.specs.Waiters.{first_of}
 use Rattle.shm_registry.specs.Registered.{without_slot}
 use Rattle.smc_abi.specs.Answer.{registers_of}
 use Rattle.smc_abi.specs.declared.answer.Answer.{Answer}
-use Rattle.smc_abi.specs.declared.answer.Answer.TheVariants.{Interrupt}
+use Rattle.smc_abi.specs.declared.answer.Answer.TheVariants.{Alloc, Cmd, Interrupt}
+use Rattle.smc_abi.specs.declared.answer.Answer.TheVariants as answer
 use Rattle.ta_params.specs.declared.call_result.CallResult.{CallResult}
 use Rattle.ta_params.specs.declared.copied_params.CopiedParams.{CopiedParams}
 use Rattle.kernel_model.specs.Codes.{ok, success, target_dead}
-use Rattle.kernel_model.specs.Instances.{given_back, killed, settled_instances}
-use Rattle.kernel_model.specs.Kernel.{CallPhase, Runs, Ends, PendingCall, ThreadSlot, Free, Active, Suspended, Instance, Errand, Fixed, InSlot, Processor, Outside, Inside, Kernel, with_processor, with_slot}
-use Rattle.kernel_model.specs.Sessions.{sessions_after, sessions_after_panic}
+use Rattle.kernel_model.specs.Instances.{given_back, is_held, killed, settled_instances}
+use Rattle.kernel_model.specs.Kernel.{CallPhase, Runs, Asks, Waits, Ends, RpcBuffer, PendingCall, ThreadSlot, Free, Active, Suspended, Instance, Errand, Fixed, InSlot, Processor, Outside, Inside, Kernel, with_processor, with_slot}
+use Rattle.kernel_model.specs.Sessions.{sessions_after, sessions_after_panic, sessions_unrun}
 
 -- what an exit comes to
 pub record Exited : Type 0 where
@@ -35,13 +41,26 @@ abbrev pub goes_out : Kernel → ℕ → List ℕ → Answer → List Write → 
 goes_out kernel cpu regs answer writes =
     record { kernel = with_processor kernel cpu Outside; regs = registers_of answer regs; writes = writes }
 
--- ---- a call that is interrupted
+-- ---- a call that stays in its slot
 
--- it stays in its slot, with what is left of its job after all granted steps
+-- it is suspended there for its client
+abbrev pub suspended : Kernel → ℕ → List ℕ → ℕ → PendingCall → Answer → List Write → Exited
+suspended kernel cpu regs slot call answer writes =
+    goes_out (with_slot kernel slot (Suspended call.client call)) cpu regs answer writes
+
+-- with what is left of its job after all granted steps
 abbrev pub interrupted : Kernel → ℕ → List ℕ → ℕ → ℕ → PendingCall → Job → Exited
 interrupted kernel cpu regs granted_steps slot call left =
-    let rest = record call { steps = call.steps + granted_steps; phase = Runs left } in
-    goes_out (with_slot kernel slot (Suspended call.client rest)) cpu regs (Interrupt slot) []
+    suspended kernel cpu regs slot (record call { steps = call.steps + granted_steps; phase = Runs left }) (Interrupt slot) []
+
+-- it asks for this, with these bytes: for a buffer first, of 4096 bytes, and then in its buffer
+abbrev pub asks_in : Kernel → ℕ → List ℕ → ℕ → PendingCall → Rpc → List ℕ → Option RpcBuffer → Exited
+asks_in kernel cpu regs slot call wanted payload None = suspended kernel cpu regs slot call (Alloc 4096 slot) []
+asks_in kernel cpu regs slot call wanted payload (Some buffer) =
+    suspended kernel cpu regs slot call (Cmd buffer.cookie slot) (request_writes buffer.addr buffer.cookie wanted payload)
+
+abbrev pub asks_for : Kernel → ℕ → List ℕ → ℕ → PendingCall → Rpc → List ℕ → Exited
+asks_for kernel cpu regs slot call wanted payload = asks_in kernel cpu regs slot call wanted payload call.buffer
 
 -- ---- a call that has ended
 
@@ -76,6 +95,19 @@ abbrev pub answered : Kernel → ℕ → List ℕ → ℕ → PendingCall → Ca
 answered kernel cpu regs slot call result params =
     goes_out (without_call kernel slot) cpu regs ok (last_writes call result params)
 
+-- with this result and these parameters: it wakes whom it is to wake, then it gives its buffer back, and then it is
+-- answered
+abbrev pub frees_or_is_answered : Kernel → ℕ → List ℕ → ℕ → PendingCall → CallResult → CopiedParams → Option RpcBuffer → Exited
+frees_or_is_answered kernel cpu regs slot call result params None = answered kernel cpu regs slot call result params
+frees_or_is_answered kernel cpu regs slot call result params (Some buffer) =
+    let rest = record call { buffer = None; phase = Ends result params true None } in
+    suspended kernel cpu regs slot rest (answer.Free buffer.cookie slot) []
+
+abbrev pub ended : Kernel → ℕ → List ℕ → ℕ → PendingCall → CallResult → CopiedParams → Option ℕ → Exited
+ended kernel cpu regs slot call result params (Some woken) =
+    asks_for kernel cpu regs slot (record call { phase = Ends result params true (Some woken) }) (rpc.Wake woken) []
+ended kernel cpu regs slot call result params None = frees_or_is_answered kernel cpu regs slot call result params call.buffer
+
 -- ---- what the end of a job makes of sessions and instances
 
 -- these are the sessions, and the call gives its instance back, changed so
@@ -97,25 +129,43 @@ after_end kernel call end =
 abbrev pub after_panic : Kernel → PendingCall → Kernel
 after_panic kernel call = gives_back kernel call (sessions_after_panic call.kind kernel.sessions call.session) false killed
 
--- a call whose job has stopped
-abbrev pub stopped : Kernel → ℕ → List ℕ → ℕ → PendingCall → JobStop → Exited
-stopped kernel cpu regs slot call (steps.Ends end) =
-    answered (after_end kernel call end) cpu regs slot call end.result end.params
-stopped kernel cpu regs slot call (steps.Panics code) =
-    answered (after_panic kernel call) cpu regs slot call (of_tee target_dead) no_params
+-- after it has ended without having run
+abbrev pub after_nothing : Kernel → PendingCall → Kernel
+after_nothing kernel call = record kernel { sessions = sessions_unrun call.kind kernel.sessions call.session }
+
+-- whom the call wakes, in this kernel: the first that waits for its instance, where no call holds that. A call that was
+-- settled at its entry has no instance
+abbrev pub woken_by : Kernel → PendingCall → CallKind → Option ℕ
+woken_by kernel call Settled = None
+woken_by kernel call _ =
+    if option_map_or is_held (get kernel.instances call.instance) false then None else first_of kernel.waiters call.instance
+
+-- the first exit of a call that has this result, in this kernel
+abbrev pub ends : Kernel → ℕ → List ℕ → ℕ → PendingCall → CallResult → CopiedParams → Exited
+ends kernel cpu regs slot call result params = ended kernel cpu regs slot call result params (woken_by kernel call call.kind)
+
+-- a call whose job has stopped at a step of this number
+abbrev pub stopped : Kernel → ℕ → List ℕ → ℕ → PendingCall → ℕ → JobStop → Exited
+stopped kernel cpu regs slot call used (steps.Ends end) = ends (after_end kernel call end) cpu regs slot call end.result end.params
+stopped kernel cpu regs slot call used (steps.Panics code) = ends (after_panic kernel call) cpu regs slot call (of_tee target_dead) no_params
+stopped kernel cpu regs slot call used (steps.Asks wanted payload left) =
+    asks_for kernel cpu regs slot (record call { steps = call.steps + used; phase = Asks left wanted payload }) wanted payload
 
 -- ---- the exit
 
 -- of a running call, by what its granted steps came to
 abbrev pub taken_on : Kernel → ℕ → List ℕ → ℕ → ℕ → PendingCall → Grant → Exited
 taken_on kernel cpu regs granted_steps slot call (Left left) = interrupted kernel cpu regs granted_steps slot call left
-taken_on kernel cpu regs granted_steps slot call (Stopped used why) = stopped kernel cpu regs slot call why
+taken_on kernel cpu regs granted_steps slot call (Stopped used why) = stopped kernel cpu regs slot call used why
 
 -- of a call in this phase
 abbrev pub exit_in : Kernel → ℕ → List ℕ → ℕ → ℕ → PendingCall → CallPhase → Option Exited
 exit_in kernel cpu regs granted_steps slot call (Runs job) =
     option_map (taken_on kernel cpu regs granted_steps slot call) (granted granted_steps job)
-exit_in kernel cpu regs granted_steps slot call (Ends result params) = Some (answered kernel cpu regs slot call result params)
+exit_in kernel cpu regs granted_steps slot call (Asks job wanted payload) = Some (asks_for kernel cpu regs slot call wanted payload)
+exit_in kernel cpu regs granted_steps slot call (Waits params) = Some (asks_for kernel cpu regs slot call (rpc.Sleep slot) [])
+exit_in kernel cpu regs granted_steps slot call (Ends result params false wakes) = Some (ends (after_nothing kernel call) cpu regs slot call result params)
+exit_in kernel cpu regs granted_steps slot call (Ends result params true wakes) = Some (ended kernel cpu regs slot call result params wakes)
 
 -- of the call in a slot, on which a processor works
 abbrev pub exit_from : Kernel → ℕ → List ℕ → ℕ → ℕ → ThreadSlot → Option Exited

@@ -1,31 +1,15 @@
 -- Which histories are legal: each event follows from the kernel that those before it give. And what a resume
 -- continues. This project's own.
-use Rattle.std.specs.Prelude.{◌≡◌, ℕ, ◌+◌, ◌≤◌, nat_le, Bool, true, false, ◌==◌, ◌&&◌, if◌then◌else◌, List, [], ◌∷◌, length, take, All, AllPairs, IsTrue, Option, Some, None, IsSome, slice_get, bytes_eq, not}
+use Rattle.std.specs.Prelude.{◌≡◌, ℕ, ◌+◌, nat_le, Bool, true, false, ◌==◌, ◌&&◌, if◌then◌else◌, List, [], ◌∷◌, take, Option, Some, None, IsSome, slice_get, bytes_eq}
 use Rattle.std.specs.Option.{option_and_then, option_map_or}
 use Rattle.event_journal.specs.declared.event.Event.{Event}
 use Rattle.event_journal.specs.declared.event.Event.TheVariants.{Entry, Exit}
 use Rattle.ns_ram.specs.declared.read.Read.{Read}
-use Rattle.ta_isa.specs.declared.boot.Boot.{Boot}
-use Rattle.ta_isa.specs.Spelling.{IsValid}
+use Rattle.kernel_model.specs.Application.{Booted, IsBooted}
 use Rattle.kernel_model.specs.Argument.{client_in}
 use Rattle.kernel_model.specs.Entry.{after_entry}
 use Rattle.kernel_model.specs.Exit.{Exited, exit}
 use Rattle.kernel_model.specs.Kernel.{PendingCall, ThreadSlot, Active, Suspended, Errand, Fixed, InSlot, Processor, Outside, Inside, Kernel, first_kernel}
-
--- ---- boots
-
--- what a core can be booted with: 1 to 8 processors, 1 to 16 thread slots, 1 to 1024 frames, and at most 16 valid
--- applications, no two with one UUID
-pub record IsBoot (boot : Boot) : Type 0 where
-  pub some_processor : 1 ≤ boot.cpus
-  pub few_processors : boot.cpus ≤ 8
-  pub some_thread : 1 ≤ boot.threads
-  pub few_threads : boot.threads ≤ 16
-  pub some_frame : 1 ≤ boot.frames
-  pub few_frames : boot.frames ≤ 1024
-  pub few_apps : length boot.apps ≤ 16
-  pub valid : All (λ app. IsValid app.image) boot.apps
-  pub apart : AllPairs (λ earlier later. IsTrue (not (bytes_eq earlier.uuid later.uuid))) boot.apps
 
 -- ---- legal histories
 
@@ -39,7 +23,7 @@ abbrev pub can_be_granted : ℕ → Bool
 can_be_granted steps = nat_le 1 steps && nat_le steps 1000000
 
 -- the kernel after the entry of a processor that was in this state
-abbrev pub entry_from : Boot → Kernel → ℕ → List ℕ → ℕ → List Read → Processor → Option Kernel
+abbrev pub entry_from : Booted → Kernel → ℕ → List ℕ → ℕ → List Read → Processor → Option Kernel
 entry_from boot kernel cpu regs steps reads processor =
     if is_outside processor && can_be_granted steps then after_entry boot kernel cpu regs steps reads else None
 
@@ -49,27 +33,27 @@ exit_to regs exited = if bytes_eq exited.regs regs then Some exited.kernel else 
 
 -- the kernel after an event, where it is one that can follow: a processor that is outside comes in, or one that is
 -- inside goes out with what its exit gives
-abbrev pub after_event : Boot → Kernel → Event → Option Kernel
+abbrev pub after_event : Booted → Kernel → Event → Option Kernel
 after_event boot kernel (Entry cpu regs steps reads) =
     option_and_then (entry_from boot kernel cpu regs.a steps reads) (slice_get kernel.processors cpu)
 after_event boot kernel (Exit cpu regs) = option_and_then (exit_to regs.a) (exit kernel cpu)
 
 -- the kernel after these events, where each can follow on those before it
-abbrev pub after_events : Boot → Kernel → List Event → Option Kernel
+abbrev pub after_events : Booted → Kernel → List Event → Option Kernel
 after_events boot kernel [] = Some kernel
 after_events boot kernel (event ∷ events) = option_and_then (λ next. after_events boot next events) (after_event boot kernel event)
 
 -- the kernel after a history, from the boot on
-abbrev pub kernel_after : Boot → List Event → Option Kernel
+abbrev pub kernel_after : Booted → List Event → Option Kernel
 kernel_after boot history = after_events boot (first_kernel boot) history
 
 -- the boot is one, and each event follows on those before it
-pub record IsLegal (boot : Boot) (history : List Event) : Type 0 where
-  pub boots : IsBoot boot
+pub record IsLegal (boot : Booted) (history : List Event) : Type 0 where
+  pub boots : IsBooted boot
   pub follows : IsSome (kernel_after boot history)
 
 -- what the exit of a processor is after these events
-abbrev pub exit_after : Boot → List Event → ℕ → Option Exited
+abbrev pub exit_after : Booted → List Event → ℕ → Option Exited
 exit_after boot history cpu = option_and_then (λ kernel. exit kernel cpu) (kernel_after boot history)
 
 -- ---- resumes
@@ -91,18 +75,18 @@ goes_out_of kernel slot (Exit cpu regs) =
     option_map_or (λ from. from == slot) (option_and_then slot_of_processor (slice_get kernel.processors cpu)) false
 
 -- what the last of these exits from the slot left in it; `left` is what one before them left
-abbrev pub left_by_exits : Boot → Kernel → ℕ → Option ThreadSlot → List Event → Option ThreadSlot
+abbrev pub left_by_exits : Booted → Kernel → ℕ → Option ThreadSlot → List Event → Option ThreadSlot
 left_by_exits boot kernel slot left [] = left
 left_by_exits boot kernel slot left (event ∷ events) =
     let now = λ (next : Kernel). if goes_out_of kernel slot event then slice_get next.slots slot else left in
     option_and_then (λ next. left_by_exits boot next slot (now next) events) (after_event boot kernel event)
 
 -- what the last exit from a slot before this place of a history left in it
-abbrev pub left_before : Boot → List Event → ℕ → ℕ → Option ThreadSlot
+abbrev pub left_before : Booted → List Event → ℕ → ℕ → Option ThreadSlot
 left_before boot history at slot = left_by_exits boot (first_kernel boot) slot None (take at history)
 
 -- what the slot holds after so many events
-abbrev pub held_after : Boot → List Event → ℕ → ℕ → Option ThreadSlot
+abbrev pub held_after : Booted → List Event → ℕ → ℕ → Option ThreadSlot
 held_after boot history count slot =
     option_and_then (λ kernel. slice_get kernel.slots slot) (kernel_after boot (take count history))
 
@@ -112,9 +96,16 @@ IsEntryFor cpu client None = ⊥
 IsEntryFor cpu client (Some (Entry came regs steps reads)) = (came ≡ cpu) × (client_in regs.a ≡ client)
 IsEntryFor cpu client (Some (Exit went regs)) = ⊥
 
+-- the one call is the other, further on: by now it may be cancelled and have seen that, it may have got its buffer, and
+-- it may be in another phase
+abbrev pub Continues : PendingCall → PendingCall → Type 0
+Continues call now = now ≡ record call { marked = now.marked; seen = now.seen; buffer = now.buffer; phase = now.phase }
+
 -- the event at this place continues, on this processor, the call that the last exit from the slot before it left
 -- suspended, whose client comes in
-pub record Resumes (boot : Boot) (history : List Event) (at cpu slot : ℕ) (call : PendingCall) : Type 0 where
+pub record Resumes (boot : Booted) (history : List Event) (at cpu slot : ℕ) (call : PendingCall) : Type 0 where
   pub comes_in : IsEntryFor cpu call.client (slice_get history at)
   pub left : left_before boot history at slot ≡ Some (Suspended call.client call)
-  pub goes_on : held_after boot history (at + 1) slot ≡ Some (Active cpu call)
+  pub now : PendingCall
+  pub goes_on : held_after boot history (at + 1) slot ≡ Some (Active cpu now)
+  pub continues : Continues call now

@@ -5,52 +5,50 @@ use Rattle.std.specs.Int.{bit_at}
 use Rattle.std.specs.Option.{option_map_or}
 use Rattle.base.specs.NumberMap.{NumberMap, insert, remove}
 use Rattle.base.specs.Zeros.{zeros}
-use Rattle.job_model.specs.Job.{Job, at_point}
+use Rattle.job_model.specs.Job.{Job, at_point, native_at}
 use Rattle.job_model.specs.Point.{Point, Destroy}
 use Rattle.session_table.specs.declared.session.Session.{Session}
-use Rattle.ta_isa.specs.declared.boot.App.{App}
-use Rattle.ta_isa.specs.declared.boot.Boot.{Boot}
-use Rattle.ta_isa.specs.declared.image.Image.{Image}
+use Rattle.kernel_model.specs.Application.{Application, OfImage, BuiltIn, Booted, uuid_of, flags_of, pages_in}
 use Rattle.tee_storage.specs.declared.handle.Handle.{Handle}
 use Rattle.kernel_model.specs.Kernel.{Instance, Kernel}
 use Rattle.kernel_model.specs.Sessions.{has_opened}
 
 -- ---- instance flags
 
--- an instance flag of the application's image, by its bit
-abbrev pub has_flag : App → ℕ → Bool
-has_flag app bit = bit_at app.image.flags bit == 1
+-- an instance flag of the application, by its bit
+abbrev pub has_flag : Application → ℕ → Bool
+has_flag app bit = bit_at (flags_of app) bit == 1
 
 -- all sessions of the application share one instance
-abbrev pub is_single : App → Bool
+abbrev pub is_single : Application → Bool
 is_single app = has_flag app 2
 
 -- several sessions may be open on it; without effect where it isn't shared
-abbrev pub is_multi_session : App → Bool
+abbrev pub is_multi_session : Application → Bool
 is_multi_session app = has_flag app 3
 
 -- the shared instance outlives its last session
-abbrev pub keeps_alive : App → Bool
+abbrev pub keeps_alive : Application → Bool
 keeps_alive app = is_single app && has_flag app 4
 
 -- ---- applications and pages
 
 -- the application of a UUID, where the boot names one
-abbrev pub app_of : Boot → List ℕ → Option App
-app_of boot uuid = find (λ app. bytes_eq app.uuid uuid) boot.apps
+abbrev pub app_of : Booted → List ℕ → Option Application
+app_of boot uuid = find (λ app. bytes_eq (uuid_of app) uuid) boot.apps
 
 -- how many pages an instance of the UUID's application has
-abbrev pub pages_of : Boot → List ℕ → ℕ
-pages_of boot uuid = option_map_or (λ app. app.image.pages) (app_of boot uuid) 0
+abbrev pub pages_of : Booted → List ℕ → ℕ
+pages_of boot uuid = option_map_or pages_in (app_of boot uuid) 0
 
 -- the frames that no instance has; a dead one has none
-abbrev pub free_pages : Boot → Kernel → ℕ
+abbrev pub free_pages : Booted → Kernel → ℕ
 free_pages boot kernel =
     boot.frames - sum_by (λ kept. if kept.1.dead then 0 else pages_of boot kept.1.uuid) kernel.instances
 
--- the memory of a new instance
-abbrev pub fresh_memory : Image → List ℕ
-fresh_memory image = zeros (4096 * image.pages)
+-- the memory of a new instance of so many pages
+abbrev pub fresh_memory : ℕ → List ℕ
+fresh_memory pages = zeros (4096 * pages)
 
 -- ---- one instance
 
@@ -75,28 +73,33 @@ abbrev pub is_held : Instance → Bool
 is_held instance = is_some instance.holder
 
 -- the instance that an open of the application shares, with its number: of a single-instance one, the first that is kept
-abbrev pub shared_instance : Kernel → App → Option (ℕ × Instance)
-shared_instance kernel app = if is_single app then find (λ kept. bytes_eq kept.1.uuid app.uuid) kernel.instances else None
+abbrev pub shared_instance : Kernel → Application → Option (ℕ × Instance)
+shared_instance kernel app = if is_single app then find (λ kept. bytes_eq kept.1.uuid (uuid_of app)) kernel.instances else None
 
 -- ---- the job of a call
 
--- over this memory, at the first of these entry points. No call has seen its cancellation flag
-abbrev pub starting : Image → List ℕ → Job → List Point → Job
-starting image memory job [] = job
-starting image memory job (first ∷ behind) = at_point image memory false job first behind
+-- at this entry point, with these behind it
+abbrev pub starts_at : Application → List ℕ → Bool → Job → Point → List Point → Job
+starts_at (OfImage app) memory seen job first behind = at_point app.image memory seen job first behind
+starts_at (BuiltIn uuid relation) memory seen job first behind = native_at relation job first behind
+
+-- over this memory, at the first of these entry points, with the flag as the call has seen it
+abbrev pub starting : Application → List ℕ → Bool → Job → List Point → Job
+starting app memory seen job [] = job
+starting app memory seen job (first ∷ behind) = starts_at app memory seen job first behind
 
 -- on a kept instance; of a dead one nothing runs
-abbrev pub starting_on : Boot → Instance → Job → List Point → Job
-starting_on boot instance job points =
-    let on_image = λ (app : App). starting app.image instance.memory job points in
-    if instance.dead then job else option_map_or on_image (app_of boot instance.uuid) job
+abbrev pub starting_on : Booted → Instance → Bool → Job → List Point → Job
+starting_on boot instance seen job points =
+    let on_app = λ (app : Application). starting app instance.memory seen job points in
+    if instance.dead then job else option_map_or on_app (app_of boot instance.uuid) job
 
 -- destroy, where none of these sessions of the instance is opened, and it isn't kept alive
-abbrev pub destroy_after : App → NumberMap Session → ℕ → List Point
+abbrev pub destroy_after : Application → NumberMap Session → ℕ → List Point
 destroy_after app sessions instance = if has_opened sessions instance || keeps_alive app then [] else Destroy ∷ []
 
 -- the same of the UUID's application
-abbrev pub destroy_of : Boot → List ℕ → NumberMap Session → ℕ → List Point
+abbrev pub destroy_of : Booted → List ℕ → NumberMap Session → ℕ → List Point
 destroy_of boot uuid sessions instance =
     option_map_or (λ app. destroy_after app sessions instance) (app_of boot uuid) []
 

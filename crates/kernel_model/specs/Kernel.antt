@@ -1,25 +1,37 @@
 -- The kernel: all that an entry and an exit change, as one record of finite maps. This project's own.
-use Rattle.std.specs.Prelude.{ℕ, Bool, true, false, List, [], Option, position, replicate, slice_set}
+use Rattle.std.specs.Prelude.{ℕ, ◌==◌, ◌&&◌, ◌||◌, Bool, true, false, List, [], Option, map, position, replicate, slice_set}
 use Rattle.base.specs.NumberMap.{NumberMap}
 use Rattle.job_model.specs.declared.call_kind.CallKind.{CallKind}
 use Rattle.job_model.specs.Job.{Job}
 use Rattle.param_copy.specs.declared.copied.Place.{Place}
+use Rattle.rpc_msgs.specs.declared.rpc.Rpc.{Rpc}
 use Rattle.session_table.specs.declared.session.Session.{Session}
+use Rattle.session_table.specs.declared.waiters.Waiter.{Waiter}
 use Rattle.shm_registry.specs.Registered.{Registered}
 use Rattle.smc_abi.specs.declared.answer.Answer.{Answer}
-use Rattle.ta_isa.specs.declared.boot.Boot.{Boot}
+use Rattle.kernel_model.specs.Application.{Booted}
 use Rattle.ta_params.specs.declared.call_result.CallResult.{CallResult}
 use Rattle.ta_params.specs.declared.copied_params.CopiedParams.{CopiedParams}
 use Rattle.tee_storage.specs.declared.handle.Handle.{Handle}
 
 -- ---- calls
 
+-- a buffer of the normal world, in which a call writes its requests
+pub record RpcBuffer : Type 0 where
+  pub addr : ℕ
+  pub cookie : ℕ
+
 -- how far it has come
 pub data CallPhase : Type 0 where
   -- its application runs
   Runs : Job → CallPhase
-  -- it has this result, and leaves these parameters, which are written back where its application returned the result
-  Ends : CallResult → CopiedParams → CallPhase
+  -- its application has asked the normal world for this, with these bytes
+  Asks : (job : Job) (wanted : Rpc) (payload : List ℕ) → CallPhase
+  -- another call holds its instance; its parameters are kept until it runs
+  Waits : (params : CopiedParams) → CallPhase
+  -- it has this result, and leaves these parameters, which are written back where its application returned the result.
+  -- `told` says that the first exit since has come, and `wakes` is the slot of the call that it is to wake
+  Ends : (result : CallResult) (params : CopiedParams) (told : Bool) (wakes : Option ℕ) → CallPhase
 
 -- a call, from its entry to the exit that answers OK
 pub record PendingCall : Type 0 where
@@ -35,10 +47,13 @@ pub record PendingCall : Type 0 where
   -- its session and its instance, 0 where it has none
   pub session : ℕ
   pub instance : ℕ
-  -- the number by which it can be cancelled
+  -- the number by which it can be cancelled; that it was; and that it has seen that, as it does at its next resume
   pub cancel_id : ℕ
+  pub marked : Bool
+  pub seen : Bool
   -- the steps that its application has done
   pub steps : ℕ
+  pub buffer : Option RpcBuffer
   pub phase : CallPhase
 
 -- ---- the parts
@@ -82,8 +97,8 @@ pub record Kernel : Type 0 where
   pub slots : List ThreadSlot
   pub sessions : NumberMap Session
   pub instances : NumberMap Instance
-  -- by the number of the instance, the slots of the calls that wait for it, the first one first
-  pub waiters : NumberMap (List ℕ)
+  -- the calls that wait for an instance, in the order in which they began to. One can outlast its instance
+  pub waiters : List Waiter
   -- the registered buffers by their cookies, and the pins
   pub registered : Registered
   -- the processors, by their number
@@ -93,7 +108,7 @@ pub record Kernel : Type 0 where
   pub next_instance : ℕ
 
 -- the kernel as it boots: all slots free, all processors outside, and nothing else
-abbrev pub first_kernel : Boot → Kernel
+abbrev pub first_kernel : Booted → Kernel
 first_kernel boot = record {
   slots = replicate boot.threads Free;
   sessions = [];
@@ -124,3 +139,23 @@ with_slot kernel slot held = record kernel { slots = slice_set kernel.slots slot
 -- the kernel with a processor in this state
 abbrev pub with_processor : Kernel → ℕ → Processor → Kernel
 with_processor kernel cpu processor = record kernel { processors = slice_set kernel.processors cpu processor }
+
+-- ---- cancelled calls
+
+-- the call is one of the session's that has this number
+abbrev pub is_meant : ℕ → ℕ → PendingCall → Bool
+is_meant session cancel_id call = (call.session == session) && (call.cancel_id == cancel_id)
+
+-- the call, marked where it is meant
+abbrev pub cancelled_call : ℕ → ℕ → PendingCall → PendingCall
+cancelled_call session cancel_id call = record call { marked = is_meant session cancel_id call || call.marked }
+
+-- the slot, with its call marked where that is meant
+abbrev pub cancelled_slot : ℕ → ℕ → ThreadSlot → ThreadSlot
+cancelled_slot session cancel_id Free = Free
+cancelled_slot session cancel_id (Active cpu call) = Active cpu (cancelled_call session cancel_id call)
+cancelled_slot session cancel_id (Suspended client call) = Suspended client (cancelled_call session cancel_id call)
+
+-- all slots
+abbrev pub cancelled_slots : List ThreadSlot → ℕ → ℕ → List ThreadSlot
+cancelled_slots slots session cancel_id = map (cancelled_slot session cancel_id) slots

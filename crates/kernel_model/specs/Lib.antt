@@ -1,9 +1,11 @@
 pub mod Codes
+pub mod Application
 pub mod Kernel
 pub mod Served
 pub mod Instances
 pub mod Sessions
 pub mod Argument
+pub mod Begin
 pub mod Decision
 pub mod NewCall
 pub mod Resume
@@ -14,4 +16,6 @@ pub mod Laws
 pub mod Worked
 pub mod AnswerExamples
 pub mod ResultExamples
+pub mod RpcExamples
+pub mod StorageExamples
 pub mod Examples

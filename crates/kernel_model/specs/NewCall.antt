@@ -1,12 +1,12 @@
 -- A new call, OPTEE_SMC_CALL_WITH_ARG: its tests in their order, of which the first that fails decides. Tests 1
 -- to 3 answer without a slot; 4 to 10 settle the call in its slot, with a result of TEE_ORIGIN_TEE.
-use Rattle.std.specs.Prelude.{ℕ, ◌+◌, ◌-◌, ◌*◌, ◌%◌, ◌==◌, nat_le, nat_lt, Bool, false, not, ◌&&◌, ◌||◌, List, [], ◌∷◌, ◌++◌, length, fold, find, Option, Some, None, is_some, is_none}
+use Rattle.std.specs.Prelude.{ℕ, ◌+◌, ◌-◌, ◌*◌, ◌%◌, ◌==◌, nat_le, nat_lt, Bool, false, not, ◌&&◌, ◌||◌, if◌then◌else◌, List, [], ◌∷◌, ◌++◌, length, fold, find, Option, Some, None, is_some, is_none}
 use Rattle.std.specs.Option.{option_map, option_map_or, option_and_then}
-use Rattle.base.specs.NumberMap.{NumberMap, get, insert, remove}
+use Rattle.base.specs.NumberMap.{get, insert, remove}
 use Rattle.job_model.specs.declared.call_kind.CallKind.{CallKind}
 use Rattle.job_model.specs.declared.call_kind.CallKind.TheVariants as kind
-use Rattle.job_model.specs.Job.{Job, idle, of_tee}
-use Rattle.job_model.specs.Point.{Point, Create, Open, Invoke, Close, no_params}
+use Rattle.job_model.specs.Job.{Job, of_tee}
+use Rattle.job_model.specs.Point.{Point, Invoke, no_params}
 use Rattle.msg_args.specs.declared.head.MsgHead.{MsgHead}
 use Rattle.msg_args.specs.declared.param.MsgParam.{MsgParam}
 use Rattle.msg_args.specs.Reading.{head_at}
@@ -17,25 +17,24 @@ use Rattle.ns_ram.specs.Reader.{take_bytes}
 use Rattle.param_copy.specs.Copying.{Copies, copying}
 use Rattle.param_copy.specs.declared.copied.Place.{Place}
 use Rattle.session_table.specs.declared.session.Session.{Session}
+use Rattle.session_table.specs.declared.waiters.Waiter.{Waiter}
 use Rattle.session_table.specs.Session.{reserved_for}
 use Rattle.session_table.specs.Sessions.{has_room}
 use Rattle.shm_registry.specs.declared.page_buffer.PageBuffer.{PageBuffer}
 use Rattle.shm_registry.specs.Pieces.{page_count}
 use Rattle.shm_registry.specs.Registered.{Registered, with_pin, lowest_slot}
-use Rattle.ta_isa.specs.declared.boot.App.{App}
-use Rattle.ta_isa.specs.declared.boot.Boot.{Boot}
-use Rattle.tee_storage.specs.declared.handle.Handle.{Handle}
+use Rattle.kernel_model.specs.Application.{Application, Booted, uuid_of}
+use Rattle.kernel_model.specs.Begin.{Beginner, Opener, has_pages_for, opens_kept, opens_made, works_on, closing_points}
 use Rattle.kernel_model.specs.Argument.{argument_at, client_in, params_in, Opening, opening, invocation, registering, unregistering}
 use Rattle.kernel_model.specs.Codes.{ethread_limit, ebadaddr, ebadcmd, success, bad_parameters, item_not_found, out_of_memory, busy, target_dead}
-use Rattle.kernel_model.specs.Decision.{Decision, Answers, Takes, Tested, passes, ◌>>=◌, ◌>>◌, need, known, read, faultless}
-use Rattle.kernel_model.specs.Instances.{app_of, free_pages, fresh_memory, made_for, held_by, is_held, shared_instance, is_multi_session, starting, starting_on, destroy_after, destroy_of}
-use Rattle.kernel_model.specs.Kernel.{Runs, Ends, PendingCall, Instance, Kernel, lowest_free}
-use Rattle.kernel_model.specs.Served.{in_place_of_waiting}
+use Rattle.kernel_model.specs.Decision.{Decision, Answers, Takes, Cancels, Tested, passes, ◌>>=◌, ◌>>◌, need, known, read, faultless}
+use Rattle.kernel_model.specs.Instances.{app_of, is_held, shared_instance, is_multi_session}
+use Rattle.kernel_model.specs.Kernel.{CallPhase, Runs, Waits, Ends, PendingCall, Instance, Kernel, lowest_free}
 use Rattle.kernel_model.specs.Sessions.{opened_by, has_session}
 
 -- a call that has passed tests 1 to 3: the kernel that it found, its slot, its client, and its argument's address and head
 pub record NewCall : Type 0 where
-  pub boot : Boot
+  pub boot : Booted
   pub kernel : Kernel
   pub slot : ℕ
   pub client : ℕ
@@ -55,24 +54,42 @@ settled_call c code = record {
   session = 0;
   instance = 0;
   cancel_id = c.head.cancel_id;
+  marked = false;
+  seen = false;
   steps = 0;
-  phase = Ends (of_tee code) no_params;
+  buffer = None;
+  phase = Ends (of_tee code) no_params false None;
 }
 
--- a call that runs this job
-abbrev pub running_call : NewCall → CallKind → List Place → ℕ → ℕ → Job → PendingCall
-running_call c call_kind places session instance job = record {
+-- what a call on an instance is about: its session and its instance, its application, and where its results go
+pub record About : Type 0 where
+  pub kind : CallKind
+  pub session : ℕ
+  pub instance : ℕ
+  pub uuid : List ℕ
+  pub places : List Place
+
+-- such a call, in this phase
+abbrev pub call_about : NewCall → About → CallPhase → PendingCall
+call_about c about phase = record {
   client = c.client;
-  kind = call_kind;
-  uuid = Some job.uuid;
+  kind = about.kind;
+  uuid = Some about.uuid;
   arg = c.arg;
-  places = places;
-  session = session;
-  instance = instance;
+  places = about.places;
+  session = about.session;
+  instance = about.instance;
   cancel_id = c.head.cancel_id;
+  marked = false;
+  seen = false;
   steps = 0;
-  phase = Runs job;
+  buffer = None;
+  phase = phase;
 }
+
+-- how it begins
+abbrev pub beginner : NewCall → Beginner
+beginner c = record { boot = c.boot; kernel = c.kernel; slot = c.slot; seen = false }
 
 -- the call is settled with this result, in this kernel
 abbrev pub settles_in : NewCall → Kernel → ℕ → Decision
@@ -88,9 +105,17 @@ pinned c cookies =
     let pins = fold (λ pins cookie. with_pin pins cookie c.slot) c.kernel.registered.pins cookies in
     record c.kernel.registered { pins = pins }
 
--- the call can't go on now
-abbrev pub waits : NewCall → List ℕ → Decision
-waits c cookies = settles_in c (record c.kernel { registered = pinned c cookies }) in_place_of_waiting
+-- the call runs this job, in this kernel
+abbrev pub runs_in : NewCall → Kernel → About → List ℕ → Job → Decision
+runs_in c kernel about cookies job =
+    Takes c.slot (call_about c about (Runs job)) (record kernel { registered = pinned c cookies })
+
+-- the call waits for its instance, behind those that wait already
+abbrev pub waits_in : NewCall → Kernel → About → Copies → Decision
+waits_in c kernel about copies =
+    let last : Waiter = record { instance = about.instance; uuid = about.uuid; slot = c.slot } in
+    let after = record kernel { waiters = kernel.waiters ++ last ∷ []; registered = pinned c copies.cookies } in
+    Takes c.slot (call_about c about (Waits copies.params)) after
 
 -- ---- reading the argument
 
@@ -106,51 +131,51 @@ copied c params first = faultless (copying c.kernel.registered.buffers params fi
 
 -- ---- open: OPTEE_MSG_CMD_OPEN_SESSION
 
--- on the instance of this number with this memory and these objects: the session gets its number, and the job begins
-abbrev pub opens_on : NewCall → Opening → App → Copies → Kernel → ℕ → List ℕ → NumberMap Handle → List Point → Decision
-opens_on c wanted app copies kernel number memory objects points =
-    let session = kernel.next_session in
-    let all = points ++ destroy_after app kernel.sessions number in
-    let job = starting app.image memory (idle app.uuid wanted.login 0 objects copies.params) all in
-    let after = record kernel {
-      sessions = insert kernel.sessions session (reserved_for c.client wanted.login number);
-      registered = pinned c copies.cookies;
-      next_session = session + 1;
-    } in
-    Takes c.slot (running_call c kind.Open copies.places session number job) after
+-- what it brings along
+abbrev pub opener : Opening → Application → Copies → Opener
+opener wanted app copies = record { app = app; login = wanted.login; params = copies.params }
 
--- on a new instance, which is created first
-abbrev pub opens_new : NewCall → Opening → App → Copies → Decision
-opens_new c wanted app copies =
-    let number = c.kernel.next_instance in
-    let made = record c.kernel {
-      instances = insert c.kernel.instances number (made_for app.uuid c.slot);
-      next_instance = number + 1;
-    } in
-    opens_on c wanted app copies made number (fresh_memory app.image) [] (Create ∷ Open ∷ [])
+-- what it is about: the session gets the next number
+abbrev pub about_open : NewCall → Application → Copies → ℕ → About
+about_open c app copies instance =
+    record { kind = kind.Open; session = c.kernel.next_session; instance = instance; uuid = uuid_of app; places = copies.places }
 
--- on the instance that it shares
-abbrev pub opens_shared : NewCall → Opening → App → Copies → ℕ × Instance → Decision
-opens_shared c wanted app copies kept =
-    let held = record c.kernel { instances = insert c.kernel.instances kept.0 (held_by c.slot kept.1) } in
-    opens_on c wanted app copies held kept.0 kept.1.memory kept.1.objects (Open ∷ [])
+-- the kernel with that session, which isn't opened yet
+abbrev pub with_session : NewCall → Opening → Kernel → ℕ → Kernel
+with_session c wanted kernel instance =
+    let session = c.kernel.next_session in
+    record kernel { sessions = insert kernel.sessions session (reserved_for c.client wanted.login instance); next_session = session + 1 }
 
--- on the one or on the other
-abbrev pub opens : NewCall → Opening → App → Copies → Decision
+-- on the instance that it shares, or on a new one
+abbrev pub opens : NewCall → Opening → Application → Copies → Decision
 opens c wanted app copies =
-    option_map_or (opens_shared c wanted app copies) (shared_instance c.kernel app) (opens_new c wanted app copies)
+    let who = beginner c in
+    let brought = opener wanted app copies in
+    let begun = option_map_or (opens_kept who brought) (shared_instance c.kernel app) (opens_made who brought) in
+    runs_in c (with_session c wanted begun.kernel begun.instance) (about_open c app copies begun.instance) copies.cookies begun.job
+
+-- on an instance that another call holds
+abbrev pub open_waits : NewCall → Opening → Application → Copies → ℕ × Instance → Decision
+open_waits c wanted app copies kept =
+    waits_in c (with_session c wanted c.kernel kept.0) (about_open c app copies kept.0) copies
+
+-- it waits where it shares an instance that is held
+abbrev pub opens_or_waits : NewCall → Opening → Application → Copies → Decision
+opens_or_waits c wanted app copies =
+    let on_kept = λ (kept : ℕ × Instance). if is_held kept.1 then open_waits c wanted app copies kept else opens c wanted app copies in
+    option_map_or on_kept (shared_instance c.kernel app) (opens c wanted app copies)
 
 -- the open shares an instance that passes this test
-abbrev pub shares_one : NewCall → App → (ℕ × Instance → Bool) → Bool
+abbrev pub shares_one : NewCall → Application → (ℕ × Instance → Bool) → Bool
 shares_one c app test = option_map_or test (shared_instance c.kernel app) false
 
 -- the application has one instance and one session at a time, and that session is there
-abbrev pub is_taken : NewCall → App → Bool
+abbrev pub is_taken : NewCall → Application → Bool
 is_taken c app = not (is_multi_session app) && shares_one c app (λ kept. has_session c.kernel.sessions kept.0)
 
 -- there are pages for the instance, where one is to be made
-abbrev pub has_pages : NewCall → App → Bool
-has_pages c app = is_some (shared_instance c.kernel app) || nat_le app.image.pages (free_pages c.boot c.kernel)
+abbrev pub has_pages : NewCall → Application → Bool
+has_pages c app = is_some (shared_instance c.kernel app) || has_pages_for c.boot c.kernel app
 
 -- the tests of an open, and what it begins
 abbrev pub open_session : NewCall → Tested Decision
@@ -163,8 +188,7 @@ open_session c = do
   need (has_room (record { kept = c.kernel.sessions; next = c.kernel.next_session })) (settles c out_of_memory)  -- 8, shared limits
   need (has_pages c app) (settles c out_of_memory)
   copies ← copied c wanted.params 2  -- 9, copying
-  need (not (shares_one c app (λ kept. is_held kept.1))) (waits c copies.cookies)  -- 10, a held instance
-  passes (opens c wanted app copies)
+  passes (opens_or_waits c wanted app copies)  -- 10, a held instance
 
 -- ---- invoke and close: OPTEE_MSG_CMD_INVOKE_COMMAND, OPTEE_MSG_CMD_CLOSE_SESSION
 
@@ -174,15 +198,22 @@ named_session c =
     let with_instance = λ (session : Session). option_map (λ instance. (session, instance)) (get c.kernel.instances session.instance) in
     option_and_then with_instance (opened_by c.kernel.sessions c.head.session c.client)
 
--- the call holds the instance, and runs these entry points with these parameters
-abbrev pub works_on : NewCall → CallKind → Session → Instance → Copies → List Point → Decision
-works_on c call_kind session instance copies points =
-    let job = starting_on c.boot instance (idle instance.uuid session.login session.context instance.objects copies.params) points in
-    let after = record c.kernel {
-      instances = insert c.kernel.instances session.instance (held_by c.slot instance);
-      registered = pinned c copies.cookies;
-    } in
-    Takes c.slot (running_call c call_kind copies.places c.head.session session.instance job) after
+-- what a call in that session is about
+abbrev pub about_session : NewCall → CallKind → Session → Instance → Copies → About
+about_session c call_kind session instance copies = record {
+  kind = call_kind;
+  session = c.head.session;
+  instance = session.instance;
+  uuid = instance.uuid;
+  places = copies.places;
+}
+
+-- the call holds the instance and runs these entry points, or waits where another call holds it
+abbrev pub works_or_waits : NewCall → CallKind → Session → Instance → Copies → List Point → Decision
+works_or_waits c call_kind session instance copies points =
+    let about = about_session c call_kind session instance copies in
+    let begun = works_on (beginner c) session instance copies.params points in
+    if is_held instance then waits_in c c.kernel about copies else runs_in c begun.kernel about copies.cookies begun.job
 
 -- the tests of an invoke, and what it begins
 abbrev pub invoke_command : NewCall → Tested Decision
@@ -192,24 +223,26 @@ invoke_command c = do
   named ← known (named_session c) (settles c bad_parameters)  -- 5, the session
   need (not named.1.dead) (settles c target_dead)  -- 6, a dead instance
   copies ← copied c invoked 0  -- 9, copying
-  need (not (is_held named.1)) (waits c copies.cookies)  -- 10, a held instance
-  passes (works_on c (kind.Invoke c.head.func) named.0 named.1 copies (Invoke c.head.func ∷ []))
+  passes (works_or_waits c (kind.Invoke c.head.func) named.0 named.1 copies (Invoke c.head.func ∷ []))  -- 10, a held instance
 
 -- a close has no parameters
 abbrev pub no_copies : Copies
 no_copies = record { params = no_params; places = []; cookies = [] }
 
--- close, and destroy behind it where no other session keeps the instance
-abbrev pub closing_points : NewCall → Session → Instance → List Point
-closing_points c session instance =
-    Close ∷ destroy_of c.boot instance.uuid (remove c.kernel.sessions c.head.session) session.instance
-
 -- the tests of a close, and what it begins: its parameters are ignored, and its instance may be dead
 abbrev pub close_session : NewCall → Tested Decision
 close_session c = do
   named ← known (named_session c) (settles c bad_parameters)  -- 5, the session
-  need (not (is_held named.1)) (waits c [])  -- 10, a held instance
-  passes (works_on c kind.Close named.0 named.1 no_copies (closing_points c named.0 named.1))
+  passes (works_or_waits c kind.Close named.0 named.1 no_copies (closing_points (beginner c) c.head.session named.0 named.1))  -- 10, a held instance
+
+-- ---- cancel: OPTEE_MSG_CMD_CANCEL
+
+-- the pending calls of the session that have the number are marked, and the cancel succeeds, also where there are none;
+-- its parameters are ignored
+abbrev pub cancel_calls : NewCall → Tested Decision
+cancel_calls c = do
+  named ← known (named_session c) (settles c bad_parameters)  -- 5, the session
+  passes (Cancels c.slot (settled_call c success) c.head.session c.head.cancel_id)
 
 -- ---- register and unregister: OPTEE_MSG_CMD_REGISTER_SHM, OPTEE_MSG_CMD_UNREGISTER_SHM
 
@@ -263,6 +296,7 @@ commands =
     (0, open_session)
     ∷ (1, invoke_command)
     ∷ (2, close_session)
+    ∷ (3, cancel_calls)
     ∷ (4, register_memory)
     ∷ (5, unregister_memory)
     ∷ []
@@ -279,12 +313,21 @@ is_head_address arg = (arg % 8 == 0) && is_in_ram arg 32
 abbrev pub has_argument : ℕ → MsgHead → Bool
 has_argument arg head = nat_le head.count 6 && is_in_ram arg (32 + 32 * head.count)
 
--- the tests of every call, and then those of its command
-abbrev pub new_call : Boot → Kernel → List ℕ → Tested Decision
-new_call boot kernel regs = do
-  slot ← known (lowest_free kernel) (Answers ethread_limit)  -- 1, a free slot
+-- the tests of every call behind that of a free slot, and then those of its command
+abbrev pub new_call_in : Booted → Kernel → List ℕ → ℕ → Tested Decision
+new_call_in boot kernel regs slot = do
   need (is_head_address (argument_at regs)) (Answers ebadaddr)  -- 2, the address and the count
   bytes ← read (take_bytes (argument_at regs) 32)
   need (has_argument (argument_at regs) (head_at bytes)) (Answers ebadaddr)
   command ← known (command_of (head_at bytes).cmd) (Answers ebadcmd)  -- 3, the command
   command (record { boot = boot; kernel = kernel; slot = slot; client = client_in regs; arg = argument_at regs; head = head_at bytes })
+
+-- where this is the lowest free slot, if one is free
+abbrev pub new_call_with : Booted → Kernel → List ℕ → Option ℕ → Tested Decision
+new_call_with boot kernel regs free = do
+  slot ← known free (Answers ethread_limit)  -- 1, a free slot
+  new_call_in boot kernel regs slot
+
+-- the tests of every call, and then those of its command
+abbrev pub new_call : Booted → Kernel → List ℕ → Tested Decision
+new_call boot kernel regs = new_call_with boot kernel regs (lowest_free kernel)

@@ -30,6 +30,13 @@ sessions_after (Invoke func) sessions number result context = sessions
 sessions_after Close sessions number result context = remove sessions number
 sessions_after Settled sessions number result context = sessions
 
+-- after it has ended without having run: an open leaves no session, and a close keeps its own
+abbrev pub sessions_unrun : CallKind → NumberMap Session → ℕ → NumberMap Session
+sessions_unrun Open sessions number = remove sessions number
+sessions_unrun (Invoke func) sessions number = sessions
+sessions_unrun Close sessions number = sessions
+sessions_unrun Settled sessions number = sessions
+
 -- after it has panicked: an open leaves no session, and a close takes its session away
 abbrev pub sessions_after_panic : CallKind → NumberMap Session → ℕ → NumberMap Session
 sessions_after_panic Open sessions number = remove sessions number

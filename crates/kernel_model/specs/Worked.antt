@@ -8,9 +8,11 @@ use Rattle.event_journal.specs.declared.event.Event.TheVariants.{Entry, Exit}
 use Rattle.ns_ram.specs.declared.read.Read.{Read}
 use Rattle.ns_ram.specs.Examples.{read_of}
 use Rattle.ns_ram.specs.Reads.{listed}
-use Rattle.param_copy.specs.WritingBack.{Write}
+use Rattle.ns_ram.specs.Writes.{Write}
+use Rattle.native_tas.specs.declared.relation.Relation.TheVariants.{Fixed}
 use Rattle.ta_isa.specs.declared.boot.App.{App}
 use Rattle.ta_isa.specs.declared.boot.Boot.{Boot}
+use Rattle.kernel_model.specs.Application.{Booted, booted}
 use Rattle.ta_isa.specs.declared.image.Image.{Image}
 use Rattle.ta_isa.specs.declared.image.Instr.{Instr}
 use Rattle.ta_step.specs.Examples.{instr, sum_code, panic_code, mark_code}
@@ -74,15 +76,73 @@ open_panics = image_with 0 (0 ∷ 3 ∷ 0 ∷ 0 ∷ 0 ∷ []) panic_code
 abbrev pub open_succeeds : Image
 open_succeeds = image_with 0 (0 ∷ 1 ∷ 0 ∷ 0 ∷ 0 ∷ []) (returning 0)
 
--- an image with instance flags, which no valid image has yet
+-- asks for the time, to be suspended for as many milliseconds as the function says, and the same where it may be
+-- cancelled; and returns the result
+abbrev pub time : Image
+time = image_with 0 invoked_at_one (instr 0x18 0 0 0 0 ∷ instr 0x18 0 0 0 11 ∷ instr 0x18 0 0 0 0 ∷ [])
+
+abbrev pub wait : Image
+wait = image_with 0 invoked_at_one (instr 0x18 0 0 0 0 ∷ instr 0x18 0 0 0 12 ∷ instr 0x18 0 0 0 0 ∷ [])
+
+abbrev pub wait_unmasked : Image
+wait_unmasked = image_with 0 invoked_at_one (
+    instr 0x18 0 0 0 0
+    ∷ instr 0x02 3 0 0 0
+    ∷ instr 0x18 0 0 0 10
+    ∷ instr 0x02 0 3 0 0
+    ∷ instr 0x18 0 0 0 12
+    ∷ instr 0x18 0 0 0 0
+    ∷ [])
+
+-- makes the object of the id 41 (hexadecimal), and opens it and reads four bytes of it to 256; either returns the first
+-- result that isn't SUCCESS
+abbrev pub store : Image
+store = image_with 0 invoked_at_one (
+    instr 0x18 0 0 0 0
+    ∷ instr 0x01 2 0 0 0x41
+    ∷ instr 0x0f 0 3 2 0
+    ∷ instr 0x01 0 0 0 0
+    ∷ instr 0x01 1 0 0 1
+    ∷ instr 0x18 0 0 0 13
+    ∷ instr 0x18 0 0 0 0
+    ∷ [])
+
+abbrev pub load : Image
+load = image_with 0 invoked_at_one (
+    instr 0x18 0 0 0 0
+    ∷ instr 0x01 2 0 0 0x41
+    ∷ instr 0x0f 0 3 2 0
+    ∷ instr 0x01 0 0 0 0
+    ∷ instr 0x01 1 0 0 1
+    ∷ instr 0x18 0 0 0 14
+    ∷ instr 0x12 0 0 3 11
+    ∷ instr 0x02 0 1 0 0
+    ∷ instr 0x01 1 0 0 256
+    ∷ instr 0x01 2 0 0 4
+    ∷ instr 0x18 0 0 0 15
+    ∷ instr 0x18 0 0 0 0
+    ∷ [])
+
+-- an image with instance flags
 abbrev pub flagged : ℕ → Image → Image
 flagged flags image = record image { flags = flags }
 
--- so many processors, threads and frames, and an application of this image
-abbrev pub boot : ℕ → ℕ → ℕ → Image → Boot
-boot cpus threads frames image =
-    let app : App = record { uuid = uuid; image = image } in
-    record { cpus = cpus; threads = threads; frames = frames; apps = app ∷ [] }
+-- so many processors, threads and frames, and these applications
+abbrev pub boot_with : ℕ → ℕ → ℕ → List App → Boot
+boot_with cpus threads frames apps = record { cpus = cpus; threads = threads; frames = frames; apps = apps }
+
+-- an application of this image
+abbrev pub app_with : Image → App
+app_with image = record { uuid = uuid; image = image }
+
+-- a core with that application
+abbrev pub boot : ℕ → ℕ → ℕ → Image → Booted
+boot cpus threads frames image = booted (boot_with cpus threads frames (app_with image ∷ [])) []
+
+-- the same, with one that is built in and answers each invoke so
+abbrev pub boot_native : ℕ → ℕ → ℕ → ℕ → Booted
+boot_native cpus threads frames result =
+    booted (boot_with cpus threads frames []) ((uuid, Fixed result) ∷ [])
 
 -- ---- arguments
 
@@ -125,6 +185,13 @@ invokes session func = argument (head 1 func session 0) []
 abbrev pub closes : ℕ → List Read
 closes session = argument (head 2 0 session 0) []
 
+-- an invoke that can be cancelled by a number, and the cancel
+abbrev pub invokes_by : ℕ → ℕ → ℕ → List Read
+invokes_by session func cancel_id = argument (used_head 1 func session cancel_id 0 0 0) []
+
+abbrev pub cancels : ℕ → ℕ → List Read
+cancels session cancel_id = argument (used_head 3 0 session cancel_id 0 0 0) []
+
 -- ---- processors
 
 -- a processor comes in with registers, steps and reads, or goes out
@@ -144,6 +211,10 @@ call_of client = 0x32000004 ∷ 0 ∷ 0x40000000 ∷ 0 ∷ 0 ∷ 0 ∷ 0 ∷ cli
 abbrev pub resume_of : ℕ → ℕ → List ℕ
 resume_of thread client = 0x32000003 ∷ 0 ∷ 0 ∷ thread ∷ 0 ∷ 0 ∷ 0 ∷ client ∷ []
 
+-- the same with a buffer
+abbrev pub offer_of : ℕ → ℕ → ℕ → List ℕ
+offer_of thread addr cookie = 0x32000003 ∷ 0 ∷ addr ∷ thread ∷ 0 ∷ cookie ∷ 0 ∷ 0 ∷ []
+
 -- in and out again
 abbrev pub both : ℕ → ℕ → List ℕ → List Read → List Move
 both cpu steps regs reads = Comes cpu regs steps reads ∷ Leaves cpu ∷ []
@@ -154,6 +225,9 @@ call cpu steps reads = both cpu steps (call_of 0) reads
 abbrev pub resume : ℕ → ℕ → ℕ → List Move
 resume cpu steps thread = both cpu steps (resume_of thread 0) []
 
+abbrev pub offer : ℕ → ℕ → ℕ → ℕ → ℕ → List Move
+offer cpu steps thread addr cookie = both cpu steps (offer_of thread addr cookie) []
+
 abbrev pub opens : List Move
 opens = call 0 1000 open_argument
 
@@ -161,28 +235,28 @@ opens = call 0 1000 open_argument
 abbrev pub gone_out : List Return → Exited → Kernel × List Return
 gone_out returns exited = (exited.kernel, returns ++ (exited.regs, exited.writes) ∷ [])
 
-abbrev pub moved : Boot → Kernel → List Return → Move → Option (Kernel × List Return)
+abbrev pub moved : Booted → Kernel → List Return → Move → Option (Kernel × List Return)
 moved on kernel returns (Comes cpu regs steps reads) =
     option_map (λ (next : Kernel). (next, returns)) (option_and_then (entry_from on kernel cpu regs steps reads) (slice_get kernel.processors cpu))
 moved on kernel returns (Leaves cpu) = option_map (gone_out returns) (exit kernel cpu)
 
-abbrev pub all_moved : Boot → Kernel → List Return → List Move → Option (Kernel × List Return)
+abbrev pub all_moved : Booted → Kernel → List Return → List Move → Option (Kernel × List Return)
 all_moved on kernel returns [] = Some (kernel, returns)
 all_moved on kernel returns (move ∷ moves) = option_and_then (λ step. all_moved on step.0 step.1 moves) (moved on kernel returns move)
 
 -- what comes of moves from a kernel on
-abbrev pub returns_from : Boot → Kernel → List Move → Option (List Return)
+abbrev pub returns_from : Booted → Kernel → List Move → Option (List Return)
 returns_from on kernel moves = option_map (λ step. step.1) (all_moved on kernel [] moves)
 
-abbrev pub kernel_of : Boot → List Move → Option Kernel
+abbrev pub kernel_of : Booted → List Move → Option Kernel
 kernel_of on moves = option_map (λ step. step.0) (all_moved on (first_kernel on) [] moves)
 
 -- what comes of moves from the boot on
-abbrev pub returns_of : Boot → List Move → Option (List Return)
+abbrev pub returns_of : Booted → List Move → Option (List Return)
 returns_of on moves = returns_from on (first_kernel on) moves
 
 -- what comes of moves after others
-abbrev pub returns_after : Boot → List Move → List Move → Option (List Return)
+abbrev pub returns_after : Booted → List Move → List Move → Option (List Return)
 returns_after on before moves = option_and_then (λ kernel. returns_from on kernel moves) (kernel_of on before)
 
 -- the same moves as a history
@@ -193,13 +267,13 @@ abbrev pub event_of : Kernel → Move → Option Event
 event_of kernel (Comes cpu regs steps reads) = Some (Entry cpu (record { a = regs }) steps reads)
 event_of kernel (Leaves cpu) = option_map (event_of_exit cpu) (exit kernel cpu)
 
-abbrev pub history_from : Boot → Kernel → List Event → List Move → Option (List Event)
+abbrev pub history_from : Booted → Kernel → List Event → List Move → Option (List Event)
 history_from on kernel history [] = Some history
 history_from on kernel history (move ∷ moves) =
     let goes_on = λ (event : Event). option_and_then (λ next. history_from on next (history ++ event ∷ []) moves) (after_event on kernel event) in
     option_and_then goes_on (event_of kernel move)
 
-abbrev pub history_of : Boot → List Move → Option (List Event)
+abbrev pub history_of : Booted → List Move → Option (List Event)
 history_of on moves = history_from on (first_kernel on) [] moves
 
 -- ---- returns
@@ -233,6 +307,28 @@ summed sum = ok_with (writes_at 0x40000028 (word sum) ∷ writes_at 0x40000030 (
 -- an interrupt of a thread
 abbrev pub interrupt : ℕ → Return
 interrupt thread = (0xffff0004 ∷ 0 ∷ 0 ∷ thread ∷ replicate 4 0, [])
+
+-- a thread wants a buffer, or gives one back
+abbrev pub wants_buffer : ℕ → Return
+wants_buffer thread = (0xffff0000 ∷ 4096 ∷ 0 ∷ thread ∷ replicate 4 0, [])
+
+abbrev pub gives_back : ℕ → ℕ → Return
+gives_back thread cookie = (0xffff0002 ∷ 0 ∷ cookie ∷ thread ∷ replicate 4 0, [])
+
+-- a thread has written a request of one value to its buffer, whose cookie the caller gave in a5 or not
+abbrev pub requests : ℕ → ℕ → ℕ → ℕ → List ℕ → Return
+requests thread addr cookie a5 bytes = (0xffff0005 ∷ 0 ∷ cookie ∷ thread ∷ 0 ∷ a5 ∷ 0 ∷ 0 ∷ [], writes_at addr bytes ∷ [])
+
+-- such a request: its command, and what the value has; or none of it is told
+abbrev pub tells : ℕ → ℕ → ℕ → List ℕ
+tells cmd p q = used_head cmd 0 0 0 0xffff0000 0 1 ++ param 1 p q 0
+
+abbrev pub asks_time : List ℕ
+asks_time = used_head 3 0 0 0 0xffff0000 0 1 ++ param 2 0 0 0
+
+-- the same to a caller that gave this in a5
+abbrev pub with_a5 : ℕ → Return → Return
+with_a5 a5 (regs, writes) = (take 5 regs ++ a5 ∷ replicate 2 0, writes)
 
 -- an answer, and nothing is written
 abbrev pub refused : ℕ → Return
