@@ -13,7 +13,9 @@ use Rattle.trace_text.specs.Reading.{words_of}
 use Rattle.trace_text.specs.Grammar.{pieces_of, piece_fault, end_fault, Leads, Spells, IsFirstFault, IsFaultOf, IsPlacedIn, EveryText}
 use Rattle.trace_text.specs.Judging.{IsUnlessMemory, read_pieces, unless}
 use Rattle.trace_text.specs.Script.{empty_trace}
+use Rattle.trace_text.specs.Sound.{IsSound}
 use Rattle.trace_text.proofs.Pieces.{Front, kept_line}
+use Rattle.trace_text.proofs.SoundLaws.{IsSound-spelled}
 
 -- ---- from the definitions to reading
 
@@ -182,32 +184,58 @@ first_fault_read natives text place kind e = is_first natives text place kind (f
 
 -- ---- what the reader answers
 
-pub found_from_read : (natives : List (List ℕ)) (text : List ℕ) (r : Result Trace TraceFault) → IsUnlessMemory r (read_pieces natives 1 empty_trace (pieces_of text)) → IfOk r (λ trace. Spells natives text trace)
+found_from_read : (natives : List (List ℕ)) (text : List ℕ) (r : Result Trace TraceFault) → IsUnlessMemory r (read_pieces natives 1 empty_trace (pieces_of text)) → IfOk r (λ trace. Spells natives text trace)
 found_from_read natives text (Ok trace) h =
     ⊎_elim (λ e. spelled_read natives text trace (sym e)) (λ e. absurd cc) h
 found_from_read natives text (Err fault) h = tt
 
-pub only_from_read : (natives : List (List ℕ)) (text : List ℕ) (r : Result Trace TraceFault) → IsUnlessMemory r (read_pieces natives 1 empty_trace (pieces_of text))
+only_from_read : (natives : List (List ℕ)) (text : List ℕ) (r : Result Trace TraceFault) → IsUnlessMemory r (read_pieces natives 1 empty_trace (pieces_of text))
     → (trace : Trace) → Spells natives text trace → (r ≡ Ok trace) ⊎ (r ≡ Err Memory)
 only_from_read natives text r h trace s = ⊎_elim (λ e. inl (e ∙ read_spelled natives text trace s)) (λ e. inr e) h
 
-pub refused_from_read : (natives : List (List ℕ)) (text : List ℕ) (r : Result Trace TraceFault) → IsUnlessMemory r (read_pieces natives 1 empty_trace (pieces_of text))
+refused_from_read : (natives : List (List ℕ)) (text : List ℕ) (r : Result Trace TraceFault) → IsUnlessMemory r (read_pieces natives 1 empty_trace (pieces_of text))
     → (place : ℕ) (kind : BadKind) → IsFirstFault natives text place kind → (r ≡ Err (Bad place kind)) ⊎ (r ≡ Err Memory)
 refused_from_read natives text r h place kind f = ⊎_elim (λ e. inl (e ∙ read_fault natives text place kind f)) (λ e. inr e) h
 
-pub bad_from_read : (natives : List (List ℕ)) (text : List ℕ) (r : Result Trace TraceFault) → IsUnlessMemory r (read_pieces natives 1 empty_trace (pieces_of text)) → IfErr r (IsFaultOf natives text)
+bad_from_read : (natives : List (List ℕ)) (text : List ℕ) (r : Result Trace TraceFault) → IsUnlessMemory r (read_pieces natives 1 empty_trace (pieces_of text)) → IfErr r (IsFaultOf natives text)
 bad_from_read natives text (Ok trace) h = tt
 bad_from_read natives text (Err Memory) h = tt
 bad_from_read natives text (Err (Bad place kind)) h =
     ⊎_elim (λ e. first_fault_read natives text place kind (sym e)) (λ e. absurd cc) h
 
-pub placed_from_read : (natives : List (List ℕ)) (text : List ℕ) (r : Result Trace TraceFault) → IfErr r (IsFaultOf natives text) → IfErr r (IsPlacedIn text)
+placed_from_read : (natives : List (List ℕ)) (text : List ℕ) (r : Result Trace TraceFault) → IfErr r (IsFaultOf natives text) → IfErr r (IsPlacedIn text)
 placed_from_read natives text (Ok trace) h = tt
 placed_from_read natives text (Err Memory) h = tt
 placed_from_read natives text (Err (Bad place kind)) f =
     let count = length-slice_split (λ b. eqb b 10) text in
     let parts = ap length f.text_is ∙ length-append f.front (f.piece ∷ f.back) in
     (omega (arith, f.place_is), omega (arith, f.place_is, count, parts))
+
+sound_from_found : (natives : List (List ℕ)) (text : List ℕ) (r : Result Trace TraceFault) → IfOk r (λ trace. Spells natives text trace) → IfOk r (IsSound natives)
+sound_from_found natives text (Ok trace) spelled = IsSound-spelled natives text trace spelled
+sound_from_found natives text (Err fault) spelled = tt
+
+-- all of it
+pub record IsAnswer (natives : List (List ℕ)) (text : List ℕ) (r : Result Trace TraceFault) : Type 0 where
+  pub found : IfOk r (λ trace. Spells natives text trace)
+  pub only : (trace : Trace) → Spells natives text trace → (r ≡ Ok trace) ⊎ (r ≡ Err Memory)
+  pub bad : IfErr r (IsFaultOf natives text)
+  pub refused : (place : ℕ) (kind : BadKind) → IsFirstFault natives text place kind → (r ≡ Err (Bad place kind)) ⊎ (r ≡ Err Memory)
+  pub placed : IfErr r (IsPlacedIn text)
+  pub sound : IfOk r (IsSound natives)
+
+pub answer_from_read : (natives : List (List ℕ)) (text : List ℕ) (r : Result Trace TraceFault) → IsUnlessMemory r (read_pieces natives 1 empty_trace (pieces_of text)) → IsAnswer natives text r
+answer_from_read natives text r h =
+    let spelled : IfOk r (λ trace. Spells natives text trace) = found_from_read natives text r h in
+    let faulty : IfErr r (IsFaultOf natives text) = bad_from_read natives text r h in
+    record {
+      found = spelled;
+      only = only_from_read natives text r h;
+      bad = faulty;
+      refused = refused_from_read natives text r h;
+      placed = placed_from_read natives text r faulty;
+      sound = sound_from_found natives text r spelled;
+    }
 
 -- ---- every text
 

@@ -5,6 +5,8 @@ pub mod Uuids
 pub mod Images
 pub mod Inside
 pub mod Pieces
+pub mod SoundWords
+pub mod SoundLaws
 pub mod GrammarLaws
 pub mod EndedLines
 pub mod Splitting

@@ -1,4 +1,4 @@
--- What the rules of lines say of a few small inputs.
+-- What the rules of lines and the limits of traces say of a few small inputs.
 use Rattle.std.specs.Prelude.{◌≡◌, ℕ, List, [], ◌∷◌, ◌++◌, true, false, Some, codes}
 use Rattle.std.specs.List.{flat_map}
 use Rattle.trace_text.specs.declared.fault.BadKind.TheVariants as bad
@@ -8,8 +8,9 @@ use Rattle.trace_text.specs.declared.item.Reg.TheVariants.{Num, Last}
 use Rattle.trace_text.specs.declared.trace.Trace.{Trace}
 use Rattle.trace_text.specs.Forms.{is_decimal, decimal, is_hexadecimal, hexadecimal, is_register, register, is_uuid, uuid, is_hex, bytes}
 use Rattle.trace_text.specs.Grammar.{Spells, IsFirstFault}
-use Rattle.trace_text.specs.Rules.{inside_after, lies_in_ram, is_skipped}
+use Rattle.trace_text.specs.Rules.{inside_after, lies_in_ram, is_skipped, outside}
 use Rattle.trace_text.specs.Script.{empty_trace}
+use Rattle.trace_text.specs.Sound.{can_come, IsPartOfRam, IsSound, IsSoundBoot, IsSoundItem, IsSoundReg}
 
 -- the text of these lines, each with its line feed
 abbrev pub text_of : List (List ℕ) → List ℕ
@@ -58,4 +59,14 @@ pub record GrammarExamples : Type 0 where
   pub cut : IsFirstFault [] (text_of (boot_line ∷ []) ++ codes "leave x") 2 bad.Cut
   pub range_before_cpu : IsFirstFault [] (text_of (boot_line ∷ codes "show 2 40000000 0" ∷ [])) 2 bad.Range
   pub twice_inside : IsFirstFault [] (text_of (boot_line ∷ enter_line ∷ enter_line ∷ [])) 3 bad.Inside
+  pub within_limits : IsSound [] small_trace
+  pub empty_within_limits : IsSound [] empty_trace
+  pub nine_processors : ¬ (IsSoundBoot [] (record { cpus = 9; threads = 1; frames = 1; apps = [] }))
+  pub no_bytes : ¬ (IsPartOfRam 0x4000_0000 0)
+  pub above_ram : ¬ (IsPartOfRam 0x4040_0000 1)
+  pub no_eighth_register : ¬ (IsSoundReg (Last 8))
+  pub no_steps : ¬ (IsSoundItem 2 (Enter 1 0 entered))
+  pub no_such_processor : ¬ (IsSoundItem 2 (Leave 2))
+  pub enters : can_come outside (Enter 1 5 entered) ≡ true
+  pub leaves_from_outside : can_come outside (Leave 1) ≡ false
   pub unended : IsFirstFault [] (text_of (boot_line ∷ enter_line ∷ [])) 3 bad.Unended

@@ -24,6 +24,11 @@ abbrev pub Reads : {A : Type 0} → Option A → Bool → A → Type 0
 Reads None form value = form ≡ false
 Reads (Some read) form value = (form ≡ true) × (read ≡ value)
 
+-- a word was read: it has the form, and this is what it writes; or it hasn't, and that is the fault
+abbrev pub IsSaid : {A : Type 0} → Result A LineFault → BadKind → Bool → A → Type 0
+IsSaid (Ok read) kind form value = (form ≡ true) × (read ≡ value)
+IsSaid (Err fault) kind form value = (form ≡ false) × (fault ≡ Broken kind)
+
 -- a part of a line was read: it keeps its rules, and this is what it says; or it broke one; or memory ran out
 abbrev pub Judged : {X Y : Type 0} → (X → Y) → Result X LineFault → List (BadKind × Bool) → Y → Type 0
 Judged view (Ok x) rules value = (first_broken rules ≡ None) × (view x ≡ value)

@@ -8,5 +8,6 @@ pub mod Reading
 pub mod Forms
 pub mod Rules
 pub mod Grammar
+pub mod Sound
 pub mod Judging
 pub mod GrammarExamples

@@ -171,6 +171,11 @@ show_rules cpus cpu addr len =
     ∷ (bad.Cpu, nat_lt (decimal cpu) cpus)
     ∷ []
 
+-- of `smc` and `enter`: a processor that is outside comes in
+abbrev pub entry_rules : Trace → List ℕ → List ℕ → List (List ℕ) → List (BadKind × Bool)
+entry_rules before cpu steps regs =
+    (bad.Place, is_some before.boot) ∷ call_rules (cpus_of before.boot) cpu steps regs ++ (bad.Inside, not (is_inside before.items (decimal cpu))) ∷ []
+
 -- a word by its number, behind the first one
 abbrev pub word : List (List ℕ) → ℕ → List ℕ
 word words n = slice_index_or words n []
@@ -181,8 +186,8 @@ rules_behind kind.Boot natives before ws = (bad.Place, is_none before.boot) ∷ 
 rules_behind kind.Ta natives before ws =
     (bad.Place, is_some before.boot) ∷ (bad.Place, has_no_item before.items) ∷ ta_rules natives (apps_of before.boot) (word ws 0) (word ws 1)
 rules_behind kind.Mem natives before ws = (bad.Place, is_some before.boot) ∷ (bad.Place, has_no_item before.items) ∷ mem_rules (word ws 0) (word ws 1)
-rules_behind kind.Smc natives before ws = (bad.Place, is_some before.boot) ∷ call_rules (cpus_of before.boot) (word ws 0) (word ws 1) (drop 2 ws) ++ (bad.Inside, not (is_inside before.items (decimal (word ws 0)))) ∷ []
-rules_behind kind.Enter natives before ws = (bad.Place, is_some before.boot) ∷ call_rules (cpus_of before.boot) (word ws 0) (word ws 1) (drop 2 ws) ++ (bad.Inside, not (is_inside before.items (decimal (word ws 0)))) ∷ []
+rules_behind kind.Smc natives before ws = entry_rules before (word ws 0) (word ws 1) (drop 2 ws)
+rules_behind kind.Enter natives before ws = entry_rules before (word ws 0) (word ws 1) (drop 2 ws)
 rules_behind kind.Leave natives before ws = (bad.Place, is_some before.boot) ∷ cpu_rules (cpus_of before.boot) (word ws 0) ++ (bad.Inside, is_inside before.items (decimal (word ws 0))) ∷ []
 rules_behind kind.Write natives before ws = (bad.Place, is_some before.boot) ∷ write_rules (cpus_of before.boot) (word ws 0) (word ws 1) (word ws 2)
 rules_behind kind.Show natives before ws = (bad.Place, is_some before.boot) ∷ show_rules (cpus_of before.boot) (word ws 0) (word ws 1) (word ws 2)

@@ -22,7 +22,7 @@ pub fn worked_examples()
     ensures { Examples }
 {}
 
-/// What the rules of lines say of a few small inputs.
+/// What the rules of lines and the limits of traces say of a few small inputs.
 pub fn grammar_examples()
     ensures { GrammarExamples }
 {}

@@ -2,7 +2,8 @@
 //!
 //! A trace is what one run of the core is given: what it is booted with, the bytes that stand in the normal
 //! world's memory at the start, and the items of each processor in their order. Its text form is this
-//! project's own. [`read_trace`] reads plain scripts so far: scripts of one processor that make fast calls.
+//! project's own. [`read_trace`] reads all of them, and [`read_plain`] plain scripts alone: scripts of one processor
+//! that make fast calls.
 #![tactic(auto)]
 
 mod fault;

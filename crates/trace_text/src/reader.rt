@@ -5,7 +5,7 @@ ghost use Rattle.std.specs.List.{list_any};
 ghost use Rattle.trace_text.specs.Forms.{bytes, decimal, hexadecimal, register};
 ghost use Rattle.trace_text.specs.Grammar.{piece_fault};
 ghost use Rattle.trace_text.specs.Judging.{Ends, IsPut, IsTaken, Judged, Reads, booted, item_cpu};
-ghost use Rattle.trace_text.specs.Rules.{added, after_line, app_of, apps_of, boot_of, boot_rules, call_rules, cpu_rules, cpus_of, fill_of, has_no_item, inside_after, is_inside, line_rules, mem_rules, moved, rules_behind, show_rules, ta_rules, with_app, with_item, words_behind, write_rules};
+ghost use Rattle.trace_text.specs.Rules.{added, after_line, app_of, apps_of, boot_of, boot_rules, cpu_rules, cpus_of, entry_rules, fill_of, has_no_item, inside_after, is_inside, line_rules, mem_rules, moved, rules_behind, show_rules, ta_rules, with_app, with_item, words_behind, write_rules};
 ghost use Rattle.trace_text.specs.Script.{empty_trace};
 ghost use Rattle.trace_text.specs.declared.item.Item.TheVariants as item;
 
@@ -211,9 +211,7 @@ impl Reader {
     /// What a line `smc` or `enter` says, by its words.
     fn call(&self, cpu: &[u8], steps: &[u8], regs: Words) -> Result<Call, LineFault>
         requires { length regs ≡ 8 }
-        ensures said { Judged (λ c. c) result
-            ((BadKind.Place, is_some self.now.boot) ∷ call_rules (cpus_of self.now.boot) cpu.now steps.now regs.entry
-            ++ (BadKind.Inside, not (is_inside self.now.items (decimal cpu.now))) ∷ [])
+        ensures said { Judged (λ c. c) result (entry_rules self.now cpu.now steps.now regs.entry)
             (record { cpu = decimal cpu.now; steps = decimal steps.now; regs = map register regs.entry }) }
         ensures few { IfOk result (λ c. c.cpu < 8) }
     {
@@ -279,9 +277,7 @@ impl Reader {
     /// A line `smc`, by its words.
     fn take_smc(&mut self, cpu: &[u8], steps: &[u8], regs: Words) -> Result<(), LineFault>
         requires { length regs ≡ 8 }
-        ensures { IsTaken result
-            ((BadKind.Place, is_some self.old.boot) ∷ call_rules (cpus_of self.old.boot) cpu.now steps.now regs.entry
-            ++ (BadKind.Inside, not (is_inside self.old.items (decimal cpu.now))) ∷ [])
+        ensures { IsTaken result (entry_rules self.old cpu.now steps.now regs.entry)
             (with_item self.old (item.Smc (decimal cpu.now) (decimal steps.now) (map register regs.entry))) self.new }
     {
         let Call { cpu, steps, regs } = self.call(cpu, steps, regs)?;
@@ -291,9 +287,7 @@ impl Reader {
     /// A line `enter`, by its words.
     fn take_enter(&mut self, cpu: &[u8], steps: &[u8], regs: Words) -> Result<(), LineFault>
         requires { length regs ≡ 8 }
-        ensures { IsTaken result
-            ((BadKind.Place, is_some self.old.boot) ∷ call_rules (cpus_of self.old.boot) cpu.now steps.now regs.entry
-            ++ (BadKind.Inside, not (is_inside self.old.items (decimal cpu.now))) ∷ [])
+        ensures { IsTaken result (entry_rules self.old cpu.now steps.now regs.entry)
             (with_item self.old (item.Enter (decimal cpu.now) (decimal steps.now) (map register regs.entry))) self.new }
     {
         let Call { cpu, steps, regs } = self.call(cpu, steps, regs)?;

@@ -1,7 +1,6 @@
 ghost use Rattle.std.specs.Prelude.{◌≡◌, ℕ, ◌<◌, ◌^◌, ◌+◌, ◌⊎◌, length, Ok, Err, IfOk, IfErr};
-ghost use Rattle.trace_text.specs.Grammar.{pieces_of, Spells, IsFirstFault, IsFaultOf, IsPlacedIn};
-ghost use Rattle.trace_text.specs.Judging.{IsUnlessMemory, read_pieces};
-ghost use Rattle.trace_text.specs.Script.{empty_trace};
+ghost use Rattle.trace_text.specs.Grammar.{Spells, IsFirstFault, IsFaultOf, IsPlacedIn};
+ghost use Rattle.trace_text.specs.Sound.{IsSound};
 ghost use Rattle.trace_text.specs.declared.fault.BadKind.{BadKind};
 ghost use Rattle.trace_text.specs.declared.trace.Trace.{Trace};
 
@@ -11,27 +10,6 @@ use crate::reader::Reader;
 use crate::trace::Trace;
 use std::alloc::Global;
 use uuid::Uuid;
-
-/// Reads line after line, up to the first fault.
-fn read_lines(alloc: Global, text: &[u8], natives: &[Uuid]) -> Result<Trace, TraceFault>
-    requires { length text.now + 1 < 2 ^ 32 }
-    ensures { IsUnlessMemory result (read_pieces natives.now 1 empty_trace (pieces_of text.now)) }
-{
-    let mut reader = Reader::new(alloc);
-    let mut place = 1u32;
-    let mut rest = text;
-    while let Some((line, after)) = split_line(rest) {
-        if let Err(fault) = reader.take(alloc, natives, line) {
-            return Err(fault.at(place));
-        }
-        place += 1;
-        rest = after;
-    }
-    match reader.finish(rest) {
-        Ok(trace) => Ok(trace),
-        Err(kind) => Err(TraceFault::Bad { place, kind }),
-    }
-}
 
 /// Reads the text of a trace, whose format `docs/formats.md` states. `natives` are the UUIDs of the applications that
 /// are built in, which no `ta` line may repeat.
@@ -52,6 +30,21 @@ pub fn read_trace(alloc: Global, text: &[u8], natives: &[Uuid]) -> Result<Trace,
         → (result ≡ Err (TraceFault.Bad place kind)) ⊎ (result ≡ Err TraceFault.Memory) }
     // It stands in a line, or behind the last one.
     ensures placed { IfErr result (IsPlacedIn text.now) }
+    // What is read is within the limits of a trace.
+    ensures sound { IfOk result (IsSound natives.now) }
 {
-    read_lines(alloc, text, natives)
+    let mut reader = Reader::new(alloc);
+    let mut place = 1u32;
+    let mut rest = text;
+    while let Some((line, after)) = split_line(rest) {
+        if let Err(fault) = reader.take(alloc, natives, line) {
+            return Err(fault.at(place));
+        }
+        place += 1;
+        rest = after;
+    }
+    match reader.finish(rest) {
+        Ok(trace) => Ok(trace),
+        Err(kind) => Err(TraceFault::Bad { place, kind }),
+    }
 }

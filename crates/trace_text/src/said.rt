@@ -112,15 +112,9 @@ pub fn size_of(cpus: &[u8], threads: &[u8], frames: &[u8]) -> Result<Size, LineF
     ensures said { Judged (λ s. s) result (boot_rules cpus.now threads.now frames.now)
         (record { cpus = decimal cpus.now; threads = decimal threads.now; frames = decimal frames.now }) }
 {
-    let Some(cpus) = number(cpus) else {
-        return Err(LineFault::Broken(BadKind::Number));
-    };
-    let Some(threads) = number(threads) else {
-        return Err(LineFault::Broken(BadKind::Number));
-    };
-    let Some(frames) = number(frames) else {
-        return Err(LineFault::Broken(BadKind::Number));
-    };
+    let cpus = number(cpus)?;
+    let threads = number(threads)?;
+    let frames = number(frames)?;
     if !is_within(1, 8, cpus) {
         return Err(LineFault::Broken(BadKind::Range));
     }
@@ -176,9 +170,7 @@ pub fn app_of(
 pub fn fill_of(alloc: Global, addr: &[u8], hex: &[u8]) -> Result<Fill, LineFault>
     ensures { Judged (λ f. f) result (mem_rules addr.now hex.now) (fill_of addr.now hex.now) }
 {
-    let Some(addr) = address(addr) else {
-        return Err(LineFault::Broken(BadKind::Number));
-    };
+    let addr = address(addr)?;
     let bytes = bytes(alloc, hex)?;
     if !lies_in_ram(addr, bytes.len() as u64) {
         return Err(LineFault::Broken(BadKind::Range));
@@ -213,12 +205,8 @@ pub fn call_of(cpus: u8, cpu: &[u8], steps: &[u8], regs: Words) -> Result<Call, 
     ensures said { Judged (λ c. c) result (call_rules cpus cpu.now steps.now regs.entry)
         (record { cpu = decimal cpu.now; steps = decimal steps.now; regs = map register regs.entry }) }
 {
-    let Some(cpu) = number(cpu) else {
-        return Err(LineFault::Broken(BadKind::Number));
-    };
-    let Some(steps) = number(steps) else {
-        return Err(LineFault::Broken(BadKind::Number));
-    };
+    let cpu = number(cpu)?;
+    let steps = number(steps)?;
     let Some(regs) = registers_of(regs) else {
         return Err(LineFault::Broken(BadKind::Number));
     };
@@ -240,9 +228,7 @@ pub fn cpu_of(cpus: u8, cpu: &[u8]) -> Result<u8, LineFault>
     ensures below { IfOk result (λ c. c < cpus) }
     ensures said { Judged (λ c. c) result (cpu_rules cpus cpu.now) (decimal cpu.now) }
 {
-    let Some(cpu) = number(cpu) else {
-        return Err(LineFault::Broken(BadKind::Number));
-    };
+    let cpu = number(cpu)?;
     if !is_there(cpus, cpu) {
         return Err(LineFault::Broken(BadKind::Cpu));
     }
@@ -261,12 +247,8 @@ pub fn write_of(
     ensures said { Judged (λ i. i) result (write_rules cpus cpu.now addr.now hex.now)
         (item.Write (decimal cpu.now) (hexadecimal addr.now) (bytes hex.now)) }
 {
-    let Some(cpu) = number(cpu) else {
-        return Err(LineFault::Broken(BadKind::Number));
-    };
-    let Some(addr) = address(addr) else {
-        return Err(LineFault::Broken(BadKind::Number));
-    };
+    let cpu = number(cpu)?;
+    let addr = address(addr)?;
     let bytes = bytes(alloc, hex)?;
     if !lies_in_ram(addr, bytes.len() as u64) {
         return Err(LineFault::Broken(BadKind::Range));
@@ -287,15 +269,9 @@ pub fn show_of(cpus: u8, cpu: &[u8], addr: &[u8], len: &[u8]) -> Result<Item, Li
     ensures said { Judged (λ i. i) result (show_rules cpus cpu.now addr.now len.now)
         (item.Show (decimal cpu.now) (hexadecimal addr.now) (decimal len.now)) }
 {
-    let Some(cpu) = number(cpu) else {
-        return Err(LineFault::Broken(BadKind::Number));
-    };
-    let Some(addr) = address(addr) else {
-        return Err(LineFault::Broken(BadKind::Number));
-    };
-    let Some(len) = number(len) else {
-        return Err(LineFault::Broken(BadKind::Number));
-    };
+    let cpu = number(cpu)?;
+    let addr = address(addr)?;
+    let len = number(len)?;
     if !is_within(1, MAX_SHOWN, len) {
         return Err(LineFault::Broken(BadKind::Range));
     }

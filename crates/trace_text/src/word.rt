@@ -4,7 +4,7 @@ ghost use Rattle.std.specs.Prelude.{◌≡◌, ◌<◌, ◌≤◌, [], ◌∷◌
 ghost use Rattle.std.specs.Option.{option_map};
 ghost use Rattle.trace_text.specs.Reading.{has_leading_zero, decimal_at, hexadecimal_at, within_at, register_at};
 ghost use Rattle.trace_text.specs.Forms.{is_decimal, decimal, is_hexadecimal, hexadecimal, is_register, register, is_uuid, uuid, is_hex, bytes};
-ghost use Rattle.trace_text.specs.Judging.{Reads, Judged};
+ghost use Rattle.trace_text.specs.Judging.{IsSaid, Judged, Reads};
 
 use crate::fault::{BadKind, LineFault};
 use crate::item::Reg;
@@ -56,10 +56,10 @@ pub fn decimal_within(word: &[u8], least: u32, most: u32) -> Option<u32>
 
 /// The number that decimal digits write, where `u32::MAX` stands for all numbers above it.
 #[tactic(auto, unfolding(crate::specs::Forms::is_decimal, crate::specs::Forms::decimal, crate::specs::Reading::decimal_at))]
-pub fn number(word: &[u8]) -> Option<u32>
-    ensures { Reads result (is_decimal word.now) (min u32.MAX (decimal word.now)) }
+pub fn number(word: &[u8]) -> Result<u32, LineFault>
+    ensures { IsSaid result BadKind.Number (is_decimal word.now) (min u32.MAX (decimal word.now)) }
 {
-    decimal(word)
+    decimal(word).ok_or(LineFault::Broken(BadKind::Number))
 }
 
 /// The number that 1 to `most` hexadecimal digits write, of either case.
@@ -92,10 +92,10 @@ fn short_hexadecimal(word: &[u8]) -> Option<u32>
 
 /// The address of a word: 1 to 16 hexadecimal digits.
 #[tactic(auto, unfolding(crate::specs::Forms::is_hexadecimal, crate::specs::Forms::hexadecimal, crate::specs::Reading::hexadecimal_at))]
-pub fn address(word: &[u8]) -> Option<u64>
-    ensures { Reads result (is_hexadecimal 16 word.now) (hexadecimal word.now) }
+pub fn address(word: &[u8]) -> Result<u64, LineFault>
+    ensures { IsSaid result BadKind.Number (is_hexadecimal 16 word.now) (hexadecimal word.now) }
 {
-    hexadecimal(word, 16)
+    hexadecimal(word, 16).ok_or(LineFault::Broken(BadKind::Number))
 }
 
 /// The register of a word that writes a number.

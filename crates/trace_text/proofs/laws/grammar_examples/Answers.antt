@@ -1,4 +1,4 @@
-use Rattle.std.proofs.Common.{[], ◌∷◌, ◌++◌, refl}
+use Rattle.std.proofs.Common.{ℕ, List, [], ◌∷◌, ◌++◌, refl, arith}
 use Rattle.std.specs.Prelude.{codes}
 use Rattle.hex.specs.Hex.{decode_pairs}
 use Rattle.uuid.specs.Text.{by_index}
@@ -10,7 +10,12 @@ use Rattle.trace_text.specs.Judging.{read_pieces}
 use Rattle.trace_text.specs.Rules.{added, after_line, counts, inside_after, lies_in_ram, is_skipped, kind_named, line_rules, rules_behind}
 use Rattle.trace_text.specs.Script.{empty_trace}
 use Rattle.trace_text.proofs.GrammarLaws.{first_fault_read, spelled_read}
+use Rattle.trace_text.proofs.SoundLaws.{IsSound-spelled}
 use Rattle.trace_text.proofs.laws.grammar_examples.Goals as goal
+
+-- the text of the small trace
+abbrev small_text : List ℕ
+small_text = text_of (codes "# small" ∷ [] ∷ boot_line ∷ codes "mem 40000000 00fF" ∷ enter_line ∷ codes "leave 1" ∷ [])
 
 pub returns : goal.returns
 unfolding is_decimal decimal is_hexadecimal hexadecimal is_last is_register register is_uuid uuid is_hex bytes piece_fault read_pieces added after_line counts inside_after lies_in_ram is_skipped kind_named line_rules rules_behind decode_pairs by_index
@@ -31,11 +36,21 @@ returns c = record {
   comment = refl;
   inside = refl;
   nothing = spelled_read [] [] empty_trace refl;
-  small = spelled_read [] (text_of (codes "# small" ∷ [] ∷ boot_line ∷ codes "mem 40000000 00fF" ∷ enter_line ∷ codes "leave 1" ∷ [])) small_trace refl;
+  small = spelled_read [] small_text small_trace refl;
   early = first_fault_read [] (text_of (codes "leave 1" ∷ [])) 1 bad.Place refl;
   second_boot = first_fault_read [] (text_of (boot_line ∷ boot_line ∷ [])) 2 bad.Place refl;
   cut = first_fault_read [] (text_of (boot_line ∷ []) ++ codes "leave x") 2 bad.Cut refl;
   range_before_cpu = first_fault_read [] (text_of (boot_line ∷ codes "show 2 40000000 0" ∷ [])) 2 bad.Range refl;
   twice_inside = first_fault_read [] (text_of (boot_line ∷ enter_line ∷ enter_line ∷ [])) 3 bad.Inside refl;
+  within_limits = IsSound-spelled [] small_text small_trace (spelled_read [] small_text small_trace refl);
+  empty_within_limits = IsSound-spelled [] [] empty_trace (spelled_read [] [] empty_trace refl);
+  nine_processors = λ b. absurd (omega (arith, b.boots.few_processors));
+  no_bytes = λ p. absurd (omega (arith, p.some));
+  above_ram = λ p. absurd (omega (arith, p.in_ram.1));
+  no_eighth_register = λ r. absurd (omega (arith, r));
+  no_steps = λ i. absurd (omega (arith, i.some_step));
+  no_such_processor = λ i. absurd (omega (arith, i));
+  enters = refl;
+  leaves_from_outside = refl;
   unended = first_fault_read [] (text_of (boot_line ∷ enter_line ∷ [])) 3 bad.Unended refl;
 }

@@ -1,18 +1,38 @@
-use Rattle.trace_text.proofs.GrammarLaws.{found_from_read, only_from_read, bad_from_read, refused_from_read, placed_from_read}
+use Rattle.std.proofs.Common.{arith, length, ◌∷◌, ap, Ok, Err}
+use Rattle.std.proofs.lemmas.List.{length-append}
+use Rattle.trace_text.specs.declared.fault.TraceFault.TheVariants.{Bad}
+use Rattle.trace_text.specs.Judging.{read_pieces}
+use Rattle.trace_text.specs.Grammar.{pieces_of}
+use Rattle.trace_text.specs.Script.{empty_trace}
+use Rattle.trace_text.proofs.GrammarLaws.{answer_from_read}
+use Rattle.trace_text.proofs.Pieces.{goes_on, stops, ends, ends_badly}
 use Rattle.trace_text.proofs.reading.read_trace.Goals as goal
 
-pub returns-clause-found : goal.returns-clause-found
-returns-clause-found c = found_from_read c.args.natives.now c.args.text.now c.read_lines.result c.read_lines.ensures
+pub returns-in-Err : goal.returns-in-Err
+returns-in-Err c =
+    let answer = answer_from_read c.args.natives.now c.args.text.now (Err c.at.result)
+    (stops c.args.natives.now c.loop-line.place c.loop-line.reader c.take.new.self c.loop-line.rest.now c.in-Some.line.now c.in-Some.after.now (read_pieces c.args.natives.now 1 empty_trace (pieces_of c.args.text.now)) c.in-Err.fault c.at.result
+    c.in-Some.ensures c.in-Err.ensures c.at.ensures c.loop-line.invariant.so_far) in
+    record { found = answer.found; only = answer.only; bad = answer.bad; refused = answer.refused; placed = answer.placed; sound = answer.sound }
 
-pub returns-clause-only : goal.returns-clause-only
-returns-clause-only c = only_from_read c.args.natives.now c.args.text.now c.read_lines.result c.read_lines.ensures
+pub loop-line-preserved : goal.loop-line-preserved
+loop-line-preserved c = record {
+  so_far =
+      goes_on c.args.natives.now c.loop-line.place c.loop-line.reader c.take.new.self c.loop-line.rest.now c.in-Some.line.now c.in-Some.after.now (read_pieces c.args.natives.now 1 empty_trace (pieces_of c.args.text.now))
+      c.in-Some.ensures c.in_default-take.ensures c.loop-line.invariant.so_far;
+  few = omega (arith, c.loop-line.invariant.few, ap length c.in-Some.ensures.1, length-append c.in-Some.line.now (10 ∷ c.in-Some.after.now));
+}
 
-pub returns-clause-bad : goal.returns-clause-bad
-returns-clause-bad c = bad_from_read c.args.natives.now c.args.text.now c.read_lines.result c.read_lines.ensures
+pub returns-in-Ok : goal.returns-in-Ok
+returns-in-Ok c =
+    let answer = answer_from_read c.args.natives.now c.args.text.now (Ok c.in-Ok.trace)
+    (ends c.args.natives.now c.loop-line.place c.loop-line.reader c.in-Ok.trace c.loop-line.rest.now (read_pieces c.args.natives.now 1 empty_trace (pieces_of c.args.text.now))
+    c.in_default.ensures (c.in-Ok.ensures c.args.natives.now) c.loop-line.invariant.so_far) in
+    record { found = answer.found; only = answer.only; bad = answer.bad; refused = answer.refused; placed = answer.placed; sound = answer.sound }
 
-pub returns-clause-refused : goal.returns-clause-refused
-returns-clause-refused c = refused_from_read c.args.natives.now c.args.text.now c.read_lines.result c.read_lines.ensures
-
-pub returns-clause-placed : goal.returns-clause-placed
-returns-clause-placed c =
-    placed_from_read c.args.natives.now c.args.text.now c.read_lines.result (bad_from_read c.args.natives.now c.args.text.now c.read_lines.result c.read_lines.ensures)
+pub returns-in-Err-finish : goal.returns-in-Err-finish
+returns-in-Err-finish c =
+    let answer = answer_from_read c.args.natives.now c.args.text.now (Err (Bad c.loop-line.place c.in-Err-finish.kind))
+    (ends_badly c.args.natives.now c.loop-line.place c.loop-line.reader c.loop-line.rest.now (read_pieces c.args.natives.now 1 empty_trace (pieces_of c.args.text.now)) c.in-Err-finish.kind
+    c.in_default.ensures (c.in-Err-finish.ensures c.args.natives.now) c.loop-line.invariant.so_far) in
+    record { found = answer.found; only = answer.only; bad = answer.bad; refused = answer.refused; placed = answer.placed; sound = answer.sound }
