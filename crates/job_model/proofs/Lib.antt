@@ -1,3 +1,4 @@
 pub mod JobSteps
+pub mod MachineRuns
 pub mod Programs
 pub mod TakenAnswers

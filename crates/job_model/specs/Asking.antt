@@ -8,9 +8,8 @@ use Rattle.rpc_msgs.specs.declared.rpc.Rpc.{Rpc}
 use Rattle.rpc_msgs.specs.declared.rpc.Rpc.TheVariants as rpc
 use Rattle.rpc_msgs.specs.declared.rpc.RpcReply.{RpcReply}
 use Rattle.ta_params.specs.declared.codes.TheConstants.{TEE_SUCCESS, TEE_ERROR_GENERIC, TEE_ERROR_CANCEL, TEE_ERROR_OUT_OF_MEMORY}
-use Rattle.ta_params.specs.declared.object_call.ObjectCall.{ObjectCall}
-use Rattle.ta_params.specs.declared.object_call.ObjectCall.TheVariants.{Create, Opened, Read, Write, Seek, Close, Delete}
 use Rattle.ta_step.specs.Addresses.{range_at}
+use Rattle.ta_step.specs.Requests.{span_of}
 use Rattle.ta_step.specs.State.{State}
 use Rattle.ta_step.specs.declared.addresses.TheConstants.{RANGE}
 use Rattle.ta_step.specs.declared.stop.Request.{Request}
@@ -71,16 +70,6 @@ asks_wait ms cancelled (answer ∷ another ∷ more) = None
 
 -- ---- objects
 
--- where the bytes stand that a call on an object names, and how many they are
-abbrev pub object_span : ObjectCall → ℕ × ℕ
-object_span (Create id len) = (id, len)
-object_span (Opened id len) = (id, len)
-object_span (Read handle addr len) = (addr, len)
-object_span (Write handle addr len) = (addr, len)
-object_span (Seek handle position) = (0, 0)
-object_span (Close handle) = (0, 0)
-object_span (Delete handle) = (0, 0)
-
 abbrev pub object_asking : StorageStep → Asking
 object_asking (storage.Ask wanted payload) = Needs wanted payload
 object_asking (storage.Done result value) = Gives result value 0
@@ -90,12 +79,6 @@ abbrev pub object_ask : Serving → Ask
 object_ask s = record { next = object_asking s.step; range = s.range; objects = s.objects }
 
 -- ---- the request
-
--- where the bytes stand that a request names, and how many they are
-abbrev pub span_of : Request → ℕ × ℕ
-span_of request.Time = (0, 0)
-span_of (request.Suspend ms) = (0, 0)
-span_of (request.Object call) = object_span call
 
 -- so many bytes from an address on
 abbrev pub bytes_at : State → ℕ → ℕ → List ℕ

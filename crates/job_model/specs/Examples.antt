@@ -1,11 +1,12 @@
 -- Jobs of small applications, worked out by hand.
-use Rattle.std.specs.Prelude.{◌≡◌, ℕ, true, false, List, [], ◌∷◌, length, Option, Some, None, Bool, ◌++◌, replicate}
+use Rattle.std.specs.Prelude.{◌≡◌, ℕ, ◌-◌, true, false, List, [], ◌∷◌, length, Option, Some, None, Bool, ◌++◌, replicate}
 use Rattle.std.specs.Option.{option_and_then, option_map}
 use Rattle.base.specs.NumberMap.{NumberMap}
 use Rattle.ta_isa.specs.declared.image.Image.{Image}
 use Rattle.ta_params.specs.declared.copied_params.Way.TheVariants.{Inout}
 use Rattle.ta_params.specs.declared.copied_params.GpParam.TheVariants.{Value}
 use Rattle.ta_params.specs.declared.copied_params.CopiedParams.{CopiedParams}
+use Rattle.ta_step.specs.Runs.{Ran, runs}
 use Rattle.ta_step.specs.State.{State}
 use Rattle.ta_step.specs.Examples.{instr, sum_code, params_of, somebody}
 use Rattle.tee_storage.specs.declared.handle.Handle.{Handle}
@@ -18,7 +19,7 @@ use Rattle.rpc_msgs.specs.declared.rpc.Rpc.TheVariants as rpc
 use Rattle.rpc_msgs.specs.declared.rpc.RpcReply.{RpcReply}
 use Rattle.ta_params.specs.declared.call_result.CallResult.{CallResult}
 use Rattle.job_model.specs.Asking.{Gives, asks_time}
-use Rattle.job_model.specs.Steps.{JobStop, Ends, Panics, Asks, Advance, Goes, Stops, Grant, Left, Stopped, after, stop_at, granted, given}
+use Rattle.job_model.specs.Steps.{JobStop, Ends, Panics, Asks, Advance, Goes, Stops, Grant, Left, Stopped, after, stop_at, granted, given, after_run, granted_after}
 
 abbrev pub uuid : List ℕ
 uuid = 1 ∷ 2 ∷ 3 ∷ []
@@ -170,6 +171,17 @@ result_after None = None
 result_after (Some (Left job)) = None
 result_after (Some (Stopped n why)) = result_in why
 
+-- a grant to a job, by a run of its machine and the rest of the grant
+abbrev pub run_by : ℕ → Job → Body → Option Grant
+run_by n job (Machine image point machine) =
+    let rest = λ (ran : Ran). option_and_then (granted_after ran.steps (n - ran.steps)) (after_run job image point ran.state ran.stop) in
+    option_and_then rest (runs image.code n machine)
+run_by n job (Native relation func) = None
+run_by n job Nothing = None
+
+abbrev pub machine_granted : ℕ → Job → Option Grant
+machine_granted n job = run_by n job job.body
+
 -- a reply that brings a piece of a file
 abbrev pub piece : List ℕ → RpcReply
 piece bytes = record { ret = 0; v = 0; w = 0; size = length bytes; bytes = bytes }
@@ -178,7 +190,7 @@ piece bytes = record { ret = 0; v = 0; w = 0; size = length bytes; bytes = bytes
 abbrev pub time_reply : ℕ → ℕ → ℕ → RpcReply
 time_reply ret v w = record { ret = ret; v = v; w = w; size = 0; bytes = [] }
 
--- what is left of a job, and of its machine
+-- the UUID of a job, and the parameters that are with it
 abbrev pub still : Option Job → Option (List ℕ × CopiedParams)
 still job = option_map (λ j. (j.uuid, j.params)) job
 
@@ -209,15 +221,24 @@ pub record Examples : Type 0 where
   pub sum_at_six : stop_at 6 invokes ≡ Some (Ends (record { result = of_application 0; context = 20; memory = memory; objects = one_object; params = sum; is_last = false }))
   pub not_at_five : stop_at 5 invokes ≡ None
   pub not_at_seven : stop_at 7 invokes ≡ None
-  pub left_at_five : still (after 5 invokes) ≡ Some (uuid, terms)
+  -- its parameters are with its machine meanwhile, and the job has none
+  pub left_at_five : still (after 5 invokes) ≡ Some (uuid, no_params)
   pub none_left_at_six : after 6 invokes ≡ None
   pub granted_many : granted 1000 invokes ≡ Some (Stopped 6 (Ends (record { result = of_application 0; context = 20; memory = memory; objects = one_object; params = sum; is_last = false })))
   pub granted_none : granted 0 invokes ≡ Some (Left invokes)
   -- a create that returns at the last granted step leaves the open to come, masked, with the flag as seen
   pub open_to_come : granted 3 (opens (returns 0 0 0 0)) ≡ Some (Left (at_point (returns 0 0 0 0) memory true (idle uuid somebody 0 one_object terms) Open (Destroy ∷ [])))
   pub open_begins : option_and_then (λ job. machine_in job.body) (after 3 (opens (returns 0 0 0 0))) ≡ Some (starts_with (3 ∷ 0 ∷ 0 ∷ []) 3 true)
+  -- the parameters are with the job while create runs, with the machine while open does, and with the job again as
+  -- destroy begins
+  pub beside_create : still (after 2 (opens (returns 0 7 0 8))) ≡ Some (uuid, terms)
+  pub beside_open : still (after 3 (opens (returns 0 7 0 8))) ≡ Some (uuid, no_params)
+  pub beside_destroy : still (after 6 (opens (returns 0 7 0 8))) ≡ Some (uuid, terms)
   -- an open that succeeds gives its context, and destroy doesn't come
   pub opened : stop_at 6 (opens (returns 0 0 0 0)) ≡ Some (Ends (record { result = of_application 0; context = 9; memory = memory; objects = one_object; params = terms; is_last = false }))
+  -- the run of the create's machine has three steps, and the rest of the grant is its open's
+  pub create_and_open : machine_granted 1000 (opens (returns 0 0 0 0)) ≡ Some (Stopped 6 (Ends (record { result = of_application 0; context = 9; memory = memory; objects = one_object; params = terms; is_last = false })))
+  pub create_alone : machine_granted 3 (opens (returns 0 0 0 0)) ≡ Some (Left (at_point (returns 0 0 0 0) memory true (idle uuid somebody 0 one_object terms) Open (Destroy ∷ [])))
   -- a create that fails, with the parameters as they were copied
   pub create_fails : stop_at 3 (opens (returns 7 0 0 0)) ≡ Some (Ends (record { result = of_application 7; context = 0; memory = memory; objects = one_object; params = terms; is_last = true }))
   -- an open that fails has its result, whatever destroy returns

@@ -9,7 +9,7 @@ use Rattle.ta_params.specs.declared.login.Login.{Login}
 use Rattle.tee_storage.specs.declared.handle.Handle.{Handle}
 use Rattle.ta_step.specs.State.{State, started}
 use Rattle.job_model.specs.Asking.{Asked}
-use Rattle.job_model.specs.Point.{Point, Create, Open, Invoke, Close, Destroy, number_of, first_registers, params_at}
+use Rattle.job_model.specs.Point.{Point, Create, Open, Invoke, Close, Destroy, number_of, first_registers, params_at, params_beside}
 
 -- what runs: the machine of an image at one of its entry points; the function of a native application, for an
 -- invoke; or nothing, of a dead instance and for the other entry points of a native application
@@ -61,7 +61,7 @@ machine_at image point memory seen job =
 -- the job at the start of this entry point, with these behind it
 abbrev pub at_point : Image → List ℕ → Bool → Job → Point → List Point → Job
 at_point image memory seen job point behind =
-    record job { body = Machine image point (machine_at image point memory seen job); points = behind }
+    record job { body = Machine image point (machine_at image point memory seen job); params = params_beside point job.params; points = behind }
 
 -- the same job, whose call has seen that it was cancelled
 abbrev pub seen_in : Body → Body

@@ -44,3 +44,11 @@ params_at Open params = params
 params_at (Invoke func) params = params
 params_at Close params = no_params
 params_at Destroy params = no_params
+
+-- and those that stay with the call meanwhile
+abbrev pub params_beside : Point → CopiedParams → CopiedParams
+params_beside Create params = params
+params_beside Open params = no_params
+params_beside (Invoke func) params = no_params
+params_beside Close params = params
+params_beside Destroy params = params

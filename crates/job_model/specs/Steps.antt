@@ -1,5 +1,5 @@
 -- What so many steps make of a job, and its stop. This project's own.
-use Rattle.std.specs.Prelude.{◌≡◌, ℕ, zero, suc, ◌≤◌, ◌==◌, Bool, true, false, if◌then◌else◌, List, [], ◌∷◌, ◌++◌, Option, Some, None}
+use Rattle.std.specs.Prelude.{◌≡◌, ℕ, zero, suc, ◌+◌, ◌≤◌, ◌==◌, Bool, true, false, if◌then◌else◌, List, [], ◌∷◌, ◌++◌, Option, Some, None}
 use Rattle.std.specs.Option.{option_map, option_or, option_and_then}
 use Rattle.base.specs.NumberMap.{NumberMap}
 use Rattle.ta_isa.specs.declared.image.Image.{Image}
@@ -11,13 +11,16 @@ use Rattle.rpc_msgs.specs.declared.rpc.Rpc.{Rpc}
 use Rattle.ta_step.specs.Addresses.{store}
 use Rattle.ta_step.specs.Outcome.{Outcome, asking}
 use Rattle.ta_step.specs.Outcome as outcome
+use Rattle.ta_step.specs.Requests.{span_of}
 use Rattle.ta_step.specs.State.{State, is_cancelled}
 use Rattle.ta_step.specs.Step.{step}
 use Rattle.ta_step.specs.SystemCalls.{answered}
 use Rattle.ta_step.specs.declared.stop.Request.{Request}
+use Rattle.ta_step.specs.declared.stop.Stop.{Stop as MachineStop}
+use Rattle.ta_step.specs.declared.stop.Stop.TheVariants as stop
 use Rattle.tee_storage.specs.declared.handle.Handle.{Handle}
 use Rattle.job_model.specs.Point.{Point, Create, Open, Invoke, Close, Destroy}
-use Rattle.job_model.specs.Asking.{Asked, Asking, Needs, Gives, Bad, Ask, ask, span_of, range_of}
+use Rattle.job_model.specs.Asking.{Asked, Asking, Needs, Gives, Bad, Ask, ask, range_of}
 use Rattle.job_model.specs.Job.{Body, Machine, Native, Nothing, Job, of_application, at_point}
 
 -- what an ended job leaves
@@ -217,3 +220,23 @@ granted n job = option_or (option_map (Stopped 0) (ended_at_once job job.body)) 
 abbrev pub IsGrant : Job → ℕ → Grant → Type 0
 IsGrant job n (Left left) = After job n left × ((m : ℕ) → m ≤ n → stop_at m job ≡ None)
 IsGrant job n (Stopped m why) = (m ≤ n) × Stop job m why
+
+-- ---- a run of the machine
+
+-- the job after a run of its machine, or why it has stopped by the end of that
+abbrev pub after_run : Job → Image → Point → State → MachineStop → Option Advance
+after_run job image point machine (stop.Ended r0 r1) =
+    Some (followed (returned job point machine.params r0 r1) image point machine (still_to_come point r0 job.points))
+after_run job image point machine (stop.Panicked code) = Some (Stops (Panics code))
+after_run job image point machine (stop.Asks request) = served job image point machine (made job machine request)
+after_run job image point machine stop.Interrupted = Some (Goes (record job { body = Machine image point machine }))
+
+-- the same grant with so many steps before it
+abbrev pub later : ℕ → Grant → Grant
+later used (Left job) = Left job
+later used (Stopped n why) = Stopped (used + n) why
+
+-- a grant of which so many steps are used and so many are left
+abbrev pub granted_after : ℕ → ℕ → Advance → Option Grant
+granted_after used left (Goes job) = option_map (later used) (run_for left job)
+granted_after used left (Stops why) = Some (Stopped used why)

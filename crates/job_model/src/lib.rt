@@ -11,6 +11,7 @@ mod phase;
 
 pub use call_kind::CallKind;
 pub use laws::{
-    answers_are_taken, grants_take_on, one_stop, steps_add_up, stops_add_up, worked_examples,
+    answers_are_taken, grants_run_machines, grants_take_on, one_stop, steps_add_up, stops_add_up,
+    worked_examples,
 };
 pub use phase::Phase;

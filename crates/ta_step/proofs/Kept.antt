@@ -1,4 +1,5 @@
--- No step changes the shape of a machine, and one that goes on doesn't change what it waits for.
+-- No step changes the shape of a machine, one that goes on doesn't change what it waits for, and one that asks
+-- names bytes that are all in one range.
 use Rattle.std.proofs.Common.{◌≡◌, ℕ, zero, suc, ◌+◌, ◌≤◌, Bool, true, false, List, [], ◌∷◌, ◌++◌, length, take, drop, Option, Some, None, refl, ap, sym, subst, ◌∙◌, arith, length-append, length-drop}
 use Rattle.std.specs.Prelude.{◌==◌, ◌-◌, nat_lt, slice_index, ◌%◌, ◌/◌, if◌then◌else◌, find, slice_get, slice_index_or, option_and_then}
 use Rattle.std.specs.Option.{option_map}
@@ -17,6 +18,7 @@ use Rattle.ta_params.specs.CopiedParams.{way_bits}
 use Rattle.ta_step.specs.declared.addresses.TheConstants.{RANGE}
 use Rattle.ta_step.specs.declared.stop.Request.{Request}
 use Rattle.ta_step.specs.declared.stop.Request.TheVariants.{Suspend, Object}
+use Rattle.ta_step.specs.declared.stop.Stop.TheVariants as stop
 use Rattle.ta_step.specs.State.{State, reg, put, is_cancelled}
 use Rattle.ta_step.specs.Bytes.{has_bytes, overwritten, written}
 use Rattle.ta_step.specs.Parameters.{param_at, with_param, buffer, with_buffer, with_value, with_size}
@@ -26,6 +28,7 @@ use Rattle.ta_step.specs.SystemCalls as calls
 use Rattle.ta_step.specs.Operations as ops
 use Rattle.ta_step.specs.Operations.{Effect, operations, effect_of}
 use Rattle.ta_step.specs.Step.{step, outcome_of}
+use Rattle.ta_step.specs.Requests.{object_span, NamesRange}
 use Rattle.ta_step.specs.Runs.{Ran, request_of, later, continued, runs}
 use Rattle.ta_step.specs.Shape.{shape, shapes, SameShape}
 
@@ -49,12 +52,13 @@ shape-both s t u h k = record {
 same : (s : State) → SameRest s s
 same s = record { shape = shape-same s; asked = refl }
 
--- where the outcome is another machine, it has the same shape, and waits for the same
+-- where the outcome is another machine, it has the same shape, and waits for the same; where it is a request,
+-- the bytes that this names are all in one range
 abbrev Keeps : State → Outcome → Type 0
 Keeps s (Goes next) = SameRest s next
 Keeps s (Returns result context) = Unit {0}
 Keeps s (Panics code) = Unit {0}
-Keeps s (Asks request) = Unit {0}
+Keeps s (Asks request) = NamesRange (stop.Asks request) s
 
 either : (s : State) (b : Bool) (x y : Outcome) → Keeps s x → Keeps s y → Keeps s (if b then x else y)
 either s true x y h k = h
@@ -225,22 +229,28 @@ masks-kept masked s = record {
 }
 
 wait-kept : (s : State) → Keeps s (calls.wait s)
-wait-kept s = either s (is_cancelled s) (goes_on (put s 0 TEE_ERROR_CANCEL)) (Asks (Suspend (reg s 0))) (puts s 0 TEE_ERROR_CANCEL) tt
+wait-kept s = either s (is_cancelled s) (goes_on (put s 0 TEE_ERROR_CANCEL)) (Asks (Suspend (reg s 0))) (puts s 0 TEE_ERROR_CANCEL) refl
 
-object_with-kept : (s : State) (call : ObjectCall) (addr count : ℕ) → Keeps s (calls.object_with call addr count s)
-object_with-kept s call addr count = either s (calls.is_range s addr count) (Asks (Object call)) (Panics 1) tt tt
+-- a call on an object, where the test of its range has come out so
+asked-kept : (s : State) (call : ObjectCall) (b : Bool) → (let span = object_span call in calls.is_range s span.0 span.1 ≡ b)
+    → Keeps s (if b then Asks (Object call) else Panics 1)
+asked-kept s call true e = e
+asked-kept s call false e = tt
+
+object_with-kept : (s : State) (call : ObjectCall) → (let span = object_span call in Keeps s (calls.object_with call span.0 span.1 s))
+object_with-kept s call = let span = object_span call in asked-kept s call (calls.is_range s span.0 span.1) refl
 
 create-kept : (s : State) → Keeps s (calls.object_create s)
-create-kept s = object_with-kept s (Create (reg s 0) (reg s 1)) (reg s 0) (reg s 1)
+create-kept s = object_with-kept s (Create (reg s 0) (reg s 1))
 
 open-kept : (s : State) → Keeps s (calls.object_open s)
-open-kept s = object_with-kept s (Opened (reg s 0) (reg s 1)) (reg s 0) (reg s 1)
+open-kept s = object_with-kept s (Opened (reg s 0) (reg s 1))
 
 read-kept : (s : State) → Keeps s (calls.object_read s)
-read-kept s = object_with-kept s (Read (reg s 0) (reg s 1) (reg s 2)) (reg s 1) (reg s 2)
+read-kept s = object_with-kept s (Read (reg s 0) (reg s 1) (reg s 2))
 
 write-kept : (s : State) → Keeps s (calls.object_write s)
-write-kept s = object_with-kept s (Write (reg s 0) (reg s 1) (reg s 2)) (reg s 1) (reg s 2)
+write-kept s = object_with-kept s (Write (reg s 0) (reg s 1) (reg s 2))
 
 moved : (s : State) (place : ℕ) (stack : List ℕ) → SameRest s (record s { place = place; stack = stack })
 moved s place stack = record {
@@ -298,7 +308,7 @@ row_found (e ∷ es) i h = row_at i e (find (λ x. x.0 == i.op) es) (e.0 == i.op
 
 -- the calls from number 11 on ask the world outside
 asks_keep : CallsKeep (drop 11 calls.system_calls)
-asks_keep = (λ s. tt, (wait-kept, (create-kept, (open-kept, (read-kept, (write-kept, (λ s. tt, (λ s. tt, (λ s. tt, tt)))))))))
+asks_keep = (λ s. refl, (wait-kept, (create-kept, (open-kept, (read-kept, (write-kept, (λ s. refl, (λ s. refl, (λ s. refl, tt)))))))))
 
 calls_keep : CallsKeep calls.system_calls
 calls_keep = (λ s. tt, (λ s. tt, (λ s. puts s 0 _, (λ s. value-given s _, (set_value-kept, (λ s. size-given s _, (set_size-kept, (login-kept, (λ s. puts s 0 _, (masks-kept true, (masks-kept false, asks_keep)))))))))))
@@ -438,3 +448,28 @@ pub runs-waits : (code : List Instr) (n : ℕ) (s : State) (ran : Ran) → s.ask
 runs-waits code zero s ran none e = waits ran _ none e
 runs-waits code (suc n) s ran none e =
     continued-waits s ran (runs code n) (step code s) (step-kept s (slice_get code s.place)) none (runs-waits code n) e
+
+-- the bytes that a run's stop names are in one range of what it leaves
+abbrev Names : Ran → Type 0
+Names ran = NamesRange ran.stop ran.state
+
+names : (ran last : Ran) → Names last → Some last ≡ Some ran → Names ran
+names ran last h e =
+    let is : last ≡ ran = cc in
+    subst Names is h
+
+later-names : (ran : Ran) (rest : Option Ran) → ((r : Ran) → rest ≡ Some r → Names r) → option_map (later 1) rest ≡ Some ran → Names ran
+later-names ran None k e = absurd cc
+later-names ran (Some r) k e = names ran (later 1 r) (k r refl) e
+
+continued-names : (s : State) (ran : Ran) (rest : State → Option Ran) (o : Option Outcome) → OutcomeKeeps s o
+    → ((t : State) (r : Ran) → rest t ≡ Some r → Names r) → option_and_then (continued rest s) o ≡ Some ran → Names ran
+continued-names s ran rest None h k e = absurd cc
+continued-names s ran rest (Some (Goes next)) h k e = later-names ran (rest next) (k next) e
+continued-names s ran rest (Some (Returns result context)) h k e = names ran _ tt e
+continued-names s ran rest (Some (Panics code)) h k e = names ran _ tt e
+continued-names s ran rest (Some (Asks request)) h k e = names ran _ h e
+
+pub runs-names : (code : List Instr) (n : ℕ) (s : State) (ran : Ran) → runs code n s ≡ Some ran → NamesRange ran.stop ran.state
+runs-names code zero s ran e = names ran _ tt e
+runs-names code (suc n) s ran e = continued-names s ran (runs code n) (step code s) (step-kept s (slice_get code s.place)) (runs-names code n) e

@@ -1,4 +1,5 @@
 pub mod Grants
+pub mod StepsUsed
 pub mod Present
 pub mod Words
 pub mod Overwritten

@@ -5,6 +5,7 @@ pub mod Addresses
 pub mod Parameters
 pub mod Outcome
 pub mod SystemCalls
+pub mod Requests
 pub mod Operations
 pub mod Step
 pub mod Runs

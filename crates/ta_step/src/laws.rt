@@ -1,10 +1,11 @@
 //! What holds of the definitions themselves.
-ghost use Rattle.std.specs.Prelude.{◌≡◌, ℕ, ◌+◌, ◌*◌, ◌<◌, List, [], IsSome, Some, None, slice_get, slice_index_or};
+ghost use Rattle.std.specs.Prelude.{◌≡◌, ℕ, ◌+◌, ◌*◌, ◌<◌, ◌≤◌, List, [], IsSome, Some, None, slice_get, slice_index_or};
 ghost use Rattle.ta_isa.specs.declared.image.Image.{Image as AnyImage};
 ghost use Rattle.ta_isa.specs.declared.image.Instr.{Instr as AnyInstr};
 ghost use Rattle.ta_isa.specs.Spelling.{IsValid};
 ghost use Rattle.ta_step.specs.Addresses.{load, ranges};
 ghost use Rattle.ta_step.specs.Examples.{Examples};
+ghost use Rattle.ta_step.specs.Requests.{NamesRange};
 ghost use Rattle.ta_step.specs.Runs.{Ran, request_of, runs, runs_twice};
 ghost use Rattle.ta_step.specs.Shape.{SameShape};
 ghost use Rattle.ta_step.specs.State.{State};
@@ -35,6 +36,18 @@ pub fn shape_of_runs()
 pub fn asked_of_runs()
     ensures { (code : List AnyInstr) (n : ℕ) (s : State) (ran : Ran) → s.asked ≡ None → runs code n s ≡ Some ran
         → ran.state.asked ≡ request_of ran.stop }
+{}
+
+/// A run uses no more steps than it is granted, and at least one of some.
+pub fn steps_of_runs()
+    ensures { (code : List AnyInstr) (n : ℕ) (s : State) (ran : Ran) → runs code n s ≡ Some ran
+        → (ran.steps ≤ n) × (0 < n → 0 < ran.steps) }
+{}
+
+/// The bytes that a request names are all in one range of the machine that stopped for it.
+pub fn requests_name_ranges()
+    ensures { (code : List AnyInstr) (n : ℕ) (s : State) (ran : Ran) → runs code n s ≡ Some ran
+        → NamesRange ran.stop ran.state }
 {}
 
 /// A machine whose image is valid comes to one outcome at each step.

@@ -19,7 +19,8 @@ mod system_calls;
 pub use addresses::RANGE;
 pub use base::NoMemory;
 pub use laws::{
-    asked_of_runs, one_outcome, ranges_begin, shape_of_runs, sum_of_grants, worked_examples,
+    asked_of_runs, one_outcome, ranges_begin, requests_name_ranges, shape_of_runs, steps_of_runs,
+    sum_of_grants, worked_examples,
 };
 pub use machine::{Machine, STACK_DEPTH};
 pub use memory::{Plain, TaMemory};
