@@ -46,6 +46,7 @@ pub(crate) fn piece_read<M: Span>(
     requires { IsRead transfer (M.bytes span.old) }
     ensures left { onward (Waits.PieceRead transfer) (now_at (M.bytes span.old) handles.old) reply.now
         ≡ left_at result (now_at (M.bytes span.new) handles.new) }
+    ensures rest { M.rest span.new ≡ M.rest span.old }
     ensures ready { IsReady result.waits (M.bytes span.new) }
     ensures no_panic { panic_code result.step ≡ None }
 {

@@ -10,6 +10,11 @@ pub trait Span {
     /// What it means: the bytes.
     ghost bytes: { Self → List ℕ };
 
+    /// What lies around them, which no write changes.
+    ghost Rest: { Type 0 } = { Unit {0} };
+
+    ghost rest: { Self → Self.Rest };
+
     /// The byte at a place.
     fn get(&self, at: u32) -> u8
         requires { at < length (bytes self.now) }
@@ -18,7 +23,8 @@ pub trait Span {
     /// Writes the byte at a place and no other.
     fn set(&mut self, at: u32, byte: u8)
         requires { at < length (bytes self.old) }
-        ensures { bytes self.new ≡ slice_set (bytes self.old) at byte };
+        ensures bytes { bytes self.new ≡ slice_set (bytes self.old) at byte }
+        ensures rest { rest self.new ≡ rest self.old };
 }
 
 /// The bytes of a piece of the range.
@@ -39,7 +45,8 @@ pub(crate) fn bytes_of<M: Span>(span: &M, start: u32, len: u32) -> Payload
 pub(crate) fn overwrite<M: Span>(span: &mut M, start: u32, bytes: &[u8])
     requires within { start + length bytes.now ≤ length (M.bytes span.old) }
     requires fits { start + length bytes.now < 2 ^ 32 }
-    ensures { M.bytes span.new ≡ overwritten (M.bytes span.old) start bytes.now }
+    ensures bytes { M.bytes span.new ≡ overwritten (M.bytes span.old) start bytes.now }
+    ensures rest { M.rest span.new ≡ M.rest span.old }
 {
     for (number, byte) in bytes.iter().enumerate() {
         span.set(start + number as u32, *byte);

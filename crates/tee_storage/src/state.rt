@@ -59,6 +59,7 @@ impl ObjectState {
     ) -> StorageStep
         requires { CanGoOn self.old (M.bytes span.old) }
         ensures no_panic { panic_code result ≡ None }
+        ensures rest { M.rest span.new ≡ M.rest span.old }
         ensures ready { CanGoOn self.new (M.bytes span.new) }
         ensures stands { (call : ObjectCall) (uuid range : List ℕ) (objects : NumberMap Handle) (answers : List RpcAnswer)
             (rpc : Rpc) (payload : List ℕ)
@@ -111,6 +112,7 @@ fn answered<M: Span>(waits: Waits, reply: &RpcReply, span: &mut M, handles: &mut
     requires { IsReady waits (M.bytes span.old) }
     ensures left { onward waits (now_at (M.bytes span.old) handles.old) reply.now
         ≡ left_at result (now_at (M.bytes span.new) handles.new) }
+    ensures rest { M.rest span.new ≡ M.rest span.old }
     ensures ready { IsReady result.waits (M.bytes span.new) }
     ensures no_panic { panic_code result.step ≡ None }
 {

@@ -16,6 +16,8 @@ struct Range {
 impl Span for Range {
     ghost bytes = { λ range. range.bytes.items };
 
+    ghost rest = { λ range. tt };
+
     fn get(&self, at: u32) -> u8 {
         self.bytes[at as usize]
     }

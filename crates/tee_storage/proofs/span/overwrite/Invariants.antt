@@ -3,4 +3,7 @@ use Rattle.tee_storage.specs.ObjectFiles.{overwritten}
 use Rattle.tee_storage.proofs.span.overwrite.Given as goal
 
 abbrev pub invariant-loop-number : goal.invariant-loop-number
-invariant-loop-number g l = g.M.Span.bytes l.span ≡ overwritten (g.M.Span.bytes l.initial.span) l.start (take l.number l.bytes)
+invariant-loop-number g l = record {
+  bytes : g.M.Span.bytes l.span ≡ overwritten (g.M.Span.bytes l.initial.span) l.start (take l.number l.bytes);
+  rest : g.M.Span.rest l.span ≡ g.M.Span.rest l.initial.span;
+}
