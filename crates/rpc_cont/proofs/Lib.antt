@@ -1,0 +1,9 @@
+pub mod Written
+pub mod RangeWrites
+pub mod Spans
+pub mod Returning
+pub mod Stopping
+pub mod Runs
+pub mod Asking
+pub mod Pending
+pub mod Answered

@@ -1,0 +1,90 @@
+-- A call that has stopped with a request takes an answer.
+use Rattle.std.proofs.Common.{◌≡◌, ℕ, zero, suc, List, Option, Some, None, refl, sym, subst}
+use Rattle.std.specs.Prelude.{IsSome, IsSomeAnd}
+use Rattle.job_model.specs.Asking.{Asked, bytes_at}
+use Rattle.job_model.specs.Job.{Job}
+use Rattle.job_model.specs.Steps.{JobStop, Ends, Panics, Asks, Grant, Left, Stopped, granted}
+use Rattle.rpc_cont.specs.Advancing.{CanRun, IsAdvance, IsRunnable}
+use Rattle.rpc_cont.specs.Answering.{HasImage, HasObject, IsPending}
+use Rattle.rpc_cont.specs.Conts.{body_of, job_for, job_with, uuid_of}
+use Rattle.rpc_cont.specs.Running.{HasCome, IsStop, IsWaiting}
+use Rattle.rpc_cont.specs.declared.app.ContApp.{ContApp}
+use Rattle.rpc_cont.specs.declared.app.ContApp.TheVariants as app
+use Rattle.rpc_cont.specs.declared.cont.Asked.{Asked as Pending}
+use Rattle.rpc_cont.specs.declared.cont.Cont.{Cont}
+use Rattle.rpc_cont.specs.declared.entry_point.EntryPoint.{EntryPoint}
+use Rattle.rpc_cont.specs.declared.stop.ContStop.{ContStop}
+use Rattle.rpc_cont.specs.declared.stop.ContStop.TheVariants as stop
+use Rattle.rpc_cont.proofs.Asking.{where_there, is_there, from_there}
+use Rattle.ta_step.specs.Machine.{state_of}
+use Rattle.ta_step.specs.Requests.{span_of}
+use Rattle.ta_step.specs.State.{State}
+use Rattle.ta_step.specs.declared.machine.Machine.{Machine as AnyMachine}
+use Rattle.ta_step.specs.declared.stop.Request.{Request}
+use Rattle.ta_step.specs.declared.stop.Request.TheVariants as request
+use Rattle.tee_storage.specs.declared.state.ObjectState.{ObjectState}
+
+-- ---- a call that waits
+
+has_object : {M X : Type 0} {g : _} (uuid : List ℕ) (asked : Asked) (cont : Cont M X g) (machine : State) (wanted : Request) (pending : Option Pending) (object : Option ObjectState)
+    → (let span = span_of wanted in HasCome uuid (bytes_at machine span.0 span.1) asked cont wanted pending object) → HasObject machine wanted object
+has_object uuid asked cont machine request.Time None object come = absurd come
+has_object uuid asked cont machine request.Time (Some pending) None come = refl
+has_object uuid asked cont machine request.Time (Some pending) (Some state) come = absurd come
+has_object uuid asked cont machine (request.Suspend ms) None object come = absurd come
+has_object uuid asked cont machine (request.Suspend ms) (Some pending) None come = refl
+has_object uuid asked cont machine (request.Suspend ms) (Some pending) (Some state) come = absurd come
+has_object uuid asked cont machine (request.Object call) None object come = absurd come
+has_object uuid asked cont machine (request.Object call) (Some pending) None come = absurd come
+has_object uuid asked cont machine (request.Object call) (Some pending) (Some state) come = come.ready
+
+pub waits-pending : {M X : Type 0} {g : _} (bytes : M → List ℕ) (uuid : List ℕ) (cont : Cont M X g) (plain job : Job) (pending : Pending)
+    → IsWaiting bytes uuid cont plain job → cont.request ≡ Some pending → IsPending bytes cont
+waits-pending bytes uuid cont plain job pending waits is = record {
+  point = waits.point;
+  memory = waits.memory;
+  request = subst (λ (o : Option Pending). IsSome o) (sym is) refl;
+  machine =
+      from_there job.asked _ waits.asked
+      (λ asked at awaits.
+      where_there cont.machine _ _ awaits
+      (λ m there here. is_there m.asked _ asked.request here.asks.asks (here.asks, has_object uuid asked cont (state_of bytes m) asked.request cont.request cont.object here.come)));
+}
+
+-- ---- a call that was taken on
+
+stop-pending : {M X : Type 0} {g : _} (bytes : M → List ℕ) (uuid : List ℕ) (cont : Cont M X g) (plain : Job) (why : JobStop) (answer : ContStop)
+    → IsStop bytes uuid cont plain why answer → answer ≡ stop.Asks → IsPending bytes cont
+stop-pending bytes uuid cont plain (Ends end) answer (ended, left, none) asks = absurd cc
+stop-pending bytes uuid cont plain (Panics code) answer (panicked, dead, none) asks = absurd cc
+stop-pending bytes uuid cont plain (Asks wanted payload left) answer (stops, (waits, is)) asks = waits-pending bytes uuid cont plain left _ waits is
+
+grant-pending : {M X : Type 0} {g : _} (bytes : M → List ℕ) (whose : Option (ContApp X g)) (cont : Cont M X g) (before steps : ℕ) (grant : Grant) (answer : ContStop)
+    → IsAdvance bytes whose cont before steps grant answer → answer ≡ stop.Asks → IsPending bytes cont
+grant-pending bytes whose cont before steps (Left job) answer (interrupted, same, can, count) asks = absurd cc
+grant-pending bytes whose cont before steps (Stopped n why) answer (is, count) asks =
+    stop-pending bytes (uuid_of whose) cont (job_for bytes whose cont) why answer is asks
+
+pub advance-pending : {M X : Type 0} {g : _} (bytes : M → List ℕ) (whose : Option (ContApp X g)) (cont : Cont M X g) (before steps : ℕ) (o : Option Grant) (answer : ContStop)
+    → IsSomeAnd o (λ grant. IsAdvance bytes whose cont before steps grant answer) → answer ≡ stop.Asks → IsPending bytes cont
+advance-pending bytes whose cont before steps None answer is asks = absurd is
+advance-pending bytes whose cont before steps (Some grant) answer is asks = grant-pending bytes whose cont before steps grant answer is asks
+
+-- only an image asks
+abbrev Advanced : {M X : Type 0} {g : _} → (M → List ℕ) → Option (ContApp X g) → Cont M X g → Cont M X g → ℕ → ContStop → Option EntryPoint → Option (AnyMachine M) → Type 0
+Advanced bytes whose old new steps answer point machine =
+    IsSomeAnd (granted steps (job_with (body_of bytes old.kind whose point machine) (uuid_of whose) old)) (λ grant. IsAdvance bytes whose new old.steps steps grant answer)
+
+image_at : {M X : Type 0} {g : _} (bytes : M → List ℕ) (whose : Option (ContApp X g)) (old new : Cont M X g) (steps : ℕ) (answer : ContStop) (point : Option EntryPoint) (machine : Option (AnyMachine M))
+    → IsRunnable bytes old.cancelled whose point machine → Advanced bytes whose old new steps answer point machine → answer ≡ stop.Asks → HasImage whose
+image_at bytes None old new steps answer point machine runs ((ended, left, none), count) asks = absurd cc
+image_at bytes (Some (app.Image uuid image)) old new steps answer None machine runs ((ended, left, none), count) asks = absurd cc
+image_at bytes (Some (app.Image uuid image)) old new steps answer (Some here) machine runs is asks = runs.0
+image_at bytes (Some (app.Native native)) old new steps answer None machine runs ((ended, left, none), count) asks = absurd cc
+image_at bytes (Some (app.Native native)) old new zero answer (Some here) machine runs (interrupted, same, can, count) asks = absurd cc
+image_at bytes (Some (app.Native native)) old new (suc n) answer (Some here) machine runs ((ended, left, none), count) asks = absurd cc
+
+pub advance-image : {M X : Type 0} {g : _} (bytes : M → List ℕ) (whose : Option (ContApp X g)) (old new : Cont M X g) (steps : ℕ) (answer : ContStop)
+    → CanRun bytes whose old → IsSomeAnd (granted steps (job_for bytes whose old)) (λ grant. IsAdvance bytes whose new old.steps steps grant answer)
+    → answer ≡ stop.Asks → HasImage whose
+advance-image bytes whose old new steps answer can is asks = image_at bytes whose old new steps answer old.point old.machine can.runs is asks

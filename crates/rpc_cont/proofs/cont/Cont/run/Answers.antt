@@ -1,0 +1,46 @@
+use Rattle.std.proofs.Common.{rules, ◌≡◌, ◌+◌, ◌-◌, ℕ, Option, subst, ◌∙◌, arith}
+use Rattle.job_model.specs.Steps.{run_for}
+use Rattle.rpc_cont.specs.Conts.{job_at}
+use Rattle.rpc_cont.specs.declared.stop.ContStop.{ContStop}
+use Rattle.rpc_cont.proofs.Runs.{IsTaken, Rests, rests-more, run_stops, turn_taken}
+use Rattle.rpc_cont.proofs.cont.Cont.run.Goals as goal
+
+pub returns-in-Some-clause-runs : goal.returns-in-Some-clause-runs
+returns-in-Some-clause-runs g c =
+    let bytes = g.M.TaMemory.bytes in
+    let image = c.args.image.now in
+    let before = c.loop-left.self in
+    let new = c.turn-stop.new.self in
+    let left = c.loop-left.left in
+    let used = c.turn-stop.result.1 in
+    let grant = run_for left (job_at bytes c.args.uuid image before) in
+    let taken = turn_taken bytes c.args.uuid image before new left used c.turn-stop.result.0 c.loop-left.invariant.running c.turn-stop.ensures.turns in
+    let stops = subst (λ (answer : Option ContStop). IsTaken bytes c.args.uuid image grant left used new answer) c.in-Some.is taken in
+    run_stops bytes c.args.uuid image new c.args.self.now.steps c.args.steps (c.args.steps - left) used c.in-Some.stop
+    (run_for c.args.steps (job_at bytes c.args.uuid image c.args.self.now)) grant c.loop-left.invariant.grant stops
+    (omega (arith, c.turn-stop.ensures.used, c.loop-left.invariant.used))
+
+pub loop-left-preserved : goal.loop-left-preserved
+loop-left-preserved g c =
+    let bytes = g.M.TaMemory.bytes in
+    let image = c.args.image.now in
+    let before = c.loop-left.self in
+    let new = c.turn-stop.new.self in
+    let left = c.loop-left.left in
+    let used = c.turn-stop.result.1 in
+    let grant = run_for left (job_at bytes c.args.uuid image before) in
+    let all = run_for c.args.steps (job_at bytes c.args.uuid image c.args.self.now) in
+    let rest = run_for (left - used) (job_at bytes c.args.uuid image new) in
+    let taken = turn_taken bytes c.args.uuid image before new left used c.turn-stop.result.0 c.loop-left.invariant.running c.turn-stop.ensures.turns in
+    let goes = subst (λ (answer : Option ContStop). IsTaken bytes c.args.uuid image grant left used new answer) c.in_default.is taken in
+    let most = c.turn-stop.ensures.most in
+    let within = c.loop-left.invariant.left in
+    let count : (c.args.steps - left) + used ≡ c.args.steps - (left - used) = omega (arith, most, within) in
+    record {
+      running = goes.1;
+      left = omega (arith, most, within);
+      grant = subst (λ (k : ℕ). Rests all k rest) count (rests-more all grant rest (c.args.steps - left) used c.loop-left.invariant.grant goes.0);
+      used = omega (arith, c.turn-stop.ensures.used, c.loop-left.invariant.used, most, within);
+      size = c.turn-stop.ensures.size ∙ c.loop-left.invariant.size;
+      stays = search rules;
+    }

@@ -1,0 +1,10 @@
+use Rattle.std.proofs.Common.{refl}
+use Rattle.rpc_cont.proofs.tests.built_in.Goals as goal
+
+pub returns : goal.returns
+returns g c =
+    let idle = c.idle-cont.ensures in
+    record {
+      phase = idle.phase;
+      runs = record { memory = idle.memory; request = idle.request; object = idle.object; runs = idle.machine };
+    }

@@ -1,0 +1,69 @@
+-- How a call is taken on by so many steps.
+use Rattle.std.specs.Prelude.{◌≡◌, ℕ, ◌+◌, Bool, List, Option, Some, None, option_and_then, IsSomeAnd}
+use Rattle.std.specs.Option.{option_map}
+use Rattle.job_model.specs.Job.{Job}
+use Rattle.job_model.specs.Point.{Point}
+use Rattle.job_model.specs.Steps.{Advance, Grant, Left, Stopped, after_run}
+use Rattle.job_model.specs.declared.phase.Phase.{Phase}
+use Rattle.job_model.specs.declared.phase.Phase.TheVariants as phase
+use Rattle.rpc_cont.specs.Conts.{uuid_of, job_for}
+use Rattle.rpc_cont.specs.Running.{IsReady, IsStop}
+use Rattle.rpc_cont.specs.declared.app.ContApp.{ContApp}
+use Rattle.rpc_cont.specs.declared.app.ContApp.TheVariants as app
+use Rattle.rpc_cont.specs.declared.cont.Cont.{Cont}
+use Rattle.rpc_cont.specs.declared.entry_point.EntryPoint.{EntryPoint}
+use Rattle.rpc_cont.specs.declared.entry_point.EntryPoint.TheVariants as entry
+use Rattle.rpc_cont.specs.declared.stop.ContStop.{ContStop}
+use Rattle.rpc_cont.specs.declared.stop.ContStop.TheVariants as stop
+use Rattle.ta_isa.specs.Spelling.{IsValid}
+use Rattle.ta_isa.specs.declared.image.Image.{Image}
+use Rattle.ta_step.specs.Machine.{state_of}
+use Rattle.ta_step.specs.Runs.{Ran, runs}
+use Rattle.ta_step.specs.State.{State}
+use Rattle.ta_step.specs.declared.machine.Machine.{Machine as AnyMachine}
+
+-- ---- one run of a machine
+
+-- what the job comes to by a run of its machine, with the steps that it uses
+abbrev pub after_ran : Job → Image → Point → Ran → Option (ℕ × Advance)
+after_ran job image point ran = option_map (λ (turn : Advance). (ran.steps, turn)) (after_run job image point ran.state ran.stop)
+
+abbrev pub turn_of : Job → Image → Point → State → ℕ → Option (ℕ × Advance)
+turn_of job image point machine steps = option_and_then (after_ran job image point) (runs image.code steps machine)
+
+-- ---- a grant of steps
+
+-- what runs can run: the machine of an image, the function of a built-in application, or nothing
+abbrev pub IsRunnable : {M X : Type 0} {g : _} → (M → List ℕ) → Bool → Option (ContApp X g) → Option EntryPoint → Option (AnyMachine M) → Type 0
+IsRunnable bytes seen (Some (app.Image uuid image)) (Some point) machine =
+    IsValid image.value × IsSomeAnd machine (λ m. IsReady seen (state_of bytes m))
+IsRunnable bytes seen (Some (app.Native native)) (Some point) machine = (point ≡ entry.Invoke) × (machine ≡ None)
+IsRunnable bytes seen None (Some point) machine = ⊥
+IsRunnable bytes seen _ None machine = machine ≡ None
+
+-- the call of this application can run, and has asked for nothing
+pub record CanRun {M X : Type 0} {g : _} (bytes : M → List ℕ) (app : Option (ContApp X g)) (cont : Cont M X g) : Type 0 where
+  pub memory : cont.memory ≡ None
+  pub request : cont.request ≡ None
+  pub object : cont.object ≡ None
+  pub runs : IsRunnable bytes cont.cancelled app cont.point cont.machine
+
+-- the call runs
+pub record CanAdvance {M X : Type 0} {g : _} (bytes : M → List ℕ) (cont : Cont M X g) : Type 0 where
+  pub phase : cont.phase ≡ phase.Runs
+  pub runs : CanRun bytes cont.app cont
+
+-- how far it has come, by why it stopped
+abbrev pub phase_after : ContStop → Phase
+phase_after stop.Interrupted = phase.Runs
+phase_after stop.Asks = phase.Asks
+phase_after (stop.Ended result) = phase.Ends
+phase_after (stop.Panicked code) = phase.Ends
+
+-- the answer and the call behind it, of this application, are those of a grant of so many steps, where it had done so
+-- many before
+abbrev pub IsAdvance : {M X : Type 0} {g : _} → (M → List ℕ) → Option (ContApp X g) → Cont M X g → ℕ → ℕ → Grant → ContStop → Type 0
+IsAdvance bytes app cont before steps (Left job) answer =
+    (answer ≡ stop.Interrupted) × (job ≡ job_for bytes app cont) × CanRun bytes app cont × (cont.steps ≡ before + steps)
+IsAdvance bytes app cont before steps (Stopped used why) answer =
+    IsStop bytes (uuid_of app) cont (job_for bytes app cont) why answer × (cont.steps ≡ before + used)

@@ -1,0 +1,7 @@
+pub mod Conts
+pub mod Running
+pub mod Spans
+pub mod Advancing
+pub mod Answering
+pub mod Resuming
+pub mod Examples

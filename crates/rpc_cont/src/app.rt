@@ -1,0 +1,17 @@
+use native_tas::Native;
+use std::alloc::Global;
+use std::sync::Arc;
+use ta_isa::Image;
+use uuid::Uuid;
+
+/// The application of a call.
+#[derive(Drop)]
+pub enum ContApp {
+    /// That of an image, with its UUID.
+    Image {
+        uuid: Uuid,
+        image: Arc<Image, Global>,
+    },
+    /// One that is built in.
+    Native(Native),
+}

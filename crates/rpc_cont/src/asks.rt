@@ -1,0 +1,150 @@
+//! What an application asks for as it runs, and what becomes of the answer.
+ghost use Rattle.std.specs.Prelude.{◌≡◌, List, ℕ, Some, None, IsSome, IsSomeAnd};
+ghost use Rattle.job_model.specs.Asking.{Asked as AskedJob, Gives, bytes_at, object_asking, told_time};
+ghost use Rattle.job_model.specs.Job.{of_tee};
+ghost use Rattle.job_model.specs.Steps.{made, on_from, served};
+ghost use Rattle.rpc_cont.specs.Conts.{job_at, memory_size, point_of};
+ghost use Rattle.rpc_cont.specs.Running.{IsAsking, IsTurn, worked};
+ghost use Rattle.rpc_cont.specs.declared.entry_point.EntryPoint.{EntryPoint as AnyPoint};
+ghost use Rattle.ta_isa.specs.declared.image.Image.{Image as AnyImage};
+ghost use Rattle.ta_params.specs.declared.codes.TheConstants.{TEE_ERROR_TARGET_DEAD};
+ghost use Rattle.ta_step.specs.Machine.{state_of};
+ghost use Rattle.ta_step.specs.Requests.{object_span};
+ghost use Rattle.ta_step.specs.SystemCalls.{answered};
+ghost use Rattle.ta_step.specs.declared.stop.Request.{Request as AnyRequest};
+ghost use Rattle.tee_storage.specs.States.{StandsFor};
+
+use crate::cont::{Asked, Cont};
+use crate::machine_span::MachineSpan;
+use crate::stop::ContStop;
+use rpc_msgs::{Payload, Rpc, RpcReply};
+use ta_params::CallResult;
+use ta_params::codes::*;
+use ta_step::{Machine, ObjectCall, Request, TaMemory};
+use tee_storage::{ObjectState, StorageStep};
+use uuid::Uuid;
+
+const NANOSECONDS_OF_A_MILLISECOND: u32 = 1_000_000;
+
+/// How many numbers a register has.
+const TWO_POW_32: u64 = 1 << 32;
+
+/// The registers that tell an application the time.
+pub(crate) fn told_time(reply: &RpcReply) -> (u32, u32, u32)
+    ensures { told_time reply.now ≡ Gives result.0 result.1 result.2 }
+{
+    if reply.ret != TEE_SUCCESS {
+        return (TEE_ERROR_GENERIC, 0, 0);
+    }
+    let seconds = (reply.v % TWO_POW_32) as u32;
+    let nanoseconds = (reply.w % TWO_POW_32) as u32;
+    (
+        TEE_SUCCESS,
+        seconds,
+        nanoseconds / NANOSECONDS_OF_A_MILLISECOND,
+    )
+}
+
+impl<M: TaMemory + Drop> Cont<M> {
+    /// Begins what its machine has asked for.
+    pub(crate) fn ask(&mut self, uuid: Uuid, request: Request) -> Option<ContStop>
+        requires { IsAsking M.bytes self.old request }
+        ensures asks { (image : AnyImage) → IsSomeAnd self.old.machine (λ m. (here : AnyPoint) → self.old.point ≡ Some here
+            → (let job = job_at M.bytes uuid image self.old in
+            let machine = state_of M.bytes m in
+            IsSomeAnd (served job image (point_of self.old.kind here) machine (made job machine request))
+            (λ turn. IsTurn M.bytes uuid image self.new turn result))) }
+        ensures size { memory_size M.bytes self.new ≡ memory_size M.bytes self.old }
+        ensures stays { self.new ≡ worked self.old self.new }
+    {
+        match request {
+            Request::Time => Some(self.wait_for(Rpc::Time, Payload::new())),
+            Request::Suspend(ms) => Some(self.wait_for(Rpc::Suspend(ms), Payload::new())),
+            Request::Object(call) => {
+                let Some(machine) = self.machine.take() else {
+                    unreachable!();
+                };
+                let span = MachineSpan::of(call, machine);
+                let (state, step) = ObjectState::start(call, uuid, &span, &mut self.objects);
+                self.machine = Some(span.into_machine());
+                self.go_on(call, state, step)
+            }
+        }
+    }
+
+    /// Goes on from the next step of a call on an object.
+    pub(crate) fn go_on(
+        &mut self,
+        call: ObjectCall,
+        state: ObjectState,
+        step: StorageStep,
+    ) -> Option<ContStop>
+        requires { IsAsking M.bytes self.old (Request.Object call) }
+        ensures turns { (uuid : List ℕ) (image : AnyImage) (asked : AskedJob) → asked.request ≡ Request.Object call
+            → IsSomeAnd self.old.machine (λ m. (here : AnyPoint) → self.old.point ≡ Some here
+            → (let machine = state_of M.bytes m in
+            let range = (let span = object_span call in bytes_at machine span.0 span.1) in
+            StandsFor state call uuid asked.range asked.objects asked.answers
+            (record { step = step; range = range; objects = self.old.objects })
+            → IsTurn M.bytes uuid image self.new (on_from (job_at M.bytes uuid image self.old) image (point_of self.old.kind here)
+            machine asked self.old.objects (object_asking step)) result)) }
+        ensures size { memory_size M.bytes self.new ≡ memory_size M.bytes self.old }
+        ensures stays { self.new ≡ worked self.old self.new }
+    {
+        match step {
+            StorageStep::Ask { rpc, payload } => {
+                self.object = Some(state);
+                Some(self.wait_for(rpc, payload))
+            }
+            StorageStep::Done { result, value } => {
+                self.give(result, value, 0);
+                None
+            }
+            StorageStep::Panic(code) => Some(self.panicked(code)),
+        }
+    }
+
+    /// Asks the normal world for this.
+    fn wait_for(&mut self, rpc: Rpc, payload: Payload) -> ContStop
+        ensures answer { result ≡ ContStop.Asks }
+        ensures stays { self.new ≡ record self.old { request = Some (record { rpc = rpc; payload = payload }) } }
+    {
+        self.request = Some(Asked { rpc, payload });
+        ContStop::Asks
+    }
+
+    /// Gives the application these registers, in answer to what it has asked for.
+    pub(crate) fn give(&mut self, r0: u32, r1: u32, r2: u32)
+        requires { IsSomeAnd self.old.machine (λ m. IsSome (state_of M.bytes m).asked) }
+        ensures gives { IsSomeAnd self.old.machine (λ m. (request : AnyRequest) → (state_of M.bytes m).asked ≡ Some request
+            → IsSomeAnd self.new.machine (λ n. state_of M.bytes n ≡ answered request r0 r1 r2 (state_of M.bytes m))) }
+        ensures size { memory_size M.bytes self.new ≡ memory_size M.bytes self.old }
+        ensures stays { self.new ≡ record self.old { machine = self.new.machine; request = None } }
+    {
+        let Some(machine) = &mut self.machine else {
+            unreachable!();
+        };
+        machine.answer(r0, r1, r2);
+        self.request = None;
+    }
+
+    /// Ends the call, whose application has panicked.
+    pub(crate) fn panicked(&mut self, code: u32) -> ContStop
+        requires { self.old.memory ≡ None }
+        ensures answer { result ≡ ContStop.Panicked code }
+        ensures dead { self.new.result ≡ of_tee TEE_ERROR_TARGET_DEAD }
+        ensures machine { self.new.machine ≡ None }
+        ensures size { memory_size M.bytes self.new ≡ memory_size M.bytes self.old }
+        ensures stays { self.new ≡ record self.old { result = self.new.result; machine = self.new.machine; memory = self.new.memory } }
+    {
+        if let Some(machine) = self.machine.take() {
+            let (memory, _) = machine.finish();
+            self.memory = Some(memory);
+        }
+        self.result = CallResult {
+            result: TEE_ERROR_TARGET_DEAD,
+            origin: TEE_ORIGIN_TEE,
+        };
+        ContStop::Panicked(code)
+    }
+}

@@ -1,0 +1,68 @@
+use crate::app::ContApp;
+use crate::entry_point::EntryPoint;
+use arrayvec::ArrayVec;
+use job_model::{CallKind, Phase};
+use param_copy::Places;
+use rpc_msgs::{Payload, Rpc};
+use ta_params::{CallResult, CopiedParams, Login};
+use ta_step::{Machine, TaMemory};
+use tee_storage::{Handles, ObjectState};
+
+/// What a call asks the normal world for, and the bytes that go with it.
+#[derive(Debug, Drop)]
+pub struct Asked {
+    pub rpc: Rpc,
+    pub payload: Payload,
+}
+
+/// A buffer of the normal world, in which a call writes its requests.
+#[derive(Clone, Copy, Debug, PartialEq, Eq)]
+pub struct RpcBuffer {
+    pub addr: u64,
+    pub cookie: u64,
+}
+
+/// A call as plain data, over its instance's memory.
+#[derive(Drop)]
+pub struct Cont<M: TaMemory> {
+    /// `None` where it has no application.
+    pub app: Option<ContApp>,
+    /// Who may resume it: a7 at its entry.
+    pub client: u32,
+    pub kind: CallKind,
+    pub login: Login,
+    /// The word that the application keeps with the session: from the return of an open on, the one that it gave.
+    pub context: u32,
+    /// The copied parameters, while no machine has them.
+    pub params: Option<CopiedParams>,
+    /// The address of its argument.
+    pub arg: u64,
+    /// Where the results of its parameters go.
+    pub places: Places,
+    pub session: u32,
+    pub instance: u32,
+    /// The instance's memory, while no machine has it.
+    pub memory: Option<M>,
+    /// The entry point that it has come to: the one that runs, or else the last one that ran.
+    pub point: Option<EntryPoint>,
+    /// The machine at that entry point, while it runs.
+    pub machine: Option<Machine<M>>,
+    /// The entry points still to come. A destroy behind an open comes only where the open fails.
+    pub points: ArrayVec<EntryPoint, 3>,
+    /// The result so far.
+    pub result: CallResult,
+    /// The instance's open objects.
+    pub objects: Handles,
+    /// The call on an object that waits for a reply.
+    pub object: Option<ObjectState>,
+    /// What it asks for and has no answer to.
+    pub request: Option<Asked>,
+    pub buffer: Option<RpcBuffer>,
+    /// Whether it has seen that it was cancelled.
+    pub cancelled: bool,
+    /// The steps that its application has done.
+    pub steps: u128,
+    pub phase: Phase,
+    /// Its first exit with its result has come.
+    pub done: bool,
+}

@@ -1,0 +1,36 @@
+ghost use Rattle.std.specs.Prelude.{◌≡◌, ◌<◌};
+ghost use Rattle.job_model.specs.Point.{number_of};
+ghost use Rattle.job_model.specs.declared.call_kind.CallKind.{CallKind};
+ghost use Rattle.rpc_cont.specs.Conts.{point_of};
+
+/// An entry point of an application, as the TEE Internal Core API has them ("TA Interface").
+#[derive(Clone, Copy, Debug, Default, PartialEq, Eq)]
+pub enum EntryPoint {
+    /// `TA_CreateEntryPoint`, which makes an instance.
+    #[default]
+    Create,
+    /// `TA_OpenSessionEntryPoint`.
+    Open,
+    /// `TA_InvokeCommandEntryPoint`.
+    Invoke,
+    /// `TA_CloseSessionEntryPoint`.
+    Close,
+    /// `TA_DestroyEntryPoint`, which takes an instance apart.
+    Destroy,
+}
+
+impl EntryPoint {
+    /// Its number among the entry points of an image.
+    pub(crate) fn number(self) -> u8
+        ensures number { (kind : CallKind) → result ≡ number_of (point_of kind self) }
+        ensures few { result < 5 }
+    {
+        match self {
+            EntryPoint::Create => 0,
+            EntryPoint::Open => 1,
+            EntryPoint::Invoke => 2,
+            EntryPoint::Close => 3,
+            EntryPoint::Destroy => 4,
+        }
+    }
+}
