@@ -1,6 +1,6 @@
--- A fixed answer changes its processor's part alone.
-use Rattle.std.proofs.Common.{◌≡◌, ℕ, List, [], Option, Some, ap, sym, ◌∙◌}
-use Rattle.std.specs.Prelude.{slice_get}
+-- What an entry decides, seen in what its processor came in for; and a fixed answer changes its processor's part alone.
+use Rattle.std.proofs.Common.{◌≡◌, ℕ, List, [], Option, Some, refl, ap, sym, ◌∙◌}
+use Rattle.std.specs.Prelude.{slice_get, slice_set}
 use Rattle.std.specs.Option.{option_and_then}
 use Rattle.ns_ram.specs.declared.read.Read.{Read}
 use Rattle.smc_abi.specs.Call.{call_of}
@@ -10,38 +10,80 @@ use Rattle.kernel_model.specs.Argument.{reg}
 use Rattle.kernel_model.specs.Decision.{Decision, Answers, Takes, Cancels}
 use Rattle.kernel_model.specs.Entry.{decision_of, entered, after_entry}
 use Rattle.kernel_model.specs.Exit.{exit, exit_of, goes_out}
-use Rattle.kernel_model.specs.Kernel.{Processor, Outside, Inside, Fixed, InSlot, Kernel, with_processor}
+use Rattle.kernel_model.specs.Kernel.{Processor, Outside, Inside, Errand, Fixed, InSlot, Kernel, with_processor}
 use Rattle.kernel_model.specs.Laws.{IsFixed, FixedAnswers}
-use Rattle.kernel_model.proofs.Parts.{reading-mapped, set_then_read, set_twice}
+use Rattle.kernel_model.proofs.Parts.{AllOf, Found, anything, reading-all, set_found, set_then_read, set_twice}
 
-same_answer : (regs : List ℕ) (steps : ℕ) (first second : Answer) → Inside regs steps (Fixed first) ≡ Inside regs steps (Fixed second) → first ≡ second
-same_answer regs steps first second e = cc
+-- ---- what an entry decides
 
-no_slot : (regs : List ℕ) (steps slot : ℕ) (answer : Answer) → Inside regs steps (InSlot slot) ≡ Inside regs steps (Fixed answer) → ⊥
-no_slot regs steps slot answer e = cc
+-- an entry decides something of which this holds, where it holds of all that its registers can come to
+pub decides_all : (P : Decision → Type 0) (boot : Booted) (kernel next : Kernel) (cpu steps : ℕ) (regs : List ℕ) (reads : List Read)
+    → AllOf P (decision_of boot kernel regs (call_of (reg regs 0))) → after_entry boot kernel cpu regs steps reads ≡ Some next
+    → Found (entered kernel cpu regs steps) P next
+decides_all P boot kernel next cpu steps regs reads all e =
+    reading-all (decision_of boot kernel regs (call_of (reg regs 0))) (entered kernel cpu regs steps) P all reads next e
 
-after_decision : (kernel next : Kernel) (cpu steps : ℕ) (regs : List ℕ) (answer : Answer) (decision : Decision)
-    → entered kernel cpu regs steps decision ≡ next → IsFixed next cpu regs steps answer
-    → next ≡ with_processor kernel cpu (Inside regs steps (Fixed answer))
-after_decision kernel next cpu steps regs answer (Answers given) e fixed =
-    let is_set = ap (λ (k : Kernel). slice_get k.processors cpu) e ∙ fixed in
-    let inside = set_then_read kernel.processors cpu (Inside regs steps (Fixed given)) (Inside regs steps (Fixed answer)) is_set in
-    sym e ∙ ap (λ (p : Processor). with_processor kernel cpu p) inside
-after_decision kernel next cpu steps regs answer (Takes slot call after) e fixed =
-    let is_set = ap (λ (k : Kernel). slice_get k.processors cpu) e ∙ fixed in
-    let inside = set_then_read kernel.processors cpu (Inside regs steps (InSlot slot)) (Inside regs steps (Fixed answer)) is_set in
-    absurd (no_slot regs steps slot answer inside)
-after_decision kernel next cpu steps regs answer (Cancels slot call session cancel_id) e fixed =
-    let is_set = ap (λ (k : Kernel). slice_get k.processors cpu) e ∙ fixed in
-    let inside = set_then_read kernel.processors cpu (Inside regs steps (InSlot slot)) (Inside regs steps (Fixed answer)) is_set in
-    absurd (no_slot regs steps slot answer inside)
+abbrev pub Anything : Decision → Type 0
+Anything decision = Unit {0}
+
+pub decides : (boot : Booted) (kernel next : Kernel) (cpu steps : ℕ) (regs : List ℕ) (reads : List Read)
+    → after_entry boot kernel cpu regs steps reads ≡ Some next → Found (entered kernel cpu regs steps) Anything next
+decides boot kernel next cpu steps regs reads e =
+    decides_all Anything boot kernel next cpu steps regs reads (anything (decision_of boot kernel regs (call_of (reg regs 0)))) e
+
+-- ---- what a processor came in for
+
+abbrev pub errand_of : Decision → Errand
+errand_of (Answers answer) = Fixed answer
+errand_of (Takes slot call after) = InSlot slot
+errand_of (Cancels slot call session cancel_id) = InSlot slot
+
+processors_entered : (kernel : Kernel) (cpu steps : ℕ) (regs : List ℕ) (decision : Decision)
+    → (entered kernel cpu regs steps decision).processors ≡ slice_set kernel.processors cpu (Inside regs steps (errand_of decision))
+processors_entered kernel cpu steps regs (Answers answer) = refl
+processors_entered kernel cpu steps regs (Takes slot call after) = refl
+processors_entered kernel cpu steps regs (Cancels slot call session cancel_id) = refl
+
+same_errand : (regs : List ℕ) (steps : ℕ) (first second : Errand) → Inside regs steps first ≡ Inside regs steps second → first ≡ second
+same_errand regs steps first second e = cc
+
+-- a processor that is inside for this has the errand of what was decided
+pub decided_errand : (kernel next : Kernel) (cpu steps : ℕ) (regs : List ℕ) (errand : Errand) (decision : Decision)
+    → entered kernel cpu regs steps decision ≡ next → slice_get next.processors cpu ≡ Some (Inside regs steps errand)
+    → errand_of decision ≡ errand
+decided_errand kernel next cpu steps regs errand decision e inside =
+    let came : Processor = Inside regs steps (errand_of decision) in
+    let set = sym (processors_entered kernel cpu steps regs decision) ∙ ap (λ (k : Kernel). k.processors) e in
+    let there = ap (λ (ps : List Processor). slice_get ps cpu) set ∙ inside in
+    same_errand regs steps (errand_of decision) errand (set_then_read kernel.processors cpu came (Inside regs steps errand) there)
+
+answer_of_errand : (decision : Decision) (answer : Answer) → errand_of decision ≡ Fixed answer → decision ≡ Answers answer
+answer_of_errand (Answers given) answer e = cc
+answer_of_errand (Takes slot call after) answer e = absurd cc
+answer_of_errand (Cancels slot call session cancel_id) answer e = absurd cc
+
+pub decided_fixed : (kernel next : Kernel) (cpu steps : ℕ) (regs : List ℕ) (answer : Answer) (decision : Decision)
+    → entered kernel cpu regs steps decision ≡ next → IsFixed next cpu regs steps answer → decision ≡ Answers answer
+decided_fixed kernel next cpu steps regs answer decision e fixed =
+    answer_of_errand decision answer (decided_errand kernel next cpu steps regs (Fixed answer) decision e fixed)
+
+pub fixed_decided : (kernel next : Kernel) (cpu steps : ℕ) (regs : List ℕ) (answer : Answer) (decision : Decision)
+    → slice_get kernel.processors cpu ≡ Some Outside → entered kernel cpu regs steps decision ≡ next → decision ≡ Answers answer
+    → IsFixed next cpu regs steps answer
+fixed_decided kernel next cpu steps regs answer decision outside e is =
+    ap (λ (k : Kernel). slice_get k.processors cpu) (sym e)
+    ∙ ap (λ (d : Decision). slice_get (entered kernel cpu regs steps d).processors cpu) is
+    ∙ set_found kernel.processors cpu (Inside regs steps (Fixed answer)) Outside outside
+
+-- ---- a fixed answer
 
 fixed_entry : (boot : Booted) (kernel next : Kernel) (cpu steps : ℕ) (regs : List ℕ) (reads : List Read) (answer : Answer)
     → after_entry boot kernel cpu regs steps reads ≡ Some next → IsFixed next cpu regs steps answer
     → next ≡ with_processor kernel cpu (Inside regs steps (Fixed answer))
 fixed_entry boot kernel next cpu steps regs reads answer e fixed =
-    let decided = reading-mapped (decision_of boot kernel regs (call_of (reg regs 0))) (entered kernel cpu regs steps) reads next e in
-    after_decision kernel next cpu steps regs answer decided.0 decided.1 fixed
+    let found = decides boot kernel next cpu steps regs reads e in
+    let is = decided_fixed kernel next cpu steps regs answer found.value found.gives fixed in
+    sym found.gives ∙ ap (λ (d : Decision). entered kernel cpu regs steps d) is
 
 fixed_exit : (kernel : Kernel) (cpu steps : ℕ) (regs : List ℕ) (answer : Answer)
     → IsFixed kernel cpu regs steps answer → exit kernel cpu ≡ Some (goes_out kernel cpu regs answer [])

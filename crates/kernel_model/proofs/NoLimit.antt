@@ -23,8 +23,7 @@ use Rattle.smc_abi.specs.declared.call.Call.{Call}
 use Rattle.smc_abi.specs.declared.call.Call.TheVariants.{Fast, WithArg, Resume, Unknown}
 use Rattle.smc_abi.specs.declared.call.FastCall.{FastCall}
 use Rattle.smc_abi.specs.declared.call.FastCall.TheVariants.{CallsUid, CallsRevision, OsUuid, OsRevision, ShmConfig, Capabilities, DisableShmCache, EnableShmCache, ThreadCount}
-use Rattle.kernel_model.specs.Application.{Application}
-use Rattle.kernel_model.specs.Application.{Booted}
+use Rattle.kernel_model.specs.Application.{Application, Booted}
 use Rattle.kernel_model.specs.Argument.{argument_at, client_in, params_in, reg, Opening, opening, invocation, registering, unregistering}
 use Rattle.kernel_model.specs.Begin.{works_on, closing_points}
 use Rattle.kernel_model.specs.Codes.{ethread_limit, ebadaddr, ebadcmd, eresume, bad_parameters, item_not_found, out_of_memory, busy, target_dead}
@@ -35,28 +34,31 @@ use Rattle.kernel_model.specs.Kernel.{Instance, Kernel, lowest_free}
 use Rattle.kernel_model.specs.Laws.{FindsNoSlot}
 use Rattle.kernel_model.specs.NewCall.{NewCall, parameters, copied, settles, beginner, about_session, opens, open_waits, waits_in, runs_in, works_or_waits, shares_one, is_taken, has_pages, open_session, named_session, invoke_command, no_copies, close_session, cancel_calls, offset_in, pages_in, register_memory, unregister_memory, commands, command_of, is_head_address, has_argument, new_call_in, new_call_with}
 use Rattle.kernel_model.specs.Resume.{resume}
-use Rattle.kernel_model.proofs.Parts.{AllOf, AllOf-mapped, AllOf-onward}
+use Rattle.kernel_model.proofs.Parts.{AllOf, AllOf-mapped, AllOf-onward, if-both, map_or-both}
 use Rattle.kernel_model.proofs.Resuming.{Resuming, resume-Resuming}
 
 abbrev pub NoLimit : Decision → Type 0
 NoLimit decision = decision ≡ Answers ethread_limit → ⊥
 
+-- what tests come to: their value has the one, and what was decided by one that failed the other
+abbrev Outcome : {A : Type 0} → (A → Type 0) → (Decision → Type 0) → Result A Decision → Type 0
+Outcome Q P (Ok value) = Q value
+Outcome Q P (Err decision) = P decision
+
 -- what was decided by a test that failed has this
 abbrev Fails : {A : Type 0} → (Decision → Type 0) → Result A Decision → Type 0
-Fails P (Ok value) = Unit {0}
-Fails P (Err decision) = P decision
+Fails P = Outcome (λ value. Unit {0}) P
 
 -- what was decided, by a test that failed or at the end, has this
 abbrev Both : (Decision → Type 0) → Result Decision Decision → Type 0
-Both P (Ok decision) = P decision
-Both P (Err decision) = P decision
+Both P = Outcome P P
 
-tested-then : {A : Type 0} (P : Decision → Type 0) (first : Tested A) (onward : A → Tested Decision)
-    → AllOf (Fails P) first → ((value : A) → AllOf (Both P) (onward value)) → AllOf (Both P) (first >>= onward)
-tested-then P (done (Ok value)) onward fails rest = rest value
-tested-then P (done (Err decision)) onward fails rest = fails
-tested-then P (want_bytes addr len next) onward fails rest = λ got. tested-then P (next got) onward (fails got) rest
-tested-then P (want_words addr most test next) onward fails rest = λ got. tested-then P (next got) onward (fails got) rest
+tested-then : {A B : Type 0} (Q : B → Type 0) (P : Decision → Type 0) (first : Tested A) (onward : A → Tested B)
+    → AllOf (Fails P) first → ((value : A) → AllOf (Outcome Q P) (onward value)) → AllOf (Outcome Q P) (first >>= onward)
+tested-then Q P (done (Ok value)) onward fails rest = rest value
+tested-then Q P (done (Err decision)) onward fails rest = fails
+tested-then Q P (want_bytes addr len next) onward fails rest = λ got. tested-then Q P (next got) onward (fails got) rest
+tested-then Q P (want_words addr most test next) onward fails rest = λ got. tested-then Q P (next got) onward (fails got) rest
 
 known-fails : {A : Type 0} (P : Decision → Type 0) (found : Option A) (decision : Decision) → P decision → AllOf (Fails P) (known found decision)
 known-fails P None decision holds = holds
@@ -75,100 +77,94 @@ faultless-fails P (done (Err fault)) decision holds = holds
 faultless-fails P (want_bytes addr len next) decision holds = λ got. faultless-fails P (next got) decision holds
 faultless-fails P (want_words addr most test next) decision holds = λ got. faultless-fails P (next got) decision holds
 
-fails-then : {A B : Type 0} (P : Decision → Type 0) (first : Tested A) (onward : A → Tested B)
-    → AllOf (Fails P) first → ((value : A) → AllOf (Fails P) (onward value)) → AllOf (Fails P) (first >>= onward)
-fails-then P (done (Ok value)) onward fails rest = rest value
-fails-then P (done (Err decision)) onward fails rest = fails
-fails-then P (want_bytes addr len next) onward fails rest = λ got. fails-then P (next got) onward (fails got) rest
-fails-then P (want_words addr most test next) onward fails rest = λ got. fails-then P (next got) onward (fails got) rest
-
 -- ---- the commands
 
 settles_no_limit : (c : NewCall) (code : ℕ) → NoLimit (settles c code)
 settles_no_limit c code e = cc
 
--- a value that is known, a test, and parameters that are read and copied, or else the call is settled
+-- a value that is known, parameters that are read and copied, and a test, or else the call is settled
 value_known : {A : Type 0} (c : NewCall) (found : Option A) (code : ℕ) → AllOf (Fails NoLimit) (known found (settles c code))
 value_known c found code = known-fails NoLimit found (settles c code) (settles_no_limit c code)
 
-test_passes : (c : NewCall) (test : Bool) (code : ℕ) → AllOf (Fails NoLimit) (need test (settles c code))
-test_passes c test code = need-fails NoLimit test (settles c code) (settles_no_limit c code)
-
 parameters_read : (c : NewCall) → AllOf (Fails NoLimit) (parameters c)
 parameters_read c =
-    fails-then NoLimit (read (take_bytes (c.arg + 32) (32 * c.head.count))) (λ bytes. known (params_in c.head.count bytes) (settles c bad_parameters))
+    tested-then (λ params. Unit {0}) NoLimit (read (take_bytes (c.arg + 32) (32 * c.head.count))) (λ bytes. known (params_in c.head.count bytes) (settles c bad_parameters))
     (read-fails NoLimit (take_bytes (c.arg + 32) (32 * c.head.count))) (λ bytes. value_known c (params_in c.head.count bytes) bad_parameters)
 
 copied_in : (c : NewCall) (params : List MsgParam) (first : ℕ) → AllOf (Fails NoLimit) (copied c params first)
 copied_in c params first =
     faultless-fails NoLimit (copying c.kernel.registered.buffers params first) (settles c bad_parameters) (settles_no_limit c bad_parameters)
 
-runs_no_limit : (c : NewCall) (test : Bool) (first second : Decision) → NoLimit first → NoLimit second → NoLimit (if test then first else second)
-runs_no_limit c true first second one two = one
-runs_no_limit c false first second one two = two
-
 opens_no_limit : (c : NewCall) (wanted : Opening) (app : Application) (copies : Copies) (kept : Option (ℕ × Instance))
     → NoLimit (option_map_or (λ k. if is_held k.1 then open_waits c wanted app copies k else opens c wanted app copies) kept (opens c wanted app copies))
-opens_no_limit c wanted app copies None e = cc
-opens_no_limit c wanted app copies (Some kept) e =
-    runs_no_limit c (is_held kept.1) (open_waits c wanted app copies kept) (opens c wanted app copies) (λ w. cc) (λ o. cc) e
+opens_no_limit c wanted app copies kept =
+    map_or-both NoLimit (λ (k : ℕ × Instance). if is_held k.1 then open_waits c wanted app copies k else opens c wanted app copies) kept (opens c wanted app copies)
+    (λ k. if-both NoLimit (is_held k.1) (open_waits c wanted app copies k) (opens c wanted app copies) (λ e. cc) (λ e. cc)) (λ e. cc)
 
 works_no_limit : (c : NewCall) (call_kind : CallKind) (session : Session) (instance : Instance) (copies : Copies) (points : List Point)
     → NoLimit (works_or_waits c call_kind session instance copies points)
-works_no_limit c call_kind session instance copies points e =
+works_no_limit c call_kind session instance copies points =
     let about = about_session c call_kind session instance copies in
     let begun = works_on (beginner c) session instance copies.params points in
-    runs_no_limit c (is_held instance) (waits_in c c.kernel about copies) (runs_in c begun.kernel about copies.cookies begun.job) (λ w. cc) (λ o. cc) e
+    if-both NoLimit (is_held instance) (waits_in c c.kernel about copies) (runs_in c begun.kernel about copies.cookies begun.job) (λ e. cc) (λ e. cc)
+
+value_then : {A : Type 0} (c : NewCall) (found : Option A) (code : ℕ) (onward : A → Tested Decision)
+    → ((value : A) → AllOf (Both NoLimit) (onward value)) → AllOf (Both NoLimit) (known found (settles c code) >>= onward)
+value_then c found code onward rest = tested-then NoLimit NoLimit (known found (settles c code)) onward (value_known c found code) rest
+
+test_then : (c : NewCall) (test : Bool) (code : ℕ) (onward : Unit {0} → Tested Decision)
+    → ((passed : Unit {0}) → AllOf (Both NoLimit) (onward passed)) → AllOf (Both NoLimit) (need test (settles c code) >>= onward)
+test_then c test code onward rest =
+    tested-then NoLimit NoLimit (need test (settles c code)) onward (need-fails NoLimit test (settles c code) (settles_no_limit c code)) rest
 
 open_no_limit : (c : NewCall) → AllOf (Both NoLimit) (open_session c)
 open_no_limit c =
-    tested-then NoLimit (parameters c) _ (parameters_read c) (λ params.
-    tested-then NoLimit (known (opening params) (settles c bad_parameters)) _ (value_known c (opening params) bad_parameters) (λ wanted.
-    tested-then NoLimit (known (app_of c.boot wanted.uuid) (settles c item_not_found)) _ (value_known c (app_of c.boot wanted.uuid) item_not_found) (λ app.
-    tested-then NoLimit (need (not (shares_one c app (λ kept. kept.1.dead))) (settles c target_dead)) _ (test_passes c (not (shares_one c app (λ kept. kept.1.dead))) target_dead) (λ _.
-    tested-then NoLimit (need (not (is_taken c app)) (settles c busy)) _ (test_passes c (not (is_taken c app)) busy) (λ _.
-    tested-then NoLimit (need (has_room (record { kept = c.kernel.sessions; next = c.kernel.next_session })) (settles c out_of_memory)) _
-    (test_passes c (has_room (record { kept = c.kernel.sessions; next = c.kernel.next_session })) out_of_memory) (λ _.
-    tested-then NoLimit (need (has_pages c app) (settles c out_of_memory)) _ (test_passes c (has_pages c app) out_of_memory) (λ _.
-    tested-then NoLimit (copied c wanted.params 2) _ (copied_in c wanted.params 2) (λ copies.
+    tested-then NoLimit NoLimit (parameters c) _ (parameters_read c) (λ params.
+    value_then c (opening params) bad_parameters _ (λ wanted.
+    value_then c (app_of c.boot wanted.uuid) item_not_found _ (λ app.
+    test_then c (not (shares_one c app (λ kept. kept.1.dead))) target_dead _ (λ _.
+    test_then c (not (is_taken c app)) busy _ (λ _.
+    test_then c (has_room (record { kept = c.kernel.sessions; next = c.kernel.next_session })) out_of_memory _ (λ _.
+    test_then c (has_pages c app) out_of_memory _ (λ _.
+    tested-then NoLimit NoLimit (copied c wanted.params 2) _ (copied_in c wanted.params 2) (λ copies.
     opens_no_limit c wanted app copies (shared_instance c.kernel app)))))))))
 
 invoke_no_limit : (c : NewCall) → AllOf (Both NoLimit) (invoke_command c)
 invoke_no_limit c =
-    tested-then NoLimit (parameters c) _ (parameters_read c) (λ params.
-    tested-then NoLimit (known (invocation params) (settles c bad_parameters)) _ (value_known c (invocation params) bad_parameters) (λ invoked.
-    tested-then NoLimit (known (named_session c) (settles c bad_parameters)) _ (value_known c (named_session c) bad_parameters) (λ named.
-    tested-then NoLimit (need (not named.1.dead) (settles c target_dead)) _ (test_passes c (not named.1.dead) target_dead) (λ _.
-    tested-then NoLimit (copied c invoked 0) _ (copied_in c invoked 0) (λ copies.
+    tested-then NoLimit NoLimit (parameters c) _ (parameters_read c) (λ params.
+    value_then c (invocation params) bad_parameters _ (λ invoked.
+    value_then c (named_session c) bad_parameters _ (λ named.
+    test_then c (not named.1.dead) target_dead _ (λ _.
+    tested-then NoLimit NoLimit (copied c invoked 0) _ (copied_in c invoked 0) (λ copies.
     works_no_limit c (kind.Invoke c.head.func) named.0 named.1 copies (Invoke c.head.func ∷ []))))))
 
 close_no_limit : (c : NewCall) → AllOf (Both NoLimit) (close_session c)
 close_no_limit c =
-    tested-then NoLimit (known (named_session c) (settles c bad_parameters)) _ (value_known c (named_session c) bad_parameters) (λ named.
+    value_then c (named_session c) bad_parameters _ (λ named.
     works_no_limit c kind.Close named.0 named.1 no_copies (closing_points (beginner c) c.head.session named.0 named.1))
 
 cancel_no_limit : (c : NewCall) → AllOf (Both NoLimit) (cancel_calls c)
 cancel_no_limit c =
-    tested-then NoLimit (known (named_session c) (settles c bad_parameters)) _ (value_known c (named_session c) bad_parameters) (λ named. λ e. cc)
+    value_then c (named_session c) bad_parameters _ (λ named. λ e. cc)
 
 register_no_limit : (c : NewCall) → AllOf (Both NoLimit) (register_memory c)
 register_no_limit c =
-    tested-then NoLimit (parameters c) _ (parameters_read c) (λ params.
-    tested-then NoLimit (known (registering params) (settles c bad_parameters)) _ (value_known c (registering params) bad_parameters) (λ param.
-    tested-then NoLimit (need (is_none (get c.kernel.registered.buffers param.s)) (settles c bad_parameters)) _ (test_passes c (is_none (get c.kernel.registered.buffers param.s)) bad_parameters) (λ _.
-    tested-then NoLimit (need (nat_lt 0 param.q) (settles c bad_parameters)) _ (test_passes c (nat_lt 0 param.q) bad_parameters) (λ _.
-    tested-then NoLimit (need (nat_le (pages_in param) 1024) (settles c bad_parameters)) _ (test_passes c (nat_le (pages_in param) 1024) bad_parameters) (λ _.
-    tested-then NoLimit (need (nat_lt (length c.kernel.registered.buffers) 64) (settles c out_of_memory)) _ (test_passes c (nat_lt (length c.kernel.registered.buffers) 64) out_of_memory) (λ _.
-    tested-then NoLimit (faultless (walk (param.p - offset_in param) (pages_in param)) (settles c bad_parameters)) _
+    tested-then NoLimit NoLimit (parameters c) _ (parameters_read c) (λ params.
+    value_then c (registering params) bad_parameters _ (λ param.
+    test_then c (is_none (get c.kernel.registered.buffers param.s)) bad_parameters _ (λ _.
+    test_then c (nat_lt 0 param.q) bad_parameters _ (λ _.
+    test_then c (nat_le (pages_in param) 1024) bad_parameters _ (λ _.
+    test_then c (nat_lt (length c.kernel.registered.buffers) 64) out_of_memory _ (λ _.
+    tested-then NoLimit NoLimit (faultless (walk (param.p - offset_in param) (pages_in param)) (settles c bad_parameters)) _
     (faultless-fails NoLimit (walk (param.p - offset_in param) (pages_in param)) (settles c bad_parameters) (settles_no_limit c bad_parameters)) (λ pages.
     λ e. cc)))))))
 
 unregister_no_limit : (c : NewCall) → AllOf (Both NoLimit) (unregister_memory c)
 unregister_no_limit c =
-    tested-then NoLimit (parameters c) _ (parameters_read c) (λ params.
-    tested-then NoLimit (known (unregistering params) (settles c bad_parameters)) _ (value_known c (unregistering params) bad_parameters) (λ param.
-    tested-then NoLimit (need (is_some (get c.kernel.registered.buffers param.s)) (settles c bad_parameters)) _ (test_passes c (is_some (get c.kernel.registered.buffers param.s)) bad_parameters) (λ _.
-    tested-then NoLimit (need (is_none (lowest_slot c.kernel.registered.pins param.s)) (settles c busy)) _ (test_passes c (is_none (lowest_slot c.kernel.registered.pins param.s)) busy) (λ _.
+    tested-then NoLimit NoLimit (parameters c) _ (parameters_read c) (λ params.
+    value_then c (unregistering params) bad_parameters _ (λ param.
+    test_then c (is_some (get c.kernel.registered.buffers param.s)) bad_parameters _ (λ _.
+    test_then c (is_none (lowest_slot c.kernel.registered.pins param.s)) busy _ (λ _.
     λ e. cc))))
 
 -- ---- the table
@@ -216,9 +212,9 @@ bad_command e = cc
 -- the tests behind a free slot
 pub behind_slot : (boot : Booted) (kernel : Kernel) (regs : List ℕ) (slot : ℕ) → AllOf (Both NoLimit) (new_call_in boot kernel regs slot)
 behind_slot boot kernel regs slot =
-    tested-then NoLimit (need (is_head_address (argument_at regs)) (Answers ebadaddr)) _ (need-fails NoLimit (is_head_address (argument_at regs)) (Answers ebadaddr) bad_address) (λ _.
-    tested-then NoLimit (read (take_bytes (argument_at regs) 32)) _ (read-fails NoLimit (take_bytes (argument_at regs) 32)) (λ bytes.
-    tested-then NoLimit (need (has_argument (argument_at regs) (head_at bytes)) (Answers ebadaddr)) _ (need-fails NoLimit (has_argument (argument_at regs) (head_at bytes)) (Answers ebadaddr) bad_address) (λ _.
+    tested-then NoLimit NoLimit (need (is_head_address (argument_at regs)) (Answers ebadaddr)) _ (need-fails NoLimit (is_head_address (argument_at regs)) (Answers ebadaddr) bad_address) (λ _.
+    tested-then NoLimit NoLimit (read (take_bytes (argument_at regs) 32)) _ (read-fails NoLimit (take_bytes (argument_at regs) 32)) (λ bytes.
+    tested-then NoLimit NoLimit (need (has_argument (argument_at regs) (head_at bytes)) (Answers ebadaddr)) _ (need-fails NoLimit (has_argument (argument_at regs) (head_at bytes)) (Answers ebadaddr) bad_address) (λ _.
     known_then NoLimit (command_of (head_at bytes).cmd) (Answers ebadcmd) _ bad_command (λ command found.
     row_no_limit commands all_rows (head_at bytes).cmd command found
     (record { boot = boot; kernel = kernel; slot = slot; client = client_in regs; arg = argument_at regs; head = head_at bytes })))))

@@ -1,6 +1,7 @@
--- One element of a list by number, set and read, and what a mapped reader gives.
-use Rattle.std.proofs.Common.{◌≡◌, ℕ, zero, suc, List, [], ◌∷◌, Some, refl, ap, sym, ◌∙◌}
-use Rattle.std.specs.Prelude.{slice_get, slice_set}
+-- One element of a list by number, set and read; what holds of each value of a reader; and of a choice.
+use Rattle.std.proofs.Common.{◌≡◌, ℕ, zero, suc, List, [], ◌∷◌, Option, Some, None, Bool, true, false, refl, ap, sym, ◌∙◌}
+use Rattle.std.specs.Prelude.{slice_get, slice_set, if◌then◌else◌}
+use Rattle.std.specs.Option.{option_map_or}
 use Rattle.std.proofs.lemmas.Option.{option_and_then_some}
 use Rattle.ns_ram.specs.declared.read.Read.{Read}
 use Rattle.ns_ram.specs.Reader.{Reader, done, want_bytes, want_words, ◌>>=◌, next_bytes, next_words, over_reads, if_used_up, reading}
@@ -27,34 +28,17 @@ set_other (first ∷ xs) zero (suc j) x apart = refl
 set_other (first ∷ xs) (suc i) zero x apart = refl
 set_other (first ∷ xs) (suc i) (suc j) x apart = set_other xs i j x (λ e. apart (ap suc e))
 
-over_reads-mapped : {A B : Type 0} (reader : Reader A) (f : A → B) (reads : List Read) (step : B × List Read)
-    → over_reads (reader >>= (λ value. done (f value))) reads ≡ Some step → (value : A) × (f value ≡ step.0)
-over_reads-mapped (done value) f reads step e =
-    let here : _ × List Read = (f value, reads) in
-    let same : here ≡ step = cc in
-    (value, ap (λ s. s.0) same)
-over_reads-mapped (want_bytes addr len next) f reads step e =
-    option_and_then_some _ (next_bytes addr len reads) step e (λ got there onward. over_reads-mapped (next got.0) f got.1 step onward)
-over_reads-mapped (want_words addr most test next) f reads step e =
-    option_and_then_some _ (next_words addr most test reads) step e (λ got there onward. over_reads-mapped (next got.0) f got.1 step onward)
-
-pub used_up : {B : Type 0} (step : B × List Read) (value : B) → if_used_up step ≡ Some value → step.0 ≡ value
-used_up (v, []) value e = cc
-used_up (v, read ∷ reads) value e = absurd cc
-
--- what a mapped reader makes of reads is the function of some value
-pub reading-mapped : {A B : Type 0} (reader : Reader A) (f : A → B) (reads : List Read) (result : B)
-    → reading (reader >>= (λ value. done (f value))) reads ≡ Some result → (value : A) × (f value ≡ result)
-reading-mapped reader f reads result e =
-    option_and_then_some if_used_up (over_reads (reader >>= (λ value. done (f value))) reads) result e
-    (λ step there onward. let found = over_reads-mapped reader f reads step there in (found.0, found.1 ∙ used_up step result onward))
-
 -- ---- what holds of each value that a reader can have
 
 abbrev pub AllOf : {A : Type 0} → (A → Type 0) → Reader A → Type 0
 AllOf P (done value) = P value
 AllOf P (want_bytes addr len next) = (got : List ℕ) → AllOf P (next got)
 AllOf P (want_words addr most test next) = (got : List ℕ) → AllOf P (next got)
+
+pub anything : {A : Type 0} (reader : Reader A) → AllOf (λ value. Unit {0}) reader
+anything (done value) = tt
+anything (want_bytes addr len next) = λ got. anything (next got)
+anything (want_words addr most test next) = λ got. anything (next got)
 
 pub AllOf-mapped : {A B : Type 0} (reader : Reader A) (f : A → B) (P : B → Type 0) → ((a : A) → P (f a)) → AllOf P (reader >>= (λ a. done (f a)))
 AllOf-mapped (done value) f P all = all value
@@ -83,6 +67,10 @@ over_reads-all (want_bytes addr len next) f P all reads step e =
 over_reads-all (want_words addr most test next) f P all reads step e =
     option_and_then_some _ (next_words addr most test reads) step e (λ got there onward. over_reads-all (next got.0) f P (all got.0) got.1 step onward)
 
+used_up : {B : Type 0} (step : B × List Read) (value : B) → if_used_up step ≡ Some value → step.0 ≡ value
+used_up (v, []) value e = cc
+used_up (v, read ∷ reads) value e = absurd cc
+
 -- what a mapped reader makes of reads is the function of a value that it can have
 pub reading-all : {A B : Type 0} (reader : Reader A) (f : A → B) (P : A → Type 0) → AllOf P reader → (reads : List Read) (result : B)
     → reading (reader >>= (λ value. done (f value))) reads ≡ Some result → Found f P result
@@ -91,3 +79,14 @@ reading-all reader f P all reads result e =
     (λ step there onward.
     let found = over_reads-all reader f P all reads step there in
     record { value = found.value; holds = found.holds; gives = found.gives ∙ used_up step result onward })
+
+-- ---- what holds of both sides of a choice
+
+pub if-both : {A : Type 0} (P : A → Type 0) (test : Bool) (first second : A) → P first → P second → P (if test then first else second)
+if-both P true first second on_first on_second = on_first
+if-both P false first second on_first on_second = on_second
+
+pub map_or-both : {A B : Type 0} (P : B → Type 0) (f : A → B) (found : Option A) (other : B)
+    → ((a : A) → P (f a)) → P other → P (option_map_or f found other)
+map_or-both P f None other on_found on_other = on_other
+map_or-both P f (Some a) other on_found on_other = on_found a

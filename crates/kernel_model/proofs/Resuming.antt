@@ -13,8 +13,7 @@ use Rattle.rpc_msgs.specs.Answer.{RpcAnswer, NoBuffer, Replied}
 use Rattle.rpc_msgs.specs.Reply.{reply_reader}
 use Rattle.rpc_msgs.specs.declared.rpc.Rpc.{Rpc}
 use Rattle.session_table.specs.declared.session.Session.{Session}
-use Rattle.kernel_model.specs.Application.{Application}
-use Rattle.kernel_model.specs.Application.{Booted}
+use Rattle.kernel_model.specs.Application.{Application, Booted}
 use Rattle.ta_params.specs.declared.copied_params.CopiedParams.{CopiedParams}
 use Rattle.kernel_model.specs.Argument.{client_in, thread_in}
 use Rattle.kernel_model.specs.Begin.{Begun, Opener, has_pages_for, opens_kept, opens_new, works_on, closing_points}
@@ -25,7 +24,7 @@ use Rattle.kernel_model.specs.Instances.{is_held}
 use Rattle.kernel_model.specs.Laws.{resumed_by, suspended_for}
 use Rattle.kernel_model.specs.Kernel.{CallPhase, Runs, Asks, Waits, Ends, RpcBuffer, PendingCall, ThreadSlot, Free, Active, Suspended, Instance, Kernel}
 use Rattle.kernel_model.specs.Resume.{Resumed, offered, resume, resumes_slot, resumes_call, resumes_in, resumes_asking, resumes_waiting, resumes_ended, still_wakes, tested_again, begins_in, begins_open, begins, ends_with, waits_on, goes_on, is_answered, app_of_call, is_close, phase_seen, sees, has_no_buffer, who_resumes}
-use Rattle.kernel_model.proofs.Parts.{AllOf, AllOf-mapped, AllOf-onward}
+use Rattle.kernel_model.proofs.Parts.{AllOf, AllOf-mapped, AllOf-onward, if-both, map_or-both}
 
 -- ---- what the slot works on is the call, further on
 
@@ -34,15 +33,6 @@ pub record GoesOn (r : Resumed) (decision : Decision) : Type 0 where
   pub kernel : Kernel
   pub takes : decision ≡ Takes r.slot call kernel
   pub continues : Continues r.call call
-
-if_goes : (r : Resumed) (test : Bool) (first second : Decision) → GoesOn r first → GoesOn r second → GoesOn r (if test then first else second)
-if_goes r true first second on_first on_second = on_first
-if_goes r false first second on_first on_second = on_second
-
-found_goes : {A : Type 0} (r : Resumed) (f : A → Decision) (found : Option A) (other : Decision)
-    → ((a : A) → GoesOn r (f a)) → GoesOn r other → GoesOn r (option_map_or f found other)
-found_goes r f None other on_found on_other = on_other
-found_goes r f (Some a) other on_found on_other = on_found a
 
 same_goes : (r : Resumed) → GoesOn r (goes_on r r.call)
 same_goes r = record { call = r.call; kernel = r.kernel; takes = refl; continues = refl }
@@ -63,13 +53,13 @@ open_goes : (r : Resumed) (opener : Opener) (found : Option Instance) → GoesOn
 open_goes r opener (Some instance) = begins_goes r (opens_kept (who_resumes r) opener (r.call.instance, instance))
 open_goes r opener None =
     let begun = opens_new (who_resumes r) opener r.call.instance r.kernel.next_instance in
-    if_goes r (has_pages_for r.boot r.kernel opener.app) (begins r begun) (ends_with r out_of_memory) (begins_goes r begun) (ends_goes r out_of_memory)
+    if-both (GoesOn r) (has_pages_for r.boot r.kernel opener.app) (begins r begun) (ends_with r out_of_memory) (begins_goes r begun) (ends_goes r out_of_memory)
 
 begun_goes : (r : Resumed) (params : CopiedParams) (session : Session) (call_kind : CallKind) (found : Option Instance)
     → GoesOn r (begins_in r params session call_kind found)
 begun_goes r params session kind.Open found =
     let opener_of : Application → Opener = λ app. record { app = app; login = session.login; params = params } in
-    found_goes r (λ (app : Application). begins_open r (opener_of app) found) (app_of_call r) (ends_with r bad_parameters)
+    map_or-both (GoesOn r) (λ (app : Application). begins_open r (opener_of app) found) (app_of_call r) (ends_with r bad_parameters)
     (λ (app : Application). open_goes r (opener_of app) found) (ends_goes r bad_parameters)
 begun_goes r params session (kind.Invoke func) (Some instance) = begins_goes r (works_on (who_resumes r) session instance params (Invoke func ∷ []))
 begun_goes r params session (kind.Invoke func) None = ends_goes r bad_parameters
@@ -85,15 +75,15 @@ tested_goes r params session found =
     let is_taken = option_map_or is_held found false in
     let sleeps = if has_no_buffer r then ends_with r out_of_memory else waits_on r in
     let onward = begins_in r params session r.call.kind found in
-    if_goes r (is_dead && not (is_close r.call.kind)) (ends_with r target_dead) (if is_taken then sleeps else onward) (ends_goes r target_dead)
-    (if_goes r is_taken sleeps onward
-    (if_goes r (has_no_buffer r) (ends_with r out_of_memory) (waits_on r) (ends_goes r out_of_memory) (waits_goes r))
+    if-both (GoesOn r) (is_dead && not (is_close r.call.kind)) (ends_with r target_dead) (if is_taken then sleeps else onward) (ends_goes r target_dead)
+    (if-both (GoesOn r) is_taken sleeps onward
+    (if-both (GoesOn r) (has_no_buffer r) (ends_with r out_of_memory) (waits_on r) (ends_goes r out_of_memory) (waits_goes r))
     (begun_goes r params session r.call.kind found))
 
 waiting_goes : (r : Resumed) (params : CopiedParams) → GoesOn r (resumes_waiting r params)
 waiting_goes r params =
     let found = get r.kernel.instances r.call.instance in
-    found_goes r (λ (session : Session). tested_again r params session found) (get r.kernel.sessions r.call.session) (ends_with r bad_parameters)
+    map_or-both (GoesOn r) (λ (session : Session). tested_again r params session found) (get r.kernel.sessions r.call.session) (ends_with r bad_parameters)
     (λ (session : Session). tested_goes r params session found) (ends_goes r bad_parameters)
 
 ended_goes : (r : Resumed) (phase : CallPhase) (wakes : Option ℕ) → GoesOn r (resumes_ended r phase wakes)

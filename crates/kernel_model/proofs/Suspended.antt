@@ -16,24 +16,23 @@ use Rattle.rpc_msgs.specs.declared.rpc.Rpc.TheVariants as rpc
 use Rattle.ta_params.specs.declared.call_result.CallResult.{CallResult}
 use Rattle.ta_params.specs.declared.copied_params.CopiedParams.{CopiedParams}
 use Rattle.ns_ram.specs.declared.read.Read.{Read}
-use Rattle.ns_ram.specs.Reader.{done, reading, ◌>>=◌ as read_then}
 use Rattle.smc_abi.specs.Call.{call_of}
 use Rattle.smc_abi.specs.declared.answer.Answer.{Answer}
-use Rattle.smc_abi.specs.declared.call.Call.{Call}
 use Rattle.smc_abi.specs.declared.call.Call.TheVariants.{Resume}
 use Rattle.smc_abi.specs.declared.regs.Regs.{Regs}
 use Rattle.kernel_model.specs.Application.{Booted}
 use Rattle.kernel_model.specs.Argument.{reg, client_in}
 use Rattle.kernel_model.specs.Codes.{target_dead}
 use Rattle.kernel_model.specs.Decision.{Decision, Answers, Takes, Cancels}
-use Rattle.kernel_model.specs.Entry.{decision_of, entered, after_entry}
-use Rattle.kernel_model.specs.Resume.{resume}
-use Rattle.kernel_model.specs.Exit.{Exited, after_end, after_nothing, after_panic, asks_for, asks_in, ended, ends, frees_or_is_answered, goes_out, exit, exit_of, exit_from, exit_in, taken_on, stopped, woken_by}
+use Rattle.kernel_model.specs.Entry.{entered, after_entry}
+use Rattle.kernel_model.specs.Exit.{Exited, after_end, after_nothing, after_panic, asks_in, ended, ends, frees_or_is_answered, goes_out, exit, exit_of, exit_from, exit_in, taken_on, stopped, woken_by}
 use Rattle.kernel_model.specs.History.{after_event, after_events, entry_from, exit_to, goes_out_of, can_be_granted, is_outside, kernel_after, left_by_exits, Continues, IsEntryFor, Resumes, slot_of_processor}
 use Rattle.kernel_model.specs.Kernel.{CallPhase, Runs, Asks, Waits, Ends, RpcBuffer, PendingCall, cancelled_call, cancelled_slot, cancelled_slots, ThreadSlot, Free, Active, Suspended, Fixed, InSlot, Processor, Outside, Inside, Kernel, first_kernel}
 use Rattle.kernel_model.specs.Laws.{ResumesContinue}
-use Rattle.kernel_model.proofs.Parts.{reading-all, reading-mapped, set_then_read, set_found, set_other}
-use Rattle.kernel_model.proofs.Resuming.{Resuming, resume-Resuming}
+use Rattle.kernel_model.proofs.EntryLaws.{resume_decides}
+use Rattle.kernel_model.proofs.FixedAnswer.{decided_errand, decides}
+use Rattle.kernel_model.proofs.Parts.{set_then_read, set_found, set_other}
+use Rattle.kernel_model.proofs.Resuming.{Resuming}
 use Rattle.kernel_model.proofs.Past.{after_events-append}
 
 -- what exits left is the call, but that it may be cancelled since, for the client of the call
@@ -93,8 +92,8 @@ decided_kept slot kernel cpu steps regs left (Cancels taken made session cancel_
 entry_kept : (boot : Booted) (slot : ℕ) (kernel next : Kernel) (cpu steps : ℕ) (regs : List ℕ) (reads : List Read) (left : Option ThreadSlot)
     → Kept slot kernel left → after_entry boot kernel cpu regs steps reads ≡ Some next → Kept slot next left
 entry_kept boot slot kernel next cpu steps regs reads left kept e =
-    let decided = reading-mapped (decision_of boot kernel regs (call_of (reg regs 0))) (entered kernel cpu regs steps) reads next e in
-    subst (λ (k : Kernel). Kept slot k left) decided.1 (decided_kept slot kernel cpu steps regs left decided.0 kept)
+    let found = decides boot kernel next cpu steps regs reads e in
+    subst (λ (k : Kernel). Kept slot k left) found.gives (decided_kept slot kernel cpu steps regs left found.value kept)
 
 allowed_kept : (boot : Booted) (slot : ℕ) (kernel next : Kernel) (cpu steps : ℕ) (regs : List ℕ) (reads : List Read) (left : Option ThreadSlot) (allowed : Bool)
     → Kept slot kernel left → (if allowed then after_entry boot kernel cpu regs steps reads else None) ≡ Some next → Kept slot next left
@@ -114,73 +113,64 @@ record LeftIn (slots : List ThreadSlot) (slot : ℕ) (exited : Exited) : Type 0 
   own : Own held
   after : exited.kernel.slots ≡ slice_set slots slot held
 
-asks_left : (kernel : Kernel) (cpu : ℕ) (regs : List ℕ) (slot : ℕ) (call : PendingCall) (wanted : Rpc) (payload : List ℕ) (buffer : Option RpcBuffer) (exited : Exited)
-    → asks_in kernel cpu regs slot call wanted payload buffer ≡ exited → LeftIn kernel.slots slot exited
-asks_left kernel cpu regs slot call wanted payload None exited e =
-    record { held = Suspended call.client call; own = refl; after = ap (λ (x : Exited). x.kernel.slots) (sym e) }
-asks_left kernel cpu regs slot call wanted payload (Some buffer) exited e =
-    record { held = Suspended call.client call; own = refl; after = ap (λ (x : Exited). x.kernel.slots) (sym e) }
+left_in : (slots : List ThreadSlot) (slot : ℕ) (made exited : Exited) → LeftIn slots slot made → Some made ≡ Some exited → LeftIn slots slot exited
+left_in slots slot made exited left e =
+    let same : made ≡ exited = cc in
+    subst (λ (x : Exited). LeftIn slots slot x) same left
 
-frees_left : (kernel : Kernel) (cpu : ℕ) (regs : List ℕ) (slot : ℕ) (call : PendingCall) (result : CallResult) (params : CopiedParams) (buffer : Option RpcBuffer) (exited : Exited)
-    → frees_or_is_answered kernel cpu regs slot call result params buffer ≡ exited → LeftIn kernel.slots slot exited
-frees_left kernel cpu regs slot call result params None exited e =
-    record { held = Free; own = tt; after = ap (λ (x : Exited). x.kernel.slots) (sym e) }
-frees_left kernel cpu regs slot call result params (Some buffer) exited e =
+asks_left : (kernel : Kernel) (cpu : ℕ) (regs : List ℕ) (slot : ℕ) (call : PendingCall) (wanted : Rpc) (payload : List ℕ) (buffer : Option RpcBuffer)
+    → LeftIn kernel.slots slot (asks_in kernel cpu regs slot call wanted payload buffer)
+asks_left kernel cpu regs slot call wanted payload None = record { held = Suspended call.client call; own = refl; after = refl }
+asks_left kernel cpu regs slot call wanted payload (Some buffer) = record { held = Suspended call.client call; own = refl; after = refl }
+
+frees_left : (kernel : Kernel) (cpu : ℕ) (regs : List ℕ) (slot : ℕ) (call : PendingCall) (result : CallResult) (params : CopiedParams) (buffer : Option RpcBuffer)
+    → LeftIn kernel.slots slot (frees_or_is_answered kernel cpu regs slot call result params buffer)
+frees_left kernel cpu regs slot call result params None = record { held = Free; own = tt; after = refl }
+frees_left kernel cpu regs slot call result params (Some buffer) =
     let rest : PendingCall = record call { buffer = None; phase = Ends result params true None } in
-    record { held = Suspended call.client rest; own = refl; after = ap (λ (x : Exited). x.kernel.slots) (sym e) }
+    record { held = Suspended call.client rest; own = refl; after = refl }
 
-ended_left : (kernel : Kernel) (cpu : ℕ) (regs : List ℕ) (slot : ℕ) (call : PendingCall) (result : CallResult) (params : CopiedParams) (wakes : Option ℕ) (exited : Exited)
-    → ended kernel cpu regs slot call result params wakes ≡ exited → LeftIn kernel.slots slot exited
-ended_left kernel cpu regs slot call result params None exited e = frees_left kernel cpu regs slot call result params call.buffer exited e
-ended_left kernel cpu regs slot call result params (Some woken) exited e =
-    let rest : PendingCall = record call { phase = Ends result params true (Some woken) } in
-    asks_left kernel cpu regs slot rest (rpc.Wake woken) [] call.buffer exited e
+ended_left : (kernel : Kernel) (cpu : ℕ) (regs : List ℕ) (slot : ℕ) (call : PendingCall) (result : CallResult) (params : CopiedParams) (wakes : Option ℕ)
+    → LeftIn kernel.slots slot (ended kernel cpu regs slot call result params wakes)
+ended_left kernel cpu regs slot call result params None = frees_left kernel cpu regs slot call result params call.buffer
+ended_left kernel cpu regs slot call result params (Some woken) =
+    asks_left kernel cpu regs slot (record call { phase = Ends result params true (Some woken) }) (rpc.Wake woken) [] call.buffer
 
-stopped_in : (kernel : Kernel) (cpu : ℕ) (regs : List ℕ) (slot : ℕ) (call : PendingCall) (used : ℕ) (why : JobStop) (exited : Exited)
-    → stopped kernel cpu regs slot call used why ≡ exited → LeftIn kernel.slots slot exited
-stopped_in kernel cpu regs slot call used (steps.Ends end) exited e =
-    let after = after_end kernel call end in
-    ended_left after cpu regs slot call end.result end.params (woken_by after call call.kind) exited e
-stopped_in kernel cpu regs slot call used (steps.Panics code) exited e =
-    let after = after_panic kernel call in
-    ended_left after cpu regs slot call (of_tee target_dead) no_params (woken_by after call call.kind) exited e
-stopped_in kernel cpu regs slot call used (steps.Asks wanted payload left) exited e =
-    let rest : PendingCall = record call { steps = call.steps + used; phase = Asks left wanted payload } in
-    asks_left kernel cpu regs slot rest wanted payload call.buffer exited e
+ends_left : (kernel : Kernel) (cpu : ℕ) (regs : List ℕ) (slot : ℕ) (call : PendingCall) (result : CallResult) (params : CopiedParams)
+    → LeftIn kernel.slots slot (ends kernel cpu regs slot call result params)
+ends_left kernel cpu regs slot call result params = ended_left kernel cpu regs slot call result params (woken_by kernel call call.kind)
+
+stopped_left : (kernel : Kernel) (cpu : ℕ) (regs : List ℕ) (slot : ℕ) (call : PendingCall) (used : ℕ) (why : JobStop)
+    → LeftIn kernel.slots slot (stopped kernel cpu regs slot call used why)
+stopped_left kernel cpu regs slot call used (steps.Ends end) = ends_left (after_end kernel call end) cpu regs slot call end.result end.params
+stopped_left kernel cpu regs slot call used (steps.Panics code) = ends_left (after_panic kernel call) cpu regs slot call (of_tee target_dead) no_params
+stopped_left kernel cpu regs slot call used (steps.Asks wanted payload left) =
+    asks_left kernel cpu regs slot (record call { steps = call.steps + used; phase = Asks left wanted payload }) wanted payload call.buffer
+
+taken_on_left : (kernel : Kernel) (cpu : ℕ) (regs : List ℕ) (count slot : ℕ) (call : PendingCall) (grant : Grant)
+    → LeftIn kernel.slots slot (taken_on kernel cpu regs count slot call grant)
+taken_on_left kernel cpu regs count slot call (Left job) =
+    let rest : PendingCall = record call { steps = call.steps + count; phase = Runs job } in
+    record { held = Suspended call.client rest; own = refl; after = refl }
+taken_on_left kernel cpu regs count slot call (Stopped used why) = stopped_left kernel cpu regs slot call used why
 
 granted_in : (kernel : Kernel) (cpu : ℕ) (regs : List ℕ) (count slot : ℕ) (call : PendingCall) (grant : Option Grant) (exited : Exited)
     → option_map (taken_on kernel cpu regs count slot call) grant ≡ Some exited → LeftIn kernel.slots slot exited
 granted_in kernel cpu regs count slot call None exited e = absurd cc
-granted_in kernel cpu regs count slot call (Some (Left job)) exited e =
-    let made : Exited = taken_on kernel cpu regs count slot call (Left job) in
-    let same : made ≡ exited = cc in
-    let rest : PendingCall = record call { steps = call.steps + count; phase = Runs job } in
-    record { held = Suspended call.client rest; own = refl; after = ap (λ (x : Exited). x.kernel.slots) (sym same) }
-granted_in kernel cpu regs count slot call (Some (Stopped used why)) exited e =
-    let made : Exited = stopped kernel cpu regs slot call used why in
-    let same : made ≡ exited = cc in
-    stopped_in kernel cpu regs slot call used why exited same
+granted_in kernel cpu regs count slot call (Some grant) exited e =
+    left_in kernel.slots slot (taken_on kernel cpu regs count slot call grant) exited (taken_on_left kernel cpu regs count slot call grant) e
 
 phase_in : (kernel : Kernel) (cpu : ℕ) (regs : List ℕ) (count slot : ℕ) (call : PendingCall) (phase : CallPhase) (exited : Exited)
     → exit_in kernel cpu regs count slot call phase ≡ Some exited → LeftIn kernel.slots slot exited
 phase_in kernel cpu regs count slot call (Runs job) exited e = granted_in kernel cpu regs count slot call (granted count job) exited e
 phase_in kernel cpu regs count slot call (Asks job wanted payload) exited e =
-    let made : Exited = asks_for kernel cpu regs slot call wanted payload in
-    let same : made ≡ exited = cc in
-    asks_left kernel cpu regs slot call wanted payload call.buffer exited same
+    left_in kernel.slots slot _ exited (asks_left kernel cpu regs slot call wanted payload call.buffer) e
 phase_in kernel cpu regs count slot call (Waits params) exited e =
-    let made : Exited = asks_for kernel cpu regs slot call (rpc.Sleep slot) [] in
-    let same : made ≡ exited = cc in
-    asks_left kernel cpu regs slot call (rpc.Sleep slot) [] call.buffer exited same
+    left_in kernel.slots slot _ exited (asks_left kernel cpu regs slot call (rpc.Sleep slot) [] call.buffer) e
 phase_in kernel cpu regs count slot call (Ends result params false wakes) exited e =
-    let after : Kernel = after_nothing kernel call in
-    let made : Exited = ends after cpu regs slot call result params in
-    let same : made ≡ exited = cc in
-    ended_left after cpu regs slot call result params (woken_by after call call.kind) exited same
+    left_in kernel.slots slot _ exited (ends_left (after_nothing kernel call) cpu regs slot call result params) e
 phase_in kernel cpu regs count slot call (Ends result params true wakes) exited e =
-    let made : Exited = ended kernel cpu regs slot call result params wakes in
-    let same : made ≡ exited = cc in
-    ended_left kernel cpu regs slot call result params wakes exited same
+    left_in kernel.slots slot _ exited (ended_left kernel cpu regs slot call result params wakes) e
 
 slot_in : (kernel : Kernel) (cpu : ℕ) (regs : List ℕ) (count slot : ℕ) (held : Option ThreadSlot) (exited : Exited)
     → option_and_then (exit_from kernel cpu regs count slot) held ≡ Some exited → LeftIn kernel.slots slot exited
@@ -285,20 +275,18 @@ record Taken (kernel : Kernel) (regs : List ℕ) (slot : ℕ) (next : Kernel) (c
   active : slice_get next.slots slot ≡ Some (Active cpu now)
   continues : Continues call now
 
-fixed_no_slot : (regs : List ℕ) (steps slot : ℕ) (answer : Answer) → Inside regs steps (Fixed answer) ≡ Inside regs steps (InSlot slot) → ⊥
-fixed_no_slot regs steps slot answer e = cc
+no_errand : (answer : Answer) (slot : ℕ) → Fixed answer ≡ InSlot slot → ⊥
+no_errand answer slot e = cc
 
-same_number : (regs : List ℕ) (steps first second : ℕ) → Inside regs steps (InSlot first) ≡ Inside regs steps (InSlot second) → first ≡ second
-same_number regs steps first second e = cc
+same_number : (first second : ℕ) → InSlot first ≡ InSlot second → first ≡ second
+same_number first second e = cc
 
 decided_takes : (kernel next : Kernel) (regs : List ℕ) (cpu count slot : ℕ) (decision : Decision) → Resuming kernel regs decision
     → entered kernel cpu regs count decision ≡ next → slice_get next.processors cpu ≡ Some (Inside regs count (InSlot slot)) → Taken kernel regs slot next cpu
 decided_takes kernel next regs cpu count slot (Answers answer) fits e inside =
-    let is_set = ap (λ (k : Kernel). slice_get k.processors cpu) e ∙ inside in
-    absurd (fixed_no_slot regs count slot answer (set_then_read kernel.processors cpu (Inside regs count (Fixed answer)) (Inside regs count (InSlot slot)) is_set))
+    absurd (no_errand answer slot (decided_errand kernel next cpu count regs (InSlot slot) (Answers answer) e inside))
 decided_takes kernel next regs cpu count slot (Takes taken call after) fits e inside =
-    let is_set = ap (λ (k : Kernel). slice_get k.processors cpu) e ∙ inside in
-    let number = same_number regs count taken slot (set_then_read kernel.processors cpu (Inside regs count (InSlot taken)) (Inside regs count (InSlot slot)) is_set) in
+    let number = same_number taken slot (decided_errand kernel next cpu count regs (InSlot slot) (Takes taken call after) e inside) in
     let active = ap (λ (k : Kernel). slice_get k.slots taken) (sym e) ∙ set_found kernel.slots taken (Active cpu call) (Suspended fits.owner fits.was) fits.held in
     record {
       call = fits.was;
@@ -311,18 +299,12 @@ decided_takes kernel next regs cpu count slot (Takes taken call after) fits e in
     }
 decided_takes kernel next regs cpu count slot (Cancels taken call session cancel_id) fits e inside = absurd fits
 
-read_takes : (boot : Booted) (kernel next : Kernel) (regs : List ℕ) (cpu count slot : ℕ) (reads : List Read) (asked : Call) → asked ≡ Resume
-    → reading (read_then (decision_of boot kernel regs asked) (λ decision. done (entered kernel cpu regs count decision))) reads ≡ Some next
-    → slice_get next.processors cpu ≡ Some (Inside regs count (InSlot slot)) → Taken kernel regs slot next cpu
-read_takes boot kernel next regs cpu count slot reads asked is e inside =
-    let decides : Call → Type 0 = λ c. reading (read_then (decision_of boot kernel regs c) (λ decision. done (entered kernel cpu regs count decision))) reads ≡ Some next in
-    let found = reading-all (resume boot kernel regs) (entered kernel cpu regs count) (Resuming kernel regs) (resume-Resuming boot kernel regs) reads next (subst decides is e) in
-    decided_takes kernel next regs cpu count slot found.value found.holds found.gives inside
-
 allowed_takes : (boot : Booted) (kernel next : Kernel) (regs : List ℕ) (cpu count slot : ℕ) (reads : List Read) (allowed : Bool) → call_of (reg regs 0) ≡ Resume
     → (if allowed then after_entry boot kernel cpu regs count reads else None) ≡ Some next
     → slice_get next.processors cpu ≡ Some (Inside regs count (InSlot slot)) → Taken kernel regs slot next cpu
-allowed_takes boot kernel next regs cpu count slot reads true is e inside = read_takes boot kernel next regs cpu count slot reads (call_of (reg regs 0)) is e inside
+allowed_takes boot kernel next regs cpu count slot reads true is e inside =
+    let found = resume_decides boot kernel next cpu count regs reads is e in
+    decided_takes kernel next regs cpu count slot found.value found.holds found.gives inside
 allowed_takes boot kernel next regs cpu count slot reads false is e inside = absurd cc
 
 only_one : (o : Option Kernel) (next : Kernel) → option_and_then (λ k. Some k) o ≡ Some next → o ≡ Some next

@@ -16,9 +16,13 @@ use Rattle.ta_params.specs.declared.login.Login.{Login}
 abbrev pub reg : List ℕ → ℕ → ℕ
 reg regs number = slice_index regs number
 
--- the address of the argument: the upper half in a1, the lower half in a2
+-- a number in two registers: the upper half in that of this number, the lower half in the next
+abbrev pub pair_at : List ℕ → ℕ → ℕ
+pair_at regs number = reg regs number * 2 ^ 32 + reg regs (number + 1)
+
+-- the address of the argument, in a1 and a2
 abbrev pub argument_at : List ℕ → ℕ
-argument_at regs = reg regs 1 * 2 ^ 32 + reg regs 2
+argument_at regs = pair_at regs 1
 
 -- the thread that is to be resumed
 abbrev pub thread_in : List ℕ → ℕ

@@ -35,7 +35,8 @@ pub record Opener : Type 0 where
   pub login : Login
   pub params : CopiedParams
 
--- the job of an open on the instance of this number, with this memory and these objects, from these entry points on
+-- the job of an open on the instance of this number, with this memory and these objects, from these entry points on;
+-- its destroy, if any, is for an open that fails
 abbrev pub opening_job : Beginner → Opener → ℕ → List ℕ → NumberMap Handle → List Point → Job
 opening_job who opener number memory objects points =
     let all = points ++ destroy_after opener.app who.kernel.sessions number in

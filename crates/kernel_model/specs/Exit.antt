@@ -95,14 +95,14 @@ abbrev pub answered : Kernel → ℕ → List ℕ → ℕ → PendingCall → Ca
 answered kernel cpu regs slot call result params =
     goes_out (without_call kernel slot) cpu regs ok (last_writes call result params)
 
--- with this result and these parameters: it wakes whom it is to wake, then it gives its buffer back, and then it is
--- answered
+-- with this result and these parameters: it gives its buffer back first, if it has one, and then it is answered
 abbrev pub frees_or_is_answered : Kernel → ℕ → List ℕ → ℕ → PendingCall → CallResult → CopiedParams → Option RpcBuffer → Exited
 frees_or_is_answered kernel cpu regs slot call result params None = answered kernel cpu regs slot call result params
 frees_or_is_answered kernel cpu regs slot call result params (Some buffer) =
     let rest = record call { buffer = None; phase = Ends result params true None } in
     suspended kernel cpu regs slot rest (answer.Free buffer.cookie slot) []
 
+-- and before both it wakes whom it is to wake
 abbrev pub ended : Kernel → ℕ → List ℕ → ℕ → PendingCall → CallResult → CopiedParams → Option ℕ → Exited
 ended kernel cpu regs slot call result params (Some woken) =
     asks_for kernel cpu regs slot (record call { phase = Ends result params true (Some woken) }) (rpc.Wake woken) []

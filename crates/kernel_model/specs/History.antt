@@ -74,7 +74,7 @@ goes_out_of kernel slot (Entry cpu regs steps reads) = false
 goes_out_of kernel slot (Exit cpu regs) =
     option_map_or (λ from. from == slot) (option_and_then slot_of_processor (slice_get kernel.processors cpu)) false
 
--- what the last of these exits from the slot left in it; `left` is what one before them left
+-- what the last exit from the slot among these events left in it; `left` is what one before them left
 abbrev pub left_by_exits : Booted → Kernel → ℕ → Option ThreadSlot → List Event → Option ThreadSlot
 left_by_exits boot kernel slot left [] = left
 left_by_exits boot kernel slot left (event ∷ events) =

@@ -120,7 +120,7 @@ first_kernel boot = record {
   next_instance = 1;
 }
 
--- ---- one part changed
+-- ---- slots and processors
 
 -- no call is in the slot
 abbrev pub is_free : ThreadSlot → Bool

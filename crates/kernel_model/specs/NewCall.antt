@@ -1,5 +1,5 @@
 -- A new call, OPTEE_SMC_CALL_WITH_ARG: its tests in their order, of which the first that fails decides. Tests 1
--- to 3 answer without a slot; 4 to 10 settle the call in its slot, with a result of TEE_ORIGIN_TEE.
+-- to 3 answer without a slot; 4 to 9 settle the call in its slot, with a result of TEE_ORIGIN_TEE; by 10 it waits.
 use Rattle.std.specs.Prelude.{ℕ, ◌+◌, ◌-◌, ◌*◌, ◌%◌, ◌==◌, nat_le, nat_lt, Bool, false, not, ◌&&◌, ◌||◌, if◌then◌else◌, List, [], ◌∷◌, ◌++◌, length, fold, find, Option, Some, None, is_some, is_none}
 use Rattle.std.specs.Option.{option_map, option_map_or, option_and_then}
 use Rattle.base.specs.NumberMap.{get, insert, remove}

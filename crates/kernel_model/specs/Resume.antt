@@ -1,6 +1,6 @@
 -- A resume, OPTEE_SMC_CALL_RETURN_FROM_RPC: it goes on with the call that its slot was left with, whichever that is.
-use Rattle.std.specs.Prelude.{ℕ, ◌+◌, ◌*◌, ◌%◌, ◌^◌, ◌==◌, ◌&&◌, not, Bool, true, false, if◌then◌else◌, List, [], ◌∷◌, Option, Some, None, is_none, slice_get}
-use Rattle.std.specs.Option.{option_map_or, option_and_then}
+use Rattle.std.specs.Prelude.{ℕ, ◌%◌, ◌==◌, ◌&&◌, not, Bool, true, false, if◌then◌else◌, List, [], ◌∷◌, Option, Some, None, is_none, slice_get}
+use Rattle.std.specs.Option.{option_map_or, option_or, option_and_then}
 use Rattle.base.specs.NumberMap.{get}
 use Rattle.job_model.specs.declared.call_kind.CallKind.{CallKind}
 use Rattle.job_model.specs.declared.call_kind.CallKind.TheVariants as kind
@@ -17,7 +17,7 @@ use Rattle.session_table.specs.declared.session.Session.{Session}
 use Rattle.session_table.specs.Waiters.{without}
 use Rattle.kernel_model.specs.Application.{Application, Booted}
 use Rattle.ta_params.specs.declared.copied_params.CopiedParams.{CopiedParams}
-use Rattle.kernel_model.specs.Argument.{reg, client_in, thread_in}
+use Rattle.kernel_model.specs.Argument.{pair_at, client_in, thread_in}
 use Rattle.kernel_model.specs.Begin.{Beginner, Begun, Opener, has_pages_for, opens_kept, opens_new, works_on, closing_points}
 use Rattle.kernel_model.specs.Codes.{eresume, bad_parameters, out_of_memory, target_dead}
 use Rattle.kernel_model.specs.Decision.{Decision, Answers, Takes}
@@ -42,17 +42,17 @@ in_phase call phase = record call { phase = phase }
 
 -- ---- buffers
 
--- the buffer that the registers offer, its address in a1 and a2 and its cookie in a4 and a5, the upper half first. It
--- counts where the address is a multiple of 8 and 4096 bytes lie in RAM there
+-- the buffer that the registers offer, its address in a1 and a2 and its cookie in a4 and a5. It counts where the
+-- address is a multiple of 8 and 4096 bytes lie in RAM there
 abbrev pub offered : List ℕ → Option RpcBuffer
 offered regs =
-    let addr = reg regs 1 * 2 ^ 32 + reg regs 2 in
-    let cookie = reg regs 4 * 2 ^ 32 + reg regs 5 in
+    let addr = pair_at regs 1 in
+    let cookie = pair_at regs 4 in
     if (addr % 8 == 0) && is_in_ram addr 4096 then Some (record { addr = addr; cookie = cookie }) else None
 
 -- the call with its buffer, which it was asked for where it had none
 abbrev pub with_buffer : Resumed → PendingCall
-with_buffer r = record r.call { buffer = option_map_or (λ (buffer : RpcBuffer). Some buffer) r.call.buffer (offered r.regs) }
+with_buffer r = record r.call { buffer = option_or r.call.buffer (offered r.regs) }
 
 -- ---- a call whose application has asked for something
 
@@ -129,7 +129,7 @@ is_close _ = false
 
 -- it was asked for a buffer and has got none
 abbrev pub has_no_buffer : Resumed → Bool
-has_no_buffer r = is_none r.call.buffer && is_none (offered r.regs)
+has_no_buffer r = is_none (with_buffer r).buffer
 
 -- the tests of a call that has waited, behind that of its session: a dead instance, and a held one
 abbrev pub tested_again : Resumed → CopiedParams → Session → Option Instance → Decision
@@ -152,7 +152,7 @@ resumes_waiting r params =
 abbrev pub still_wakes : Resumed → Option ℕ → Option ℕ
 still_wakes r wakes = if is_none r.call.buffer && not (has_no_buffer r) then wakes else None
 
--- a buffer is offered only where it is to wake somebody
+-- a buffer that is offered counts only where the call was to wake somebody
 abbrev pub resumes_ended : Resumed → CallPhase → Option ℕ → Decision
 resumes_ended r phase None = goes_on r (in_phase r.call phase)
 resumes_ended r phase (Some woken) = goes_on r (in_phase (with_buffer r) phase)

@@ -1,3 +1,3 @@
--- What isn't served yet, and where it will stand. Nothing else in these definitions will be taken back.
+-- What isn't served yet. Nothing else in these definitions will be taken back.
 --
 -- * Calls that bring a place for their requests along, beside their argument.

@@ -8,6 +8,7 @@ use Rattle.job_model.specs.declared.call_kind.CallKind.TheVariants.{Open, Invoke
 use Rattle.session_table.specs.declared.session.Session.{Session}
 use Rattle.session_table.specs.Session.{is_of, is_opened_of}
 use Rattle.session_table.specs.Sessions.{settled}
+use Rattle.kernel_model.specs.Codes.{success}
 
 -- the session of this number, where this client opened it
 abbrev pub opened_by : NumberMap Session → ℕ → ℕ → Option Session
@@ -25,7 +26,7 @@ has_session sessions instance = list_any (λ kept. is_of instance kept.1) sessio
 -- after a call of this kind on this session has ended with a result and a context: an open that succeeds opens
 -- it, one that fails and a close take it away
 abbrev pub sessions_after : CallKind → NumberMap Session → ℕ → ℕ → ℕ → NumberMap Session
-sessions_after Open sessions number result context = if result == 0 then settled sessions number context else remove sessions number
+sessions_after Open sessions number result context = if result == success then settled sessions number context else remove sessions number
 sessions_after (Invoke func) sessions number result context = sessions
 sessions_after Close sessions number result context = remove sessions number
 sessions_after Settled sessions number result context = sessions

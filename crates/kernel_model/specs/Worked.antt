@@ -26,7 +26,7 @@ use Rattle.kernel_model.specs.Kernel.{Kernel, first_kernel}
 abbrev pub uuid : List ℕ
 uuid = replicate 4 0x11 ++ replicate 2 0x22 ++ replicate 2 0x33 ++ replicate 2 0x44 ++ replicate 6 0x55
 
--- so many pages, and entry points at the first instruction but for one of them
+-- of one page, with these flags, entry points and instructions
 abbrev pub image_with : ℕ → List ℕ → List Instr → Image
 image_with flags entries code = record { flags = flags; pages = 1; entries = entries; code = code }
 
@@ -139,7 +139,7 @@ app_with image = record { uuid = uuid; image = image }
 abbrev pub boot : ℕ → ℕ → ℕ → Image → Booted
 boot cpus threads frames image = booted (boot_with cpus threads frames (app_with image ∷ [])) []
 
--- the same, with one that is built in and answers each invoke so
+-- a core whose only application is built in, and answers each invoke so
 abbrev pub boot_native : ℕ → ℕ → ℕ → ℕ → Booted
 boot_native cpus threads frames result =
     booted (boot_with cpus threads frames []) ((uuid, Fixed result) ∷ [])
