@@ -8,6 +8,7 @@
 mod call_kind;
 mod laws;
 mod phase;
+mod rpc_buffer;
 
 pub use call_kind::CallKind;
 pub use laws::{
@@ -15,3 +16,4 @@ pub use laws::{
     worked_examples,
 };
 pub use phase::Phase;
+pub use rpc_buffer::RpcBuffer;

@@ -4,6 +4,7 @@ use Rattle.std.specs.Prelude.{slice_get, if◌then◌else◌, ◌==◌, ◌&&◌
 use Rattle.std.specs.Option.{option_map_or}
 use Rattle.std.proofs.lemmas.Bool.Decides.{Decides-eqb}
 use Rattle.base.specs.NumberMap.{get}
+use Rattle.job_model.specs.declared.rpc_buffer.RpcBuffer.{RpcBuffer}
 use Rattle.job_model.specs.declared.call_kind.CallKind.{CallKind}
 use Rattle.job_model.specs.declared.call_kind.CallKind.TheVariants as kind
 use Rattle.job_model.specs.Job.{Job}
@@ -22,7 +23,7 @@ use Rattle.kernel_model.specs.Decision.{Decision, Answers, Takes, Cancels}
 use Rattle.kernel_model.specs.History.{Continues}
 use Rattle.kernel_model.specs.Instances.{is_held}
 use Rattle.kernel_model.specs.Laws.{resumed_by, suspended_for}
-use Rattle.kernel_model.specs.Kernel.{CallPhase, Runs, Asks, Waits, Ends, RpcBuffer, PendingCall, ThreadSlot, Free, Active, Suspended, Instance, Kernel}
+use Rattle.kernel_model.specs.Kernel.{CallPhase, Runs, Asks, Waits, Ends, PendingCall, ThreadSlot, Free, Active, Suspended, Instance, Kernel}
 use Rattle.kernel_model.specs.Resume.{Resumed, offered, resume, resumes_slot, resumes_call, resumes_in, resumes_asking, resumes_waiting, resumes_ended, still_wakes, tested_again, begins_in, begins_open, begins, ends_with, waits_on, goes_on, is_answered, app_of_call, is_close, phase_seen, sees, has_no_buffer, who_resumes}
 use Rattle.kernel_model.proofs.Parts.{AllOf, AllOf-mapped, AllOf-onward, if-both, map_or-both}
 

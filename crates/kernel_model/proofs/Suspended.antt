@@ -7,6 +7,7 @@ use Rattle.std.proofs.lemmas.Option.{option_and_then_some}
 use Rattle.std.proofs.Math.Seq.{take-append_seam, take-append-add}
 use Rattle.event_journal.specs.declared.event.Event.{Event}
 use Rattle.event_journal.specs.declared.event.Event.TheVariants as event
+use Rattle.job_model.specs.declared.rpc_buffer.RpcBuffer.{RpcBuffer}
 use Rattle.job_model.specs.Steps.{Grant, Left, Stopped, JobStop, granted}
 use Rattle.job_model.specs.Job.{of_tee}
 use Rattle.job_model.specs.Point.{no_params}
@@ -27,7 +28,7 @@ use Rattle.kernel_model.specs.Decision.{Decision, Answers, Takes, Cancels}
 use Rattle.kernel_model.specs.Entry.{entered, after_entry}
 use Rattle.kernel_model.specs.Exit.{Exited, after_end, after_nothing, after_panic, asks_in, ended, ends, frees_or_is_answered, goes_out, exit, exit_of, exit_from, exit_in, taken_on, stopped, woken_by}
 use Rattle.kernel_model.specs.History.{after_event, after_events, entry_from, exit_to, goes_out_of, can_be_granted, is_outside, kernel_after, left_by_exits, Continues, IsEntryFor, Resumes, slot_of_processor}
-use Rattle.kernel_model.specs.Kernel.{CallPhase, Runs, Asks, Waits, Ends, RpcBuffer, PendingCall, cancelled_call, cancelled_slot, cancelled_slots, ThreadSlot, Free, Active, Suspended, Fixed, InSlot, Processor, Outside, Inside, Kernel, first_kernel}
+use Rattle.kernel_model.specs.Kernel.{CallPhase, Runs, Asks, Waits, Ends, PendingCall, cancelled_call, cancelled_slot, cancelled_slots, ThreadSlot, Free, Active, Suspended, Fixed, InSlot, Processor, Outside, Inside, Kernel, first_kernel}
 use Rattle.kernel_model.specs.Laws.{ResumesContinue}
 use Rattle.kernel_model.proofs.EntryLaws.{resume_decides}
 use Rattle.kernel_model.proofs.FixedAnswer.{decided_errand, decides}

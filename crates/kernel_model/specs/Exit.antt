@@ -4,6 +4,7 @@ use Rattle.std.specs.Prelude.{ℕ, ◌+◌, ◌==◌, Bool, true, false, if◌th
 use Rattle.std.specs.Int.{w32, to_le_bytes}
 use Rattle.std.specs.Option.{option_map, option_map_or, option_and_then}
 use Rattle.base.specs.NumberMap.{NumberMap, get}
+use Rattle.job_model.specs.declared.rpc_buffer.RpcBuffer.{RpcBuffer}
 use Rattle.job_model.specs.declared.call_kind.CallKind.{CallKind}
 use Rattle.job_model.specs.declared.call_kind.CallKind.TheVariants.{Open, Invoke, Close, Settled}
 use Rattle.job_model.specs.Job.{Job, of_tee}
@@ -26,7 +27,7 @@ use Rattle.ta_params.specs.declared.call_result.CallResult.{CallResult}
 use Rattle.ta_params.specs.declared.copied_params.CopiedParams.{CopiedParams}
 use Rattle.kernel_model.specs.Codes.{ok, success, target_dead}
 use Rattle.kernel_model.specs.Instances.{given_back, is_held, killed, settled_instances}
-use Rattle.kernel_model.specs.Kernel.{CallPhase, Runs, Asks, Waits, Ends, RpcBuffer, PendingCall, ThreadSlot, Free, Active, Suspended, Instance, Errand, Fixed, InSlot, Processor, Outside, Inside, Kernel, with_processor, with_slot}
+use Rattle.kernel_model.specs.Kernel.{CallPhase, Runs, Asks, Waits, Ends, PendingCall, ThreadSlot, Free, Active, Suspended, Instance, Errand, Fixed, InSlot, Processor, Outside, Inside, Kernel, with_processor, with_slot}
 use Rattle.kernel_model.specs.Sessions.{sessions_after, sessions_after_panic, sessions_unrun}
 
 -- what an exit comes to

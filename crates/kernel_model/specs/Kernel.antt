@@ -2,6 +2,7 @@
 use Rattle.std.specs.Prelude.{ℕ, ◌==◌, ◌&&◌, ◌||◌, Bool, true, false, List, [], Option, map, position, replicate, slice_set}
 use Rattle.base.specs.NumberMap.{NumberMap}
 use Rattle.job_model.specs.declared.call_kind.CallKind.{CallKind}
+use Rattle.job_model.specs.declared.rpc_buffer.RpcBuffer.{RpcBuffer}
 use Rattle.job_model.specs.Job.{Job}
 use Rattle.param_copy.specs.declared.copied.Place.{Place}
 use Rattle.rpc_msgs.specs.declared.rpc.Rpc.{Rpc}
@@ -15,11 +16,6 @@ use Rattle.ta_params.specs.declared.copied_params.CopiedParams.{CopiedParams}
 use Rattle.tee_storage.specs.declared.handle.Handle.{Handle}
 
 -- ---- calls
-
--- a buffer of the normal world, in which a call writes its requests
-pub record RpcBuffer : Type 0 where
-  pub addr : ℕ
-  pub cookie : ℕ
 
 -- how far it has come
 pub data CallPhase : Type 0 where

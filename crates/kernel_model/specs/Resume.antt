@@ -2,6 +2,7 @@
 use Rattle.std.specs.Prelude.{ℕ, ◌%◌, ◌==◌, ◌&&◌, not, Bool, true, false, if◌then◌else◌, List, [], ◌∷◌, Option, Some, None, is_none, slice_get}
 use Rattle.std.specs.Option.{option_map_or, option_or, option_and_then}
 use Rattle.base.specs.NumberMap.{get}
+use Rattle.job_model.specs.declared.rpc_buffer.RpcBuffer.{RpcBuffer}
 use Rattle.job_model.specs.declared.call_kind.CallKind.{CallKind}
 use Rattle.job_model.specs.declared.call_kind.CallKind.TheVariants as kind
 use Rattle.job_model.specs.Job.{Job, seen, of_tee}
@@ -22,7 +23,7 @@ use Rattle.kernel_model.specs.Begin.{Beginner, Begun, Opener, has_pages_for, ope
 use Rattle.kernel_model.specs.Codes.{eresume, bad_parameters, out_of_memory, target_dead}
 use Rattle.kernel_model.specs.Decision.{Decision, Answers, Takes}
 use Rattle.kernel_model.specs.Instances.{app_of, is_held}
-use Rattle.kernel_model.specs.Kernel.{CallPhase, Runs, Asks, Waits, Ends, RpcBuffer, PendingCall, ThreadSlot, Free, Active, Suspended, Instance, Kernel}
+use Rattle.kernel_model.specs.Kernel.{CallPhase, Runs, Asks, Waits, Ends, PendingCall, ThreadSlot, Free, Active, Suspended, Instance, Kernel}
 
 -- a call that its client resumes, with these registers; the call has seen by then whether it was cancelled
 pub record Resumed : Type 0 where

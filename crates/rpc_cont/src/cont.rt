@@ -1,7 +1,7 @@
 use crate::app::ContApp;
 use crate::entry_point::EntryPoint;
 use arrayvec::ArrayVec;
-use job_model::{CallKind, Phase};
+use job_model::{CallKind, Phase, RpcBuffer};
 use param_copy::Places;
 use rpc_msgs::{Payload, Rpc};
 use ta_params::{CallResult, CopiedParams, Login};
@@ -13,13 +13,6 @@ use tee_storage::{Handles, ObjectState};
 pub struct Asked {
     pub rpc: Rpc,
     pub payload: Payload,
-}
-
-/// A buffer of the normal world, in which a call writes its requests.
-#[derive(Clone, Copy, Debug, PartialEq, Eq)]
-pub struct RpcBuffer {
-    pub addr: u64,
-    pub cookie: u64,
 }
 
 /// A call as plain data, over its instance's memory.

@@ -23,9 +23,9 @@ mod stop;
 mod tests;
 
 pub use app::ContApp;
-pub use cont::{Asked, Cont, RpcBuffer};
+pub use cont::{Asked, Cont};
 pub use entry_point::EntryPoint;
 pub use examples::worked_examples;
 pub use input::ResumeInput;
-pub use job_model::{CallKind, Phase};
+pub use job_model::{CallKind, Phase, RpcBuffer};
 pub use stop::ContStop;

@@ -8,9 +8,9 @@ ghost use Rattle.rpc_cont.specs.Resuming.{answer_in};
 ghost use Rattle.rpc_cont.specs.Running.{IsWaiting, worked};
 ghost use Rattle.rpc_msgs.specs.Answer.{RpcAnswer};
 
-use crate::cont::{Cont, RpcBuffer};
+use crate::cont::Cont;
 use crate::input::ResumeInput;
-use job_model::Phase;
+use job_model::{Phase, RpcBuffer};
 use ta_step::TaMemory;
 
 impl<M: TaMemory + Drop> Cont<M> {
