@@ -192,6 +192,12 @@ waiting {M} bytes cont job m wanted can waits there wants =
 abbrev pub answered_by : {M X : Type 0} {g : _} → Cont M X g → Option (AnyMachine M) → Cont M X g
 answered_by cont machine = record cont { machine = machine; object = None; request = None; phase = phase.Runs }
 
+-- where it has no call on an object, or none any more
+pub answered_plain : {M X : Type 0} {g : _} (old new : Cont M X g) → old.object ≡ None
+    → new ≡ record old { machine = new.machine; request = None; phase = phase.Runs } → new ≡ answered_by old new.machine
+answered_plain old new none stays =
+    stays ∙ ap (λ (o : Option ObjectState). record old { machine = new.machine; object = o; request = None; phase = phase.Runs }) none
+
 -- a request with one answer more
 abbrev pub one_more : Asked → RpcAnswer → Asked
 one_more asked answer = record asked { answers = asked.answers ++ answer ∷ [] }

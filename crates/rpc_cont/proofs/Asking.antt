@@ -42,9 +42,6 @@ pub where_there : {A : Type 0} (o : Option A) (P Q : A → Type 0) → IsSomeAnd
 where_there None P Q holds on = absurd holds
 where_there (Some a) P Q holds on = on a refl holds
 
-pub is_there : {A : Type 0} (o : Option A) (P : A → Type 0) (a : A) → o ≡ Some a → P a → IsSomeAnd o P
-is_there {A} o P a is holds = subst (λ (x : Option A). IsSomeAnd x P) (sym is) holds
-
 pub holds_as : {A : Type 0} (o p : Option A) (P : A → Type 0) → o ≡ p → IsSomeAnd p P → IsSomeAnd o P
 holds_as {A} o p P same holds = subst (λ (x : Option A). IsSomeAnd x P) (sym same) holds
 

@@ -15,7 +15,7 @@ use Rattle.rpc_cont.specs.declared.cont.Cont.{Cont}
 use Rattle.rpc_cont.specs.declared.entry_point.EntryPoint.{EntryPoint}
 use Rattle.rpc_cont.specs.declared.stop.ContStop.{ContStop}
 use Rattle.rpc_cont.specs.declared.stop.ContStop.TheVariants as stop
-use Rattle.rpc_cont.proofs.Asking.{where_there, is_there, from_there}
+use Rattle.rpc_cont.proofs.Asking.{where_there, holds_as, from_there}
 use Rattle.ta_step.specs.Machine.{state_of}
 use Rattle.ta_step.specs.Requests.{span_of}
 use Rattle.ta_step.specs.State.{State}
@@ -26,7 +26,7 @@ use Rattle.tee_storage.specs.declared.state.ObjectState.{ObjectState}
 
 -- ---- a call that waits
 
-has_object : {M X : Type 0} {g : _} (uuid : List ℕ) (asked : Asked) (cont : Cont M X g) (machine : State) (wanted : Request) (pending : Option Pending) (object : Option ObjectState)
+pub has_object : {M X : Type 0} {g : _} (uuid : List ℕ) (asked : Asked) (cont : Cont M X g) (machine : State) (wanted : Request) (pending : Option Pending) (object : Option ObjectState)
     → (let span = span_of wanted in HasCome uuid (bytes_at machine span.0 span.1) asked cont wanted pending object) → HasObject machine wanted object
 has_object uuid asked cont machine request.Time None object come = absurd come
 has_object uuid asked cont machine request.Time (Some pending) None come = refl
@@ -48,7 +48,7 @@ waits-pending bytes uuid cont plain job pending waits is = record {
       from_there job.asked _ waits.asked
       (λ asked at awaits.
       where_there cont.machine _ _ awaits
-      (λ m there here. is_there m.asked _ asked.request here.asks.asks (here.asks, has_object uuid asked cont (state_of bytes m) asked.request cont.request cont.object here.come)));
+      (λ m there here. holds_as m.asked (Some asked.request) _ here.asks.asks (here.asks, has_object uuid asked cont (state_of bytes m) asked.request cont.request cont.object here.come)));
 }
 
 -- ---- a call that was taken on

@@ -113,10 +113,9 @@ impl<M: TaMemory + Drop> Cont<M> {
         ensures gives { IsSomeAnd self.old.machine (λ m. (request : AnyRequest) → (state_of M.bytes m).asked ≡ Some request
             → IsSomeAnd self.new.machine (λ n. state_of M.bytes n ≡ answered request r0 r1 r2 (state_of M.bytes m))) }
         ensures size { memory_size M.bytes self.new ≡ memory_size M.bytes self.old }
-        ensures stays { self.new ≡ record self.old { machine = self.new.machine; object = None; request = None; phase = Phase.Runs } }
+        ensures stays { self.new ≡ record self.old { machine = self.new.machine; request = None; phase = Phase.Runs } }
     {
         self.give(r0, r1, r2);
-        self.object = None;
         self.phase = Phase::Runs;
     }
 

@@ -11,7 +11,7 @@ use Rattle.ta_step.specs.declared.stop.Request.{Request}
 use Rattle.ta_step.specs.declared.stop.Request.TheVariants as request
 use Rattle.tee_storage.specs.ObjectCalls.{Serving}
 use Rattle.tee_storage.specs.States.{StandsFor}
-use Rattle.rpc_cont.proofs.Asking.{is_there, holds_there, object-served, came-over, unread}
+use Rattle.rpc_cont.proofs.Asking.{holds_as, holds_there, object-served, came-over, unread}
 use Rattle.rpc_cont.proofs.cont.Cont.ask.Goals as goal
 
 pub go_on-requires : goal.go_on-requires
@@ -55,7 +55,7 @@ returns-in-Some-clause-asks g c image =
     let now : Serving = record { step = c.start-state.result.1; range = range; objects = c.start-state.new.handles } in
     let named = c.of-span.ensures.bytes ∙ ap (λ (r : Request). range_of r s) (sym c.in-Object.is) in
     let stands = subst (λ (r : List ℕ). StandsFor c.start-state.result.0 call c.args.uuid r old.objects [] now) named c.start-state.ensures.stands in
-    is_there old.machine _ m is
+    holds_as old.machine (Some m) _ is
     (λ here at.
     object-served bytes c.args.uuid image old here m n None call asked c.start-state.result.0 now _ c.in-Object.is stored stands
     (c.go_on.ensures.turns c.args.uuid image asked c.in-Object.is here at
