@@ -2,7 +2,7 @@
 -- to 3 answer without a slot; 4 to 9 settle the call in its slot, with a result of TEE_ORIGIN_TEE; by 10 it waits.
 use Rattle.std.specs.Prelude.{ℕ, ◌+◌, ◌-◌, ◌*◌, ◌%◌, ◌==◌, nat_le, nat_lt, Bool, false, not, ◌&&◌, ◌||◌, if◌then◌else◌, List, [], ◌∷◌, ◌++◌, length, fold, find, Option, Some, None, is_some, is_none}
 use Rattle.std.specs.Option.{option_map, option_map_or, option_and_then}
-use Rattle.base.specs.NumberMap.{get, insert, remove}
+use Rattle.base.specs.NumberMap.{NumberMap, get, insert, remove}
 use Rattle.job_model.specs.declared.call_kind.CallKind.{CallKind}
 use Rattle.job_model.specs.declared.call_kind.CallKind.TheVariants as kind
 use Rattle.job_model.specs.Job.{Job, of_tee}
@@ -43,9 +43,9 @@ pub record NewCall : Type 0 where
 
 -- ---- what is decided
 
--- a call with this result, which no application returned
-abbrev pub settled_call : NewCall → ℕ → PendingCall
-settled_call c code = record {
+-- a call in this phase that is about nothing
+abbrev pub fresh_call : NewCall → CallPhase → PendingCall
+fresh_call c phase = record {
   client = c.client;
   kind = kind.Settled;
   uuid = None;
@@ -58,8 +58,12 @@ settled_call c code = record {
   seen = false;
   steps = 0;
   buffer = None;
-  phase = Ends (of_tee code) no_params false None;
+  phase = phase;
 }
+
+-- a call with this result, which no application returned
+abbrev pub settled_call : NewCall → ℕ → PendingCall
+settled_call c code = fresh_call c (Ends (of_tee code) no_params false None)
 
 -- what a call on an instance is about: its session and its instance, its application, and where its results go
 pub record About : Type 0 where
@@ -71,20 +75,12 @@ pub record About : Type 0 where
 
 -- such a call, in this phase
 abbrev pub call_about : NewCall → About → CallPhase → PendingCall
-call_about c about phase = record {
-  client = c.client;
+call_about c about phase = record (fresh_call c phase) {
   kind = about.kind;
   uuid = Some about.uuid;
-  arg = c.arg;
   places = about.places;
   session = about.session;
   instance = about.instance;
-  cancel_id = c.head.cancel_id;
-  marked = false;
-  seen = false;
-  steps = 0;
-  buffer = None;
-  phase = phase;
 }
 
 -- how it begins
@@ -254,12 +250,15 @@ offset_in param = param.p % PAGE_BYTES
 abbrev pub pages_in : MsgParam → ℕ
 pages_in param = page_count (offset_in param) param.q
 
+-- the call succeeds, and these are the registered buffers
+abbrev pub keeps_buffers : NewCall → NumberMap PageBuffer → Decision
+keeps_buffers c buffers = settles_in c (record c.kernel { registered = record c.kernel.registered { buffers = buffers } }) success
+
 -- the buffer of these pages is kept under its cookie
 abbrev pub registers : NewCall → MsgParam → List ℕ → Decision
 registers c param pages =
     let buffer : PageBuffer = record { pages = pages; offset = offset_in param; size = param.q } in
-    let buffers = insert c.kernel.registered.buffers param.s buffer in
-    settles_in c (record c.kernel { registered = record c.kernel.registered { buffers = buffers } }) success
+    keeps_buffers c (insert c.kernel.registered.buffers param.s buffer)
 
 -- the tests of a register, and what it changes
 abbrev pub register_memory : NewCall → Tested Decision
@@ -275,9 +274,7 @@ register_memory c = do
 
 -- the buffer is kept no more
 abbrev pub unregisters : NewCall → MsgParam → Decision
-unregisters c param =
-    let buffers = remove c.kernel.registered.buffers param.s in
-    settles_in c (record c.kernel { registered = record c.kernel.registered { buffers = buffers } }) success
+unregisters c param = keeps_buffers c (remove c.kernel.registered.buffers param.s)
 
 -- the tests of an unregister, and what it changes
 abbrev pub unregister_memory : NewCall → Tested Decision
