@@ -14,7 +14,7 @@ use Rattle.rpc_cont.proofs.Asking.{where_there, from_there, holds_there, body_th
 use Rattle.rpc_cont.proofs.Pending.{waits-pending}
 use Rattle.rpc_cont.proofs.Spans.{store-none, store-same, store-same_but, is_range-store, length-bytes_at, bytes_at-store}
 use Rattle.rpc_cont.specs.Spans.{rest_of}
-use Rattle.rpc_cont.specs.Advancing.{IsRunnable}
+use Rattle.rpc_cont.specs.Advancing.{IsRunnable, phase_after}
 use Rattle.rpc_cont.specs.Answering.{HasImage, CanBeAnswered, IsAnswered, phase_behind}
 use Rattle.rpc_cont.specs.Conts.{body_at, body_of, job_with, job_at, job_of, point_of, uuid_of}
 use Rattle.rpc_cont.specs.Running.{HasAskedFor, HasCome, HasReady, IsReady, IsTurn, IsWaiting, Awaits, worked}
@@ -115,7 +115,7 @@ turn-answered bytes cont image (Some answer) next (Stops (Asks wanted payload le
     let waiting =
     waits-in bytes (uuid_of cont.app) cont next (job_at bytes (uuid_of cont.app) image cont) (job_of bytes cont) left (sym (job_image bytes cont image runs)) waits
     in
-    ((waiting, pending), is, record { image = runs.valid; pending = waits-pending bytes (uuid_of cont.app) (in_phase cont next) (job_of bytes cont) left _ waiting pending })
+    ((waiting, pending), is ∙ ap phase_after asks, record { image = runs.valid; pending = waits-pending bytes (uuid_of cont.app) (in_phase cont next) (job_of bytes cont) left _ waiting pending })
 
 -- the same of a call that ran
 pub ran-answered : {M X : Type 0} {g : _} (bytes : M → List ℕ) (old new : Cont M X g) (image : Image) (answer : Option ContStop) (next : Phase) (turn : Advance)

@@ -4,7 +4,7 @@ use Rattle.job_model.specs.Asking.{bytes_at}
 use Rattle.job_model.specs.Steps.{Ends, Panics, Asks, Advance, Goes, Stops}
 use Rattle.job_model.specs.declared.phase.Phase.{Phase}
 use Rattle.job_model.specs.declared.phase.Phase.TheVariants as phase
-use Rattle.rpc_cont.specs.Advancing.{CanAdvance}
+use Rattle.rpc_cont.specs.Advancing.{CanAdvance, phase_after}
 use Rattle.rpc_cont.specs.Conts.{uuid_of, job_of}
 use Rattle.rpc_cont.specs.Running.{HasAsked, HasAskedFor}
 use Rattle.rpc_cont.specs.declared.app.ContApp.{ContApp}
@@ -56,7 +56,7 @@ pub record CanBeAnswered {M X : Type 0} {g : _} (bytes : M → List ℕ) (cont :
 -- how far it has come, by what it stops with, if it does
 abbrev pub phase_behind : Option ContStop → Phase
 phase_behind None = phase.Runs
-phase_behind (Some stop) = phase.Asks
+phase_behind (Some stop) = phase_after stop
 
 -- the call runs on, or has asked for something else
 abbrev pub IsAnswered : {M X : Type 0} {g : _} → (M → List ℕ) → Cont M X g → Advance → Type 0

@@ -18,7 +18,6 @@ use crate::app::ContApp;
 use crate::begin::of_application;
 use crate::cont::Cont;
 use crate::stop::ContStop;
-use job_model::Phase;
 use native_tas::Native;
 use ta_isa::Image;
 use ta_step::{Machine, Stop, TaMemory};
@@ -54,11 +53,7 @@ impl<M: TaMemory + Drop> Cont<M> {
         let app = self.app.take();
         let stop = self.advance_as(&app, steps);
         self.app = app;
-        self.phase = match stop {
-            ContStop::Interrupted => Phase::Runs,
-            ContStop::Asks => Phase::Asks,
-            ContStop::Ended(_) | ContStop::Panicked(_) => Phase::Ends,
-        };
+        self.phase = stop.phase();
         stop
     }
 

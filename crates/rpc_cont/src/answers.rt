@@ -28,7 +28,7 @@ fn phase_behind(stop: Option<ContStop>) -> Phase
     ensures { result ≡ phase_behind stop }
 {
     match stop {
-        Some(_) => Phase::Asks,
+        Some(stop) => stop.phase(),
         None => Phase::Runs,
     }
 }

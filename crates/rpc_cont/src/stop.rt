@@ -1,3 +1,7 @@
+ghost use Rattle.std.specs.Prelude.{◌≡◌};
+ghost use Rattle.rpc_cont.specs.Advancing.{phase_after};
+
+use job_model::Phase;
 use ta_params::CallResult;
 
 /// Why a call stopped.
@@ -11,4 +15,17 @@ pub enum ContStop {
     Ended(CallResult),
     /// One of its entry points panicked, with this code.
     Panicked(u32),
+}
+
+impl ContStop {
+    /// How far a call has come that stopped so.
+    pub(crate) fn phase(self) -> Phase
+        ensures { result ≡ phase_after self }
+    {
+        match self {
+            ContStop::Interrupted => Phase::Runs,
+            ContStop::Asks => Phase::Asks,
+            ContStop::Ended(_) | ContStop::Panicked(_) => Phase::Ends,
+        }
+    }
 }
