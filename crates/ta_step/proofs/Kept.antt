@@ -1,28 +1,26 @@
 -- No step changes the shape of a machine, one that goes on doesn't change what it waits for, and one that asks
 -- names bytes that are all in one range.
-use Rattle.std.proofs.Common.{◌≡◌, ℕ, zero, suc, ◌+◌, ◌≤◌, Bool, true, false, List, [], ◌∷◌, ◌++◌, length, take, drop, Option, Some, None, refl, ap, sym, subst, ◌∙◌, arith, length-append, length-drop}
+use Rattle.std.proofs.Common.{◌≡◌, ℕ, zero, suc, ◌+◌, ◌≤◌, Bool, true, false, List, [], ◌∷◌, ◌++◌, length, take, drop, Option, Some, None, refl, ap, sym, subst, ◌∙◌}
 use Rattle.std.specs.Prelude.{◌==◌, ◌-◌, nat_lt, slice_index, ◌%◌, ◌/◌, if◌then◌else◌, find, slice_get, slice_index_or, option_and_then}
 use Rattle.std.specs.Option.{option_map}
 use Rattle.std.specs.Int.{w32, to_le_bytes}
-use Rattle.std.proofs.lemmas.Bool.{leb-true}
-use Rattle.std.proofs.lemmas.List.{length-set, length-take}
+use Rattle.std.proofs.lemmas.List.{length-set}
 use Rattle.ta_isa.specs.declared.image.Instr.{Instr}
-use Rattle.ta_params.specs.declared.codes.TheConstants.{TEE_ERROR_CANCEL}
 use Rattle.ta_params.specs.declared.object_call.ObjectCall.{ObjectCall}
-use Rattle.ta_params.specs.declared.object_call.ObjectCall.TheVariants.{Create, Opened, Read, Write}
+use Rattle.ta_params.specs.declared.object_call.ObjectCall.TheVariants.{Create, Opened, Read, Write, Seek, Close, Delete}
 use Rattle.ta_params.specs.declared.copied_params.Way.TheVariants.{In, Out, Inout}
 use Rattle.ta_params.specs.declared.copied_params.GpParam.{GpParam}
 use Rattle.ta_params.specs.declared.copied_params.GpParam.TheVariants.{Empty, Value, Memref}
 use Rattle.ta_params.specs.declared.copied_params.CopiedParams.{CopiedParams}
 use Rattle.ta_params.specs.CopiedParams.{way_bits}
-use Rattle.ta_step.specs.declared.addresses.TheConstants.{RANGE}
 use Rattle.ta_step.specs.declared.stop.Request.{Request}
 use Rattle.ta_step.specs.declared.stop.Request.TheVariants.{Suspend, Object}
 use Rattle.ta_step.specs.declared.stop.Stop.TheVariants as stop
 use Rattle.ta_step.specs.State.{State, reg, put, is_cancelled}
-use Rattle.ta_step.specs.Bytes.{has_bytes, overwritten, written}
+use Rattle.base.specs.Bytes.{written}
+use Rattle.base.proofs.Overwriting.{length-written}
 use Rattle.ta_step.specs.Parameters.{param_at, with_param, buffer, with_buffer, with_value, with_size}
-use Rattle.ta_step.specs.Addresses.{ranges, range_at, with_range, is_inside, store}
+use Rattle.ta_step.specs.Addresses.{ranges, range_at, with_range, is_inside, is_range, store}
 use Rattle.ta_step.specs.Outcome.{Outcome, goes_on, goes_to, asking, Goes, Returns, Panics, Asks}
 use Rattle.ta_step.specs.SystemCalls as calls
 use Rattle.ta_step.specs.Operations as ops
@@ -92,14 +90,6 @@ put-same s t number value h = record {
 puts : (s : State) (number value : ℕ) → Keeps s (goes_on (put s number value))
 puts s number value = onward s (put s number value) (put-same s s number value (same s))
 
-length-overwritten : (xs : List ℕ) (place : ℕ) (new : List ℕ) → place + length new ≤ length xs → length (overwritten xs place new) ≡ length xs
-length-overwritten xs place new le =
-    omega (arith, length-append (take place xs ++ new) (drop (place + length new) xs), length-append (take place xs) new, length-take place xs, length-drop (place + length new) xs)
-
-length-written : (xs : List ℕ) (place : ℕ) (new : List ℕ) (b : Bool) → has_bytes xs place (length new) ≡ b → length (if b then overwritten xs place new else xs) ≡ length xs
-length-written xs place new true e = length-overwritten xs place new (leb-true (place + length new) (length xs) e)
-length-written xs place new false e = refl
-
 with_buffer-shape : (p : GpParam) (bytes : List ℕ) → length bytes ≡ length (buffer p) → shape (with_buffer p bytes) ≡ shape p
 with_buffer-shape Empty bytes e = refl
 with_buffer-shape (Value way a b) bytes e = refl
@@ -141,9 +131,9 @@ with_range-same s (suc (suc (suc (suc (suc number))))) bytes e = same s
 
 store-same : (s : State) (addr : ℕ) (new : List ℕ) → SameRest s (store s addr new)
 store-same s addr new =
-    let place = addr % RANGE in
-    with_range-same s (addr / RANGE) (written (range_at s addr) place new)
-    (length-written (range_at s addr) place new (has_bytes (range_at s addr) place (length new)) refl)
+    let place = addr % 0x10000000 in
+    with_range-same s (addr / 0x10000000) (written (range_at s addr) place new)
+    (length-written (range_at s addr) place new)
 
 -- a change of a parameter that keeps its shape
 abbrev KeepsParam : (GpParam → Option GpParam) → Type 0
@@ -229,28 +219,16 @@ masks-kept masked s = record {
 }
 
 wait-kept : (s : State) → Keeps s (calls.wait s)
-wait-kept s = either s (is_cancelled s) (goes_on (put s 0 TEE_ERROR_CANCEL)) (Asks (Suspend (reg s 0))) (puts s 0 TEE_ERROR_CANCEL) refl
+wait-kept s = either s (is_cancelled s) (goes_on (put s 0 0xffff0002)) (Asks (Suspend (reg s 0))) (puts s 0 0xffff0002) refl
 
 -- a call on an object, where the test of its range has come out so
-asked-kept : (s : State) (call : ObjectCall) (b : Bool) → (let span = object_span call in calls.is_range s span.0 span.1 ≡ b)
+asked-kept : (s : State) (call : ObjectCall) (b : Bool) → (let span = object_span call in is_range s span.0 span.1 ≡ b)
     → Keeps s (if b then Asks (Object call) else Panics 1)
 asked-kept s call true e = e
 asked-kept s call false e = tt
 
-object_with-kept : (s : State) (call : ObjectCall) → (let span = object_span call in Keeps s (calls.object_with call span.0 span.1 s))
-object_with-kept s call = let span = object_span call in asked-kept s call (calls.is_range s span.0 span.1) refl
-
-create-kept : (s : State) → Keeps s (calls.object_create s)
-create-kept s = object_with-kept s (Create (reg s 0) (reg s 1))
-
-open-kept : (s : State) → Keeps s (calls.object_open s)
-open-kept s = object_with-kept s (Opened (reg s 0) (reg s 1))
-
-read-kept : (s : State) → Keeps s (calls.object_read s)
-read-kept s = object_with-kept s (Read (reg s 0) (reg s 1) (reg s 2))
-
-write-kept : (s : State) → Keeps s (calls.object_write s)
-write-kept s = object_with-kept s (Write (reg s 0) (reg s 1) (reg s 2))
+object-kept : (s : State) (call : ObjectCall) → Keeps s (calls.object call s)
+object-kept s call = let span = object_span call in asked-kept s call (is_range s span.0 span.1) refl
 
 moved : (s : State) (place : ℕ) (stack : List ℕ) → SameRest s (record s { place = place; stack = stack })
 moved s place stack = record {
@@ -308,7 +286,28 @@ row_found (e ∷ es) i h = row_at i e (find (λ x. x.0 == i.op) es) (e.0 == i.op
 
 -- the calls from number 11 on ask the world outside
 asks_keep : CallsKeep (drop 11 calls.system_calls)
-asks_keep = (λ s. refl, (wait-kept, (create-kept, (open-kept, (read-kept, (write-kept, (λ s. refl, (λ s. refl, (λ s. refl, tt)))))))))
+asks_keep = (
+  λ s. refl,
+  (
+    wait-kept,
+    (
+      λ s. object-kept s (Create (reg s 0) (reg s 1)),
+      (
+        λ s. object-kept s (Opened (reg s 0) (reg s 1)),
+        (
+          λ s. object-kept s (Read (reg s 0) (reg s 1) (reg s 2)),
+          (
+            λ s. object-kept s (Write (reg s 0) (reg s 1) (reg s 2)),
+            (
+              λ s. object-kept s (Seek (reg s 0) (reg s 1)),
+              (λ s. object-kept s (Close (reg s 0)), (λ s. object-kept s (Delete (reg s 0)), tt)),
+            ),
+          ),
+        ),
+      ),
+    ),
+  ),
+)
 
 calls_keep : CallsKeep calls.system_calls
 calls_keep = (λ s. tt, (λ s. tt, (λ s. puts s 0 _, (λ s. value-given s _, (set_value-kept, (λ s. size-given s _, (set_size-kept, (login-kept, (λ s. puts s 0 _, (masks-kept true, (masks-kept false, asks_keep)))))))))))

@@ -2,7 +2,6 @@ pub mod Grants
 pub mod StepsUsed
 pub mod Present
 pub mod Words
-pub mod Overwritten
 pub mod RangeLemmas
 pub mod EffectLemmas
 pub mod RunLemmas

@@ -5,7 +5,6 @@ use Rattle.ta_params.specs.declared.copied_params.GpParam.{GpParam}
 use Rattle.ta_step.specs.State.{State}
 use Rattle.ta_step.specs.Parameters.{four, param_at, buffer}
 use Rattle.ta_step.specs.Addresses.{load, ranges}
-use Rattle.ta_step.specs.declared.addresses.TheConstants.{RANGE}
 
 buffer-Some : (ps : List GpParam) (number : ℕ) (p : GpParam) → slice_get ps number ≡ Some p → get_or (map buffer ps) number [] ≡ buffer p
 buffer-Some [] number p e = absurd cc
@@ -29,14 +28,14 @@ in_none s n lt e = ap (λ (k : ℕ). slice_index_or (ranges s) k []) (from_one n
 
 pub ruleset ranges_of_addresses = (in_buffer, in_none)
 
-number_of : (number place : ℕ) → place < RANGE → (RANGE * number + place) / RANGE ≡ number
+number_of : (number place : ℕ) → place < 0x10000000 → (0x10000000 * number + place) / 0x10000000 ≡ number
 number_of number place lt = omega arith
 
-place_of : (number place : ℕ) → place < RANGE → (RANGE * number + place) % RANGE ≡ place
+place_of : (number place : ℕ) → place < 0x10000000 → (0x10000000 * number + place) % 0x10000000 ≡ place
 place_of number place lt = let same = number_of number place lt in omega (arith, same)
 
--- the ranges begin at multiples of RANGE
-pub ranges_begin : (s : State) (number place : ℕ) → place < RANGE → load s (RANGE * number + place) ≡ slice_get (slice_index_or (ranges s) number []) place
+-- the ranges begin at multiples of 0x10000000
+pub ranges_begin : (s : State) (number place : ℕ) → place < 0x10000000 → load s (0x10000000 * number + place) ≡ slice_get (slice_index_or (ranges s) number []) place
 ranges_begin s number place lt =
-    ap (λ (k : ℕ). slice_get (slice_index_or (ranges s) k []) ((RANGE * number + place) % RANGE)) (number_of number place lt)
+    ap (λ (k : ℕ). slice_get (slice_index_or (ranges s) k []) ((0x10000000 * number + place) % 0x10000000)) (number_of number place lt)
     ∙ ap (λ (k : ℕ). slice_get (slice_index_or (ranges s) number []) k) (place_of number place lt)

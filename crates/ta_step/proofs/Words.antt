@@ -5,7 +5,8 @@ use Rattle.std.specs.Int.{w32, from_le_bytes}
 use Rattle.std.proofs.lemmas.Bool.Decides.{nat_tests}
 use Rattle.std.proofs.lemmas.Option.{get_or_from_slice_get, slice_get_within, slice_get_cases}
 use Rattle.std.proofs.lemmas.List.{get_or-drop}
-use Rattle.ta_step.specs.Bytes.{has_bytes, word_at}
+use Rattle.base.specs.Bytes.{has_bytes}
+use Rattle.ta_step.specs.Bytes.{word_at}
 
 missing : (xs : List ℕ) (i : ℕ) → slice_get xs i ≡ None → length xs ≤ i
 missing xs i e = grind (arith, slice_get_cases, e)

@@ -1,10 +1,10 @@
 -- The addresses of a machine. Those of the instance's memory begin at 0, and those of the buffer of
 -- parameter k at 0x10000000 * (k + 1): the highest hexadecimal digit names the range, and the others
 -- the place in it.
-use Rattle.std.specs.Prelude.{ℕ, zero, suc, ◌/◌, ◌%◌, Bool, List, [], ◌∷◌, map, Option, slice_get, slice_index_or}
-use Rattle.ta_step.specs.declared.addresses.TheConstants.{RANGE}
+use Rattle.std.specs.Prelude.{ℕ, zero, suc, ◌+◌, ◌/◌, ◌%◌, ◌==◌, ◌&&◌, ◌||◌, nat_le, Bool, List, [], ◌∷◌, map, Option, slice_get, slice_index_or}
 use Rattle.ta_step.specs.State.{State}
-use Rattle.ta_step.specs.Bytes.{has_bytes, word_at, written}
+use Rattle.base.specs.Bytes.{has_bytes, written}
+use Rattle.ta_step.specs.Bytes.{word_at}
 use Rattle.ta_step.specs.Parameters.{four, with_param, buffer, with_buffer}
 
 -- the bytes of each range: the instance's memory, then the parameters' buffers
@@ -20,18 +20,22 @@ with_range s (suc number) bytes =
 
 -- the bytes of the range that an address names, none where it names none
 abbrev pub range_at : State → ℕ → List ℕ
-range_at s addr = slice_index_or (ranges s) (addr / RANGE) []
+range_at s addr = slice_index_or (ranges s) (addr / 0x10000000) []
 
 -- so many bytes from an address on are all in one range
 abbrev pub is_inside : State → ℕ → ℕ → Bool
-is_inside s addr count = has_bytes (range_at s addr) (addr % RANGE) count
+is_inside s addr count = has_bytes (range_at s addr) (addr % 0x10000000) count
+
+-- the same, and their addresses too; no bytes are, at every address
+abbrev pub is_range : State → ℕ → ℕ → Bool
+is_range s addr count = (count == 0) || (nat_le (addr % 0x10000000 + count) 0x10000000 && is_inside s addr count)
 
 abbrev pub load : State → ℕ → Option ℕ
-load s addr = slice_get (range_at s addr) (addr % RANGE)
+load s addr = slice_get (range_at s addr) (addr % 0x10000000)
 
 abbrev pub load_word : State → ℕ → Option ℕ
-load_word s addr = word_at (range_at s addr) (addr % RANGE)
+load_word s addr = word_at (range_at s addr) (addr % 0x10000000)
 
 -- the machine with bytes written from an address on, where they are all in one range
 abbrev pub store : State → ℕ → List ℕ → State
-store s addr new = with_range s (addr / RANGE) (written (range_at s addr) (addr % RANGE) new)
+store s addr new = with_range s (addr / 0x10000000) (written (range_at s addr) (addr % 0x10000000) new)

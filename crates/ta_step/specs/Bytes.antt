@@ -1,19 +1,8 @@
--- Bytes and words in a list of bytes.
-use Rattle.std.specs.Prelude.{ℕ, ◌+◌, Bool, nat_le, if◌then◌else◌, List, ◌++◌, length, take, drop, Option, Some, None}
+-- Words in a list of bytes.
+use Rattle.std.specs.Prelude.{ℕ, if◌then◌else◌, List, drop, Option, Some, None}
 use Rattle.std.specs.Int.{w32, from_le_bytes}
-
--- so many bytes from a place on are all there
-abbrev pub has_bytes : List ℕ → ℕ → ℕ → Bool
-has_bytes bytes place count = nat_le (place + count) (length bytes)
+pub use Rattle.base.specs.Bytes.{has_bytes, overwritten, written}
 
 -- the word from a place on, its lowest byte first, if its four bytes are all there
 abbrev pub word_at : List ℕ → ℕ → Option ℕ
 word_at bytes place = if has_bytes bytes place 4 then Some (from_le_bytes w32 (drop place bytes)) else None
-
--- the bytes with others written over them from a place on
-abbrev pub overwritten : List ℕ → ℕ → List ℕ → List ℕ
-overwritten bytes place new = take place bytes ++ new ++ drop (place + length new) bytes
-
--- the same where they are all there, and else the bytes as they are
-abbrev pub written : List ℕ → ℕ → List ℕ → List ℕ
-written bytes place new = if has_bytes bytes place (length new) then overwritten bytes place new else bytes

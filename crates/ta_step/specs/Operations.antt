@@ -1,9 +1,9 @@
--- The instructions: what each does, from the instruction and the machine. Sums wrap at 2 ^ 32.
+-- The instructions: what each does, from the instruction and the machine. Sums wrap at 2 ^ 32. They panic with 1 at
+-- an address in no range, with 3 at a division by zero, and with 4 where the call stack is full or empty.
 use Rattle.std.specs.Prelude.{ℕ, ◌+◌, ◌-◌, ◌*◌, ◌/◌, ◌%◌, ◌^◌, ◌==◌, Bool, not, nat_lt, nat_le, if◌then◌else◌, List, [], ◌∷◌, ◌++◌, length, take, Option, Some, None, option_and_then, find, slice_index}
 use Rattle.std.specs.Int.{w32, to_le_bytes}
 use Rattle.std.specs.Int.RustNames.{bit_and, bit_or, bit_xor}
 use Rattle.ta_isa.specs.declared.image.Instr.{Instr}
-use Rattle.ta_step.specs.declared.panic_code.TheConstants.{BAD_ADDRESS, DIVISION_BY_ZERO, BAD_STACK}
 use Rattle.ta_step.specs.State.{State, reg, put}
 use Rattle.ta_step.specs.Addresses.{is_inside, load, load_word, store}
 use Rattle.ta_step.specs.Outcome.{Outcome, goes_on, goes_to, Goes, Panics}
@@ -22,7 +22,7 @@ made f i s = goes_on (put s i.d (f (reg s i.a) (reg s i.b)))
 
 -- on with a quotient or a remainder in a register, where the divisor is not 0
 abbrev pub divided_by : State → ℕ → ℕ → ℕ → Outcome
-divided_by s divisor number value = if divisor == 0 then Panics DIVISION_BY_ZERO else goes_on (put s number value)
+divided_by s divisor number value = if divisor == 0 then Panics 3 else goes_on (put s number value)
 
 abbrev pub divided : (ℕ → ℕ → ℕ) → Instr → State → Outcome
 divided f i s = divided_by s (reg s i.b) i.d (f (reg s i.a) (reg s i.b))
@@ -33,12 +33,12 @@ address i s = (reg s i.a + i.imm) % 2 ^ 32
 
 -- on with what was found at an address, in a register
 abbrev pub loaded : State → ℕ → Option ℕ → Outcome
-loaded s number None = Panics BAD_ADDRESS
+loaded s number None = Panics 1
 loaded s number (Some value) = goes_on (put s number value)
 
 -- on with bytes written to an address
 abbrev pub stored : State → ℕ → List ℕ → Outcome
-stored s addr bytes = if is_inside s addr (length bytes) then goes_on (store s addr bytes) else Panics BAD_ADDRESS
+stored s addr bytes = if is_inside s addr (length bytes) then goes_on (store s addr bytes) else Panics 1
 
 abbrev pub byte_load : Instr → State → Outcome
 byte_load i s = loaded s i.d (load s (address i s))
@@ -68,7 +68,7 @@ abbrev pub called : State → ℕ → Outcome
 called s target =
     if nat_lt (length s.stack) 64
     then Goes (record s { place = target; stack = s.stack ++ (s.place + 1) ∷ [] })
-    else Panics BAD_STACK
+    else Panics 4
 
 abbrev pub call : Instr → State → Outcome
 call i s = called s i.imm
@@ -78,7 +78,7 @@ abbrev pub returned : State → Outcome
 returned s =
     let last = length s.stack - 1 in
     if length s.stack == 0
-    then Panics BAD_STACK
+    then Panics 4
     else Goes (record s { place = slice_index s.stack last; stack = take last s.stack })
 
 abbrev pub ret : Instr → State → Outcome

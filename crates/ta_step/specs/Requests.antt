@@ -3,7 +3,7 @@ use Rattle.std.specs.Prelude.{◌≡◌, ℕ, true}
 use Rattle.ta_params.specs.declared.object_call.ObjectCall.{ObjectCall}
 use Rattle.ta_params.specs.declared.object_call.ObjectCall.TheVariants.{Create, Opened, Read, Write, Seek, Close, Delete}
 use Rattle.ta_step.specs.State.{State}
-use Rattle.ta_step.specs.SystemCalls.{is_range}
+use Rattle.ta_step.specs.Addresses.{is_range}
 use Rattle.ta_step.specs.declared.stop.Request.{Request}
 use Rattle.ta_step.specs.declared.stop.Request.TheVariants as request
 use Rattle.ta_step.specs.declared.stop.Stop.{Stop}

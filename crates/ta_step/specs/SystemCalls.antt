@@ -1,7 +1,7 @@
--- The system calls. They take their arguments from the first registers and give their results there.
-use Rattle.std.specs.Prelude.{ℕ, ◌+◌, ◌%◌, ◌==◌, nat_le, Bool, true, false, ◌&&◌, ◌||◌, if◌then◌else◌, List, [], ◌∷◌, ◌++◌, length, take, drop, Option, Some, None, option_and_then, find}
+-- The system calls. They take their arguments from the first registers and give their results there. They panic
+-- with 1 at an address in no range, and with 5 where they are asked for what there is not.
+use Rattle.std.specs.Prelude.{ℕ, ◌==◌, Bool, true, false, if◌then◌else◌, List, [], ◌∷◌, ◌++◌, length, take, drop, Option, Some, None, option_and_then, find}
 use Rattle.std.specs.Option.{option_map}
-use Rattle.ta_params.specs.declared.codes.TheConstants.{TEE_ERROR_CANCEL}
 use Rattle.ta_params.specs.declared.copied_params.GpParam.{GpParam}
 use Rattle.ta_params.specs.declared.copied_params.GpParam.TheVariants.{Empty, Value, Memref}
 use Rattle.ta_params.specs.declared.object_call.ObjectCall.{ObjectCall}
@@ -9,12 +9,12 @@ use Rattle.ta_params.specs.declared.object_call.ObjectCall.TheVariants.{Create, 
 use Rattle.ta_params.specs.CopiedParams.{type_word}
 use Rattle.ta_step.specs.State.{State, reg, put, is_cancelled}
 use Rattle.ta_step.specs.Parameters.{param_at, with_param, with_value, with_size}
-use Rattle.ta_step.specs.declared.addresses.TheConstants.{RANGE}
+pub use Rattle.ta_step.specs.Addresses.{is_range}
 use Rattle.ta_step.specs.Addresses.{is_inside, store}
 use Rattle.ta_step.specs.Outcome.{Outcome, goes_on, Returns, Panics, Asks}
 use Rattle.ta_step.specs.declared.stop.Request.{Request}
 use Rattle.ta_step.specs.declared.stop.Request.TheVariants.{Time, Suspend, Object}
-use Rattle.ta_step.specs.declared.panic_code.TheConstants.{BAD_ADDRESS, BAD_CALL}
+use Rattle.ta_step.specs.Requests.{object_span}
 
 -- 1 for true
 abbrev pub bit : Bool → ℕ
@@ -31,19 +31,19 @@ abbrev pub types : State → Outcome
 types s = goes_on (put s 0 (type_word s.params))
 
 abbrev pub gives_value : State → Option GpParam → Outcome
-gives_value s None = Panics BAD_CALL
-gives_value s (Some Empty) = Panics BAD_CALL
+gives_value s None = Panics 5
+gives_value s (Some Empty) = Panics 5
 gives_value s (Some (Value way a b)) = goes_on (put (put s 0 a) 1 b)
-gives_value s (Some (Memref way buf size)) = Panics BAD_CALL
+gives_value s (Some (Memref way buf size)) = Panics 5
 
 -- the two numbers of a value
 abbrev pub value : State → Outcome
 value s = gives_value s (param_at s.params (reg s 0))
 
 abbrev pub gives_size : State → Option GpParam → Outcome
-gives_size s None = Panics BAD_CALL
-gives_size s (Some Empty) = Panics BAD_CALL
-gives_size s (Some (Value way a b)) = Panics BAD_CALL
+gives_size s None = Panics 5
+gives_size s (Some Empty) = Panics 5
+gives_size s (Some (Value way a b)) = Panics 5
 gives_size s (Some (Memref way buf size)) = goes_on (put s 0 size)
 
 -- the size of a memory parameter
@@ -52,7 +52,7 @@ size s = gives_size s (param_at s.params (reg s 0))
 
 -- on with another parameter in the place of the one that r0 names, if there may be another
 abbrev pub changes_param : State → Option GpParam → Outcome
-changes_param s None = Panics BAD_CALL
+changes_param s None = Panics 5
 changes_param s (Some p) = goes_on (record s { params = with_param s.params (reg s 0) p })
 
 abbrev pub set_value : State → Outcome
@@ -66,7 +66,7 @@ abbrev pub login : State → Outcome
 login s =
     if is_inside s (reg s 0) (length s.login.client)
     then goes_on (put (store s (reg s 0) s.login.client) 0 s.login.kind)
-    else Panics BAD_ADDRESS
+    else Panics 1
 
 -- whether the call was cancelled, where the application is to know
 abbrev pub cancelled : State → Outcome
@@ -82,42 +82,34 @@ masks masked s = goes_on (record (put s 0 (bit s.masked)) { masked = masked })
 abbrev pub time : State → Outcome
 time s = Asks Time
 
--- to be suspended for r0 milliseconds, unless the call is cancelled already
+-- to be suspended for r0 milliseconds, unless the call is cancelled already: that is TEE_ERROR_CANCEL
 abbrev pub wait : State → Outcome
-wait s = if is_cancelled s then goes_on (put s 0 TEE_ERROR_CANCEL) else Asks (Suspend (reg s 0))
+wait s = if is_cancelled s then goes_on (put s 0 0xffff0002) else Asks (Suspend (reg s 0))
 
--- so many bytes from an address on are all in one range, and their addresses too; no bytes are, at every address
-abbrev pub is_range : State → ℕ → ℕ → Bool
-is_range s addr count = (count == 0) || (nat_le (addr % RANGE + count) RANGE && is_inside s addr count)
-
--- a call on an object, with the bytes that it names
-abbrev pub object_with : ObjectCall → ℕ → ℕ → State → Outcome
-object_with call addr count s = if is_range s addr count then Asks (Object call) else Panics BAD_ADDRESS
-
--- a call on an object that names no bytes
-abbrev pub object : ObjectCall → Outcome
-object call = Asks (Object call)
+-- a call on an object, where the bytes that it names are all in one range
+abbrev pub object : ObjectCall → State → Outcome
+object call s = let span = object_span call in if is_range s span.0 span.1 then Asks (Object call) else Panics 1
 
 abbrev pub object_create : State → Outcome
-object_create s = object_with (Create (reg s 0) (reg s 1)) (reg s 0) (reg s 1) s
+object_create s = object (Create (reg s 0) (reg s 1)) s
 
 abbrev pub object_open : State → Outcome
-object_open s = object_with (Opened (reg s 0) (reg s 1)) (reg s 0) (reg s 1) s
+object_open s = object (Opened (reg s 0) (reg s 1)) s
 
 abbrev pub object_read : State → Outcome
-object_read s = object_with (Read (reg s 0) (reg s 1) (reg s 2)) (reg s 1) (reg s 2) s
+object_read s = object (Read (reg s 0) (reg s 1) (reg s 2)) s
 
 abbrev pub object_write : State → Outcome
-object_write s = object_with (Write (reg s 0) (reg s 1) (reg s 2)) (reg s 1) (reg s 2) s
+object_write s = object (Write (reg s 0) (reg s 1) (reg s 2)) s
 
 abbrev pub object_seek : State → Outcome
-object_seek s = object (Seek (reg s 0) (reg s 1))
+object_seek s = object (Seek (reg s 0) (reg s 1)) s
 
 abbrev pub object_close : State → Outcome
-object_close s = object (Close (reg s 0))
+object_close s = object (Close (reg s 0)) s
 
 abbrev pub object_delete : State → Outcome
-object_delete s = object (Delete (reg s 0))
+object_delete s = object (Delete (reg s 0)) s
 
 -- how many of the first registers a call on an object gives: the result, and a handle or a number of bytes
 abbrev pub object_gives : ObjectCall → ℕ

@@ -1,6 +1,7 @@
 //! Several bytes of a memory at a time.
 ghost use Rattle.std.specs.Prelude.{◌≡◌, ◌+◌, ◌^◌, ◌<◌, ◌≤◌, IsTrue, length, if◌then◌else◌};
-ghost use Rattle.ta_step.specs.Bytes.{has_bytes, overwritten, word_at, written};
+ghost use Rattle.base.specs.Bytes.{has_bytes, overwritten, written};
+ghost use Rattle.ta_step.specs.Bytes.{word_at};
 
 use crate::memory::TaMemory;
 

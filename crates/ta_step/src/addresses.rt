@@ -1,8 +1,7 @@
 //! The addresses of a machine: which bytes stand where.
 ghost use Rattle.std.specs.Prelude.{◌≡◌, ◌+◌, ◌%◌, ◌^◌, ◌<◌, ◌≤◌, [], ◌∷◌, length};
-ghost use Rattle.ta_step.specs.Addresses.{is_inside, load, load_word, store};
+ghost use Rattle.ta_step.specs.Addresses.{is_inside, is_range, load, load_word, store};
 ghost use Rattle.ta_step.specs.Machine.{state_of};
-ghost use Rattle.ta_step.specs.SystemCalls.{is_range};
 
 use crate::machine::Machine;
 use crate::memory::TaMemory;
@@ -50,7 +49,7 @@ impl<M: TaMemory> Machine<M> {
     #[tactic(auto, using(crate::proofs::RangeLemmas::ranges_of_addresses))]
     fn is_inside(&self, addr: u32, count: u32) -> bool
         requires some { 0 < count }
-        requires fits { addr % RANGE + count ≤ RANGE }
+        requires fits { addr % 0x10000000 + count ≤ 0x10000000 }
         ensures { result ≡ is_inside (state_of M.bytes self.now) addr count }
     {
         let place = addr % RANGE;

@@ -11,18 +11,16 @@ ghost use Rattle.ta_step.specs.Shape.{SameShape};
 ghost use Rattle.ta_step.specs.State.{State};
 ghost use Rattle.ta_step.specs.Step.{step};
 
-use crate::addresses::RANGE;
-
 /// Two grants of steps, one after the other, are one grant of their sum.
 pub fn sum_of_grants()
     ensures { (code : List AnyInstr) (m n : ℕ) (s : State) → runs code (m + n) s ≡ runs_twice code m n s }
 {}
 
-/// The ranges of addresses begin at multiples of `RANGE`: at 0 the instance's memory, and behind it the
+/// The ranges of addresses begin at multiples of 0x10000000: at 0 the instance's memory, and behind it the
 /// buffers of the parameters, in their order.
 pub fn ranges_begin()
-    ensures { (s : State) (number place : ℕ) → place < RANGE
-        → load s (RANGE * number + place) ≡ slice_get (slice_index_or (ranges s) number []) place }
+    ensures { (s : State) (number place : ℕ) → place < 0x10000000
+        → load s (0x10000000 * number + place) ≡ slice_get (slice_index_or (ranges s) number []) place }
 {}
 
 /// A run leaves as many registers and bytes of memory, parameters of the same types with as many bytes, the

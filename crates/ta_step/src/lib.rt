@@ -24,8 +24,6 @@ pub use laws::{
 };
 pub use machine::{Machine, STACK_DEPTH};
 pub use memory::{Plain, TaMemory};
+pub use requests::object_span;
 pub use stop::{Request, Stop};
 pub use ta_params::{Login, ObjectCall};
-
-#[cfg(test)]
-mod tests;

@@ -1,7 +1,8 @@
 //! The copied parameters as the machine reaches them: by number, as values, and as buffers.
 ghost use Rattle.std.specs.Prelude.{◌≡◌, ◌+◌, ◌^◌, ◌<◌, length, slice_get, slice_set, is_some, unwrap_or};
 ghost use Rattle.std.specs.Option.{option_copied};
-ghost use Rattle.ta_step.specs.Bytes.{has_bytes, word_at, written};
+ghost use Rattle.base.specs.Bytes.{has_bytes, written};
+ghost use Rattle.ta_step.specs.Bytes.{word_at};
 ghost use Rattle.ta_step.specs.Parameters.{buffer, goes_out, param_at, with_buffer, with_size, with_value};
 
 use crate::access;

@@ -2,7 +2,8 @@
 ghost use Rattle.std.specs.Prelude.{◌≡◌, ◌+◌, ◌^◌, ◌<◌, ◌≤◌, IsSome, IfSome};
 ghost use Rattle.ta_step.specs.Machine.{state_of};
 ghost use Rattle.ta_step.specs.Outcome.{Asks, Leads};
-ghost use Rattle.ta_step.specs.SystemCalls.{answered, gives, object_close, object_create, object_delete, object_open, object_read, object_seek, object_with, object_write, time, wait};
+ghost use Rattle.ta_step.specs.Requests.{object_span};
+ghost use Rattle.ta_step.specs.SystemCalls.{answered, gives, object, object_close, object_create, object_delete, object_open, object_read, object_seek, object_write, time, wait};
 
 use crate::machine::Machine;
 use crate::memory::TaMemory;
@@ -32,6 +33,18 @@ impl Request {
     }
 }
 
+/// Where the bytes stand that a call on an object names, and how many they are: a seek, a close and a delete name
+/// none.
+pub fn object_span(call: ObjectCall) -> (u32, u32)
+    ensures { (result.0, result.1) ≡ object_span call }
+{
+    match call {
+        ObjectCall::Create { id, len } | ObjectCall::Opened { id, len } => (id, len),
+        ObjectCall::Read { addr, len, .. } | ObjectCall::Write { addr, len, .. } => (addr, len),
+        ObjectCall::Seek { .. } | ObjectCall::Close { .. } | ObjectCall::Delete { .. } => (0, 0),
+    }
+}
+
 impl<M: TaMemory> Machine<M> {
     /// Asks, to go on with the next instruction once there is an answer.
     fn ask(&mut self, request: Request) -> Result<(), Stop>
@@ -44,11 +57,11 @@ impl<M: TaMemory> Machine<M> {
     }
 
     /// Asks for a call on an object, where the bytes that it names are all in one range.
-    fn ask_with(&mut self, call: ObjectCall, addr: u32, len: u32) -> Result<(), Stop>
+    fn ask_object(&mut self, call: ObjectCall) -> Result<(), Stop>
         requires { (state_of M.bytes self.old).place + 1 < 2 ^ 32 }
-        ensures { let old = state_of M.bytes self.old in
-            Leads old (object_with call addr len old) result (state_of M.bytes self.new) }
+        ensures { let old = state_of M.bytes self.old in Leads old (object call old) result (state_of M.bytes self.new) }
     {
+        let (addr, len) = object_span(call);
         if !self.is_range(addr, len) {
             return Err(Stop::Panicked(BAD_ADDRESS));
         }
@@ -80,8 +93,7 @@ impl<M: TaMemory> Machine<M> {
         ensures { let old = state_of M.bytes self.old in Leads old (object_create old) result (state_of M.bytes self.new) }
     {
         let (id, len) = (self.registers[0], self.registers[1]);
-        let call = ObjectCall::Create { id, len };
-        self.ask_with(call, id, len)
+        self.ask_object(ObjectCall::Create { id, len })
     }
 
     /// Asks for the object with an id to be opened.
@@ -90,8 +102,7 @@ impl<M: TaMemory> Machine<M> {
         ensures { let old = state_of M.bytes self.old in Leads old (object_open old) result (state_of M.bytes self.new) }
     {
         let (id, len) = (self.registers[0], self.registers[1]);
-        let call = ObjectCall::Opened { id, len };
-        self.ask_with(call, id, len)
+        self.ask_object(ObjectCall::Opened { id, len })
     }
 
     /// Asks for bytes of an object.
@@ -100,8 +111,7 @@ impl<M: TaMemory> Machine<M> {
         ensures { let old = state_of M.bytes self.old in Leads old (object_read old) result (state_of M.bytes self.new) }
     {
         let (handle, addr, len) = (self.registers[0], self.registers[1], self.registers[2]);
-        let call = ObjectCall::Read { handle, addr, len };
-        self.ask_with(call, addr, len)
+        self.ask_object(ObjectCall::Read { handle, addr, len })
     }
 
     /// Asks for bytes to be written to an object.
@@ -110,8 +120,7 @@ impl<M: TaMemory> Machine<M> {
         ensures { let old = state_of M.bytes self.old in Leads old (object_write old) result (state_of M.bytes self.new) }
     {
         let (handle, addr, len) = (self.registers[0], self.registers[1], self.registers[2]);
-        let call = ObjectCall::Write { handle, addr, len };
-        self.ask_with(call, addr, len)
+        self.ask_object(ObjectCall::Write { handle, addr, len })
     }
 
     /// Asks for another position in an object.
@@ -120,7 +129,7 @@ impl<M: TaMemory> Machine<M> {
         ensures { let old = state_of M.bytes self.old in Leads old (object_seek old) result (state_of M.bytes self.new) }
     {
         let (handle, position) = (self.registers[0], self.registers[1]);
-        self.ask(Request::Object(ObjectCall::Seek { handle, position }))
+        self.ask_object(ObjectCall::Seek { handle, position })
     }
 
     /// Asks for an object to be closed.
@@ -129,7 +138,7 @@ impl<M: TaMemory> Machine<M> {
         ensures { let old = state_of M.bytes self.old in Leads old (object_close old) result (state_of M.bytes self.new) }
     {
         let handle = self.registers[0];
-        self.ask(Request::Object(ObjectCall::Close { handle }))
+        self.ask_object(ObjectCall::Close { handle })
     }
 
     /// Asks for an object to be closed and removed.
@@ -138,7 +147,7 @@ impl<M: TaMemory> Machine<M> {
         ensures { let old = state_of M.bytes self.old in Leads old (object_delete old) result (state_of M.bytes self.new) }
     {
         let handle = self.registers[0];
-        self.ask(Request::Object(ObjectCall::Delete { handle }))
+        self.ask_object(ObjectCall::Delete { handle })
     }
 
     /// Answers the request that the machine waits with: of these numbers as many as the request gives are put

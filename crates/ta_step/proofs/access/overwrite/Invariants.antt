@@ -1,5 +1,5 @@
 use Rattle.std.proofs.Common.{◌≡◌, take}
-use Rattle.ta_step.specs.Bytes.{overwritten}
+use Rattle.base.specs.Bytes.{overwritten}
 use Rattle.ta_step.proofs.access.overwrite.Given as goal
 
 abbrev pub invariant-loop-number : goal.invariant-loop-number

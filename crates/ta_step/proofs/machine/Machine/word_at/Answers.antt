@@ -1,5 +1,4 @@
 use Rattle.std.proofs.Common.{ℕ, ◌/◌, ◌%◌, ◌<◌, List, ◌∙◌, ap, sym, arith}
-use Rattle.ta_step.specs.declared.addresses.TheConstants.{RANGE}
 use Rattle.ta_step.specs.Bytes.{word_at}
 use Rattle.ta_step.specs.Machine.{state_of}
 use Rattle.ta_step.proofs.RangeLemmas.{in_buffer}
@@ -7,7 +6,7 @@ use Rattle.ta_step.proofs.machine.Machine.word_at.Goals as goal
 
 pub returns-in_ok-param_at-in_default : goal.returns-in_ok-param_at-in_default
 returns-in_ok-param_at-in_default g c =
-    let behind : 0 < c.args.addr / RANGE = omega arith in
+    let behind : 0 < c.args.addr / 0x10000000 = omega arith in
     c.load_word-in_default.ensures
-    ∙ ap (λ (bytes : List ℕ). word_at bytes (c.args.addr % RANGE))
-    (sym (in_buffer (state_of g.M.TaMemory.bytes c.args.self.now) (c.args.addr / RANGE) _ behind (sym c.in_ok-param_at-in_default.ensures)))
+    ∙ ap (λ (bytes : List ℕ). word_at bytes (c.args.addr % 0x10000000))
+    (sym (in_buffer (state_of g.M.TaMemory.bytes c.args.self.now) (c.args.addr / 0x10000000) _ behind (sym c.in_ok-param_at-in_default.ensures)))
