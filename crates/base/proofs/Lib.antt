@@ -1,3 +1,4 @@
+pub mod Numbers
 pub mod PlaceLemmas
 pub mod ZeroLemmas
 pub mod Overwriting

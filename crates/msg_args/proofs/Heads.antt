@@ -6,7 +6,8 @@ use Rattle.byteorder.specs.Endian.{little_number}
 use Rattle.msg_args.specs.declared.head.MsgHead.{MsgHead}
 use Rattle.msg_args.specs.Spelling.{head_bytes, FitsHead}
 use Rattle.msg_args.specs.Reading.{u32_at, head_at}
-use Rattle.msg_args.proofs.Numbers.{IsBytes, little_32, u32_back, u32_at-lt}
+use Rattle.base.proofs.Numbers.{IsBytes, u32_back, u32-lt}
+use Rattle.msg_args.proofs.Numbers.{little_32}
 
 pub head_again : (h : MsgHead) → FitsHead h → head_at (head_bytes h) ≡ h
 head_again h fits =
@@ -35,14 +36,14 @@ head_back bytes len fits =
 
 pub FitsHead-head_at : (bytes : List ℕ) → IsBytes bytes → FitsHead (head_at bytes)
 FitsHead-head_at bytes fits = record {
-  cmd = u32_at-lt 0 bytes fits;
-  func = u32_at-lt 4 bytes fits;
-  session = u32_at-lt 8 bytes fits;
-  cancel_id = u32_at-lt 12 bytes fits;
-  pad = u32_at-lt 16 bytes fits;
-  ret = u32_at-lt 20 bytes fits;
-  origin = u32_at-lt 24 bytes fits;
-  count = u32_at-lt 28 bytes fits;
+  cmd = u32-lt 0 bytes fits;
+  func = u32-lt 4 bytes fits;
+  session = u32-lt 8 bytes fits;
+  cancel_id = u32-lt 12 bytes fits;
+  pad = u32-lt 16 bytes fits;
+  ret = u32-lt 20 bytes fits;
+  origin = u32-lt 24 bytes fits;
+  count = u32-lt 28 bytes fits;
 }
 
 -- what the code reads, field by field

@@ -13,7 +13,7 @@ use Rattle.msg_args.specs.declared.arg.Misshapen.TheVariants.{Attr}
 use Rattle.msg_args.specs.Attribute.{IsAllowed}
 use Rattle.msg_args.specs.Spelling.{param_bytes, FitsParam}
 use Rattle.msg_args.specs.Reading.{param_at, has_attribute, bad_param}
-use Rattle.msg_args.proofs.Numbers.{IsBytes, IsBytes-drop, IsBytes-take}
+use Rattle.base.proofs.Numbers.{IsBytes, IsBytes-drop, IsBytes-take}
 use Rattle.msg_args.proofs.Valid.{param_back, param_again}
 
 -- how many pieces stand before the first that is bad

@@ -11,7 +11,7 @@ use Rattle.msg_args.specs.declared.arg.Misshapen.{Misshapen}
 use Rattle.msg_args.specs.declared.arg.Misshapen.TheVariants.{Length, Count}
 use Rattle.msg_args.specs.Spelling.{head_bytes, param_bytes, spelling, IsArgument, Spells}
 use Rattle.msg_args.specs.Reading.{head_at, param_at, bad_param, unless, pieces, fault, argument}
-use Rattle.msg_args.proofs.Numbers.{IsBytes, IsBytes-drop, IsBytes-take}
+use Rattle.base.proofs.Numbers.{IsBytes, IsBytes-drop, IsBytes-take}
 use Rattle.msg_args.proofs.Heads.{head_again, head_back, FitsHead-head_at}
 use Rattle.msg_args.proofs.Pieces.{good_len, all_good, bad_at, length-first_chunks, pieces_back, pieces_again, length-flat_map_params}
 use Rattle.msg_args.proofs.Faults.{none_from_ok, fault_of_params}

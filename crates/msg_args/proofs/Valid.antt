@@ -14,7 +14,7 @@ use Rattle.msg_args.specs.Attribute.{type_of, kind_of, is_tmem, flag, attribute,
 use Rattle.msg_args.specs.Spelling.{param_bytes, FitsParam}
 use Rattle.msg_args.specs.Reading.{u64_at, param_of, param_at, has_attribute}
 use Rattle.msg_args.proofs.Attributes.{of_kind, param_of_is, is_attribute_is, kind_of-type_of}
-use Rattle.msg_args.proofs.Numbers.{IsBytes, u64_back, u64_at-lt}
+use Rattle.base.proofs.Numbers.{IsBytes, u64_back, u64-lt}
 
 -- ---- from a number to the parameter and back
 
@@ -149,7 +149,7 @@ param_back bytes len fits valid =
     let t8 = u64_back 8 bytes _ (omega arith) fits t16 in
     let t0 = u64_back 0 bytes _ (omega arith) fits t8 in
     let whole : param_bytes (param_at bytes) ≡ bytes = ap (λ (n : ℕ). flat_map (to_le_bytes w64) (n ∷ u64_at 8 bytes ∷ u64_at 16 bytes ∷ u64_at 24 bytes ∷ [])) a.0 ∙ t0 in
-    (whole, a.1, record { p = u64_at-lt 8 bytes fits; q = u64_at-lt 16 bytes fits; s = u64_at-lt 24 bytes fits })
+    (whole, a.1, record { p = u64-lt 8 bytes fits; q = u64-lt 16 bytes fits; s = u64-lt 24 bytes fits })
 
 attribute_again : (m : MsgParam) → IsAllowed m → u64_at 0 (param_bytes m) ≡ attribute m
 attribute_again m allowed = from_le_bytes-to_le_bytes_8 (attribute m) (attribute-lt m allowed)

@@ -1,5 +1,5 @@
 -- The definitions, tried on arguments that are worked out by hand.
-use Rattle.std.specs.Prelude.{◌≡◌, ℕ, Bool, true, false, List, [], ◌∷◌, ◌++◌, replicate, Some, None, Ok, Err}
+use Rattle.std.specs.Prelude.{◌≡◌, ℕ, Bool, true, false, List, [], ◌∷◌, ◌++◌, length, replicate, Some, None, Ok, Err}
 use Rattle.msg_args.specs.declared.kind.ParamKind.{ParamKind}
 use Rattle.msg_args.specs.declared.kind.ParamKind.TheVariants.{ValueIn, ValueInout, RmemOut, TmemIn, TmemInout}
 use Rattle.msg_args.specs.declared.head.MsgHead.{MsgHead}
@@ -7,9 +7,11 @@ use Rattle.msg_args.specs.declared.param.MsgParam.{MsgParam}
 use Rattle.msg_args.specs.declared.arg.MsgArg.{MsgArg}
 use Rattle.msg_args.specs.declared.arg.Misshapen.{Misshapen}
 use Rattle.msg_args.specs.declared.arg.Misshapen.TheVariants.{Length, Count, Attr}
+use Rattle.msg_args.specs.declared.constants.TheConstants.{OPTEE_MSG_CMD_OPEN_SESSION, OPTEE_MSG_CMD_INVOKE_COMMAND, OPTEE_MSG_CMD_CLOSE_SESSION, OPTEE_MSG_CMD_CANCEL, OPTEE_MSG_CMD_REGISTER_SHM, OPTEE_MSG_CMD_UNREGISTER_SHM, OPTEE_MSG_CMD_DO_BOTTOM_HALF, OPTEE_MSG_CMD_STOP_ASYNC_NOTIF, OPTEE_MSG_ATTR_CACHE_PREDEFINED}
 use Rattle.msg_args.specs.Attribute.{kind_of, attribute, is_attribute}
+use Rattle.msg_args.specs.Layout.{argument_len, head_len, param_place, origin_at, p_at, params_at, q_at, ret_at, session_at}
 use Rattle.msg_args.specs.Spelling.{spelling}
-use Rattle.msg_args.specs.Reading.{argument}
+use Rattle.msg_args.specs.Reading.{argument, head_at, u32_at, u64_at}
 
 -- a head without result, origin and padding
 abbrev pub head : ℕ → ℕ → ℕ → ℕ → ℕ → MsgHead
@@ -82,3 +84,22 @@ pub record Examples : Type 0 where
   pub missing_parameter : Refuses (counts 1) Length
   pub one_byte_more : Refuses (counts 0 ++ 0 ∷ []) Length
   pub first_bad : Refuses (counts 3 ++ only_low 1 ++ only_low 4 ++ only_low 8) (Attr 1)
+  -- where the parts of an argument at 0 stand
+  pub session_place : (bytes : List ℕ) → u32_at (session_at 0) bytes ≡ (head_at bytes).session
+  pub ret_place : (bytes : List ℕ) → u32_at (ret_at 0) bytes ≡ (head_at bytes).ret
+  pub origin_place : (bytes : List ℕ) → u32_at (origin_at 0) bytes ≡ (head_at bytes).origin
+  pub p_place : u64_at (p_at 0 0) invoke_bytes ≡ 5
+  pub q_place : u64_at (q_at 0 0) invoke_bytes ≡ 7
+  pub second_place : u64_at (param_place 0 1) open_session_bytes ≡ 0x101
+  pub params_place : params_at 0 ≡ head_len
+  pub whole_len : length open_session_bytes ≡ argument_len 2
+  -- the numbers of the header
+  pub cmd_open_session : OPTEE_MSG_CMD_OPEN_SESSION ≡ 0
+  pub cmd_invoke_command : OPTEE_MSG_CMD_INVOKE_COMMAND ≡ 1
+  pub cmd_close_session : OPTEE_MSG_CMD_CLOSE_SESSION ≡ 2
+  pub cmd_cancel : OPTEE_MSG_CMD_CANCEL ≡ 3
+  pub cmd_register_shm : OPTEE_MSG_CMD_REGISTER_SHM ≡ 4
+  pub cmd_unregister_shm : OPTEE_MSG_CMD_UNREGISTER_SHM ≡ 5
+  pub cmd_do_bottom_half : OPTEE_MSG_CMD_DO_BOTTOM_HALF ≡ 6
+  pub cmd_stop_async_notif : OPTEE_MSG_CMD_STOP_ASYNC_NOTIF ≡ 7
+  pub cache_predefined : OPTEE_MSG_ATTR_CACHE_PREDEFINED ≡ 0

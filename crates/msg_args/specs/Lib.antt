@@ -1,4 +1,5 @@
 pub mod Attribute
+pub mod Layout
 pub mod Spelling
 pub mod Reading
 pub mod Examples

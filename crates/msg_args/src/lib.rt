@@ -14,6 +14,7 @@ mod constants;
 mod head;
 mod kind;
 mod laws;
+mod layout;
 mod param;
 
 pub use arg::{Misshapen, MsgArg, read_arg, write_arg};
@@ -31,6 +32,7 @@ pub use constants::{
 pub use head::{MsgHead, read_head};
 pub use kind::ParamKind;
 pub use laws::{one_spelling, worked_examples};
+pub use layout::{HEAD_LEN, PARAM_LEN, origin_at, p_at, param_place, q_at, ret_at, session_at};
 pub use param::MsgParam;
 
 #[cfg(test)]
