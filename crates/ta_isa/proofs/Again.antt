@@ -9,11 +9,9 @@ use Rattle.std.proofs.lemmas.List.FromFn.{fill_by_all}
 use Rattle.std.proofs.lemmas.Nat.{and_le_l}
 use Rattle.ta_isa.specs.declared.image.Instr.{Instr}
 use Rattle.ta_isa.specs.declared.image.Image.{Image}
-use Rattle.ta_isa.specs.declared.flags.TheConstants.{ALLOWED_FLAGS}
-use Rattle.ta_isa.specs.declared.image.TheConstants.{MAGIC, MAX_PAGES, MAX_INSTRUCTIONS}
 use Rattle.ta_isa.specs.declared.image_fault.ImageFault.TheVariants.{BadHeader, TooLarge, BadEntry}
 use Rattle.ta_isa.specs.InstructionTable.{is_instruction}
-use Rattle.ta_isa.specs.Spelling.{are_allowed, IsValid, word, instruction, spelling}
+use Rattle.ta_isa.specs.Spelling.{are_allowed, IsValid, magic_bytes, word, instruction, spelling}
 use Rattle.ta_isa.specs.Reading.{word_at, front_instruction, instruction_at, count_of, entries_of, code_of, image_of, first_bad, header_fault, decoded}
 use Rattle.byteorder.specs.Endian.{little_number}
 use Rattle.ta_isa.proofs.Decoded.{decoded-good_header}
@@ -25,7 +23,7 @@ use Rattle.ta_isa.proofs.Positions.{position-none}
 -- flags that an image may have are a number of four bytes
 are_allowed-below : (flags : ℕ) → are_allowed flags ≡ true → flags < 2 ^ 32
 unfolding are_allowed
-are_allowed-below flags e = omega (arith, and_le_l ALLOWED_FLAGS flags, eqb-true _ flags e)
+are_allowed-below flags e = omega (arith, and_le_l 0x1c flags, eqb-true _ flags e)
 
 -- an image whose five entry points are written out
 abbrev made : ℕ → ℕ → ℕ → ℕ → ℕ → ℕ → ℕ → List Instr → Image
@@ -33,7 +31,7 @@ made flags pages a b c d e code = record { flags = flags; pages = pages; entries
 
 -- what stands in front of the instructions
 abbrev front : ℕ → ℕ → ℕ → ℕ → ℕ → ℕ → ℕ → ℕ → List ℕ
-front flags pages n a b c d e = MAGIC ++ word flags ++ word pages ++ word n ++ flat_map word (a ∷ b ∷ c ∷ d ∷ e ∷ [])
+front flags pages n a b c d e = magic_bytes ++ word flags ++ word pages ++ word n ++ flat_map word (a ∷ b ∷ c ∷ d ∷ e ∷ [])
 
 length-instructions : (code : List Instr) → length (flat_map instruction code) ≡ 8 * length code
 length-instructions [] = refl
@@ -84,7 +82,7 @@ header-again flags pages a b c d e code hflags hpages hn ha hb hc hd he =
     }
 
 -- the header of a valid image has no fault
-header-none : (image : Image) (bytes : List ℕ) → IsValid image → ReadsHeader image bytes → starts_with nat_eq bytes MAGIC ≡ true → length bytes ≡ 36 + 8 * length image.code → header_fault bytes ≡ None
+header-none : (image : Image) (bytes : List ℕ) → IsValid image → ReadsHeader image bytes → starts_with nat_eq bytes magic_bytes ≡ true → length bytes ≡ 36 + 8 * length image.code → header_fault bytes ≡ None
 header-none image bytes valid reads magic len =
     let count = reads.count in
     let pages = reads.pages in
@@ -98,8 +96,8 @@ header-none image bytes valid reads magic len =
     ∙ position-none (nat_le (length image.code)) image.entries 0 (λ k lt. lt-leb (length image.code) (get_or image.entries k 0) (valid.entries k 0 lt)) in
     passed _ (BadHeader 0) _ (neither _ _ (le-ltb (length bytes) 36 (omega arith)) (ap not magic))
     (passed _ (BadHeader 1) _ (ap not (ap are_allowed reads.flags ∙ valid.flags))
-    (passed _ (BadHeader 2) _ (neither _ _ (ne_eqb (word_at 8 bytes) 0 (λ e. omega arith)) (le-ltb MAX_PAGES (word_at 8 bytes) (omega arith)))
-    (passed _ TooLarge _ (le-ltb MAX_INSTRUCTIONS (count_of bytes) (omega arith))
+    (passed _ (BadHeader 2) _ (neither _ _ (ne_eqb (word_at 8 bytes) 0 (λ e. omega arith)) (le-ltb 64 (word_at 8 bytes) (omega arith)))
+    (passed _ TooLarge _ (le-ltb 8192 (count_of bytes) (omega arith))
     (passed _ (BadHeader 3) _ (neither _ _ (ne_eqb (count_of bytes) 0 (λ e. omega arith)) (ap not (eq-eqb (length bytes) (36 + 8 * count_of bytes) (omega arith))))
     (ap (option_map BadEntry) no_entry)))))
 
@@ -110,7 +108,7 @@ code-none image bytes valid count code =
     ∙ ap (first_bad (length image.code)) code
     ∙ position-none (λ i. not (is_instruction (length image.code) i)) image.code no_instruction (λ k lt. ap not (valid.code k no_instruction lt))
 
-decoded-again : (image : Image) (bytes : List ℕ) → IsValid image → ReadsHeader image bytes → starts_with nat_eq bytes MAGIC ≡ true → length bytes ≡ 36 + 8 * length image.code → code_of bytes ≡ image.code → decoded bytes ≡ Ok image
+decoded-again : (image : Image) (bytes : List ℕ) → IsValid image → ReadsHeader image bytes → starts_with nat_eq bytes magic_bytes ≡ true → length bytes ≡ 36 + 8 * length image.code → code_of bytes ≡ image.code → decoded bytes ≡ Ok image
 decoded-again image bytes valid reads magic len code =
     let is_image : image_of bytes ≡ image =
     ap (λ (n : ℕ). record { flags = n; pages = word_at 8 bytes; entries = entries_of bytes; code = code_of bytes }) reads.flags
@@ -123,8 +121,8 @@ decoded-again image bytes valid reads magic len code =
 -- the same at entry points that are written out
 made-again : (flags pages a b c d e : ℕ) (code : List Instr) → IsValid (made flags pages a b c d e code) → decoded (spelling (made flags pages a b c d e code)) ≡ Ok (made flags pages a b c d e code)
 made-again flags pages a b c d e code valid =
-    let most : length code ≤ MAX_INSTRUCTIONS = valid.most_instructions in
-    let most_pages : pages ≤ MAX_PAGES = valid.most_pages in
+    let most : length code ≤ 8192 = valid.most_instructions in
+    let most_pages : pages ≤ 64 = valid.most_pages in
     let below : (k : ℕ) → k < 5 → get_or (a ∷ b ∷ c ∷ d ∷ e ∷ []) k 0 < length code = λ k lt. valid.entries k 0 lt in
     let ha : a < length code = below 0 (omega arith) in
     let hb : b < length code = below 1 (omega arith) in

@@ -10,13 +10,13 @@ use Rattle.std.proofs.lemmas.List.{drop-drop}
 use Rattle.std.proofs.lemmas.List.FromFn.{length-map-range_with_len}
 use Rattle.std.proofs.lemmas.Slice.Eq.{starts_is}
 use Rattle.ta_isa.specs.declared.image.Image.{Image}
-use Rattle.ta_isa.specs.declared.image.TheConstants.{MAGIC, MAX_PAGES, MAX_INSTRUCTIONS}
 use Rattle.ta_isa.specs.declared.image_fault.ImageFault.{ImageFault}
 use Rattle.ta_isa.specs.declared.image_fault.ImageFault.TheVariants.{BadHeader, TooLarge, BadEntry, BadOp}
 use Rattle.ta_isa.specs.InstructionTable.{is_instruction}
-use Rattle.ta_isa.specs.Spelling.{are_allowed, IsValid, word, instruction, spelling}
+use Rattle.ta_isa.specs.Spelling.{are_allowed, IsValid, magic_bytes, word, instruction, spelling}
 use Rattle.ta_isa.specs.Reading.{word_at, instruction_at, count_of, entries_of, code_of, image_of, first_bad, header_fault, fault_of, answer, decoded, IsUnlessMemory}
-use Rattle.ta_isa.proofs.Words.{IsBytes, IsBytes-drop, word-back, instruction-front}
+use Rattle.base.proofs.Numbers.{IsBytes, IsBytes-drop}
+use Rattle.ta_isa.proofs.Words.{word-back, instruction-front}
 use Rattle.ta_isa.proofs.Faults.{passed_back, neither_back, no_first, no_number, position-none_back}
 
 -- the instructions from one on
@@ -29,7 +29,7 @@ instructions-back bytes a (suc n) fits len =
     ∙ instruction-front (drop (36 + 8 * a) bytes) (IsBytes-drop (36 + 8 * a) bytes fits) (omega (arith, length-drop (36 + 8 * a) bytes))
 
 -- the parts of a spelling, one behind the other
-parts : (f p n a b c d e : ℕ) (rest : List ℕ) → MAGIC ++ word f ++ word p ++ word n ++ flat_map word (a ∷ b ∷ c ∷ d ∷ e ∷ []) ++ rest ≡ MAGIC ++ (word f ++ (word p ++ (word n ++ (word a ++ (word b ++ (word c ++ (word d ++ (word e ++ rest))))))))
+parts : (f p n a b c d e : ℕ) (rest : List ℕ) → magic_bytes ++ word f ++ word p ++ word n ++ flat_map word (a ∷ b ∷ c ∷ d ∷ e ∷ []) ++ rest ≡ magic_bytes ++ (word f ++ (word p ++ (word n ++ (word a ++ (word b ++ (word c ++ (word d ++ (word e ++ rest))))))))
 parts f p n a b c d e rest = refl
 
 above_zero : (n : ℕ) → eqb n 0 ≡ false → 1 ≤ n
@@ -39,11 +39,11 @@ above_zero (suc n) e = omega arith
 -- what a header without a fault says
 pub record IsHeader (bytes : List ℕ) : Type 0 where
   pub long : 36 ≤ length bytes
-  pub magic : starts_with nat_eq bytes MAGIC ≡ true
+  pub magic : starts_with nat_eq bytes magic_bytes ≡ true
   pub flags : are_allowed (word_at 4 bytes) ≡ true
   pub some_page : 1 ≤ word_at 8 bytes
-  pub most_pages : word_at 8 bytes ≤ MAX_PAGES
-  pub most_instructions : count_of bytes ≤ MAX_INSTRUCTIONS
+  pub most_pages : word_at 8 bytes ≤ 64
+  pub most_instructions : count_of bytes ≤ 8192
   pub some_instruction : 1 ≤ count_of bytes
   pub len : length bytes ≡ 36 + 8 * count_of bytes
   pub entries : position (nat_le (count_of bytes)) (entries_of bytes) ≡ None
@@ -79,7 +79,7 @@ code-back bytes fits len =
     instructions-back bytes 0 n fits (omega arith)
 
 -- what was read is spelled in the bytes
-pub spelling-back : (bytes : List ℕ) → IsBytes bytes → starts_with nat_eq bytes MAGIC ≡ true → length bytes ≡ 36 + 8 * count_of bytes → spelling (image_of bytes) ≡ bytes
+pub spelling-back : (bytes : List ℕ) → IsBytes bytes → starts_with nat_eq bytes magic_bytes ≡ true → length bytes ≡ 36 + 8 * count_of bytes → spelling (image_of bytes) ≡ bytes
 spelling-back bytes fits magic len =
     let at32 : word (word_at 32 bytes) ++ flat_map instruction (code_of bytes) ≡ drop 32 bytes = ap (λ (ys : List ℕ). word (word_at 32 bytes) ++ ys) (code-back bytes fits len) ∙ word-back bytes 32 36 fits (omega arith) (omega arith) in
     let at28 = ap (λ (ys : List ℕ). word (word_at 28 bytes) ++ ys) at32 ∙ word-back bytes 28 32 fits (omega arith) (omega arith) in
@@ -89,9 +89,9 @@ spelling-back bytes fits magic len =
     let at12 = ap (λ (ys : List ℕ). word (count_of bytes) ++ ys) at16 ∙ word-back bytes 12 16 fits (omega arith) (omega arith) in
     let at8 = ap (λ (ys : List ℕ). word (word_at 8 bytes) ++ ys) at12 ∙ word-back bytes 8 12 fits (omega arith) (omega arith) in
     let at4 = ap (λ (ys : List ℕ). word (word_at 4 bytes) ++ ys) at8 ∙ word-back bytes 4 8 fits (omega arith) (omega arith) in
-    let whole : bytes ≡ MAGIC ++ drop 4 bytes = (starts_is Decides-eqb bytes MAGIC (starts_with nat_eq bytes MAGIC) refl).0 magic in
-    let spelled = ap (λ (ys : List ℕ). MAGIC ++ ys) at4 ∙ sym whole in
-    ap (λ (n : ℕ). MAGIC ++ word (word_at 4 bytes) ++ word (word_at 8 bytes) ++ word n ++ flat_map word (entries_of bytes) ++ flat_map instruction (code_of bytes)) (length-code bytes len)
+    let whole : bytes ≡ magic_bytes ++ drop 4 bytes = (starts_is Decides-eqb bytes magic_bytes (starts_with nat_eq bytes magic_bytes) refl).0 magic in
+    let spelled = ap (λ (ys : List ℕ). magic_bytes ++ ys) at4 ∙ sym whole in
+    ap (λ (n : ℕ). magic_bytes ++ word (word_at 4 bytes) ++ word (word_at 8 bytes) ++ word n ++ flat_map word (entries_of bytes) ++ flat_map instruction (code_of bytes)) (length-code bytes len)
     ∙ spelled
 
 -- what was read is valid

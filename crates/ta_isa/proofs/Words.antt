@@ -1,44 +1,23 @@
 -- A word or an instruction that is read is the one that is spelled there, and back.
-use Rattle.std.proofs.Common.{◌≡◌, ℕ, ◌+◌, ◌^◌, ◌<◌, ◌≤◌, List, [], ◌∷◌, ◌++◌, length, get_or, take, drop, refl, sym, ap, ◌∙◌, arith, inl, inr, length-drop}
-use Rattle.std.proofs.lemmas.Bool.{cases_lt}
-use Rattle.std.proofs.lemmas.List.{drop-drop, length-take, get_or-drop, get_or-take, get_or_past}
-use Rattle.std.proofs.lemmas.Nat.{le_bytes_4}
+use Rattle.std.proofs.Common.{◌≡◌, ℕ, ◌+◌, ◌^◌, ◌<◌, ◌≤◌, List, [], ◌∷◌, ◌++◌, length, drop, refl, sym, ap, ◌∙◌, arith}
+use Rattle.std.specs.Int.{w32, from_le_bytes}
 use Rattle.byteorder.specs.Endian.{little_number}
 use Rattle.byteorder.specs.Numbers.{little_number-reads_back}
+use Rattle.base.proofs.Numbers.{IsBytes, u32_back}
 use Rattle.ta_isa.specs.declared.image.Instr.{Instr}
 use Rattle.ta_isa.specs.Spelling.{word, instruction}
 use Rattle.ta_isa.specs.Reading.{word_at, front_instruction}
 
-abbrev pub IsBytes : List ℕ → Type 0
-IsBytes bytes = (i : ℕ) → get_or bytes i 0 < 256
+-- byteorder's number is std's
+little-is : (bytes : List ℕ) → little_number 4 bytes ≡ from_le_bytes w32 bytes
+little-is bytes = omega arith
 
-pub IsBytes-drop : (n : ℕ) (bytes : List ℕ) → IsBytes bytes → IsBytes (drop n bytes)
-IsBytes-drop n bytes h i = rw get_or-drop (h (n + i))
-
-pub IsBytes-take : (n : ℕ) (bytes : List ℕ) → IsBytes bytes → IsBytes (take n bytes)
-IsBytes-take n bytes h i =
-    elim (cases_lt i n) [
-      | inl lt ↦ rw (get_or-take n bytes i 0 lt) (h i)
-      | inr le ↦ rw (get_or_past (take n bytes) i 0 (omega (arith, length-take n bytes))) (omega arith)
-    ]
-
--- the word in front is spelled there
-pub word-front : (bytes : List ℕ) → IsBytes bytes → 4 ≤ length bytes → word (little_number 4 bytes) ++ drop 4 bytes ≡ bytes
-word-front [] fits len = absurd (omega arith)
-word-front (a ∷ []) fits len = absurd (omega arith)
-word-front (a ∷ b ∷ []) fits len = absurd (omega arith)
-word-front (a ∷ b ∷ c ∷ []) fits len = absurd (omega arith)
-word-front (a ∷ b ∷ c ∷ d ∷ rest) fits len =
-    let e = le_bytes_4 (a ∷ b ∷ c ∷ d ∷ []) (little_number 4 (a ∷ b ∷ c ∷ d ∷ rest)) refl (IsBytes-take 4 (a ∷ b ∷ c ∷ d ∷ rest) fits) (omega arith) in
-    ap (λ (ys : List ℕ). ys ++ rest) e
-
--- the same at a place
+-- the word at a place is spelled there
 pub word-back : (bytes : List ℕ) (place after : ℕ) → IsBytes bytes → place + 4 ≡ after → after ≤ length bytes → word (word_at place bytes) ++ drop after bytes ≡ drop place bytes
 unfolding word_at
 word-back bytes place after fits e len =
-    let next : drop 4 (drop place bytes) ≡ drop after bytes = drop-drop 4 place bytes ∙ ap (λ (n : ℕ). drop n bytes) e in
-    ap (λ (rest : List ℕ). word (little_number 4 (drop place bytes)) ++ rest) (sym next)
-    ∙ word-front (drop place bytes) (IsBytes-drop place bytes fits) (omega (arith, length-drop place bytes))
+    ap (λ (n : ℕ). word n ++ drop after bytes) (little-is (drop place bytes))
+    ∙ u32_back place bytes (drop after bytes) (omega arith) fits (ap (λ (n : ℕ). drop n bytes) (sym e))
 
 -- a number of four bytes is read from its spelling
 pub word-again : (n : ℕ) → n < 2 ^ 32 → little_number 4 (word n) ≡ n
@@ -46,13 +25,13 @@ word-again n lt = little_number-reads_back 4 n [] (omega arith)
 
 -- the instruction in front is spelled there
 pub instruction-front : (bytes : List ℕ) → IsBytes bytes → 8 ≤ length bytes → instruction (front_instruction bytes) ++ drop 8 bytes ≡ bytes
-unfolding front_instruction word_at
+unfolding front_instruction
 instruction-front [] fits len = absurd (omega arith)
 instruction-front (a ∷ []) fits len = absurd (omega arith)
 instruction-front (a ∷ b ∷ []) fits len = absurd (omega arith)
 instruction-front (a ∷ b ∷ c ∷ []) fits len = absurd (omega arith)
 instruction-front (a ∷ b ∷ c ∷ d ∷ rest) fits len =
-    ap (λ (ys : List ℕ). a ∷ b ∷ c ∷ d ∷ ys) (word-front rest (IsBytes-drop 4 (a ∷ b ∷ c ∷ d ∷ rest) fits) (omega arith))
+    ap (λ (ys : List ℕ). a ∷ b ∷ c ∷ d ∷ ys) (word-back (a ∷ b ∷ c ∷ d ∷ rest) 4 8 fits refl len)
 
 -- an instruction is read from its spelling
 pub instruction-again : (i : Instr) (rest : List ℕ) → i.imm < 2 ^ 32 → front_instruction (instruction i ++ rest) ≡ i

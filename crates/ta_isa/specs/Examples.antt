@@ -53,6 +53,7 @@ pub record Examples : Type 0 where
   pub nothing : decoded [] ≡ Err (BadHeader 0)
   pub cut : decoded (take 35 sum_bytes) ≡ Err (BadHeader 0)
   pub magic : decoded (changed 3 0x42) ≡ Err (BadHeader 0)
+  pub most_pages : decoded (changed 8 64) ≡ Ok (record sum_image { pages = 64 })
   pub flags : decoded (changed 4 0x1c) ≡ Ok (record sum_image { flags = 0x1c })
   pub flag_below : decoded (changed 4 2) ≡ Err (BadHeader 1)
   pub flag_above : decoded (changed 4 0x20) ≡ Err (BadHeader 1)
@@ -63,10 +64,14 @@ pub record Examples : Type 0 where
   pub no_count : decoded (changed 12 0) ≡ Err (BadHeader 3)
   pub longer : decoded (sum_bytes ++ 0 ∷ []) ≡ Err (BadHeader 3)
   pub entry : decoded (changed 24 7) ≡ Err (BadEntry 2)
+  pub first_bad_entry : decoded (slice_set (changed 24 7) 32 7) ≡ Err (BadEntry 2)
+  pub last_entry : decoded (changed 35 1) ≡ Err (BadEntry 4)
   pub no_operation : decoded (changed 44 0) ≡ Err (BadOp 1)
   pub register_16 : decoded (changed 45 16) ≡ Err (BadOp 1)
   pub unnamed_field : decoded (changed 46 1) ≡ Err (BadOp 1)
   pub system_call : decoded (changed 56 20) ≡ Err (BadOp 2)
+  pub past_the_operations : decoded (changed 84 0x19) ≡ Err (BadOp 6)
+  pub first_bad_operation : decoded (slice_set (changed 44 0) 36 0) ≡ Err (BadOp 0)
   pub no_row : row_of 0 ≡ None
   pub last_row : row_of 0x18 ≡ Some (row Unused Unused Unused immediate.SystemCall)
   pub past_last_row : row_of 0x19 ≡ None

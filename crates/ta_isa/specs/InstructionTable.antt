@@ -7,7 +7,6 @@ use Rattle.ta_isa.specs.declared.row.Operand.TheVariants.{Unused, Register}
 use Rattle.ta_isa.specs.declared.row.Immediate.{Immediate}
 use Rattle.ta_isa.specs.declared.row.Immediate.TheVariants as immediate
 use Rattle.ta_isa.specs.declared.row.Row.{Row}
-use Rattle.ta_isa.specs.declared.row.TheConstants.{REGISTERS, LAST_SYSTEM_CALL}
 
 -- what the fields d, a, b and imm hold
 abbrev pub row : Operand → Operand → Operand → Immediate → Row
@@ -57,14 +56,14 @@ row_of op = option_map (λ e. e.1) (find (λ e. e.0 == op) instruction_table)
 -- what a field of eight bits may hold
 abbrev pub is_operand : Operand → ℕ → Bool
 is_operand Unused field = field == 0
-is_operand Register field = nat_lt field REGISTERS
+is_operand Register field = nat_lt field 16
 
 -- what the field imm may hold in an image of so many instructions
 abbrev pub is_immediate : Immediate → ℕ → ℕ → Bool
 is_immediate immediate.Unused field count = field == 0
 is_immediate immediate.Number field count = nat_lt field (2 ^ 32)
 is_immediate immediate.Target field count = nat_lt field count
-is_immediate immediate.SystemCall field count = nat_le field LAST_SYSTEM_CALL
+is_immediate immediate.SystemCall field count = nat_le field 19
 
 -- each field holds what the row says
 abbrev pub follows_row : ℕ → Instr → Row → Bool

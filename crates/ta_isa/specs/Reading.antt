@@ -5,11 +5,10 @@ use Rattle.std.specs.List.{range_with_len, starts_with}
 use Rattle.byteorder.specs.Endian.{little_number}
 use Rattle.ta_isa.specs.declared.image.Instr.{Instr}
 use Rattle.ta_isa.specs.declared.image.Image.{Image}
-use Rattle.ta_isa.specs.declared.image.TheConstants.{HEADER_LEN, INSTRUCTION_LEN, MAGIC, MAX_PAGES, MAX_INSTRUCTIONS}
 use Rattle.ta_isa.specs.declared.image_fault.ImageFault.{ImageFault}
 use Rattle.ta_isa.specs.declared.image_fault.ImageFault.TheVariants.{BadHeader, TooLarge, BadEntry, BadOp, Memory}
 use Rattle.ta_isa.specs.InstructionTable.{is_instruction}
-use Rattle.ta_isa.specs.Spelling.{are_allowed}
+use Rattle.ta_isa.specs.Spelling.{are_allowed, magic_bytes}
 
 -- the word that stands at a place
 unfoldable pub word_at : ℕ → List ℕ → ℕ
@@ -35,11 +34,11 @@ entries_of bytes = word_at 16 bytes ∷ word_at 20 bytes ∷ word_at 24 bytes �
 
 -- the instruction of a number, behind the header
 abbrev pub instruction_at : List ℕ → ℕ → Instr
-instruction_at bytes number = front_instruction (drop (HEADER_LEN + INSTRUCTION_LEN * number) bytes)
+instruction_at bytes number = front_instruction (drop (36 + 8 * number) bytes)
 
 -- the whole instructions behind the header
 abbrev pub code_of : List ℕ → List Instr
-code_of bytes = map (instruction_at bytes) (range_with_len 0 ((length bytes - HEADER_LEN) / INSTRUCTION_LEN))
+code_of bytes = map (instruction_at bytes) (range_with_len 0 ((length bytes - 36) / 8))
 
 -- the image whose fields stand at their places: flags at 4, pages at 8, the count at 12, five entry points from 16
 abbrev pub image_of : List ℕ → Image
@@ -48,11 +47,11 @@ image_of bytes = record { flags = word_at 4 bytes; pages = word_at 8 bytes; entr
 -- the first fault of a header
 abbrev pub header_fault : List ℕ → Option ImageFault
 header_fault bytes =
-    if nat_lt (length bytes) HEADER_LEN || not (starts_with nat_eq bytes MAGIC) then Some (BadHeader 0) else
+    if nat_lt (length bytes) 36 || not (starts_with nat_eq bytes magic_bytes) then Some (BadHeader 0) else
     if not (are_allowed (word_at 4 bytes)) then Some (BadHeader 1) else
-    if word_at 8 bytes == 0 || nat_lt MAX_PAGES (word_at 8 bytes) then Some (BadHeader 2) else
-    if nat_lt MAX_INSTRUCTIONS (count_of bytes) then Some TooLarge else
-    if count_of bytes == 0 || not (length bytes == HEADER_LEN + INSTRUCTION_LEN * count_of bytes) then Some (BadHeader 3) else
+    if word_at 8 bytes == 0 || nat_lt 64 (word_at 8 bytes) then Some (BadHeader 2) else
+    if nat_lt 8192 (count_of bytes) then Some TooLarge else
+    if count_of bytes == 0 || not (length bytes == 36 + 8 * count_of bytes) then Some (BadHeader 3) else
     option_map BadEntry (position (nat_le (count_of bytes)) (entries_of bytes))
 
 -- the first bad instruction of an image of so many
