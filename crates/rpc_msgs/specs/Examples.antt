@@ -3,6 +3,8 @@ use Rattle.std.specs.Prelude.{◌≡◌, ℕ, List, [], ◌∷◌, ◌++◌, len
 use Rattle.ns_ram.specs.Examples.{read_of}
 use Rattle.ns_ram.specs.Reader.{reading}
 use Rattle.ns_ram.specs.Writes.{Write}
+use Rattle.rpc_msgs.specs.declared.payload.TheConstants.{MAX_PAYLOAD}
+use Rattle.rpc_msgs.specs.declared.request.TheConstants.{MESSAGE_BYTES}
 use Rattle.rpc_msgs.specs.declared.rpc.Rpc.{Rpc}
 use Rattle.rpc_msgs.specs.declared.rpc.Rpc.TheVariants.{Time, Sleep, Wake, Suspend, FsOpen, FsRead, FsWrite}
 use Rattle.rpc_msgs.specs.declared.rpc.RpcReply.{RpcReply}
@@ -85,3 +87,6 @@ pub record Examples : Type 0 where
   pub piece_reply : IsReplyTo (FsRead 5 6 2) (reply 0 0 0 2 (7 ∷ 8 ∷ []))
   pub short_piece : IsReplyTo (FsRead 5 6 2) (reply 0 0 0 2 (7 ∷ [])) → ⊥
   pub time_with_size : IsReplyTo Time (reply 0 100 200 1 []) → ⊥
+  -- the sizes
+  pub message_bytes : MESSAGE_BYTES ≡ 4096
+  pub max_payload : MAX_PAYLOAD ≡ 3584

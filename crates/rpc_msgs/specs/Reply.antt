@@ -1,7 +1,10 @@
 -- What is read of the reply to a request: each number by itself, in this order, whatever the result says.
-use Rattle.std.specs.Prelude.{ℕ, ◌+◌, ◌*◌, nat_le, List, [], if◌then◌else◌}
-use Rattle.std.specs.Int.{from_le_bytes, w32, w64}
+use Rattle.std.specs.Prelude.{ℕ, nat_le, List, [], ◌++◌, if◌then◌else◌}
+use Rattle.std.specs.Int.{from_le_bytes, to_le_bytes, w32, w64}
+use Rattle.msg_args.specs.Layout.{p_at, q_at, ret_at}
+use Rattle.ns_ram.specs.declared.read.Read.{Read}
 use Rattle.ns_ram.specs.Reader.{Reader, done, ◌>>=◌, take_bytes}
+use Rattle.ns_ram.specs.Reads.{listed}
 use Rattle.rpc_msgs.specs.declared.rpc.Rpc.{Rpc}
 use Rattle.rpc_msgs.specs.declared.rpc.Rpc.TheVariants.{Time, Sleep, Wake, Suspend, FsOpen, FsCreate, FsClose, FsRead, FsWrite, FsRemove}
 use Rattle.rpc_msgs.specs.declared.rpc.RpcReply.{RpcReply}
@@ -18,16 +21,6 @@ abbrev pub take_u64 : ℕ → Reader ℕ
 take_u64 addr = do
   bytes ← take_bytes addr 8
   done (from_le_bytes w64 bytes)
-
--- where the result of an argument stands, and the numbers p and q of its parameters
-abbrev pub ret_at : ℕ → ℕ
-ret_at buffer = buffer + 20
-
-abbrev pub p_at : ℕ → ℕ → ℕ
-p_at buffer number = buffer + 32 + 32 * number + 8
-
-abbrev pub q_at : ℕ → ℕ → ℕ
-q_at buffer number = buffer + 32 + 32 * number + 16
 
 -- the result alone
 abbrev pub ret_alone : ℕ → Reader RpcReply
@@ -74,3 +67,33 @@ reply_reader buffer (FsClose fd) = ret_alone buffer
 reply_reader buffer (FsRead fd offset len) = piece_of buffer len
 reply_reader buffer (FsWrite fd offset len) = ret_alone buffer
 reply_reader buffer (FsRemove name) = ret_alone buffer
+
+-- ---- the list of what was read
+
+-- a list of reads with those of a reply behind them: the result alone, a time, a descriptor, a piece of a file
+abbrev pub with_ret : ℕ → RpcReply → List Read → List Read
+with_ret buffer reply before = before ++ listed (ret_at buffer) (to_le_bytes w32 reply.ret)
+
+abbrev pub with_time : ℕ → RpcReply → List Read → List Read
+with_time buffer reply before =
+    with_ret buffer reply before ++ listed (p_at buffer 0) (to_le_bytes w64 reply.v) ++ listed (q_at buffer 0) (to_le_bytes w64 reply.w)
+
+abbrev pub with_descriptor : ℕ → RpcReply → List Read → List Read
+with_descriptor buffer reply before = with_ret buffer reply before ++ listed (p_at buffer 2) (to_le_bytes w64 reply.v)
+
+abbrev pub with_piece : ℕ → RpcReply → List Read → List Read
+with_piece buffer reply before =
+    with_ret buffer reply before ++ listed (q_at buffer 1) (to_le_bytes w64 reply.size) ++ listed (payload_at buffer) reply.bytes
+
+-- the same of the reply to each request
+abbrev pub with_reply : ℕ → Rpc → RpcReply → List Read → List Read
+with_reply buffer Time reply before = with_time buffer reply before
+with_reply buffer (Sleep key) reply before = before
+with_reply buffer (Wake key) reply before = before
+with_reply buffer (Suspend ms) reply before = before
+with_reply buffer (FsOpen name) reply before = with_descriptor buffer reply before
+with_reply buffer (FsCreate name) reply before = with_descriptor buffer reply before
+with_reply buffer (FsClose fd) reply before = with_ret buffer reply before
+with_reply buffer (FsRead fd offset len) reply before = with_piece buffer reply before
+with_reply buffer (FsWrite fd offset len) reply before = with_ret buffer reply before
+with_reply buffer (FsRemove name) reply before = with_ret buffer reply before

@@ -10,11 +10,9 @@ ghost use Rattle.rpc_msgs.specs.Answer.{FitsReply, IsReplyTo};
 ghost use Rattle.rpc_msgs.specs.Reply.{reply_reader};
 ghost use Rattle.rpc_msgs.specs.Request.{IsWithinMessage, request_writes};
 
-use crate::payload::MAX_PAYLOAD;
-
 /// A request is written into its message, and nowhere else.
 pub fn requests_stay_in_their_message()
-    ensures { (buffer cookie : ℕ) (rpc : Rpc) (payload : List ℕ) → length payload ≤ MAX_PAYLOAD
+    ensures { (buffer cookie : ℕ) (rpc : Rpc) (payload : List ℕ) → length payload ≤ 3584
         → AllByRecursion (IsWithinMessage buffer) (request_writes buffer cookie rpc payload) }
 {}
 

@@ -15,14 +15,12 @@
 
 mod examples;
 mod fault;
-mod fields;
 mod file_name;
 mod laws;
 mod payload;
 mod reply;
 mod request;
 mod rpc;
-mod take;
 #[cfg(test)]
 mod tests;
 
@@ -31,7 +29,6 @@ pub use fault::FileNameFault;
 pub use file_name::{FileName, MAX_FILE_NAME};
 pub use laws::{readings_are_replies, replies_are_read, requests_stay_in_their_message};
 pub use payload::{MAX_PAYLOAD, Payload};
-pub use reply::read_reply;
+pub use reply::{read_reply, take_reply};
 pub use request::{MESSAGE_BYTES, PAYLOAD_OFFSET, put_request};
 pub use rpc::{Rpc, RpcReply};
-pub use take::take_reply;

@@ -6,7 +6,6 @@ ghost use Rattle.ns_ram.specs.Writes.{lane_after};
 ghost use Rattle.rpc_msgs.specs.Request.{IsPayloadOf, IsRequest, argument, files, param, payload_in, payload_out, request_arg, request_writes, value_in, value_out};
 
 use crate::file_name::FileName;
-use crate::payload::MAX_PAYLOAD;
 use crate::rpc::Rpc;
 use arrayvec::ArrayVec;
 use msg_args::{MsgArg, MsgHead, MsgParam, ParamKind, write_arg};
@@ -50,7 +49,7 @@ const NO_RESULT: u32 = 0xffff0000;
 ///
 /// The payload is the name's bytes of a request that names a file, the `len` bytes of a write, and else empty.
 pub fn put_request(lane: &mut Lane, buffer: u64, cookie: u64, rpc: &Rpc, payload: &[u8])
-    requires in_ram { IsInRam buffer MESSAGE_BYTES }
+    requires in_ram { IsInRam buffer 4096 }
     requires request { IsRequest rpc.now }
     requires payload { IsPayloadOf rpc.now payload.now }
     ensures { lane.new ≡ lane_after lane.old (request_writes buffer cookie rpc.now payload.now) }
@@ -64,11 +63,11 @@ pub fn put_request(lane: &mut Lane, buffer: u64, cookie: u64, rpc: &Rpc, payload
 
 /// The argument of a request.
 fn request_arg(buffer: u64, cookie: u64, rpc: &Rpc) -> MsgArg
-    requires { IsInRam buffer MESSAGE_BYTES }
+    requires { IsInRam buffer 4096 }
     ensures arg { result ≡ request_arg buffer cookie rpc.now }
     // The payload has a place in the message.
     ensures room { (payload : List ℕ) → IsRequest rpc.now → IsPayloadOf rpc.now payload
-        → length payload ≤ MAX_PAYLOAD }
+        → length payload ≤ 3584 }
 {
     match rpc {
         Rpc::Time => argument(OPTEE_RPC_CMD_GET_TIME, &[value_out()]),
@@ -105,10 +104,10 @@ fn notification(function: u64, key: u32) -> MsgArg
 
 /// To open a file of a name, or to create it.
 fn opening(function: u64, buffer: u64, cookie: u64, name: &FileName) -> MsgArg
-    requires { IsInRam buffer MESSAGE_BYTES }
+    requires { IsInRam buffer 4096 }
     ensures arg { result ≡ files function 0 0
         (payload_in buffer cookie (length name.now) ∷ value_out ∷ []) }
-    ensures room { length name.now ≤ MAX_PAYLOAD }
+    ensures room { length name.now ≤ 3584 }
 {
     let payload = payload_in(buffer, cookie, name_len(name));
     files(function, 0, 0, &[payload, value_out()])
@@ -149,7 +148,7 @@ fn argument(cmd: u32, params: &[MsgParam]) -> MsgArg
 /// How many bytes a name has.
 fn name_len(name: &FileName) -> u64
     ensures len { result ≡ length name.now }
-    ensures room { result ≤ MAX_PAYLOAD }
+    ensures room { result ≤ 3584 }
 {
     name.bytes().len() as u64
 }
@@ -170,7 +169,7 @@ fn value_out() -> MsgParam
 
 /// `len` bytes of the payload, for the normal world.
 fn payload_in(buffer: u64, cookie: u64, len: u64) -> MsgParam
-    requires { IsInRam buffer MESSAGE_BYTES }
+    requires { IsInRam buffer 4096 }
     ensures { result ≡ payload_in buffer cookie len }
 {
     param(ParamKind::TmemIn, buffer + PAYLOAD_OFFSET, len, cookie)
@@ -178,7 +177,7 @@ fn payload_in(buffer: u64, cookie: u64, len: u64) -> MsgParam
 
 /// `len` bytes of the payload, from the normal world.
 fn payload_out(buffer: u64, cookie: u64, len: u64) -> MsgParam
-    requires { IsInRam buffer MESSAGE_BYTES }
+    requires { IsInRam buffer 4096 }
     ensures { result ≡ payload_out buffer cookie len }
 {
     param(ParamKind::TmemOut, buffer + PAYLOAD_OFFSET, len, cookie)

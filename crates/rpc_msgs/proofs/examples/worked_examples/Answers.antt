@@ -34,4 +34,6 @@ returns c = record {
   piece_reply = (refl, refl);
   short_piece = λ h. let wrong : 1 ≡ 2 = h.1 in omega arith;
   time_with_size = λ h. let wrong : 1 ≡ 0 = ap (λ (r : RpcReply). r.size) h in omega arith;
+  message_bytes = refl;
+  max_payload = refl;
 }

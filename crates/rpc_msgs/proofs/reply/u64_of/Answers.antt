@@ -1,0 +1,6 @@
+use Rattle.std.proofs.Common.{arith}
+use Rattle.std.proofs.lemmas.Nat.{le_bytes_8}
+use Rattle.rpc_msgs.proofs.reply.u64_of.Goals as goal
+
+pub returns : goal.returns
+returns c = le_bytes_8 c.args.bytes.now c.read_u64.result c.requires (λ i. omega (arith, c.type_inv.bytes i)) (omega (arith, c.read_u64.ensures))
