@@ -1,3 +1,5 @@
+pub mod Attempt
+pub mod AttemptExamples
 pub mod Examples
 pub mod Lane
 pub mod PageExamples

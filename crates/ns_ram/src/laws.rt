@@ -3,6 +3,7 @@
 ghost use Rattle.std.specs.Prelude.{◌≡◌, ℕ, List, length};
 ghost use Rattle.std.specs.List.{AllByRecursion};
 ghost use Rattle.base.specs.Zeros.{zeros};
+ghost use Rattle.ns_ram.specs.AttemptExamples.{AttemptExamples};
 ghost use Rattle.ns_ram.specs.Examples.{Examples};
 ghost use Rattle.ns_ram.specs.Lane.{ChangesItsBytesAlone, IsInRam, bytes_at};
 ghost use Rattle.ns_ram.specs.Reader.{AddsItsReads, IsReadFromLane, RunsInTurn};
@@ -41,5 +42,6 @@ pub fn readers_run_in_turn<T, U>()
 
 /// The definitions at small inputs.
 pub fn worked_examples()
-    ensures { Examples }
+    ensures readers { Examples }
+    ensures attempts { AttemptExamples }
 {}

@@ -8,6 +8,7 @@ use Rattle.std.specs.Ordering.{nat_cmp, eq_by_cmp}
 use Rattle.base.specs.NumberMap.{NumberMap, get}
 use Rattle.msg_args.specs.declared.param.MsgParam.{MsgParam}
 use Rattle.ns_ram.specs.declared.read.Read.{Read}
+use Rattle.ns_ram.specs.Attempt.{Attempt, passes, refuses}
 use Rattle.ns_ram.specs.Pages.{is_page, walk}
 use Rattle.ns_ram.specs.Reader.{over_lane}
 use Rattle.ns_ram.proofs.ReaderLaws.{over_lane-bind}
@@ -17,7 +18,6 @@ use Rattle.shm_registry.specs.Pieces.{IsBuffer, IsPieceOfRam, page_count, pieces
 use Rattle.shm_registry.proofs.Cutting.{buffer-room, pieces-in_ram, pieces-size}
 use Rattle.param_copy.specs.declared.fault.CopyFault.{CopyFault}
 use Rattle.param_copy.specs.declared.fault.CopyFault.TheVariants.{Cookie}
-use Rattle.param_copy.specs.Attempt.{Attempt, success, refusal}
 use Rattle.ns_ram.specs.Lane.{is_in_ram}
 use Rattle.param_copy.specs.Memory.{HaveSize, bytes_in, chained_pieces, contiguous_pieces, cut_at_pages, one_piece, part_of_buffer, rmem_pieces, tmem_pieces, tmem_size, within_limit}
 use Rattle.param_copy.proofs.GoodPages.{truth, walk-good}
@@ -32,19 +32,19 @@ refused-not : {P : Type 0} (fault : CopyFault) (others : List Piece) (before aft
     ◌≡◌ {A = Option (Result (List Piece) CopyFault × List Read)} (Some (Err fault, before)) (Some (Ok others, after)) → P
 refused-not fault others before after e = let same : Err fault ≡ Ok others = (some_pair_parts (Err fault) (Ok others) before after e).0 in absurd (cc)
 
-refusal-size : (fault : CopyFault) (size : ℕ) → HaveSize (refusal fault) size
-refusal-size fault size = record {
+refuses-size : (fault : CopyFault) (size : ℕ) → HaveSize (refuses fault) size
+refuses-size fault size = record {
   sum = λ lane before after pieces e. refused-not fault pieces before after e;
   in_ram = λ lane before after pieces e. refused-not fault pieces before after e;
 }
 
-success-size : (pieces : List Piece) (size : ℕ) → bytes_in pieces ≡ size → AllByRecursion IsPieceOfRam pieces → HaveSize (success pieces) size
-success-size pieces size sum in_ram = record {
+passes-size : (pieces : List Piece) (size : ℕ) → bytes_in pieces ≡ size → AllByRecursion IsPieceOfRam pieces → HaveSize (passes pieces) size
+passes-size pieces size sum in_ram = record {
   sum = λ lane before after others e. rw (← found-is pieces others before after e) sum;
   in_ram = λ lane before after others e. rw (← found-is pieces others before after e) in_ram;
 }
 
-choice-size : (b : Bool) (first second : Attempt (List Piece)) (size : ℕ) →
+choice-size : (b : Bool) (first second : Attempt CopyFault (List Piece)) (size : ℕ) →
     (b ≡ true → HaveSize first size) → (b ≡ false → HaveSize second size) → HaveSize (cond b first second) size
 choice-size true first second size f s = f refl
 choice-size false first second size f s = s refl
@@ -63,10 +63,10 @@ All-get (kept ∷ m) k buffer all e = elim (truth (eq_by_cmp nat_cmp k kept.0)) 
 
 part-size : (number : ℕ) (param : MsgParam) (buffer : PageBuffer) → IsBuffer buffer → HaveSize (part_of_buffer number param buffer) param.q
 part-size number param buffer b =
-    choice-size (nat_lt buffer.size (param.p + param.q)) _ _ param.q (λ _. refusal-size _ param.q)
+    choice-size (nat_lt buffer.size (param.p + param.q)) _ _ param.q (λ _. refuses-size _ param.q)
     (λ (inside : nat_lt buffer.size (param.p + param.q) ≡ false).
     let ends : param.p + param.q ≤ buffer.size = grind (arith, nat_tests) in
-    success-size (pieces_from buffer.pages (buffer.offset + param.p) param.q) param.q
+    passes-size (pieces_from buffer.pages (buffer.offset + param.p) param.q) param.q
     (enough param.q ends) (pieces-in_ram buffer.pages (buffer.offset + param.p) param.q b.pages))
   where
     enough : (size : ℕ) → param.p + size ≤ buffer.size → bytes_in (pieces_from buffer.pages (buffer.offset + param.p) size) ≡ size
@@ -78,10 +78,10 @@ part-size number param buffer b =
 pub rmem-size : (buffers : NumberMap PageBuffer) (number : ℕ) (param : MsgParam) → AllByRecursion (λ kept. IsBuffer kept.1) buffers →
     HaveSize (rmem_pieces buffers number param) param.q
 rmem-size buffers number param all =
-    choice-size (nat_lt 65536 param.q) _ _ param.q (λ _. refusal-size _ param.q) (λ _. of_buffer (get buffers param.s) refl)
+    choice-size (nat_lt 65536 param.q) _ _ param.q (λ _. refuses-size _ param.q) (λ _. of_buffer (get buffers param.s) refl)
   where
-    of_buffer : (found : Option PageBuffer) → get buffers param.s ≡ found → HaveSize (option_map_or (part_of_buffer number param) found (refusal (Cookie number))) param.q
-    of_buffer None e = refusal-size (Cookie number) param.q
+    of_buffer : (found : Option PageBuffer) → get buffers param.s ≡ found → HaveSize (option_map_or (part_of_buffer number param) found (refuses (Cookie number))) param.q
+    of_buffer None e = refuses-size (Cookie number) param.q
     of_buffer (Some buffer) e = part-size number param buffer (All-get buffers param.s buffer all e)
 
 -- ---- named by address
@@ -97,8 +97,8 @@ one-in_ram addr (suc more) e = ((grind (arith, nat_tests), grind (arith, nat_tes
 contiguous-size : (number : ℕ) (param : MsgParam) → HaveSize (contiguous_pieces number param) param.q
 contiguous-size number param =
     choice-size (is_in_ram param.p param.q) _ _ param.q
-    (λ (inside : is_in_ram param.p param.q ≡ true). success-size (one_piece param.p param.q) param.q (one-size param.p param.q) (one-in_ram param.p param.q inside))
-    (λ _. refusal-size _ param.q)
+    (λ (inside : is_in_ram param.p param.q ≡ true). passes-size (one_piece param.p param.q) param.q (one-size param.p param.q) (one-in_ram param.p param.q inside))
+    (λ _. refuses-size _ param.q)
 
 pages-size : (offset size : ℕ) (pages : List ℕ) → offset < 4096 → list_all is_page pages ≡ true → length pages ≡ page_count offset size →
     bytes_in (pieces_from pages offset size) ≡ size
@@ -132,14 +132,14 @@ chained-size number param = record {
             rw (← same)
             (pages-size (param.p % 4096) param.q pages (omega arith) good.all many, pieces-in_ram pages (param.p % 4096) param.q (rw good.all refl))
 
-limited-size : (number : ℕ) (param : MsgParam) (located : Attempt (List Piece)) → HaveSize located param.q → HaveSize (within_limit number param located) param.q
-limited-size number param located h = choice-size (nat_lt 65536 param.q) _ _ param.q (λ _. refusal-size _ param.q) (λ _. h)
+limited-size : (number : ℕ) (param : MsgParam) (located : Attempt CopyFault (List Piece)) → HaveSize located param.q → HaveSize (within_limit number param located) param.q
+limited-size number param located h = choice-size (nat_lt 65536 param.q) _ _ param.q (λ _. refuses-size _ param.q) (λ _. h)
 
 pub tmem-size : (number : ℕ) (param : MsgParam) → HaveSize (tmem_pieces number param) (tmem_size param)
 tmem-size number param = elim (truth param.noncontig) [
   | inl chained ↦ rw chained (limited-size number param (chained_pieces number param) (chained-size number param))
   | inr contiguous ↦ elim (truth (param.p == 0)) [
-    | inl null ↦ rw (contiguous, null) (success-size [] 0 refl tt)
+    | inl null ↦ rw (contiguous, null) (passes-size [] 0 refl tt)
     | inr named ↦ rw (contiguous, named) (limited-size number param (contiguous_pieces number param) (contiguous-size number param))
   ]
 ]

@@ -9,6 +9,7 @@ use Rattle.base.specs.NumberMap.{NumberMap}
 use Rattle.msg_args.specs.declared.param.MsgParam.{MsgParam}
 use Rattle.ns_ram.specs.declared.read.Read.{Read}
 use Rattle.ns_ram.specs.Pages.{AppendsReads}
+use Rattle.ns_ram.specs.Attempt.{Attempt, passes, after_pass, ◌>>=◌}
 use Rattle.ns_ram.specs.Reader.{over_lane}
 use Rattle.ns_ram.proofs.PageWalk.{AppendsReads-step}
 use Rattle.ns_ram.proofs.ReaderLaws.{over_lane-bind}
@@ -18,7 +19,6 @@ use Rattle.param_copy.specs.declared.copied.Place.{Place}
 use Rattle.param_copy.specs.declared.fault.CopyFault.{CopyFault}
 use Rattle.param_copy.specs.declared.taken.CopiedParam.{CopiedParam}
 use Rattle.param_copy.specs.declared.taken.TakenParams.{TakenParams}
-use Rattle.param_copy.specs.Attempt.{Attempt, success, after_success, ◌>>=◌}
 use Rattle.param_copy.specs.Copying.{Copies, copied_param, copied_params, cookie_list, copies, copying, four}
 use Rattle.param_copy.specs.Outcome.{copies_in}
 use Rattle.param_copy.specs.Places.{ArePlaced, AreInPlace, AreNumbered, IsPlaced, IsWithinLimit}
@@ -28,15 +28,15 @@ use Rattle.param_copy.proofs.Appended.{AppendsReads-none}
 use Rattle.param_copy.proofs.Attempts.{attempt-onward, attempt-refused}
 
 -- the parameters from this number on, behind those that are copied
-abbrev pub from_here : NumberMap PageBuffer → ℕ → List MsgParam → List CopiedParam → Attempt Copies
-from_here buffers number rest all = copied_params buffers number rest >>= (λ others. success (copies (all ++ others)))
+abbrev pub from_here : NumberMap PageBuffer → ℕ → List MsgParam → List CopiedParam → Attempt CopyFault Copies
+from_here buffers number rest all = copied_params buffers number rest >>= (λ others. passes (copies (all ++ others)))
 
 -- what the rest gives, behind one more
 abbrev ended : List CopiedParam → Option (Result (List CopiedParam) CopyFault × List Read) → Option (Result Copies CopyFault × List Read)
-ended all o = option_and_then (λ step. over_lane (after_success (λ others. success (copies (all ++ others))) step.0) [] step.1) o
+ended all o = option_and_then (λ step. over_lane (after_pass (λ others. passes (copies (all ++ others))) step.0) [] step.1) o
 
 abbrev joined : CopiedParam → Option (Result (List CopiedParam) CopyFault × List Read) → Option (Result (List CopiedParam) CopyFault × List Read)
-joined copy o = option_and_then (λ step. over_lane (after_success (λ others. success (copy ∷ others)) step.0) [] step.1) o
+joined copy o = option_and_then (λ step. over_lane (after_pass (λ others. passes (copy ∷ others)) step.0) [] step.1) o
 
 ended-joined : (all : List CopiedParam) (copy : CopiedParam) (o : Option (Result (List CopiedParam) CopyFault × List Read)) →
     ended all (joined copy o) ≡ ended (all ++ copy ∷ []) o
@@ -47,23 +47,23 @@ ended-joined all copy (Some (Ok others, reads)) = rw (append_assoc all (copy ∷
 from_here-is : (buffers : NumberMap PageBuffer) (number : ℕ) (rest : List MsgParam) (all : List CopiedParam) (lane : List ℕ) (reads : List Read) →
     over_lane (from_here buffers number rest all) lane reads ≡ ended all (over_lane (copied_params buffers number rest) lane reads)
 from_here-is buffers number rest all lane reads =
-    over_lane-bind (copied_params buffers number rest) (after_success (λ others. success (copies (all ++ others)))) lane reads
+    over_lane-bind (copied_params buffers number rest) (after_pass (λ others. passes (copies (all ++ others)))) lane reads
     ∙ same_end (over_lane (copied_params buffers number rest) lane reads)
   where
     same_end : (o : Option (Result (List CopiedParam) CopyFault × List Read)) →
-        option_and_then (λ step. over_lane (after_success (λ others. success (copies (all ++ others))) step.0) lane step.1) o ≡ ended all o
+        option_and_then (λ step. over_lane (after_pass (λ others. passes (copies (all ++ others))) step.0) lane step.1) o ≡ ended all o
     same_end None = refl
     same_end (Some (Err fault, left)) = refl
     same_end (Some (Ok others, left)) = refl
 
 joined-is : (buffers : NumberMap PageBuffer) (number : ℕ) (rest : List MsgParam) (copy : CopiedParam) (lane : List ℕ) (reads : List Read) →
-    over_lane (copied_params buffers number rest >>= (λ others. success (copy ∷ others))) lane reads ≡ joined copy (over_lane (copied_params buffers number rest) lane reads)
+    over_lane (copied_params buffers number rest >>= (λ others. passes (copy ∷ others))) lane reads ≡ joined copy (over_lane (copied_params buffers number rest) lane reads)
 joined-is buffers number rest copy lane reads =
-    over_lane-bind (copied_params buffers number rest) (after_success (λ others. success (copy ∷ others))) lane reads
+    over_lane-bind (copied_params buffers number rest) (after_pass (λ others. passes (copy ∷ others))) lane reads
     ∙ same_end (over_lane (copied_params buffers number rest) lane reads)
   where
     same_end : (o : Option (Result (List CopiedParam) CopyFault × List Read)) →
-        option_and_then (λ step. over_lane (after_success (λ others. success (copy ∷ others)) step.0) lane step.1) o ≡ joined copy o
+        option_and_then (λ step. over_lane (after_pass (λ others. passes (copy ∷ others)) step.0) lane step.1) o ≡ joined copy o
     same_end None = refl
     same_end (Some (Err fault, left)) = refl
     same_end (Some (Ok others, left)) = refl

@@ -6,6 +6,7 @@ use Rattle.base.specs.NumberMap.{NumberMap}
 use Rattle.msg_args.specs.declared.kind.ParamKind.{ParamKind}
 use Rattle.msg_args.specs.declared.kind.ParamKind.TheVariants.{Empty as NoParam, ValueIn, ValueOut, ValueInout, RmemIn, RmemOut, RmemInout, TmemIn, TmemOut, TmemInout}
 use Rattle.msg_args.specs.declared.param.MsgParam.{MsgParam}
+use Rattle.ns_ram.specs.Attempt.{Attempt, passes, read, ◌>>=◌}
 use Rattle.ns_ram.specs.Reader.{Reader, done}
 use Rattle.shm_registry.specs.declared.page_buffer.PageBuffer.{PageBuffer}
 use Rattle.shm_registry.specs.declared.piece.Piece.{Piece}
@@ -15,14 +16,14 @@ use Rattle.ta_params.specs.declared.copied_params.GpParam.{GpParam}
 use Rattle.ta_params.specs.declared.copied_params.GpParam.TheVariants.{Empty, Value, Memref}
 use Rattle.ta_params.specs.declared.copied_params.CopiedParams.{CopiedParams}
 use Rattle.param_copy.specs.declared.copied.Place.{Place}
+use Rattle.param_copy.specs.declared.fault.CopyFault.{CopyFault}
 use Rattle.param_copy.specs.declared.taken.CopiedParam.{CopiedParam}
-use Rattle.param_copy.specs.Attempt.{Attempt, success, faultless, ◌>>=◌}
 use Rattle.param_copy.specs.Memory.{rmem_pieces, tmem_pieces, take_pieces, zeros_for}
 
 -- no memory
-abbrev pub without_memory : ℕ → GpParam → Attempt CopiedParam
+abbrev pub without_memory : ℕ → GpParam → Attempt CopyFault CopiedParam
 without_memory number param =
-    success (record { param = param; place = record { number = number; pieces = [] }; cookie = None })
+    passes (record { param = param; place = record { number = number; pieces = [] }; cookie = None })
 
 -- a value has the low 32 bits of p and q
 abbrev pub value_in : Way → MsgParam → GpParam
@@ -35,13 +36,13 @@ bytes_of In pieces = take_pieces pieces
 bytes_of Inout pieces = take_pieces pieces
 
 -- memory in these pieces
-abbrev pub memory : ℕ → Way → Option ℕ → Attempt (List Piece) → Attempt CopiedParam
+abbrev pub memory : ℕ → Way → Option ℕ → Attempt CopyFault (List Piece) → Attempt CopyFault CopiedParam
 memory number way cookie located = do
   pieces ← located
-  bytes ← faultless (bytes_of way pieces)
-  success (record { param = Memref way bytes (length bytes); place = record { number = number; pieces = pieces }; cookie = cookie })
+  bytes ← read (bytes_of way pieces)
+  passes (record { param = Memref way bytes (length bytes); place = record { number = number; pieces = pieces }; cookie = cookie })
 
-abbrev pub copied_as : ParamKind → NumberMap PageBuffer → ℕ → MsgParam → Attempt CopiedParam
+abbrev pub copied_as : ParamKind → NumberMap PageBuffer → ℕ → MsgParam → Attempt CopyFault CopiedParam
 copied_as NoParam buffers number param = without_memory number Empty
 copied_as ValueIn buffers number param = without_memory number (value_in In param)
 copied_as ValueOut buffers number param = without_memory number (Value Out 0 0)
@@ -54,16 +55,16 @@ copied_as TmemOut buffers number param = memory number Out None (tmem_pieces num
 copied_as TmemInout buffers number param = memory number Inout None (tmem_pieces number param)
 
 -- the parameter of this number in the argument
-abbrev pub copied_param : NumberMap PageBuffer → ℕ → MsgParam → Attempt CopiedParam
+abbrev pub copied_param : NumberMap PageBuffer → ℕ → MsgParam → Attempt CopyFault CopiedParam
 copied_param buffers number param = copied_as param.kind buffers number param
 
 -- one parameter after the other, from this number on
-abbrev pub copied_params : NumberMap PageBuffer → ℕ → List MsgParam → Attempt (List CopiedParam)
-copied_params buffers number [] = success []
+abbrev pub copied_params : NumberMap PageBuffer → ℕ → List MsgParam → Attempt CopyFault (List CopiedParam)
+copied_params buffers number [] = passes []
 copied_params buffers number (param ∷ params) = do
   copy ← copied_param buffers number param
   others ← copied_params buffers (suc number) params
-  success (copy ∷ others)
+  passes (copy ∷ others)
 
 -- four parameters, of which the last are empty where there are fewer
 abbrev pub param_or_empty : List GpParam → GpParam
@@ -104,7 +105,7 @@ copies all =
     }
 
 -- the parameters of a call, of which the first has this number in the argument; or the first fault
-abbrev pub copying : NumberMap PageBuffer → List MsgParam → ℕ → Attempt Copies
+abbrev pub copying : NumberMap PageBuffer → List MsgParam → ℕ → Attempt CopyFault Copies
 copying buffers params first = do
   all ← copied_params buffers first params
-  success (copies all)
+  passes (copies all)

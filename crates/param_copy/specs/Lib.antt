@@ -1,4 +1,3 @@
-pub mod Attempt
 pub mod Copying
 pub mod Examples
 pub mod Memory

@@ -7,6 +7,7 @@ use Rattle.std.specs.Option.{option_map_or}
 use Rattle.base.specs.NumberMap.{NumberMap, get}
 use Rattle.msg_args.specs.declared.param.MsgParam.{MsgParam}
 use Rattle.ns_ram.specs.declared.pages.TheConstants.{PAGE_BYTES}
+use Rattle.ns_ram.specs.Attempt.{Attempt, passes, refuses}
 use Rattle.ns_ram.specs.Lane.{is_in_ram}
 use Rattle.ns_ram.specs.Pages.{Walk, walk}
 use Rattle.ns_ram.specs.declared.read.Read.{Read}
@@ -15,8 +16,8 @@ use Rattle.shm_registry.specs.declared.page_buffer.PageBuffer.{PageBuffer}
 use Rattle.shm_registry.specs.declared.piece.Piece.{Piece}
 use Rattle.shm_registry.specs.Pieces.{IsPieceOfRam, page_count, pieces_from}
 use Rattle.param_copy.specs.declared.copied.TheConstants.{MAX_MEMREF_BYTES}
+use Rattle.param_copy.specs.declared.fault.CopyFault.{CopyFault}
 use Rattle.param_copy.specs.declared.fault.CopyFault.TheVariants.{TooLong, Cookie, Range, Page}
-use Rattle.param_copy.specs.Attempt.{Attempt, success, refusal}
 
 -- how many bytes the pieces have together
 abbrev pub bytes_in : List Piece → ℕ
@@ -30,27 +31,27 @@ one_piece addr zero = []
 one_piece addr (suc more) = record { addr = addr; len = suc more } ∷ []
 
 -- of a registered buffer: p is the offset, q the size, s the cookie
-abbrev pub part_of_buffer : ℕ → MsgParam → PageBuffer → Attempt (List Piece)
+abbrev pub part_of_buffer : ℕ → MsgParam → PageBuffer → Attempt CopyFault (List Piece)
 part_of_buffer number param buffer =
-    if nat_lt buffer.size (param.p + param.q) then refusal (Range number)
-    else success (pieces_from buffer.pages (buffer.offset + param.p) param.q)
+    if nat_lt buffer.size (param.p + param.q) then refuses (Range number)
+    else passes (pieces_from buffer.pages (buffer.offset + param.p) param.q)
 
-abbrev pub registered_pieces : NumberMap PageBuffer → ℕ → MsgParam → Attempt (List Piece)
+abbrev pub registered_pieces : NumberMap PageBuffer → ℕ → MsgParam → Attempt CopyFault (List Piece)
 registered_pieces buffers number param =
-    option_map_or (part_of_buffer number param) (get buffers param.s) (refusal (Cookie number))
+    option_map_or (part_of_buffer number param) (get buffers param.s) (refuses (Cookie number))
 
 -- at an address: p is the address, q the size
-abbrev pub contiguous_pieces : ℕ → MsgParam → Attempt (List Piece)
+abbrev pub contiguous_pieces : ℕ → MsgParam → Attempt CopyFault (List Piece)
 contiguous_pieces number param =
-    if is_in_ram param.p param.q then success (one_piece param.p param.q) else refusal (Range number)
+    if is_in_ram param.p param.q then passes (one_piece param.p param.q) else refuses (Range number)
 
 -- in the pages of a chain of lists: the low twelve bits of p are the offset in the first page, the rest is
 -- the address of the first list, and q is the size
-abbrev pub cut_at_pages : ℕ → MsgParam → Walk → Attempt (List Piece)
-cut_at_pages number param (Ok pages) = success (pieces_from pages (param.p % PAGE_BYTES) param.q)
-cut_at_pages number param (Err page) = refusal (Page number page)
+abbrev pub cut_at_pages : ℕ → MsgParam → Walk → Attempt CopyFault (List Piece)
+cut_at_pages number param (Ok pages) = passes (pieces_from pages (param.p % PAGE_BYTES) param.q)
+cut_at_pages number param (Err page) = refuses (Page number page)
 
-abbrev pub chained_pieces : ℕ → MsgParam → Attempt (List Piece)
+abbrev pub chained_pieces : ℕ → MsgParam → Attempt CopyFault (List Piece)
 chained_pieces number param =
     let offset = param.p % PAGE_BYTES in
     walk (param.p - offset) (page_count offset param.q) >>= cut_at_pages number param
@@ -58,19 +59,19 @@ chained_pieces number param =
 -- ---- the first fault
 
 -- those pieces, unless the size is above the limit
-abbrev pub within_limit : ℕ → MsgParam → Attempt (List Piece) → Attempt (List Piece)
-within_limit number param pieces = if nat_lt MAX_MEMREF_BYTES param.q then refusal (TooLong number) else pieces
+abbrev pub within_limit : ℕ → MsgParam → Attempt CopyFault (List Piece) → Attempt CopyFault (List Piece)
+within_limit number param pieces = if nat_lt MAX_MEMREF_BYTES param.q then refuses (TooLong number) else pieces
 
 -- registered memory
-abbrev pub rmem_pieces : NumberMap PageBuffer → ℕ → MsgParam → Attempt (List Piece)
+abbrev pub rmem_pieces : NumberMap PageBuffer → ℕ → MsgParam → Attempt CopyFault (List Piece)
 rmem_pieces buffers number param = within_limit number param (registered_pieces buffers number param)
 
 -- memory named by address. The null reference, an address of 0 without NONCONTIG, has no bytes whatever its
 -- size says
-abbrev pub tmem_pieces : ℕ → MsgParam → Attempt (List Piece)
+abbrev pub tmem_pieces : ℕ → MsgParam → Attempt CopyFault (List Piece)
 tmem_pieces number param =
     let contiguous = within_limit number param (contiguous_pieces number param) in
-    let named = if param.p == 0 then success [] else contiguous in
+    let named = if param.p == 0 then passes [] else contiguous in
     if param.noncontig then within_limit number param (chained_pieces number param) else named
 
 -- ---- the sizes
@@ -80,7 +81,7 @@ abbrev pub tmem_size : MsgParam → ℕ
 tmem_size param = if not param.noncontig && (param.p == 0) then 0 else param.q
 
 -- the pieces that are found lie in RAM, and their lengths sum to the size
-pub record HaveSize (located : Attempt (List Piece)) (size : ℕ) : Type 0 where
+pub record HaveSize (located : Attempt CopyFault (List Piece)) (size : ℕ) : Type 0 where
   pub sum : (lane : List ℕ) (before after : List Read) (pieces : List Piece) →
       over_lane located lane before ≡ Some (Ok pieces, after) → bytes_in pieces ≡ size
   pub in_ram : (lane : List ℕ) (before after : List Read) (pieces : List Piece) →

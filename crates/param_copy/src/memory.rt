@@ -2,10 +2,10 @@
 
 ghost use Rattle.std.specs.Prelude.{◌≡◌, ◌+◌, ◌<◌, ◌≤◌, [], ◌++◌, length, IfOk, IfErr, OnErr, Some, Ok, Err};
 ghost use Rattle.std.specs.List.{AllByRecursion};
+ghost use Rattle.ns_ram.specs.Attempt.{passes, refuses};
 ghost use Rattle.ns_ram.specs.Pages.{AppendsReads};
 ghost use Rattle.ns_ram.specs.Reader.{over_lane};
 ghost use Rattle.shm_registry.specs.Pieces.{IsPieceOfRam, page_count};
-ghost use Rattle.param_copy.specs.Attempt.{success, refusal};
 ghost use Rattle.param_copy.specs.Copying.{bytes_of};
 ghost use Rattle.param_copy.specs.Memory.{bytes_in, chained_pieces, contiguous_pieces, one_piece, rmem_pieces, take_pieces, tmem_pieces, zeros_for};
 ghost use Rattle.param_copy.specs.Outcome.{UnlessMemory};
@@ -39,9 +39,9 @@ pub(crate) fn rmem_pieces(
     param: &MsgParam,
 ) -> Result<Vec<Piece>, CopyFault>
     ensures ok { IfOk result (λ pieces.
-        rmem_pieces registry.now.buffers number param.now ≡ success pieces.items) }
+        rmem_pieces registry.now.buffers number param.now ≡ passes pieces.items) }
     ensures faulty { IfErr result (λ fault. UnlessMemory fault
-        (rmem_pieces registry.now.buffers number param.now ≡ refusal fault)) }
+        (rmem_pieces registry.now.buffers number param.now ≡ refuses fault)) }
     ensures in_ram { IfOk result (λ pieces. AllByRecursion IsPieceOfRam pieces.items) }
     ensures few { IfOk result (λ pieces. bytes_in pieces.items ≤ MAX_MEMREF_BYTES) }
 {
@@ -85,9 +85,9 @@ pub(crate) fn tmem_pieces(
 fn contiguous_pieces(alloc: Global, number: u8, param: &MsgParam) -> Result<Vec<Piece>, CopyFault>
     requires { param.now.q ≤ MAX_MEMREF_BYTES }
     ensures ok { IfOk result (λ pieces.
-        contiguous_pieces number param.now ≡ success pieces.items) }
+        contiguous_pieces number param.now ≡ passes pieces.items) }
     ensures faulty { IfErr result (λ fault. UnlessMemory fault
-        (contiguous_pieces number param.now ≡ refusal fault)) }
+        (contiguous_pieces number param.now ≡ refuses fault)) }
     ensures in_ram { IfOk result (λ pieces. AllByRecursion IsPieceOfRam pieces.items) }
     ensures few { IfOk result (λ pieces. bytes_in pieces.items ≤ MAX_MEMREF_BYTES) }
 {
