@@ -9,11 +9,11 @@ use Rattle.ta_step.specs.Outcome.{asking}
 use Rattle.ta_step.specs.State.{State, is_cancelled}
 use Rattle.ta_step.specs.SystemCalls.{answered}
 use Rattle.tee_storage.specs.declared.handle.Handle.{Handle}
-use Rattle.job_model.specs.Asking.{Asked, Asking, Needs, Gives, Bad, Ask, ask}
+use Rattle.job_model.specs.Asking.{PendingRequest, Asking, Needs, Gives, Bad, Ask, ask}
 use Rattle.ta_step.specs.Step.{step}
-use Rattle.job_model.specs.Point.{Point}
-use Rattle.job_model.specs.Job.{Body, Machine, Native, Nothing, Job, at_point}
-use Rattle.job_model.specs.Steps.{with_machine, on_from, with_bytes, made, JobStop, Advance, Goes, Stops, returned, still_to_come, followed, advanced, advance_of, advance, where_it_goes, after, ended_at_once, stop_behind, stop_at, After, Stop, Grant, Left, Stopped, one_later, granted_behind, run_for, granted, IsGrant}
+use Rattle.job_model.specs.declared.entry_point.EntryPoint.{EntryPoint}
+use Rattle.job_model.specs.Job.{Body, Machine, Native, Nothing, Job, image_job_at}
+use Rattle.job_model.specs.Steps.{with_machine, on_from, with_bytes, new_request, JobStop, Advance, Goes, Stops, job_after_return, still_to_come, on_to_next, advance_by, advance_of, advance, where_it_goes, after, stop_at_once, stop_behind, stop_at, After, Stop, Grant, Left, Stopped, one_later, grant_behind, run_for, grant_of, IsGrant}
 use Rattle.std.specs.Prelude.{List, [], ◌∷◌}
 
 after_advance : (m n : ℕ) (o : Option Advance) → ((job : Job) → after (m + n) job ≡ option_and_then (after n) (after m job))
@@ -44,7 +44,7 @@ stop_at-sum job left (suc m) n h =
 
 -- a job that has ended at once has no step
 at_once : (job : Job) (body : Body) (rest : Advance → Option JobStop) (first second : JobStop)
-    → ended_at_once job body ≡ Some first → option_and_then rest (advance_of job body) ≡ Some second → ⊥
+    → stop_at_once job body ≡ Some first → option_and_then rest (advance_of job body) ≡ Some second → ⊥
 at_once job (Machine image point machine) rest first second e f = cc
 at_once job (Native relation func) rest first second e f = cc
 at_once job Nothing rest first second e f = cc
@@ -71,15 +71,15 @@ one_stop job (suc m) (suc n) first second e f = later_stops m n (advance job) fi
 
 -- ---- grants
 
-followed_runs : (job next : Job) (image : Image) (point : Point) (machine : State) (points : List Point)
-    → followed job image point machine points ≡ Goes next → stop_at 0 next ≡ None
+followed_runs : (job next : Job) (image : Image) (point : EntryPoint) (machine : State) (points : List EntryPoint)
+    → on_to_next job image point machine points ≡ Goes next → stop_at 0 next ≡ None
 followed_runs job next image point machine [] e = absurd cc
 followed_runs job next image point machine (first ∷ behind) e =
-    let mid : Job = at_point image machine.memory machine.cancelled job first behind in
+    let mid : Job = image_job_at image machine.memory machine.cancelled job first behind in
     let same : mid ≡ next = cc in
     ap (λ (j : Job). stop_at 0 j) (sym same)
 
-on_from_runs : (job next : Job) (image : Image) (point : Point) (machine : State) (asked : Asked) (objects : NumberMap Handle) (came : Asking)
+on_from_runs : (job next : Job) (image : Image) (point : EntryPoint) (machine : State) (asked : PendingRequest) (objects : NumberMap Handle) (came : Asking)
     → on_from job image point machine asked objects came ≡ Goes next → stop_at 0 next ≡ None
 on_from_runs job next image point machine asked objects (Needs wanted payload) e = absurd cc
 on_from_runs job next image point machine asked objects (Gives r0 r1 r2) e =
@@ -88,25 +88,25 @@ on_from_runs job next image point machine asked objects (Gives r0 r1 r2) e =
     ap (λ (j : Job). stop_at 0 j) (sym same)
 on_from_runs job next image point machine asked objects (Bad code) e = absurd cc
 
-served_runs : (job next : Job) (image : Image) (point : Point) (machine : State) (asked : Asked) (came : Option Ask)
+served_runs : (job next : Job) (image : Image) (point : EntryPoint) (machine : State) (asked : PendingRequest) (came : Option Ask)
     → option_map (λ (c : Ask). on_from job image point (with_bytes machine asked.request c.range) asked c.objects c.next) came ≡ Some (Goes next)
     → stop_at 0 next ≡ None
 served_runs job next image point machine asked None e = absurd cc
 served_runs job next image point machine asked (Some came) e =
     on_from_runs job next image point (with_bytes machine asked.request came.range) asked came.objects came.next cc
 
-advanced_runs : (job next : Job) (image : Image) (point : Point) (machine : State) (o : Option Outcome)
-    → option_and_then (advanced job image point machine) o ≡ Some (Goes next) → stop_at 0 next ≡ None
+advanced_runs : (job next : Job) (image : Image) (point : EntryPoint) (machine : State) (o : Option Outcome)
+    → option_and_then (advance_by job image point machine) o ≡ Some (Goes next) → stop_at 0 next ≡ None
 advanced_runs job next image point machine None e = absurd cc
 advanced_runs job next image point machine (Some (outcome.Goes state)) e =
     let mid : Job = record job { body = Machine image point state } in
     let same : mid ≡ next = cc in
     ap (λ (j : Job). stop_at 0 j) (sym same)
 advanced_runs job next image point machine (Some (outcome.Returns r0 r1)) e =
-    followed_runs (returned job point machine.params r0 r1) next image point machine (still_to_come point r0 job.points) cc
+    followed_runs (job_after_return job point machine.params r0 r1) next image point machine (still_to_come point r0 job.points) cc
 advanced_runs job next image point machine (Some (outcome.Panics code)) e = absurd cc
 advanced_runs job next image point machine (Some (outcome.Asks request)) e =
-    let asked : Asked = made job machine request in
+    let asked : PendingRequest = new_request job machine request in
     served_runs job next image point (asking request machine) asked (ask job.uuid (is_cancelled (asking request machine)) asked) e
 
 -- a job that goes on has something to run
@@ -140,7 +140,7 @@ some_grant n job next (Some g) grant first e is h =
 
 granted_advance : (n : ℕ) (job : Job) (o : Option Advance) (grant : Grant) → stop_at 0 job ≡ None → advance job ≡ o
     → ((next : Job) (g : Grant) → stop_at 0 next ≡ None → run_for n next ≡ Some g → IsGrant next n g)
-    → option_and_then (granted_behind (run_for n)) o ≡ Some grant → IsGrant job (suc n) grant
+    → option_and_then (grant_behind (run_for n)) o ≡ Some grant → IsGrant job (suc n) grant
 granted_advance n job None grant first e is h = absurd cc
 granted_advance n job (Some (Goes next)) grant first e is h =
     some_grant n job next (run_for n next) grant first e (λ g. is next g (advance_runs job next job.body e)) h
@@ -170,5 +170,5 @@ granted_at_once n job (Some why) grant first h =
     let same : here ≡ grant = cc in
     subst (λ (other : Grant). IsGrant job n other) same (omega arith, first)
 
-pub granted-IsGrant : (job : Job) (n : ℕ) (grant : Grant) → granted n job ≡ Some grant → IsGrant job n grant
+pub granted-IsGrant : (job : Job) (n : ℕ) (grant : Grant) → grant_of n job ≡ Some grant → IsGrant job n grant
 granted-IsGrant job n grant h = granted_at_once n job (stop_at 0 job) grant refl h

@@ -21,10 +21,10 @@ use Rattle.tee_storage.specs.declared.step.StorageStep.TheVariants as storage
 use Rattle.tee_storage.specs.ObjectCalls.{program_of, serving, shown}
 use Rattle.tee_storage.specs.Program as program
 use Rattle.tee_storage.specs.Program.{Program, now_at, after, after_one}
-use Rattle.job_model.specs.Asking.{Asked, Asking, Needs, Gives, Bad, Ask, ask, comes_to, object_ask, unchanged, asks_time, asks_wait, told_time}
-use Rattle.job_model.specs.Job.{Body, Machine, Native, Nothing, Job, seen_in}
-use Rattle.job_model.specs.Point.{Point}
-use Rattle.job_model.specs.Steps.{JobStop, Asks, Advance, Goes, Stops, Stop, with_machine, on_from, with_bytes, made, answered_in, given, returned, followed, still_to_come, advanced, advance_of, advance, ended_at_once, stop_behind, stop_at}
+use Rattle.job_model.specs.Asking.{PendingRequest, Asking, Needs, Gives, Bad, Ask, ask, comes_to, object_ask, ask_unchanged, asks_time, asks_wait, told_time}
+use Rattle.job_model.specs.Job.{Body, Machine, Native, Nothing, Job, body_with_cancel_seen}
+use Rattle.job_model.specs.declared.entry_point.EntryPoint.{EntryPoint}
+use Rattle.job_model.specs.Steps.{JobStop, Asks, Advance, Goes, Stops, Stop, with_machine, on_from, with_bytes, new_request, advance_on_answer_in, advance_on_answer, job_after_return, on_to_next, still_to_come, advance_by, advance_of, advance, stop_at_once, stop_behind, stop_at}
 use Rattle.job_model.specs.Taken.{IsNeeded, IsNeededBy, IsUnanswered, HasMachine, WaitsForAnswer, IsTaken, AnswersAreTaken}
 use Rattle.job_model.proofs.Programs.{ComesToResult, IsCalm, after-append, left-calm}
 
@@ -41,13 +41,13 @@ ComesOn None = ⊥
 ComesOn (Some came) = IsNeededOrGiven came.next
 
 -- the request is needed whether the call is cancelled or not
-wait_either : (asked : Asked) (ms : ℕ) (one other : Bool) (answers : List RpcAnswer)
-    → IsNeededBy (option_map (unchanged asked) (asks_wait ms one answers)) → IsNeededBy (option_map (unchanged asked) (asks_wait ms other answers))
+wait_either : (asked : PendingRequest) (ms : ℕ) (one other : Bool) (answers : List RpcAnswer)
+    → IsNeededBy (option_map (ask_unchanged asked) (asks_wait ms one answers)) → IsNeededBy (option_map (ask_unchanged asked) (asks_wait ms other answers))
 wait_either asked ms one other [] needed = tt
 wait_either asked ms one other (answer ∷ []) needed = absurd needed
 wait_either asked ms one other (answer ∷ another ∷ more) needed = absurd needed
 
-needed_either : (uuid : List ℕ) (asked : Asked) (wanted : Request) (one other : Bool) → IsNeededBy (comes_to uuid one asked wanted) → IsNeededBy (comes_to uuid other asked wanted)
+needed_either : (uuid : List ℕ) (asked : PendingRequest) (wanted : Request) (one other : Bool) → IsNeededBy (comes_to uuid one asked wanted) → IsNeededBy (comes_to uuid other asked wanted)
 needed_either uuid asked request.Time one other needed = needed
 needed_either uuid asked (request.Suspend ms) one other needed = wait_either asked ms one other asked.answers needed
 needed_either uuid asked (request.Object call) one other needed = needed
@@ -66,8 +66,8 @@ not_needed_time : (reply : RpcReply) → IsNeeded (told_time reply) → ⊥
 not_needed_time reply needed =
     not_needed_if (reply.ret == 0) TEE_SUCCESS (reply.v % 2 ^ 32) ((reply.w % 2 ^ 32) / 1000000) TEE_ERROR_GENERIC 0 0 needed
 
-time_on : (asked : Asked) (answers : List RpcAnswer) (answer : RpcAnswer) → IsNeededBy (option_map (unchanged asked) (asks_time answers))
-    → ComesOn (option_map (unchanged asked) (asks_time (answers ++ answer ∷ [])))
+time_on : (asked : PendingRequest) (answers : List RpcAnswer) (answer : RpcAnswer) → IsNeededBy (option_map (ask_unchanged asked) (asks_time answers))
+    → ComesOn (option_map (ask_unchanged asked) (asks_time (answers ++ answer ∷ [])))
 time_on asked [] (Replied reply) needed =
     given_if (reply.ret == 0) TEE_SUCCESS (reply.v % 2 ^ 32) ((reply.w % 2 ^ 32) / 1000000) TEE_ERROR_GENERIC 0 0
 time_on asked [] NoBuffer needed = tt
@@ -76,9 +76,9 @@ time_on asked (NoBuffer ∷ []) answer needed = absurd needed
 time_on asked (Replied reply ∷ another ∷ more) answer needed = absurd needed
 time_on asked (NoBuffer ∷ another ∷ more) answer needed = absurd needed
 
-wait_on : (asked : Asked) (ms : ℕ) (cancelled : Bool) (answers : List RpcAnswer) (answer : RpcAnswer)
-    → IsNeededBy (option_map (unchanged asked) (asks_wait ms cancelled answers))
-    → ComesOn (option_map (unchanged asked) (asks_wait ms cancelled (answers ++ answer ∷ [])))
+wait_on : (asked : PendingRequest) (ms : ℕ) (cancelled : Bool) (answers : List RpcAnswer) (answer : RpcAnswer)
+    → IsNeededBy (option_map (ask_unchanged asked) (asks_wait ms cancelled answers))
+    → ComesOn (option_map (ask_unchanged asked) (asks_wait ms cancelled (answers ++ answer ∷ [])))
 wait_on asked ms cancelled [] answer needed = tt
 wait_on asked ms cancelled (first ∷ []) answer needed = absurd needed
 wait_on asked ms cancelled (first ∷ another ∷ more) answer needed = absurd needed
@@ -112,7 +112,7 @@ call_on call uuid range objects answers answer needed =
     let comes = object_on so_far answer (λ p is. left-calm call uuid (now_at range objects) answers p is) needed in
     subst (λ (o : Option Program). ComesOn (option_map object_ask (option_map shown o))) (sym (after-append first answers answer)) comes
 
-answer_on : (uuid : List ℕ) (cancelled : Bool) (asked : Asked) (answer : RpcAnswer) (wanted : Request)
+answer_on : (uuid : List ℕ) (cancelled : Bool) (asked : PendingRequest) (answer : RpcAnswer) (wanted : Request)
     → IsNeededBy (comes_to uuid cancelled asked wanted) → ComesOn (comes_to uuid cancelled (record asked { answers = asked.answers ++ answer ∷ [] }) wanted)
 answer_on uuid cancelled asked answer request.Time needed = time_on asked asked.answers answer needed
 answer_on uuid cancelled asked answer (request.Suspend ms) needed = wait_on asked ms cancelled asked.answers answer needed
@@ -120,39 +120,39 @@ answer_on uuid cancelled asked answer (request.Object call) needed = call_on cal
 
 -- ---- on from there
 
-on_taken : (job : Job) (image : Image) (point : Point) (machine : State) (asked : Asked) (objects : NumberMap Handle) (next : Asking)
+on_taken : (job : Job) (image : Image) (point : EntryPoint) (machine : State) (asked : PendingRequest) (objects : NumberMap Handle) (next : Asking)
     → IsNeededOrGiven next → (IsNeeded next → IsUnanswered job.uuid (Some asked)) → IsTaken (Some (on_from job image point machine asked objects next))
 on_taken job image point machine asked objects (Needs wanted payload) comes unanswered = record { machine = tt; asked = unanswered tt }
 on_taken job image point machine asked objects (Gives r0 r1 r2) comes unanswered = tt
 on_taken job image point machine asked objects (Bad code) comes unanswered = absurd comes
 
 -- a request that is needed now is needed whether the call is cancelled or not
-still_needed : (uuid : List ℕ) (asked : Asked) (cancelled : Bool) (came : Ask) → ask uuid cancelled asked ≡ Some came → IsNeeded came.next → IsUnanswered uuid (Some asked)
+still_needed : (uuid : List ℕ) (asked : PendingRequest) (cancelled : Bool) (came : Ask) → ask uuid cancelled asked ≡ Some came → IsNeeded came.next → IsUnanswered uuid (Some asked)
 still_needed uuid asked cancelled came e needed other =
     needed_either uuid asked asked.request cancelled other (subst IsNeededBy (sym e) needed)
 
-served_taken : (job : Job) (image : Image) (point : Point) (machine : State) (asked : Asked) (o : Option Ask) → ask job.uuid (is_cancelled machine) asked ≡ o → ComesOn o
+served_taken : (job : Job) (image : Image) (point : EntryPoint) (machine : State) (asked : PendingRequest) (o : Option Ask) → ask job.uuid (is_cancelled machine) asked ≡ o → ComesOn o
     → IsTaken (option_map (λ (c : Ask). on_from job image point (with_bytes machine asked.request c.range) asked c.objects c.next) o)
 served_taken job image point machine asked None e comes = absurd comes
 served_taken job image point machine asked (Some came) e comes =
     on_taken job image point (with_bytes machine asked.request came.range) asked came.objects came.next comes
     (still_needed job.uuid asked (is_cancelled machine) came e)
 
-takes_in : (job : Job) (answer : RpcAnswer) (body : Body) (asked : Option Asked) → HasMachine body → IsUnanswered job.uuid asked → IsTaken (answered_in job answer body asked)
+takes_in : (job : Job) (answer : RpcAnswer) (body : Body) (asked : Option PendingRequest) → HasMachine body → IsUnanswered job.uuid asked → IsTaken (advance_on_answer_in job answer body asked)
 takes_in job answer (Machine image point machine) None running unanswered = absurd unanswered
 takes_in job answer (Machine image point machine) (Some asked) running unanswered =
-    let more : Asked = record asked { answers = asked.answers ++ answer ∷ [] } in
+    let more : PendingRequest = record asked { answers = asked.answers ++ answer ∷ [] } in
     served_taken job image point machine more (ask job.uuid (is_cancelled machine) more) refl
     (answer_on job.uuid (is_cancelled machine) asked answer asked.request (unanswered (is_cancelled machine)))
 takes_in job answer (Native relation func) asked running unanswered = absurd running
 takes_in job answer Nothing asked running unanswered = absurd running
 
-takes_answer : (job : Job) (answer : RpcAnswer) → WaitsForAnswer job → IsTaken (given answer job)
+takes_answer : (job : Job) (answer : RpcAnswer) → WaitsForAnswer job → IsTaken (advance_on_answer answer job)
 takes_answer job answer waits = takes_in job answer job.body job.asked waits.machine waits.asked
 
 -- ---- a stop with a request
 
-asks_waits : (job left : Job) (image : Image) (point : Point) (machine : State) (asked : Asked) (objects : NumberMap Handle) (wanted : Rpc) (payload : List ℕ) (next : Asking)
+asks_waits : (job left : Job) (image : Image) (point : EntryPoint) (machine : State) (asked : PendingRequest) (objects : NumberMap Handle) (wanted : Rpc) (payload : List ℕ) (next : Asking)
     → (IsNeeded next → IsUnanswered job.uuid (Some asked)) → on_from job image point machine asked objects next ≡ Stops (Asks wanted payload left) → WaitsForAnswer left
 asks_waits job left image point machine asked objects wanted payload (Needs other bytes) unanswered e =
     let mid : Job = with_machine job image point machine objects (Some asked) in
@@ -161,7 +161,7 @@ asks_waits job left image point machine asked objects wanted payload (Needs othe
 asks_waits job left image point machine asked objects wanted payload (Gives r0 r1 r2) unanswered e = absurd cc
 asks_waits job left image point machine asked objects wanted payload (Bad code) unanswered e = absurd cc
 
-served_waits : (job left : Job) (image : Image) (point : Point) (machine : State) (asked : Asked) (wanted : Rpc) (payload : List ℕ) (o : Option Ask)
+served_waits : (job left : Job) (image : Image) (point : EntryPoint) (machine : State) (asked : PendingRequest) (wanted : Rpc) (payload : List ℕ) (o : Option Ask)
     → ask job.uuid (is_cancelled machine) asked ≡ o
     → option_map (λ (c : Ask). on_from job image point (with_bytes machine asked.request c.range) asked c.objects c.next) o ≡ Some (Stops (Asks wanted payload left))
     → WaitsForAnswer left
@@ -170,20 +170,20 @@ served_waits job left image point machine asked wanted payload (Some came) e sto
     asks_waits job left image point (with_bytes machine asked.request came.range) asked came.objects wanted payload came.next
     (still_needed job.uuid asked (is_cancelled machine) came e) cc
 
-followed_apart : (job left : Job) (image : Image) (point : Point) (machine : State) (points : List Point) (wanted : Rpc) (payload : List ℕ)
-    → followed job image point machine points ≡ Stops (Asks wanted payload left) → ⊥
+followed_apart : (job left : Job) (image : Image) (point : EntryPoint) (machine : State) (points : List EntryPoint) (wanted : Rpc) (payload : List ℕ)
+    → on_to_next job image point machine points ≡ Stops (Asks wanted payload left) → ⊥
 followed_apart job left image point machine [] wanted payload e = cc
 followed_apart job left image point machine (next ∷ behind) wanted payload e = cc
 
-outcome_waits : (job left : Job) (image : Image) (point : Point) (machine : State) (wanted : Rpc) (payload : List ℕ) (o : Option Outcome)
-    → option_and_then (advanced job image point machine) o ≡ Some (Stops (Asks wanted payload left)) → WaitsForAnswer left
+outcome_waits : (job left : Job) (image : Image) (point : EntryPoint) (machine : State) (wanted : Rpc) (payload : List ℕ) (o : Option Outcome)
+    → option_and_then (advance_by job image point machine) o ≡ Some (Stops (Asks wanted payload left)) → WaitsForAnswer left
 outcome_waits job left image point machine wanted payload None e = absurd cc
 outcome_waits job left image point machine wanted payload (Some (outcome.Goes next)) e = absurd cc
 outcome_waits job left image point machine wanted payload (Some (outcome.Returns r0 r1)) e =
-    absurd (followed_apart (returned job point machine.params r0 r1) left image point machine (still_to_come point r0 job.points) wanted payload cc)
+    absurd (followed_apart (job_after_return job point machine.params r0 r1) left image point machine (still_to_come point r0 job.points) wanted payload cc)
 outcome_waits job left image point machine wanted payload (Some (outcome.Panics code)) e = absurd cc
 outcome_waits job left image point machine wanted payload (Some (outcome.Asks asks)) e =
-    let asked : Asked = made job machine asks in
+    let asked : PendingRequest = new_request job machine asks in
     served_waits job left image point (asking asks machine) asked wanted payload (ask job.uuid (is_cancelled (asking asks machine)) asked) refl e
 
 advance_waits : (job left : Job) (body : Body) (wanted : Rpc) (payload : List ℕ) → advance_of job body ≡ Some (Stops (Asks wanted payload left)) → WaitsForAnswer left
@@ -191,7 +191,7 @@ advance_waits job left (Machine image point machine) wanted payload e = outcome_
 advance_waits job left (Native relation func) wanted payload e = absurd cc
 advance_waits job left Nothing wanted payload e = absurd cc
 
-not_at_once : (job left : Job) (body : Body) (wanted : Rpc) (payload : List ℕ) → ended_at_once job body ≡ Some (Asks wanted payload left) → ⊥
+not_at_once : (job left : Job) (body : Body) (wanted : Rpc) (payload : List ℕ) → stop_at_once job body ≡ Some (Asks wanted payload left) → ⊥
 not_at_once job left (Machine image point machine) wanted payload e = cc
 not_at_once job left (Native relation func) wanted payload e = cc
 not_at_once job left Nothing wanted payload e = cc
@@ -214,7 +214,7 @@ stop_waits job left (suc n) wanted payload stops =
 
 -- ---- a cancellation that is seen
 
-seen_machine : (body : Body) → HasMachine body → HasMachine (seen_in body)
+seen_machine : (body : Body) → HasMachine body → HasMachine (body_with_cancel_seen body)
 seen_machine (Machine image point machine) running = tt
 seen_machine (Native relation func) running = absurd running
 seen_machine Nothing running = absurd running

@@ -7,7 +7,6 @@ use Rattle.rpc_msgs.specs.Answer.{RpcAnswer, Replied, NoBuffer}
 use Rattle.rpc_msgs.specs.declared.rpc.Rpc.{Rpc}
 use Rattle.rpc_msgs.specs.declared.rpc.Rpc.TheVariants as rpc
 use Rattle.rpc_msgs.specs.declared.rpc.RpcReply.{RpcReply}
-use Rattle.ta_params.specs.declared.codes.TheConstants.{TEE_SUCCESS, TEE_ERROR_GENERIC, TEE_ERROR_CANCEL, TEE_ERROR_OUT_OF_MEMORY}
 use Rattle.ta_step.specs.Addresses.{range_at}
 use Rattle.ta_step.specs.Requests.{span_of}
 use Rattle.ta_step.specs.State.{State}
@@ -21,7 +20,7 @@ use Rattle.tee_storage.specs.ObjectCalls.{Serving, serving}
 
 -- a request on its way: the bytes of memory that it names and the open objects, as they were when the application
 -- asked, and the answers that the normal world has given since
-pub record Asked : Type 0 where
+pub record PendingRequest : Type 0 where
   pub request : Request
   pub range : List ℕ
   pub objects : NumberMap Handle
@@ -44,28 +43,28 @@ pub record Ask : Type 0 where
 
 -- ---- time and wait
 
--- seconds and milliseconds of a time that is told in seconds and nanoseconds
+-- TEE_SUCCESS with the seconds and milliseconds of a time that is told in seconds and nanoseconds, or TEE_ERROR_GENERIC
 abbrev pub told_time : RpcReply → Asking
 told_time reply =
     if reply.ret == 0
-    then Gives TEE_SUCCESS (reply.v % 2 ^ 32) ((reply.w % 2 ^ 32) / 1000000)
-    else Gives TEE_ERROR_GENERIC 0 0
+    then Gives 0 (reply.v % 2 ^ 32) ((reply.w % 2 ^ 32) / 1000000)
+    else Gives 0xffff0000 0 0
 
 abbrev pub asks_time : List RpcAnswer → Option Asking
 asks_time [] = Some (Needs rpc.Time [])
 asks_time (Replied reply ∷ []) = Some (told_time reply)
-asks_time (NoBuffer ∷ []) = Some (Gives TEE_ERROR_OUT_OF_MEMORY 0 0)
+asks_time (NoBuffer ∷ []) = Some (Gives 0xffff000c 0 0)
 asks_time (answer ∷ another ∷ more) = None
 
--- the result of a wait, which no reply changes
-abbrev pub waited : RpcAnswer → ℕ
-waited (Replied reply) = TEE_SUCCESS
-waited NoBuffer = TEE_ERROR_OUT_OF_MEMORY
+-- the result of a wait, which no reply changes: TEE_SUCCESS, or TEE_ERROR_OUT_OF_MEMORY
+abbrev pub wait_result : RpcAnswer → ℕ
+wait_result (Replied reply) = 0
+wait_result NoBuffer = 0xffff000c
 
--- a call that is cancelled by the time of the answer has waited no longer
+-- TEE_ERROR_CANCEL where the call is cancelled by the time of the answer
 abbrev pub asks_wait : ℕ → Bool → List RpcAnswer → Option Asking
 asks_wait ms cancelled [] = Some (Needs (rpc.Suspend ms) [])
-asks_wait ms cancelled (answer ∷ []) = Some (Gives (if cancelled then TEE_ERROR_CANCEL else waited answer) 0 0)
+asks_wait ms cancelled (answer ∷ []) = Some (Gives (if cancelled then 0xffff0002 else wait_result answer) 0 0)
 asks_wait ms cancelled (answer ∷ another ∷ more) = None
 
 -- ---- objects
@@ -89,16 +88,16 @@ abbrev pub range_of : Request → State → List ℕ
 range_of wanted machine = let span = span_of wanted in bytes_at machine span.0 span.1
 
 -- of a request that changes neither memory nor objects
-abbrev pub unchanged : Asked → Asking → Ask
-unchanged asked next = record { next = next; range = asked.range; objects = asked.objects }
+abbrev pub ask_unchanged : PendingRequest → Asking → Ask
+ask_unchanged asked next = record { next = next; range = asked.range; objects = asked.objects }
 
 -- what a request of this application comes to, where the call is cancelled or not by the time of the last answer;
 -- none where there are answers behind the last one that it asks for
-abbrev pub comes_to : List ℕ → Bool → Asked → Request → Option Ask
-comes_to uuid cancelled asked request.Time = option_map (unchanged asked) (asks_time asked.answers)
-comes_to uuid cancelled asked (request.Suspend ms) = option_map (unchanged asked) (asks_wait ms cancelled asked.answers)
+abbrev pub comes_to : List ℕ → Bool → PendingRequest → Request → Option Ask
+comes_to uuid cancelled asked request.Time = option_map (ask_unchanged asked) (asks_time asked.answers)
+comes_to uuid cancelled asked (request.Suspend ms) = option_map (ask_unchanged asked) (asks_wait ms cancelled asked.answers)
 comes_to uuid cancelled asked (request.Object call) =
     option_map object_ask (serving call uuid asked.range asked.objects asked.answers)
 
-abbrev pub ask : List ℕ → Bool → Asked → Option Ask
+abbrev pub ask : List ℕ → Bool → PendingRequest → Option Ask
 ask uuid cancelled asked = comes_to uuid cancelled asked asked.request

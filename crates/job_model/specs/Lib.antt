@@ -1,6 +1,7 @@
 pub mod Point
 pub mod Asking
 pub mod Job
+pub mod Beginning
 pub mod Steps
 pub mod Taken
 pub mod Examples

@@ -2,9 +2,9 @@
 use Rattle.std.specs.Prelude.{ℕ, Bool, List, Option, Some, None}
 use Rattle.rpc_msgs.specs.Answer.{RpcAnswer}
 use Rattle.rpc_msgs.specs.declared.rpc.Rpc.{Rpc}
-use Rattle.job_model.specs.Asking.{Asked, Asking, Needs, Gives, Bad, Ask, ask}
-use Rattle.job_model.specs.Job.{Body, Machine, Native, Nothing, Job, seen}
-use Rattle.job_model.specs.Steps.{Ends, Panics, Asks, Advance, Goes, Stops, Stop, given}
+use Rattle.job_model.specs.Asking.{PendingRequest, Asking, Needs, Gives, Bad, Ask, ask}
+use Rattle.job_model.specs.Job.{Body, Machine, Native, Nothing, Job, with_cancel_seen}
+use Rattle.job_model.specs.Steps.{Ends, Panics, Asks, Advance, Goes, Stops, Stop, advance_on_answer}
 
 -- a request to the normal world comes next
 abbrev pub IsNeeded : Asking → Type 0
@@ -17,7 +17,7 @@ abbrev pub IsNeededBy : Option Ask → Type 0
 IsNeededBy None = ⊥
 IsNeededBy (Some came) = IsNeeded came.next
 
-abbrev pub IsUnanswered : List ℕ → Option Asked → Type 0
+abbrev pub IsUnanswered : List ℕ → Option PendingRequest → Type 0
 IsUnanswered uuid None = ⊥
 IsUnanswered uuid (Some asked) = (cancelled : Bool) → IsNeededBy (ask uuid cancelled asked)
 
@@ -44,5 +44,5 @@ IsTaken (Some (Stops (Asks wanted payload left))) = WaitsForAnswer left
 -- each answer
 pub record AnswersAreTaken : Type 0 where
   pub stops : (job left : Job) (n : ℕ) (wanted : Rpc) (payload : List ℕ) → Stop job n (Asks wanted payload left) → WaitsForAnswer left
-  pub sees : (job : Job) → WaitsForAnswer job → WaitsForAnswer (seen job)
-  pub takes : (job : Job) (answer : RpcAnswer) → WaitsForAnswer job → IsTaken (given answer job)
+  pub sees : (job : Job) → WaitsForAnswer job → WaitsForAnswer (with_cancel_seen job)
+  pub takes : (job : Job) (answer : RpcAnswer) → WaitsForAnswer job → IsTaken (advance_on_answer answer job)

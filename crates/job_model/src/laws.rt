@@ -3,9 +3,9 @@ ghost use Rattle.std.specs.Prelude.{◌≡◌, ℕ, ◌+◌, ◌-◌, Some};
 ghost use Rattle.std.specs.Option.{option_and_then};
 ghost use Rattle.job_model.specs.Examples.{Examples};
 ghost use Rattle.job_model.specs.Job.{Job, Machine};
-ghost use Rattle.job_model.specs.Point.{Point};
+ghost use Rattle.job_model.specs.declared.entry_point.EntryPoint.{EntryPoint};
 ghost use Rattle.job_model.specs.Taken.{AnswersAreTaken};
-ghost use Rattle.job_model.specs.Steps.{After, Grant, IsGrant, JobStop, Stop, after, after_run, granted, granted_after, run_for, stop_at};
+ghost use Rattle.job_model.specs.Steps.{After, Grant, IsGrant, JobStop, Stop, after, after_run, grant_of, grant_after, run_for, stop_at};
 ghost use Rattle.ta_isa.specs.declared.image.Image.{Image as AnyImage};
 ghost use Rattle.ta_step.specs.Runs.{Ran, runs};
 ghost use Rattle.ta_step.specs.State.{State};
@@ -28,16 +28,16 @@ pub fn one_stop()
 
 /// A grant leaves the job after all of its steps where none of them stops it, and else comes to its stop.
 pub fn grants_take_on()
-    ensures { (job : Job) (n : ℕ) (grant : Grant) → granted n job ≡ Some grant → IsGrant job n grant }
+    ensures { (job : Job) (n : ℕ) (grant : Grant) → grant_of n job ≡ Some grant → IsGrant job n grant }
 {}
 
 /// A grant of steps to a job whose machine runs is a run of that machine, and then the rest of the grant to what the
 /// run leaves.
 pub fn grants_run_machines()
-    ensures { (job : Job) (image : AnyImage) (point : Point) (machine : State) (n : ℕ) (ran : Ran)
+    ensures { (job : Job) (image : AnyImage) (point : EntryPoint) (machine : State) (n : ℕ) (ran : Ran)
         → runs image.code n machine ≡ Some ran
         → run_for n (record job { body = Machine image point machine })
-        ≡ option_and_then (granted_after ran.steps (n - ran.steps)) (after_run job image point ran.state ran.stop) }
+        ≡ option_and_then (grant_after ran.steps (n - ran.steps)) (after_run job image point ran.state ran.stop) }
 {}
 
 /// A job that stops with a request waits for its answer, and takes each answer: it goes on, or asks for something

@@ -6,14 +6,12 @@
 #![tactic(auto)]
 
 mod call_kind;
+mod entry_point;
 mod laws;
-mod phase;
-mod rpc_buffer;
 
 pub use call_kind::CallKind;
+pub use entry_point::EntryPoint;
 pub use laws::{
     answers_are_taken, grants_run_machines, grants_take_on, one_stop, steps_add_up, stops_add_up,
     worked_examples,
 };
-pub use phase::Phase;
-pub use rpc_buffer::RpcBuffer;

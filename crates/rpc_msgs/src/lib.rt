@@ -21,6 +21,7 @@ mod payload;
 mod reply;
 mod request;
 mod rpc;
+mod rpc_buffer;
 #[cfg(test)]
 mod tests;
 
@@ -32,3 +33,4 @@ pub use payload::{MAX_PAYLOAD, Payload};
 pub use reply::{read_reply, take_reply};
 pub use request::{MESSAGE_BYTES, PAYLOAD_OFFSET, put_request};
 pub use rpc::{Rpc, RpcReply};
+pub use rpc_buffer::RpcBuffer;
