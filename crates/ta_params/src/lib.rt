@@ -16,9 +16,6 @@ mod object_call;
 pub use buf::Buf;
 pub use call_result::CallResult;
 pub use copied_params::{CopiedParams, GpParam, Way};
-pub use examples::worked_examples;
+pub use examples::{codes_of_the_api, worked_examples};
 pub use login::Login;
 pub use object_call::ObjectCall;
-
-#[cfg(test)]
-mod tests;
