@@ -1,4 +1,4 @@
 pub mod NumberedObjects
 pub mod Names
-pub mod Overwriting
+pub mod Gathering
 pub mod Standing

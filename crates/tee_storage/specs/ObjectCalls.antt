@@ -7,10 +7,10 @@ use Rattle.rpc_msgs.specs.Answer.{RpcAnswer}
 use Rattle.ta_params.specs.declared.object_call.ObjectCall.{ObjectCall}
 use Rattle.ta_params.specs.declared.object_call.ObjectCall.TheVariants.{Create, Opened, Read, Write, Seek, Close, Delete}
 use Rattle.tee_storage.specs.declared.handle.Handle.{Handle}
-use Rattle.tee_storage.specs.declared.step.TheConstants.{BAD_HANDLE}
 use Rattle.tee_storage.specs.declared.step.StorageStep.{StorageStep}
 use Rattle.tee_storage.specs.declared.step.StorageStep.TheVariants.{Ask, Done, Panic}
-use Rattle.tee_storage.specs.Opening.{create, open_object}
+use Rattle.tee_storage.specs.declared.opening.FileCall.TheVariants as file
+use Rattle.tee_storage.specs.Opening.{on_file}
 use Rattle.tee_storage.specs.OpenObjects.{read, write, seek, close, delete}
 use Rattle.tee_storage.specs.Program.{Now, now_at, Program, Asks, Ends, after}
 
@@ -32,8 +32,8 @@ range_len (Delete handle) = 0
 
 -- what the call of an application of this UUID does
 abbrev pub program_of : ObjectCall → List ℕ → Now → Program
-program_of (Create id len) uuid now = create uuid len now
-program_of (Opened id len) uuid now = open_object uuid len now
+program_of (Create id len) uuid now = on_file file.Create uuid len now
+program_of (Opened id len) uuid now = on_file file.Open uuid len now
 program_of (Read handle addr len) uuid now = read handle len now
 program_of (Write handle addr len) uuid now = write handle len now
 program_of (Seek handle position) uuid now = seek handle position now
@@ -62,9 +62,9 @@ panic_code (Ask rpc payload) = None
 panic_code (Done result value) = None
 panic_code (Panic code) = Some code
 
--- a call that names a handle panics exactly where no object is open of it
+-- a call that names a handle panics, with 5, exactly where no object is open of it
 abbrev pub panic_at : NumberMap Handle → ℕ → Option ℕ
-panic_at objects handle = if is_none (get objects handle) then Some BAD_HANDLE else None
+panic_at objects handle = if is_none (get objects handle) then Some 5 else None
 
 abbrev pub panic_of : ObjectCall → NumberMap Handle → Option ℕ
 panic_of (Create id len) objects = None

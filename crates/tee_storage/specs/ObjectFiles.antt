@@ -1,15 +1,13 @@
 -- The file of an object in the storage of the normal world: its name, its header, and the pieces in which its
 -- bytes are carried. This project's own.
-use Rattle.std.specs.Prelude.{ℕ, zero, suc, ◌+◌, ◌-◌, ◌/◌, ◌&&◌, nat_le, nat_lt, min, Bool, List, [], ◌∷◌, ◌++◌, drop, take, length, Option, Some, None, if◌then◌else◌}
+use Rattle.std.specs.Prelude.{ℕ, zero, suc, ◌+◌, ◌-◌, ◌/◌, ◌&&◌, nat_le, nat_lt, min, Bool, List, [], ◌∷◌, ◌++◌, drop, take, Option, Some, None, if◌then◌else◌}
 use Rattle.std.specs.Str.{bytes_eq}
 use Rattle.std.specs.Int.{w32, to_le_bytes, from_le_bytes}
 use Rattle.hex.specs.Hex.{encode_lower}
-use Rattle.rpc_msgs.specs.declared.payload.TheConstants.{MAX_PAYLOAD}
-use Rattle.tee_storage.specs.declared.object_file.TheConstants.{MAX_ID, MAX_LENGTH}
 
 -- an id may have so many bytes
 abbrev pub is_id_length : ℕ → Bool
-is_id_length len = nat_lt 0 len && nat_le len MAX_ID
+is_id_length len = nat_lt 0 len && nat_le len 64
 
 -- the application's UUID, a slash and the id, in lower-case hexadecimal digits
 abbrev pub file_name : List ℕ → List ℕ → List ℕ
@@ -27,7 +25,7 @@ header len = magic ++ to_le_bytes w32 len
 abbrev pub header_length : List ℕ → Option ℕ
 header_length bytes =
     let len = from_le_bytes w32 (drop 4 bytes) in
-    if bytes_eq (take 4 bytes) magic && nat_le len MAX_LENGTH then Some len else None
+    if bytes_eq (take 4 bytes) magic && nat_le len 32768 then Some len else None
 
 -- where an object's byte stands in its file
 abbrev pub offset_of : ℕ → ℕ
@@ -38,16 +36,16 @@ pub record Piece : Type 0 where
   pub start : ℕ
   pub len : ℕ
 
--- so many pieces, the first from a place on, of so many bytes in all
+-- so many pieces, the first from a place on, of so many bytes in all; a request carries at most 3584
 abbrev pub cut : ℕ → ℕ → ℕ → List Piece
 cut zero start total = []
 cut (suc count) start total =
-    let len = min MAX_PAYLOAD (total - start) in
+    let len = min 3584 (total - start) in
     record { start = start; len = len } ∷ cut count (start + len) total
 
 -- full pieces and a rest, from a place on, of so many bytes in all
 abbrev pub pieces_from : ℕ → ℕ → List Piece
-pieces_from start total = cut ((total - start + (MAX_PAYLOAD - 1)) / MAX_PAYLOAD) start total
+pieces_from start total = cut ((total - start + 3583) / 3584) start total
 
 abbrev pub pieces : ℕ → List Piece
 pieces total = pieces_from 0 total
@@ -55,7 +53,3 @@ pieces total = pieces_from 0 total
 -- the bytes of a piece
 abbrev pub bytes_of : List ℕ → Piece → List ℕ
 bytes_of range piece = take piece.len (drop piece.start range)
-
--- the bytes with others written over them from a place on
-abbrev pub overwritten : List ℕ → ℕ → List ℕ → List ℕ
-overwritten bytes place new = take place bytes ++ new ++ drop (place + length new) bytes

@@ -2,18 +2,16 @@
 use Rattle.std.specs.Prelude.{ℕ, ◌+◌, ◌-◌, ◌==◌, nat_lt, min, max, List, [], ◌∷◌, Option, Some, None, if◌then◌else◌}
 use Rattle.base.specs.NumberMap.{get, insert, remove}
 use Rattle.rpc_msgs.specs.declared.rpc.Rpc.TheVariants.{FsClose, FsRead, FsWrite, FsRemove}
-use Rattle.ta_params.specs.declared.codes.TheConstants.{TEE_ERROR_BAD_PARAMETERS, TEE_ERROR_CORRUPT_OBJECT}
 use Rattle.tee_storage.specs.declared.handle.Handle.{Handle}
-use Rattle.tee_storage.specs.declared.object_file.TheConstants.{MAX_LENGTH}
-use Rattle.tee_storage.specs.declared.step.TheConstants.{BAD_HANDLE}
 use Rattle.tee_storage.specs.declared.step.StorageStep.TheVariants.{Panic}
-use Rattle.tee_storage.specs.ObjectFiles.{Piece, pieces, bytes_of, header, offset_of, overwritten}
+use Rattle.base.specs.Bytes.{overwritten}
+use Rattle.tee_storage.specs.ObjectFiles.{Piece, pieces, bytes_of, header, offset_of}
 use Rattle.tee_storage.specs.Program.{Now, Program, Asks, Ends, ends_with, fails}
 use Rattle.tee_storage.specs.Replies.{asks, is_whole, unless_failed}
 
--- a call on an object panics where none is open of its handle
+-- a call on an object panics with 5 where none is open of its handle
 abbrev pub on_found : Option Handle → Now → (Handle → Program) → Program
-on_found None now onward = Ends (Panic BAD_HANDLE) now
+on_found None now onward = Ends (Panic 5) now
 on_found (Some object) now onward = onward object
 
 abbrev pub on_object : ℕ → Now → (Handle → Program) → Program
@@ -29,14 +27,15 @@ with_object now handle object = record now { objects = insert now.objects handle
 abbrev pub read_to : Handle → ℕ → Handle
 read_to object len = record object { position = object.position + len }
 
--- one piece after the other, of so many bytes in all; each piece stands in the range as soon as it is read
+-- one piece after the other, of so many bytes in all; each piece stands in the range as soon as it is read. One of
+-- another size is CORRUPT_OBJECT
 abbrev pub reading : ℕ → Handle → ℕ → List Piece → Now → Program
 reading handle object len [] now = ends_with len (with_object now handle (read_to object len))
 reading handle object len (piece ∷ others) now =
     asks (FsRead object.fd (offset_of (object.position + piece.start)) piece.len) [] now (λ reply.
     if is_whole reply piece.len
     then reading handle object len others (record now { range = overwritten now.range piece.start reply.bytes })
-    else fails TEE_ERROR_CORRUPT_OBJECT now)
+    else fails 0xf0100001 now)
 
 -- no more than stands behind the position
 abbrev pub readable : Handle → ℕ → ℕ
@@ -72,18 +71,20 @@ writing handle object len (piece ∷ others) now =
 abbrev pub write_some : ℕ → Handle → ℕ → Now → Program
 write_some handle object len now = if len == 0 then ends_with 0 now else writing handle object len (pieces len) now
 
+-- no object may have more than 32768 bytes: that is BAD_PARAMETERS
 abbrev pub write : ℕ → ℕ → Now → Program
 write handle len now =
     on_object handle now (λ object.
-    if nat_lt MAX_LENGTH (object.position + len) then fails TEE_ERROR_BAD_PARAMETERS now
+    if nat_lt 32768 (object.position + len) then fails 0xffff0006 now
     else write_some handle object len now)
 
 -- ---- seek
 
+-- to the end at most: past it is BAD_PARAMETERS
 abbrev pub seek : ℕ → ℕ → Now → Program
 seek handle position now =
     on_object handle now (λ object.
-    if nat_lt object.length position then fails TEE_ERROR_BAD_PARAMETERS now
+    if nat_lt object.length position then fails 0xffff0006 now
     else ends_with 0 (with_object now handle (record object { position = position })))
 
 -- ---- close and delete

@@ -5,7 +5,6 @@ use Rattle.base.specs.NumberMap.{NumberMap}
 use Rattle.rpc_msgs.specs.declared.rpc.Rpc.{Rpc}
 use Rattle.rpc_msgs.specs.declared.rpc.RpcReply.{RpcReply}
 use Rattle.rpc_msgs.specs.Answer.{RpcAnswer, Replied, NoBuffer}
-use Rattle.ta_params.specs.declared.codes.TheConstants.{TEE_SUCCESS, TEE_ERROR_OUT_OF_MEMORY}
 use Rattle.tee_storage.specs.declared.handle.Handle.{Handle}
 use Rattle.tee_storage.specs.declared.step.StorageStep.{StorageStep}
 use Rattle.tee_storage.specs.declared.step.StorageStep.TheVariants.{Done}
@@ -24,16 +23,17 @@ pub data Program : Type 0 where
 
 -- it ends well, with this number beside the result
 abbrev pub ends_with : ℕ → Now → Program
-ends_with value now = Ends (Done TEE_SUCCESS value) now
+ends_with value now = Ends (Done 0 value) now
 
 -- it ends with another result; the number beside it is then 0
 abbrev pub fails : ℕ → Now → Program
 fails result now = Ends (Done result 0) now
 
--- what is left of it after an answer, if it asked. Without a buffer for the request nothing else changes
+-- what is left of it after an answer, if it asked. Without a buffer for the request that is OUT_OF_MEMORY, and nothing
+-- else changes
 abbrev pub after_one : Program → RpcAnswer → Option Program
 after_one (Asks rpc payload now onward) (Replied reply) = Some (onward reply)
-after_one (Asks rpc payload now onward) NoBuffer = Some (fails TEE_ERROR_OUT_OF_MEMORY now)
+after_one (Asks rpc payload now onward) NoBuffer = Some (fails 0xffff000c now)
 after_one (Ends step now) answer = None
 
 -- what is left of it after these answers, unless they go on behind its end

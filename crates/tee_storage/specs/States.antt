@@ -3,7 +3,6 @@ use Rattle.std.specs.Prelude.{◌≡◌, ℕ, ◌<◌, List, Option, Some, None,
 use Rattle.base.specs.NumberMap.{NumberMap}
 use Rattle.rpc_msgs.specs.declared.rpc.RpcReply.{RpcReply}
 use Rattle.rpc_msgs.specs.Answer.{RpcAnswer}
-use Rattle.ta_params.specs.declared.codes.TheConstants.{TEE_ERROR_BAD_PARAMETERS, TEE_ERROR_BAD_STATE, TEE_ERROR_CORRUPT_OBJECT}
 use Rattle.ta_params.specs.declared.object_call.ObjectCall.{ObjectCall}
 use Rattle.tee_storage.specs.declared.handle.Handle.{Handle}
 use Rattle.tee_storage.specs.declared.state.ObjectState.{ObjectState}
@@ -16,7 +15,8 @@ use Rattle.tee_storage.specs.declared.waits.Waits.{Waits}
 use Rattle.tee_storage.specs.declared.waits.Waits.TheVariants.{Nothing, Created, HeaderWritten, Opened, HeaderRead, PieceRead, PieceWritten, LengthWritten, Closed, ClosedToDelete, Removed}
 use Rattle.tee_storage.specs.Handles.{lowest_free}
 use Rattle.tee_storage.specs.ObjectCalls.{Serving, left_of, serving}
-use Rattle.tee_storage.specs.ObjectFiles.{is_id_length, file_name, overwritten}
+use Rattle.base.specs.Bytes.{overwritten}
+use Rattle.tee_storage.specs.ObjectFiles.{is_id_length, file_name}
 use Rattle.tee_storage.specs.OpenObjects.{reading, writing, written, without, removing}
 use Rattle.tee_storage.specs.Opening.{writing_header, opened, header_in, opened_as, reading_header}
 use Rattle.tee_storage.specs.Program.{Now, Program, Asks, Ends, ends_with, fails}
@@ -28,7 +28,7 @@ abbrev pub piece_read : Transfer → Now → RpcReply → Program
 piece_read t now reply =
     if is_whole reply (this_len t)
     then reading t.handle t.object t.len (other_pieces t) (record now { range = overwritten now.range t.done reply.bytes })
-    else fails TEE_ERROR_CORRUPT_OBJECT now
+    else fails 0xf0100001 now
 
 -- what a reply to the request goes on with
 abbrev pub onward : Waits → Now → RpcReply → Program
@@ -55,12 +55,12 @@ left_at turn now = left_in turn.waits turn.step now
 
 -- the new object of a create or an open, after the tests at the call; or the result that they give
 abbrev pub numbered : List ℕ → Option ℕ → Result NewObject ℕ
-numbered name None = Err TEE_ERROR_BAD_STATE
+numbered name None = Err 0xffff0007
 numbered name (Some number) = Ok (record { name = name; number = number })
 
 abbrev pub new_object : List ℕ → ℕ → Now → Result NewObject ℕ
 new_object uuid len now =
-    if is_id_length len then numbered (file_name uuid now.range) (lowest_free now.objects) else Err TEE_ERROR_BAD_PARAMETERS
+    if is_id_length len then numbered (file_name uuid now.range) (lowest_free now.objects) else Err 0xffff0006
 
 -- ---- what a state can go on with
 

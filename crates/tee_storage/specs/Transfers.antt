@@ -1,12 +1,10 @@
 -- Bytes that are being read or written: the piece that was asked for, and those behind it.
 use Rattle.std.specs.Prelude.{ℕ, ◌+◌, ◌-◌, ◌^◌, ◌<◌, ◌≤◌, min, List, length}
-use Rattle.rpc_msgs.specs.declared.payload.TheConstants.{MAX_PAYLOAD}
-use Rattle.tee_storage.specs.declared.object_file.TheConstants.{MAX_LENGTH}
 use Rattle.tee_storage.specs.declared.waits.Transfer.{Transfer}
 use Rattle.tee_storage.specs.ObjectFiles.{Piece, pieces_from}
 
 abbrev pub this_len : Transfer → ℕ
-this_len t = min MAX_PAYLOAD (t.len - t.done)
+this_len t = min 3584 (t.len - t.done)
 
 abbrev pub other_pieces : Transfer → List Piece
 other_pieces t = pieces_from (t.done + this_len t) t.len
@@ -23,9 +21,9 @@ pub record IsWrite (t : Transfer) (range : List ℕ) : Type 0 where
   pub handle : t.handle < 8
   pub begun : t.done < t.len
   pub room : t.len ≤ length range
-  pub end : t.object.position + t.len ≤ MAX_LENGTH
+  pub end : t.object.position + t.len ≤ 32768
 
 -- all the bytes of a write are written
 pub record IsWritten (t : Transfer) : Type 0 where
   pub handle : t.handle < 8
-  pub end : t.object.position + t.len ≤ MAX_LENGTH
+  pub end : t.object.position + t.len ≤ 32768

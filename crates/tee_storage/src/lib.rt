@@ -15,8 +15,6 @@ mod replies;
 mod span;
 mod state;
 mod step;
-#[cfg(test)]
-mod tests;
 mod turn;
 mod waits;
 mod writing;

@@ -21,7 +21,7 @@ const MAX_DIGITS: usize = 128;
 
 /// The name of the file of an application's object.
 pub(crate) fn file_name(uuid: Uuid, id: &[u8]) -> FileName
-    requires { length id.now ≤ MAX_ID }
+    requires { length id.now ≤ 64 }
     ensures { result ≡ name_of uuid id.now }
 {
     let mut name = ArrayVec::<u8, MAX_FILE_NAME>::new();
@@ -36,8 +36,8 @@ pub(crate) fn file_name(uuid: Uuid, id: &[u8]) -> FileName
 
 /// Appends bytes as lower-case hexadecimal digits.
 fn push_digits(name: &mut ArrayVec<u8, MAX_FILE_NAME>, bytes: &[u8])
-    requires few { length bytes.now ≤ MAX_ID }
-    requires room { length name.old.items + 2 * length bytes.now ≤ MAX_FILE_NAME }
+    requires few { length bytes.now ≤ 64 }
+    requires room { length name.old.items + 2 * length bytes.now ≤ 161 }
     ensures items { name.new.items ≡ name.old.items ++ encode_lower bytes.now }
     ensures len { length name.new.items ≡ length name.old.items + 2 * length bytes.now }
 {

@@ -1,6 +1,6 @@
 //! To create and open an object.
 ghost use Rattle.std.specs.Prelude.{◌≡◌, None, ℕ, ◌<◌, List, length, IfOk};
-ghost use Rattle.tee_storage.specs.Opening.{create as create_program, header_in as header_of, open_object as open_program, opened as opened_program};
+ghost use Rattle.tee_storage.specs.Opening.{asking, header_in as header_of, on_file, opened as opened_program};
 ghost use Rattle.tee_storage.specs.ObjectCalls.{panic_code};
 ghost use Rattle.tee_storage.specs.Program.{Now, now_at};
 ghost use Rattle.tee_storage.specs.States.{new_object as new_object_of, onward, left_at, IsReady};
@@ -37,21 +37,43 @@ fn new_object<M: Span>(uuid: Uuid, len: u32, span: &M, handles: &Handles) -> Res
     })
 }
 
-/// Asks for the file of a new object.
-pub(crate) fn create<M: Span>(uuid: Uuid, len: u32, span: &M, handles: &Handles) -> Turn
-    requires { length (M.bytes span.now) ≡ len }
-    ensures left { create_program uuid len (now_at (M.bytes span.now) handles.now)
-        ≡ left_at result (now_at (M.bytes span.now) handles.now) }
-    ensures ready { (range : List ℕ) → IsReady result.waits range }
-    ensures no_panic { panic_code result.step ≡ None }
-{
-    match new_object(uuid, len, span, handles) {
-        Ok(new) => {
-            let payload = payload_of(&new.name);
-            let rpc = Rpc::FsCreate(copy_of(&new.name));
-            Turn::asking(Waits::Created(new), rpc, payload)
+/// What a call asks of an object's file.
+#[derive(Clone, Copy, Debug, PartialEq, Eq)]
+pub enum FileCall {
+    /// To be created.
+    Create,
+    /// To be opened.
+    Open,
+}
+
+impl FileCall {
+    /// Asks for the file of the object that the span names.
+    pub(crate) fn begin<M: Span>(self, uuid: Uuid, len: u32, span: &M, handles: &Handles) -> Turn
+        requires { length (M.bytes span.now) ≡ len }
+        ensures left { on_file self uuid len (now_at (M.bytes span.now) handles.now)
+            ≡ left_at result (now_at (M.bytes span.now) handles.now) }
+        ensures ready { (range : List ℕ) → IsReady result.waits range }
+        ensures no_panic { panic_code result.step ≡ None }
+    {
+        match new_object(uuid, len, span, handles) {
+            Ok(new) => self.ask(new),
+            Err(code) => Turn::failing(code),
         }
-        Err(code) => Turn::failing(code),
+    }
+
+    /// The request, once the object has a name and a number.
+    fn ask(self, new: NewObject) -> Turn
+        requires { new.number < 8 }
+        ensures left { (now : Now) → asking self new.name now new.number ≡ left_at result now }
+        ensures ready { (range : List ℕ) → IsReady result.waits range }
+        ensures no_panic { panic_code result.step ≡ None }
+    {
+        let payload = payload_of(&new.name);
+        let name = copy_of(&new.name);
+        match self {
+            FileCall::Create => Turn::asking(Waits::Created(new), Rpc::FsCreate(name), payload),
+            FileCall::Open => Turn::asking(Waits::Opened(new), Rpc::FsOpen(name), payload),
+        }
     }
 }
 
@@ -90,24 +112,6 @@ pub(crate) fn header_written(
     match reply.ret {
         TEE_SUCCESS => opened(new, fd, 0, handles),
         ret => Turn::failed(ret),
-    }
-}
-
-/// Asks for the file of an object.
-pub(crate) fn open<M: Span>(uuid: Uuid, len: u32, span: &M, handles: &Handles) -> Turn
-    requires { length (M.bytes span.now) ≡ len }
-    ensures left { open_program uuid len (now_at (M.bytes span.now) handles.now)
-        ≡ left_at result (now_at (M.bytes span.now) handles.now) }
-    ensures ready { (range : List ℕ) → IsReady result.waits range }
-    ensures no_panic { panic_code result.step ≡ None }
-{
-    match new_object(uuid, len, span, handles) {
-        Ok(new) => {
-            let payload = payload_of(&new.name);
-            let rpc = Rpc::FsOpen(copy_of(&new.name));
-            Turn::asking(Waits::Opened(new), rpc, payload)
-        }
-        Err(code) => Turn::failing(code),
     }
 }
 

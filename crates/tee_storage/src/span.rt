@@ -1,6 +1,6 @@
 //! The memory range that a call on an object names.
 ghost use Rattle.std.specs.Prelude.{◌≡◌, ℕ, ◌<◌, ◌≤◌, ◌+◌, ◌^◌, List, length, take, drop, slice_get, slice_set, Some};
-ghost use Rattle.tee_storage.specs.ObjectFiles.{overwritten};
+ghost use Rattle.base.specs.Bytes.{overwritten};
 
 use arrayvec::ArrayVec;
 use rpc_msgs::{MAX_PAYLOAD, Payload};
@@ -29,7 +29,7 @@ pub trait Span {
 
 /// The bytes of a piece of the range.
 pub(crate) fn bytes_of<M: Span>(span: &M, start: u32, len: u32) -> Payload
-    requires few { len ≤ MAX_PAYLOAD }
+    requires few { len ≤ 3584 }
     requires within { start + len ≤ length (M.bytes span.now) }
     requires fits { start + len < 2 ^ 32 }
     ensures { result ≡ take len (drop start (M.bytes span.now)) }

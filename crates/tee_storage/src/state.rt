@@ -2,7 +2,6 @@ ghost use Rattle.std.specs.Prelude.{◌≡◌, None, ℕ, [], ◌∷◌, ◌++�
 ghost use Rattle.base.specs.NumberMap.{NumberMap};
 ghost use Rattle.rpc_msgs.specs.Answer.{RpcAnswer, Replied, NoBuffer};
 ghost use Rattle.rpc_msgs.specs.declared.rpc.Rpc.{Rpc};
-ghost use Rattle.ta_params.specs.declared.codes.TheConstants.{TEE_ERROR_OUT_OF_MEMORY};
 ghost use Rattle.ta_params.specs.declared.object_call.ObjectCall.{ObjectCall};
 ghost use Rattle.tee_storage.specs.declared.handle.Handle.{Handle};
 ghost use Rattle.tee_storage.specs.ObjectCalls.{Serving, panic_code, panic_of, program_of, range_len, serving};
@@ -10,6 +9,7 @@ ghost use Rattle.tee_storage.specs.Program.{now_at};
 ghost use Rattle.tee_storage.specs.States.{CanGoOn, IsReady, StandsFor, left_at, onward};
 
 use crate::handles::Handles;
+use crate::opening::FileCall;
 use crate::span::Span;
 use crate::step::StorageStep;
 use crate::turn::Turn;
@@ -76,7 +76,7 @@ impl ObjectState {
 
     /// Ends the call, since there is no buffer for what it asks: its result. Takes no memory.
     pub fn no_buffer(self) -> u32
-        ensures code { result ≡ TEE_ERROR_OUT_OF_MEMORY }
+        ensures code { result ≡ 0xffff000c }
         ensures serves { (call : ObjectCall) (uuid range now : List ℕ) (objects then : NumberMap Handle)
             (answers : List RpcAnswer) (rpc : Rpc) (payload : List ℕ)
             → StandsFor self call uuid range objects answers
@@ -97,8 +97,8 @@ fn begun<M: Span>(call: ObjectCall, uuid: Uuid, span: &M, handles: &mut Handles)
     ensures panics { panic_code result.step ≡ panic_of call handles.old }
 {
     match call {
-        ObjectCall::Create { len, .. } => opening::create(uuid, len, span, handles),
-        ObjectCall::Opened { len, .. } => opening::open(uuid, len, span, handles),
+        ObjectCall::Create { len, .. } => FileCall::Create.begin(uuid, len, span, handles),
+        ObjectCall::Opened { len, .. } => FileCall::Open.begin(uuid, len, span, handles),
         ObjectCall::Read { handle, len, .. } => reading::read(handle, len, handles),
         ObjectCall::Write { handle, len, .. } => writing::write(handle, len, span, handles),
         ObjectCall::Seek { handle, position } => closing::seek(handle, position, handles),

@@ -3,6 +3,7 @@ ghost use Rattle.tee_storage.specs.ObjectFiles.{offset_of};
 ghost use Rattle.tee_storage.specs.Transfers.{this_len};
 
 use crate::handle::Handle;
+use crate::object_file::HEADER_BYTES;
 use rpc_msgs::{FileName, MAX_PAYLOAD};
 
 /// An object that is being created or opened, and the number that its handle is to have.
@@ -46,7 +47,7 @@ impl Transfer {
     pub(crate) fn offset(&self) -> u64
         ensures { result ≡ offset_of (self.now.object.position + self.now.done) }
     {
-        8 + (u64::from(self.object.position) + u64::from(self.done))
+        u64::from(HEADER_BYTES) + (u64::from(self.object.position) + u64::from(self.done))
     }
 }
 

@@ -1,5 +1,5 @@
 use Rattle.std.proofs.Common.{arith, refl, ap, ◌∙◌, ℕ, ◌++◌, ◌∷◌, [], List}
-use Rattle.tee_storage.proofs.Overwriting.{one_taken}
+use Rattle.tee_storage.proofs.Gathering.{one_taken}
 use Rattle.tee_storage.proofs.span.bytes_of.Goals as goal
 
 pub loop-place-preserved : goal.loop-place-preserved

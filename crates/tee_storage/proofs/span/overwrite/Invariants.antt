@@ -1,5 +1,5 @@
 use Rattle.std.proofs.Common.{◌≡◌, take}
-use Rattle.tee_storage.specs.ObjectFiles.{overwritten}
+use Rattle.base.specs.Bytes.{overwritten}
 use Rattle.tee_storage.proofs.span.overwrite.Given as goal
 
 abbrev pub invariant-loop-number : goal.invariant-loop-number
