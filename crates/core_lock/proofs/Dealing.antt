@@ -8,7 +8,7 @@ use Rattle.core_lock.specs.declared.lock.CoreLock.{CoreLock}
 use Rattle.core_lock.specs.declared.pass.Pass.{Pass}
 use Rattle.core_lock.specs.declared.view.Stand.TheVariants.{Outside}
 use Rattle.core_lock.specs.declared.view.View.{View}
-use Rattle.core_lock.specs.Counts.{numbers_from}
+use Rattle.core_lock.specs.Counts.{numbers_from, made_by}
 use Rattle.core_lock.specs.Rule.{fresh_records}
 use Rattle.core_lock.specs.Steps.{own_number, own_made, split_left, split_right}
 use Rattle.core_lock.specs.Passes.{count_of, basis_of, number, seen, made, IsPassOf, IsIdle, AreIdle, AreUnused}
@@ -21,10 +21,10 @@ pub numbers_more : (first n : ℕ) → numbers_from first n ++ (first + n) ∷ [
 numbers_more first zero = ap (λ (k : ℕ). k ∷ []) (let e : first + 0 ≡ first = omega arith in e)
 numbers_more first (suc n) = ap (λ ks. first ∷ ks) ((ap (λ (k : ℕ). numbers_from (suc first) n ++ k ∷ []) (let e : first + suc n ≡ suc first + n = omega arith in e)) ∙ numbers_more (suc first) n)
 
-module _ {T E G : Type 0} (basis : T → G) (lock : CoreLock T E G) where
+module _ {T E G : Type 0} (maker : E → ℕ) (basis : T → G) (lock : CoreLock T E G) where
   -- a pass that was not used yet
   abbrev pub IsNew : Pass T E G → Type 0
-  IsNew p = IsPassOf basis lock p × IsIdle p × (seen p ≡ []) × (made p ≡ [])
+  IsNew p = IsPassOf maker basis lock p × IsIdle p × (seen p ≡ []) × (made p ≡ [])
 
   pub is_new : (p : Pass T E G) → p.number < count_of lock → p.seat.table_id ≡ lock.table.shared.table_id → p.seat.me ≡ (dealt (count_of lock) (basis_of basis lock) p.number 1, []) → IsNew p
   is_new p below table_is is =
@@ -37,6 +37,7 @@ module _ {T E G : Type 0} (basis : T → G) (lock : CoreLock T E G) where
           alone = (record { number = p.number; made = []; seen = [] }, records, refl);
           numbered = ap own_number records;
           below = below;
+          own_entries = ap own_made records ∙ ap (made_by maker p.number) (sym (ap (λ (v : View E G). v.seen) view));
         },
         (ap (λ (v : View E G). v.stand) view, ap (λ h. h.1) is),
         ap (λ (v : View E G). v.seen) view,
@@ -92,8 +93,8 @@ module _ {T E G : Type 0} (basis : T → G) (lock : CoreLock T E G) where
       let both = deals_one k passes p d.numbers d.fresh is (is_new p (let a = is in let b = d.more.1 in omega arith) d.table_is mine) in
       (both.0 ∙ ap (numbers_from 0) (let a = d.more.1 in let e : suc k ≡ count_of lock = omega arith in e), both.1)
 
-  pub new_idle : (passes : List (Pass T E G)) → All IsNew passes → AreIdle basis lock passes
-  new_idle passes all = All-weaker IsNew (λ p. IsPassOf basis lock p × IsIdle p) (λ p is. (is.0, is.1)) passes all
+  pub new_idle : (passes : List (Pass T E G)) → All IsNew passes → AreIdle maker basis lock passes
+  new_idle passes all = All-weaker IsNew (λ p. IsPassOf maker basis lock p × IsIdle p) (λ p is. (is.0, is.1)) passes all
 
   pub new_unused : (passes : List (Pass T E G)) → All IsNew passes → AreUnused passes
   new_unused passes all = All-weaker IsNew (λ p. (seen p ≡ []) × (made p ≡ [])) (λ p is. (is.2, is.3)) passes all

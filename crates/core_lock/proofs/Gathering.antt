@@ -28,7 +28,7 @@ All-right P (x ∷ xs) ys h = All-right P xs ys (Rattle.std.proofs.lemmas.List.E
 
 module _ {T E G : Type 0} (maker : E → ℕ) (basis : T → G) (lock : CoreLock T E G) where
   abbrev pub Ready : Pass T E G → Type 0
-  Ready p = IsPassOf basis lock p × IsIdle p
+  Ready p = IsPassOf maker basis lock p × IsIdle p
 
   tells_by : (history : List E) (p : Pass T E G) (rs : List (Record E)) (r : Record E) → rs ≡ r ∷ [] → r.seen ≡ [] → own_number rs ≡ number p → made p ≡ own_made rs
       → All (IsRecord maker history) (taken_over (seen p) rs) → IsIn maker history p
@@ -40,7 +40,7 @@ module _ {T E G : Type 0} (maker : E → ℕ) (basis : T → G) (lock : CoreLock
       )
 
   -- a pass's own view tells of it
-  pub tells_itself : (p : Pass T E G) → IsPassOf basis lock p → Tells maker (view_of p) p
+  pub tells_itself : (p : Pass T E G) → IsPassOf maker basis lock p → Tells maker (view_of p) p
   tells_itself p is history all = tells_by history p (view_of p).records is.alone.0 is.alone.1 is.alone.2 is.numbered refl all
 
   pub tells_left : (v u : View E G) (p : Pass T E G) → Tells maker v p → Tells maker (joined v u) p
@@ -64,14 +64,14 @@ module _ {T E G : Type 0} (maker : E → ℕ) (basis : T → G) (lock : CoreLock
     pub recorded : 0 < length all.me.0.records
     pub ready : All Ready left
 
-  own_numbers : (n : ℕ) (p : Pass T E G) → IsPassOf basis lock p → times n (numbers_of (view_of p)) ≡ same (number p) n
+  own_numbers : (n : ℕ) (p : Pass T E G) → IsPassOf maker basis lock p → times n (numbers_of (view_of p)) ≡ same (number p) n
   own_numbers n p is =
       let e : times n (numbers_of (view_of p)) ≡ same is.alone.0.number n + 0 = ap (λ (rs : List (Record E)). times n (map (λ r. r.number) rs)) is.alone.1 in
       let m : is.alone.0.number ≡ number p = sym (ap own_number is.alone.1) ∙ is.numbered in
       let f : same is.alone.0.number n ≡ same (number p) n = ap (λ (k : ℕ). same k n) m in
       omega arith
 
-  own_recorded : (p : Pass T E G) → IsPassOf basis lock p → 0 < length (view_of p).records
+  own_recorded : (p : Pass T E G) → IsPassOf maker basis lock p → 0 < length (view_of p).records
   own_recorded p is = let e : length (view_of p).records ≡ 1 = ap length is.alone.1 in omega arith
 
   -- the last pass comes first

@@ -41,10 +41,12 @@ module _ {T E G : Type 0} (entries : T → List E) (maker : E → ℕ) where
         subst (λ (v : View E G). All (IsRecord maker v.seen) v.records) view counted.1,
       )
 
-  pub still_of : (basis : T → G) (lock : CoreLock T E G) (p q : Pass T E G) (xs : List E) → IsPassOf basis lock p → q.seat.table_id ≡ p.seat.table_id → number q ≡ number p
-      → view_of q ≡ with_none (with_entries maker xs (view_of p)) → IsPassOf basis lock q
+  pub still_of : (basis : T → G) (lock : CoreLock T E G) (p q : Pass T E G) (xs : List E) → IsPassOf maker basis lock p → q.seat.table_id ≡ p.seat.table_id → number q ≡ number p
+      → view_of q ≡ with_none (with_entries maker xs (view_of p)) → IsPassOf maker basis lock q
   still_of basis lock p q xs own same_table same_number view =
       let records : (view_of q).records ≡ remade maker xs (own.alone.0 ∷ []) = ap (λ (v : View E G). v.records) view ∙ ap (remade maker xs) own.alone.1 in
+      let n : own.alone.0.number ≡ number q = sym (ap own_number own.alone.1) ∙ (own.numbered ∙ sym same_number) in
+      let seen_is : seen q ≡ xs = ap (λ (v : View E G). v.seen) view in
       record {
         table_is = same_table ∙ own.table_is;
         count_is = ap (λ (v : View E G). v.count) view ∙ own.count_is;
@@ -52,9 +54,10 @@ module _ {T E G : Type 0} (entries : T → List E) (maker : E → ℕ) where
         alone = (_, records, own.alone.2);
         numbered = ap own_number records ∙ (sym (ap own_number own.alone.1) ∙ (own.numbered ∙ sym same_number));
         below = subst (λ (k : ℕ). k < count_of lock) (sym same_number) own.below;
+        own_entries = ap own_made records ∙ (λ i. made_by maker (n i) (sym seen_is i));
       }
 
-  pub made_more : (basis : T → G) (lock : CoreLock T E G) (p q : Pass T E G) (xs more : List E) → IsPassOf basis lock p → view_of q ≡ with_none (with_entries maker xs (view_of p))
+  pub made_more : (basis : T → G) (lock : CoreLock T E G) (p q : Pass T E G) (xs more : List E) → IsPassOf maker basis lock p → view_of q ≡ with_none (with_entries maker xs (view_of p))
       → All (IsRecord maker (seen p)) (view_of p).records → xs ≡ seen p ++ more → (added : List E) → xs ≡ seen p ++ added → All (λ e. maker e ≡ number p) added
       → made q ≡ made p ++ more
   made_more basis lock p q xs more own view records grows added grows' mine =

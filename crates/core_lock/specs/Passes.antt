@@ -34,14 +34,16 @@ module _ {T E G : Type 0} where
   abbrev pub made : Pass T E G → List E
   made p = own_made (view_of p).records
 
-  -- the pass is one of this lock's, and has the one record under its number
-  pub record IsPassOf (basis : T → G) (lock : CoreLock T E G) (p : Pass T E G) : Type 0 where
+  -- the pass is one of this lock's, and has the one record under its number. Of that number the entries that it
+  -- has seen have just those that it made
+  pub record IsPassOf (maker : E → ℕ) (basis : T → G) (lock : CoreLock T E G) (p : Pass T E G) : Type 0 where
     pub table_is : p.seat.table_id ≡ lock.table.shared.table_id
     pub count_is : (view_of p).count ≡ count_of lock
     pub basis_is : (view_of p).basis ≡ Some (basis_of basis lock)
     pub alone : (r : Record E) × ((view_of p).records ≡ r ∷ []) × (r.seen ≡ [])
     pub numbered : own_number (view_of p).records ≡ number p
     pub below : number p < count_of lock
+    pub own_entries : made p ≡ made_by maker (number p) (seen p)
 
   -- the pass has no turn out, and no ticket
   abbrev pub IsIdle : Pass T E G → Type 0
@@ -66,8 +68,8 @@ module _ {T E G : Type 0} where
   IsIn maker history p = IsPrefix (seen p) history × (made_by maker (number p) history ≡ made p)
 
   -- the passes are this lock's, and none has a turn out
-  abbrev pub AreIdle : (T → G) → CoreLock T E G → List (Pass T E G) → Type 0
-  AreIdle basis lock passes = All (λ p. IsPassOf basis lock p × IsIdle p) passes
+  abbrev pub AreIdle : (E → ℕ) → (T → G) → CoreLock T E G → List (Pass T E G) → Type 0
+  AreIdle maker basis lock passes = All (λ p. IsPassOf maker basis lock p × IsIdle p) passes
 
   -- the passes have seen nothing and made nothing
   abbrev pub AreUnused : List (Pass T E G) → Type 0

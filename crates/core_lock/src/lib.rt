@@ -13,6 +13,7 @@ mod pass;
 mod rule;
 mod view;
 
+pub use base::NoMemory;
 pub use lock::CoreLock;
 pub use logged::Logged;
 pub use pass::{Pass, Turn};

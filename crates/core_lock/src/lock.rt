@@ -41,7 +41,7 @@ impl<T: Logged> CoreLock<T> {
         requires count { (0 < count) × (count ≤ 64) }
         ensures lock { IfOk result (λ r. (count_of r.0 ≡ count) × (basis_of T.basis r.0 ≡ T.basis value)) }
         ensures numbers { IfOk result (λ r. map number r.1.items ≡ numbers_from 0 count) }
-        ensures passes { IfOk result (λ r. AreIdle T.basis r.0 r.1.items × AreUnused r.1.items) }
+        ensures passes { IfOk result (λ r. AreIdle T.maker T.basis r.0 r.1.items × AreUnused r.1.items) }
         ensures room { IfOk result (λ r. count ≤ vec_capacity r.1) }
         ensures err { IfErr result (λ e. e.0 ≡ value) }
     {
@@ -72,7 +72,7 @@ impl<T: Logged> CoreLock<T> {
         requires count { (count ≡ count_of self.now) × (0 < count) }
         requires room { (passes.items ≡ []) × (vec_len passes ≡ 0) × (count ≤ vec_capacity passes) }
         ensures numbers { map number result.items ≡ numbers_from 0 count }
-        ensures passes { AreIdle T.basis self.now result.items × AreUnused result.items }
+        ensures passes { AreIdle T.maker T.basis self.now result.items × AreUnused result.items }
         ensures room { count ≤ vec_capacity result }
     {
         let mut rest = seat;
@@ -90,7 +90,7 @@ impl<T: Logged> CoreLock<T> {
     /// The value, once all passes are back, in any order. Its entries begin with all that each pass has seen, and
     /// have under each pass's number just those that this pass made.
     pub fn close(self, passes: Vec<Pass<T>>) -> T
-        requires own { AreIdle T.basis self passes.items }
+        requires own { AreIdle T.maker T.basis self passes.items }
         requires all { AreAll self passes.items }
         ensures basis { T.basis result ≡ basis_of T.basis self }
         ensures passes { All (IsIn T.maker (T.entries result)) passes.items }
@@ -108,7 +108,7 @@ impl<T: Logged> CoreLock<T> {
 
     // Joins all passes into one seat.
     fn gather(&self, mut passes: Vec<Pass<T>>) -> LockSeat<T>
-        requires own { AreIdle T.basis self.now passes.items }
+        requires own { AreIdle T.maker T.basis self.now passes.items }
         requires all { AreAll self.now passes.items }
         ensures own { result.table_id ≡ self.now.table.shared.table_id }
         ensures outside { result.me.0.stand ≡ Outside }
@@ -131,9 +131,9 @@ impl<T: Logged> CoreLock<T> {
     ///
     /// Nothing is said of when a turn comes, nor that turns go in the order of the tickets.
     pub fn take_turn(&self, rt: &impl Wait, pass: &mut Pass<T>) -> Turn<T>
-        requires own { IsPassOf T.basis self.now pass.old }
+        requires own { IsPassOf T.maker T.basis self.now pass.old }
         requires idle { IsIdle pass.old }
-        ensures own { IsPassOf T.basis self.now pass.new }
+        ensures own { IsPassOf T.maker T.basis self.now pass.new }
         ensures same { (number pass.new ≡ number pass.old) × (made pass.new ≡ made pass.old) }
         ensures turn { IsTurnOf pass.new result }
         ensures basis { T.basis result.value ≡ basis_of T.basis self.now }
@@ -149,11 +149,11 @@ impl<T: Logged> CoreLock<T> {
 
     /// Gives the value back, with the entries that were added to it, and ends the turn. It takes no memory.
     pub fn give_back(&self, pass: &mut Pass<T>, turn: Turn<T>)
-        requires own { IsPassOf T.basis self.now pass.old }
+        requires own { IsPassOf T.maker T.basis self.now pass.old }
         requires turn { IsTurnOf pass.old turn }
         requires basis { T.basis turn.value ≡ basis_of T.basis self.now }
         requires entries { Extends T.entries T.maker pass.old turn.value }
-        ensures own { IsPassOf T.basis self.now pass.new }
+        ensures own { IsPassOf T.maker T.basis self.now pass.new }
         ensures same { number pass.new ≡ number pass.old }
         ensures idle { IsIdle pass.new }
         ensures seen { seen pass.new ≡ T.entries turn.value }

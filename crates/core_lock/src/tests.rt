@@ -65,8 +65,8 @@ fn add(
     pass: &mut Pass<Marks>,
     letter: char,
 ) -> Result<String, AllocError>
-    requires own { IsPassOf (λ _. tt) lock.now pass.old × IsIdle pass.old }
-    ensures own { IsPassOf (λ _. tt) lock.now pass.new × IsIdle pass.new × (number pass.new ≡ number pass.old) }
+    requires own { IsPassOf (λ e. e.by) (λ _. tt) lock.now pass.old × IsIdle pass.old }
+    ensures own { IsPassOf (λ e. e.by) (λ _. tt) lock.now pass.new × IsIdle pass.new × (number pass.new ≡ number pass.old) }
 {
     let by = pass.number();
     let mut turn = lock.take_turn(rt, pass);

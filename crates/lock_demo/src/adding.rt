@@ -13,8 +13,8 @@ use std::thread::Threads;
 
 // Takes a turn and writes one word, and says whether there was memory for it.
 fn add_one(rt: &impl Wait, lock: &CoreLock<Log>, pass: &mut Pass<Log>, word: u32) -> bool
-    requires own { IsPassOf title lock.now pass.old × IsIdle pass.old }
-    ensures own { IsPassOf title lock.now pass.new × IsIdle pass.new × (number pass.new ≡ number pass.old) }
+    requires own { IsPassOf writer title lock.now pass.old × IsIdle pass.old }
+    ensures own { IsPassOf writer title lock.now pass.new × IsIdle pass.new × (number pass.new ≡ number pass.old) }
     ensures made { MatchBool result (made pass.new ≡ made pass.old ++ lines_by (number pass.old) (word ∷ [])) (made pass.new ≡ made pass.old) }
 {
     let by = pass.number();
@@ -31,8 +31,8 @@ fn add_all(
     mut pass: Pass<Log>,
     words: &[u32],
 ) -> (Pass<Log>, bool)
-    requires own { IsPassOf title lock.now pass × IsIdle pass }
-    ensures own { IsPassOf title lock.now result.0 × IsIdle result.0 × (number result.0 ≡ number pass) }
+    requires own { IsPassOf writer title lock.now pass × IsIdle pass }
+    ensures own { IsPassOf writer title lock.now result.0 × IsIdle result.0 × (number result.0 ≡ number pass) }
     ensures made { MatchBool result.1 (made result.0 ≡ made pass ++ lines_by (number pass) words.now) (Unit {0}) }
 {
     for word in words {
@@ -58,8 +58,8 @@ fn two_of(mut passes: Vec<Pass<Log>>) -> (Pass<Log>, Pass<Log>, Vec<Pass<Log>>)
 fn closed(lock: CoreLock<Log>, mut passes: Vec<Pass<Log>>, one: Pass<Log>, two: Pass<Log>) -> Log
     requires room { (passes.items ≡ []) × (vec_len passes ≡ 0) × (2 ≤ vec_capacity passes) }
     requires count { count_of lock ≡ 2 }
-    requires one { IsPassOf title lock one × IsIdle one × (number one ≡ 0) }
-    requires two { IsPassOf title lock two × IsIdle two × (number two ≡ 1) }
+    requires one { IsPassOf writer title lock one × IsIdle one × (number one ≡ 0) }
+    requires two { IsPassOf writer title lock two × IsIdle two × (number two ≡ 1) }
     ensures one { made_by writer 0 (all_lines result) ≡ made one }
     ensures two { made_by writer 1 (all_lines result) ≡ made two }
     ensures others { All (λ line. line.by < 2) (all_lines result) }
@@ -94,13 +94,13 @@ pub fn add_both<R: Threads + Wait + Sync>(
     let ((one, first_written), (two, second_written)) = thread::join(
         rt,
         move || -> (Pass<Log>, bool)
-            requires { IsPassOf title shared.now one × IsIdle one }
-            ensures own { IsPassOf title shared.entry.now result.0 × IsIdle result.0 × (number result.0 ≡ number one) }
+            requires { IsPassOf writer title shared.now one × IsIdle one }
+            ensures own { IsPassOf writer title shared.entry.now result.0 × IsIdle result.0 × (number result.0 ≡ number one) }
             ensures made { MatchBool result.1 (made result.0 ≡ made one ++ lines_by (number one) first.entry.now) (Unit {0}) }
         { add_all(rt, shared, one, first) },
         move || -> (Pass<Log>, bool)
-            requires { IsPassOf title shared.now two × IsIdle two }
-            ensures own { IsPassOf title shared.entry.now result.0 × IsIdle result.0 × (number result.0 ≡ number two) }
+            requires { IsPassOf writer title shared.now two × IsIdle two }
+            ensures own { IsPassOf writer title shared.entry.now result.0 × IsIdle result.0 × (number result.0 ≡ number two) }
             ensures made { MatchBool result.1 (made result.0 ≡ made two ++ lines_by (number two) second.entry.now) (Unit {0}) }
         { add_all(rt, shared, two, second) },
     );

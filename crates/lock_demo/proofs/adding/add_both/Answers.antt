@@ -2,7 +2,7 @@
 use Rattle.std.proofs.Common.{[], ◌∷◌, subst}
 use Rattle.std.proofs.lemmas.List.Elements.{All-head, All-tail}
 use Rattle.core_lock.specs.Passes.{IsPassOf, IsIdle, AreIdle}
-use Rattle.lock_demo.specs.Lines.{title}
+use Rattle.lock_demo.specs.Lines.{writer, title}
 use Rattle.lock_demo.proofs.adding.add_both.Goals as goal
 
 pub join-one-requires-after_bounds : goal.join-one-requires-after_bounds
@@ -10,5 +10,5 @@ join-one-requires-after_bounds g c κs within =
     let lock = c.in-Ok.made.0 in
     let first = c.two_of-one.result.0 in
     let second = c.two_of-one.result.1 in
-    let idle = subst (AreIdle title lock) c.two_of-one.ensures.0 c.in-Ok.ensures.passes.0 in
-    (All-head (λ p. IsPassOf title lock p × IsIdle p) first (second ∷ []) idle, All-head (λ p. IsPassOf title lock p × IsIdle p) second [] (All-tail (λ p. IsPassOf title lock p × IsIdle p) first (second ∷ []) idle))
+    let idle = subst (AreIdle writer title lock) c.two_of-one.ensures.0 c.in-Ok.ensures.passes.0 in
+    (All-head (λ p. IsPassOf writer title lock p × IsIdle p) first (second ∷ []) idle, All-head (λ p. IsPassOf writer title lock p × IsIdle p) second [] (All-tail (λ p. IsPassOf writer title lock p × IsIdle p) first (second ∷ []) idle))
