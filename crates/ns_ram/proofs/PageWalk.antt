@@ -1,8 +1,9 @@
 -- A walk over a chain of lists: list by list, and what it finds in all of RAM.
-use Rattle.std.proofs.Common.{◌≡◌, ℕ, zero, suc, ◌+◌, ◌-◌, ◌%◌, ◌<◌, ◌≤◌, Bool, true, false, ◌&&◌, ◌==◌, nat_le, List, [], ◌∷◌, ◌++◌, length, min, Option, Some, None, Ok, Err, refl, sym, ◌∙◌, ap, arith, append_assoc, append-nil, length-append, cond}
+use Rattle.std.proofs.Common.{◌≡◌, ℕ, zero, suc, ◌+◌, ◌-◌, ◌%◌, ◌<◌, ◌≤◌, Bool, true, false, ◌&&◌, ◌==◌, nat_le, List, [], ◌∷◌, ◌++◌, length, take, min, Option, Some, None, Ok, Err, refl, sym, ◌∙◌, ap, arith, append_assoc, append-nil, length-append, cond}
 use Rattle.std.proofs.lemmas.Bool.{leb-true, le-leb}
 use Rattle.std.proofs.lemmas.Bool.Decides.{nat_tests}
 use Rattle.std.proofs.lemmas.Option.{option_and_then_some}
+use Rattle.std.proofs.Math.Seq.{take-append_seam}
 use Rattle.std.specs.List.{list_all}
 use Rattle.std.specs.Option.{option_map}
 use Rattle.std.specs.Int.{from_le_bytes, w64}
@@ -93,8 +94,21 @@ take_words-passed lane list most before between entries e p =
 
 -- ---- a whole walk
 
-AppendsReads-none : (lane : List ℕ) (reads : List Read) → AppendsReads lane reads reads
+pub AppendsReads-none : (lane : List ℕ) (reads : List Read) → AppendsReads lane reads reads
 AppendsReads-none lane reads = record { taken = []; appended = sym (append-nil reads); held = tt }
+
+-- a list that was appended to and is cut back is as it was
+pub cut-is : (before after taken : List Read) → after ≡ before ++ taken → take (length before) after ≡ before
+cut-is before after taken e = rw e (take-append_seam before taken)
+
+pub AppendsReads-cut : (lane : List ℕ) (before after : List Read) → AppendsReads lane before after →
+    take (length before) after ≡ before
+AppendsReads-cut lane before after a = cut-is before after a.taken a.appended
+
+pub AppendsReads-same : (lane : List ℕ) (before after : List Read) → after ≡ before → AppendsReads lane before after
+AppendsReads-same lane before after same = rw same (AppendsReads-none lane before)
+
+pub ruleset reads_cut_back = (AppendsReads-cut, AppendsReads-same)
 
 -- a reader goes on
 pub AppendsReads-step : {A : Type 0} (reader : Reader A) (lane : List ℕ) (before between after : List Read) (value : A) →

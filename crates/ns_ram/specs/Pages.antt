@@ -3,8 +3,6 @@
 use Rattle.std.specs.Prelude.{◌≡◌, ℕ, zero, suc, ◌+◌, ◌-◌, ◌*◌, ◌/◌, ◌%◌, Bool, not, ◌==◌, ◌&&◌, nat_le, min, List, [], ◌++◌, length, map, Option, Some, None, Result, Ok, Err, if◌then◌else◌}
 use Rattle.std.specs.List.{list_all, position_from}
 use Rattle.std.specs.Int.{from_le_bytes, w64}
-use Rattle.ns_ram.specs.declared.ram.TheConstants.{RAM_START, RAM_BYTES}
-use Rattle.ns_ram.specs.declared.pages.TheConstants.{PAGE_BYTES, LIST_ENTRIES}
 use Rattle.ns_ram.specs.declared.pages.WalkFault.{WalkFault}
 use Rattle.ns_ram.specs.declared.pages.WalkFault.TheVariants.{BadPage, Memory}
 use Rattle.ns_ram.specs.declared.read.Read.{Read}
@@ -14,7 +12,7 @@ use Rattle.ns_ram.specs.Reader.{Reader, done, ◌>>=◌, over_lane, take_bytes, 
 
 -- a page's address: a multiple of 4096 at which a whole page lies in RAM
 abbrev pub is_page : ℕ → Bool
-is_page addr = (addr % PAGE_BYTES == 0) && (nat_le RAM_START addr && nat_le (addr + PAGE_BYTES) (RAM_START + RAM_BYTES))
+is_page addr = (addr % 4096 == 0) && (nat_le 0x40000000 addr && nat_le (addr + 4096) (0x40000000 + 0x400000))
 
 -- ---- the pages of a chain, in RAM
 
@@ -29,17 +27,17 @@ pages_of_list lane list count = map (λ addr. record { list = list; addr = addr 
 
 -- the address of the list behind this one
 abbrev pub link_of_list : List ℕ → ℕ → ℕ
-link_of_list lane list = from_le_bytes w64 (bytes_at lane (list + 8 * LIST_ENTRIES) 8)
+link_of_list lane list = from_le_bytes w64 (bytes_at lane (list + 8 * 511) 8)
 
 -- the first so many pages of a chain of at most so many lists
 abbrev pub pages_of_lists : ℕ → List ℕ → ℕ → ℕ → List Page
 pages_of_lists zero lane list count = []
 pages_of_lists (suc lists) lane list count =
-    pages_of_list lane list (min count LIST_ENTRIES) ++ pages_of_lists lists lane (link_of_list lane list) (count - LIST_ENTRIES)
+    pages_of_list lane list (min count 511) ++ pages_of_lists lists lane (link_of_list lane list) (count - 511)
 
 -- how many lists so many pages take
 abbrev pub lists_of : ℕ → ℕ
-lists_of count = (count + 510) / LIST_ENTRIES
+lists_of count = (count + 510) / 511
 
 -- the first so many pages of the chain at an address
 abbrev pub pages_of : List ℕ → ℕ → ℕ → List Page
@@ -69,11 +67,11 @@ Walk = Result (List ℕ) ℕ
 abbrev pub walk_lists : ℕ → ℕ → ℕ → List ℕ → Reader Walk
 walk_lists zero list count found = done (Ok found)
 walk_lists (suc lists) list count found =
-    let link = take_bytes (list + 8 * LIST_ENTRIES) 8 in
-    let onward = λ (entries : List ℕ). link >>= (λ word. walk_lists lists (from_le_bytes w64 word) (count - LIST_ENTRIES) (found ++ entries)) in
-    let passed = λ (entries : List ℕ). if nat_le count LIST_ENTRIES then done (Ok (found ++ entries)) else onward entries in
+    let link = take_bytes (list + 8 * 511) 8 in
+    let onward = λ (entries : List ℕ). link >>= (λ word. walk_lists lists (from_le_bytes w64 word) (count - 511) (found ++ entries)) in
+    let passed = λ (entries : List ℕ). if nat_le count 511 then done (Ok (found ++ entries)) else onward entries in
     let taken = λ (entries : List ℕ). if list_all is_page entries then passed entries else done (Err (length (found ++ entries) - 1)) in
-    if is_page list then (take_words list (min count LIST_ENTRIES) is_page >>= taken) else done (Err (length found))
+    if is_page list then (take_words list (min count 511) is_page >>= taken) else done (Err (length found))
 
 -- the walk over the chain at an address, for its first so many pages
 abbrev pub walk : ℕ → ℕ → Reader Walk
@@ -86,7 +84,7 @@ walk_by (Some page) addresses = Err page
 
 -- in all of RAM a walk finds the pages of the chain, or the first bad one
 abbrev pub FindsPages : Type 0
-FindsPages = (lane : List ℕ) (list count : ℕ) (before : List Read) → length lane ≡ RAM_BYTES →
+FindsPages = (lane : List ℕ) (list count : ℕ) (before : List Read) → length lane ≡ 0x400000 →
     (after : List Read) × (over_lane (walk list count) lane before ≡ Some (walk_by (first_bad_page lane list count) (page_addresses lane list count), after))
 
 -- what a walk adds to a list of reads, whatever it answers: further reads behind those that the list had,
@@ -95,6 +93,11 @@ pub record AppendsReads (lane : List ℕ) (before after : List Read) : Type 0 wh
   pub taken : List Read
   pub appended : after ≡ before ++ taken
   pub held : HoldsReads lane taken
+
+-- a fact of want of memory
+abbrev pub IfMemory : WalkFault → Type 0 → Type 0
+IfMemory (BadPage page) P = Unit {0}
+IfMemory Memory P = P
 
 -- a fact of the number of the bad page, where that is the fault
 abbrev pub IfBadPage : WalkFault → (ℕ → Type 0) → Type 0

@@ -16,20 +16,19 @@ pub struct Lane {
 
 impl Model for Lane {
     ghost use Rattle.std.specs.Prelude.{◌≡◌, ℕ, List, length};
-    ghost use Rattle.ns_ram.specs.declared.ram.TheConstants.{RAM_BYTES};
 
     ghost Value = { List ℕ };
 
     ghost view = { λ lane. lane.bytes.items };
 
-    ghost invariant = { λ lane. length lane.bytes.items ≡ RAM_BYTES };
+    ghost invariant = { λ lane. length lane.bytes.items ≡ 0x400000 };
 }
 
 impl Lane {
     /// RAM of zeros.
     pub fn new(alloc: Global) -> Result<Lane, NoMemory>
-        ensures zeros { IfOk result (λ lane. lane ≡ zeros RAM_BYTES) }
-        ensures whole { IfOk result (λ lane. length lane ≡ RAM_BYTES) }
+        ensures zeros { IfOk result (λ lane. lane ≡ zeros 0x400000) }
+        ensures whole { IfOk result (λ lane. length lane ≡ 0x400000) }
     {
         Ok(Lane {
             bytes: zeroed(alloc, RAM_BYTES as usize)?,
@@ -41,7 +40,7 @@ impl Lane {
         requires { IsInRam addr len }
         ensures bytes { result.now ≡ bytes_at self.now addr len }
         ensures len { length result.now ≡ len }
-        ensures whole { length self.now ≡ RAM_BYTES }
+        ensures whole { length self.now ≡ 0x400000 }
     {
         let offset = (addr - RAM_START) as usize;
         &self.bytes[offset..offset + len as usize]
@@ -51,7 +50,7 @@ impl Lane {
     pub fn read(&self, addr: u64, out: &mut [u8])
         requires { IsInRam addr (length out.old) }
         ensures bytes { out.new ≡ bytes_at self.now addr (length out.old) }
-        ensures whole { length self.now ≡ RAM_BYTES }
+        ensures whole { length self.now ≡ 0x400000 }
     {
         out.copy_from_slice(self.at(addr, out.len() as u64));
     }
@@ -60,7 +59,7 @@ impl Lane {
     pub fn write(&mut self, addr: u64, bytes: &[u8])
         requires { IsInRam addr (length bytes.now) }
         ensures bytes { self.new ≡ bytes_put self.old addr bytes.now }
-        ensures whole { length self.new ≡ RAM_BYTES }
+        ensures whole { length self.new ≡ 0x400000 }
     {
         let offset = (addr - RAM_START) as usize;
         self.bytes[offset..offset + bytes.len()].copy_from_slice(bytes);

@@ -9,19 +9,17 @@ ghost use Rattle.ns_ram.specs.Lane.{ChangesItsBytesAlone, IsInRam, bytes_at};
 ghost use Rattle.ns_ram.specs.Reader.{AddsItsReads, IsReadFromLane, RunsInTurn};
 ghost use Rattle.ns_ram.specs.Writes.{ChangeTheirBytesAlone, IsWriteOfRam, Write};
 
-use crate::ram::RAM_BYTES;
-
 /// Writes in RAM change their own bytes alone.
 pub fn writes_change_their_bytes_alone()
-    ensures one { (lane bytes : List ℕ) (addr : ℕ) → length lane ≡ RAM_BYTES
+    ensures one { (lane bytes : List ℕ) (addr : ℕ) → length lane ≡ 0x400000
         → IsInRam addr (length bytes) → ChangesItsBytesAlone lane addr bytes }
-    ensures all { (lane : List ℕ) (writes : List Write) → length lane ≡ RAM_BYTES
+    ensures all { (lane : List ℕ) (writes : List Write) → length lane ≡ 0x400000
         → AllByRecursion IsWriteOfRam writes → ChangeTheirBytesAlone lane writes }
 {}
 
 /// RAM of zeros has zeros everywhere.
 pub fn zeros_are_read_everywhere()
-    ensures { (addr len : ℕ) → IsInRam addr len → bytes_at (zeros RAM_BYTES) addr len ≡ zeros len }
+    ensures { (addr len : ℕ) → IsInRam addr len → bytes_at (zeros 0x400000) addr len ≡ zeros len }
 {}
 
 /// What a reader makes of a lane is what it makes of the reads that it takes there, and of no others that

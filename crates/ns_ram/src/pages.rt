@@ -2,12 +2,12 @@
 //! is one page: the addresses of 511 pages, and then the address of the next list, eight bytes each with the
 //! least one first (`OPTEE_MSG_ATTR_NONCONTIG` of `optee_msg.h`).
 
-ghost use Rattle.std.specs.Prelude.{◌≡◌, ℕ, ◌+◌, ◌*◌, ◌%◌, ◌<◌, ◌≤◌, ◌↔◌, ◌++◌, length, take, IsTrue, IfOk, IfErr, OnOk, OnErr, Some, None, Ok, Err};
+ghost use Rattle.std.specs.Prelude.{◌≡◌, ℕ, ◌+◌, ◌*◌, ◌%◌, ◌<◌, ◌≤◌, ◌↔◌, ◌++◌, length, take, IsTrue, IsErrOf, IfOk, IfErr, OnOk, OnErr, Some, None, Ok, Err};
 ghost use Rattle.std.specs.List.{list_all};
 ghost use Rattle.std.specs.Int.{from_le_bytes, w64};
 ghost use Rattle.ns_ram.specs.Lane.{IsInRam};
 ghost use Rattle.ns_ram.specs.PageExamples.{PageExamples};
-ghost use Rattle.ns_ram.specs.Pages.{AppendsReads, FindsPages, IfBadPage, first_bad_page, is_page, page_addresses, walk};
+ghost use Rattle.ns_ram.specs.Pages.{AppendsReads, FindsPages, IfBadPage, IfMemory, first_bad_page, is_page, page_addresses, walk};
 ghost use Rattle.ns_ram.specs.Reader.{over_lane, take_words, up_to_failing, words_of};
 
 use crate::lane::Lane;
@@ -59,7 +59,7 @@ impl From<NoMemory> for WalkFault {
 /// Whether a whole page of RAM begins at the address.
 pub fn is_page(addr: u64) -> bool
     ensures value { result ≡ is_page addr }
-    ensures page { IsTrue result ↔ ((addr % PAGE_BYTES ≡ 0) × IsInRam addr PAGE_BYTES) }
+    ensures page { IsTrue result ↔ ((addr % 4096 ≡ 0) × IsInRam addr 4096) }
 {
     addr % PAGE_BYTES == 0 && in_ram(addr, PAGE_BYTES)
 }
@@ -80,7 +80,7 @@ pub fn walk_pages(alloc: Global, lane: &Lane, list: u64, count: u32) -> Result<V
 
 /// Does nothing, and says that a lane is as long as RAM.
 fn has_all_of_ram(lane: &Lane)
-    ensures { length lane.now ≡ RAM_BYTES }
+    ensures { length lane.now ≡ 0x400000 }
 {
     let _none = lane.at(RAM_START, 0);
 }
@@ -92,8 +92,39 @@ pub fn walks_find_pages()
 
 /// `walk_pages`, which besides lists what it reads, also where it finds a bad page: the used entries of each
 /// list up to and with the first bad one, and where a further page is needed the eight bytes of the link. A
-/// list whose own address is bad isn't read.
+/// list whose own address is bad isn't read. At want of memory the list of reads is as it was.
+#[tactic(auto, using(crate::proofs::PageWalk::reads_cut_back))]
 pub fn take_pages(
+    alloc: Global,
+    lane: &Lane,
+    list: u64,
+    count: u32,
+    reads: &mut Reads,
+) -> Result<Vec<u64>, WalkFault>
+    requires { count ≤ 1024 }
+    ensures appended { AppendsReads lane.now reads.old reads.new }
+    ensures pages { IfOk result (λ pages.
+        over_lane (walk list count) lane.now reads.old ≡ Some (Ok pages.items, reads.new)) }
+    ensures bad { IfErr result (λ fault. IfBadPage fault (λ page.
+        over_lane (walk list count) lane.now reads.old ≡ Some (Err page, reads.new))) }
+    ensures memory { IfErr result (λ fault. IfMemory fault (reads.new ≡ reads.old)) }
+{
+    let listed = reads.len();
+    let walked = take_lists(alloc, lane, list, count, reads);
+    if is_want_of_memory(&walked) {
+        reads.truncate(listed);
+    }
+    walked
+}
+
+fn is_want_of_memory(walked: &Result<Vec<u64>, WalkFault>) -> bool
+    ensures { IsTrue result ↔ IsErrOf walked.now WalkFault.Memory }
+{
+    matches!(walked, Err(WalkFault::Memory))
+}
+
+/// The walk over the lists, one after the other.
+fn take_lists(
     alloc: Global,
     lane: &Lane,
     list: u64,
@@ -145,8 +176,8 @@ fn take_entries(
     most: u64,
     reads: &mut Reads,
 ) -> Result<Vec<u64>, NoMemory>
-    requires most { most ≤ LIST_ENTRIES }
-    requires list { IsInRam list PAGE_BYTES }
+    requires most { most ≤ 511 }
+    requires list { IsInRam list 4096 }
     ensures ok { IfOk result (λ entries. over_lane (take_words list most is_page) lane.now reads.old
         ≡ Some (entries.items, reads.new)) }
     ensures len { IfOk result (λ entries. length entries.items ≤ most) }
@@ -161,7 +192,7 @@ fn take_entries(
 /// The words that the bytes make, or those up to and with the first that is no page.
 fn words_up_to_bad(alloc: Global, bytes: &[u8], count: usize) -> Result<Vec<u64>, NoMemory>
     requires whole { length bytes.now ≡ 8 * count }
-    requires few { count ≤ LIST_ENTRIES }
+    requires few { count ≤ 511 }
     ensures ok { IfOk result (λ words. up_to_failing is_page (words_of count bytes.now) count
         ≡ Some words.items) }
     ensures len { IfOk result (λ words. length words.items ≤ count) }
@@ -211,14 +242,14 @@ mod tests {
 
     fn page(i: u64) -> u64
         requires { i < 1024 }
-        ensures { result ≡ RAM_START + i * PAGE_BYTES }
+        ensures { result ≡ 0x40000000 + i * 4096 }
     {
         RAM_START + i * PAGE_BYTES
     }
 
     // Writes a whole list of the pages from the given one on, and its link.
     fn write_list(lane: &mut Lane, list: u64, first: u64, link: u64)
-        requires list { IsInRam list PAGE_BYTES }
+        requires list { IsInRam list 4096 }
         requires first { first < 512 }
     {
         for i in 0..LIST_ENTRIES {
@@ -235,79 +266,27 @@ mod tests {
     }
 
     #[test]
-    fn pages_over_lists(rt: HostRuntime) -> Result<(), Fail> {
-        let alloc = rt.alloc();
-        let lane = two_lists(alloc)?;
-        for (list, count, first, last) in [
-            (FIRST_LIST, 1, 0, 0),
-            (FIRST_LIST, 511, 0, 510),
-            (FIRST_LIST, 512, 0, 511),
-            (FIRST_LIST, 600, 0, 599),
-            (FIRST_LIST, 1024, 0, 1),
-            (SECOND_LIST, 513, 511, 1),
-        ] {
-            let pages = walk_pages(alloc, &lane, list, count)?;
-            assert_eq!(rt; pages.len(), count as usize);
-            assert_eq!(rt; pages.first().copied(), Some(page(first)));
-            assert_eq!(rt; pages.last().copied(), Some(page(last)));
-        }
-        assert_eq!(rt; walk_pages(alloc, &lane, 5, 0)?.len(), 0);
-        Ok(())
-    }
-
-    #[test]
-    fn bad_pages(rt: HostRuntime) -> Result<(), Fail> {
-        let alloc = rt.alloc();
-        for (entry, list, count, wanted) in [
-            (RAM_START + 1, FIRST_LIST, 600, Some(599)),
-            (RAM_START + RAM_BYTES, FIRST_LIST, 600, Some(599)),
-            (RAM_START - PAGE_BYTES, FIRST_LIST, 1024, Some(599)),
-            (RAM_START + 1, FIRST_LIST, 599, None),
-            (page(7), FIRST_LIST + 8, 600, Some(0)),
-            (page(7), RAM_START + RAM_BYTES, 1, Some(0)),
-            (page(7), FIRST_LIST, 600, None),
-        ] {
-            assert!(rt; count <= 1024);
-            let mut lane = two_lists(alloc)?;
-            lane.write(SECOND_LIST + 8 * 88, &u64::to_le_bytes(entry));
-            let bad = walk_pages(alloc, &lane, list, count).err();
-            assert_eq!(rt; bad, wanted.map(WalkFault::BadPage));
-        }
-        Ok(())
-    }
-
-    #[test]
-    fn reads_of_a_walk(rt: HostRuntime) -> Result<(), Fail> {
+    fn walks_over_two_lists(rt: HostRuntime) -> Result<(), Fail> {
         let alloc = rt.alloc();
         let mut lane = two_lists(alloc)?;
+        // the second list leads back to the first
+        let pages = walk_pages(alloc, &lane, FIRST_LIST, 1024)?;
+        assert_eq!(rt; pages.len(), 1024);
+        assert_eq!(rt; pages.last().copied(), Some(page(1)));
         lane.write(SECOND_LIST + 8 * 20, &0u64.to_le_bytes());
-        for (count, wanted) in [
-            (511, vec![in alloc; (FIRST_LIST, 4088)]?),
-            (
-                531,
-                vec![in alloc;
-                    (FIRST_LIST, 4088),
-                    (FIRST_LIST + 4088, 8),
-                    (SECOND_LIST, 160),
-                ]?,
-            ),
-            (
-                600,
-                vec![in alloc;
-                    (FIRST_LIST, 4088),
-                    (FIRST_LIST + 4088, 8),
-                    (SECOND_LIST, 168),
-                ]?,
-            ),
-        ] {
-            let mut reads = Reads::new(alloc);
-            let _pages = take_pages(alloc, &lane, FIRST_LIST, count, &mut reads);
-            let listed = reads.into_vec();
-            assert_eq!(rt; listed.len(), wanted.len());
-            for (read, (addr, len)) in listed.iter().zip(wanted.iter()) {
-                assert_eq!(rt; read.addr, *addr);
-                assert_eq!(rt; read.bytes.len(), *len);
-            }
+        let mut reads = Reads::new(alloc);
+        let refused = take_pages(alloc, &lane, FIRST_LIST, 600, &mut reads).err();
+        assert_eq!(rt; refused, Some(WalkFault::BadPage(531)));
+        let text = format!(in alloc; "{}", WalkFault::BadPage(531))?;
+        assert_eq!(rt; text.as_str(), "page 531 is no page of RAM");
+        let wanted = [
+            (FIRST_LIST, 4088),
+            (FIRST_LIST + 4088, 8),
+            (SECOND_LIST, 168),
+        ];
+        assert_eq!(rt; reads.len(), wanted.len());
+        for (read, (addr, len)) in reads.as_slice().iter().zip(wanted.iter()) {
+            assert_eq!(rt; (read.addr, read.bytes.len()), (*addr, *len));
         }
         Ok(())
     }

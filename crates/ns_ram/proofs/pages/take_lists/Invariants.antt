@@ -1,6 +1,6 @@
 use Rattle.std.proofs.Common.{◌-◌, length}
 use Rattle.ns_ram.proofs.PageWalk.{Walked}
-use Rattle.ns_ram.proofs.pages.take_pages.Given as goal
+use Rattle.ns_ram.proofs.pages.take_lists.Given as goal
 
 abbrev pub invariant-lists : goal.invariant-lists
 invariant-lists l = Walked l.lane l.list l.count l.fn.reads l.current l.pages.items l.reads

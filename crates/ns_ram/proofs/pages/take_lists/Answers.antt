@@ -5,7 +5,7 @@ use Rattle.std.specs.List.{list_all}
 use Rattle.ns_ram.specs.Pages.{is_page, lists_of}
 use Rattle.ns_ram.specs.Reader.{take_words}
 use Rattle.ns_ram.proofs.PageWalk.{AppendsReads-step, Walked-bad_list, Walked-list, Walked-next, after_list-bad, take_words-passed}
-use Rattle.ns_ram.proofs.pages.take_pages.Goals as goal
+use Rattle.ns_ram.proofs.pages.take_lists.Goals as goal
 
 pub returns-then-not-is_page-clause-bad : goal.returns-then-not-is_page-clause-bad
 returns-then-not-is_page-clause-bad c =
