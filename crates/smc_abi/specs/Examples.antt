@@ -3,6 +3,7 @@ use Rattle.std.specs.Prelude.{◌≡◌, ℕ, List, [], ◌∷◌}
 use Rattle.smc_abi.specs.Answer.{registers_of}
 use Rattle.smc_abi.specs.Call.{call_of}
 use Rattle.smc_abi.specs.FastAnswer.{fast_answer_of}
+use Rattle.smc_abi.specs.declared.answer.TheConstants.{OK, ETHREAD_LIMIT, ERESUME, EBADADDR, EBADCMD, ENOTAVAIL, UNKNOWN_FUNCTION}
 use Rattle.smc_abi.specs.declared.answer.Answer.TheVariants.{Words, Alloc, Free, Cmd, Interrupt}
 use Rattle.smc_abi.specs.declared.call.Call.TheVariants.{Fast, WithArg, Resume, Unknown}
 use Rattle.smc_abi.specs.declared.call.FastCall.TheVariants.{CallsUid, Capabilities, ShmConfig, ThreadCount}
@@ -13,6 +14,15 @@ numbered b = 0 ∷ b ∷ 2 ∷ 3 ∷ 4 ∷ 5 ∷ 6 ∷ 7 ∷ []
 
 -- each an equation that computes
 pub record Examples : Type 0 where
+  -- the codes of answers
+  pub ok : OK ≡ 0
+  pub thread_limit : ETHREAD_LIMIT ≡ 1
+  pub bad_resume : ERESUME ≡ 3
+  pub bad_address : EBADADDR ≡ 4
+  pub bad_command : EBADCMD ≡ 5
+  pub not_available : ENOTAVAIL ≡ 7
+  pub unknown_function : UNKNOWN_FUNCTION ≡ 0xffffffff
+  -- calls and answers
   pub uid_id : call_of 0xbf00ff01 ≡ Fast CallsUid
   pub thread_count_id : call_of 0xb200000f ≡ Fast ThreadCount
   pub with_arg_id : call_of 0x32000004 ≡ WithArg
