@@ -6,7 +6,6 @@ use Rattle.std.specs.List.{AllByRecursion}
 use Rattle.std.specs.Option.{option_map_or}
 use Rattle.base.specs.NumberMap.{NumberMap, get}
 use Rattle.msg_args.specs.declared.param.MsgParam.{MsgParam}
-use Rattle.ns_ram.specs.declared.pages.TheConstants.{PAGE_BYTES}
 use Rattle.ns_ram.specs.Attempt.{Attempt, passes, refuses}
 use Rattle.ns_ram.specs.Lane.{is_in_ram}
 use Rattle.ns_ram.specs.Pages.{Walk, walk}
@@ -15,7 +14,6 @@ use Rattle.ns_ram.specs.Reader.{Reader, done, over_lane, take_bytes, ◌>>=◌}
 use Rattle.shm_registry.specs.declared.page_buffer.PageBuffer.{PageBuffer}
 use Rattle.shm_registry.specs.declared.piece.Piece.{Piece}
 use Rattle.shm_registry.specs.Pieces.{IsPieceOfRam, page_count, pieces_from}
-use Rattle.param_copy.specs.declared.copied.TheConstants.{MAX_MEMREF_BYTES}
 use Rattle.param_copy.specs.declared.fault.CopyFault.{CopyFault}
 use Rattle.param_copy.specs.declared.fault.CopyFault.TheVariants.{TooLong, Cookie, Range, Page}
 
@@ -48,19 +46,19 @@ contiguous_pieces number param =
 -- in the pages of a chain of lists: the low twelve bits of p are the offset in the first page, the rest is
 -- the address of the first list, and q is the size
 abbrev pub cut_at_pages : ℕ → MsgParam → Walk → Attempt CopyFault (List Piece)
-cut_at_pages number param (Ok pages) = passes (pieces_from pages (param.p % PAGE_BYTES) param.q)
+cut_at_pages number param (Ok pages) = passes (pieces_from pages (param.p % 4096) param.q)
 cut_at_pages number param (Err page) = refuses (Page number page)
 
 abbrev pub chained_pieces : ℕ → MsgParam → Attempt CopyFault (List Piece)
 chained_pieces number param =
-    let offset = param.p % PAGE_BYTES in
+    let offset = param.p % 4096 in
     walk (param.p - offset) (page_count offset param.q) >>= cut_at_pages number param
 
 -- ---- the first fault
 
 -- those pieces, unless the size is above the limit
 abbrev pub within_limit : ℕ → MsgParam → Attempt CopyFault (List Piece) → Attempt CopyFault (List Piece)
-within_limit number param pieces = if nat_lt MAX_MEMREF_BYTES param.q then refuses (TooLong number) else pieces
+within_limit number param pieces = if nat_lt 65536 param.q then refuses (TooLong number) else pieces
 
 -- registered memory
 abbrev pub rmem_pieces : NumberMap PageBuffer → ℕ → MsgParam → Attempt CopyFault (List Piece)

@@ -6,7 +6,6 @@ use Rattle.shm_registry.specs.Pieces.{IsPieceOfRam}
 use Rattle.ta_params.specs.declared.copied_params.GpParam.{GpParam}
 use Rattle.ta_params.specs.declared.copied_params.GpParam.TheVariants.{Empty, Value, Memref}
 use Rattle.param_copy.specs.declared.copied.Place.{Place}
-use Rattle.param_copy.specs.declared.copied.TheConstants.{MAX_MEMREF_BYTES}
 use Rattle.param_copy.specs.Memory.{bytes_in}
 use Rattle.param_copy.specs.WritingBack.{param_addr}
 
@@ -36,7 +35,7 @@ pub record IsWritable (arg : ℕ) (place : Place) : Type 0 where
 abbrev pub IsWithinLimit : GpParam → Type 0
 IsWithinLimit Empty = Unit {0}
 IsWithinLimit (Value way a b) = Unit {0}
-IsWithinLimit (Memref way bytes size) = length bytes ≤ MAX_MEMREF_BYTES
+IsWithinLimit (Memref way bytes size) = length bytes ≤ 65536
 
 -- the parameter of this number in the argument, in its place
 pub record IsPlaced (number : ℕ) (place : Place) (param : GpParam) : Type 0 where

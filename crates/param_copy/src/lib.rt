@@ -22,6 +22,7 @@ mod write_back;
 pub use copied::{Copied, MAX_MEMREF_BYTES, Place, Places, copy_in};
 pub use fault::CopyFault;
 pub use laws::{pieces_have_the_size, worked_examples, writes_back_lie_in_ram};
+pub use ns_ram::{Read, Reads};
 pub use take::take_params;
 pub use taken::TakenParams;
 pub use write_back::copy_out;

@@ -21,9 +21,9 @@ use ta_params::Way;
 
 /// Refuses a parameter whose size is above the limit.
 fn within_limit(number: u8, param: &MsgParam) -> Result<(), CopyFault>
-    ensures ok { IfOk result (λ _. param.now.q ≤ MAX_MEMREF_BYTES) }
+    ensures ok { IfOk result (λ _. param.now.q ≤ 65536) }
     ensures faulty { IfErr result (λ fault. (fault ≡ CopyFault.TooLong number)
-        × (MAX_MEMREF_BYTES < param.now.q)) }
+        × (65536 < param.now.q)) }
 {
     if param.q > MAX_MEMREF_BYTES {
         return Err(CopyFault::TooLong(number));
@@ -43,7 +43,7 @@ pub(crate) fn rmem_pieces(
     ensures faulty { IfErr result (λ fault. UnlessMemory fault
         (rmem_pieces registry.now.buffers number param.now ≡ refuses fault)) }
     ensures in_ram { IfOk result (λ pieces. AllByRecursion IsPieceOfRam pieces.items) }
-    ensures few { IfOk result (λ pieces. bytes_in pieces.items ≤ MAX_MEMREF_BYTES) }
+    ensures few { IfOk result (λ pieces. bytes_in pieces.items ≤ 65536) }
 {
     within_limit(number, param)?;
     match registry.resolve(alloc, param.s, param.p, param.q) {
@@ -68,7 +68,7 @@ pub(crate) fn tmem_pieces(
         (over_lane (tmem_pieces number param.now) lane.now reads.old ≡ Some (Err fault, reads.new))) }
     ensures appended { AppendsReads lane.now reads.old reads.new }
     ensures in_ram { IfOk result (λ pieces. AllByRecursion IsPieceOfRam pieces.items) }
-    ensures few { IfOk result (λ pieces. bytes_in pieces.items ≤ MAX_MEMREF_BYTES) }
+    ensures few { IfOk result (λ pieces. bytes_in pieces.items ≤ 65536) }
 {
     if param.noncontig {
         within_limit(number, param)?;
@@ -83,13 +83,13 @@ pub(crate) fn tmem_pieces(
 
 /// The piece of bytes that stand one behind the other.
 fn contiguous_pieces(alloc: Global, number: u8, param: &MsgParam) -> Result<Vec<Piece>, CopyFault>
-    requires { param.now.q ≤ MAX_MEMREF_BYTES }
+    requires { param.now.q ≤ 65536 }
     ensures ok { IfOk result (λ pieces.
         contiguous_pieces number param.now ≡ passes pieces.items) }
     ensures faulty { IfErr result (λ fault. UnlessMemory fault
         (contiguous_pieces number param.now ≡ refuses fault)) }
     ensures in_ram { IfOk result (λ pieces. AllByRecursion IsPieceOfRam pieces.items) }
-    ensures few { IfOk result (λ pieces. bytes_in pieces.items ≤ MAX_MEMREF_BYTES) }
+    ensures few { IfOk result (λ pieces. bytes_in pieces.items ≤ 65536) }
 {
     if !in_ram(param.p, param.q) {
         return Err(CopyFault::Range(number));
@@ -116,7 +116,7 @@ fn chained_pieces(
     param: &MsgParam,
     reads: &mut Reads,
 ) -> Result<Vec<Piece>, CopyFault>
-    requires { param.now.q ≤ MAX_MEMREF_BYTES }
+    requires { param.now.q ≤ 65536 }
     ensures ok { IfOk result (λ pieces. over_lane (chained_pieces number param.now) lane.now reads.old
         ≡ Some (Ok pieces.items, reads.new)) }
     ensures faulty { IfErr result (λ fault. UnlessMemory fault
@@ -124,7 +124,7 @@ fn chained_pieces(
         ≡ Some (Err fault, reads.new))) }
     ensures appended { AppendsReads lane.now reads.old reads.new }
     ensures in_ram { IfOk result (λ pieces. AllByRecursion IsPieceOfRam pieces.items) }
-    ensures few { IfOk result (λ pieces. bytes_in pieces.items ≤ MAX_MEMREF_BYTES) }
+    ensures few { IfOk result (λ pieces. bytes_in pieces.items ≤ 65536) }
 {
     let offset = param.p % PAGE_BYTES;
     let count = page_count(offset, param.q);
@@ -137,8 +137,8 @@ fn chained_pieces(
 
 /// How many pages the bytes touch that begin at the offset in a page.
 fn page_count(offset: u64, size: u64) -> u32
-    requires offset { offset < PAGE_BYTES }
-    requires size { size ≤ MAX_MEMREF_BYTES }
+    requires offset { offset < 4096 }
+    requires size { size ≤ 65536 }
     ensures count { result ≡ page_count offset size }
     ensures few { result ≤ 1024 }
 {
@@ -157,7 +157,7 @@ pub(crate) fn take_bytes_of(
     reads: &mut Reads,
 ) -> Result<Vec<u8>, NoMemory>
     requires in_ram { AllByRecursion IsPieceOfRam pieces.now }
-    requires few { bytes_in pieces.now ≤ MAX_MEMREF_BYTES }
+    requires few { bytes_in pieces.now ≤ 65536 }
     ensures ok { IfOk result (λ bytes. over_lane (bytes_of way pieces.now) lane.now reads.old
         ≡ Some (bytes.items, reads.new)) }
     ensures len { IfOk result (λ bytes. length bytes.items ≡ bytes_in pieces.now) }
@@ -177,7 +177,7 @@ fn take_pieces(
     reads: &mut Reads,
 ) -> Result<Vec<u8>, NoMemory>
     requires in_ram { AllByRecursion IsPieceOfRam pieces.now }
-    requires few { bytes_in pieces.now ≤ MAX_MEMREF_BYTES }
+    requires few { bytes_in pieces.now ≤ 65536 }
     ensures ok { IfOk result (λ bytes. over_lane (take_pieces pieces.now) lane.now reads.old
         ≡ Some (bytes.items, reads.new)) }
     ensures len { IfOk result (λ bytes. length bytes.items ≡ bytes_in pieces.now) }
@@ -193,7 +193,7 @@ fn take_pieces(
 
 /// As many zeros as the pieces have bytes.
 fn zeros_for(alloc: Global, pieces: &[Piece]) -> Result<Vec<u8>, NoMemory>
-    requires { bytes_in pieces.now ≤ MAX_MEMREF_BYTES }
+    requires { bytes_in pieces.now ≤ 65536 }
     ensures zeros { IfOk result (λ bytes. bytes.items ≡ zeros_for pieces.now) }
     ensures len { IfOk result (λ bytes. length bytes.items ≡ bytes_in pieces.now) }
 {
@@ -202,7 +202,7 @@ fn zeros_for(alloc: Global, pieces: &[Piece]) -> Result<Vec<u8>, NoMemory>
 
 /// How many bytes the pieces have together.
 fn bytes_in(pieces: &[Piece]) -> usize
-    requires { bytes_in pieces.now ≤ MAX_MEMREF_BYTES }
+    requires { bytes_in pieces.now ≤ 65536 }
     ensures { result ≡ bytes_in pieces.now }
 {
     pieces.iter().map(|piece| piece.len as usize).sum()

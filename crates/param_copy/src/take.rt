@@ -11,7 +11,7 @@ ghost use Rattle.param_copy.specs.Outcome.{IfMemory, UnlessMemory, copies_in};
 ghost use Rattle.param_copy.specs.Places.{ArePlaced, IsPlaced};
 ghost use Rattle.param_copy.specs.WritingBack.{params_of};
 
-use crate::copied::{MAX_MEMREF_BYTES, Place};
+use crate::copied::Place;
 use crate::fault::CopyFault;
 use crate::memory::{rmem_pieces, take_bytes_of, tmem_pieces};
 use crate::taken::{CopiedParam, TakenParams};
@@ -214,7 +214,7 @@ fn memref(
 ) -> CopiedParam
     requires in_ram { AllByRecursion IsPieceOfRam pieces.items }
     requires len { length bytes.items ≡ bytes_in pieces.items }
-    requires few { bytes_in pieces.items ≤ MAX_MEMREF_BYTES }
+    requires few { bytes_in pieces.items ≤ 65536 }
     ensures value { result ≡ record {
       param = GpParam.Memref way bytes.items (length bytes.items);
       place = record { number = number; pieces = pieces.items };
