@@ -9,6 +9,7 @@ use Rattle.job_model.specs.declared.call_kind.CallKind.TheVariants as kind
 use Rattle.job_model.specs.Point.{Point, Invoke}
 use Rattle.msg_args.specs.declared.param.MsgParam.{MsgParam}
 use Rattle.msg_args.specs.Reading.{head_at}
+use Rattle.ns_ram.specs.Attempt.{need, known, read, faultless, ◌>>=◌}
 use Rattle.ns_ram.specs.Pages.{walk}
 use Rattle.ns_ram.specs.Reader.{Reader, done, want_bytes, want_words, take_bytes}
 use Rattle.param_copy.specs.Copying.{Copies, copying}
@@ -27,12 +28,12 @@ use Rattle.kernel_model.specs.Application.{Application, Booted}
 use Rattle.kernel_model.specs.Argument.{argument_at, client_in, params_in, reg, Opening, opening, invocation, registering, unregistering}
 use Rattle.kernel_model.specs.Begin.{works_on, closing_points}
 use Rattle.kernel_model.specs.Codes.{ethread_limit, ebadaddr, ebadcmd, eresume, bad_parameters, item_not_found, out_of_memory, busy, target_dead}
-use Rattle.kernel_model.specs.Decision.{Decision, Answers, Takes, Cancels, Tested, need, known, read, faultless, decided, ◌>>=◌}
+use Rattle.kernel_model.specs.Decision.{Decision, Answers, Takes, Cancels, Tested, decided}
 use Rattle.kernel_model.specs.Entry.{decision_of}
 use Rattle.kernel_model.specs.Instances.{app_of, is_held, shared_instance}
 use Rattle.kernel_model.specs.Kernel.{Instance, Kernel, lowest_free}
 use Rattle.kernel_model.specs.Laws.{FindsNoSlot}
-use Rattle.kernel_model.specs.NewCall.{NewCall, parameters, copied, settles, beginner, about_session, opens, open_waits, waits_in, runs_in, works_or_waits, shares_one, is_taken, has_pages, open_session, named_session, invoke_command, no_copies, close_session, cancel_calls, offset_in, pages_in, register_memory, unregister_memory, commands, command_of, is_head_address, has_argument, new_call_in, new_call_with}
+use Rattle.kernel_model.specs.NewCall.{NewCall, parameters, copied, settles, settles_as, settled_open, settled_invoke, beginner, about_session, opens, open_waits, waits_in, runs_in, works_or_waits, shares_one, is_taken, has_pages, open_session, named_session, invoke_command, no_copies, close_session, cancel_calls, offset_in, pages_in, register_memory, unregister_memory, commands, command_of, is_head_address, has_argument, new_call_in, new_call_with}
 use Rattle.kernel_model.specs.Resume.{resume}
 use Rattle.kernel_model.proofs.Parts.{AllOf, AllOf-mapped, AllOf-onward, if-both, map_or-both}
 use Rattle.kernel_model.proofs.Resuming.{Resuming, resume-Resuming}
@@ -79,21 +80,18 @@ faultless-fails P (want_words addr most test next) decision holds = λ got. faul
 
 -- ---- the commands
 
-settles_no_limit : (c : NewCall) (code : ℕ) → NoLimit (settles c code)
-settles_no_limit c code e = cc
-
--- a value that is known, parameters that are read and copied, and a test, or else the call is settled
-value_known : {A : Type 0} (c : NewCall) (found : Option A) (code : ℕ) → AllOf (Fails NoLimit) (known found (settles c code))
-value_known c found code = known-fails NoLimit found (settles c code) (settles_no_limit c code)
+-- a value that is known, parameters that are read and copied, and a test, or else something is decided
+value_known : {A : Type 0} (found : Option A) (decision : Decision) → NoLimit decision → AllOf (Fails NoLimit) (known found decision)
+value_known found decision never = known-fails NoLimit found decision never
 
 parameters_read : (c : NewCall) → AllOf (Fails NoLimit) (parameters c)
 parameters_read c =
     tested-then (λ params. Unit {0}) NoLimit (read (take_bytes (c.arg + 32) (32 * c.head.count))) (λ bytes. known (params_in c.head.count bytes) (settles c bad_parameters))
-    (read-fails NoLimit (take_bytes (c.arg + 32) (32 * c.head.count))) (λ bytes. value_known c (params_in c.head.count bytes) bad_parameters)
+    (read-fails NoLimit (take_bytes (c.arg + 32) (32 * c.head.count))) (λ bytes. value_known (params_in c.head.count bytes) (settles c bad_parameters) (λ e. cc))
 
-copied_in : (c : NewCall) (params : List MsgParam) (first : ℕ) → AllOf (Fails NoLimit) (copied c params first)
-copied_in c params first =
-    faultless-fails NoLimit (copying c.kernel.registered.buffers params first) (settles c bad_parameters) (settles_no_limit c bad_parameters)
+copied_in : (c : NewCall) (params : List MsgParam) (first : ℕ) (decision : Decision) → NoLimit decision → AllOf (Fails NoLimit) (copied c params first decision)
+copied_in c params first decision never =
+    faultless-fails NoLimit (copying c.kernel.registered.buffers params first) decision never
 
 opens_no_limit : (c : NewCall) (wanted : Opening) (app : Application) (copies : Copies) (kept : Option (ℕ × Instance))
     → NoLimit (option_map_or (λ k. if is_held k.1 then open_waits c wanted app copies k else opens c wanted app copies) kept (opens c wanted app copies))
@@ -108,63 +106,65 @@ works_no_limit c call_kind session instance copies points =
     let begun = works_on (beginner c) session instance copies.params points in
     if-both NoLimit (is_held instance) (waits_in c c.kernel about copies) (runs_in c begun.kernel about copies.cookies begun.job) (λ e. cc) (λ e. cc)
 
-value_then : {A : Type 0} (c : NewCall) (found : Option A) (code : ℕ) (onward : A → Tested Decision)
-    → ((value : A) → AllOf (Both NoLimit) (onward value)) → AllOf (Both NoLimit) (known found (settles c code) >>= onward)
-value_then c found code onward rest = tested-then NoLimit NoLimit (known found (settles c code)) onward (value_known c found code) rest
+value_then : {A : Type 0} (found : Option A) (decision : Decision) → NoLimit decision → (onward : A → Tested Decision)
+    → ((value : A) → AllOf (Both NoLimit) (onward value)) → AllOf (Both NoLimit) (known found decision >>= onward)
+value_then found decision never onward rest = tested-then NoLimit NoLimit (known found decision) onward (value_known found decision never) rest
 
-test_then : (c : NewCall) (test : Bool) (code : ℕ) (onward : Unit {0} → Tested Decision)
-    → ((passed : Unit {0}) → AllOf (Both NoLimit) (onward passed)) → AllOf (Both NoLimit) (need test (settles c code) >>= onward)
-test_then c test code onward rest =
-    tested-then NoLimit NoLimit (need test (settles c code)) onward (need-fails NoLimit test (settles c code) (settles_no_limit c code)) rest
+test_then : (test : Bool) (decision : Decision) → NoLimit decision → (onward : Unit {0} → Tested Decision)
+    → ((passed : Unit {0}) → AllOf (Both NoLimit) (onward passed)) → AllOf (Both NoLimit) (need test decision >>= onward)
+test_then test decision never onward rest =
+    tested-then NoLimit NoLimit (need test decision) onward (need-fails NoLimit test decision never) rest
 
 open_no_limit : (c : NewCall) → AllOf (Both NoLimit) (open_session c)
 open_no_limit c =
     tested-then NoLimit NoLimit (parameters c) _ (parameters_read c) (λ params.
-    value_then c (opening params) bad_parameters _ (λ wanted.
-    value_then c (app_of c.boot wanted.uuid) item_not_found _ (λ app.
-    test_then c (not (shares_one c app (λ kept. kept.1.dead))) target_dead _ (λ _.
-    test_then c (not (is_taken c app)) busy _ (λ _.
-    test_then c (has_room (record { kept = c.kernel.sessions; next = c.kernel.next_session })) out_of_memory _ (λ _.
-    test_then c (has_pages c app) out_of_memory _ (λ _.
-    tested-then NoLimit NoLimit (copied c wanted.params 2) _ (copied_in c wanted.params 2) (λ copies.
+    value_then (opening params) (settles c bad_parameters) (λ e. cc) _ (λ wanted.
+    value_then (app_of c.boot wanted.uuid) (settles c item_not_found) (λ e. cc) _ (λ app.
+    test_then (not (shares_one c app (λ kept. kept.1.dead))) (settles_as c (settled_open c app target_dead)) (λ e. cc) _ (λ _.
+    test_then (not (is_taken c app)) (settles_as c (settled_open c app busy)) (λ e. cc) _ (λ _.
+    test_then (has_room (record { kept = c.kernel.sessions; next = c.kernel.next_session })) (settles_as c (settled_open c app out_of_memory)) (λ e. cc) _ (λ _.
+    test_then (has_pages c app) (settles_as c (settled_open c app out_of_memory)) (λ e. cc) _ (λ _.
+    tested-then NoLimit NoLimit (copied c wanted.params 2 (settles_as c (settled_open c app bad_parameters))) _
+    (copied_in c wanted.params 2 (settles_as c (settled_open c app bad_parameters)) (λ e. cc)) (λ copies.
     opens_no_limit c wanted app copies (shared_instance c.kernel app)))))))))
 
 invoke_no_limit : (c : NewCall) → AllOf (Both NoLimit) (invoke_command c)
 invoke_no_limit c =
     tested-then NoLimit NoLimit (parameters c) _ (parameters_read c) (λ params.
-    value_then c (invocation params) bad_parameters _ (λ invoked.
-    value_then c (named_session c) bad_parameters _ (λ named.
-    test_then c (not named.1.dead) target_dead _ (λ _.
-    tested-then NoLimit NoLimit (copied c invoked 0) _ (copied_in c invoked 0) (λ copies.
+    value_then (invocation params) (settles c bad_parameters) (λ e. cc) _ (λ invoked.
+    value_then (named_session c) (settles c bad_parameters) (λ e. cc) _ (λ named.
+    test_then (not named.1.dead) (settles_as c (settled_invoke c target_dead)) (λ e. cc) _ (λ _.
+    tested-then NoLimit NoLimit (copied c invoked 0 (settles_as c (settled_invoke c bad_parameters))) _
+    (copied_in c invoked 0 (settles_as c (settled_invoke c bad_parameters)) (λ e. cc)) (λ copies.
     works_no_limit c (kind.Invoke c.head.func) named.0 named.1 copies (Invoke c.head.func ∷ []))))))
 
 close_no_limit : (c : NewCall) → AllOf (Both NoLimit) (close_session c)
 close_no_limit c =
-    value_then c (named_session c) bad_parameters _ (λ named.
+    value_then (named_session c) (settles c bad_parameters) (λ e. cc) _ (λ named.
     works_no_limit c kind.Close named.0 named.1 no_copies (closing_points (beginner c) c.head.session named.0 named.1))
 
 cancel_no_limit : (c : NewCall) → AllOf (Both NoLimit) (cancel_calls c)
 cancel_no_limit c =
-    value_then c (named_session c) bad_parameters _ (λ named. λ e. cc)
+    value_then (named_session c) (settles c bad_parameters) (λ e. cc) _ (λ named. λ e. cc)
 
 register_no_limit : (c : NewCall) → AllOf (Both NoLimit) (register_memory c)
 register_no_limit c =
     tested-then NoLimit NoLimit (parameters c) _ (parameters_read c) (λ params.
-    value_then c (registering params) bad_parameters _ (λ param.
-    test_then c (is_none (get c.kernel.registered.buffers param.s)) bad_parameters _ (λ _.
-    test_then c (nat_lt 0 param.q) bad_parameters _ (λ _.
-    test_then c (nat_le (pages_in param) 1024) bad_parameters _ (λ _.
-    test_then c (nat_lt (length c.kernel.registered.buffers) 64) out_of_memory _ (λ _.
+    value_then (registering params) (settles c bad_parameters) (λ e. cc) _ (λ param.
+    test_then (is_none (get c.kernel.registered.buffers param.s)) (settles c bad_parameters) (λ e. cc) _ (λ _.
+    test_then (nat_lt 0 param.q) (settles c bad_parameters) (λ e. cc) _ (λ _.
+    test_then (nat_le (pages_in param) 1024) (settles c bad_parameters) (λ e. cc) _ (λ _.
+    test_then (nat_lt (length c.kernel.registered.buffers) 64) (settles c out_of_memory) (λ e. cc) _ (λ _.
     tested-then NoLimit NoLimit (faultless (walk (param.p - offset_in param) (pages_in param)) (settles c bad_parameters)) _
-    (faultless-fails NoLimit (walk (param.p - offset_in param) (pages_in param)) (settles c bad_parameters) (settles_no_limit c bad_parameters)) (λ pages.
+    (faultless-fails NoLimit (walk (param.p - offset_in param) (pages_in param)) (settles c bad_parameters) (λ e. cc)) (λ pages.
     λ e. cc)))))))
 
 unregister_no_limit : (c : NewCall) → AllOf (Both NoLimit) (unregister_memory c)
 unregister_no_limit c =
     tested-then NoLimit NoLimit (parameters c) _ (parameters_read c) (λ params.
-    value_then c (unregistering params) bad_parameters _ (λ param.
-    test_then c (is_some (get c.kernel.registered.buffers param.s)) bad_parameters _ (λ _.
-    test_then c (is_none (lowest_slot c.kernel.registered.pins param.s)) busy _ (λ _.
+    value_then (unregistering params) (settles c bad_parameters) (λ e. cc) _ (λ param.
+    test_then (is_some (get c.kernel.registered.buffers param.s)) (settles c bad_parameters) (λ e. cc) _ (λ _.
+    test_then (is_none (lowest_slot c.kernel.registered.pins param.s)) (settles c busy) (λ e. cc) _ (λ _.
     λ e. cc))))
 
 -- ---- the table

@@ -26,7 +26,7 @@ use Rattle.kernel_model.specs.Argument.{reg, client_in}
 use Rattle.kernel_model.specs.Codes.{target_dead}
 use Rattle.kernel_model.specs.Decision.{Decision, Answers, Takes, Cancels}
 use Rattle.kernel_model.specs.Entry.{entered, after_entry}
-use Rattle.kernel_model.specs.Exit.{Exited, after_end, after_nothing, after_panic, asks_in, ended, ends, frees_or_is_answered, goes_out, exit, exit_of, exit_from, exit_in, taken_on, stopped, woken_by}
+use Rattle.kernel_model.specs.Exit.{Exited, after_end, after_nothing, after_panic, asks_in, ended, ends, frees_or_is_answered, further, goes_out, exit, exit_of, exit_from, exit_in, taken_on, stopped, woken_by}
 use Rattle.kernel_model.specs.History.{after_event, after_events, entry_from, exit_to, goes_out_of, can_be_granted, is_outside, kernel_after, left_by_exits, Continues, IsEntryFor, Resumes, slot_of_processor}
 use Rattle.kernel_model.specs.Kernel.{CallPhase, Runs, Asks, Waits, Ends, PendingCall, cancelled_call, cancelled_slot, cancelled_slots, ThreadSlot, Free, Active, Suspended, Fixed, InSlot, Processor, Outside, Inside, Kernel, first_kernel}
 use Rattle.kernel_model.specs.Laws.{ResumesContinue}
@@ -143,10 +143,10 @@ ends_left kernel cpu regs slot call result params = ended_left kernel cpu regs s
 
 stopped_left : (kernel : Kernel) (cpu : ℕ) (regs : List ℕ) (slot : ℕ) (call : PendingCall) (used : ℕ) (why : JobStop)
     → LeftIn kernel.slots slot (stopped kernel cpu regs slot call used why)
-stopped_left kernel cpu regs slot call used (steps.Ends end) = ends_left (after_end kernel call end) cpu regs slot call end.result end.params
-stopped_left kernel cpu regs slot call used (steps.Panics code) = ends_left (after_panic kernel call) cpu regs slot call (of_tee target_dead) no_params
+stopped_left kernel cpu regs slot call used (steps.Ends end) = ends_left (after_end kernel call end) cpu regs slot (further call used) end.result end.params
+stopped_left kernel cpu regs slot call used (steps.Panics code) = ends_left (after_panic kernel call) cpu regs slot (further call used) (of_tee target_dead) no_params
 stopped_left kernel cpu regs slot call used (steps.Asks wanted payload left) =
-    asks_left kernel cpu regs slot (record call { steps = call.steps + used; phase = Asks left wanted payload }) wanted payload call.buffer
+    asks_left kernel cpu regs slot (record (further call used) { phase = Asks left wanted payload }) wanted payload call.buffer
 
 taken_on_left : (kernel : Kernel) (cpu : ℕ) (regs : List ℕ) (count slot : ℕ) (call : PendingCall) (grant : Grant)
     → LeftIn kernel.slots slot (taken_on kernel cpu regs count slot call grant)

@@ -145,12 +145,18 @@ woken_by kernel call _ =
 abbrev pub ends : Kernel → ℕ → List ℕ → ℕ → PendingCall → CallResult → CopiedParams → Exited
 ends kernel cpu regs slot call result params = ended kernel cpu regs slot call result params (woken_by kernel call call.kind)
 
+-- the call after so many more steps
+abbrev pub further : PendingCall → ℕ → PendingCall
+further call used = record call { steps = call.steps + used }
+
 -- a call whose job has stopped at a step of this number
 abbrev pub stopped : Kernel → ℕ → List ℕ → ℕ → PendingCall → ℕ → JobStop → Exited
-stopped kernel cpu regs slot call used (steps.Ends end) = ends (after_end kernel call end) cpu regs slot call end.result end.params
-stopped kernel cpu regs slot call used (steps.Panics code) = ends (after_panic kernel call) cpu regs slot call (of_tee target_dead) no_params
+stopped kernel cpu regs slot call used (steps.Ends end) =
+    ends (after_end kernel call end) cpu regs slot (further call used) end.result end.params
+stopped kernel cpu regs slot call used (steps.Panics code) =
+    ends (after_panic kernel call) cpu regs slot (further call used) (of_tee target_dead) no_params
 stopped kernel cpu regs slot call used (steps.Asks wanted payload left) =
-    asks_for kernel cpu regs slot (record call { steps = call.steps + used; phase = Asks left wanted payload }) wanted payload
+    asks_for kernel cpu regs slot (record (further call used) { phase = Asks left wanted payload }) wanted payload
 
 -- ---- the exit
 

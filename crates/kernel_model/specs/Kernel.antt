@@ -29,11 +29,24 @@ pub data CallPhase : Type 0 where
   -- `told` says that the first exit since has come, and `wakes` is the slot of the call that it is to wake
   Ends : (result : CallResult) (params : CopiedParams) (told : Bool) (wakes : Option ℕ) → CallPhase
 
+-- what a call was whose result its entry settled, as far as its tests had come: nothing that is answered shows it
+pub data SettledCall : Type 0 where
+  -- of no application and no session; or a call that isn't settled
+  Untold : SettledCall
+  -- an open, of the call's application
+  AnOpen : SettledCall
+  -- an invoke of this function, in the call's session
+  AnInvoke : (func : ℕ) → SettledCall
+  -- a cancel, in the call's session
+  ACancel : SettledCall
+
 -- a call, from its entry to the exit that answers OK
 pub record PendingCall : Type 0 where
   -- a7 at its entry
   pub client : ℕ
   pub kind : CallKind
+  -- what it was, where its result was settled at its entry
+  pub settled : SettledCall
   -- its application's UUID, where it has an application
   pub uuid : Option (List ℕ)
   -- the address of its argument

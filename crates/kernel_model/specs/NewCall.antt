@@ -11,6 +11,7 @@ use Rattle.msg_args.specs.declared.head.MsgHead.{MsgHead}
 use Rattle.msg_args.specs.declared.param.MsgParam.{MsgParam}
 use Rattle.msg_args.specs.Reading.{head_at}
 use Rattle.ns_ram.specs.declared.pages.TheConstants.{PAGE_BYTES}
+use Rattle.ns_ram.specs.Attempt.{passes, ◌>>=◌, ◌>>◌, need, known, read, faultless}
 use Rattle.ns_ram.specs.Lane.{is_in_ram}
 use Rattle.ns_ram.specs.Pages.{walk}
 use Rattle.ns_ram.specs.Reader.{take_bytes}
@@ -27,9 +28,9 @@ use Rattle.kernel_model.specs.Application.{Application, Booted, uuid_of}
 use Rattle.kernel_model.specs.Begin.{Beginner, Opener, has_pages_for, opens_kept, opens_made, works_on, closing_points}
 use Rattle.kernel_model.specs.Argument.{argument_at, client_in, params_in, Opening, opening, invocation, registering, unregistering}
 use Rattle.kernel_model.specs.Codes.{ethread_limit, ebadaddr, ebadcmd, success, bad_parameters, item_not_found, out_of_memory, busy, target_dead}
-use Rattle.kernel_model.specs.Decision.{Decision, Answers, Takes, Cancels, Tested, passes, ◌>>=◌, ◌>>◌, need, known, read, faultless}
+use Rattle.kernel_model.specs.Decision.{Decision, Answers, Takes, Cancels, Tested}
 use Rattle.kernel_model.specs.Instances.{app_of, is_held, shared_instance, is_multi_session}
-use Rattle.kernel_model.specs.Kernel.{CallPhase, Runs, Waits, Ends, PendingCall, Instance, Kernel, lowest_free}
+use Rattle.kernel_model.specs.Kernel.{CallPhase, Runs, Waits, Ends, PendingCall, SettledCall, Untold, AnOpen, AnInvoke, ACancel, Instance, Kernel, lowest_free}
 use Rattle.kernel_model.specs.Sessions.{opened_by, has_session}
 
 -- a call that has passed tests 1 to 3: the kernel that it found, its slot, its client, and its argument's address and head
@@ -48,6 +49,7 @@ abbrev pub fresh_call : NewCall → CallPhase → PendingCall
 fresh_call c phase = record {
   client = c.client;
   kind = kind.Settled;
+  settled = Untold;
   uuid = None;
   arg = c.arg;
   places = [];
@@ -87,6 +89,20 @@ call_about c about phase = record (fresh_call c phase) {
 abbrev pub beginner : NewCall → Beginner
 beginner c = record { boot = c.boot; kernel = c.kernel; slot = c.slot; seen = false }
 
+-- an open of this application, an invoke or a cancel in the named session, with such a result
+abbrev pub settled_open : NewCall → Application → ℕ → PendingCall
+settled_open c app code = record (settled_call c code) { settled = AnOpen; uuid = Some (uuid_of app) }
+
+abbrev pub settled_invoke : NewCall → ℕ → PendingCall
+settled_invoke c code = record (settled_call c code) { settled = AnInvoke c.head.func; session = c.head.session }
+
+abbrev pub settled_cancel : NewCall → ℕ → PendingCall
+settled_cancel c code = record (settled_call c code) { settled = ACancel; session = c.head.session }
+
+-- the slot works on this call, and nothing else of the kernel changes
+abbrev pub settles_as : NewCall → PendingCall → Decision
+settles_as c call = Takes c.slot call c.kernel
+
 -- the call is settled with this result, in this kernel
 abbrev pub settles_in : NewCall → Kernel → ℕ → Decision
 settles_in c kernel code = Takes c.slot (settled_call c code) kernel
@@ -121,9 +137,9 @@ parameters c = do
   bytes ← read (take_bytes (c.arg + 32) (32 * c.head.count))
   known (params_in c.head.count bytes) (settles c bad_parameters)
 
--- those of an open or invoke copied, of which the first has this number in the argument
-abbrev pub copied : NewCall → List MsgParam → ℕ → Tested Copies
-copied c params first = faultless (copying c.kernel.registered.buffers params first) (settles c bad_parameters)
+-- those of an open or invoke copied, of which the first has this number in the argument; or else that is decided
+abbrev pub copied : NewCall → List MsgParam → ℕ → Decision → Tested Copies
+copied c params first refused = faultless (copying c.kernel.registered.buffers params first) refused
 
 -- ---- open: OPTEE_MSG_CMD_OPEN_SESSION
 
@@ -179,11 +195,11 @@ open_session c = do
   params ← parameters c  -- 4, the shape
   wanted ← known (opening params) (settles c bad_parameters)
   app ← known (app_of c.boot wanted.uuid) (settles c item_not_found)  -- 5, the application
-  need (not (shares_one c app (λ kept. kept.1.dead))) (settles c target_dead)  -- 6, a dead instance
-  need (not (is_taken c app)) (settles c busy)  -- 7, a session that has the instance alone
-  need (has_room (record { kept = c.kernel.sessions; next = c.kernel.next_session })) (settles c out_of_memory)  -- 8, shared limits
-  need (has_pages c app) (settles c out_of_memory)
-  copies ← copied c wanted.params 2  -- 9, copying
+  need (not (shares_one c app (λ kept. kept.1.dead))) (settles_as c (settled_open c app target_dead))  -- 6, a dead instance
+  need (not (is_taken c app)) (settles_as c (settled_open c app busy))  -- 7, a session that has the instance alone
+  need (has_room (record { kept = c.kernel.sessions; next = c.kernel.next_session })) (settles_as c (settled_open c app out_of_memory))  -- 8, shared limits
+  need (has_pages c app) (settles_as c (settled_open c app out_of_memory))
+  copies ← copied c wanted.params 2 (settles_as c (settled_open c app bad_parameters))  -- 9, copying
   passes (opens_or_waits c wanted app copies)  -- 10, a held instance
 
 -- ---- invoke and close: OPTEE_MSG_CMD_INVOKE_COMMAND, OPTEE_MSG_CMD_CLOSE_SESSION
@@ -217,8 +233,8 @@ invoke_command c = do
   params ← parameters c  -- 4, the shape
   invoked ← known (invocation params) (settles c bad_parameters)
   named ← known (named_session c) (settles c bad_parameters)  -- 5, the session
-  need (not named.1.dead) (settles c target_dead)  -- 6, a dead instance
-  copies ← copied c invoked 0  -- 9, copying
+  need (not named.1.dead) (settles_as c (settled_invoke c target_dead))  -- 6, a dead instance
+  copies ← copied c invoked 0 (settles_as c (settled_invoke c bad_parameters))  -- 9, copying
   passes (works_or_waits c (kind.Invoke c.head.func) named.0 named.1 copies (Invoke c.head.func ∷ []))  -- 10, a held instance
 
 -- a close has no parameters
@@ -238,7 +254,7 @@ close_session c = do
 abbrev pub cancel_calls : NewCall → Tested Decision
 cancel_calls c = do
   named ← known (named_session c) (settles c bad_parameters)  -- 5, the session
-  passes (Cancels c.slot (settled_call c success) c.head.session c.head.cancel_id)
+  passes (Cancels c.slot (settled_cancel c success) c.head.session c.head.cancel_id)
 
 -- ---- register and unregister: OPTEE_MSG_CMD_REGISTER_SHM, OPTEE_MSG_CMD_UNREGISTER_SHM
 

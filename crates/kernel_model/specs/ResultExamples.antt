@@ -68,6 +68,9 @@ pub record ResultExamples : Type 0 where
   pub dead : returns_after (boot 1 1 1 panic) (opens ++ call 0 1000 (invokes 1 1)) (call 0 1000 (invokes 1 0)) ≡ Some (ok 0xffff3024 3 ∷ [])
   -- the application's one session is there
   pub taken : returns_after (boot 1 1 2 (flagged 0x04 add)) opens opens ≡ Some (ok 0xffff000d 3 ∷ [])
+  -- or is being opened
+  pub being_opened_alone : returns_of (boot 2 2 1 (flagged 0x04 add)) (Comes 0 (call_of 0) 1000 open_argument ∷ call 1 1000 open_argument)
+      ≡ Some (ok 0xffff000d 3 ∷ [])
   -- shared limits
   pub no_pages : returns_after (boot 1 1 1 add) opens opens ≡ Some (ok 0xffff000c 3 ∷ [])
   pub sixty_four_sessions : returns_from (boot 1 1 2 add) with_sessions opens ≡ Some (ok 0xffff000c 3 ∷ [])
@@ -122,6 +125,9 @@ pub record ResultExamples : Type 0 where
   pub shared : returns_of (boot 1 1 1 (flagged 0x0c add)) (opens ++ opens) ≡ Some (opened 1 ∷ opened 2 ∷ [])
   pub kept_alive : returns_of (boot 1 1 1 (flagged 0x14 mark)) (opens ++ call 0 1000 (invokes 1 0) ++ call 0 1000 (closes 1) ++ opens ++ call 0 1000 (invokes 2 0))
       ≡ Some (opened 1 ∷ ok 0 4 ∷ ok 0 3 ∷ opened 2 ∷ ok 5 4 ∷ [])
+  -- what isn't shared isn't kept alive
+  pub not_kept_alive : returns_of (boot 1 1 1 (flagged 0x10 mark)) (opens ++ call 0 1000 (invokes 1 0) ++ call 0 1000 (closes 1) ++ opens ++ call 0 1000 (invokes 2 0))
+      ≡ Some (opened 1 ∷ ok 0 4 ∷ ok 0 3 ∷ opened 2 ∷ ok 0 4 ∷ [])
   pub dead_for_both : returns_after (boot 1 1 2 (flagged 0x0c panic)) (opens ++ opens)
       (call 0 1000 (invokes 1 1) ++ call 0 1000 (invokes 2 0) ++ opens ++ call 0 1000 (closes 1) ++ call 0 1000 (closes 2) ++ opens)
       ≡ Some (ok 0xffff3024 3 ∷ ok 0xffff3024 3 ∷ ok 0xffff3024 3 ∷ ok 0 3 ∷ ok 0 3 ∷ opened 3 ∷ [])
