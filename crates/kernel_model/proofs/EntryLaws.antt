@@ -1,97 +1,100 @@
--- When an entry answers ETHREAD_LIMIT, and what a resume comes to.
+-- When an entry answers ETHREAD_LIMIT and ERESUME, and what a resume comes to.
 use Rattle.std.proofs.Common.{◌≡◌, ℕ, List, Option, Some, None, refl, ap, subst, sym, ◌∙◌}
-use Rattle.std.specs.Prelude.{slice_get}
+use Rattle.std.specs.Option.{option_map, option_map_or}
 use Rattle.ns_ram.specs.declared.read.Read.{Read}
+use Rattle.ns_ram.specs.Reader.{Reader, done, reading, ◌>>=◌}
 use Rattle.smc_abi.specs.Call.{call_of}
 use Rattle.smc_abi.specs.declared.answer.Answer.{Answer}
 use Rattle.smc_abi.specs.declared.call.Call.{Call}
 use Rattle.smc_abi.specs.declared.call.Call.TheVariants.{Resume}
 use Rattle.kernel_model.specs.Application.{Booted}
-use Rattle.kernel_model.specs.Argument.{reg}
+use Rattle.kernel_model.specs.Argument.{reg, thread_in}
 use Rattle.kernel_model.specs.Codes.{eresume, ethread_limit}
-use Rattle.kernel_model.specs.Decision.{Decision, Answers, Takes, Cancels, decided}
-use Rattle.kernel_model.specs.Entry.{decision_of, entered, after_entry}
-use Rattle.kernel_model.specs.History.{Continues}
-use Rattle.kernel_model.specs.Kernel.{Active, Suspended, InSlot, Inside, Kernel, Outside, PendingCall}
-use Rattle.kernel_model.specs.Laws.{FindsNoSlot, IsFixed, LimitExactly, WorksOn, ResumesOrRefuses, resumed_by}
-use Rattle.kernel_model.specs.NewCall.{new_call_with}
-use Rattle.kernel_model.proofs.NoLimit.{Limited, decision_limited}
+use Rattle.kernel_model.specs.Decision.{Decision, Answers, Takes, works_on}
+use Rattle.kernel_model.specs.Entry.{after_decision, after_entry, decision_of}
+use Rattle.kernel_model.specs.History.{ResumesCall}
+use Rattle.kernel_model.specs.Kernel.{Kernel, PendingCall, Progress, Visit}
+use Rattle.kernel_model.specs.Laws.{FindsNoSlot, FindsNoCall, FixedExactly, IsFixed, IsOutside, LimitExactly, ResumesExactly}
+use Rattle.kernel_model.specs.Resume.{call_resumed_by, resume_call, takes_call}
+use Rattle.kernel_model.proofs.Told.{Told, decision_told}
 use Rattle.kernel_model.proofs.FixedAnswer.{decided_fixed, decides_all, fixed_decided}
-use Rattle.kernel_model.proofs.Parts.{AllOf, Found, set_found}
-use Rattle.kernel_model.proofs.Resuming.{Resuming, resume-Resuming}
+use Rattle.kernel_model.proofs.Parts.{Found, option_map_some, reading-mapped}
+
+-- what is decided
+pub tells : (boot : Booted) (kernel next : Kernel) (visit : Visit) (reads : List Read)
+    → after_entry boot kernel visit reads ≡ Some next → Found (after_decision kernel visit) (Told kernel visit.regs) next
+tells boot kernel next visit reads e =
+    decides_all (Told kernel visit.regs) boot kernel next visit reads (decision_told boot kernel visit.regs) e
 
 -- ---- the limit of threads
 
-abbrev IsLimit : Decision → Type 0
-IsLimit decision = decision ≡ Answers ethread_limit
+limit_told : (kernel : Kernel) (regs : List ℕ) (decision : Decision) → Told kernel regs decision → decision ≡ Answers ethread_limit → FindsNoSlot kernel regs
+limit_told kernel regs decision told is =
+    let here = subst (λ (d : Decision). Told kernel regs d) is told in here.0.0 refl
 
-no_slot_limits : (boot : Booted) (kernel : Kernel) (regs : List ℕ) → FindsNoSlot kernel regs
-    → AllOf IsLimit (decision_of boot kernel regs (call_of (reg regs 0)))
-no_slot_limits boot kernel regs none =
-    let from_none = subst (λ (f : Option ℕ). AllOf IsLimit (decided (new_call_with boot kernel regs f))) (sym none.1) refl in
-    subst (λ (c : Call). AllOf IsLimit (decision_of boot kernel regs c)) (sym none.0) from_none
+told_limit : (kernel : Kernel) (regs : List ℕ) (decision : Decision) → Told kernel regs decision → FindsNoSlot kernel regs → decision ≡ Answers ethread_limit
+told_limit kernel regs (Answers answer) told none = ap (λ (a : Answer). Answers a) (told.1.0 none)
+told_limit kernel regs (Takes slot taken) told none = absurd (told.0 none)
 
 pub limit_exactly : LimitExactly
-limit_exactly boot kernel next cpu steps regs reads outside e = (
-  λ fixed.
-      let found = decides_all (Limited kernel regs) boot kernel next cpu steps regs reads (decision_limited boot kernel regs) e in
-      found.holds (decided_fixed kernel next cpu steps regs ethread_limit found.value found.gives fixed),
-  λ none.
-      let found = decides_all IsLimit boot kernel next cpu steps regs reads (no_slot_limits boot kernel regs none) e in
-      fixed_decided kernel next cpu steps regs ethread_limit found.value outside found.gives found.holds,
-)
+limit_exactly boot kernel next visit reads outside e =
+    let found = tells boot kernel next visit reads e in (
+      λ fixed. limit_told kernel visit.regs found.value found.holds (decided_fixed kernel next visit ethread_limit found.value found.gives fixed),
+      λ none. fixed_decided kernel next visit ethread_limit found.value outside found.gives (told_limit kernel visit.regs found.value found.holds none),
+    )
 
 -- ---- resumes
 
--- what a resume decides
-pub resume_decides : (boot : Booted) (kernel next : Kernel) (cpu steps : ℕ) (regs : List ℕ) (reads : List Read) → call_of (reg regs 0) ≡ Resume
-    → after_entry boot kernel cpu regs steps reads ≡ Some next → Found (entered kernel cpu regs steps) (Resuming kernel regs) next
-resume_decides boot kernel next cpu steps regs reads is e =
-    let all = subst (λ (c : Call). AllOf (Resuming kernel regs) (decision_of boot kernel regs c)) (sym is) (resume-Resuming boot kernel regs) in
-    decides_all (Resuming kernel regs) boot kernel next cpu steps regs reads all e
+resume_told : (kernel : Kernel) (regs : List ℕ) (decision : Decision) → Told kernel regs decision → decision ≡ Answers eresume → FindsNoCall kernel regs
+resume_told kernel regs decision told is =
+    let here = subst (λ (d : Decision). Told kernel regs d) is told in here.0.1 refl
 
-none_and_some : (kernel : Kernel) (regs : List ℕ) (call : PendingCall) → resumed_by kernel regs ≡ None → resumed_by kernel regs ≡ Some call → ⊥
-none_and_some kernel regs call none some = cc
+pub told_resume : (kernel : Kernel) (regs : List ℕ) (decision : Decision) → Told kernel regs decision → FindsNoCall kernel regs → decision ≡ Answers eresume
+told_resume kernel regs (Answers answer) told none = ap (λ (a : Answer). Answers a) (told.1.1 none)
+told_resume kernel regs (Takes slot taken) told none = absurd (told.1 none)
 
-same_call : (kernel : Kernel) (regs : List ℕ) (first second : PendingCall) → resumed_by kernel regs ≡ Some first → resumed_by kernel regs ≡ Some second → first ≡ second
-same_call kernel regs first second one two = cc
+refuses_exactly : FixedExactly eresume FindsNoCall
+refuses_exactly boot kernel next visit reads outside e =
+    let found = tells boot kernel next visit reads e in (
+      λ fixed. resume_told kernel visit.regs found.value found.holds (decided_fixed kernel next visit eresume found.value found.gives fixed),
+      λ none. fixed_decided kernel next visit eresume found.value outside found.gives (told_resume kernel visit.regs found.value found.holds none),
+    )
 
-decided_works : (kernel next : Kernel) (cpu steps : ℕ) (regs : List ℕ) (call : PendingCall) (decision : Decision) → Resuming kernel regs decision
-    → slice_get kernel.processors cpu ≡ Some Outside → entered kernel cpu regs steps decision ≡ next → resumed_by kernel regs ≡ Some call
-    → WorksOn next cpu steps regs call
-decided_works kernel next cpu steps regs call (Answers answer) fits outside e some = absurd (none_and_some kernel regs call fits.1 some)
-decided_works kernel next cpu steps regs call (Takes slot now after) fits outside e some =
-    let in_thread = set_found kernel.processors cpu (Inside regs steps (InSlot slot)) Outside outside in
-    let active = set_found kernel.slots slot (Active cpu now) (Suspended fits.owner fits.was) fits.held in
+-- what is decided of a resume of a call
+abbrev resumed_decision : Visit → Progress → Decision
+resumed_decision visit progress = Takes (thread_in visit.regs) (works_on progress)
+
+decision_resumed : (boot : Booted) (kernel : Kernel) (visit : Visit) (call : PendingCall)
+    → call_of (reg visit.regs 0) ≡ Resume → call_resumed_by kernel.slots visit.regs ≡ Some call
+    → decision_of boot kernel visit.regs (call_of (reg visit.regs 0)) ≡ takes_call boot kernel.tables visit.regs call
+decision_resumed boot kernel visit call is some =
+    ap (λ (c : Call). decision_of boot kernel visit.regs c) is
+    ∙ ap (λ (found : Option PendingCall). option_map_or (takes_call boot kernel.tables visit.regs) found (done (Answers eresume))) some
+
+entry_resumed : (boot : Booted) (kernel : Kernel) (visit : Visit) (reads : List Read) (call : PendingCall)
+    → call_of (reg visit.regs 0) ≡ Resume → call_resumed_by kernel.slots visit.regs ≡ Some call
+    → after_entry boot kernel visit reads
+    ≡ option_map (after_decision kernel visit)
+    (option_map (resumed_decision visit) (reading (resume_call boot kernel.tables visit.regs call) reads))
+entry_resumed boot kernel visit reads call is some =
+    let resumed = resume_call boot kernel.tables visit.regs call in
+    ap (λ (decision : Reader Decision). reading (decision >>= (λ d. done (after_decision kernel visit d))) reads) (decision_resumed boot kernel visit call is some)
+    ∙ reading-mapped (takes_call boot kernel.tables visit.regs call) (after_decision kernel visit) reads
+    ∙ ap (λ (d : Option Decision). option_map (after_decision kernel visit) d) (reading-mapped resumed (resumed_decision visit) reads)
+
+pub resumes_call : (boot : Booted) (kernel next : Kernel) (visit : Visit) (reads : List Read) (call : PendingCall) →
+    call_of (reg visit.regs 0) ≡ Resume → call_resumed_by kernel.slots visit.regs ≡ Some call →
+    after_entry boot kernel visit reads ≡ Some next → ResumesCall boot kernel visit reads call next
+resumes_call boot kernel next visit reads call is some e =
+    let made = reading (resume_call boot kernel.tables visit.regs call) reads in
+    let decided = option_map_some (after_decision kernel visit) (option_map (resumed_decision visit) made) next
+    (sym (entry_resumed boot kernel visit reads call is some) ∙ e) in
+    let came = option_map_some (resumed_decision visit) made decided.0 decided.1 in
     record {
-      inside = subst (λ (s : ℕ). slice_get next.processors cpu ≡ Some (Inside regs steps (InSlot s))) fits.at
-          (ap (λ (k : Kernel). slice_get k.processors cpu) (sym e) ∙ in_thread);
-      now = now;
-      active = subst (λ (s : ℕ). slice_get next.slots s ≡ Some (Active cpu now)) fits.at
-          (ap (λ (k : Kernel). slice_get k.slots slot) (sym e) ∙ active);
-      continues = subst (λ (c : PendingCall). Continues c now) (same_call kernel regs fits.was call fits.is_for some) fits.continues;
+      progress = came.0;
+      comes_to = came.1;
+      next_is = sym decided.2 ∙ ap (λ (d : Decision). after_decision kernel visit d) (sym came.2);
     }
-decided_works kernel next cpu steps regs call (Cancels slot now session cancel_id) fits outside e some = absurd fits
 
-decided_refuses : (kernel : Kernel) (regs : List ℕ) (decision : Decision) → Resuming kernel regs decision → resumed_by kernel regs ≡ None → decision ≡ Answers eresume
-decided_refuses kernel regs (Answers answer) fits none = ap (λ (a : Answer). Answers a) fits.0
-decided_refuses kernel regs (Takes slot now after) fits none = absurd (none_and_some kernel regs fits.was none fits.is_for)
-decided_refuses kernel regs (Cancels slot now session cancel_id) fits none = absurd fits
-
-resumes_in_slot : (boot : Booted) (kernel next : Kernel) (cpu steps : ℕ) (regs : List ℕ) (reads : List Read) (call : PendingCall) →
-    call_of (reg regs 0) ≡ Resume → slice_get kernel.processors cpu ≡ Some Outside →
-    after_entry boot kernel cpu regs steps reads ≡ Some next → resumed_by kernel regs ≡ Some call → WorksOn next cpu steps regs call
-resumes_in_slot boot kernel next cpu steps regs reads call is outside e some =
-    let found = resume_decides boot kernel next cpu steps regs reads is e in
-    decided_works kernel next cpu steps regs call found.value found.holds outside found.gives some
-
-refuses_resume : (boot : Booted) (kernel next : Kernel) (cpu steps : ℕ) (regs : List ℕ) (reads : List Read) →
-    call_of (reg regs 0) ≡ Resume → slice_get kernel.processors cpu ≡ Some Outside →
-    after_entry boot kernel cpu regs steps reads ≡ Some next → resumed_by kernel regs ≡ None → IsFixed next cpu regs steps eresume
-refuses_resume boot kernel next cpu steps regs reads is outside e none =
-    let found = resume_decides boot kernel next cpu steps regs reads is e in
-    let decided = decided_refuses kernel regs found.value found.holds none in
-    fixed_decided kernel next cpu steps regs eresume found.value outside found.gives decided
-
-pub resumes_or_refuses : ResumesOrRefuses
-resumes_or_refuses = record { resumes = resumes_in_slot; refuses = refuses_resume }
+pub resumes_exactly : ResumesExactly
+resumes_exactly = record { resumes = resumes_call; refuses = refuses_exactly }

@@ -7,96 +7,101 @@ use Rattle.smc_abi.specs.Call.{call_of}
 use Rattle.smc_abi.specs.declared.answer.Answer.{Answer}
 use Rattle.kernel_model.specs.Application.{Booted}
 use Rattle.kernel_model.specs.Argument.{reg}
-use Rattle.kernel_model.specs.Decision.{Decision, Answers, Takes, Cancels}
-use Rattle.kernel_model.specs.Entry.{decision_of, entered, after_entry}
+use Rattle.kernel_model.specs.Decision.{Decision, Answers, Takes}
+use Rattle.kernel_model.specs.Entry.{decision_of, after_decision, after_entry}
 use Rattle.kernel_model.specs.Exit.{exit, exit_of, goes_out}
-use Rattle.kernel_model.specs.Kernel.{Processor, Outside, Inside, Errand, Fixed, InSlot, Kernel, with_processor}
-use Rattle.kernel_model.specs.Laws.{IsFixed, FixedAnswers}
+use Rattle.kernel_model.specs.Kernel.{Processor, Outside, Inside, Errand, Fixed, InSlot, Kernel, Visit, with_visitor, without_visitor}
+use Rattle.kernel_model.specs.Laws.{IsFixed, IsOutside, FixedAnswers}
 use Rattle.kernel_model.proofs.Parts.{AllOf, Found, anything, reading-all, set_found, set_then_read, set_twice}
 
 -- ---- what an entry decides
 
 -- an entry decides something of which this holds, where it holds of all that its registers can come to
-pub decides_all : (P : Decision → Type 0) (boot : Booted) (kernel next : Kernel) (cpu steps : ℕ) (regs : List ℕ) (reads : List Read)
-    → AllOf P (decision_of boot kernel regs (call_of (reg regs 0))) → after_entry boot kernel cpu regs steps reads ≡ Some next
-    → Found (entered kernel cpu regs steps) P next
-decides_all P boot kernel next cpu steps regs reads all e =
-    reading-all (decision_of boot kernel regs (call_of (reg regs 0))) (entered kernel cpu regs steps) P all reads next e
+pub decides_all : (P : Decision → Type 0) (boot : Booted) (kernel next : Kernel) (visit : Visit) (reads : List Read)
+    → AllOf P (decision_of boot kernel visit.regs (call_of (reg visit.regs 0)))
+    → after_entry boot kernel visit reads ≡ Some next → Found (after_decision kernel visit) P next
+decides_all P boot kernel next visit reads all e =
+    reading-all (decision_of boot kernel visit.regs (call_of (reg visit.regs 0))) (after_decision kernel visit) P all reads next e
 
 abbrev pub Anything : Decision → Type 0
 Anything decision = Unit {0}
 
-pub decides : (boot : Booted) (kernel next : Kernel) (cpu steps : ℕ) (regs : List ℕ) (reads : List Read)
-    → after_entry boot kernel cpu regs steps reads ≡ Some next → Found (entered kernel cpu regs steps) Anything next
-decides boot kernel next cpu steps regs reads e =
-    decides_all Anything boot kernel next cpu steps regs reads (anything (decision_of boot kernel regs (call_of (reg regs 0)))) e
+pub decides : (boot : Booted) (kernel next : Kernel) (visit : Visit) (reads : List Read)
+    → after_entry boot kernel visit reads ≡ Some next → Found (after_decision kernel visit) Anything next
+decides boot kernel next visit reads e =
+    decides_all Anything boot kernel next visit reads (anything (decision_of boot kernel visit.regs (call_of (reg visit.regs 0)))) e
 
 -- ---- what a processor came in for
 
 abbrev pub errand_of : Decision → Errand
 errand_of (Answers answer) = Fixed answer
-errand_of (Takes slot call after) = InSlot slot
-errand_of (Cancels slot call session cancel_id) = InSlot slot
+errand_of (Takes slot taken) = InSlot slot
 
-processors_entered : (kernel : Kernel) (cpu steps : ℕ) (regs : List ℕ) (decision : Decision)
-    → (entered kernel cpu regs steps decision).processors ≡ slice_set kernel.processors cpu (Inside regs steps (errand_of decision))
-processors_entered kernel cpu steps regs (Answers answer) = refl
-processors_entered kernel cpu steps regs (Takes slot call after) = refl
-processors_entered kernel cpu steps regs (Cancels slot call session cancel_id) = refl
+-- its processor, inside for that
+abbrev pub inside_for : Visit → Decision → Processor
+inside_for visit decision = Inside visit.regs visit.steps (errand_of decision)
 
-same_errand : (regs : List ℕ) (steps : ℕ) (first second : Errand) → Inside regs steps first ≡ Inside regs steps second → first ≡ second
-same_errand regs steps first second e = cc
+pub processors_after : (kernel : Kernel) (visit : Visit) (decision : Decision)
+    → (after_decision kernel visit decision).processors ≡ slice_set kernel.processors visit.cpu (inside_for visit decision)
+processors_after kernel visit (Answers answer) = refl
+processors_after kernel visit (Takes slot taken) = refl
+
+same_errand : (visit : Visit) (first second : Errand) → Inside visit.regs visit.steps first ≡ Inside visit.regs visit.steps second → first ≡ second
+same_errand visit first second e = cc
 
 -- a processor that is inside for this has the errand of what was decided
-pub decided_errand : (kernel next : Kernel) (cpu steps : ℕ) (regs : List ℕ) (errand : Errand) (decision : Decision)
-    → entered kernel cpu regs steps decision ≡ next → slice_get next.processors cpu ≡ Some (Inside regs steps errand)
+pub decided_errand : (kernel next : Kernel) (visit : Visit) (errand : Errand) (decision : Decision)
+    → after_decision kernel visit decision ≡ next → slice_get next.processors visit.cpu ≡ Some (Inside visit.regs visit.steps errand)
     → errand_of decision ≡ errand
-decided_errand kernel next cpu steps regs errand decision e inside =
-    let came : Processor = Inside regs steps (errand_of decision) in
-    let set = sym (processors_entered kernel cpu steps regs decision) ∙ ap (λ (k : Kernel). k.processors) e in
-    let there = ap (λ (ps : List Processor). slice_get ps cpu) set ∙ inside in
-    same_errand regs steps (errand_of decision) errand (set_then_read kernel.processors cpu came (Inside regs steps errand) there)
+decided_errand kernel next visit errand decision e inside =
+    let set = sym (processors_after kernel visit decision) ∙ ap (λ (k : Kernel). k.processors) e in
+    let there = ap (λ (ps : List Processor). slice_get ps visit.cpu) set ∙ inside in
+    same_errand visit (errand_of decision) errand
+    (set_then_read kernel.processors visit.cpu (inside_for visit decision) (Inside visit.regs visit.steps errand) there)
+
+-- and one that was outside is inside for that
+pub inside_after : (kernel next : Kernel) (visit : Visit) (decision : Decision) → IsOutside kernel visit → after_decision kernel visit decision ≡ next
+    → slice_get next.processors visit.cpu ≡ Some (inside_for visit decision)
+inside_after kernel next visit decision outside e =
+    ap (λ (k : Kernel). slice_get k.processors visit.cpu) (sym e)
+    ∙ ap (λ (ps : List Processor). slice_get ps visit.cpu) (processors_after kernel visit decision)
+    ∙ set_found kernel.processors visit.cpu (inside_for visit decision) Outside outside
 
 answer_of_errand : (decision : Decision) (answer : Answer) → errand_of decision ≡ Fixed answer → decision ≡ Answers answer
 answer_of_errand (Answers given) answer e = cc
-answer_of_errand (Takes slot call after) answer e = absurd cc
-answer_of_errand (Cancels slot call session cancel_id) answer e = absurd cc
+answer_of_errand (Takes slot taken) answer e = absurd cc
 
-pub decided_fixed : (kernel next : Kernel) (cpu steps : ℕ) (regs : List ℕ) (answer : Answer) (decision : Decision)
-    → entered kernel cpu regs steps decision ≡ next → IsFixed next cpu regs steps answer → decision ≡ Answers answer
-decided_fixed kernel next cpu steps regs answer decision e fixed =
-    answer_of_errand decision answer (decided_errand kernel next cpu steps regs (Fixed answer) decision e fixed)
+pub decided_fixed : (kernel next : Kernel) (visit : Visit) (answer : Answer) (decision : Decision)
+    → after_decision kernel visit decision ≡ next → IsFixed next visit answer → decision ≡ Answers answer
+decided_fixed kernel next visit answer decision e fixed =
+    answer_of_errand decision answer (decided_errand kernel next visit (Fixed answer) decision e fixed)
 
-pub fixed_decided : (kernel next : Kernel) (cpu steps : ℕ) (regs : List ℕ) (answer : Answer) (decision : Decision)
-    → slice_get kernel.processors cpu ≡ Some Outside → entered kernel cpu regs steps decision ≡ next → decision ≡ Answers answer
-    → IsFixed next cpu regs steps answer
-fixed_decided kernel next cpu steps regs answer decision outside e is =
-    ap (λ (k : Kernel). slice_get k.processors cpu) (sym e)
-    ∙ ap (λ (d : Decision). slice_get (entered kernel cpu regs steps d).processors cpu) is
-    ∙ set_found kernel.processors cpu (Inside regs steps (Fixed answer)) Outside outside
+pub fixed_decided : (kernel next : Kernel) (visit : Visit) (answer : Answer) (decision : Decision)
+    → IsOutside kernel visit → after_decision kernel visit decision ≡ next → decision ≡ Answers answer → IsFixed next visit answer
+fixed_decided kernel next visit answer decision outside e is =
+    inside_after kernel next visit decision outside e
+    ∙ ap (λ (d : Decision). Some (inside_for visit d)) is
 
 -- ---- a fixed answer
 
-fixed_entry : (boot : Booted) (kernel next : Kernel) (cpu steps : ℕ) (regs : List ℕ) (reads : List Read) (answer : Answer)
-    → after_entry boot kernel cpu regs steps reads ≡ Some next → IsFixed next cpu regs steps answer
-    → next ≡ with_processor kernel cpu (Inside regs steps (Fixed answer))
-fixed_entry boot kernel next cpu steps regs reads answer e fixed =
-    let found = decides boot kernel next cpu steps regs reads e in
-    let is = decided_fixed kernel next cpu steps regs answer found.value found.gives fixed in
-    sym found.gives ∙ ap (λ (d : Decision). entered kernel cpu regs steps d) is
+fixed_entry : (boot : Booted) (kernel next : Kernel) (visit : Visit) (reads : List Read) (answer : Answer)
+    → after_entry boot kernel visit reads ≡ Some next → IsFixed next visit answer → next ≡ with_visitor kernel visit (Fixed answer)
+fixed_entry boot kernel next visit reads answer e fixed =
+    let found = decides boot kernel next visit reads e in
+    let is = decided_fixed kernel next visit answer found.value found.gives fixed in
+    sym found.gives ∙ ap (λ (d : Decision). after_decision kernel visit d) is
 
-fixed_exit : (kernel : Kernel) (cpu steps : ℕ) (regs : List ℕ) (answer : Answer)
-    → IsFixed kernel cpu regs steps answer → exit kernel cpu ≡ Some (goes_out kernel cpu regs answer [])
-fixed_exit kernel cpu steps regs answer fixed = ap (λ (p : Option Processor). option_and_then (exit_of kernel cpu) p) fixed
+fixed_exit : (kernel : Kernel) (visit : Visit) (answer : Answer)
+    → IsFixed kernel visit answer → exit kernel visit.cpu ≡ Some (goes_out kernel visit answer [])
+fixed_exit kernel visit answer fixed = ap (λ (p : Option Processor). option_and_then (exit_of kernel visit.cpu) p) fixed
 
-fixed_in_a_row : (boot : Booted) (kernel next : Kernel) (cpu steps : ℕ) (regs : List ℕ) (reads : List Read) (answer : Answer)
-    → slice_get kernel.processors cpu ≡ Some Outside
-    → after_entry boot kernel cpu regs steps reads ≡ Some next → IsFixed next cpu regs steps answer
-    → with_processor next cpu Outside ≡ kernel
-fixed_in_a_row boot kernel next cpu steps regs reads answer outside e fixed =
-    ap (λ (k : Kernel). with_processor k cpu Outside) (fixed_entry boot kernel next cpu steps regs reads answer e fixed)
+fixed_in_a_row : (boot : Booted) (kernel next : Kernel) (visit : Visit) (reads : List Read) (answer : Answer)
+    → IsOutside kernel visit → after_entry boot kernel visit reads ≡ Some next → IsFixed next visit answer
+    → without_visitor next visit ≡ kernel
+fixed_in_a_row boot kernel next visit reads answer outside e fixed =
+    ap (λ (k : Kernel). without_visitor k visit) (fixed_entry boot kernel next visit reads answer e fixed)
     ∙ ap (λ (ps : List Processor). record kernel { processors = ps })
-    (set_twice kernel.processors cpu (Inside regs steps (Fixed answer)) Outside outside)
+    (set_twice kernel.processors visit.cpu (Inside visit.regs visit.steps (Fixed answer)) Outside outside)
 
 pub fixed_answers : FixedAnswers
 fixed_answers = record { entry = fixed_entry; exit = fixed_exit; in_a_row = fixed_in_a_row }

@@ -1,7 +1,7 @@
 pub mod Parts
 pub mod FixedAnswer
 pub mod Past
-pub mod Resuming
-pub mod NoLimit
+pub mod Told
 pub mod EntryLaws
 pub mod Suspended
+pub mod Answered

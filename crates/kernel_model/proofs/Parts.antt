@@ -1,7 +1,7 @@
 -- One element of a list by number, set and read; what holds of each value of a reader; and of a choice.
 use Rattle.std.proofs.Common.{◌≡◌, ℕ, zero, suc, List, [], ◌∷◌, Option, Some, None, Bool, true, false, refl, ap, sym, ◌∙◌}
-use Rattle.std.specs.Prelude.{slice_get, slice_set, if◌then◌else◌}
-use Rattle.std.specs.Option.{option_map_or}
+use Rattle.std.specs.Prelude.{IsSome, slice_get, slice_set, if◌then◌else◌}
+use Rattle.std.specs.Option.{option_and_then, option_map, option_map_or}
 use Rattle.std.proofs.lemmas.Option.{option_and_then_some}
 use Rattle.ns_ram.specs.declared.read.Read.{Read}
 use Rattle.ns_ram.specs.Reader.{Reader, done, want_bytes, want_words, ◌>>=◌, next_bytes, next_words, over_reads, if_used_up, reading}
@@ -90,3 +90,42 @@ pub map_or-both : {A B : Type 0} (P : B → Type 0) (f : A → B) (found : Optio
     → ((a : A) → P (f a)) → P other → P (option_map_or f found other)
 map_or-both P f None other on_found on_other = on_other
 map_or-both P f (Some a) other on_found on_other = on_found a
+
+-- ---- what a mapped reader makes of reads
+
+abbrev mapped_step : {A B : Type 0} (f : A → B) → A × List Read → B × List Read
+mapped_step f step = (f step.0, step.1)
+
+through : {X A B : Type 0} (f : A → B) (o : Option X) (g : X → Option (B × List Read)) (h : X → Option (A × List Read))
+    → ((x : X) → g x ≡ option_map (mapped_step f) (h x)) → option_and_then g o ≡ option_map (mapped_step f) (option_and_then h o)
+through f None g h same = refl
+through f (Some x) g h same = same x
+
+over_reads-mapped : {A B : Type 0} (reader : Reader A) (f : A → B) (reads : List Read)
+    → over_reads (reader >>= (λ value. done (f value))) reads ≡ option_map (mapped_step f) (over_reads reader reads)
+over_reads-mapped (done value) f reads = refl
+over_reads-mapped (want_bytes addr len next) f reads =
+    through f (next_bytes addr len reads) _ _ (λ got. over_reads-mapped (next got.0) f got.1)
+over_reads-mapped (want_words addr most test next) f reads =
+    through f (next_words addr most test reads) _ _ (λ got. over_reads-mapped (next got.0) f got.1)
+
+used_up-mapped : {A B : Type 0} (f : A → B) (o : Option (A × List Read))
+    → option_and_then if_used_up (option_map (mapped_step f) o) ≡ option_map f (option_and_then if_used_up o)
+used_up-mapped f None = refl
+used_up-mapped f (Some (value, [])) = refl
+used_up-mapped f (Some (value, read ∷ reads)) = refl
+
+pub reading-mapped : {A B : Type 0} (reader : Reader A) (f : A → B) (reads : List Read)
+    → reading (reader >>= (λ value. done (f value))) reads ≡ option_map f (reading reader reads)
+reading-mapped reader f reads =
+    ap (λ o. option_and_then if_used_up o) (over_reads-mapped reader f reads) ∙ used_up-mapped f (over_reads reader reads)
+
+-- ---- what is there
+
+pub some_of : {A : Type 0} (o : Option A) → IsSome o → (a : A) × (o ≡ Some a)
+some_of None some = absurd cc
+some_of (Some a) some = (a, refl)
+
+pub option_map_some : {A B : Type 0} (f : A → B) (o : Option A) (b : B) → option_map f o ≡ Some b → (a : A) × (o ≡ Some a) × (f a ≡ b)
+option_map_some f None b e = absurd cc
+option_map_some f (Some a) b e = (a, refl, cc)

@@ -1,45 +1,38 @@
 -- A suspended slot holds what the last exit from it left there, for the client of its call.
 use Rattle.std.proofs.Common.{◌≡◌, ℕ, zero, suc, ◌+◌, List, [], ◌∷◌, ◌++◌, Option, Some, None, Bool, true, false, refl, ap, sym, subst, ◌∙◌}
-use Rattle.std.specs.Prelude.{map, slice_get, slice_set, replicate, length, ◌==◌, ◌&&◌, bytes_eq, if◌then◌else◌}
+use Rattle.std.specs.Prelude.{map, slice_get, slice_set, replicate, length, ◌==◌, ◌&&◌, ◌||◌, bytes_eq, if◌then◌else◌}
 use Rattle.std.specs.Option.{option_map, option_map_or, option_and_then}
 use Rattle.std.proofs.lemmas.Bool.Decides.{Decides-eqb}
 use Rattle.std.proofs.lemmas.Option.{option_and_then_some}
 use Rattle.std.proofs.Math.Seq.{take-append_seam, take-append-add}
 use Rattle.event_journal.specs.declared.event.Event.{Event}
 use Rattle.event_journal.specs.declared.event.Event.TheVariants as event
-use Rattle.job_model.specs.declared.rpc_buffer.RpcBuffer.{RpcBuffer}
-use Rattle.job_model.specs.Steps.{Grant, Left, Stopped, JobStop, granted}
-use Rattle.job_model.specs.Job.{of_tee}
-use Rattle.job_model.specs.Point.{no_params}
-use Rattle.job_model.specs.Steps as steps
-use Rattle.rpc_msgs.specs.declared.rpc.Rpc.{Rpc}
-use Rattle.rpc_msgs.specs.declared.rpc.Rpc.TheVariants as rpc
-use Rattle.ta_params.specs.declared.call_result.CallResult.{CallResult}
-use Rattle.ta_params.specs.declared.copied_params.CopiedParams.{CopiedParams}
 use Rattle.ns_ram.specs.declared.read.Read.{Read}
 use Rattle.smc_abi.specs.Call.{call_of}
 use Rattle.smc_abi.specs.declared.answer.Answer.{Answer}
 use Rattle.smc_abi.specs.declared.call.Call.TheVariants.{Resume}
 use Rattle.smc_abi.specs.declared.regs.Regs.{Regs}
 use Rattle.kernel_model.specs.Application.{Booted}
-use Rattle.kernel_model.specs.Argument.{reg, client_in}
-use Rattle.kernel_model.specs.Codes.{target_dead}
-use Rattle.kernel_model.specs.Decision.{Decision, Answers, Takes, Cancels}
-use Rattle.kernel_model.specs.Entry.{entered, after_entry}
-use Rattle.kernel_model.specs.Exit.{Exited, after_end, after_nothing, after_panic, asks_in, ended, ends, frees_or_is_answered, further, goes_out, exit, exit_of, exit_from, exit_in, taken_on, stopped, woken_by}
-use Rattle.kernel_model.specs.History.{after_event, after_events, entry_from, exit_to, goes_out_of, can_be_granted, is_outside, kernel_after, left_by_exits, Continues, IsEntryFor, Resumes, slot_of_processor}
-use Rattle.kernel_model.specs.Kernel.{CallPhase, Runs, Asks, Waits, Ends, PendingCall, cancelled_call, cancelled_slot, cancelled_slots, ThreadSlot, Free, Active, Suspended, Fixed, InSlot, Processor, Outside, Inside, Kernel, first_kernel}
-use Rattle.kernel_model.specs.Laws.{ResumesContinue}
-use Rattle.kernel_model.proofs.EntryLaws.{resume_decides}
+use Rattle.kernel_model.specs.Argument.{reg, client_in, thread_in}
+use Rattle.kernel_model.specs.Codes.{eresume}
+use Rattle.kernel_model.specs.Decision.{Decision, Answers, Takes, works_on}
+use Rattle.kernel_model.specs.Entry.{after_decision, after_entry}
+use Rattle.kernel_model.specs.Exit.{Exited, goes_out, goes_out_from, exit, exit_of, exit_from, progress_of, slot_left}
+use Rattle.kernel_model.specs.History.{after_event, after_events, entry_from, exit_to, goes_out_of, can_be_granted, is_outside, kernel_after, left_by_exits, IsEntryOf, IsLater, Resumes, ResumesCall, slot_of_processor}
+use Rattle.kernel_model.specs.Kernel.{PendingCall, Progress, Cancel, cancelled_call, cancelled_slot, cancelled_slots, is_meant, ThreadSlot, Free, Active, Suspended, Errand, Fixed, InSlot, Processor, Outside, Inside, Kernel, Visit, first_kernel}
+use Rattle.kernel_model.specs.Laws.{FindsNoCall, ResumesContinue}
+use Rattle.kernel_model.specs.Leaving.{Leaving, Interrupted, WantsBuffer, Requests, FreesBuffer, Finishes, leaving_of}
+use Rattle.kernel_model.specs.Resume.{call_resumed_by, suspended_for}
+use Rattle.kernel_model.proofs.EntryLaws.{resumes_call, tells, told_resume}
 use Rattle.kernel_model.proofs.FixedAnswer.{decided_errand, decides}
-use Rattle.kernel_model.proofs.Parts.{set_then_read, set_found, set_other}
-use Rattle.kernel_model.proofs.Resuming.{Resuming}
+use Rattle.kernel_model.proofs.Parts.{option_map_some, set_then_read, set_found, set_other}
 use Rattle.kernel_model.proofs.Past.{after_events-append}
 
 -- what exits left is the call, but that it may be cancelled since, for the client of the call
 record Since (left : Option ThreadSlot) (client : ℕ) (call : PendingCall) : Type 0 where
   was : Bool
   same : left ≡ Some (Suspended client (record call { marked = was }))
+  stays : was ≡ true → call.marked ≡ true
   own : client ≡ call.client
 
 -- what the slot holds suspended is what exits left there
@@ -66,40 +59,55 @@ get_mapped [] i f = refl
 get_mapped (first ∷ slots) zero f = refl
 get_mapped (first ∷ slots) (suc i) f = get_mapped slots i f
 
+-- a mark stays where another call is cancelled
+mark_stays : (meant marked : Bool) → marked ≡ true → (meant || marked) ≡ true
+mark_stays true marked e = refl
+mark_stays false marked e = e
+
 -- a call that is cancelled now was left by the same exit
-cancelled_kept : (session cancel_id : ℕ) (held left : Option ThreadSlot) (client : ℕ) (call : PendingCall)
+cancelled_kept : (cancel : Cancel) (held left : Option ThreadSlot) (client : ℕ) (call : PendingCall)
     → ((before : PendingCall) → held ≡ Some (Suspended client before) → Since left client before)
-    → option_map (cancelled_slot session cancel_id) held ≡ Some (Suspended client call) → Since left client call
-cancelled_kept session cancel_id None left client call kept h = absurd cc
-cancelled_kept session cancel_id (Some Free) left client call kept h = absurd cc
-cancelled_kept session cancel_id (Some (Active cpu before)) left client call kept h = absurd cc
-cancelled_kept session cancel_id (Some (Suspended owner before)) left client call kept h =
+    → option_map (cancelled_slot cancel) held ≡ Some (Suspended client call) → Since left client call
+cancelled_kept cancel None left client call kept h = absurd cc
+cancelled_kept cancel (Some Free) left client call kept h = absurd cc
+cancelled_kept cancel (Some (Active cpu before)) left client call kept h = absurd cc
+cancelled_kept cancel (Some (Suspended owner before)) left client call kept h =
     let mine : owner ≡ client = cc in
-    let is : cancelled_call session cancel_id before ≡ call = cc in
+    let is : cancelled_call cancel before ≡ call = cc in
     let since = kept before (ap (λ (c : ℕ). Some (Suspended c before)) mine) in
-    subst (λ (c : PendingCall). Since left client c) is (record { was = since.was; same = since.same; own = since.own })
+    subst (λ (c : PendingCall). Since left client c) is (record {
+      was = since.was;
+      same = since.same;
+      stays = λ e. mark_stays (is_meant cancel before) before.marked (since.stays e);
+      own = since.own;
+    })
 
-decided_kept : (slot : ℕ) (kernel : Kernel) (cpu steps : ℕ) (regs : List ℕ) (left : Option ThreadSlot) (decision : Decision)
-    → Kept slot kernel left → Kept slot (entered kernel cpu regs steps decision) left
-decided_kept slot kernel cpu steps regs left (Answers answer) kept client call h = kept client call h
-decided_kept slot kernel cpu steps regs left (Takes taken made after) kept client call h =
-    kept client call (same_slot kernel.slots taken slot cpu client made call (taken == slot) refl h)
-decided_kept slot kernel cpu steps regs left (Cancels taken made session cancel_id) kept client call h =
-    let slots = cancelled_slots kernel.slots session cancel_id in
-    let there = same_slot slots taken slot cpu client made call (taken == slot) refl h in
-    let found = sym (get_mapped kernel.slots slot (cancelled_slot session cancel_id)) ∙ there in
-    cancelled_kept session cancel_id (slice_get kernel.slots slot) left client call (λ before is. kept client before is) found
+-- what a slot holds suspended, once calls are cancelled
+cancels_kept : (slot : ℕ) (kernel : Kernel) (cancels : Option Cancel) (left : Option ThreadSlot) (client : ℕ) (call : PendingCall)
+    → Kept slot kernel left → slice_get (cancelled_slots kernel.slots cancels) slot ≡ Some (Suspended client call) → Since left client call
+cancels_kept slot kernel None left client call kept h = kept client call h
+cancels_kept slot kernel (Some cancel) left client call kept h =
+    cancelled_kept cancel (slice_get kernel.slots slot) left client call (λ before is. kept client before is)
+    (sym (get_mapped kernel.slots slot (cancelled_slot cancel)) ∙ h)
 
-entry_kept : (boot : Booted) (slot : ℕ) (kernel next : Kernel) (cpu steps : ℕ) (regs : List ℕ) (reads : List Read) (left : Option ThreadSlot)
-    → Kept slot kernel left → after_entry boot kernel cpu regs steps reads ≡ Some next → Kept slot next left
-entry_kept boot slot kernel next cpu steps regs reads left kept e =
-    let found = decides boot kernel next cpu steps regs reads e in
-    subst (λ (k : Kernel). Kept slot k left) found.gives (decided_kept slot kernel cpu steps regs left found.value kept)
+decided_kept : (slot : ℕ) (kernel : Kernel) (visit : Visit) (left : Option ThreadSlot) (decision : Decision)
+    → Kept slot kernel left → Kept slot (after_decision kernel visit decision) left
+decided_kept slot kernel visit left (Answers answer) kept client call h = kept client call h
+decided_kept slot kernel visit left (Takes number taken) kept client call h =
+    let slots = cancelled_slots kernel.slots taken.cancels in
+    cancels_kept slot kernel taken.cancels left client call kept
+    (same_slot slots number slot visit.cpu client taken.call call (number == slot) refl h)
 
-allowed_kept : (boot : Booted) (slot : ℕ) (kernel next : Kernel) (cpu steps : ℕ) (regs : List ℕ) (reads : List Read) (left : Option ThreadSlot) (allowed : Bool)
-    → Kept slot kernel left → (if allowed then after_entry boot kernel cpu regs steps reads else None) ≡ Some next → Kept slot next left
-allowed_kept boot slot kernel next cpu steps regs reads left true kept e = entry_kept boot slot kernel next cpu steps regs reads left kept e
-allowed_kept boot slot kernel next cpu steps regs reads left false kept e = absurd cc
+entry_kept : (boot : Booted) (slot : ℕ) (kernel next : Kernel) (visit : Visit) (reads : List Read) (left : Option ThreadSlot)
+    → Kept slot kernel left → after_entry boot kernel visit reads ≡ Some next → Kept slot next left
+entry_kept boot slot kernel next visit reads left kept e =
+    let found = decides boot kernel next visit reads e in
+    subst (λ (k : Kernel). Kept slot k left) found.gives (decided_kept slot kernel visit left found.value kept)
+
+allowed_kept : (boot : Booted) (slot : ℕ) (kernel next : Kernel) (visit : Visit) (reads : List Read) (left : Option ThreadSlot) (allowed : Bool)
+    → Kept slot kernel left → (if allowed then after_entry boot kernel visit reads else None) ≡ Some next → Kept slot next left
+allowed_kept boot slot kernel next visit reads left true kept e = entry_kept boot slot kernel next visit reads left kept e
+allowed_kept boot slot kernel next visit reads left false kept e = absurd cc
 
 -- ---- exits
 
@@ -109,76 +117,31 @@ Own Free = Unit {0}
 Own (Active cpu call) = ⊥
 Own (Suspended client call) = client ≡ call.client
 
+own_left : (call : PendingCall) (leaving : Leaving) → Own (slot_left call leaving)
+own_left call Interrupted = refl
+own_left call WantsBuffer = refl
+own_left call (Requests place request) = refl
+own_left call (FreesBuffer buffer) = refl
+own_left call (Finishes result params) = tt
+
 record LeftIn (slots : List ThreadSlot) (slot : ℕ) (exited : Exited) : Type 0 where
   held : ThreadSlot
   own : Own held
   after : exited.kernel.slots ≡ slice_set slots slot held
 
-left_in : (slots : List ThreadSlot) (slot : ℕ) (made exited : Exited) → LeftIn slots slot made → Some made ≡ Some exited → LeftIn slots slot exited
-left_in slots slot made exited left e =
-    let same : made ≡ exited = cc in
-    subst (λ (x : Exited). LeftIn slots slot x) same left
+progress_left : (kernel : Kernel) (visit : Visit) (slot : ℕ) (progress : Progress) → LeftIn kernel.slots slot (goes_out_from kernel visit slot progress)
+progress_left kernel visit slot progress =
+    let leaving = leaving_of slot progress.call in
+    record { held = slot_left progress.call leaving; own = own_left progress.call leaving; after = refl }
 
-asks_left : (kernel : Kernel) (cpu : ℕ) (regs : List ℕ) (slot : ℕ) (call : PendingCall) (wanted : Rpc) (payload : List ℕ) (buffer : Option RpcBuffer)
-    → LeftIn kernel.slots slot (asks_in kernel cpu regs slot call wanted payload buffer)
-asks_left kernel cpu regs slot call wanted payload None = record { held = Suspended call.client call; own = refl; after = refl }
-asks_left kernel cpu regs slot call wanted payload (Some buffer) = record { held = Suspended call.client call; own = refl; after = refl }
-
-frees_left : (kernel : Kernel) (cpu : ℕ) (regs : List ℕ) (slot : ℕ) (call : PendingCall) (result : CallResult) (params : CopiedParams) (buffer : Option RpcBuffer)
-    → LeftIn kernel.slots slot (frees_or_is_answered kernel cpu regs slot call result params buffer)
-frees_left kernel cpu regs slot call result params None = record { held = Free; own = tt; after = refl }
-frees_left kernel cpu regs slot call result params (Some buffer) =
-    let rest : PendingCall = record call { buffer = None; phase = Ends result params true None } in
-    record { held = Suspended call.client rest; own = refl; after = refl }
-
-ended_left : (kernel : Kernel) (cpu : ℕ) (regs : List ℕ) (slot : ℕ) (call : PendingCall) (result : CallResult) (params : CopiedParams) (wakes : Option ℕ)
-    → LeftIn kernel.slots slot (ended kernel cpu regs slot call result params wakes)
-ended_left kernel cpu regs slot call result params None = frees_left kernel cpu regs slot call result params call.buffer
-ended_left kernel cpu regs slot call result params (Some woken) =
-    asks_left kernel cpu regs slot (record call { phase = Ends result params true (Some woken) }) (rpc.Wake woken) [] call.buffer
-
-ends_left : (kernel : Kernel) (cpu : ℕ) (regs : List ℕ) (slot : ℕ) (call : PendingCall) (result : CallResult) (params : CopiedParams)
-    → LeftIn kernel.slots slot (ends kernel cpu regs slot call result params)
-ends_left kernel cpu regs slot call result params = ended_left kernel cpu regs slot call result params (woken_by kernel call call.kind)
-
-stopped_left : (kernel : Kernel) (cpu : ℕ) (regs : List ℕ) (slot : ℕ) (call : PendingCall) (used : ℕ) (why : JobStop)
-    → LeftIn kernel.slots slot (stopped kernel cpu regs slot call used why)
-stopped_left kernel cpu regs slot call used (steps.Ends end) = ends_left (after_end kernel call end) cpu regs slot (further call used) end.result end.params
-stopped_left kernel cpu regs slot call used (steps.Panics code) = ends_left (after_panic kernel call) cpu regs slot (further call used) (of_tee target_dead) no_params
-stopped_left kernel cpu regs slot call used (steps.Asks wanted payload left) =
-    asks_left kernel cpu regs slot (record (further call used) { phase = Asks left wanted payload }) wanted payload call.buffer
-
-taken_on_left : (kernel : Kernel) (cpu : ℕ) (regs : List ℕ) (count slot : ℕ) (call : PendingCall) (grant : Grant)
-    → LeftIn kernel.slots slot (taken_on kernel cpu regs count slot call grant)
-taken_on_left kernel cpu regs count slot call (Left job) =
-    let rest : PendingCall = record call { steps = call.steps + count; phase = Runs job } in
-    record { held = Suspended call.client rest; own = refl; after = refl }
-taken_on_left kernel cpu regs count slot call (Stopped used why) = stopped_left kernel cpu regs slot call used why
-
-granted_in : (kernel : Kernel) (cpu : ℕ) (regs : List ℕ) (count slot : ℕ) (call : PendingCall) (grant : Option Grant) (exited : Exited)
-    → option_map (taken_on kernel cpu regs count slot call) grant ≡ Some exited → LeftIn kernel.slots slot exited
-granted_in kernel cpu regs count slot call None exited e = absurd cc
-granted_in kernel cpu regs count slot call (Some grant) exited e =
-    left_in kernel.slots slot (taken_on kernel cpu regs count slot call grant) exited (taken_on_left kernel cpu regs count slot call grant) e
-
-phase_in : (kernel : Kernel) (cpu : ℕ) (regs : List ℕ) (count slot : ℕ) (call : PendingCall) (phase : CallPhase) (exited : Exited)
-    → exit_in kernel cpu regs count slot call phase ≡ Some exited → LeftIn kernel.slots slot exited
-phase_in kernel cpu regs count slot call (Runs job) exited e = granted_in kernel cpu regs count slot call (granted count job) exited e
-phase_in kernel cpu regs count slot call (Asks job wanted payload) exited e =
-    left_in kernel.slots slot _ exited (asks_left kernel cpu regs slot call wanted payload call.buffer) e
-phase_in kernel cpu regs count slot call (Waits params) exited e =
-    left_in kernel.slots slot _ exited (asks_left kernel cpu regs slot call (rpc.Sleep slot) [] call.buffer) e
-phase_in kernel cpu regs count slot call (Ends result params false wakes) exited e =
-    left_in kernel.slots slot _ exited (ends_left (after_nothing kernel call) cpu regs slot call result params) e
-phase_in kernel cpu regs count slot call (Ends result params true wakes) exited e =
-    left_in kernel.slots slot _ exited (ended_left kernel cpu regs slot call result params wakes) e
-
-slot_in : (kernel : Kernel) (cpu : ℕ) (regs : List ℕ) (count slot : ℕ) (held : Option ThreadSlot) (exited : Exited)
-    → option_and_then (exit_from kernel cpu regs count slot) held ≡ Some exited → LeftIn kernel.slots slot exited
-slot_in kernel cpu regs count slot None exited e = absurd cc
-slot_in kernel cpu regs count slot (Some Free) exited e = absurd cc
-slot_in kernel cpu regs count slot (Some (Active worker call)) exited e = phase_in kernel cpu regs count slot call call.phase exited e
-slot_in kernel cpu regs count slot (Some (Suspended client call)) exited e = absurd cc
+slot_in : (kernel : Kernel) (visit : Visit) (slot : ℕ) (held : Option ThreadSlot) (exited : Exited)
+    → option_and_then (exit_from kernel visit slot) held ≡ Some exited → LeftIn kernel.slots slot exited
+slot_in kernel visit slot None exited e = absurd cc
+slot_in kernel visit slot (Some Free) exited e = absurd cc
+slot_in kernel visit slot (Some (Active worker call)) exited e =
+    let came = option_map_some (goes_out_from kernel visit slot) (progress_of kernel.tables call visit.steps) exited e in
+    subst (λ (x : Exited). LeftIn kernel.slots slot x) came.2 (progress_left kernel visit slot came.0)
+slot_in kernel visit slot (Some (Suspended client call)) exited e = absurd cc
 
 own_client : (held : ThreadSlot) (client : ℕ) (call : PendingCall) → held ≡ Suspended client call → Own held → client ≡ call.client
 own_client held client call e own = subst Own e own
@@ -194,7 +157,7 @@ slot_kept slot from kernel left exited true e kept gone client call h =
     let here = ap (λ (xs : List ThreadSlot). slice_get xs slot) (sym gone.after) ∙ h in
     let there = subst (λ (i : ℕ). slice_get (slice_set kernel.slots from gone.held) i ≡ Some (Suspended client call)) (sym at) here in
     let own = own_client gone.held client call (set_then_read kernel.slots from gone.held (Suspended client call) there) gone.own in
-    record { was = call.marked; same = h; own = own }
+    record { was = call.marked; same = h; stays = λ e. e; own = own }
 slot_kept slot from kernel left exited false e kept gone client call h =
     let apart : from ≡ slot → ⊥ = λ at. let yes = (Decides-eqb from slot).1 at in absurd cc in
     let here = ap (λ (xs : List ThreadSlot). slice_get xs slot) (sym gone.after) ∙ h in
@@ -209,11 +172,12 @@ exit_kept : (slot : ℕ) (kernel : Kernel) (cpu : ℕ) (left : Option ThreadSlot
 exit_kept slot kernel cpu left None exited kept e = absurd cc
 exit_kept slot kernel cpu left (Some Outside) exited kept e = absurd cc
 exit_kept slot kernel cpu left (Some (Inside regs count (Fixed answer))) exited kept e =
-    let made : Exited = goes_out kernel cpu regs answer [] in
+    let made : Exited = goes_out kernel (record { cpu = cpu; regs = regs; steps = count }) answer [] in
     let same : made ≡ exited = cc in
     subst (λ (x : Exited). Kept slot x.kernel left) same kept
 exit_kept slot kernel cpu left (Some (Inside regs count (InSlot from))) exited kept e =
-    slot_kept slot from kernel left exited (from == slot) refl kept (slot_in kernel cpu regs count from (slice_get kernel.slots from) exited e)
+    let visit : Visit = record { cpu = cpu; regs = regs; steps = count } in
+    slot_kept slot from kernel left exited (from == slot) refl kept (slot_in kernel visit from (slice_get kernel.slots from) exited e)
 
 -- ---- histories
 
@@ -230,8 +194,9 @@ after_one kernel slot left happened next = if goes_out_of kernel slot happened t
 event_kept : (boot : Booted) (slot : ℕ) (kernel next : Kernel) (left : Option ThreadSlot) (happened : Event)
     → Kept slot kernel left → after_event boot kernel happened ≡ Some next → Kept slot next (after_one kernel slot left happened next)
 event_kept boot slot kernel next left (event.Entry cpu regs count reads) kept e =
-    option_and_then_some (entry_from boot kernel cpu regs.a count reads) (slice_get kernel.processors cpu) next e
-    (λ (processor : Processor) there onward. allowed_kept boot slot kernel next cpu count regs.a reads left (is_outside processor && can_be_granted count) kept onward)
+    let visit : Visit = record { cpu = cpu; regs = regs.a; steps = count } in
+    option_and_then_some (entry_from boot kernel visit reads) (slice_get kernel.processors cpu) next e
+    (λ (processor : Processor) there onward. allowed_kept boot slot kernel next visit reads left (is_outside processor && can_be_granted count) kept onward)
 event_kept boot slot kernel next left (event.Exit cpu regs) kept e =
     let left_in = after_one kernel slot left (event.Exit cpu regs) in
     option_and_then_some (exit_to regs.a) (exit kernel cpu) next e
@@ -266,15 +231,37 @@ first_kept boot slot client call h = absurd (none_suspended boot.threads slot cl
 
 -- ---- resumes
 
--- the call that a resume takes, from the slot that its registers name, and what it has become
-record Taken (kernel : Kernel) (regs : List ℕ) (slot : ℕ) (next : Kernel) (cpu : ℕ) : Type 0 where
-  call : PendingCall
+-- the call for which a resume is, in the slot that its registers name
+record Found (kernel : Kernel) (regs : List ℕ) (call : PendingCall) : Type 0 where
   owner : ℕ
-  was : slice_get kernel.slots slot ≡ Some (Suspended owner call)
+  held : slice_get kernel.slots (thread_in regs) ≡ Some (Suspended owner call)
   is_client : owner ≡ client_in regs
-  now : PendingCall
-  active : slice_get next.slots slot ≡ Some (Active cpu now)
-  continues : Continues call now
+
+client_found : (kernel : Kernel) (regs : List ℕ) (owner : ℕ) (was call : PendingCall) (same : Bool) → (owner == client_in regs) ≡ same
+    → slice_get kernel.slots (thread_in regs) ≡ Some (Suspended owner was) → (if same then Some was else None) ≡ Some call → Found kernel regs call
+client_found kernel regs owner was call true is held e =
+    let this : was ≡ call = cc in
+    record {
+      owner = owner;
+      held = held ∙ ap (λ (c : PendingCall). Some (Suspended owner c)) this;
+      is_client = (Decides-eqb owner (client_in regs)).0 is;
+    }
+client_found kernel regs owner was call false is held e = absurd cc
+
+held_found : (kernel : Kernel) (regs : List ℕ) (call : PendingCall) (held : Option ThreadSlot) → slice_get kernel.slots (thread_in regs) ≡ held
+    → suspended_for (client_in regs) held ≡ Some call → Found kernel regs call
+held_found kernel regs call None is e = absurd cc
+held_found kernel regs call (Some Free) is e = absurd cc
+held_found kernel regs call (Some (Active cpu was)) is e = absurd cc
+held_found kernel regs call (Some (Suspended owner was)) is e =
+    client_found kernel regs owner was call (owner == client_in regs) refl is e
+
+-- a resume that is let in
+record LetIn (boot : Booted) (kernel next : Kernel) (visit : Visit) (reads : List Read) (slot : ℕ) : Type 0 where
+  call : PendingCall
+  found : Found kernel visit.regs call
+  at : thread_in visit.regs ≡ slot
+  resumes : ResumesCall boot kernel visit reads call next
 
 no_errand : (answer : Answer) (slot : ℕ) → Fixed answer ≡ InSlot slot → ⊥
 no_errand answer slot e = cc
@@ -282,69 +269,78 @@ no_errand answer slot e = cc
 same_number : (first second : ℕ) → InSlot first ≡ InSlot second → first ≡ second
 same_number first second e = cc
 
-decided_takes : (kernel next : Kernel) (regs : List ℕ) (cpu count slot : ℕ) (decision : Decision) → Resuming kernel regs decision
-    → entered kernel cpu regs count decision ≡ next → slice_get next.processors cpu ≡ Some (Inside regs count (InSlot slot)) → Taken kernel regs slot next cpu
-decided_takes kernel next regs cpu count slot (Answers answer) fits e inside =
-    absurd (no_errand answer slot (decided_errand kernel next cpu count regs (InSlot slot) (Answers answer) e inside))
-decided_takes kernel next regs cpu count slot (Takes taken call after) fits e inside =
-    let number = same_number taken slot (decided_errand kernel next cpu count regs (InSlot slot) (Takes taken call after) e inside) in
-    let active = ap (λ (k : Kernel). slice_get k.slots taken) (sym e) ∙ set_found kernel.slots taken (Active cpu call) (Suspended fits.owner fits.was) fits.held in
+resume_let_in : (boot : Booted) (kernel next : Kernel) (visit : Visit) (reads : List Read) (slot : ℕ) (found : Option PendingCall)
+    → call_resumed_by kernel.slots visit.regs ≡ found → call_of (reg visit.regs 0) ≡ Resume → after_entry boot kernel visit reads ≡ Some next
+    → slice_get next.processors visit.cpu ≡ Some (Inside visit.regs visit.steps (InSlot slot)) → LetIn boot kernel next visit reads slot
+resume_let_in boot kernel next visit reads slot None none is e inside =
+    let told = tells boot kernel next visit reads e in
+    let decided = told_resume kernel visit.regs told.value told.holds (is, none) in
+    let gives = ap (λ (d : Decision). after_decision kernel visit d) (sym decided) ∙ told.gives in
+    absurd (no_errand eresume slot (decided_errand kernel next visit (InSlot slot) (Answers eresume) gives inside))
+resume_let_in boot kernel next visit reads slot (Some call) some is e inside =
+    let resumes = resumes_call boot kernel next visit reads call is some e in
+    let number = decided_errand kernel next visit (InSlot slot) (Takes (thread_in visit.regs) (works_on resumes.progress)) (sym resumes.next_is) inside in
     record {
-      call = fits.was;
-      owner = fits.owner;
-      was = subst (λ (i : ℕ). slice_get kernel.slots i ≡ Some (Suspended fits.owner fits.was)) number fits.held;
-      is_client = fits.is_client;
-      now = call;
-      active = subst (λ (i : ℕ). slice_get next.slots i ≡ Some (Active cpu call)) number active;
-      continues = fits.continues;
+      call = call;
+      found = held_found kernel visit.regs call (slice_get kernel.slots (thread_in visit.regs)) refl some;
+      at = same_number (thread_in visit.regs) slot number;
+      resumes = resumes;
     }
-decided_takes kernel next regs cpu count slot (Cancels taken call session cancel_id) fits e inside = absurd fits
 
-allowed_takes : (boot : Booted) (kernel next : Kernel) (regs : List ℕ) (cpu count slot : ℕ) (reads : List Read) (allowed : Bool) → call_of (reg regs 0) ≡ Resume
-    → (if allowed then after_entry boot kernel cpu regs count reads else None) ≡ Some next
-    → slice_get next.processors cpu ≡ Some (Inside regs count (InSlot slot)) → Taken kernel regs slot next cpu
-allowed_takes boot kernel next regs cpu count slot reads true is e inside =
-    let found = resume_decides boot kernel next cpu count regs reads is e in
-    decided_takes kernel next regs cpu count slot found.value found.holds found.gives inside
-allowed_takes boot kernel next regs cpu count slot reads false is e inside = absurd cc
+allowed_let_in : (boot : Booted) (kernel next : Kernel) (visit : Visit) (reads : List Read) (slot : ℕ) (allowed : Bool)
+    → call_of (reg visit.regs 0) ≡ Resume → (if allowed then after_entry boot kernel visit reads else None) ≡ Some next
+    → slice_get next.processors visit.cpu ≡ Some (Inside visit.regs visit.steps (InSlot slot)) → LetIn boot kernel next visit reads slot
+allowed_let_in boot kernel next visit reads slot true is e inside =
+    resume_let_in boot kernel next visit reads slot (call_resumed_by kernel.slots visit.regs) refl is e inside
+allowed_let_in boot kernel next visit reads slot false is e inside = absurd cc
 
 only_one : (o : Option Kernel) (next : Kernel) → option_and_then (λ k. Some k) o ≡ Some next → o ≡ Some next
 only_one None next e = absurd cc
 only_one (Some kernel) next e = e
 
-event_takes : (boot : Booted) (kernel next : Kernel) (cpu count slot : ℕ) (regs : Regs) (reads : List Read) → call_of (reg regs.a 0) ≡ Resume
+abbrev visit_of : ℕ → Regs → ℕ → Visit
+visit_of cpu regs count = record { cpu = cpu; regs = regs.a; steps = count }
+
+event_let_in : (boot : Booted) (kernel next : Kernel) (cpu count slot : ℕ) (regs : Regs) (reads : List Read) → call_of (reg regs.a 0) ≡ Resume
     → after_event boot kernel (event.Entry cpu regs count reads) ≡ Some next
-    → slice_get next.processors cpu ≡ Some (Inside regs.a count (InSlot slot)) → Taken kernel regs.a slot next cpu
-event_takes boot kernel next cpu count slot regs reads is e inside =
-    option_and_then_some (entry_from boot kernel cpu regs.a count reads) (slice_get kernel.processors cpu) next e
-    (λ (processor : Processor) there onward. allowed_takes boot kernel next regs.a cpu count slot reads (is_outside processor && can_be_granted count) is onward inside)
+    → slice_get next.processors cpu ≡ Some (Inside regs.a count (InSlot slot)) → LetIn boot kernel next (visit_of cpu regs count) reads slot
+event_let_in boot kernel next cpu count slot regs reads is e inside =
+    option_and_then_some (entry_from boot kernel (visit_of cpu regs count) reads) (slice_get kernel.processors cpu) next e
+    (λ (processor : Processor) there onward.
+    allowed_let_in boot kernel next (visit_of cpu regs count) reads slot (is_outside processor && can_be_granted count) is onward inside)
 
 at_seam : (before : List Event) (last : Event) → slice_get (before ++ last ∷ []) (length before) ≡ Some last
 at_seam [] last = refl
 at_seam (first ∷ before) last = at_seam before last
 
-taken_resumes : (boot : Booted) (before : List Event) (kernel next : Kernel) (cpu count slot : ℕ) (regs : Regs) (reads : List Read)
+let_in_resumes : (boot : Booted) (before : List Event) (kernel next : Kernel) (cpu count slot : ℕ) (regs : Regs) (reads : List Read)
     → kernel_after boot before ≡ Some kernel → kernel_after boot (before ++ event.Entry cpu regs count reads ∷ []) ≡ Some next
-    → Taken kernel regs.a slot next cpu
-    → (call : PendingCall) × Resumes boot (before ++ event.Entry cpu regs count reads ∷ []) (length before) cpu slot call
-taken_resumes boot before kernel next cpu count slot regs reads there e taken =
+    → LetIn boot kernel next (visit_of cpu regs count) reads slot
+    → (call : PendingCall) × Resumes boot (before ++ event.Entry cpu regs count reads ∷ []) (length before) slot call
+let_in_resumes boot before kernel next cpu count slot regs reads there e came =
     let last : Event = event.Entry cpu regs count reads in
-    let kept = events_kept boot slot (first_kernel boot) kernel None before (first_kept boot slot) there taken.owner taken.call taken.was in
-    let left_call : PendingCall = record taken.call { marked = kept.was } in
-    let came : client_in regs.a ≡ taken.call.client = sym taken.is_client ∙ kept.own in
+    let held = subst (λ (i : ℕ). slice_get kernel.slots i ≡ Some (Suspended came.found.owner came.call)) came.at came.found.held in
+    let kept = events_kept boot slot (first_kernel boot) kernel None before (first_kept boot slot) there came.found.owner came.call held in
+    let left_call : PendingCall = record came.call { marked = kept.was } in
     let cut = take-append_seam before (last ∷ []) in
     let whole = take-append-add before (last ∷ []) 1 in (
       left_call,
       record {
-        comes_in = subst (IsEntryFor cpu taken.call.client) (sym (at_seam before last)) (refl, came);
+        visit = visit_of cpu regs count;
+        reads = reads;
+        comes_in = subst (IsEntryOf (visit_of cpu regs count) reads) (sym (at_seam before last)) (refl, refl);
+        of_slot = came.at;
+        by_client = sym came.found.is_client ∙ kept.own;
         left =
             ap (λ (events : List Event). left_by_exits boot (first_kernel boot) slot None events) cut
             ∙ kept.same ∙ ap (λ (client : ℕ). Some (Suspended client left_call)) kept.own;
-        now = taken.now;
-        goes_on =
-            ap (λ (events : List Event). option_and_then (λ k. slice_get k.slots slot) (kernel_after boot events)) whole
-            ∙ ap (λ (o : Option Kernel). option_and_then (λ k. slice_get k.slots slot) o) e ∙ taken.active;
-        continues = taken.continues;
+        kernel = kernel;
+        next = next;
+        before = ap (λ (events : List Event). kernel_after boot events) cut ∙ there;
+        after = ap (λ (events : List Event). kernel_after boot events) whole ∙ e;
+        now = came.call;
+        later = record { same = refl; stays = kept.stays };
+        resumes = came.resumes;
       },
     )
 
@@ -354,5 +350,5 @@ resumes_continue boot before cpu count slot regs reads next e is inside =
     let cut = after_events-append boot (first_kernel boot) before (last ∷ []) in
     option_and_then_some (λ k. after_events boot k (last ∷ [])) (kernel_after boot before) next (sym cut ∙ e)
     (λ (kernel : Kernel) there onward.
-    let taken = event_takes boot kernel next cpu count slot regs reads is (only_one (after_event boot kernel last) next onward) inside in
-    taken_resumes boot before kernel next cpu count slot regs reads there e taken)
+    let came = event_let_in boot kernel next cpu count slot regs reads is (only_one (after_event boot kernel last) next onward) inside in
+    let_in_resumes boot before kernel next cpu count slot regs reads there e came)

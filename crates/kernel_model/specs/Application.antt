@@ -2,6 +2,8 @@
 use Rattle.std.specs.Prelude.{◌≡◌, ℕ, ◌≤◌, not, List, ◌++◌, length, map, All, AllPairs, IsTrue}
 use Rattle.std.specs.List.{list_any}
 use Rattle.std.specs.Str.{bytes_eq}
+use Rattle.job_model.specs.Beginning.{Program, OfRelation}
+use Rattle.job_model.specs.Beginning as program
 use Rattle.native_tas.specs.declared.relation.Relation.{Relation}
 use Rattle.ta_isa.specs.Boots.{IsBoot}
 use Rattle.ta_isa.specs.declared.boot.App.{App}
@@ -25,6 +27,11 @@ flags_of (BuiltIn uuid relation) = 0
 abbrev pub pages_in : Application → ℕ
 pages_in (OfImage app) = app.image.pages
 pages_in (BuiltIn uuid relation) = 0
+
+-- what its calls begin on
+abbrev pub program_of : Application → Program
+program_of (OfImage app) = program.OfImage app.image
+program_of (BuiltIn uuid relation) = OfRelation relation
 
 -- a built-in application: its UUID, and what its function answers
 abbrev pub Native : Type 0

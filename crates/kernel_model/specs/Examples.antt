@@ -15,7 +15,8 @@ use Rattle.kernel_model.specs.Worked.{add, panic, mark, size, create_fails, open
 
 -- a kernel whose next session and instance have this number
 abbrev pub numbered : Kernel → ℕ → Kernel
-numbered kernel number = record kernel { next_session = number; next_instance = number }
+numbered kernel number =
+    record kernel { tables = record kernel.tables { next_session = number; next_instance = number } }
 
 -- a history of the adder: who are you, an open, and a call while it is inside
 abbrev pub legal_history : List Event

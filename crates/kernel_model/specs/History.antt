@@ -6,10 +6,12 @@ use Rattle.event_journal.specs.declared.event.Event.{Event}
 use Rattle.event_journal.specs.declared.event.Event.TheVariants.{Entry, Exit}
 use Rattle.ns_ram.specs.declared.read.Read.{Read}
 use Rattle.kernel_model.specs.Application.{Booted, IsBooted}
-use Rattle.kernel_model.specs.Argument.{client_in}
-use Rattle.kernel_model.specs.Entry.{after_entry}
+use Rattle.kernel_model.specs.Argument.{client_in, thread_in}
+use Rattle.kernel_model.specs.Entry.{after_decision, after_entry}
+use Rattle.kernel_model.specs.Decision.{Takes, works_on}
 use Rattle.kernel_model.specs.Exit.{Exited, exit}
-use Rattle.kernel_model.specs.Kernel.{PendingCall, ThreadSlot, Active, Suspended, Errand, Fixed, InSlot, Processor, Outside, Inside, Kernel, first_kernel}
+use Rattle.kernel_model.specs.Kernel.{PendingCall, Progress, ThreadSlot, Suspended, Errand, Fixed, InSlot, Processor, Outside, Inside, Kernel, Visit, first_kernel}
+use Rattle.kernel_model.specs.Resume.{after_resume}
 
 -- ---- legal histories
 
@@ -23,9 +25,9 @@ abbrev pub can_be_granted : ℕ → Bool
 can_be_granted steps = nat_le 1 steps && nat_le steps 1000000
 
 -- the kernel after the entry of a processor that was in this state
-abbrev pub entry_from : Booted → Kernel → ℕ → List ℕ → ℕ → List Read → Processor → Option Kernel
-entry_from boot kernel cpu regs steps reads processor =
-    if is_outside processor && can_be_granted steps then after_entry boot kernel cpu regs steps reads else None
+abbrev pub entry_from : Booted → Kernel → Visit → List Read → Processor → Option Kernel
+entry_from boot kernel visit reads processor =
+    if is_outside processor && can_be_granted visit.steps then after_entry boot kernel visit reads else None
 
 -- the kernel after an exit that went out with these registers
 abbrev pub exit_to : List ℕ → Exited → Option Kernel
@@ -35,13 +37,15 @@ exit_to regs exited = if bytes_eq exited.regs regs then Some exited.kernel else 
 -- inside goes out with what its exit gives
 abbrev pub after_event : Booted → Kernel → Event → Option Kernel
 after_event boot kernel (Entry cpu regs steps reads) =
-    option_and_then (entry_from boot kernel cpu regs.a steps reads) (slice_get kernel.processors cpu)
+    let visit : Visit = record { cpu = cpu; regs = regs.a; steps = steps } in
+    option_and_then (entry_from boot kernel visit reads) (slice_get kernel.processors cpu)
 after_event boot kernel (Exit cpu regs) = option_and_then (exit_to regs.a) (exit kernel cpu)
 
 -- the kernel after these events, where each can follow on those before it
 abbrev pub after_events : Booted → Kernel → List Event → Option Kernel
 after_events boot kernel [] = Some kernel
-after_events boot kernel (event ∷ events) = option_and_then (λ next. after_events boot next events) (after_event boot kernel event)
+after_events boot kernel (event ∷ events) =
+    option_and_then (λ next. after_events boot next events) (after_event boot kernel event)
 
 -- the kernel after a history, from the boot on
 abbrev pub kernel_after : Booted → List Event → Option Kernel
@@ -90,22 +94,40 @@ abbrev pub held_after : Booted → List Event → ℕ → ℕ → Option ThreadS
 held_after boot history count slot =
     option_and_then (λ kernel. slice_get kernel.slots slot) (kernel_after boot (take count history))
 
--- a processor comes in for a client
-abbrev pub IsEntryFor : ℕ → ℕ → Option Event → Type 0
-IsEntryFor cpu client None = ⊥
-IsEntryFor cpu client (Some (Entry came regs steps reads)) = (came ≡ cpu) × (client_in regs.a ≡ client)
-IsEntryFor cpu client (Some (Exit went regs)) = ⊥
+-- the event is the entry of this visit, with these reads
+abbrev pub IsEntryOf : Visit → List Read → Option Event → Type 0
+IsEntryOf visit reads None = ⊥
+IsEntryOf visit reads (Some (Entry cpu regs steps came)) =
+    (visit ≡ record { cpu = cpu; regs = regs.a; steps = steps }) × (reads ≡ came)
+IsEntryOf visit reads (Some (Exit cpu regs)) = ⊥
 
--- the one call is the other, further on: by now it may be cancelled and have seen that, it may have got its buffer, and
--- it may be in another phase
-abbrev pub Continues : PendingCall → PendingCall → Type 0
-Continues call now = now ≡ record call { marked = now.marked; seen = now.seen; buffer = now.buffer; phase = now.phase }
+-- the one call is the other, but that it may have been cancelled since
+pub record IsLater (call now : PendingCall) : Type 0 where
+  pub same : now ≡ record call { marked = now.marked }
+  pub stays : call.marked ≡ true → now.marked ≡ true
 
--- the event at this place continues, on this processor, the call that the last exit from the slot before it left
--- suspended, whose client comes in
-pub record Resumes (boot : Booted) (history : List Event) (at cpu slot : ℕ) (call : PendingCall) : Type 0 where
-  pub comes_in : IsEntryFor cpu call.client (slice_get history at)
+-- an entry with these reads makes this kernel of the one before: its processor works, in the slot that its registers
+-- name, on what its resume makes of this call
+pub record ResumesCall (boot : Booted) (kernel : Kernel) (visit : Visit) (reads : List Read) (call : PendingCall)
+    (next : Kernel) : Type 0 where
+  pub progress : Progress
+  pub comes_to : after_resume boot kernel.tables visit.regs call reads ≡ Some progress
+  pub next_is : next ≡ after_decision kernel visit (Takes (thread_in visit.regs) (works_on progress))
+
+-- the event at this place is a resume of the call that the last exit from its slot before it left suspended, by that
+-- call's client
+pub record Resumes (boot : Booted) (history : List Event) (at slot : ℕ) (call : PendingCall) : Type 0 where
+  pub visit : Visit
+  pub reads : List Read
+  pub comes_in : IsEntryOf visit reads (slice_get history at)
+  pub of_slot : thread_in visit.regs ≡ slot
+  pub by_client : client_in visit.regs ≡ call.client
   pub left : left_before boot history at slot ≡ Some (Suspended call.client call)
+  -- the kernels before and after it, and the call by then
+  pub kernel : Kernel
+  pub next : Kernel
+  pub before : kernel_after boot (take at history) ≡ Some kernel
+  pub after : kernel_after boot (take (at + 1) history) ≡ Some next
   pub now : PendingCall
-  pub goes_on : held_after boot history (at + 1) slot ≡ Some (Active cpu now)
-  pub continues : Continues call now
+  pub later : IsLater call now
+  pub resumes : ResumesCall boot kernel visit reads now next

@@ -1,8 +1,8 @@
 -- The kernel: all that an entry and an exit change, as one record of finite maps. This project's own.
-use Rattle.std.specs.Prelude.{ℕ, ◌==◌, ◌&&◌, ◌||◌, Bool, true, false, List, [], Option, map, position, replicate, slice_set}
+use Rattle.std.specs.Prelude.{ℕ, ◌==◌, ◌&&◌, ◌||◌, Bool, true, false, List, [], Option, Some, None, map, position, replicate, slice_set}
 use Rattle.base.specs.NumberMap.{NumberMap}
 use Rattle.job_model.specs.declared.call_kind.CallKind.{CallKind}
-use Rattle.job_model.specs.declared.rpc_buffer.RpcBuffer.{RpcBuffer}
+use Rattle.rpc_msgs.specs.declared.rpc_buffer.RpcBuffer.{RpcBuffer}
 use Rattle.job_model.specs.Job.{Job}
 use Rattle.param_copy.specs.declared.copied.Place.{Place}
 use Rattle.rpc_msgs.specs.declared.rpc.Rpc.{Rpc}
@@ -100,34 +100,46 @@ pub data Processor : Type 0 where
   -- it came in with these registers, and is granted so many steps
   Inside : (regs : List ℕ) (steps : ℕ) (errand : Errand) → Processor
 
--- the whole state
-pub record Kernel : Type 0 where
-  -- the thread slots, by their number
-  pub slots : List ThreadSlot
+-- what is kept beside slots and processors
+pub record Tables : Type 0 where
   pub sessions : NumberMap Session
   pub instances : NumberMap Instance
   -- the calls that wait for an instance, in the order in which they began to. One can outlast its instance
   pub waiters : List Waiter
   -- the registered buffers by their cookies, and the pins
   pub registered : Registered
-  -- the processors, by their number
-  pub processors : List Processor
   -- the number that the next session gets, and the next instance
   pub next_session : ℕ
   pub next_instance : ℕ
 
--- the kernel as it boots: all slots free, all processors outside, and nothing else
-abbrev pub first_kernel : Booted → Kernel
-first_kernel boot = record {
-  slots = replicate boot.threads Free;
+-- the whole state
+pub record Kernel : Type 0 where
+  -- the thread slots, by their number
+  pub slots : List ThreadSlot
+  -- the processors, by their number
+  pub processors : List Processor
+  pub tables : Tables
+
+-- nothing is kept as the kernel boots
+abbrev pub first_tables : Tables
+first_tables = record {
   sessions = [];
   instances = [];
   waiters = [];
   registered = record { buffers = []; pins = [] };
-  processors = replicate boot.cpus Outside;
   next_session = 1;
   next_instance = 1;
 }
+
+-- the kernel as it boots: all slots free and all processors outside
+abbrev pub first_kernel : Booted → Kernel
+first_kernel boot =
+    record { slots = replicate boot.threads Free; processors = replicate boot.cpus Outside; tables = first_tables }
+
+-- what a call has come to, with the tables as they then are
+pub record Progress : Type 0 where
+  pub call : PendingCall
+  pub tables : Tables
 
 -- ---- slots and processors
 
@@ -138,33 +150,46 @@ is_free (Active cpu call) = false
 is_free (Suspended client call) = false
 
 -- the lowest free slot, if one is free
-abbrev pub lowest_free : Kernel → Option ℕ
-lowest_free kernel = position is_free kernel.slots
+abbrev pub lowest_free : List ThreadSlot → Option ℕ
+lowest_free slots = position is_free slots
 
--- the kernel with this in a slot
-abbrev pub with_slot : Kernel → ℕ → ThreadSlot → Kernel
-with_slot kernel slot held = record kernel { slots = slice_set kernel.slots slot held }
+-- a processor that comes in: its number, its registers, and the steps that it is granted
+pub record Visit : Type 0 where
+  pub cpu : ℕ
+  pub regs : List ℕ
+  pub steps : ℕ
 
--- the kernel with a processor in this state
-abbrev pub with_processor : Kernel → ℕ → Processor → Kernel
-with_processor kernel cpu processor = record kernel { processors = slice_set kernel.processors cpu processor }
+-- the kernel with the visitor's processor inside for this
+abbrev pub with_visitor : Kernel → Visit → Errand → Kernel
+with_visitor kernel visit errand =
+    record kernel { processors = slice_set kernel.processors visit.cpu (Inside visit.regs visit.steps errand) }
+
+-- the kernel with it outside
+abbrev pub without_visitor : Kernel → Visit → Kernel
+without_visitor kernel visit = record kernel { processors = slice_set kernel.processors visit.cpu Outside }
 
 -- ---- cancelled calls
 
--- the call is one of the session's that has this number
-abbrev pub is_meant : ℕ → ℕ → PendingCall → Bool
-is_meant session cancel_id call = (call.session == session) && (call.cancel_id == cancel_id)
+-- the pending calls of a session that have this number
+pub record Cancel : Type 0 where
+  pub session : ℕ
+  pub cancel_id : ℕ
+
+-- the call is one of them
+abbrev pub is_meant : Cancel → PendingCall → Bool
+is_meant cancel call = (call.session == cancel.session) && (call.cancel_id == cancel.cancel_id)
 
 -- the call, marked where it is meant
-abbrev pub cancelled_call : ℕ → ℕ → PendingCall → PendingCall
-cancelled_call session cancel_id call = record call { marked = is_meant session cancel_id call || call.marked }
+abbrev pub cancelled_call : Cancel → PendingCall → PendingCall
+cancelled_call cancel call = record call { marked = is_meant cancel call || call.marked }
 
 -- the slot, with its call marked where that is meant
-abbrev pub cancelled_slot : ℕ → ℕ → ThreadSlot → ThreadSlot
-cancelled_slot session cancel_id Free = Free
-cancelled_slot session cancel_id (Active cpu call) = Active cpu (cancelled_call session cancel_id call)
-cancelled_slot session cancel_id (Suspended client call) = Suspended client (cancelled_call session cancel_id call)
+abbrev pub cancelled_slot : Cancel → ThreadSlot → ThreadSlot
+cancelled_slot cancel Free = Free
+cancelled_slot cancel (Active cpu call) = Active cpu (cancelled_call cancel call)
+cancelled_slot cancel (Suspended client call) = Suspended client (cancelled_call cancel call)
 
--- all slots
-abbrev pub cancelled_slots : List ThreadSlot → ℕ → ℕ → List ThreadSlot
-cancelled_slots slots session cancel_id = map (cancelled_slot session cancel_id) slots
+-- all slots, where calls are cancelled at all
+abbrev pub cancelled_slots : List ThreadSlot → Option Cancel → List ThreadSlot
+cancelled_slots slots None = slots
+cancelled_slots slots (Some cancel) = map (cancelled_slot cancel) slots

@@ -6,6 +6,8 @@ pub mod Instances
 pub mod Sessions
 pub mod Argument
 pub mod Begin
+pub mod Leaving
+pub mod Given
 pub mod Decision
 pub mod NewCall
 pub mod Resume

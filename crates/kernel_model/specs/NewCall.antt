@@ -6,15 +6,16 @@ use Rattle.base.specs.NumberMap.{NumberMap, get, insert, remove}
 use Rattle.job_model.specs.declared.call_kind.CallKind.{CallKind}
 use Rattle.job_model.specs.declared.call_kind.CallKind.TheVariants as kind
 use Rattle.job_model.specs.Job.{Job, of_tee}
-use Rattle.job_model.specs.Point.{Point, Invoke, no_params}
+use Rattle.job_model.specs.declared.entry_point.EntryPoint.{EntryPoint}
+use Rattle.job_model.specs.declared.entry_point.EntryPoint.TheVariants.{Invoke}
+use Rattle.job_model.specs.Point.{no_params}
 use Rattle.msg_args.specs.declared.head.MsgHead.{MsgHead}
 use Rattle.msg_args.specs.declared.param.MsgParam.{MsgParam}
 use Rattle.msg_args.specs.Reading.{head_at}
-use Rattle.ns_ram.specs.declared.pages.TheConstants.{PAGE_BYTES}
-use Rattle.ns_ram.specs.Attempt.{passes, ◌>>=◌, ◌>>◌, need, known, read, faultless}
+use Rattle.ns_ram.specs.Attempt.{Attempt, passes, ◌>>=◌, ◌>>◌, need, known, read, faultless}
 use Rattle.ns_ram.specs.Lane.{is_in_ram}
-use Rattle.ns_ram.specs.Pages.{walk}
-use Rattle.ns_ram.specs.Reader.{take_bytes}
+use Rattle.ns_ram.specs.Pages.{Walk, walk}
+use Rattle.ns_ram.specs.Reader.{Reader, take_bytes}
 use Rattle.param_copy.specs.Copying.{Copies, copying}
 use Rattle.param_copy.specs.declared.copied.Place.{Place}
 use Rattle.session_table.specs.declared.session.Session.{Session}
@@ -23,20 +24,22 @@ use Rattle.session_table.specs.Session.{reserved_for}
 use Rattle.session_table.specs.Sessions.{has_room}
 use Rattle.shm_registry.specs.declared.page_buffer.PageBuffer.{PageBuffer}
 use Rattle.shm_registry.specs.Pieces.{page_count}
-use Rattle.shm_registry.specs.Registered.{Registered, with_pin, lowest_slot}
+use Rattle.shm_registry.specs.Registered.{with_pin, lowest_slot}
+use Rattle.smc_abi.specs.declared.answer.Answer.{Answer}
 use Rattle.kernel_model.specs.Application.{Application, Booted, uuid_of}
-use Rattle.kernel_model.specs.Begin.{Beginner, Opener, has_pages_for, opens_kept, opens_made, works_on, closing_points}
+use Rattle.kernel_model.specs.Begin.{Beginner, Opener, has_pages_for, opens_kept, opens_made, begins_on, closing_points}
 use Rattle.kernel_model.specs.Argument.{argument_at, client_in, params_in, Opening, opening, invocation, registering, unregistering}
 use Rattle.kernel_model.specs.Codes.{ethread_limit, ebadaddr, ebadcmd, success, bad_parameters, item_not_found, out_of_memory, busy, target_dead}
-use Rattle.kernel_model.specs.Decision.{Decision, Answers, Takes, Cancels, Tested}
+use Rattle.kernel_model.specs.Decision.{Decision, Taken, Tested, taken_by, decided_by}
 use Rattle.kernel_model.specs.Instances.{app_of, is_held, shared_instance, is_multi_session}
-use Rattle.kernel_model.specs.Kernel.{CallPhase, Runs, Waits, Ends, PendingCall, SettledCall, Untold, AnOpen, AnInvoke, ACancel, Instance, Kernel, lowest_free}
+use Rattle.kernel_model.specs.Kernel.{CallPhase, Runs, Waits, Ends, PendingCall, Untold, AnOpen, AnInvoke, ACancel, Cancel, Instance, Kernel, Tables, lowest_free}
 use Rattle.kernel_model.specs.Sessions.{opened_by, has_session}
 
--- a call that has passed tests 1 to 3: the kernel that it found, its slot, its client, and its argument's address and head
+-- a call that has passed tests 1 to 3: the tables that it found, its slot, its client, and its argument's address and
+-- head
 pub record NewCall : Type 0 where
   pub boot : Booted
-  pub kernel : Kernel
+  pub tables : Tables
   pub slot : ℕ
   pub client : ℕ
   pub arg : ℕ
@@ -67,6 +70,16 @@ fresh_call c phase = record {
 abbrev pub settled_call : NewCall → ℕ → PendingCall
 settled_call c code = fresh_call c (Ends (of_tee code) no_params false None)
 
+-- the same, of an open of this application, and of an invoke and a cancel in the named session
+abbrev pub settled_open : NewCall → Application → ℕ → PendingCall
+settled_open c app code = record (settled_call c code) { settled = AnOpen; uuid = Some (uuid_of app) }
+
+abbrev pub settled_invoke : NewCall → ℕ → PendingCall
+settled_invoke c code = record (settled_call c code) { settled = AnInvoke c.head.func; session = c.head.session }
+
+abbrev pub settled_cancel : NewCall → ℕ → PendingCall
+settled_cancel c code = record (settled_call c code) { settled = ACancel; session = c.head.session }
+
 -- what a call on an instance is about: its session and its instance, its application, and where its results go
 pub record About : Type 0 where
   pub kind : CallKind
@@ -87,47 +100,43 @@ call_about c about phase = record (fresh_call c phase) {
 
 -- how it begins
 abbrev pub beginner : NewCall → Beginner
-beginner c = record { boot = c.boot; kernel = c.kernel; slot = c.slot; seen = false }
+beginner c = record { boot = c.boot; tables = c.tables; slot = c.slot; seen = false }
 
--- an open of this application, an invoke or a cancel in the named session, with such a result
-abbrev pub settled_open : NewCall → Application → ℕ → PendingCall
-settled_open c app code = record (settled_call c code) { settled = AnOpen; uuid = Some (uuid_of app) }
+-- the slot works on this call, with these tables
+abbrev pub takes : Tables → PendingCall → Taken
+takes tables call = record { call = call; tables = tables; cancels = None }
 
-abbrev pub settled_invoke : NewCall → ℕ → PendingCall
-settled_invoke c code = record (settled_call c code) { settled = AnInvoke c.head.func; session = c.head.session }
+-- the same, and the tables stay
+abbrev pub takes_alone : NewCall → PendingCall → Taken
+takes_alone c call = takes c.tables call
 
-abbrev pub settled_cancel : NewCall → ℕ → PendingCall
-settled_cancel c code = record (settled_call c code) { settled = ACancel; session = c.head.session }
+-- the call is settled with this result, and the tables stay
+abbrev pub settles : NewCall → ℕ → Taken
+settles c code = takes_alone c (settled_call c code)
 
--- the slot works on this call, and nothing else of the kernel changes
-abbrev pub settles_as : NewCall → PendingCall → Decision
-settles_as c call = Takes c.slot call c.kernel
+-- an open of this application, or an invoke in the named session, is
+abbrev pub settles_open : NewCall → Application → ℕ → Taken
+settles_open c app code = takes_alone c (settled_open c app code)
 
--- the call is settled with this result, in this kernel
-abbrev pub settles_in : NewCall → Kernel → ℕ → Decision
-settles_in c kernel code = Takes c.slot (settled_call c code) kernel
-
--- the same, and nothing else of the kernel changes
-abbrev pub settles : NewCall → ℕ → Decision
-settles c code = settles_in c c.kernel code
+abbrev pub settles_invoke : NewCall → ℕ → Taken
+settles_invoke c code = takes_alone c (settled_invoke c code)
 
 -- these cookies are pinned by the call's slot
-abbrev pub pinned : NewCall → List ℕ → Registered
-pinned c cookies =
-    let pins = fold (λ pins cookie. with_pin pins cookie c.slot) c.kernel.registered.pins cookies in
-    record c.kernel.registered { pins = pins }
+abbrev pub with_pins : NewCall → Tables → List ℕ → Tables
+with_pins c tables cookies =
+    let pins = fold (λ pins cookie. with_pin pins cookie c.slot) tables.registered.pins cookies in
+    record tables { registered = record tables.registered { pins = pins } }
 
--- the call runs this job, in this kernel
-abbrev pub runs_in : NewCall → Kernel → About → List ℕ → Job → Decision
-runs_in c kernel about cookies job =
-    Takes c.slot (call_about c about (Runs job)) (record kernel { registered = pinned c cookies })
+-- the call runs this job, with these tables and pins
+abbrev pub runs_in : NewCall → Tables → About → List ℕ → Job → Taken
+runs_in c tables about cookies job = takes (with_pins c tables cookies) (call_about c about (Runs job))
 
 -- the call waits for its instance, behind those that wait already
-abbrev pub waits_in : NewCall → Kernel → About → Copies → Decision
-waits_in c kernel about copies =
+abbrev pub waits_in : NewCall → Tables → About → Copies → Taken
+waits_in c tables about copies =
     let last : Waiter = record { instance = about.instance; uuid = about.uuid; slot = c.slot } in
-    let after = record kernel { waiters = kernel.waiters ++ last ∷ []; registered = pinned c copies.cookies } in
-    Takes c.slot (call_about c about (Waits copies.params)) after
+    let after = record (with_pins c tables copies.cookies) { waiters = tables.waiters ++ last ∷ [] } in
+    takes after (call_about c about (Waits copies.params))
 
 -- ---- reading the argument
 
@@ -137,9 +146,9 @@ parameters c = do
   bytes ← read (take_bytes (c.arg + 32) (32 * c.head.count))
   known (params_in c.head.count bytes) (settles c bad_parameters)
 
--- those of an open or invoke copied, of which the first has this number in the argument; or else that is decided
-abbrev pub copied : NewCall → List MsgParam → ℕ → Decision → Tested Copies
-copied c params first refused = faultless (copying c.kernel.registered.buffers params first) refused
+-- those of an open or invoke copied, of which the first has this number in the argument; or else the slot is taken so
+abbrev pub copied_params : NewCall → List MsgParam → ℕ → Taken → Tested Copies
+copied_params c params first faulty = faultless (copying c.tables.registered.buffers params first) faulty
 
 -- ---- open: OPTEE_MSG_CMD_OPEN_SESSION
 
@@ -149,57 +158,73 @@ opener wanted app copies = record { app = app; login = wanted.login; params = co
 
 -- what it is about: the session gets the next number
 abbrev pub about_open : NewCall → Application → Copies → ℕ → About
-about_open c app copies instance =
-    record { kind = kind.Open; session = c.kernel.next_session; instance = instance; uuid = uuid_of app; places = copies.places }
+about_open c app copies instance = record {
+  kind = kind.Open;
+  session = c.tables.next_session;
+  instance = instance;
+  uuid = uuid_of app;
+  places = copies.places;
+}
 
--- the kernel with that session, which isn't opened yet
-abbrev pub with_session : NewCall → Opening → Kernel → ℕ → Kernel
-with_session c wanted kernel instance =
-    let session = c.kernel.next_session in
-    record kernel { sessions = insert kernel.sessions session (reserved_for c.client wanted.login instance); next_session = session + 1 }
+-- the tables with that session, which isn't opened yet
+abbrev pub with_session : NewCall → Opening → Tables → ℕ → Tables
+with_session c wanted tables instance =
+    let session = c.tables.next_session in
+    let reserved = reserved_for c.client wanted.login instance in
+    record tables { sessions = insert tables.sessions session reserved; next_session = session + 1 }
+
+-- the instance that it shares
+abbrev pub shared_by : NewCall → Application → Option (ℕ × Instance)
+shared_by c app = shared_instance c.tables.instances app
 
 -- on the instance that it shares, or on a new one
-abbrev pub opens : NewCall → Opening → Application → Copies → Decision
+abbrev pub opens : NewCall → Opening → Application → Copies → Taken
 opens c wanted app copies =
     let who = beginner c in
     let brought = opener wanted app copies in
-    let begun = option_map_or (opens_kept who brought) (shared_instance c.kernel app) (opens_made who brought) in
-    runs_in c (with_session c wanted begun.kernel begun.instance) (about_open c app copies begun.instance) copies.cookies begun.job
+    let begun = option_map_or (opens_kept who brought) (shared_by c app) (opens_made who brought) in
+    let about = about_open c app copies begun.instance in
+    runs_in c (with_session c wanted begun.tables begun.instance) about copies.cookies begun.job
 
 -- on an instance that another call holds
-abbrev pub open_waits : NewCall → Opening → Application → Copies → ℕ × Instance → Decision
+abbrev pub open_waits : NewCall → Opening → Application → Copies → ℕ × Instance → Taken
 open_waits c wanted app copies kept =
-    waits_in c (with_session c wanted c.kernel kept.0) (about_open c app copies kept.0) copies
+    waits_in c (with_session c wanted c.tables kept.0) (about_open c app copies kept.0) copies
 
 -- it waits where it shares an instance that is held
-abbrev pub opens_or_waits : NewCall → Opening → Application → Copies → Decision
+abbrev pub opens_or_waits : NewCall → Opening → Application → Copies → Taken
 opens_or_waits c wanted app copies =
-    let on_kept = λ (kept : ℕ × Instance). if is_held kept.1 then open_waits c wanted app copies kept else opens c wanted app copies in
-    option_map_or on_kept (shared_instance c.kernel app) (opens c wanted app copies)
+    let on_kept = λ (kept : ℕ × Instance).
+    if is_held kept.1 then open_waits c wanted app copies kept else opens c wanted app copies in
+    option_map_or on_kept (shared_by c app) (opens c wanted app copies)
 
 -- the open shares an instance that passes this test
 abbrev pub shares_one : NewCall → Application → (ℕ × Instance → Bool) → Bool
-shares_one c app test = option_map_or test (shared_instance c.kernel app) false
+shares_one c app test = option_map_or test (shared_by c app) false
 
 -- the application has one instance and one session at a time, and that session is there
 abbrev pub is_taken : NewCall → Application → Bool
-is_taken c app = not (is_multi_session app) && shares_one c app (λ kept. has_session c.kernel.sessions kept.0)
+is_taken c app = not (is_multi_session app) && shares_one c app (λ kept. has_session c.tables.sessions kept.0)
+
+-- there is room for another session
+abbrev pub has_session_room : NewCall → Bool
+has_session_room c = has_room (record { kept = c.tables.sessions; next = c.tables.next_session })
 
 -- there are pages for the instance, where one is to be made
 abbrev pub has_pages : NewCall → Application → Bool
-has_pages c app = is_some (shared_instance c.kernel app) || has_pages_for c.boot c.kernel app
+has_pages c app = is_some (shared_by c app) || has_pages_for c.boot c.tables app
 
 -- the tests of an open, and what it begins
-abbrev pub open_session : NewCall → Tested Decision
+abbrev pub open_session : NewCall → Tested Taken
 open_session c = do
   params ← parameters c  -- 4, the shape
   wanted ← known (opening params) (settles c bad_parameters)
   app ← known (app_of c.boot wanted.uuid) (settles c item_not_found)  -- 5, the application
-  need (not (shares_one c app (λ kept. kept.1.dead))) (settles_as c (settled_open c app target_dead))  -- 6, a dead instance
-  need (not (is_taken c app)) (settles_as c (settled_open c app busy))  -- 7, a session that has the instance alone
-  need (has_room (record { kept = c.kernel.sessions; next = c.kernel.next_session })) (settles_as c (settled_open c app out_of_memory))  -- 8, shared limits
-  need (has_pages c app) (settles_as c (settled_open c app out_of_memory))
-  copies ← copied c wanted.params 2 (settles_as c (settled_open c app bad_parameters))  -- 9, copying
+  need (not (shares_one c app (λ kept. kept.1.dead))) (settles_open c app target_dead)  -- 6, a dead instance
+  need (not (is_taken c app)) (settles_open c app busy)  -- 7, a session that has the instance alone
+  need (has_session_room c) (settles_open c app out_of_memory)  -- 8, shared limits
+  need (has_pages c app) (settles_open c app out_of_memory)
+  copies ← copied_params c wanted.params 2 (settles_open c app bad_parameters)  -- 9, copying
   passes (opens_or_waits c wanted app copies)  -- 10, a held instance
 
 -- ---- invoke and close: OPTEE_MSG_CMD_INVOKE_COMMAND, OPTEE_MSG_CMD_CLOSE_SESSION
@@ -207,8 +232,9 @@ open_session c = do
 -- the session that the argument names, opened by the caller, with its instance
 abbrev pub named_session : NewCall → Option (Session × Instance)
 named_session c =
-    let with_instance = λ (session : Session). option_map (λ instance. (session, instance)) (get c.kernel.instances session.instance) in
-    option_and_then with_instance (opened_by c.kernel.sessions c.head.session c.client)
+    let beside = λ (session : Session).
+    option_map (λ instance. (session, instance)) (get c.tables.instances session.instance) in
+    option_and_then beside (opened_by c.tables.sessions c.head.session c.client)
 
 -- what a call in that session is about
 abbrev pub about_session : NewCall → CallKind → Session → Instance → Copies → About
@@ -221,90 +247,115 @@ about_session c call_kind session instance copies = record {
 }
 
 -- the call holds the instance and runs these entry points, or waits where another call holds it
-abbrev pub works_or_waits : NewCall → CallKind → Session → Instance → Copies → List Point → Decision
+abbrev pub works_or_waits : NewCall → CallKind → Session → Instance → Copies → List EntryPoint → Taken
 works_or_waits c call_kind session instance copies points =
     let about = about_session c call_kind session instance copies in
-    let begun = works_on (beginner c) session instance copies.params points in
-    if is_held instance then waits_in c c.kernel about copies else runs_in c begun.kernel about copies.cookies begun.job
+    let begun = begins_on (beginner c) session instance copies.params points in
+    if is_held instance
+    then waits_in c c.tables about copies
+    else runs_in c begun.tables about copies.cookies begun.job
+
+-- an invoke of the function in the named session
+abbrev pub invokes : NewCall → Session × Instance → Copies → Taken
+invokes c named copies =
+    works_or_waits c (kind.Invoke c.head.func) named.0 named.1 copies (Invoke c.head.func ∷ [])
 
 -- the tests of an invoke, and what it begins
-abbrev pub invoke_command : NewCall → Tested Decision
+abbrev pub invoke_command : NewCall → Tested Taken
 invoke_command c = do
   params ← parameters c  -- 4, the shape
   invoked ← known (invocation params) (settles c bad_parameters)
   named ← known (named_session c) (settles c bad_parameters)  -- 5, the session
-  need (not named.1.dead) (settles_as c (settled_invoke c target_dead))  -- 6, a dead instance
-  copies ← copied c invoked 0 (settles_as c (settled_invoke c bad_parameters))  -- 9, copying
-  passes (works_or_waits c (kind.Invoke c.head.func) named.0 named.1 copies (Invoke c.head.func ∷ []))  -- 10, a held instance
+  need (not named.1.dead) (settles_invoke c target_dead)  -- 6, a dead instance
+  copies ← copied_params c invoked 0 (settles_invoke c bad_parameters)  -- 9, copying
+  passes (invokes c named copies)  -- 10, a held instance
 
 -- a close has no parameters
 abbrev pub no_copies : Copies
 no_copies = record { params = no_params; places = []; cookies = [] }
 
+-- a close of the named session
+abbrev pub closes : NewCall → Session × Instance → Taken
+closes c named =
+    let points = closing_points (beginner c) c.head.session named.0 named.1 in
+    works_or_waits c kind.Close named.0 named.1 no_copies points
+
 -- the tests of a close, and what it begins: its parameters are ignored, and its instance may be dead
-abbrev pub close_session : NewCall → Tested Decision
+abbrev pub close_session : NewCall → Tested Taken
 close_session c = do
   named ← known (named_session c) (settles c bad_parameters)  -- 5, the session
-  passes (works_or_waits c kind.Close named.0 named.1 no_copies (closing_points (beginner c) c.head.session named.0 named.1))  -- 10, a held instance
+  passes (closes c named)  -- 10, a held instance
 
 -- ---- cancel: OPTEE_MSG_CMD_CANCEL
 
+-- it succeeds, and those calls are cancelled
+abbrev pub cancels : NewCall → Taken
+cancels c =
+    let meant : Cancel = record { session = c.head.session; cancel_id = c.head.cancel_id } in
+    record (takes_alone c (settled_cancel c success)) { cancels = Some meant }
+
 -- the pending calls of the session that have the number are marked, and the cancel succeeds, also where there are none;
 -- its parameters are ignored
-abbrev pub cancel_calls : NewCall → Tested Decision
+abbrev pub cancel_calls : NewCall → Tested Taken
 cancel_calls c = do
   named ← known (named_session c) (settles c bad_parameters)  -- 5, the session
-  passes (Cancels c.slot (settled_cancel c success) c.head.session c.head.cancel_id)
+  passes (cancels c)
 
 -- ---- register and unregister: OPTEE_MSG_CMD_REGISTER_SHM, OPTEE_MSG_CMD_UNREGISTER_SHM
 
 -- the low twelve bits of p are the offset in the first page, the rest is the address of the first page list
 abbrev pub offset_in : MsgParam → ℕ
-offset_in param = param.p % PAGE_BYTES
+offset_in param = param.p % 4096
 
 -- how many pages the buffer touches
-abbrev pub pages_in : MsgParam → ℕ
-pages_in param = page_count (offset_in param) param.q
+abbrev pub pages_touched : MsgParam → ℕ
+pages_touched param = page_count (offset_in param) param.q
+
+-- its pages, by the lists of their addresses
+abbrev pub listed_pages : MsgParam → Reader Walk
+listed_pages param = walk (param.p - offset_in param) (pages_touched param)
 
 -- the call succeeds, and these are the registered buffers
-abbrev pub keeps_buffers : NewCall → NumberMap PageBuffer → Decision
-keeps_buffers c buffers = settles_in c (record c.kernel { registered = record c.kernel.registered { buffers = buffers } }) success
+abbrev pub keeps_buffers : NewCall → NumberMap PageBuffer → Taken
+keeps_buffers c buffers =
+    let registered = record c.tables.registered { buffers = buffers } in
+    takes (record c.tables { registered = registered }) (settled_call c success)
 
 -- the buffer of these pages is kept under its cookie
-abbrev pub registers : NewCall → MsgParam → List ℕ → Decision
-registers c param pages =
+abbrev pub keeps_buffer : NewCall → MsgParam → List ℕ → Taken
+keeps_buffer c param pages =
     let buffer : PageBuffer = record { pages = pages; offset = offset_in param; size = param.q } in
-    keeps_buffers c (insert c.kernel.registered.buffers param.s buffer)
+    keeps_buffers c (insert c.tables.registered.buffers param.s buffer)
 
 -- the tests of a register, and what it changes
-abbrev pub register_memory : NewCall → Tested Decision
+abbrev pub register_memory : NewCall → Tested Taken
 register_memory c = do
   params ← parameters c  -- 4, the shape
   param ← known (registering params) (settles c bad_parameters)
-  need (is_none (get c.kernel.registered.buffers param.s)) (settles c bad_parameters)  -- the cookie is new
+  need (is_none (get c.tables.registered.buffers param.s)) (settles c bad_parameters)  -- the cookie is new
   need (nat_lt 0 param.q) (settles c bad_parameters)  -- some bytes
-  need (nat_le (pages_in param) 1024) (settles c bad_parameters)  -- and not too many pages
-  need (nat_lt (length c.kernel.registered.buffers) 64) (settles c out_of_memory)  -- room for one more
-  pages ← faultless (walk (param.p - offset_in param) (pages_in param)) (settles c bad_parameters)  -- pages of RAM
-  passes (registers c param pages)
+  need (nat_le (pages_touched param) 1024) (settles c bad_parameters)  -- and not too many pages
+  need (nat_lt (length c.tables.registered.buffers) 64) (settles c out_of_memory)  -- room for one more
+  pages ← faultless (listed_pages param) (settles c bad_parameters)  -- pages of RAM
+  passes (keeps_buffer c param pages)
 
 -- the buffer is kept no more
-abbrev pub unregisters : NewCall → MsgParam → Decision
-unregisters c param = keeps_buffers c (remove c.kernel.registered.buffers param.s)
+abbrev pub drops_buffer : NewCall → MsgParam → Taken
+drops_buffer c param = keeps_buffers c (remove c.tables.registered.buffers param.s)
 
 -- the tests of an unregister, and what it changes
-abbrev pub unregister_memory : NewCall → Tested Decision
+abbrev pub unregister_memory : NewCall → Tested Taken
 unregister_memory c = do
   params ← parameters c  -- 4, the shape
   param ← known (unregistering params) (settles c bad_parameters)
-  need (is_some (get c.kernel.registered.buffers param.s)) (settles c bad_parameters)  -- the cookie is kept
-  need (is_none (lowest_slot c.kernel.registered.pins param.s)) (settles c busy)  -- and no call pins it
-  passes (unregisters c param)
+  need (is_some (get c.tables.registered.buffers param.s)) (settles c bad_parameters)  -- the cookie is kept
+  need (is_none (lowest_slot c.tables.registered.pins param.s)) (settles c busy)  -- and no call pins it
+  passes (drops_buffer c param)
 
 -- ---- the call
 
 -- the commands of optee_msg.h, each with its tests from the fourth on
-abbrev pub commands : List (ℕ × (NewCall → Tested Decision))
+abbrev pub commands : List (ℕ × (NewCall → Tested Taken))
 commands =
     (0, open_session)
     ∷ (1, invoke_command)
@@ -315,7 +366,7 @@ commands =
     ∷ []
 
 -- the command of a number, where it has a row
-abbrev pub command_of : ℕ → Option (NewCall → Tested Decision)
+abbrev pub command_of : ℕ → Option (NewCall → Tested Taken)
 command_of cmd = option_map (λ row. row.1) (find (λ row. row.0 == cmd) commands)
 
 -- a head is at an address: a multiple of 8 at which 32 bytes lie in RAM
@@ -326,21 +377,33 @@ is_head_address arg = (arg % 8 == 0) && is_in_ram arg 32
 abbrev pub has_argument : ℕ → MsgHead → Bool
 has_argument arg head = nat_le head.count 6 && is_in_ram arg (32 + 32 * head.count)
 
+-- a new call in a slot, with its head
+abbrev pub new_call_of : Booted → Tables → List ℕ → ℕ → List ℕ → NewCall
+new_call_of boot tables regs slot bytes = record {
+  boot = boot;
+  tables = tables;
+  slot = slot;
+  client = client_in regs;
+  arg = argument_at regs;
+  head = head_at bytes;
+}
+
 -- the tests of every call behind that of a free slot, and then those of its command
-abbrev pub new_call_in : Booted → Kernel → List ℕ → ℕ → Tested Decision
-new_call_in boot kernel regs slot = do
-  need (is_head_address (argument_at regs)) (Answers ebadaddr)  -- 2, the address and the count
+abbrev pub new_call_in : Booted → Tables → List ℕ → ℕ → Attempt Answer Taken
+new_call_in boot tables regs slot = do
+  need (is_head_address (argument_at regs)) ebadaddr  -- 2, the address and the count
   bytes ← read (take_bytes (argument_at regs) 32)
-  need (has_argument (argument_at regs) (head_at bytes)) (Answers ebadaddr)
-  command ← known (command_of (head_at bytes).cmd) (Answers ebadcmd)  -- 3, the command
-  command (record { boot = boot; kernel = kernel; slot = slot; client = client_in regs; arg = argument_at regs; head = head_at bytes })
+  need (has_argument (argument_at regs) (head_at bytes)) ebadaddr
+  command ← known (command_of (head_at bytes).cmd) ebadcmd  -- 3, the command
+  read (taken_by (command (new_call_of boot tables regs slot bytes)))
 
 -- where this is the lowest free slot, if one is free
-abbrev pub new_call_with : Booted → Kernel → List ℕ → Option ℕ → Tested Decision
-new_call_with boot kernel regs free = do
-  slot ← known free (Answers ethread_limit)  -- 1, a free slot
-  new_call_in boot kernel regs slot
+abbrev pub new_call_with : Booted → Tables → List ℕ → Option ℕ → Attempt Answer (ℕ × Taken)
+new_call_with boot tables regs free = do
+  slot ← known free ethread_limit  -- 1, a free slot
+  taken ← new_call_in boot tables regs slot
+  passes (slot, taken)
 
 -- the tests of every call, and then those of its command
-abbrev pub new_call : Booted → Kernel → List ℕ → Tested Decision
-new_call boot kernel regs = new_call_with boot kernel regs (lowest_free kernel)
+abbrev pub new_call : Booted → Kernel → List ℕ → Reader Decision
+new_call boot kernel regs = decided_by (new_call_with boot kernel.tables regs (lowest_free kernel.slots))

@@ -4,7 +4,8 @@ use Rattle.std.specs.List.{range_with_len}
 use Rattle.ns_ram.specs.declared.read.Read.{Read}
 use Rattle.session_table.specs.Examples.{public}
 use Rattle.session_table.specs.Session.{reserved_for}
-use Rattle.kernel_model.specs.Kernel.{Kernel, first_kernel}
+use Rattle.shm_registry.specs.Registered.{Registered}
+use Rattle.kernel_model.specs.Kernel.{Kernel, first_kernel, first_tables}
 use Rattle.kernel_model.specs.Worked.{boot_native, half, add, panic, mark, create_fails, open_fails, flagged, boot, word, names, open_argument, adds, invokes, closes, argument, head, param, Comes, Leaves, Move, call_of, both, call, resume, opens, cancels, wants_buffer, returns_of, returns_after, returns_from, writes_at, ok, ok_with, opened, register_argument, unregister_argument, list_of, by_client}
 
 -- a call with these reads in a session of the adder has this result, which no application returned
@@ -31,15 +32,18 @@ with_buffer = opens ++ call 0 1000 (register_argument 0x40100000 0x1000 0x31 ++ 
 
 -- the kernel of the adder's boot with 64 sessions, or with the last number given, or with 64 buffers
 abbrev pub with_sessions : Kernel
-with_sessions = record (first_kernel (boot 1 1 2 add)) { sessions = map (λ number. (number, reserved_for 0 public 70)) (range_with_len 1 64); next_session = 65 }
+with_sessions =
+    let sessions = map (λ number. (number, reserved_for 0 public 70)) (range_with_len 1 64) in
+    record (first_kernel (boot 1 1 2 add)) { tables = record first_tables { sessions = sessions; next_session = 65 } }
 
 abbrev pub without_numbers : Kernel
-without_numbers = record (first_kernel (boot 1 1 2 add)) { next_session = 2 ^ 32 }
+without_numbers = record (first_kernel (boot 1 1 2 add)) { tables = record first_tables { next_session = 2 ^ 32 } }
 
 abbrev pub with_buffers : Kernel
 with_buffers =
     let buffers = map (λ cookie. (cookie, record { pages = []; offset = 0; size = 0 })) (range_with_len 1 64) in
-    record (first_kernel (boot 1 1 2 add)) { registered = record { buffers = buffers; pins = [] } }
+    let registered : Registered = record { buffers = buffers; pins = [] } in
+    record (first_kernel (boot 1 1 2 add)) { tables = record first_tables { registered = registered } }
 
 pub record ResultExamples : Type 0 where
   -- shapes: of an open

@@ -13,7 +13,8 @@ use Rattle.kernel_model.specs.Codes.{success}
 -- the session of this number, where this client opened it
 abbrev pub opened_by : NumberMap Session → ℕ → ℕ → Option Session
 opened_by sessions number client =
-    option_and_then (λ session. if session.opened && (session.client == client) then Some session else None) (get sessions number)
+    let if_own = λ (session : Session). if session.opened && (session.client == client) then Some session else None in
+    option_and_then if_own (get sessions number)
 
 -- one of the instance's sessions is opened
 abbrev pub has_opened : NumberMap Session → ℕ → Bool
@@ -26,7 +27,8 @@ has_session sessions instance = list_any (λ kept. is_of instance kept.1) sessio
 -- after a call of this kind on this session has ended with a result and a context: an open that succeeds opens
 -- it, one that fails and a close take it away
 abbrev pub sessions_after : CallKind → NumberMap Session → ℕ → ℕ → ℕ → NumberMap Session
-sessions_after Open sessions number result context = if result == success then settled sessions number context else remove sessions number
+sessions_after Open sessions number result context =
+    if result == success then settled sessions number context else remove sessions number
 sessions_after (Invoke func) sessions number result context = sessions
 sessions_after Close sessions number result context = remove sessions number
 sessions_after Settled sessions number result context = sessions

@@ -18,7 +18,7 @@ use Rattle.ta_isa.specs.declared.image.Instr.{Instr}
 use Rattle.ta_step.specs.Examples.{instr, sum_code, panic_code, mark_code}
 use Rattle.kernel_model.specs.Exit.{Exited, exit}
 use Rattle.kernel_model.specs.History.{after_event, entry_from}
-use Rattle.kernel_model.specs.Kernel.{Kernel, first_kernel}
+use Rattle.kernel_model.specs.Kernel.{Kernel, Visit, first_kernel}
 
 -- ---- applications
 
@@ -237,12 +237,15 @@ gone_out returns exited = (exited.kernel, returns ++ (exited.regs, exited.writes
 
 abbrev pub moved : Booted → Kernel → List Return → Move → Option (Kernel × List Return)
 moved on kernel returns (Comes cpu regs steps reads) =
-    option_map (λ (next : Kernel). (next, returns)) (option_and_then (entry_from on kernel cpu regs steps reads) (slice_get kernel.processors cpu))
+    let visit : Visit = record { cpu = cpu; regs = regs; steps = steps } in
+    let entered = option_and_then (entry_from on kernel visit reads) (slice_get kernel.processors cpu) in
+    option_map (λ (next : Kernel). (next, returns)) entered
 moved on kernel returns (Leaves cpu) = option_map (gone_out returns) (exit kernel cpu)
 
 abbrev pub all_moved : Booted → Kernel → List Return → List Move → Option (Kernel × List Return)
 all_moved on kernel returns [] = Some (kernel, returns)
-all_moved on kernel returns (move ∷ moves) = option_and_then (λ step. all_moved on step.0 step.1 moves) (moved on kernel returns move)
+all_moved on kernel returns (move ∷ moves) =
+    option_and_then (λ step. all_moved on step.0 step.1 moves) (moved on kernel returns move)
 
 -- what comes of moves from a kernel on
 abbrev pub returns_from : Booted → Kernel → List Move → Option (List Return)
@@ -270,7 +273,8 @@ event_of kernel (Leaves cpu) = option_map (event_of_exit cpu) (exit kernel cpu)
 abbrev pub history_from : Booted → Kernel → List Event → List Move → Option (List Event)
 history_from on kernel history [] = Some history
 history_from on kernel history (move ∷ moves) =
-    let goes_on = λ (event : Event). option_and_then (λ next. history_from on next (history ++ event ∷ []) moves) (after_event on kernel event) in
+    let goes_on = λ (event : Event).
+    option_and_then (λ next. history_from on next (history ++ event ∷ []) moves) (after_event on kernel event) in
     option_and_then goes_on (event_of kernel move)
 
 abbrev pub history_of : Booted → List Move → Option (List Event)

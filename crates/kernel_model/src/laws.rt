@@ -1,6 +1,6 @@
 //! What holds of the definitions themselves.
 ghost use Rattle.kernel_model.specs.Examples.{Examples, LegalHistory};
-ghost use Rattle.kernel_model.specs.Laws.{ExitsFollow, FixedAnswers, LimitExactly, ResumesContinue, ResumesOrRefuses};
+ghost use Rattle.kernel_model.specs.Laws.{AnswersExactly, ExitsFollow, FixedAnswers, LimitExactly, ResumesContinue, ResumesExactly};
 
 /// A fixed answer's entry and its exit change nothing but that processor's part, which is outside again.
 pub fn fixed_answers_change_one_processor()
@@ -12,13 +12,19 @@ pub fn limit_comes_exactly_without_a_slot()
     ensures { LimitExactly }
 {}
 
-/// A resume continues the call that is suspended in its slot for its client, and is answered ERESUME where there
+/// A resume continues the call that is suspended in its slot for its client, and ERESUME comes exactly where there
 /// is none.
-pub fn resumes_or_refuses()
-    ensures { ResumesOrRefuses }
+pub fn resumes_come_exactly()
+    ensures { ResumesExactly }
 {}
 
-/// A resume that is let in continues the call that its slot was left with, in each legal history.
+/// In each legal history a processor goes out with ETHREAD_LIMIT exactly where its new call found no slot free, and
+/// with ERESUME exactly where its resume found no call.
+pub fn answers_come_exactly()
+    ensures { AnswersExactly }
+{}
+
+/// In each legal history a resume that is let in is one of the call that its slot was left with: what that comes to.
 pub fn resumes_continue_what_was_left()
     ensures { ResumesContinue }
 {}

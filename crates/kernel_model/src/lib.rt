@@ -10,7 +10,7 @@
 mod laws;
 
 pub use laws::{
-    exits_follow_from_the_past, fixed_answers_change_one_processor,
-    limit_comes_exactly_without_a_slot, resumes_continue_what_was_left, resumes_or_refuses,
+    answers_come_exactly, exits_follow_from_the_past, fixed_answers_change_one_processor,
+    limit_comes_exactly_without_a_slot, resumes_come_exactly, resumes_continue_what_was_left,
     some_history_is_legal, worked_examples,
 };
