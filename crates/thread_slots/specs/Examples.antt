@@ -2,6 +2,7 @@
 use Rattle.std.specs.Prelude.{◌≡◌, ℕ, List, [], ◌∷◌, Some, None, Ok, Err}
 use Rattle.thread_slots.specs.declared.bad_resume.BadResume.TheVariants.{NoSlot, NotSuspended, OtherClient}
 use Rattle.thread_slots.specs.declared.slot.Slot.{Slot}
+use Rattle.thread_slots.specs.declared.slots.TheConstants.{MAX_SLOTS}
 use Rattle.thread_slots.specs.declared.slot.Slot.TheVariants.{Free, Active, Suspended}
 use Rattle.thread_slots.specs.Slots.{lowest_free, resumed}
 
@@ -10,6 +11,7 @@ abbrev pub three : List (Slot ℕ)
 three = Active 3 ∷ Suspended 7 20 ∷ Free ∷ []
 
 pub record Examples : Type 0 where
+  pub most_slots : MAX_SLOTS ≡ 16
   pub lowest_of_two : lowest_free {T = ℕ} (Active 3 ∷ Free ∷ Free ∷ []) ≡ Some 1
   pub behind_a_suspended : lowest_free three ≡ Some 2
   pub all_taken : lowest_free {T = ℕ} (Active 3 ∷ Suspended 7 20 ∷ []) ≡ None

@@ -1,4 +1,4 @@
-ghost use Rattle.std.specs.Prelude.{◌≡◌, MatchResult, Some};
+ghost use Rattle.std.specs.Prelude.{◌≡◌, IfOk, IfErr, MatchResult, Some, Ok, Err};
 ghost use Rattle.thread_slots.specs.Slot.{HoldsNoValue, is_free, resumed_from};
 
 use crate::bad_resume::BadResume;
@@ -30,6 +30,18 @@ impl<T> Slot<T> {
         match mem::replace(self, next) {
             Slot::Free | Slot::Active { cpu: _ } => {}
             Slot::Suspended { .. } => unreachable!(),
+        }
+    }
+
+    /// The value, for its client.
+    pub(crate) fn call_for(&self, client: u32) -> Result<&T, BadResume>
+        ensures waiting { IfOk result (λ cont. resumed_from (Some self.now) client ≡ Ok cont.now) }
+        ensures refused { IfErr result (λ refusal. resumed_from (Some self.now) client ≡ Err refusal) }
+    {
+        match self {
+            Slot::Suspended { client: kept, cont } if *kept == client => Ok(cont),
+            Slot::Suspended { client: kept, .. } => Err(BadResume::OtherClient(*kept)),
+            Slot::Free | Slot::Active { cpu: _ } => Err(BadResume::NotSuspended),
         }
     }
 

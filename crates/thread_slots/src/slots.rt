@@ -1,4 +1,4 @@
-ghost use Rattle.std.specs.Prelude.{◌≡◌, ◌<◌, ◌≤◌, ◌↔◌, length, replicate, slice_get, slice_set, count_by, IfOk, IfSome, IsNone, MatchOption, MatchResult, Some};
+ghost use Rattle.std.specs.Prelude.{◌≡◌, ◌<◌, ◌≤◌, ◌↔◌, length, replicate, slice_get, slice_set, count_by, IfOk, IfErr, IfSome, IsNone, MatchOption, MatchResult, Some, Ok, Err};
 ghost use Rattle.thread_slots.specs.Slot.{is_free};
 ghost use Rattle.thread_slots.specs.Slots.{IsActiveAt, lowest_free, resumed};
 
@@ -21,20 +21,19 @@ pub struct Slots<T> {
 impl<T> Model for Slots<T> {
     ghost use Rattle.std.specs.Prelude.{◌<◌, ◌≤◌, List, length};
     ghost use Rattle.thread_slots.specs.declared.slot.Slot.{Slot};
-    ghost use Rattle.thread_slots.specs.declared.slots.TheConstants.{MAX_SLOTS};
 
     ghost Value = { List (Slot T) };
 
     ghost view = { λ s. s.slots.items };
 
-    ghost invariant = { λ s. (0 < length s.slots.items) × (length s.slots.items ≤ MAX_SLOTS) };
+    ghost invariant = { λ s. (0 < length s.slots.items) × (length s.slots.items ≤ 16) };
 }
 
 impl<T> Slots<T> {
     /// `count` free slots. No call after this one takes memory.
     pub fn new(alloc: Global, count: u8) -> Result<Slots<T>, NoMemory>
         requires some { 0 < count }
-        requires at_most { count ≤ MAX_SLOTS }
+        requires at_most { count ≤ 16 }
         ensures { IfOk result (λ slots. slots ≡ replicate count Slot.Free) }
     {
         let mut slots = Vec::with_capacity(alloc, usize::from(count))?;
@@ -48,7 +47,7 @@ impl<T> Slots<T> {
     pub fn count(&self) -> u8
         ensures count { result ≡ length self.now }
         ensures some { 0 < length self.now }
-        ensures at_most { length self.now ≤ MAX_SLOTS }
+        ensures at_most { length self.now ≤ 16 }
     {
         self.slots.len() as u8
     }
@@ -110,6 +109,17 @@ impl<T> Slots<T> {
         ensures { self.new ≡ slice_set self.old slot Slot.Free }
     {
         self.slots[usize::from(slot)].set(Slot::Free);
+    }
+
+    /// What the call of a suspended slot goes on with, by the refusals of `resume`. Nothing is moved.
+    pub fn suspended_call(&self, slot: u32, client: u32) -> Result<&T, BadResume>
+        ensures waiting { IfOk result (λ cont. resumed self.now slot client ≡ Ok cont.now) }
+        ensures refused { IfErr result (λ refusal. resumed self.now slot client ≡ Err refusal) }
+    {
+        match self.slots.get(slot as usize) {
+            Some(held) => held.call_for(client),
+            None => Err(BadResume::NoSlot),
+        }
     }
 
     /// Hands out what the call of a suspended slot goes on with, and makes the slot active on the processor.

@@ -25,25 +25,19 @@ fn calls_enter_and_leave(rt: HostRuntime) -> Result<(), Fail> {
 fn calls_are_resumed(rt: HostRuntime) -> Result<(), Fail> {
     let mut slots = Slots::new(rt.alloc(), 3)?;
     assert_eq!(rt; slots.enter(5), Some(0));
-    assert_eq!(rt; slots.enter(6), Some(1));
-    slots.suspend(1, 7, Call(20));
-    for (slot, client, refusal) in [
-        (3, 7, BadResume::NoSlot),
-        (u32::MAX, 7, BadResume::NoSlot),
-        (0, 7, BadResume::NotSuspended),
-        (2, 7, BadResume::NotSuspended),
-        (1, 8, BadResume::OtherClient(7)),
-    ] {
-        assert_eq!(rt;
-            slots.resume(slot, client, 4),
-            Err(refusal),
-            "{slot} {client}"
-        );
-    }
-    assert_eq!(rt; slots.resume(1, 7, 4), Ok(Call(20)));
-    assert_eq!(rt; slots.resume(1, 7, 4), Err(BadResume::NotSuspended));
-    assert_eq!(rt; slots.free(), 1);
-    assert!(rt; matches!(slots.as_slice()[1], Slot::Active { cpu: 4 }));
+    slots.suspend(0, 7, Call(20));
+    assert_eq!(rt;
+        slots.suspended_call(0, 8).err(),
+        Some(BadResume::OtherClient(7))
+    );
+    assert_eq!(rt;
+        slots.suspended_call(0, 7).ok().map(|call| call.0),
+        Some(20)
+    );
+    assert_eq!(rt; slots.resume(3, 7, 4), Err(BadResume::NoSlot));
+    assert_eq!(rt; slots.resume(0, 7, 4), Ok(Call(20)));
+    assert_eq!(rt; slots.resume(0, 7, 4), Err(BadResume::NotSuspended));
+    assert!(rt; matches!(slots.as_slice()[0], Slot::Active { cpu: 4 }));
     Ok(())
 }
 
