@@ -24,7 +24,7 @@ pub use pace::{NoPace, Pace};
 pub use sink::{Put, Sink};
 pub use source::{Source, Taken};
 pub use std_sink::StdSink;
-pub use std_source::StdSource;
+pub use std_source::{StdSource, Stop};
 
 #[cfg(test)]
 mod tests;

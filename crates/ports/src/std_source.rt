@@ -1,16 +1,16 @@
-ghost use Rattle.std.specs.Prelude.{◌≡◌, ℕ, ◌<◌, ◌≤◌, IsNone, IfOk, OnErr, Some, Err, length, take};
+ghost use Rattle.std.specs.Prelude.{◌≡◌, ℕ, ◌<◌, ◌≤◌, IsNone, IsSome, IfSome, IfOk, OnErr, Some, None, Err, length, take};
 ghost use Rattle.std.specs.Io.KnownBytes.{Consumes, IsAtEnd, Keeps};
 ghost use Rattle.ports.specs.Port.{IfBytes, Rose};
-ghost use Rattle.ports.specs.StdSource.{ReadsInto, faults_after_take};
+ghost use Rattle.ports.specs.StdSource.{ReadsInto, StopsShort, after_stop, answer_of_stop, faults_after_take};
 
 use crate::interruption::{MOST_TRIES, is_interruption};
 use crate::source::{Source, Taken};
 use std::io::Read;
 use std::marker::Model;
 
-/// Why a reader gives no more.
+/// Why a reader stopped.
 #[derive(Clone, Copy, Debug, PartialEq, Eq)]
-enum Stop {
+pub enum Stop {
     /// A read gave no bytes.
     End,
     /// A read failed.
@@ -21,7 +21,8 @@ enum Stop {
 /// is the end.
 ///
 /// A call reads until its buffer is full, or the reader stops. Where it stops with bytes read, the call
-/// gives these, and the next call answers why it stopped.
+/// gives these, and the next call answers why it stopped, without a read. An empty buffer is `End`, and
+/// changes nothing.
 #[derive(Debug, Drop)]
 pub struct StdSource<R: Read> {
     reader: R,
@@ -38,7 +39,7 @@ impl<R: Read> Model for StdSource<R> {
 
     ghost Value = { Reading R };
 
-    ghost view = { λ s. record { reader = s.reader; faults = s.faults } };
+    ghost view = { λ s. record { reader = s.reader; faults = s.faults; stopped = s.stopped } };
 
     ghost invariant = { λ s. s.stopped ≡ Some End → IsAtEnd (R.remaining s.reader) };
 }
@@ -46,7 +47,7 @@ impl<R: Read> Model for StdSource<R> {
 impl<R: Read> StdSource<R> {
     /// A source of what the reader gives. Takes no memory.
     pub fn new(reader: R) -> StdSource<R>
-        ensures { result ≡ record { reader = reader; faults = 0 } }
+        ensures { result ≡ record { reader = reader; faults = 0; stopped = None } }
     {
         StdSource {
             reader,
@@ -60,6 +61,20 @@ impl<R: Read> StdSource<R> {
         ensures { result ≡ self.now.faults }
     {
         self.faults
+    }
+
+    /// Answers why the reader stopped, and counts a fault.
+    fn answer(&mut self, stop: Stop) -> Taken
+        ensures answer { result ≡ answer_of_stop stop }
+        ensures after { self.new ≡ record self.old { faults = faults_after_take result self.old.faults } }
+    {
+        match stop {
+            Stop::End => Taken::End,
+            Stop::Fault => {
+                self.faults = self.faults.saturating_add(1);
+                Taken::Failed
+            }
+        }
     }
 }
 
@@ -78,25 +93,25 @@ impl<R: Read> Source for StdSource<R> {
         // The count to the last one, and what is gone from a reader that tells what it has left.
         ensures faults { self.new.faults ≡ faults_after_take result self.old.faults }
         ensures reader { ReadsInto result (R.remaining self.old.reader) (R.remaining self.new.reader) buf.new }
+
+        // Where the reader stopped before, the call answers why, and reads nothing.
+        ensures empty { length buf.old ≡ 0 → (result ≡ Taken.End) × (self.new ≡ self.old) }
+        ensures answers { 0 < length buf.old → IfSome self.old.stopped (λ stop.
+            (result ≡ answer_of_stop stop) × (self.new ≡ after_stop self.old stop)) }
+        ensures stops { 0 < length buf.old → StopsShort result (length buf.old) self.new.stopped }
     {
-        let stop = match self.stopped.take() {
-            None => {
-                let (count, stop) = fill(&mut self.reader, buf);
-                if count > 0 {
+        if buf.is_empty() {
+            return Taken::End;
+        }
+        match self.stopped.take() {
+            Some(stop) => self.answer(stop),
+            None => match fill(&mut self.reader, buf) {
+                (0, Some(stop)) => self.answer(stop),
+                (count, stop) => {
                     self.stopped = stop;
-                    return Taken::Bytes(count);
+                    Taken::Bytes(count)
                 }
-                stop
-            }
-            unanswered => unanswered,
-        };
-        match stop {
-            Some(Stop::Fault) => {
-                self.faults = self.faults.saturating_add(1);
-                Taken::Failed
-            }
-            // Without a stop the buffer is full with no bytes: it is empty.
-            Some(Stop::End) | None => Taken::End,
+            },
         }
     }
 }
@@ -106,6 +121,7 @@ fn fill<R: Read>(reader: &mut R, buf: &mut [u8]) -> (usize, Option<Stop>)
     ensures bound { result.0 ≤ length buf.old }
     ensures moved { Consumes (R.remaining reader.old) (R.remaining reader.new) (take result.0 buf.new) }
     ensures full { IsNone result.1 → result.0 ≡ length buf.old }
+    ensures short { IsSome result.1 → result.0 < length buf.old }
     ensures end { result.1 ≡ Some Stop.End → IsAtEnd (R.remaining reader.new) }
 {
     let mut at = 0;

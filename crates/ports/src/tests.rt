@@ -1,6 +1,7 @@
 ghost use Rattle.std.specs.Prelude.{◌≤◌, IfOk};
 
 use crate::{MemSink, MemSource, NoPace, Pace, Put, Sink, Source, StdSink, StdSource, Taken};
+use std::alloc::Global;
 use std::io;
 use std::io::{ErrorKind, Read, Write};
 use std::test::Fail;
@@ -14,7 +15,7 @@ fn put_to<K: Sink>(sink: &mut K, bytes: &[u8]) -> Put {
 }
 
 /// What a fake reader or writer does at a call.
-#[derive(Clone, Copy, Debug, PartialEq, Eq)]
+#[derive(Clone, Copy)]
 enum Step {
     /// It moves at most so many bytes.
     Moves(usize),
@@ -36,7 +37,7 @@ impl Step {
 }
 
 /// The steps in turn, and then the last one for ever.
-#[derive(Debug, Drop)]
+#[derive(Drop)]
 struct Steps<'a> {
     steps: &'a [Step],
     last: Step,
@@ -54,7 +55,7 @@ impl Steps<'_> {
     }
 }
 
-#[derive(Debug, Drop)]
+#[derive(Drop)]
 struct FakeReader<'a> {
     steps: Steps<'a>,
     text: &'a [u8],
@@ -73,7 +74,7 @@ impl Read for FakeReader<'_> {
     }
 }
 
-#[derive(Debug, Drop)]
+#[derive(Drop)]
 struct FakeWriter<'a> {
     steps: Steps<'a>,
     held: Vec<u8>,
@@ -119,15 +120,6 @@ fn takes_from_memory(rt: HostRuntime) -> Result<(), Fail> {
 }
 
 #[test]
-fn an_empty_buffer_ends(rt: HostRuntime) -> Result<(), Fail> {
-    let bytes = b"a".to_vec(rt.alloc())?;
-    let mut source = MemSource::new(bytes, Vec::new(rt.alloc()));
-    assert_eq!(rt; take_from(&mut source, &mut []), Taken::End);
-    assert_eq!(rt; take_from(&mut source, &mut [0; 4]), Taken::Bytes(1));
-    Ok(())
-}
-
-#[test]
 fn puts_to_memory(rt: HostRuntime) -> Result<(), Fail> {
     let fails = [1].to_vec(rt.alloc())?;
     let mut sink = MemSink::new(rt.alloc(), fails);
@@ -148,6 +140,8 @@ fn takes_from_a_reader(rt: HostRuntime) {
         Step::Moves(1),
         Step::Broken,
         Step::Moves(4),
+        Step::Moves(0),
+        Step::Moves(1),
     ];
     let reader = FakeReader {
         steps: Steps {
@@ -158,20 +152,68 @@ fn takes_from_a_reader(rt: HostRuntime) {
     };
     let mut source = StdSource::new(reader);
     let mut buf = [0; 5];
-    // The short reads are joined, the fault in mid-stream is answered once, and the bytes go on after it.
+    // The short reads are joined; the fault in mid-stream is answered once, behind an empty buffer, and the
+    // bytes go on after it; the end is answered without a read, and more may come behind it.
     assert_eq!(rt; take_from(&mut source, &mut buf), Taken::Bytes(3));
     assert!(rt; buf.starts_with(b"abc"));
+    assert_eq!(rt; take_from(&mut source, &mut []), Taken::End);
     assert_eq!(rt; source.faults(), 0);
     assert_eq!(rt; take_from(&mut source, &mut buf), Taken::Failed);
     assert_eq!(rt; source.faults(), 1);
     assert_eq!(rt; take_from(&mut source, &mut buf), Taken::Bytes(4));
     assert!(rt; buf.starts_with(b"defg"));
     assert_eq!(rt; take_from(&mut source, &mut buf), Taken::End);
+    assert_eq!(rt; take_from(&mut source, &mut buf), Taken::Bytes(1));
+    assert_eq!(rt; take_from(&mut source, &mut buf), Taken::End);
     assert_eq!(rt; source.faults(), 1);
 }
 
+// What a put of six bytes comes to, and the writer after it.
+fn put_six<'a>(alloc: Global, steps: &'a [Step], last: Step) -> (Put, FakeWriter<'a>) {
+    let mut writer = FakeWriter {
+        steps: Steps { steps, last },
+        held: Vec::new(alloc),
+        flushed: 0,
+    };
+    let mut sink = StdSink::new(&mut writer);
+    let put = put_to(&mut sink, b"abcdef");
+    (put, writer)
+}
+
 #[test]
-fn a_reader_that_is_interrupted_for_ever_is_a_fault(rt: HostRuntime) {
+fn puts_to_a_writer(rt: HostRuntime) {
+    // What the writer does at each call, what the call comes to, and what the writer holds then.
+    let short = [Step::Moves(2), Step::Moves(9)];
+    let broken = [Step::Moves(2), Step::Broken];
+    let full = [Step::Moves(3), Step::Moves(0)];
+    let cases: [(&[Step], Put, &[u8]); 3] = [
+        (&short, Put::Done, b"abcdef"),
+        (&broken, Put::Failed, b"ab"),
+        (&full, Put::Failed, b"abc"),
+    ];
+    for (steps, want, held) in cases {
+        let (put, writer) = put_six(rt.alloc(), steps, Step::Moves(9));
+        assert_eq!(rt; put, want);
+        assert_eq!(rt; writer.held.as_slice(), held);
+    }
+}
+
+#[test]
+fn a_put_flushes(rt: HostRuntime) {
+    let all = [Step::Moves(6)];
+    let (put, writer) = put_six(rt.alloc(), &all, Step::Moves(0));
+    assert_eq!(rt; (put, writer.flushed), (Put::Done, 6));
+    let (put, writer) = put_six(rt.alloc(), &all, Step::Broken);
+    assert_eq!(rt; (put, writer.flushed), (Put::Failed, 0));
+}
+
+#[test]
+fn interruptions_are_tried_again(rt: HostRuntime) {
+    let twice = [Step::Interrupted, Step::Moves(6), Step::Interrupted];
+    let (put, writer) = put_six(rt.alloc(), &twice, Step::Moves(0));
+    assert_eq!(rt; (put, writer.flushed), (Put::Done, 6));
+    let (put, _writer) = put_six(rt.alloc(), &[], Step::Interrupted);
+    assert_eq!(rt; put, Put::Failed);
     let reader = FakeReader {
         steps: Steps {
             steps: &[],
@@ -182,40 +224,6 @@ fn a_reader_that_is_interrupted_for_ever_is_a_fault(rt: HostRuntime) {
     let mut source = StdSource::new(reader);
     assert_eq!(rt; take_from(&mut source, &mut [0; 2]), Taken::Failed);
     assert_eq!(rt; source.faults(), 1);
-}
-
-#[test]
-fn puts_to_a_writer(rt: HostRuntime) {
-    // What the writer does at each call, what the call comes to, and what the writer holds then. The
-    // last step is the flush's.
-    let short = [
-        Step::Moves(2),
-        Step::Interrupted,
-        Step::Moves(9),
-        Step::Interrupted,
-    ];
-    let broken = [Step::Moves(2), Step::Broken];
-    let full = [Step::Moves(3), Step::Moves(0)];
-    let no_flush = [Step::Moves(9), Step::Broken];
-    let cases: [(&[Step], Step, Put, &[u8]); 5] = [
-        (&short, Step::Moves(0), Put::Done, b"abcdef"),
-        (&broken, Step::Moves(9), Put::Failed, b"ab"),
-        (&full, Step::Moves(9), Put::Failed, b"abc"),
-        (&no_flush, Step::Moves(9), Put::Failed, b"abcdef"),
-        (&[], Step::Interrupted, Put::Failed, b""),
-    ];
-    for (steps, last, want, held) in cases {
-        let mut writer = FakeWriter {
-            steps: Steps { steps, last },
-            held: Vec::new(rt.alloc()),
-            flushed: 0,
-        };
-        let mut sink = StdSink::new(&mut writer);
-        assert_eq!(rt; put_to(&mut sink, b"abcdef"), want);
-        assert_eq!(rt; sink.faults(), u64::from(want == Put::Failed));
-        assert_eq!(rt; writer.held.as_slice(), held);
-        assert_eq!(rt; writer.flushed == 6, want == Put::Done);
-    }
 }
 
 #[test]
