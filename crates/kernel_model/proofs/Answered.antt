@@ -18,7 +18,7 @@ use Rattle.kernel_model.specs.Argument.{reg}
 use Rattle.kernel_model.specs.Codes.{eresume, ethread_limit}
 use Rattle.kernel_model.specs.Decision.{Decision, Answers, Takes, Taken}
 use Rattle.kernel_model.specs.Entry.{after_decision, after_entry}
-use Rattle.kernel_model.specs.Exit.{Exited, answer_of, exit, exit_of, exit_from, exit_with, goes_out, goes_out_from, progress_of}
+use Rattle.kernel_model.specs.Exit.{Exited, answer_of, exit, exit_of, exit_with, goes_out, goes_out_from, progress_in_slot}
 use Rattle.kernel_model.specs.History.{IsLegal, after_event, after_events, can_be_granted, entry_from, exit_to, is_outside, kernel_after}
 use Rattle.kernel_model.specs.Kernel.{Progress, ThreadSlot, Free, Active, Suspended, Fixed, InSlot, Processor, Outside, Inside, Kernel, Visit, first_kernel}
 use Rattle.kernel_model.specs.Laws.{AnswersExactly, FindsNoCall, FindsNoSlot, IsOfOther, IsOutside, ToldExactly, visited}
@@ -31,14 +31,12 @@ use Rattle.kernel_model.proofs.Told.{Neither, Told, word_of}
 
 -- ---- the events of other processors
 
-slot_out : (kernel : Kernel) (visit : Visit) (slot : ℕ) (held : Option ThreadSlot) (exited : Exited)
-    → option_and_then (exit_from kernel visit slot) held ≡ Some exited → exited.kernel.processors ≡ slice_set kernel.processors visit.cpu Outside
-slot_out kernel visit slot None exited e = absurd cc
-slot_out kernel visit slot (Some Free) exited e = absurd cc
-slot_out kernel visit slot (Some (Active worker call)) exited e =
-    let came = option_map_some (goes_out_from kernel visit slot) (progress_of kernel.tables call visit.steps) exited e in
+slot_out : (kernel : Kernel) (visit : Visit) (slot : ℕ) (exited : Exited)
+    → option_map (goes_out_from kernel visit slot) (progress_in_slot kernel visit.steps slot) ≡ Some exited
+    → exited.kernel.processors ≡ slice_set kernel.processors visit.cpu Outside
+slot_out kernel visit slot exited e =
+    let came = option_map_some (goes_out_from kernel visit slot) (progress_in_slot kernel visit.steps slot) exited e in
     ap (λ (x : Exited). x.kernel.processors) (sym came.2)
-slot_out kernel visit slot (Some (Suspended client call)) exited e = absurd cc
 
 processor_out : (kernel : Kernel) (cpu : ℕ) (processor : Option Processor) (exited : Exited)
     → option_and_then (exit_of kernel cpu) processor ≡ Some exited → exited.kernel.processors ≡ slice_set kernel.processors cpu Outside
@@ -49,7 +47,7 @@ processor_out kernel cpu (Some (Inside regs count (Fixed answer))) exited e =
     let same : made ≡ exited = cc in
     ap (λ (x : Exited). x.kernel.processors) (sym same)
 processor_out kernel cpu (Some (Inside regs count (InSlot slot))) exited e =
-    slot_out kernel (record { cpu = cpu; regs = regs; steps = count }) slot (slice_get kernel.slots slot) exited e
+    slot_out kernel (record { cpu = cpu; regs = regs; steps = count }) slot exited e
 
 -- another processor's event leaves this one as it is
 abbrev Stays : ℕ → Kernel → Kernel → Type 0
@@ -120,14 +118,11 @@ progress_word kernel visit slot progress =
     let leaving = leaving_of slot progress.call in
     subst Neither (sym (first_word (answer_of slot leaving) visit.regs)) (leaving_word slot leaving)
 
-slot_word : (kernel : Kernel) (visit : Visit) (slot : ℕ) (held : Option ThreadSlot) (exited : Exited)
-    → option_and_then (exit_from kernel visit slot) held ≡ Some exited → Neither (reg exited.regs 0)
-slot_word kernel visit slot None exited e = absurd cc
-slot_word kernel visit slot (Some Free) exited e = absurd cc
-slot_word kernel visit slot (Some (Active worker call)) exited e =
-    let came = option_map_some (goes_out_from kernel visit slot) (progress_of kernel.tables call visit.steps) exited e in
+slot_word : (kernel : Kernel) (visit : Visit) (slot : ℕ) (exited : Exited)
+    → option_map (goes_out_from kernel visit slot) (progress_in_slot kernel visit.steps slot) ≡ Some exited → Neither (reg exited.regs 0)
+slot_word kernel visit slot exited e =
+    let came = option_map_some (goes_out_from kernel visit slot) (progress_in_slot kernel visit.steps slot) exited e in
     subst (λ (x : Exited). Neither (reg x.regs 0)) came.2 (progress_word kernel visit slot came.0)
-slot_word kernel visit slot (Some (Suspended client call)) exited e = absurd cc
 
 -- what the a0 of an exit says of the call, as it came in
 record Says (kernel : Kernel) (regs : List ℕ) (a0 : ℕ) : Type 0 where
@@ -151,7 +146,7 @@ decided_says kernel later visit (Answers answer) exited told e =
       resume = (told.0.1, λ none. says_three answer (told.1.1 none));
     })
 decided_says kernel later visit (Takes slot taken) exited told e =
-    let word = slot_word later visit slot (slice_get later.slots slot) exited e in
+    let word = slot_word later visit slot exited e in
     record {
       limit = (λ is. absurd (word.0 is), λ none. absurd (told.0 none));
       resume = (λ is. absurd (word.1 is), λ none. absurd (told.1 none));

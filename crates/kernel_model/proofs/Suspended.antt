@@ -17,7 +17,7 @@ use Rattle.kernel_model.specs.Argument.{reg, client_in, thread_in}
 use Rattle.kernel_model.specs.Codes.{eresume}
 use Rattle.kernel_model.specs.Decision.{Decision, Answers, Takes, works_on}
 use Rattle.kernel_model.specs.Entry.{after_decision, after_entry}
-use Rattle.kernel_model.specs.Exit.{Exited, goes_out, goes_out_from, exit, exit_of, exit_from, progress_of, slot_left}
+use Rattle.kernel_model.specs.Exit.{Exited, goes_out, goes_out_from, exit, exit_of, progress_in_slot, slot_left}
 use Rattle.kernel_model.specs.History.{after_event, after_events, entry_from, exit_to, goes_out_of, can_be_granted, is_outside, kernel_after, left_by_exits, IsEntryOf, IsLater, Resumes, ResumesCall, slot_of_processor}
 use Rattle.kernel_model.specs.Kernel.{PendingCall, Progress, Cancel, cancelled_call, cancelled_slot, cancelled_slots, is_meant, ThreadSlot, Free, Active, Suspended, Errand, Fixed, InSlot, Processor, Outside, Inside, Kernel, Visit, first_kernel}
 use Rattle.kernel_model.specs.Laws.{FindsNoCall, ResumesContinue}
@@ -134,14 +134,11 @@ progress_left kernel visit slot progress =
     let leaving = leaving_of slot progress.call in
     record { held = slot_left progress.call leaving; own = own_left progress.call leaving; after = refl }
 
-slot_in : (kernel : Kernel) (visit : Visit) (slot : ℕ) (held : Option ThreadSlot) (exited : Exited)
-    → option_and_then (exit_from kernel visit slot) held ≡ Some exited → LeftIn kernel.slots slot exited
-slot_in kernel visit slot None exited e = absurd cc
-slot_in kernel visit slot (Some Free) exited e = absurd cc
-slot_in kernel visit slot (Some (Active worker call)) exited e =
-    let came = option_map_some (goes_out_from kernel visit slot) (progress_of kernel.tables call visit.steps) exited e in
+slot_in : (kernel : Kernel) (visit : Visit) (slot : ℕ) (exited : Exited)
+    → option_map (goes_out_from kernel visit slot) (progress_in_slot kernel visit.steps slot) ≡ Some exited → LeftIn kernel.slots slot exited
+slot_in kernel visit slot exited e =
+    let came = option_map_some (goes_out_from kernel visit slot) (progress_in_slot kernel visit.steps slot) exited e in
     subst (λ (x : Exited). LeftIn kernel.slots slot x) came.2 (progress_left kernel visit slot came.0)
-slot_in kernel visit slot (Some (Suspended client call)) exited e = absurd cc
 
 own_client : (held : ThreadSlot) (client : ℕ) (call : PendingCall) → held ≡ Suspended client call → Own held → client ≡ call.client
 own_client held client call e own = subst Own e own
@@ -177,7 +174,7 @@ exit_kept slot kernel cpu left (Some (Inside regs count (Fixed answer))) exited 
     subst (λ (x : Exited). Kept slot x.kernel left) same kept
 exit_kept slot kernel cpu left (Some (Inside regs count (InSlot from))) exited kept e =
     let visit : Visit = record { cpu = cpu; regs = regs; steps = count } in
-    slot_kept slot from kernel left exited (from == slot) refl kept (slot_in kernel visit from (slice_get kernel.slots from) exited e)
+    slot_kept slot from kernel left exited (from == slot) refl kept (slot_in kernel visit from exited e)
 
 -- ---- histories
 

@@ -109,6 +109,17 @@ progress_in tables call steps_granted (Ends result params true wakes) = stays ta
 abbrev pub progress_of : Tables → PendingCall → ℕ → Option Progress
 progress_of tables call steps_granted = progress_in tables call steps_granted call.phase
 
+-- of the call that a slot holds, where a processor works on it
+abbrev pub progress_held : Tables → ℕ → ThreadSlot → Option Progress
+progress_held tables steps_granted Free = None
+progress_held tables steps_granted (Active worker call) = progress_of tables call steps_granted
+progress_held tables steps_granted (Suspended client call) = None
+
+-- of the call in the slot of this number
+abbrev pub progress_in_slot : Kernel → ℕ → ℕ → Option Progress
+progress_in_slot kernel steps_granted slot =
+    option_and_then (progress_held kernel.tables steps_granted) (slice_get kernel.slots slot)
+
 -- ---- the second half: what is told of it
 
 -- the answer
@@ -188,17 +199,11 @@ goes_out_from kernel visit slot progress =
     let leaving = leaving_of slot progress.call in
     goes_out (kernel_left kernel slot progress leaving) visit (answer_of slot leaving) (writes_of progress.call leaving)
 
--- of the call in a slot, on which it works
-abbrev pub exit_from : Kernel → Visit → ℕ → ThreadSlot → Option Exited
-exit_from kernel visit slot Free = None
-exit_from kernel visit slot (Active worker call) =
-    option_map (goes_out_from kernel visit slot) (progress_of kernel.tables call visit.steps)
-exit_from kernel visit slot (Suspended client call) = None
-
--- of what it came in for
+-- by what it came in for
 abbrev pub exit_with : Kernel → Visit → Errand → Option Exited
 exit_with kernel visit (Fixed told) = Some (goes_out kernel visit told [])
-exit_with kernel visit (InSlot slot) = option_and_then (exit_from kernel visit slot) (slice_get kernel.slots slot)
+exit_with kernel visit (InSlot slot) =
+    option_map (goes_out_from kernel visit slot) (progress_in_slot kernel visit.steps slot)
 
 -- of a processor in this state: one that is outside has no exit
 abbrev pub exit_of : Kernel → ℕ → Processor → Option Exited
