@@ -1,6 +1,6 @@
 -- A finite map from numbers as contracts see it: a list of pairs in rising order of their numbers. Its
 -- words compute, and their laws are those of std's finite maps, here at the order of numbers.
-use Rattle.std.specs.Prelude.{◌≡◌, ℕ, Bool, true, false, cond, not, T, IsTrue, List, Option, Some, None, refl}
+use Rattle.std.specs.Prelude.{◌≡◌, ℕ, ◌≤◌, length, Bool, true, false, cond, not, T, IsTrue, List, Option, Some, None, refl}
 use Rattle.std.specs.Ordering.{nat_cmp, eq_by_cmp, is_eq}
 use Rattle.std.specs.Cmp.{nat_cmp_total, alike_right}
 use Rattle.std.specs.FinMap.{nat_cmp-IsAntisymmetric}
@@ -25,6 +25,11 @@ remove m k = Entries.where_key nat_cmp (λ q. not (eq_by_cmp nat_cmp k q)) m
 -- the numbers strictly rise, so that each stands once
 abbrev pub IsRising : {X : Type 0} → NumberMap X → Type 0
 IsRising m = IsTrue (Entries.is_sorted nat_cmp m)
+
+-- a map with at most so many numbers
+pub record IsTable {X : Type 0} (room : ℕ) (m : NumberMap X) : Type 0 where
+  pub rising : IsRising m
+  pub few : length m ≤ room
 
 holds : (b : Bool) → T b → b ≡ true
 holds true h = refl

@@ -4,10 +4,12 @@
 
 mod no_memory;
 mod number_map;
+mod number_table;
 mod sequence;
 mod zeros;
 
 pub use no_memory::NoMemory;
 pub use number_map::{number_map_laws, worked_examples};
+pub use number_table::NumberTable;
 pub use sequence::Sequence;
 pub use zeros::zeros_are_zeros;

@@ -43,19 +43,3 @@ impl<T> Sequence<T> {
         self.elements.len()
     }
 }
-
-#[cfg(test)]
-mod tests {
-    use super::*;
-    use std::test::Fail;
-
-    #[test]
-    fn keeps_its_elements(rt: HostRuntime) -> Result<(), Fail> {
-        let letters = Sequence::of(b"abc".to_vec(rt.alloc())?);
-        assert_eq!(rt; letters.len(), 3);
-        assert_eq!(rt; letters.as_slice(), b"abc".as_slice());
-        let bytes = letters.into_vec();
-        assert_eq!(rt; bytes.as_slice(), b"abc".as_slice());
-        Ok(())
-    }
-}
