@@ -1,5 +1,5 @@
 //! Several bytes of a memory at a time.
-ghost use Rattle.std.specs.Prelude.{◌≡◌, ◌+◌, ◌^◌, ◌<◌, ◌≤◌, IsTrue, length, if◌then◌else◌};
+ghost use Rattle.std.specs.Prelude.{◌≡◌, ◌+◌, ◌^◌, ◌<◌, ◌≤◌, length};
 ghost use Rattle.base.specs.Bytes.{has_bytes, overwritten, written};
 ghost use Rattle.ta_step.specs.Bytes.{word_at};
 

@@ -1,5 +1,5 @@
 //! The addresses of a machine: which bytes stand where.
-ghost use Rattle.std.specs.Prelude.{◌≡◌, ◌+◌, ◌%◌, ◌^◌, ◌<◌, ◌≤◌, [], ◌∷◌, length};
+ghost use Rattle.std.specs.Prelude.{◌≡◌, ◌+◌, ◌%◌, ◌<◌, ◌≤◌, [], ◌∷◌, length};
 ghost use Rattle.ta_step.specs.Addresses.{is_inside, is_range, load, load_word, store};
 ghost use Rattle.ta_step.specs.Machine.{state_of};
 

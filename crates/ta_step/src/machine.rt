@@ -1,5 +1,5 @@
 //! The machine of one entry point: where it starts, what becomes of it, and its cancellation flag.
-ghost use Rattle.std.specs.Prelude.{◌≡◌, ◌<◌, ◌&&◌, not, length, true};
+ghost use Rattle.std.specs.Prelude.{◌≡◌, ◌<◌, ◌&&◌, not, true};
 ghost use Rattle.ta_step.specs.State.{is_cancelled, started};
 ghost use Rattle.ta_step.specs.Machine.{state_of};
 

@@ -1,4 +1,4 @@
-ghost use Rattle.std.specs.Prelude.{◌≡◌, ℕ, ◌<◌, ◌≤◌, ◌+◌, ◌↔◌, List, length, replicate, slice_get, slice_set, IsTrue, IfOk, Option};
+ghost use Rattle.std.specs.Prelude.{◌≡◌, ℕ, ◌<◌, ◌↔◌, List, length, replicate, slice_get, slice_set, IsTrue, IfOk, Option};
 
 use base::NoMemory;
 use std::alloc::Global;

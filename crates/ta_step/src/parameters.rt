@@ -1,5 +1,5 @@
 //! The copied parameters as the machine reaches them: by number, as values, and as buffers.
-ghost use Rattle.std.specs.Prelude.{◌≡◌, ◌+◌, ◌^◌, ◌<◌, length, slice_get, slice_set, is_some, unwrap_or};
+ghost use Rattle.std.specs.Prelude.{◌≡◌, ◌+◌, ◌^◌, ◌<◌, length, slice_get, is_some, unwrap_or};
 ghost use Rattle.std.specs.Option.{option_copied};
 ghost use Rattle.base.specs.Bytes.{has_bytes, written};
 ghost use Rattle.ta_step.specs.Bytes.{word_at};

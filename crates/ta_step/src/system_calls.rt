@@ -1,5 +1,5 @@
 //! What each system call does. Its arguments are in the first registers, and so are its results.
-ghost use Rattle.std.specs.Prelude.{◌≡◌, ◌+◌, ◌^◌, ◌<◌, IsSome, IfSome, if◌then◌else◌};
+ghost use Rattle.std.specs.Prelude.{◌+◌, ◌^◌, ◌<◌, IsSome, IfSome, if◌then◌else◌};
 ghost use Rattle.ta_step.specs.Machine.{state_of};
 ghost use Rattle.ta_step.specs.Outcome.{Leads, Panics, goes_on};
 ghost use Rattle.ta_step.specs.SystemCalls.{cancelled, login, masks, panics, returns, set_size, set_value, size, system_call_of, types, value};
