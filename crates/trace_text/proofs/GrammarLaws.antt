@@ -8,11 +8,11 @@ use Rattle.trace_text.specs.declared.fault.BadKind.TheVariants as bad
 use Rattle.trace_text.specs.declared.fault.TraceFault.{TraceFault}
 use Rattle.trace_text.specs.declared.fault.TraceFault.TheVariants.{Bad, Memory}
 use Rattle.trace_text.specs.declared.trace.Trace.{Trace}
-use Rattle.trace_text.specs.Rules.{first_broken, line_rules, after_line, is_skipped, is_text_byte, kind_named, rules_of_kind, word}
+use Rattle.trace_text.specs.Limits.{empty_trace, end_fault, first_broken}
+use Rattle.trace_text.specs.Rules.{line_rules, after_line, is_skipped, is_text_byte, kind_named, rules_of_kind, word}
 use Rattle.trace_text.specs.Reading.{words_of}
-use Rattle.trace_text.specs.Grammar.{pieces_of, piece_fault, end_fault, Leads, Spells, IsFirstFault, IsFaultOf, IsPlacedIn, EveryText}
+use Rattle.trace_text.specs.Grammar.{pieces_of, piece_fault, Leads, Spells, IsFirstFault, IsFaultOf, IsPlacedIn, EveryText}
 use Rattle.trace_text.specs.Judging.{IsUnlessMemory, read_pieces, unless}
-use Rattle.trace_text.specs.Script.{empty_trace}
 use Rattle.trace_text.specs.Sound.{IsSound}
 use Rattle.trace_text.proofs.Pieces.{Front, kept_line}
 use Rattle.trace_text.proofs.SoundLaws.{IsSound-spelled}

@@ -6,7 +6,7 @@ use Rattle.ta_isa.specs.declared.image_fault.ImageFault.TheVariants.{BadHeader, 
 use Rattle.ta_isa.specs.Reading.{answer, decoded, fault_of, image_of, IsUnlessMemory}
 use Rattle.trace_text.specs.declared.fault.BadKind.TheVariants.{Image}
 use Rattle.trace_text.specs.Judging.{Judged, of_image}
-use Rattle.trace_text.specs.Rules.{first_broken, is_image}
+use Rattle.trace_text.specs.Limits.{first_broken, is_image}
 
 err_is : {A : Type 0} (x y : Result A ImageFault) (e f : ImageFault) → x ≡ Err e → y ≡ Err f → x ≡ y → e ≡ f
 err_is x y e f p q h = cc

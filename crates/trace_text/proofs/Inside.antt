@@ -2,7 +2,7 @@
 use Rattle.std.proofs.Common.{◌≡◌, List, [], ◌∷◌, ◌++◌, refl}
 use Rattle.std.specs.List.{fold}
 use Rattle.trace_text.specs.declared.item.Item.{Item}
-use Rattle.trace_text.specs.Rules.{inside_after, moved, outside}
+use Rattle.trace_text.specs.Limits.{inside_after, moved, outside}
 
 fold_push : {A B : Type 0} (f : B → A → B) (b : B) (xs : List A) (x : A) → fold f b (xs ++ x ∷ []) ≡ f (fold f b xs) x
 fold_push f b [] x = refl

@@ -10,7 +10,8 @@ use Rattle.trace_text.specs.declared.fault.TraceFault.{TraceFault}
 use Rattle.trace_text.specs.declared.fault.TraceFault.TheVariants.{Bad}
 use Rattle.trace_text.specs.declared.trace.Trace.{Trace}
 use Rattle.trace_text.specs.Reading.{Lacks, IsCutAt, words_of}
-use Rattle.trace_text.specs.Rules.{first_broken, line_rules, after_line, counts}
+use Rattle.trace_text.specs.Limits.{first_broken}
+use Rattle.trace_text.specs.Rules.{line_rules, after_line, counts}
 use Rattle.trace_text.specs.Grammar.{pieces_of, piece_fault}
 use Rattle.trace_text.specs.Judging.{IsTaken, IsUnlessMemory, placed, read_pieces, unless}
 

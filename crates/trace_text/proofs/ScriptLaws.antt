@@ -16,7 +16,8 @@ use Rattle.trace_text.specs.declared.fault.TraceFault.{TraceFault}
 use Rattle.trace_text.specs.declared.fault.TraceFault.TheVariants.{Bad, Memory}
 use Rattle.trace_text.specs.Item.{IsNumber, IsFastCall}
 use Rattle.trace_text.specs.Line.{line_of, IsRegister, IsSmcLine, IsItemLine}
-use Rattle.trace_text.specs.Script.{empty_trace, SpellsLines, Spells, IsPlain, IsRefusal}
+use Rattle.trace_text.specs.Limits.{empty_trace}
+use Rattle.trace_text.specs.Script.{SpellsLines, Spells, IsPlain, IsRefusal}
 use Rattle.trace_text.specs.Reading.{◌>>=◌, words_of, boot_at, item_at, lines_at, items_at, script_at, trace_at, Gives}
 use Rattle.trace_text.proofs.Options.{bind_some, some_is}
 use Rattle.trace_text.proofs.EndedLines.{whole_line, lines_read, lines_again, IsUnbroken}

@@ -18,7 +18,7 @@ use Rattle.ta_isa.proofs.Back.{found}
 use Rattle.trace_text.specs.declared.item.Reg.TheVariants.{Last}
 use Rattle.trace_text.specs.Forms.{bytes, hexadecimal, is_hex, is_hexadecimal, is_last, is_register, register}
 use Rattle.trace_text.specs.Reading.{hexadecimal_at}
-use Rattle.trace_text.specs.Rules.{is_image, is_within, lies_in_ram}
+use Rattle.trace_text.specs.Limits.{is_image, is_within, lies_in_ram}
 use Rattle.trace_text.specs.Sound.{IsPartOfRam, IsSoundReg}
 use Rattle.trace_text.proofs.Digits.{hexadecimal_fits}
 

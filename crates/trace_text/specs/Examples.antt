@@ -9,7 +9,8 @@ use Rattle.trace_text.specs.Fault.{kind_word}
 use Rattle.trace_text.specs.Word.{IsDecimal, IsDecimalWithin, IsHexadecimal}
 use Rattle.trace_text.specs.Item.{IsFastCall}
 use Rattle.trace_text.specs.Line.{line_of}
-use Rattle.trace_text.specs.Script.{empty_trace, Spells, IsPlain}
+use Rattle.trace_text.specs.Limits.{empty_trace}
+use Rattle.trace_text.specs.Script.{Spells, IsPlain}
 
 -- the registers of a call with only the first of them set
 abbrev pub only_first : ℕ → List Reg

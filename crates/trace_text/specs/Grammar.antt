@@ -1,13 +1,12 @@
 -- The texts of traces: which trace a text spells, and what the first fault of any other text is.
-use Rattle.std.specs.Prelude.{◌≡◌, ℕ, ◌+◌, ◌≤◌, ◌⊎◌, List, [], ◌∷◌, ◌++◌, length, true, false, ◌==◌, if◌then◌else◌, Option, None, Some}
-use Rattle.std.specs.List.{count_by, list_any, slice_split}
+use Rattle.std.specs.Prelude.{◌≡◌, ℕ, ◌+◌, ◌≤◌, ◌⊎◌, List, [], ◌∷◌, ◌++◌, length, true, false, ◌==◌, Option, None, Some}
+use Rattle.std.specs.List.{count_by, slice_split}
 use Rattle.trace_text.specs.declared.fault.BadKind.{BadKind}
-use Rattle.trace_text.specs.declared.fault.BadKind.TheVariants as bad
 use Rattle.trace_text.specs.declared.fault.TraceFault.{TraceFault}
 use Rattle.trace_text.specs.declared.fault.TraceFault.TheVariants.{Bad, Memory}
 use Rattle.trace_text.specs.declared.trace.Trace.{Trace}
-use Rattle.trace_text.specs.Rules.{first_broken, line_rules, after_line, inside_after}
-use Rattle.trace_text.specs.Script.{empty_trace}
+use Rattle.trace_text.specs.Limits.{empty_trace, end_fault, first_broken}
+use Rattle.trace_text.specs.Rules.{line_rules, after_line}
 
 -- what the line feeds of a text part: its lines, and at the end what stands behind the last line feed
 abbrev pub pieces_of : List ℕ → List (List ℕ)
@@ -17,10 +16,6 @@ pieces_of text = slice_split (λ b. b == 10) text
 abbrev pub Leads : List (List ℕ) → Trace → List (List ℕ) → Trace → Type 0
 Leads natives before [] after = before ≡ after
 Leads natives before (line ∷ lines) after = (first_broken (line_rules natives before true line) ≡ None) × Leads natives (after_line before line) lines after
-
--- the fault at the end of a text, behind its last line
-abbrev pub end_fault : Trace → Option BadKind
-end_fault before = if list_any (λ inside. inside) (inside_after before.items) then Some bad.Unended else None
 
 -- the fault of a piece, given the pieces behind it: a line is ended where there are any, and the text ends where
 -- there are none and this one is empty

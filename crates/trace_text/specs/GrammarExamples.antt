@@ -8,8 +8,8 @@ use Rattle.trace_text.specs.declared.item.Reg.TheVariants.{Num, Last}
 use Rattle.trace_text.specs.declared.trace.Trace.{Trace}
 use Rattle.trace_text.specs.Forms.{is_decimal, decimal, is_hexadecimal, hexadecimal, is_register, register, is_uuid, uuid, is_hex, bytes}
 use Rattle.trace_text.specs.Grammar.{Spells, IsFirstFault}
-use Rattle.trace_text.specs.Rules.{inside_after, lies_in_ram, is_skipped, outside}
-use Rattle.trace_text.specs.Script.{empty_trace}
+use Rattle.trace_text.specs.Limits.{empty_trace, inside_after, lies_in_ram, outside}
+use Rattle.trace_text.specs.Rules.{is_skipped}
 use Rattle.trace_text.specs.Sound.{can_come, IsPartOfRam, IsSound, IsSoundBoot, IsSoundItem, IsSoundReg}
 
 -- the text of these lines, each with its line feed

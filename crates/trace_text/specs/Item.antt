@@ -1,6 +1,5 @@
 -- Items that make a fast call.
 use Rattle.std.specs.Prelude.{◌≡◌, ◌≢◌, List, Some, All, slice_get}
-use Rattle.smc_abi.specs.declared.call.TheConstants.{CALL_WITH_ARG}
 use Rattle.trace_text.specs.declared.item.Reg.{Reg}
 use Rattle.trace_text.specs.declared.item.Reg.TheVariants.{Num, Last}
 use Rattle.trace_text.specs.declared.item.Item.{Item}
@@ -14,7 +13,7 @@ IsNumber (Last i) = ⊥
 -- the registers of a fast call: all numbers, the first not that of the call with an argument
 pub record AreFast (regs : List Reg) : Type 0 where
   pub numbers : All IsNumber regs
-  pub no_call : slice_get regs 0 ≢ Some (Num CALL_WITH_ARG)
+  pub no_call : slice_get regs 0 ≢ Some (Num 0x3200_0004)
 
 -- a fast call of processor 0
 abbrev pub IsFastCall : Item → Type 0

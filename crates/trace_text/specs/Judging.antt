@@ -14,9 +14,10 @@ use Rattle.trace_text.specs.declared.fault.TraceFault.{TraceFault}
 use Rattle.trace_text.specs.declared.fault.TraceFault.TheVariants.{Bad, Memory}
 use Rattle.trace_text.specs.declared.item.Item.{Item}
 use Rattle.trace_text.specs.declared.item.Item.TheVariants as item
-use Rattle.trace_text.specs.declared.said.Size.{Size}
+use Rattle.trace_text.specs.declared.limits.Size.{Size}
 use Rattle.trace_text.specs.declared.trace.Trace.{Trace}
-use Rattle.trace_text.specs.Rules.{first_broken, after_line, inside_after}
+use Rattle.trace_text.specs.Limits.{first_broken, inside_after}
+use Rattle.trace_text.specs.Rules.{after_line}
 use Rattle.trace_text.specs.Grammar.{piece_fault}
 
 -- a word was read: it has the form, and this is what it writes; or it hasn't

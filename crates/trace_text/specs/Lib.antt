@@ -6,6 +6,7 @@ pub mod Script
 pub mod Examples
 pub mod Reading
 pub mod Forms
+pub mod Limits
 pub mod Rules
 pub mod Grammar
 pub mod Sound

@@ -7,7 +7,6 @@ use Rattle.trace_text.specs.declared.item.Reg.TheVariants.{Num, Last}
 use Rattle.trace_text.specs.declared.item.Item.{Item}
 use Rattle.trace_text.specs.declared.item.Item.TheVariants.{Smc, Enter, Leave, Write, Show}
 use Rattle.trace_text.specs.Word.{IsDecimalWithin, IsHexadecimal}
-use Rattle.smc_abi.specs.declared.call.TheConstants.{CALL_WITH_ARG}
 
 -- the words, a space between each two, and a line feed
 abbrev pub line_of : List (List ℕ) → List ℕ
@@ -39,7 +38,7 @@ pub record IsSmcLine (words : List (List ℕ)) (cpu steps : ℕ) (regs : List Re
   pub steps_are : IsDecimalWithin 1 1000000 steps_word steps
   pub eight : length reg_words ≡ 8
   pub regs_are : AllZip IsRegister reg_words regs
-  pub no_call : slice_get regs 0 ≢ Some (Num CALL_WITH_ARG)
+  pub no_call : slice_get regs 0 ≢ Some (Num 0x3200_0004)
 
 -- the words are a line of the item
 abbrev pub IsItemLine : List (List ℕ) → Item → Type 0

@@ -14,8 +14,7 @@ use Rattle.trace_text.specs.declared.trace.Trace.{Trace}
 use Rattle.trace_text.specs.declared.fault.BadKind.TheVariants.{NotYet}
 use Rattle.trace_text.specs.declared.fault.TraceFault.{TraceFault}
 use Rattle.trace_text.specs.declared.fault.TraceFault.TheVariants.{Bad, Memory}
-use Rattle.smc_abi.specs.declared.call.TheConstants.{CALL_WITH_ARG}
-use Rattle.trace_text.specs.Script.{empty_trace}
+use Rattle.trace_text.specs.Limits.{empty_trace}
 
 -- one step after another, where either may read nothing
 infixl 10 ◌>>=◌
@@ -128,7 +127,7 @@ boot_at words = do
 
 -- the register has the number of the call with an argument
 abbrev pub is_call : Reg → Bool
-is_call (Num n) = n == CALL_WITH_ARG
+is_call (Num n) = n == 0x3200_0004
 is_call (Last i) = false
 
 -- the first register has it

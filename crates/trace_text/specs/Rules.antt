@@ -1,12 +1,11 @@
 -- The rules of a line, in the order in which a fault is looked for, and what a line adds to a trace. Both
 -- look at the line as a whole, and at the trace that the lines before it spell.
-use Rattle.std.specs.Prelude.{ℕ, ◌+◌, List, [], ◌∷◌, ◌++◌, codes, drop, length, map, slice_index_or, slice_index, slice_set, nat_lt, nat_le, Bool, true, false, ◌&&◌, ◌||◌, not, ◌==◌, if◌then◌else◌, Option, None, Some, is_none, is_some}
-use Rattle.std.specs.List.{fold, list_all, list_any}
+use Rattle.std.specs.Prelude.{ℕ, ◌+◌, List, [], ◌∷◌, ◌++◌, codes, drop, length, map, slice_index_or, slice_index, nat_lt, nat_le, Bool, false, ◌&&◌, ◌||◌, ◌==◌, if◌then◌else◌, Option, None, Some, is_none, is_some}
+use Rattle.std.specs.List.{list_all}
 use Rattle.std.specs.Str.{bytes_eq}
-use Rattle.ns_ram.specs.Lane.{is_in_ram}
 use Rattle.ta_isa.specs.declared.boot.App.{App}
 use Rattle.ta_isa.specs.declared.boot.Boot.{Boot}
-use Rattle.ta_isa.specs.Reading.{fault_of, image_of}
+use Rattle.ta_isa.specs.Reading.{image_of}
 use Rattle.trace_text.specs.declared.fault.BadKind.{BadKind}
 use Rattle.trace_text.specs.declared.fault.BadKind.TheVariants as bad
 use Rattle.trace_text.specs.declared.item.Item.{Item}
@@ -15,15 +14,9 @@ use Rattle.trace_text.specs.declared.line_kind.LineKind.{LineKind}
 use Rattle.trace_text.specs.declared.line_kind.LineKind.TheVariants as kind
 use Rattle.trace_text.specs.declared.trace.Fill.{Fill}
 use Rattle.trace_text.specs.declared.trace.Trace.{Trace}
+use Rattle.trace_text.specs.Limits.{app_limits, apps_of, boot_limits, call_limits, comes_in, cpu_limits, cpus_of, fill_limits, goes_out, has_no_item, show_limits, with_app, with_item, write_limits}
 use Rattle.trace_text.specs.Forms.{is_decimal, decimal, is_hexadecimal, hexadecimal, is_register, register, is_uuid, uuid, is_hex, bytes}
 use Rattle.trace_text.specs.Reading.{words_of}
-
--- ---- rules
-
--- the kind of the first rule that isn't kept; each rule is a kind, and whether it is kept
-abbrev pub first_broken : List (BadKind × Bool) → Option BadKind
-first_broken [] = None
-first_broken (rule ∷ rules) = if rule.1 then first_broken rules else Some rule.0
 
 -- ---- what a line is told by
 
@@ -59,57 +52,6 @@ words_behind kind.Leave = 1
 words_behind kind.Write = 3
 words_behind kind.Show = 3
 
--- ---- what the lines before have set
-
--- how many processors there are
-abbrev pub cpus_of : Option Boot → ℕ
-cpus_of None = 0
-cpus_of (Some boot) = boot.cpus
-
-abbrev pub apps_of : Option Boot → List App
-apps_of None = []
-apps_of (Some boot) = boot.apps
-
--- no item stands yet
-abbrev pub has_no_item : List Item → Bool
-has_no_item [] = true
-has_no_item (i ∷ items) = false
-
--- which processors are inside, by number, after an item
-abbrev pub moved : List Bool → Item → List Bool
-moved inside (item.Smc cpu steps regs) = inside
-moved inside (item.Enter cpu steps regs) = slice_set inside cpu true
-moved inside (item.Leave cpu) = slice_set inside cpu false
-moved inside (item.Write cpu addr bytes) = inside
-moved inside (item.Show cpu addr len) = inside
-
--- at the start none of the eight is
-abbrev pub outside : List Bool
-outside = false ∷ false ∷ false ∷ false ∷ false ∷ false ∷ false ∷ false ∷ []
-
-unfoldable pub inside_after : List Item → List Bool
-inside_after items = fold moved outside items
-
-abbrev pub is_inside : List Item → ℕ → Bool
-is_inside items cpu = slice_index_or (inside_after items) cpu false
-
--- some application, in an image or built in, has this UUID
-unfoldable pub is_known : List (List ℕ) → List App → List ℕ → Bool
-is_known natives apps id = list_any (λ app. bytes_eq app.uuid id) apps || list_any (λ native. bytes_eq native id) natives
-
--- ---- limits
-
-abbrev pub is_within : ℕ → ℕ → ℕ → Bool
-is_within least most n = nat_le least n && nat_le n most
-
--- so many bytes at this address lie in RAM, all of them
-unfoldable pub lies_in_ram : ℕ → ℕ → Bool
-lies_in_ram addr len = is_in_ram addr len
-
--- the bytes are a valid image
-unfoldable pub is_image : List ℕ → Bool
-is_image image = is_none (fault_of image)
-
 -- ---- the rules of each kind of line, on the words behind the first
 
 abbrev pub boot_rules : List ℕ → List ℕ → List ℕ → List (BadKind × Bool)
@@ -117,26 +59,19 @@ boot_rules cpus threads frames =
     (bad.Number, is_decimal cpus)
     ∷ (bad.Number, is_decimal threads)
     ∷ (bad.Number, is_decimal frames)
-    ∷ (bad.Range, is_within 1 8 (decimal cpus))
-    ∷ (bad.Range, is_within 1 16 (decimal threads))
-    ∷ (bad.Range, is_within 1 1024 (decimal frames))
-    ∷ []
+    ∷ boot_limits (decimal cpus) (decimal threads) (decimal frames)
 
 abbrev pub ta_rules : List (List ℕ) → List App → List ℕ → List ℕ → List (BadKind × Bool)
 ta_rules natives apps id image =
     (bad.Uuid, is_uuid id)
     ∷ (bad.Hex, is_hex image)
-    ∷ (bad.Range, nat_lt (length apps) 16)
-    ∷ (bad.Repeat, not (is_known natives apps (uuid id)))
-    ∷ (bad.Image, is_image (bytes image))
-    ∷ []
+    ∷ app_limits natives apps (uuid id) (bytes image)
 
 abbrev pub mem_rules : List ℕ → List ℕ → List (BadKind × Bool)
 mem_rules addr hex =
     (bad.Number, is_hexadecimal 16 addr)
     ∷ (bad.Hex, is_hex hex)
-    ∷ (bad.Range, lies_in_ram (hexadecimal addr) (length (bytes hex)))
-    ∷ []
+    ∷ fill_limits (hexadecimal addr) (length (bytes hex))
 
 -- of `smc` and `enter`, but for who is inside
 abbrev pub call_rules : ℕ → List ℕ → List ℕ → List (List ℕ) → List (BadKind × Bool)
@@ -144,37 +79,30 @@ call_rules cpus cpu steps regs =
     (bad.Number, is_decimal cpu)
     ∷ (bad.Number, is_decimal steps)
     ∷ (bad.Number, list_all is_register regs)
-    ∷ (bad.Range, is_within 1 1000000 (decimal steps))
-    ∷ (bad.Cpu, nat_lt (decimal cpu) cpus)
-    ∷ []
+    ∷ call_limits cpus (decimal cpu) (decimal steps)
 
 -- of `leave`, but for who is inside
 abbrev pub cpu_rules : ℕ → List ℕ → List (BadKind × Bool)
-cpu_rules cpus cpu = (bad.Number, is_decimal cpu) ∷ (bad.Cpu, nat_lt (decimal cpu) cpus) ∷ []
+cpu_rules cpus cpu = (bad.Number, is_decimal cpu) ∷ cpu_limits cpus (decimal cpu)
 
 abbrev pub write_rules : ℕ → List ℕ → List ℕ → List ℕ → List (BadKind × Bool)
 write_rules cpus cpu addr hex =
     (bad.Number, is_decimal cpu)
     ∷ (bad.Number, is_hexadecimal 16 addr)
     ∷ (bad.Hex, is_hex hex)
-    ∷ (bad.Range, lies_in_ram (hexadecimal addr) (length (bytes hex)))
-    ∷ (bad.Cpu, nat_lt (decimal cpu) cpus)
-    ∷ []
+    ∷ write_limits cpus (decimal cpu) (hexadecimal addr) (length (bytes hex))
 
 abbrev pub show_rules : ℕ → List ℕ → List ℕ → List ℕ → List (BadKind × Bool)
 show_rules cpus cpu addr len =
     (bad.Number, is_decimal cpu)
     ∷ (bad.Number, is_hexadecimal 16 addr)
     ∷ (bad.Number, is_decimal len)
-    ∷ (bad.Range, is_within 1 4096 (decimal len))
-    ∷ (bad.Range, lies_in_ram (hexadecimal addr) (decimal len))
-    ∷ (bad.Cpu, nat_lt (decimal cpu) cpus)
-    ∷ []
+    ∷ show_limits cpus (decimal cpu) (hexadecimal addr) (decimal len)
 
 -- of `smc` and `enter`: a processor that is outside comes in
 abbrev pub entry_rules : Trace → List ℕ → List ℕ → List (List ℕ) → List (BadKind × Bool)
 entry_rules before cpu steps regs =
-    (bad.Place, is_some before.boot) ∷ call_rules (cpus_of before.boot) cpu steps regs ++ (bad.Inside, not (is_inside before.items (decimal cpu))) ∷ []
+    (bad.Place, is_some before.boot) ∷ call_rules (cpus_of before.boot) cpu steps regs ++ comes_in before.items (decimal cpu)
 
 -- a word by its number, behind the first one
 abbrev pub word : List (List ℕ) → ℕ → List ℕ
@@ -188,7 +116,7 @@ rules_behind kind.Ta natives before ws =
 rules_behind kind.Mem natives before ws = (bad.Place, is_some before.boot) ∷ (bad.Place, has_no_item before.items) ∷ mem_rules (word ws 0) (word ws 1)
 rules_behind kind.Smc natives before ws = entry_rules before (word ws 0) (word ws 1) (drop 2 ws)
 rules_behind kind.Enter natives before ws = entry_rules before (word ws 0) (word ws 1) (drop 2 ws)
-rules_behind kind.Leave natives before ws = (bad.Place, is_some before.boot) ∷ cpu_rules (cpus_of before.boot) (word ws 0) ++ (bad.Inside, is_inside before.items (decimal (word ws 0))) ∷ []
+rules_behind kind.Leave natives before ws = (bad.Place, is_some before.boot) ∷ cpu_rules (cpus_of before.boot) (word ws 0) ++ goes_out before.items (decimal (word ws 0))
 rules_behind kind.Write natives before ws = (bad.Place, is_some before.boot) ∷ write_rules (cpus_of before.boot) (word ws 0) (word ws 1) (word ws 2)
 rules_behind kind.Show natives before ws = (bad.Place, is_some before.boot) ∷ show_rules (cpus_of before.boot) (word ws 0) (word ws 1) (word ws 2)
 
@@ -218,13 +146,6 @@ line_rules natives before ended line =
     ∷ (if is_skipped line then [] else rules_of_kind (kind_named (word (words_of line) 0)) natives before (words_of line))
 
 -- ---- what a line that keeps its rules adds
-
-abbrev pub with_item : Trace → Item → Trace
-with_item before i = record before { items = before.items ++ i ∷ [] }
-
-abbrev pub with_app : Option Boot → App → Option Boot
-with_app None app = None
-with_app (Some boot) app = Some (record boot { apps = boot.apps ++ app ∷ [] })
 
 abbrev pub app_of : List ℕ → List ℕ → App
 app_of id image = record { uuid = uuid id; image = image_of (bytes image) }

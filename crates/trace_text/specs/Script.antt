@@ -1,5 +1,5 @@
 -- The bytes that spell a trace.
-use Rattle.std.specs.Prelude.{◌≡◌, ℕ, List, [], ◌∷◌, None, MatchOption}
+use Rattle.std.specs.Prelude.{◌≡◌, ℕ, List, [], ◌∷◌, MatchOption}
 use Rattle.std.specs.List.{flat_map, AllZip}
 use Rattle.ta_isa.specs.declared.boot.Boot.{Boot}
 use Rattle.trace_text.specs.declared.item.Item.{Item}
@@ -8,10 +8,6 @@ use Rattle.trace_text.specs.declared.fault.BadKind.TheVariants.{NotYet}
 use Rattle.trace_text.specs.declared.fault.TraceFault.{TraceFault}
 use Rattle.trace_text.specs.declared.fault.TraceFault.TheVariants.{Bad, Memory}
 use Rattle.trace_text.specs.Line.{line_of, IsBootLine, IsItemLine}
-
--- the trace without a boot
-abbrev pub empty_trace : Trace
-empty_trace = record { boot = None; fills = []; items = [] }
 
 -- a boot line, and then a line for each item in its place
 pub record SpellsLines (text : List ℕ) (boot : Boot) (items : List Item) : Type 0 where

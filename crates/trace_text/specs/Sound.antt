@@ -11,7 +11,7 @@ use Rattle.trace_text.specs.declared.item.Reg.{Reg}
 use Rattle.trace_text.specs.declared.item.Reg.TheVariants.{Num, Last}
 use Rattle.trace_text.specs.declared.trace.Fill.{Fill}
 use Rattle.trace_text.specs.declared.trace.Trace.{Trace}
-use Rattle.trace_text.specs.Rules.{cpus_of, inside_after, moved, outside}
+use Rattle.trace_text.specs.Limits.{cpus_of, inside_after, moved, outside}
 
 -- a core can be booted so, and no application has the UUID of a built-in one, which have these
 pub record IsSoundBoot (natives : List (List ℕ)) (boot : Boot) : Type 0 where

@@ -6,9 +6,11 @@
 //! that make fast calls.
 #![tactic(auto)]
 
+mod builder;
 mod fault;
 mod item;
 mod laws;
+pub mod limits;
 mod line;
 mod line_kind;
 mod plain;
@@ -18,14 +20,13 @@ mod said;
 mod trace;
 mod word;
 
-pub use fault::{BadKind, TraceFault};
+pub use builder::Builder;
+pub use fault::{BadKind, LineFault, TraceFault};
 pub use item::{Item, Reg};
 pub use laws::{grammar_examples, one_meaning, one_spelling, worked_examples};
 pub use plain::read_plain;
 pub use reading::read_trace;
 pub use trace::{Fill, Trace};
 
-#[cfg(test)]
-mod grammar_tests;
 #[cfg(test)]
 mod tests;

@@ -1,162 +1,24 @@
 //! Taking lines one after the other.
 
-ghost use Rattle.std.specs.Prelude.{◌≡◌, ℕ, ◌<◌, ◌≤◌, ◌++◌, ◌∷◌, [], List, length, map, is_none, is_some, true, false, not, IfOk, IfSome, None, Some};
-ghost use Rattle.std.specs.List.{list_any};
+ghost use Rattle.std.specs.Prelude.{◌≡◌, ℕ, ◌<◌, ◌++◌, ◌∷◌, [], List, length, map, is_none, is_some, true, IfOk, Some};
 ghost use Rattle.trace_text.specs.Forms.{bytes, decimal, hexadecimal, register};
 ghost use Rattle.trace_text.specs.Grammar.{piece_fault};
-ghost use Rattle.trace_text.specs.Judging.{Ends, IsPut, IsTaken, Judged, Reads, booted, item_cpu};
-ghost use Rattle.trace_text.specs.Rules.{added, after_line, app_of, apps_of, boot_of, boot_rules, cpu_rules, cpus_of, entry_rules, fill_of, has_no_item, inside_after, is_inside, line_rules, mem_rules, moved, rules_behind, show_rules, ta_rules, with_app, with_item, words_behind, write_rules};
-ghost use Rattle.trace_text.specs.Script.{empty_trace};
+ghost use Rattle.trace_text.specs.Judging.{Ends, IsTaken, Judged};
+ghost use Rattle.trace_text.specs.Limits.{apps_of, cpus_of, goes_out, has_no_item, with_app, with_item};
+ghost use Rattle.trace_text.specs.Rules.{added, after_line, app_of, boot_of, boot_rules, cpu_rules, entry_rules, fill_of, line_rules, mem_rules, rules_behind, show_rules, ta_rules, words_behind, write_rules};
 ghost use Rattle.trace_text.specs.declared.item.Item.TheVariants as item;
 
+use crate::builder::Builder;
 use crate::fault::{BadKind, LineFault};
 use crate::item::Item;
 use crate::line::{Words, has_words, is_skipped, is_text};
 use crate::line_kind::LineKind;
-use crate::said::{
-    Call, Size, app_of, boot_of, call_of, cpu_of, fill_of, show_of, size_of, write_of,
-};
-use crate::trace::{Fill, Trace};
-use base::Sequence;
+use crate::said::{Call, app_of, call_of, cpu_of, fill_of, show_of, size_of, write_of};
+use crate::trace::Trace;
 use std::alloc::Global;
-use std::marker::Model;
-use ta_isa::App;
 use uuid::Uuid;
 
-/// Which processors are inside after an item, of those that were before.
-fn moved(mut inside: [bool; 8], item: &Item) -> [bool; 8]
-    requires { item_cpu item.now < 8 }
-    ensures { result ≡ moved inside item.now }
-{
-    match item {
-        Item::Enter { cpu, .. } => inside[usize::from(*cpu)] = true,
-        Item::Leave { cpu } => inside[usize::from(*cpu)] = false,
-        _ => {}
-    }
-    inside
-}
-
-/// The trace that the lines so far spell, and which processors are inside.
-#[derive(Drop)]
-pub struct Reader {
-    size: Option<Size>,
-    apps: Vec<App>,
-    fills: Vec<Fill>,
-    items: Vec<Item>,
-    inside: [bool; 8],
-}
-
-impl Model for Reader {
-    ghost use Rattle.trace_text.specs.declared.trace.Trace.{Trace};
-    ghost use Rattle.trace_text.specs.Judging.{booted, IsTracked};
-
-    ghost Value = { Trace };
-
-    ghost view = { λ r. record { boot = booted r.size r.apps.items; fills = r.fills.items; items = r.items.items } };
-
-    ghost invariant = { λ r. IsTracked r.size r.apps.items r.items.items r.inside };
-}
-
-impl Reader {
-    /// Before the first line.
-    #[tactic(auto, unfolding(crate::specs::Rules::inside_after))]
-    pub fn new(alloc: Global) -> Reader
-        ensures { result ≡ empty_trace }
-    {
-        Reader {
-            size: None,
-            apps: Vec::new(alloc),
-            fills: Vec::new(alloc),
-            items: Vec::new(alloc),
-            inside: [false; 8],
-        }
-    }
-
-    /// The trace of all lines.
-    fn into_trace(self) -> Trace
-        ensures { result ≡ self }
-    {
-        let Reader {
-            size,
-            apps,
-            fills,
-            items,
-            inside: _,
-        } = self;
-        Trace {
-            boot: boot_of(size, apps),
-            fills: Sequence::of(fills),
-            items: Sequence::of(items),
-        }
-    }
-
-    /// How many processors there are, after a line `boot`.
-    fn cpus(&self) -> Option<u8>
-        ensures read { Reads result (is_some self.now.boot) (cpus_of self.now.boot) }
-        ensures few { IfSome result (λ n. n ≤ 8) }
-    {
-        let size = self.size?;
-        Some(size.cpus)
-    }
-
-    fn has_no_item(&self) -> bool
-        ensures { result ≡ has_no_item self.now.items }
-    {
-        self.items.is_empty()
-    }
-
-    fn apps(&self) -> &[App]
-        ensures { result.now ≡ apps_of self.now.boot }
-    {
-        self.apps.as_slice()
-    }
-
-    fn is_inside(&self, cpu: u8) -> bool
-        requires { cpu < 8 }
-        ensures { result ≡ is_inside self.now.items cpu }
-    {
-        self.inside[usize::from(cpu)]
-    }
-
-    fn is_anyone_inside(&self) -> bool
-        ensures { result ≡ list_any (λ inside. inside) (inside_after self.now.items) }
-    {
-        self.inside.iter().any(|inside| *inside)
-    }
-
-    fn set_size(&mut self, size: Size)
-        requires first { is_some self.old.boot ≡ false }
-        requires few { size.cpus ≤ 8 }
-        ensures { self.new ≡ record self.old { boot = booted (Some size) [] } }
-    {
-        self.size = Some(size);
-    }
-
-    fn push_app(&mut self, app: App) -> Result<(), LineFault>
-        requires { is_some self.old.boot ≡ true }
-        ensures { IsPut result (record self.old { boot = with_app self.old.boot app }) self.new }
-    {
-        self.apps.push(app)?;
-        Ok(())
-    }
-
-    fn push_fill(&mut self, fill: Fill) -> Result<(), LineFault>
-        ensures { IsPut result (record self.old { fills = self.old.fills ++ fill ∷ [] }) self.new }
-    {
-        self.fills.push(fill)?;
-        Ok(())
-    }
-
-    fn push_item(&mut self, item: Item) -> Result<(), LineFault>
-        requires { item_cpu item < 8 }
-        ensures { IsPut result (with_item self.old item) self.new }
-    {
-        let inside = moved(self.inside, &item);
-        self.items.push(item)?;
-        self.inside = inside;
-        Ok(())
-    }
-
+impl Builder {
     /// A line `boot`, by its words.
     fn take_boot(&mut self, cpus: &[u8], threads: &[u8], frames: &[u8]) -> Result<(), LineFault>
         ensures { IsTaken result ((BadKind.Place, is_none self.old.boot) ∷ boot_rules cpus.now threads.now frames.now)
@@ -229,7 +91,7 @@ impl Reader {
     fn take_leave(&mut self, cpu: &[u8]) -> Result<(), LineFault>
         ensures { IsTaken result
             ((BadKind.Place, is_some self.old.boot) ∷ cpu_rules (cpus_of self.old.boot) cpu.now
-            ++ (BadKind.Inside, is_inside self.old.items (decimal cpu.now)) ∷ [])
+            ++ goes_out self.old.items (decimal cpu.now))
             (with_item self.old (item.Leave (decimal cpu.now))) self.new }
     {
         let Some(cpus) = self.cpus() else {
@@ -320,7 +182,12 @@ impl Reader {
 
     /// Takes a line, which is given without its line feed.
     #[tactic(auto, unfolding(crate::specs::Rules::line_rules, crate::specs::Rules::after_line))]
-    pub fn take(&mut self, alloc: Global, natives: &[Uuid], line: &[u8]) -> Result<(), LineFault>
+    pub(crate) fn take(
+        &mut self,
+        alloc: Global,
+        natives: &[Uuid],
+        line: &[u8],
+    ) -> Result<(), LineFault>
         ensures { IsTaken result (line_rules natives.now self.old true line.now) (after_line self.old line.now) self.new }
     {
         if !is_text(line) {
@@ -341,7 +208,7 @@ impl Reader {
 
     /// The trace, where the text ends with these bytes behind its last line feed.
     #[tactic(auto, unfolding(crate::specs::Grammar::piece_fault, crate::specs::Rules::line_rules))]
-    pub fn finish(self, rest: &[u8]) -> Result<Trace, BadKind>
+    pub(crate) fn finish_text(self, rest: &[u8]) -> Result<Trace, BadKind>
         ensures { (natives : List (List ℕ)) → Ends result (piece_fault natives self rest.now []) self }
     {
         if !rest.is_empty() {
@@ -351,9 +218,6 @@ impl Reader {
                 BadKind::Byte
             });
         }
-        if self.is_anyone_inside() {
-            return Err(BadKind::Unended);
-        }
-        Ok(self.into_trace())
+        self.finish()
     }
 }

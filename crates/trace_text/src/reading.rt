@@ -4,9 +4,9 @@ ghost use Rattle.trace_text.specs.Sound.{IsSound};
 ghost use Rattle.trace_text.specs.declared.fault.BadKind.{BadKind};
 ghost use Rattle.trace_text.specs.declared.trace.Trace.{Trace};
 
+use crate::builder::Builder;
 use crate::fault::TraceFault;
 use crate::line::split_line;
-use crate::reader::Reader;
 use crate::trace::Trace;
 use std::alloc::Global;
 use uuid::Uuid;
@@ -33,7 +33,7 @@ pub fn read_trace(alloc: Global, text: &[u8], natives: &[Uuid]) -> Result<Trace,
     // What is read is within the limits of a trace.
     ensures sound { IfOk result (IsSound natives.now) }
 {
-    let mut reader = Reader::new(alloc);
+    let mut reader = Builder::new(alloc);
     let mut place = 1u32;
     let mut rest = text;
     while let Some((line, after)) = split_line(rest) {
@@ -43,7 +43,7 @@ pub fn read_trace(alloc: Global, text: &[u8], natives: &[Uuid]) -> Result<Trace,
         place += 1;
         rest = after;
     }
-    match reader.finish(rest) {
+    match reader.finish_text(rest) {
         Ok(trace) => Ok(trace),
         Err(kind) => Err(TraceFault::Bad { place, kind }),
     }

@@ -1,41 +1,24 @@
 //! What each kind of line says, by its words.
 
-ghost use Rattle.std.specs.Prelude.{◌≡◌, ◌<◌, ◌≤◌, ◌∷◌, [], length, map, nat_lt, IfOk};
-ghost use Rattle.std.specs.List.{list_all, list_any};
-ghost use Rattle.std.specs.Str.{bytes_eq};
-ghost use Rattle.ta_isa.specs.Reading.{image_of};
+ghost use Rattle.std.specs.Prelude.{◌≡◌, ◌<◌, ◌≤◌, length, map, IfOk};
+ghost use Rattle.std.specs.List.{list_all};
 ghost use Rattle.trace_text.specs.Forms.{bytes, decimal, hexadecimal, is_register, register};
-ghost use Rattle.trace_text.specs.Judging.{Judged, Reads, booted, item_cpu};
-ghost use Rattle.trace_text.specs.Rules.{app_of, boot_rules, call_rules, cpu_rules, fill_of, is_image, is_known, is_within, lies_in_ram, mem_rules, show_rules, ta_rules, write_rules};
+ghost use Rattle.trace_text.specs.Judging.{Judged, Reads, item_cpu};
+ghost use Rattle.trace_text.specs.Rules.{app_of, boot_rules, call_rules, cpu_rules, fill_of, mem_rules, show_rules, ta_rules, write_rules};
 ghost use Rattle.trace_text.specs.declared.item.Item.TheVariants as item;
 
 use crate::fault::{BadKind, LineFault};
 use crate::item::{Item, Reg};
+use crate::limits::{
+    MAX_APPS, MAX_SHOWN, MAX_STEPS, Size, image_of, is_known, is_there, is_within, lies_in_ram,
+};
 use crate::line::Words;
 use crate::trace::Fill;
 use crate::word::{address, any_register, bytes, number, uuid};
 use base::Sequence;
-use ns_ram::in_ram;
 use std::alloc::Global;
-use ta_isa::{App, Boot, Image, decode_image};
+use ta_isa::App;
 use uuid::Uuid;
-
-/// The applications that a trace may have in images.
-const MAX_APPS: usize = 16;
-
-/// The steps that an entry may be granted.
-const MAX_STEPS: u32 = 1_000_000;
-
-/// The bytes that a line `show` may print.
-const MAX_SHOWN: u32 = 4096;
-
-/// What a line `boot` says.
-#[derive(Clone, Copy, Debug, Drop)]
-pub struct Size {
-    pub cpus: u8,
-    pub threads: u8,
-    pub frames: u16,
-}
 
 /// What a line `smc` or `enter` says.
 #[derive(Debug, Drop)]
@@ -43,67 +26,6 @@ pub struct Call {
     pub cpu: u8,
     pub steps: u32,
     pub regs: [Reg; 8],
-}
-
-/// What a core is booted with.
-pub fn boot_of(size: Option<Size>, apps: Vec<App>) -> Option<Boot>
-    ensures { result ≡ booted size apps.items }
-{
-    let Size {
-        cpus,
-        threads,
-        frames,
-    } = size?;
-    Some(Boot {
-        cpus,
-        threads,
-        frames,
-        apps: Sequence::of(apps),
-    })
-}
-
-/// Whether a number lies within these limits.
-fn is_within(least: u32, most: u32, number: u32) -> bool
-    ensures { result ≡ is_within least most number }
-{
-    least <= number && number <= most
-}
-
-/// Whether a core of so many processors has the one of this number.
-fn is_there(cpus: u8, cpu: u32) -> bool
-    ensures { result ≡ nat_lt cpu cpus }
-{
-    cpu < u32::from(cpus)
-}
-
-/// Whether so many bytes at this address lie in RAM, all of them.
-#[tactic(auto, unfolding(crate::specs::Rules::lies_in_ram))]
-fn lies_in_ram(addr: u64, len: u64) -> bool
-    ensures { result ≡ lies_in_ram addr len }
-{
-    in_ram(addr, len)
-}
-
-/// Whether an application in an image has this UUID.
-fn is_in_image(apps: &[App], id: Uuid) -> bool
-    ensures { result ≡ list_any (λ app. bytes_eq app.uuid id) apps.now }
-{
-    apps.iter().any(|app| app.uuid == id)
-}
-
-/// Whether a built-in application has this UUID.
-fn is_built_in(natives: &[Uuid], id: Uuid) -> bool
-    ensures { result ≡ list_any (λ native. bytes_eq native id) natives.now }
-{
-    natives.iter().any(|native| *native == id)
-}
-
-/// Whether some application has this UUID.
-#[tactic(auto, unfolding(crate::specs::Rules::is_known))]
-fn is_known(natives: &[Uuid], apps: &[App], id: Uuid) -> bool
-    ensures { result ≡ is_known natives.now apps.now id }
-{
-    is_in_image(apps, id) || is_built_in(natives, id)
 }
 
 /// Reads the words of a line `boot`.
@@ -129,17 +51,6 @@ pub fn size_of(cpus: &[u8], threads: &[u8], frames: &[u8]) -> Result<Size, LineF
         threads: threads as u8,
         frames: frames as u16,
     })
-}
-
-/// The image of these bytes.
-#[tactic(auto, unfolding(crate::specs::Rules::is_image))]
-fn image_of(alloc: Global, image: &[u8]) -> Result<Image, LineFault>
-    ensures { Judged (λ i. i) result ((BadKind.Image, is_image image.now) ∷ []) (image_of image.now) }
-{
-    match decode_image(alloc, image) {
-        Ok(image) => Ok(image),
-        Err(fault) => Err(LineFault::of_image(fault)),
-    }
 }
 
 /// Reads the words of a line `ta`.

@@ -5,7 +5,7 @@ use Rattle.trace_text.specs.declared.item.Reg.TheVariants.{Num}
 use Rattle.smc_abi.specs.declared.call.TheConstants.{CALL_WITH_ARG}
 use Rattle.trace_text.specs.Item.{IsNumber, AreFast}
 use Rattle.trace_text.specs.Examples.{boot_text, uid_text, uid_trace, only_first}
-use Rattle.trace_text.specs.Script.{empty_trace}
+use Rattle.trace_text.specs.Limits.{empty_trace}
 use Rattle.trace_text.specs.Reading.{decimal_at, hexadecimal_at, within_at, register_at, named_at, number_at, next_register_at, registers_at, boot_at, item_at, lines_at, items_at, script_at, trace_at}
 use Rattle.trace_text.proofs.Digits.{decimal_read, within_read, hexadecimal_read}
 use Rattle.trace_text.proofs.ScriptLaws.{trace_read, no_plain}

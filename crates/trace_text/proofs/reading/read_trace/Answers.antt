@@ -3,7 +3,7 @@ use Rattle.std.proofs.lemmas.List.{length-append}
 use Rattle.trace_text.specs.declared.fault.TraceFault.TheVariants.{Bad}
 use Rattle.trace_text.specs.Judging.{read_pieces}
 use Rattle.trace_text.specs.Grammar.{pieces_of}
-use Rattle.trace_text.specs.Script.{empty_trace}
+use Rattle.trace_text.specs.Limits.{empty_trace}
 use Rattle.trace_text.proofs.GrammarLaws.{answer_from_read}
 use Rattle.trace_text.proofs.Pieces.{goes_on, stops, ends, ends_badly}
 use Rattle.trace_text.proofs.reading.read_trace.Goals as goal
@@ -30,9 +30,9 @@ returns-in-Ok c =
     c.in_default.ensures (c.in-Ok.ensures c.args.natives.now) c.loop-line.invariant.so_far) in
     record { found = answer.found; only = answer.only; bad = answer.bad; refused = answer.refused; placed = answer.placed; sound = answer.sound }
 
-pub returns-in-Err-finish : goal.returns-in-Err-finish
-returns-in-Err-finish c =
-    let answer = answer_from_read c.args.natives.now c.args.text.now (Err (Bad c.loop-line.place c.in-Err-finish.kind))
-    (ends_badly c.args.natives.now c.loop-line.place c.loop-line.reader c.loop-line.rest.now (read_pieces c.args.natives.now 1 empty_trace (pieces_of c.args.text.now)) c.in-Err-finish.kind
-    c.in_default.ensures (c.in-Err-finish.ensures c.args.natives.now) c.loop-line.invariant.so_far) in
+pub returns-in-Err-finish_text : goal.returns-in-Err-finish_text
+returns-in-Err-finish_text c =
+    let answer = answer_from_read c.args.natives.now c.args.text.now (Err (Bad c.loop-line.place c.in-Err-finish_text.kind))
+    (ends_badly c.args.natives.now c.loop-line.place c.loop-line.reader c.loop-line.rest.now (read_pieces c.args.natives.now 1 empty_trace (pieces_of c.args.text.now)) c.in-Err-finish_text.kind
+    c.in_default.ensures (c.in-Err-finish_text.ensures c.args.natives.now) c.loop-line.invariant.so_far) in
     record { found = answer.found; only = answer.only; bad = answer.bad; refused = answer.refused; placed = answer.placed; sound = answer.sound }

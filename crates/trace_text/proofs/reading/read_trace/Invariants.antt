@@ -1,7 +1,7 @@
 use Rattle.std.proofs.Common.{◌≡◌, ◌≤◌, ◌+◌, length}
 use Rattle.trace_text.specs.Grammar.{pieces_of}
 use Rattle.trace_text.specs.Judging.{read_pieces}
-use Rattle.trace_text.specs.Script.{empty_trace}
+use Rattle.trace_text.specs.Limits.{empty_trace}
 use Rattle.trace_text.proofs.reading.read_trace.Given as goal
 
 abbrev pub invariant-loop-line : goal.invariant-loop-line

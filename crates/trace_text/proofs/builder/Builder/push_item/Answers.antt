@@ -1,7 +1,7 @@
 use Rattle.std.proofs.Common.{sym, ap, ◌∙◌}
-use Rattle.trace_text.specs.Rules.{inside_after}
+use Rattle.trace_text.specs.Limits.{inside_after}
 use Rattle.trace_text.proofs.Inside.{inside_push}
-use Rattle.trace_text.proofs.reader.Reader.push_item.Goals as goal
+use Rattle.trace_text.proofs.builder.Builder.push_item.Goals as goal
 
 pub invariant_of-self-2 : goal.invariant_of-self-2
 invariant_of-self-2 c = record {

@@ -1,7 +1,7 @@
 use Rattle.std.proofs.Common.{◌≡◌, true, sym}
 use Rattle.trace_text.specs.Rules.{counts, words_behind}
 use Rattle.trace_text.proofs.Pieces.{some_word, words_behind_first}
-use Rattle.trace_text.proofs.reader.Reader.take.Goals as goal
+use Rattle.trace_text.proofs.builder.Builder.take.Goals as goal
 
 pub word-requires : goal.word-requires
 word-requires c = some_word c.args.line.now c.of-words.result c.of-words.ensures
