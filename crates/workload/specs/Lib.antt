@@ -1,0 +1,4 @@
+pub mod Message
+pub mod Work
+pub mod Bounded
+pub mod Examples
