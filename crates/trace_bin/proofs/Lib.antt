@@ -1,0 +1,6 @@
+pub mod GrammarLaws
+pub mod Lengths
+pub mod Payload
+pub mod Registers
+pub mod Again
+pub mod Whole
