@@ -2,8 +2,10 @@
 //!
 //! With two words, an image in hexadecimal digits and a number of steps, it is granted so many steps: what the machine
 //! costs for a step is measured on a loop. With none, each line of the input is a case: its name, an image, the
-//! function to invoke, how many steps a grant has, and `cancelled` where the call is.
+//! function to invoke, how many steps a grant has, and `cancelled` where the call is; or a call on an object.
 #![tactic(auto)]
+
+mod objects;
 
 ghost use Rattle.std.specs.Prelude.{◌≡◌, None, IfOk};
 ghost use Rattle.ta_isa.specs.Spelling.{IsValid};
@@ -16,6 +18,7 @@ use std::rt::Env;
 use ta_isa::{Image, decode_image};
 use ta_params::{Buf, CopiedParams, GpParam, Login, Way};
 use ta_step::{Machine, Plain, Stop, TaMemory};
+use tee_storage::Handles;
 
 /// The bytes of one page.
 const PAGE_BYTES: u32 = 4096;
@@ -118,7 +121,7 @@ fn played(alloc: Global, image: &Image, mut machine: Machine<Plain>, steps: u32)
     Ok(told)
 }
 
-/// What a line of the input tells of its case.
+/// What a line tells of its case.
 fn case(alloc: Global, line: &str) -> Result<String> {
     let words: Vec<&str> = line.split(' ').collect(alloc)?;
     let [name, image, func, steps, call] = words.as_slice() else {
@@ -135,6 +138,14 @@ fn case(alloc: Global, line: &str) -> Result<String> {
     Ok(format!(in alloc; "{name}: {told}")?)
 }
 
+/// What a line of the input tells.
+fn told(alloc: Global, line: &str, handles: &mut Handles) -> Result<String> {
+    if line.starts_with("object ") || line.starts_with("unbuffered ") {
+        return objects::case(alloc, line, handles);
+    }
+    case(alloc, line)
+}
+
 fn run(rt: &(impl Env + Input + Print + AllocGlobal)) -> Result<()> {
     let alloc = rt.alloc();
     let words: Vec<String> = env::args(rt)?.skip(1).collect(alloc)?;
@@ -144,8 +155,9 @@ fn run(rt: &(impl Env + Input + Print + AllocGlobal)) -> Result<()> {
             println!(rt; "{}", ran(alloc, image.as_str(), steps)?)?;
         }
         [] => {
+            let mut handles = Handles::new();
             for line in rt.lines(alloc) {
-                println!(rt; "{}", case(alloc, line?.as_str())?)?;
+                println!(rt; "{}", told(alloc, line?.as_str(), &mut handles)?)?;
             }
         }
         _ => bail!("the words are an image and a number of steps, or none"),

@@ -1,0 +1,151 @@
+//! Cases of calls on objects, whose requests are answered by what stands in the case.
+ghost use Rattle.std.specs.Prelude.{◌≡◌, IfSome};
+ghost use Rattle.tee_storage.specs.ObjectCalls.{range_len};
+
+use anyhow::{Context, Result, bail};
+use hex::ToHex;
+use rpc_msgs::{Payload, RpcReply};
+use std::alloc::Global;
+use std::fmt::Write;
+use ta_params::ObjectCall;
+use tee_storage::{Handles, ObjectState, Span, StorageStep};
+use uuid::Uuid;
+
+/// The application of every case.
+const APPLICATION: &str = "11111111-2222-3333-4444-555555555555";
+
+/// The most bytes of a reply.
+const MOST_BYTES: usize = 3584;
+
+/// The memory range of a call, which stands alone here.
+#[derive(Drop)]
+struct Range {
+    bytes: Vec<u8>,
+}
+
+impl Span for Range {
+    ghost bytes = { λ range. range.bytes.items };
+
+    ghost rest = { λ range. tt };
+
+    fn get(&self, at: u32) -> u8 {
+        self.bytes[at as usize]
+    }
+
+    fn set(&mut self, at: u32, byte: u8) {
+        self.bytes[at as usize] = byte;
+    }
+}
+
+/// The call of this name, over a range of so many bytes.
+fn call_of(name: &str, handle: u32, position: u32, len: u32) -> Option<ObjectCall>
+    ensures { IfSome result (λ call. range_len call ≡ len) }
+{
+    match name {
+        "create" => Some(ObjectCall::Create { id: 0, len }),
+        "open" => Some(ObjectCall::Opened { id: 0, len }),
+        "read" => Some(ObjectCall::Read {
+            handle,
+            addr: 0,
+            len,
+        }),
+        "write" => Some(ObjectCall::Write {
+            handle,
+            addr: 0,
+            len,
+        }),
+        _ if len != 0 => None,
+        "seek" => Some(ObjectCall::Seek { handle, position }),
+        "close" => Some(ObjectCall::Close { handle }),
+        "delete" => Some(ObjectCall::Delete { handle }),
+        _ => None,
+    }
+}
+
+/// The bytes of a word in hexadecimal digits; none are a dash.
+fn bytes_of(alloc: Global, word: &str) -> Result<Vec<u8>> {
+    if word == "-" {
+        return Ok(Vec::new(alloc));
+    }
+    Ok(hex::decode(alloc, word)?)
+}
+
+/// The reply that a word says: its ret, its first number and its bytes, with a colon between them.
+fn reply_of(alloc: Global, word: &str) -> Result<RpcReply> {
+    let parts: Vec<&str> = word.split(':').collect(alloc)?;
+    let [ret, v, bytes] = parts.as_slice() else {
+        bail!("a reply has three parts");
+    };
+    let bytes = bytes_of(alloc, bytes)?;
+    if bytes.len() > MOST_BYTES {
+        bail!("a reply has too many bytes");
+    }
+    Ok(RpcReply {
+        ret: ret.parse::<u32>().context("reading the ret")?,
+        v: v.parse::<u64>().context("reading the number")?,
+        w: 0,
+        size: bytes.len() as u64,
+        bytes: Payload::of(bytes.as_slice()),
+    })
+}
+
+/// Tells a step of a call.
+fn tell(alloc: Global, told: &mut String, step: &StorageStep) -> Result<()> {
+    match step {
+        StorageStep::Ask { rpc, payload } => {
+            let digits = payload.bytes().encode_hex(alloc)?;
+            write!(told, "{rpc:?} with {digits}, ")?;
+        }
+        StorageStep::Done { result, value } => write!(told, "done {result:08x} {value}, ")?,
+        StorageStep::Panic(code) => write!(told, "panics {code}, ")?,
+    }
+    Ok(())
+}
+
+/// Tells what is open of a handle.
+fn tell_open(told: &mut String, handles: &Handles, handle: u32) -> Result<()> {
+    match handles.get(handle) {
+        Some(object) => {
+            let (fd, len, position) = (object.fd, object.length, object.position);
+            write!(told, "; {handle} is {fd}, {position} of {len}")?;
+        }
+        None => write!(told, "; {handle} is closed")?,
+    }
+    Ok(())
+}
+
+/// What a line tells of its case: `object` or `unbuffered`, its name, the call, a handle, a position, the bytes of
+/// the range, and the replies. `unbuffered` where no buffer comes for the last request.
+pub(crate) fn case(alloc: Global, line: &str, handles: &mut Handles) -> Result<String> {
+    let words: Vec<&str> = line.split(' ').collect(alloc)?;
+    if words.len() < 6 {
+        bail!("a call has six words and its replies");
+    }
+    let (head, replies) = words.as_slice().split_at(6);
+    let [kind, name, call, handle, position, bytes] = head else {
+        bail!("a call has six words");
+    };
+    let handle = handle.parse::<u32>().context("reading the handle")?;
+    let position = position.parse::<u32>().context("reading the position")?;
+    let bytes = bytes_of(alloc, bytes)?;
+    let len = u32::try_from(bytes.len()).context("counting the bytes")?;
+    let Some(call) = call_of(call, handle, position, len) else {
+        bail!("there is no such call");
+    };
+    let mut told = format!(in alloc; "{name}: ")?;
+    let mut range = Range { bytes };
+    let uuid = Uuid::parse_str(APPLICATION)?;
+    let (mut state, step) = ObjectState::start(call, uuid, &range, handles);
+    tell(alloc, &mut told, &step)?;
+    'replies: for word in replies {
+        let reply = reply_of(alloc, word)?;
+        let step = state.answer(&reply, &mut range, handles);
+        tell(alloc, &mut told, &step)?;
+    }
+    if *kind == "unbuffered" {
+        write!(told, "{:08x} without a buffer, ", state.no_buffer())?;
+    }
+    write!(told, "over {}", range.bytes.as_slice().encode_hex(alloc)?)?;
+    tell_open(&mut told, handles, handle)?;
+    Ok(told)
+}
