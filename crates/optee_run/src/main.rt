@@ -3,14 +3,20 @@
 #![tactic(auto)]
 
 use ports::{StdSink, StdSource};
+use std::alloc::AllocError;
+use std::io::ErrorKind;
 use std::process::ExitCode;
 use std::rt::Env;
 use std::{env, io};
 use trace_runner::{Status, run};
 
-/// The words after the program's name.
-fn words(rt: &(impl Env + AllocGlobal)) -> io::Result<Vec<String>> {
-    Ok(env::args(rt)?.skip(1).collect(rt.alloc())?)
+/// The words after the program's name. Where one isn't UTF-8 there are none, since no such word is of use.
+fn words(rt: &(impl Env + AllocGlobal)) -> Result<Vec<String>, AllocError> {
+    match env::args(rt) {
+        Ok(words) => Ok(words.skip(1).collect(rt.alloc())?),
+        Err(error) if error.kind() == ErrorKind::OutOfMemory => Err(AllocError),
+        Err(_) => Ok(Vec::new(rt.alloc())),
+    }
 }
 
 fn main(rt: HostRuntime) -> ExitCode {
