@@ -1,7 +1,7 @@
 -- What a processor goes out with, seen from its entry on: its a0 is 1, or 3, exactly where its call found no slot, or no
 -- call.
 use Rattle.std.proofs.Common.{◌≡◌, ◌↔◌, ℕ, List, [], ◌∷◌, ◌++◌, Option, Some, None, Bool, true, false, refl, ap, sym, subst, ◌∙◌}
-use Rattle.std.specs.Prelude.{IsSome, slice_get, slice_set, bytes_eq, ◌&&◌, if◌then◌else◌}
+use Rattle.std.specs.Prelude.{slice_get, slice_set, bytes_eq, ◌&&◌, if◌then◌else◌}
 use Rattle.std.specs.List.{AllByRecursion}
 use Rattle.std.specs.Option.{option_map, option_and_then}
 use Rattle.std.proofs.lemmas.Option.{option_and_then_some}
@@ -16,12 +16,12 @@ use Rattle.smc_abi.specs.declared.regs.Regs.{Regs}
 use Rattle.kernel_model.specs.Application.{Booted}
 use Rattle.kernel_model.specs.Argument.{reg}
 use Rattle.kernel_model.specs.Codes.{eresume, ethread_limit}
-use Rattle.kernel_model.specs.Decision.{Decision, Answers, Takes, Taken}
-use Rattle.kernel_model.specs.Entry.{after_decision, after_entry}
+use Rattle.kernel_model.specs.Decision.{Decision, Answers, Takes}
+use Rattle.kernel_model.specs.Entry.{after_entry}
 use Rattle.kernel_model.specs.Exit.{Exited, answer_of, exit, exit_of, exit_with, goes_out, goes_out_from, progress_in_slot}
 use Rattle.kernel_model.specs.History.{IsLegal, after_event, after_events, can_be_granted, entry_from, exit_to, is_outside, kernel_after}
-use Rattle.kernel_model.specs.Kernel.{Progress, ThreadSlot, Free, Active, Suspended, Fixed, InSlot, Processor, Outside, Inside, Kernel, Visit, first_kernel}
-use Rattle.kernel_model.specs.Laws.{AnswersExactly, FindsNoCall, FindsNoSlot, IsOfOther, IsOutside, ToldExactly, visited}
+use Rattle.kernel_model.specs.Kernel.{Progress, Fixed, InSlot, Processor, Outside, Inside, Kernel, Visit, first_kernel}
+use Rattle.kernel_model.specs.Laws.{AnswersExactly, FindsNoCall, FindsNoSlot, IsOfOther, IsOutside, visited}
 use Rattle.kernel_model.specs.Leaving.{Leaving, Interrupted, WantsBuffer, Requests, FreesBuffer, Finishes, leaving_of}
 use Rattle.kernel_model.proofs.EntryLaws.{tells}
 use Rattle.kernel_model.proofs.FixedAnswer.{decides, errand_of, inside_after, inside_for, processors_after}

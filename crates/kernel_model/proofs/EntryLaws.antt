@@ -1,5 +1,5 @@
 -- When an entry answers ETHREAD_LIMIT and ERESUME, and what a resume comes to.
-use Rattle.std.proofs.Common.{◌≡◌, ℕ, List, Option, Some, None, refl, ap, subst, sym, ◌∙◌}
+use Rattle.std.proofs.Common.{◌≡◌, ℕ, List, Option, Some, refl, ap, subst, sym, ◌∙◌}
 use Rattle.std.specs.Option.{option_map, option_map_or}
 use Rattle.ns_ram.specs.declared.read.Read.{Read}
 use Rattle.ns_ram.specs.Reader.{Reader, done, reading, ◌>>=◌}
@@ -14,7 +14,7 @@ use Rattle.kernel_model.specs.Decision.{Decision, Answers, Takes, works_on}
 use Rattle.kernel_model.specs.Entry.{after_decision, after_entry, decision_of}
 use Rattle.kernel_model.specs.History.{ResumesCall}
 use Rattle.kernel_model.specs.Kernel.{Kernel, PendingCall, Progress, Visit}
-use Rattle.kernel_model.specs.Laws.{FindsNoSlot, FindsNoCall, FixedExactly, IsFixed, IsOutside, LimitExactly, ResumesExactly}
+use Rattle.kernel_model.specs.Laws.{FindsNoSlot, FindsNoCall, FixedExactly, LimitExactly, ResumesExactly}
 use Rattle.kernel_model.specs.Resume.{call_resumed_by, resume_call, takes_call}
 use Rattle.kernel_model.proofs.Told.{Told, decision_told}
 use Rattle.kernel_model.proofs.FixedAnswer.{decided_fixed, decides_all, fixed_decided}

@@ -1,5 +1,5 @@
 -- What an entry decides, seen in what its processor came in for; and a fixed answer changes its processor's part alone.
-use Rattle.std.proofs.Common.{◌≡◌, ℕ, List, [], Option, Some, refl, ap, sym, ◌∙◌}
+use Rattle.std.proofs.Common.{◌≡◌, List, [], Option, Some, refl, ap, sym, ◌∙◌}
 use Rattle.std.specs.Prelude.{slice_get, slice_set}
 use Rattle.std.specs.Option.{option_and_then}
 use Rattle.ns_ram.specs.declared.read.Read.{Read}

@@ -1,5 +1,5 @@
 -- A suspended slot holds what the last exit from it left there, for the client of its call.
-use Rattle.std.proofs.Common.{◌≡◌, ℕ, zero, suc, ◌+◌, List, [], ◌∷◌, ◌++◌, Option, Some, None, Bool, true, false, refl, ap, sym, subst, ◌∙◌}
+use Rattle.std.proofs.Common.{◌≡◌, ℕ, zero, suc, List, [], ◌∷◌, ◌++◌, Option, Some, None, Bool, true, false, refl, ap, sym, subst, ◌∙◌}
 use Rattle.std.specs.Prelude.{map, slice_get, slice_set, replicate, length, ◌==◌, ◌&&◌, ◌||◌, bytes_eq, if◌then◌else◌}
 use Rattle.std.specs.Option.{option_map, option_map_or, option_and_then}
 use Rattle.std.proofs.lemmas.Bool.Decides.{Decides-eqb}
@@ -18,14 +18,14 @@ use Rattle.kernel_model.specs.Codes.{eresume}
 use Rattle.kernel_model.specs.Decision.{Decision, Answers, Takes, works_on}
 use Rattle.kernel_model.specs.Entry.{after_decision, after_entry}
 use Rattle.kernel_model.specs.Exit.{Exited, goes_out, goes_out_from, exit, exit_of, progress_in_slot, slot_left}
-use Rattle.kernel_model.specs.History.{after_event, after_events, entry_from, exit_to, goes_out_of, can_be_granted, is_outside, kernel_after, left_by_exits, IsEntryOf, IsLater, Resumes, ResumesCall, slot_of_processor}
-use Rattle.kernel_model.specs.Kernel.{PendingCall, Progress, Cancel, cancelled_call, cancelled_slot, cancelled_slots, is_meant, ThreadSlot, Free, Active, Suspended, Errand, Fixed, InSlot, Processor, Outside, Inside, Kernel, Visit, first_kernel}
-use Rattle.kernel_model.specs.Laws.{FindsNoCall, ResumesContinue}
+use Rattle.kernel_model.specs.History.{after_event, after_events, entry_from, exit_to, goes_out_of, can_be_granted, is_outside, kernel_after, left_by_exits, IsEntryOf, Resumes, ResumesCall, slot_of_processor}
+use Rattle.kernel_model.specs.Kernel.{PendingCall, Progress, Cancel, cancelled_call, cancelled_slot, cancelled_slots, is_meant, ThreadSlot, Free, Active, Suspended, Fixed, InSlot, Processor, Outside, Inside, Kernel, Visit, first_kernel}
+use Rattle.kernel_model.specs.Laws.{ResumesContinue}
 use Rattle.kernel_model.specs.Leaving.{Leaving, Interrupted, WantsBuffer, Requests, FreesBuffer, Finishes, leaving_of}
 use Rattle.kernel_model.specs.Resume.{call_resumed_by, suspended_for}
 use Rattle.kernel_model.proofs.EntryLaws.{resumes_call, tells, told_resume}
 use Rattle.kernel_model.proofs.FixedAnswer.{decided_errand, decides}
-use Rattle.kernel_model.proofs.Parts.{option_map_some, set_then_read, set_found, set_other}
+use Rattle.kernel_model.proofs.Parts.{option_map_some, set_then_read, set_other}
 use Rattle.kernel_model.proofs.Past.{after_events-append}
 
 -- what exits left is the call, but that it may be cancelled since, for the client of the call

@@ -1,5 +1,5 @@
 -- What each entry decides: the words that its answer can have, and where ETHREAD_LIMIT and ERESUME come.
-use Rattle.std.proofs.Common.{◌≡◌, ℕ, List, Option, Some, None, Bool, true, false, Result, Ok, Err, refl, sym, ◌∙◌}
+use Rattle.std.proofs.Common.{◌≡◌, ℕ, List, Option, Some, None, Bool, true, false, Result, Ok, Err, refl}
 use Rattle.std.specs.Prelude.{if◌then◌else◌, nat_lt, slice_index}
 use Rattle.std.specs.Option.{option_map_or}
 use Rattle.msg_args.specs.Reading.{head_at}
@@ -16,11 +16,11 @@ use Rattle.smc_abi.specs.declared.call.FastCall.TheVariants.{CallsUid, CallsRevi
 use Rattle.kernel_model.specs.Application.{Booted}
 use Rattle.kernel_model.specs.Argument.{argument_at, reg}
 use Rattle.kernel_model.specs.Codes.{ethread_limit, ebadaddr, ebadcmd, eresume}
-use Rattle.kernel_model.specs.Decision.{Decision, Answers, Takes, Taken, decided_by, taken_by, works_on}
+use Rattle.kernel_model.specs.Decision.{Decision, Answers, Takes, Taken, decided_by, taken_by}
 use Rattle.kernel_model.specs.Entry.{decision_of}
 use Rattle.kernel_model.specs.Kernel.{Kernel, PendingCall, Tables, lowest_free}
 use Rattle.kernel_model.specs.Laws.{FindsNoSlot, FindsNoCall}
-use Rattle.kernel_model.specs.NewCall.{NewCall, command_of, is_head_address, has_argument, new_call_of, new_call_in, new_call_with}
+use Rattle.kernel_model.specs.NewCall.{command_of, is_head_address, has_argument, new_call_of, new_call_in, new_call_with}
 use Rattle.kernel_model.specs.Resume.{call_resumed_by, resume_call, takes_call}
 use Rattle.kernel_model.proofs.Parts.{AllOf, AllOf-mapped}
 

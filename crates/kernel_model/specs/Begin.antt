@@ -3,7 +3,7 @@
 use Rattle.std.specs.Prelude.{ℕ, ◌+◌, nat_le, Bool, if◌then◌else◌, List, [], ◌∷◌, ◌++◌, Option, Some, None}
 use Rattle.std.specs.Option.{option_map_or}
 use Rattle.base.specs.NumberMap.{NumberMap, insert, remove}
-use Rattle.job_model.specs.Beginning.{Beginning, begun_job}
+use Rattle.job_model.specs.Beginning.{begun_job}
 use Rattle.job_model.specs.declared.entry_point.EntryPoint.{EntryPoint}
 use Rattle.job_model.specs.declared.entry_point.EntryPoint.TheVariants.{Create, Open, Close}
 use Rattle.job_model.specs.Job.{Job, idle_job}

@@ -1,5 +1,5 @@
 -- What an entry decides, and the tests of a call that has its slot: the first that fails decides.
-use Rattle.std.specs.Prelude.{ℕ, Option, Some, None, Result, Ok, Err}
+use Rattle.std.specs.Prelude.{ℕ, Option, None, Result, Ok, Err}
 use Rattle.ns_ram.specs.Attempt.{Attempt}
 use Rattle.ns_ram.specs.Reader.{Reader, done, ◌>>=◌}
 use Rattle.smc_abi.specs.declared.answer.Answer.{Answer}
