@@ -3,26 +3,25 @@ use Rattle.std.proofs.Common.{◌≡◌, ℕ, Bool, true, List, [], ◌∷◌, �
 use Rattle.std.specs.Prelude.{IsSome, IsSomeAnd, if◌then◌else◌}
 use Rattle.std.specs.Option.{option_map}
 use Rattle.base.specs.NumberMap.{NumberMap}
-use Rattle.job_model.specs.Asking.{Asked, Asking, Gives, Ask, ask, asks_time, waited, unchanged, bytes_at, object_asking}
-use Rattle.job_model.specs.Job.{Body, Machine, Job, seen, seen_in}
-use Rattle.job_model.specs.Point.{Point}
-use Rattle.job_model.specs.Steps.{Advance, Goes, Stops, Ends, Panics, Asks, on_from, with_bytes, answered_in, given, served}
-use Rattle.job_model.specs.declared.call_kind.CallKind.{CallKind}
-use Rattle.job_model.specs.declared.phase.Phase.{Phase}
-use Rattle.job_model.specs.declared.phase.Phase.TheVariants as phase
+use Rattle.job_model.specs.Asking.{PendingRequest, Asking, Gives, Ask, ask, asks_time, wait_result, ask_unchanged, bytes_at, object_asking}
+use Rattle.job_model.specs.Job.{Body, Machine, Job, with_cancel_seen, body_with_cancel_seen}
+use Rattle.job_model.specs.Steps.{Advance, Goes, Stops, Ends, Panics, Asks, on_from, with_bytes, advance_on_answer_in, advance_on_answer, advance_on_answers}
+use Rattle.rpc_cont.specs.declared.phase.Phase.{Phase}
+use Rattle.rpc_cont.specs.declared.phase.Phase.TheVariants as phase
 use Rattle.rpc_cont.proofs.Asking.{where_there, from_there, holds_there, body_there, gives-turn, answered_with, served-object}
 use Rattle.rpc_cont.proofs.Pending.{waits-pending}
 use Rattle.rpc_cont.proofs.Spans.{store-none, store-same, store-same_but, is_range-store, length-bytes_at, bytes_at-store}
 use Rattle.rpc_cont.specs.Spans.{rest_of}
 use Rattle.rpc_cont.specs.Advancing.{IsRunnable, phase_after}
 use Rattle.rpc_cont.specs.Answering.{HasImage, CanBeAnswered, IsAnswered, phase_behind}
-use Rattle.rpc_cont.specs.Conts.{body_at, body_of, job_with, job_at, job_of, point_of, uuid_of}
+use Rattle.rpc_cont.specs.Conts.{body_at, body_of, job_with, job_at, job_of, uuid_of}
 use Rattle.rpc_cont.specs.Running.{HasAskedFor, HasCome, HasReady, IsReady, IsTurn, IsWaiting, Awaits, worked}
 use Rattle.rpc_cont.specs.declared.app.ContApp.{ContApp}
 use Rattle.rpc_cont.specs.declared.app.ContApp.TheVariants as app
-use Rattle.rpc_cont.specs.declared.cont.Asked.{Asked as Pending}
+use Rattle.rpc_cont.specs.declared.cont.Asked.{Asked}
 use Rattle.rpc_cont.specs.declared.cont.Cont.{Cont}
-use Rattle.rpc_cont.specs.declared.entry_point.EntryPoint.{EntryPoint}
+use Rattle.job_model.specs.declared.entry_point.EntryPoint.{EntryPoint}
+use Rattle.job_model.specs.declared.entry_point.EntryPoint.TheVariants as entry
 use Rattle.rpc_cont.specs.declared.stop.ContStop.{ContStop}
 use Rattle.rpc_msgs.specs.Answer.{RpcAnswer}
 use Rattle.ta_isa.specs.declared.image.Image.{Image}
@@ -31,7 +30,6 @@ use Rattle.ta_step.specs.Requests.{span_of, object_span}
 use Rattle.ta_step.specs.State.{State, is_cancelled}
 use Rattle.ta_step.specs.Addresses.{store}
 use Rattle.ta_step.specs.SystemCalls.{answered, is_range}
-use Rattle.ta_params.specs.declared.codes.TheConstants.{TEE_ERROR_CANCEL}
 use Rattle.ta_params.specs.declared.object_call.ObjectCall.{ObjectCall}
 use Rattle.ta_step.specs.declared.machine.Machine.{Machine as AnyMachine}
 use Rattle.ta_step.specs.declared.stop.Request.{Request}
@@ -46,18 +44,19 @@ use Rattle.tee_storage.specs.declared.step.StorageStep.TheVariants as storage
 -- ---- the image of a call
 
 -- the call's application is this image
-pub record RunsImage {M X : Type 0} {g : _} (bytes : M → List ℕ) (kind : CallKind) (seen : Bool) (application : Option (ContApp X g)) (image : Image) : Type 0 where
+pub record RunsImage {M X : Type 0} {g : _} (bytes : M → List ℕ) (seen : Bool) (application : Option (ContApp X g)) (image : Image) : Type 0 where
   pub valid : HasImage application
-  pub body : (point : Option EntryPoint) (machine : Option (AnyMachine M)) → body_of bytes kind application point machine ≡ body_at bytes kind image point machine
+  pub body : (point : Option EntryPoint) (machine : Option (AnyMachine M)) → body_of bytes application point machine ≡ body_at bytes image point machine
   pub runs : (here : EntryPoint) (m : AnyMachine M) → IsReady seen (state_of bytes m) → IsRunnable bytes seen application (Some here) (Some m)
 
-runs_image : {M X : Type 0} {g : _} (bytes : M → List ℕ) (kind : CallKind) (seen : Bool) (application : Option (ContApp X g)) → HasImage application
-    → (image : Image) × RunsImage bytes kind seen application image
-runs_image bytes kind seen None valid = absurd valid
-runs_image bytes kind seen (Some (app.Image uuid image)) valid = (image.value, record { valid = valid; body = λ point machine. refl; runs = λ here m ready. (valid, ready) })
-runs_image bytes kind seen (Some (app.Native native)) valid = absurd valid
+runs_image : {M X : Type 0} {g : _} (bytes : M → List ℕ) (seen : Bool) (application : Option (ContApp X g)) → HasImage application
+    → (image : Image) × RunsImage bytes seen application image
+runs_image bytes seen None valid = absurd valid
+runs_image bytes seen (Some (app.Image uuid image)) valid = (image.value, record { valid = valid; body = λ point machine. refl; runs = λ here m ready. (valid, ready) })
+runs_image bytes seen (Some (app.Native native)) valid = absurd valid
+runs_image bytes seen (Some (app.Dead uuid)) valid = absurd valid
 
-job_image : {M X : Type 0} {g : _} (bytes : M → List ℕ) (cont : Cont M X g) (image : Image) → RunsImage bytes cont.kind cont.cancelled cont.app image
+job_image : {M X : Type 0} {g : _} (bytes : M → List ℕ) (cont : Cont M X g) (image : Image) → RunsImage bytes cont.cancelled cont.app image
     → job_of bytes cont ≡ job_at bytes (uuid_of cont.app) image cont
 job_image bytes cont image runs = ap (λ (b : Body). job_with b (uuid_of cont.app) cont) (runs.body cont.point cont.machine)
 
@@ -74,12 +73,12 @@ GoesOrAsks (Stops (Asks wanted payload left)) = Unit {0}
 abbrev pub in_phase : {M X : Type 0} {g : _} → Cont M X g → Phase → Cont M X g
 in_phase cont phase = record cont { phase = phase }
 
-runnable : {M X : Type 0} {g : _} (bytes : M → List ℕ) (kind : CallKind) (seen : Bool) (application : Option (ContApp X g)) (image : Image)
-    (point : Option EntryPoint) (machine : Option (AnyMachine M)) → RunsImage bytes kind seen application image → HasReady bytes seen point machine
+runnable : {M X : Type 0} {g : _} (bytes : M → List ℕ) (seen : Bool) (application : Option (ContApp X g)) (image : Image)
+    (point : Option EntryPoint) (machine : Option (AnyMachine M)) → RunsImage bytes seen application image → HasReady bytes seen point machine
     → IsRunnable bytes seen application point machine
-runnable bytes kind seen application image None machine runs ready = absurd ready
-runnable bytes kind seen application image (Some here) None runs ready = absurd ready
-runnable bytes kind seen application image (Some here) (Some m) runs ready = runs.runs here m ready
+runnable bytes seen application image None machine runs ready = absurd ready
+runnable bytes seen application image (Some here) None runs ready = absurd ready
+runnable bytes seen application image (Some here) (Some m) runs ready = runs.runs here m ready
 
 -- a call waits in any phase
 waits-in : {M X : Type 0} {g : _} (bytes : M → List ℕ) (uuid : List ℕ) (cont : Cont M X g) (next : Phase) (plain other job : Job) → plain ≡ other
@@ -94,7 +93,7 @@ waits-in {M} bytes uuid cont next plain other job same waits = record {
 }
 
 pub turn-answered : {M X : Type 0} {g : _} (bytes : M → List ℕ) (cont : Cont M X g) (image : Image) (answer : Option ContStop) (next : Phase) (turn : Advance)
-    → RunsImage bytes cont.kind cont.cancelled cont.app image → next ≡ phase_behind answer → GoesOrAsks turn
+    → RunsImage bytes cont.cancelled cont.app image → next ≡ phase_behind answer → GoesOrAsks turn
     → IsTurn bytes (uuid_of cont.app) image cont turn answer → IsAnswered bytes (in_phase cont next) turn
 turn-answered bytes cont image answer next (Goes job) runs is calm (none, same, running) = (
   same ∙ sym (job_image bytes cont image runs),
@@ -104,7 +103,7 @@ turn-answered bytes cont image answer next (Goes job) runs is calm (none, same, 
       memory = running.memory;
       request = running.request;
       object = running.object;
-      runs = runnable bytes cont.kind cont.cancelled cont.app image cont.point cont.machine runs running.machine;
+      runs = runnable bytes cont.cancelled cont.app image cont.point cont.machine runs running.machine;
     };
   },
 )
@@ -119,11 +118,11 @@ turn-answered bytes cont image (Some answer) next (Stops (Asks wanted payload le
 
 -- the same of a call that ran
 pub ran-answered : {M X : Type 0} {g : _} (bytes : M → List ℕ) (old new : Cont M X g) (image : Image) (answer : Option ContStop) (next : Phase) (turn : Advance)
-    → new ≡ worked old new → RunsImage bytes old.kind old.cancelled old.app image → next ≡ phase_behind answer → GoesOrAsks turn
+    → new ≡ worked old new → RunsImage bytes old.cancelled old.app image → next ≡ phase_behind answer → GoesOrAsks turn
     → IsTurn bytes (uuid_of old.app) image new turn answer → IsAnswered bytes (in_phase new next) turn
 ran-answered {M} {X} {g} bytes old new image answer next turn stays runs is calm comes =
     turn-answered bytes new image answer next turn
-    (subst (λ (k : Cont M X g). RunsImage bytes k.kind k.cancelled k.app image) (sym stays) runs) is calm
+    (subst (λ (k : Cont M X g). RunsImage bytes k.cancelled k.app image) (sym stays) runs) is calm
     (subst (λ (k : Cont M X g). IsTurn bytes (uuid_of k.app) image new turn answer) (sym stays) comes)
 
 -- ---- what a call waits for
@@ -132,8 +131,8 @@ ran-answered {M} {X} {g} bytes old new image answer next turn stays runs is calm
 pub record Waiting {M X : Type 0} {g : _} (bytes : M → List ℕ) (cont : Cont M X g) (job : Job) (m : AnyMachine M) (wanted : Request) : Type 0 where
   pub image : Image
   pub here : EntryPoint
-  pub asked : Asked
-  pub runs : RunsImage bytes cont.kind cont.cancelled cont.app image
+  pub asked : PendingRequest
+  pub runs : RunsImage bytes cont.cancelled cont.app image
   pub at : cont.point ≡ Some here
   pub there : cont.machine ≡ Some m
   pub names : asked.request ≡ wanted
@@ -141,16 +140,16 @@ pub record Waiting {M X : Type 0} {g : _} (bytes : M → List ℕ) (cont : Cont 
   pub come :
       (let span = span_of wanted in HasCome (uuid_of cont.app) (bytes_at (state_of bytes m) span.0 span.1) asked cont wanted cont.request cont.object)
   pub given : (answer : RpcAnswer)
-      → given answer job
-      ≡ served (record (job_at bytes (uuid_of cont.app) image cont) { asked = Some asked }) image (point_of cont.kind here) (state_of bytes m)
+      → advance_on_answer answer job
+      ≡ advance_on_answers (record (job_at bytes (uuid_of cont.app) image cont) { asked = Some asked }) image here (state_of bytes m)
       (record asked { answers = asked.answers ++ answer ∷ [] })
 
-given-served : (job plain : Job) (asked : Asked) (image : Image) (point : Point) (machine : State) (answer : RpcAnswer)
+given-served : (job plain : Job) (asked : PendingRequest) (image : Image) (point : EntryPoint) (machine : State) (answer : RpcAnswer)
     → job ≡ record plain { asked = job.asked } → job.asked ≡ Some asked → plain.body ≡ Machine image point machine
-    → given answer job ≡ served (record plain { asked = Some asked }) image point machine (record asked { answers = asked.answers ++ answer ∷ [] })
+    → advance_on_answer answer job ≡ advance_on_answers (record plain { asked = Some asked }) image point machine (record asked { answers = asked.answers ++ answer ∷ [] })
 given-served job plain asked image point machine answer same is body =
-    ap (given answer) (same ∙ ap (λ (o : Option Asked). record plain { asked = o }) is)
-    ∙ ap (λ (b : Body). answered_in (record plain { asked = Some asked }) answer b (Some asked)) body
+    ap (advance_on_answer answer) (same ∙ ap (λ (o : Option PendingRequest). record plain { asked = o }) is)
+    ∙ ap (λ (b : Body). advance_on_answer_in (record plain { asked = Some asked }) answer b (Some asked)) body
 
 some_is : {A : Type 0} (o : Option A) → IsSome o → (a : A) × (o ≡ Some a)
 some_is None some = absurd cc
@@ -165,14 +164,14 @@ pub waiting : {M X : Type 0} {g : _} (bytes : M → List ℕ) (cont : Cont M X g
 waiting {M} bytes cont job m wanted can waits there wants =
     let uuid = uuid_of cont.app in
     let s = state_of bytes m in
-    let image = runs_image bytes cont.kind cont.cancelled cont.app can.image in
+    let image = runs_image bytes cont.cancelled cont.app can.image in
     let point = some_is cont.point can.pending.point in
     from_there job.asked _ waits.asked
     (λ asked is awaits_there.
     let awaits = holds_there cont.machine _ m there awaits_there in
     let names = one_wanted m.asked asked.request wanted awaits.asks.asks wants in
     let job_is = waits.same ∙ ap (λ (j : Job). record j { asked = job.asked }) (job_image bytes cont image.0 image.1) in
-    let body = body_there bytes cont.kind image.0 cont.point cont.machine point.0 m point.1 there in
+    let body = body_there bytes image.0 cont.point cont.machine point.0 m point.1 there in
     record {
       image = image.0;
       here = point.0;
@@ -183,7 +182,7 @@ waiting {M} bytes cont job m wanted can waits there wants =
       names = names;
       asks = subst (λ (r : Request). HasAskedFor cont.cancelled r s) names awaits.asks;
       come = subst (λ (r : Request). let span = span_of r in HasCome uuid (bytes_at s span.0 span.1) asked cont r cont.request cont.object) names awaits.come;
-      given = λ answer. given-served job (job_at bytes uuid image.0 cont) asked image.0 (point_of cont.kind point.0) s answer job_is is body;
+      given = λ answer. given-served job (job_at bytes uuid image.0 cont) asked image.0 point.0 s answer job_is is body;
     })
 
 -- ---- registers for the application
@@ -199,7 +198,7 @@ answered_plain old new none stays =
     stays ∙ ap (λ (o : Option ObjectState). record old { machine = new.machine; object = o; request = None; phase = phase.Runs }) none
 
 -- a request with one answer more
-abbrev pub one_more : Asked → RpcAnswer → Asked
+abbrev pub one_more : PendingRequest → RpcAnswer → PendingRequest
 one_more asked answer = record asked { answers = asked.answers ++ answer ∷ [] }
 
 -- the application gets these registers for an answer
@@ -207,22 +206,22 @@ abbrev pub GivesFor : {M X : Type 0} {g : _} (bytes : M → List ℕ) (cont : Co
     → Waiting bytes cont job m wanted → RpcAnswer → ℕ → ℕ → ℕ → Type 0
 GivesFor bytes cont job m wanted w answer r0 r1 r2 =
     let left = record (job_at bytes (uuid_of cont.app) w.image cont) { asked = Some w.asked } in
-    let point = point_of cont.kind w.here in
+    let point = w.here in
     let s = state_of bytes m in
     let more = one_more w.asked answer in
-    served left w.image point s more ≡ Some (on_from left w.image point s more cont.objects (Gives r0 r1 r2))
+    advance_on_answers left w.image point s more ≡ Some (on_from left w.image point s more cont.objects (Gives r0 r1 r2))
 
 pub gives-answered : {M X : Type 0} {g : _} (bytes : M → List ℕ) (old new : Cont M X g) (job : Job) (m : AnyMachine M) (wanted : Request)
     (w : Waiting bytes old job m wanted) (answer : RpcAnswer) (r0 r1 r2 : ℕ)
     → old.memory ≡ None → new ≡ answered_by old new.machine
     → IsSomeAnd new.machine (λ n. state_of bytes n ≡ answered wanted r0 r1 r2 (state_of bytes m))
     → GivesFor bytes old job m wanted w answer r0 r1 r2
-    → IsSomeAnd (given answer job) (λ next. IsAnswered bytes new next)
+    → IsSomeAnd (advance_on_answer answer job) (λ next. IsAnswered bytes new next)
 gives-answered {M} {X} {g} bytes old new job m wanted w answer r0 r1 r2 memory stays gives serves =
     let s = state_of bytes m in
     let plain : Cont M X g = record old { object = None } in
     let left = job_at bytes (uuid_of old.app) w.image old in
-    let next = on_from left w.image (point_of old.kind w.here) s (one_more w.asked answer) old.objects (Gives r0 r1 r2) in
+    let next = on_from left w.image w.here s (one_more w.asked answer) old.objects (Gives r0 r1 r2) in
     let turn =
     gives-turn bytes (uuid_of old.app) w.image plain w.here m (one_more w.asked answer) r0 r1 r2 new.machine memory refl w.at
     (subst (λ (r : Request). HasAskedFor old.cancelled r s) (sym w.names) w.asks)
@@ -235,31 +234,31 @@ gives-answered {M} {X} {g} bytes old new job m wanted w answer r0 r1 r2 memory s
 -- ---- time and wait
 
 -- a request that names no bytes, as it was made
-abbrev made_plain : Request → NumberMap Handle → Asked
+abbrev made_plain : Request → NumberMap Handle → PendingRequest
 made_plain wanted objects = record { request = wanted; range = []; objects = objects; answers = [] }
 
-plain-served : (job : Job) (image : Image) (point : Point) (machine : State) (more : Asked) (objects : NumberMap Handle) (next : Asking)
+plain-served : (job : Job) (image : Image) (point : EntryPoint) (machine : State) (more : PendingRequest) (objects : NumberMap Handle) (next : Asking)
     → ask job.uuid (is_cancelled machine) more ≡ Some (record { next = next; range = []; objects = objects })
-    → served job image point machine more ≡ Some (on_from job image point machine more objects next)
+    → advance_on_answers job image point machine more ≡ Some (on_from job image point machine more objects next)
 plain-served job image point machine more objects next comes =
     ap (option_map (λ (came : Ask). on_from job image point (with_bytes machine more.request came.range) more came.objects came.next)) comes
     ∙ ap (λ (s : State). Some (on_from job image point s more objects next)) (store-none machine (span_of more.request).0)
 
-plain-answered : (job : Job) (image : Image) (point : Point) (machine : State) (asked : Asked) (wanted : Request) (objects : NumberMap Handle) (answer : RpcAnswer) (next : Asking)
+plain-answered : (job : Job) (image : Image) (point : EntryPoint) (machine : State) (asked : PendingRequest) (wanted : Request) (objects : NumberMap Handle) (answer : RpcAnswer) (next : Asking)
     → asked ≡ made_plain wanted objects
     → ask job.uuid (is_cancelled machine) (one_more (made_plain wanted objects) answer) ≡ Some (record { next = next; range = []; objects = objects })
-    → served job image point machine (one_more asked answer) ≡ Some (on_from job image point machine (one_more asked answer) objects next)
+    → advance_on_answers job image point machine (one_more asked answer) ≡ Some (on_from job image point machine (one_more asked answer) objects next)
 plain-answered job image point machine asked wanted objects answer next is comes =
-    subst (λ (a : Asked). served job image point machine (one_more a answer) ≡ Some (on_from job image point machine (one_more a answer) objects next)) (sym is)
+    subst (λ (a : PendingRequest). advance_on_answers job image point machine (one_more a answer) ≡ Some (on_from job image point machine (one_more a answer) objects next)) (sym is)
     (plain-served job image point machine (one_more (made_plain wanted objects) answer) objects next comes)
 
-come-time : {M X : Type 0} {g : _} (uuid range : List ℕ) (asked : Asked) (cont : Cont M X g) (pending : Option Pending) (object : Option ObjectState)
+come-time : {M X : Type 0} {g : _} (uuid range : List ℕ) (asked : PendingRequest) (cont : Cont M X g) (pending : Option Asked) (object : Option ObjectState)
     → HasCome uuid range asked cont request.Time pending object → asked ≡ made_plain request.Time cont.objects
 come-time uuid range asked cont None object come = absurd come
 come-time uuid range asked cont (Some pending) None come = come.0
 come-time uuid range asked cont (Some pending) (Some state) come = absurd come
 
-come-wait : {M X : Type 0} {g : _} (uuid range : List ℕ) (asked : Asked) (cont : Cont M X g) (ms : ℕ) (pending : Option Pending) (object : Option ObjectState)
+come-wait : {M X : Type 0} {g : _} (uuid range : List ℕ) (asked : PendingRequest) (cont : Cont M X g) (ms : ℕ) (pending : Option Asked) (object : Option ObjectState)
     → HasCome uuid range asked cont (request.Suspend ms) pending object → asked ≡ made_plain (request.Suspend ms) cont.objects
 come-wait uuid range asked cont ms None object come = absurd come
 come-wait uuid range asked cont ms (Some pending) None come = come.0
@@ -273,25 +272,25 @@ time-gives {M} bytes cont job m w answer r0 r1 r2 comes =
     let s = state_of bytes m in
     let left = record (job_at bytes uuid w.image cont) { asked = Some w.asked } in
     let more = one_more (made_plain request.Time cont.objects) answer in
-    plain-answered left w.image (point_of cont.kind w.here) s w.asked request.Time cont.objects answer (Gives r0 r1 r2)
-    (come-time uuid (bytes_at s 0 0) w.asked cont cont.request cont.object w.come) (ap (option_map (unchanged more)) comes)
+    plain-answered left w.image w.here s w.asked request.Time cont.objects answer (Gives r0 r1 r2)
+    (come-time uuid (bytes_at s 0 0) w.asked cont cont.request cont.object w.come) (ap (option_map (ask_unchanged more)) comes)
 
 pub wait-gives : {M X : Type 0} {g : _} (bytes : M → List ℕ) (cont : Cont M X g) (job : Job) (m : AnyMachine M) (ms : ℕ)
     (w : Waiting bytes cont job m (request.Suspend ms)) (answer : RpcAnswer) (r0 : ℕ)
-    → r0 ≡ (if is_cancelled (state_of bytes m) then TEE_ERROR_CANCEL else waited answer) → GivesFor bytes cont job m (request.Suspend ms) w answer r0 0 0
+    → r0 ≡ (if is_cancelled (state_of bytes m) then 0xffff0002 else wait_result answer) → GivesFor bytes cont job m (request.Suspend ms) w answer r0 0 0
 wait-gives {M} bytes cont job m ms w answer r0 is =
     let uuid = uuid_of cont.app in
     let s = state_of bytes m in
     let left = record (job_at bytes uuid w.image cont) { asked = Some w.asked } in
     let more = one_more (made_plain (request.Suspend ms) cont.objects) answer in
-    plain-answered left w.image (point_of cont.kind w.here) s w.asked (request.Suspend ms) cont.objects answer (Gives r0 0 0)
-    (come-wait uuid (bytes_at s 0 0) w.asked cont ms cont.request cont.object w.come) (ap (λ (r : ℕ). Some (unchanged more (Gives r 0 0))) (sym is))
+    plain-answered left w.image w.here s w.asked (request.Suspend ms) cont.objects answer (Gives r0 0 0)
+    (come-wait uuid (bytes_at s 0 0) w.asked cont ms cont.request cont.object w.come) (ap (λ (r : ℕ). Some (ask_unchanged more (Gives r 0 0))) (sym is))
 
 -- ---- calls on objects
 
-pub come-object : {M X : Type 0} {g : _} (uuid range : List ℕ) (asked : Asked) (cont : Cont M X g) (call : ObjectCall) (pending : Option Pending) (object : Option ObjectState)
+pub come-object : {M X : Type 0} {g : _} (uuid range : List ℕ) (asked : PendingRequest) (cont : Cont M X g) (call : ObjectCall) (pending : Option Asked) (object : Option ObjectState)
     (state : ObjectState) → object ≡ Some state → HasCome uuid range asked cont (request.Object call) pending object
-    → (p : Pending) × StandsFor state call uuid asked.range asked.objects asked.answers (record { step = storage.Ask p.rpc p.payload; range = range; objects = cont.objects })
+    → (p : Asked) × StandsFor state call uuid asked.range asked.objects asked.answers (record { step = storage.Ask p.rpc p.payload; range = range; objects = cont.objects })
 come-object uuid range asked cont call None object state is come = absurd come
 come-object uuid range asked cont call (Some pending) None state is come = absurd come
 come-object uuid range asked cont call (Some pending) (Some other) state is come =
@@ -310,13 +309,13 @@ object-fails {M} bytes cont job m call w answer code serves =
     let s = state_of bytes m in
     let span = object_span call in
     let left = record (job_at bytes uuid w.image cont) { asked = Some w.asked } in
-    let point = point_of cont.kind w.here in
+    let point = w.here in
     let more = one_more w.asked answer in
     let now : Serving = record { step = storage.Done code 0; range = bytes_at s span.0 span.1; objects = cont.objects } in
     served-object left w.image point s call more now w.names serves
     ∙ ap (λ (t : State). Some (on_from left w.image point t more cont.objects (Gives code 0 0))) (store-same s span.0 span.1 w.asks.in_range)
 
-pub goes_or_asks : (job : Job) (image : Image) (point : Point) (machine : State) (asked : Asked) (objects : NumberMap Handle) (step : StorageStep)
+pub goes_or_asks : (job : Job) (image : Image) (point : EntryPoint) (machine : State) (asked : PendingRequest) (objects : NumberMap Handle) (step : StorageStep)
     → panic_code step ≡ None → GoesOrAsks (on_from job image point machine asked objects (object_asking step))
 goes_or_asks job image point machine asked objects (storage.Ask rpc payload) calm = tt
 goes_or_asks job image point machine asked objects (storage.Done result value) calm = tt
@@ -343,31 +342,36 @@ stored-there old new span a l addr count inside is alike stored =
 
 -- ---- a cancellation that is seen
 
-seen_body : {M X : Type 0} {g : _} (bytes : M → List ℕ) (kind : CallKind) (application : Option (ContApp X g)) (point : Option EntryPoint) (m n : AnyMachine M)
+seen_body : {M X : Type 0} {g : _} (bytes : M → List ℕ) (application : Option (ContApp X g)) (point : Option EntryPoint) (m n : AnyMachine M)
     → state_of bytes n ≡ record (state_of bytes m) { cancelled = true }
-    → seen_in (body_of bytes kind application point (Some m)) ≡ body_of bytes kind application point (Some n)
-seen_body bytes kind None point m n told = refl
-seen_body bytes kind (Some (app.Image uuid image)) None m n told = refl
-seen_body bytes kind (Some (app.Image uuid image)) (Some here) m n told = ap (Machine image.value (point_of kind here)) (sym told)
-seen_body bytes kind (Some (app.Native native)) None m n told = refl
-seen_body bytes kind (Some (app.Native native)) (Some here) m n told = refl
+    → body_with_cancel_seen (body_of bytes application point (Some m)) ≡ body_of bytes application point (Some n)
+seen_body bytes None point m n told = refl
+seen_body bytes (Some (app.Dead uuid)) point m n told = refl
+seen_body bytes (Some (app.Image uuid image)) None m n told = refl
+seen_body bytes (Some (app.Image uuid image)) (Some here) m n told = ap (Machine image.value here) (sym told)
+seen_body bytes (Some (app.Native native)) None m n told = refl
+seen_body bytes (Some (app.Native native)) (Some entry.Create) m n told = refl
+seen_body bytes (Some (app.Native native)) (Some entry.Open) m n told = refl
+seen_body bytes (Some (app.Native native)) (Some (entry.Invoke func)) m n told = refl
+seen_body bytes (Some (app.Native native)) (Some entry.Close) m n told = refl
+seen_body bytes (Some (app.Native native)) (Some entry.Destroy) m n told = refl
 
 pub seen-waiting : {M X : Type 0} {g : _} (bytes : M → List ℕ) (uuid : List ℕ) (old mid : Cont M X g) (m n : AnyMachine M) (job : Job)
     → old.machine ≡ Some m → state_of bytes n ≡ record (state_of bytes m) { cancelled = true } → mid ≡ record old { machine = Some n }
     → IsWaiting bytes uuid old (job_of bytes old) job
-    → (let new = record mid { cancelled = true } in IsWaiting bytes uuid new (job_of bytes new) (seen job))
+    → (let new = record mid { cancelled = true } in IsWaiting bytes uuid new (job_of bytes new) (with_cancel_seen job))
 seen-waiting {M} {X} {g} bytes uuid old mid m n job there told is waits =
     let s : State = record (state_of bytes m) { cancelled = true } in
     let now : Cont M X g = record old { machine = Some n } in
     let new : Cont M X g = record now { cancelled = true } in
     let body =
-    ap (λ (o : Option (AnyMachine M)). seen_in (body_of bytes old.kind old.app old.point o)) there ∙ seen_body bytes old.kind old.app old.point m n told
+    ap (λ (o : Option (AnyMachine M)). body_with_cancel_seen (body_of bytes old.app old.point o)) there ∙ seen_body bytes old.app old.point m n told
     in
-    subst (λ (c : Cont M X g). let seen_now = record c { cancelled = true } in IsWaiting bytes uuid seen_now (job_of bytes seen_now) (seen job)) (sym is)
+    subst (λ (c : Cont M X g). let seen_now = record c { cancelled = true } in IsWaiting bytes uuid seen_now (job_of bytes seen_now) (with_cancel_seen job)) (sym is)
     (record {
       memory = waits.memory;
       point = waits.point;
-      same = ap seen waits.same ∙ ap (λ (b : Body). record (job_of bytes old) { body = b; asked = job.asked }) body;
+      same = ap with_cancel_seen waits.same ∙ ap (λ (b : Body). record (job_of bytes old) { body = b; asked = job.asked }) body;
       asked =
           where_there job.asked _ _ waits.asked
           (λ asked is awaits_there.

@@ -3,15 +3,13 @@ use Rattle.std.proofs.Common.{◌≡◌, ℕ, true, List, Option, Some, None, re
 use Rattle.std.specs.Prelude.{IsSome, IsSomeAnd}
 use Rattle.std.specs.Option.{option_map}
 use Rattle.base.specs.NumberMap.{NumberMap}
-use Rattle.job_model.specs.Asking.{Asked, Asking, Needs, Gives, Bad, Ask, bytes_at, comes_to, object_ask, object_asking}
-use Rattle.job_model.specs.Point.{Point}
+use Rattle.job_model.specs.Asking.{PendingRequest, Asking, Needs, Gives, Bad, Ask, bytes_at, comes_to, object_ask, object_asking}
 use Rattle.job_model.specs.Job.{Body, Machine, Job}
-use Rattle.job_model.specs.Steps.{Advance, on_from, with_bytes, served}
-use Rattle.job_model.specs.declared.call_kind.CallKind.{CallKind}
-use Rattle.rpc_cont.specs.Conts.{body_at, job_at, point_of}
+use Rattle.job_model.specs.Steps.{Advance, on_from, with_bytes, advance_on_answers}
+use Rattle.rpc_cont.specs.Conts.{body_at, job_at}
 use Rattle.rpc_cont.specs.Running.{HasAskedFor, HasCome, IsReady, IsTurn, Awaits}
 use Rattle.rpc_cont.specs.declared.cont.Cont.{Cont}
-use Rattle.rpc_cont.specs.declared.entry_point.EntryPoint.{EntryPoint}
+use Rattle.job_model.specs.declared.entry_point.EntryPoint.{EntryPoint}
 use Rattle.rpc_cont.specs.declared.stop.ContStop.TheVariants as stop
 use Rattle.rpc_msgs.specs.Answer.{RpcAnswer}
 use Rattle.rpc_msgs.specs.declared.rpc.Rpc.{Rpc}
@@ -53,12 +51,12 @@ pub holds_there : {A : Type 0} (o : Option A) (P : A → Type 0) (a : A) → o �
 holds_there {A} o P a is holds = subst (λ (x : Option A). IsSomeAnd x P) is holds
 
 -- what runs of an image whose machine is there
-pub body_there : {M : Type 0} (bytes : M → List ℕ) (kind : CallKind) (image : Image) (point : Option EntryPoint) (machine : Option (AnyMachine M))
+pub body_there : {M : Type 0} (bytes : M → List ℕ) (image : Image) (point : Option EntryPoint) (machine : Option (AnyMachine M))
     (here : EntryPoint) (m : AnyMachine M) → point ≡ Some here → machine ≡ Some m
-    → body_at bytes kind image point machine ≡ Machine image (point_of kind here) (state_of bytes m)
-body_there {M} bytes kind image point machine here m at is =
-    ap (λ (o : Option EntryPoint). body_at bytes kind image o machine) at
-    ∙ ap (λ (o : Option (AnyMachine M)). body_at bytes kind image (Some here) o) is
+    → body_at bytes image point machine ≡ Machine image here (state_of bytes m)
+body_there {M} bytes image point machine here m at is =
+    ap (λ (o : Option EntryPoint). body_at bytes image o machine) at
+    ∙ ap (λ (o : Option (AnyMachine M)). body_at bytes image (Some here) o) is
 
 -- ---- it waits for the normal world
 
@@ -67,16 +65,16 @@ abbrev pub asking_for : {M X : Type 0} {g : _} → Cont M X g → Option ObjectS
 asking_for cont object wanted payload = record cont { object = object; request = Some (record { rpc = wanted; payload = payload }) }
 
 pub asks-turn : {M X : Type 0} {g : _} (bytes : M → List ℕ) (uuid : List ℕ) (image : Image) (old : Cont M X g) (here : EntryPoint) (m : AnyMachine M)
-    (asked : Asked) (object : Option ObjectState) (wanted : Rpc) (payload : List ℕ)
+    (asked : PendingRequest) (object : Option ObjectState) (wanted : Rpc) (payload : List ℕ)
     → old.memory ≡ None → old.point ≡ Some here → old.machine ≡ Some m → HasAskedFor old.cancelled asked.request (state_of bytes m)
     → (let span = span_of asked.request in
     let new = asking_for old object wanted payload in
     HasCome uuid (bytes_at (state_of bytes m) span.0 span.1) asked new asked.request new.request object)
     → IsTurn bytes uuid image (asking_for old object wanted payload)
-    (on_from (job_at bytes uuid image old) image (point_of old.kind here) (state_of bytes m) asked old.objects (Needs wanted payload)) (Some stop.Asks)
+    (on_from (job_at bytes uuid image old) image here (state_of bytes m) asked old.objects (Needs wanted payload)) (Some stop.Asks)
 asks-turn {M} bytes uuid image old here m asked object wanted payload memory at is asks come =
     let new = asking_for old object wanted payload in
-    let body = body_there bytes old.kind image old.point old.machine here m at is in (
+    let body = body_there bytes image old.point old.machine here m at is in (
       refl,
       (
         record {
@@ -90,19 +88,19 @@ asks-turn {M} bytes uuid image old here m asked object wanted payload memory at 
     )
 
 -- the job of an object call at a step, whose machine is there
-abbrev pub object_turn : {M X : Type 0} {g : _} → (M → List ℕ) → List ℕ → Image → Cont M X g → EntryPoint → AnyMachine M → Asked → StorageStep → Advance
+abbrev pub object_turn : {M X : Type 0} {g : _} → (M → List ℕ) → List ℕ → Image → Cont M X g → EntryPoint → AnyMachine M → PendingRequest → StorageStep → Advance
 object_turn bytes uuid image cont here m asked step =
-    on_from (job_at bytes uuid image cont) image (point_of cont.kind here) (state_of bytes m) asked cont.objects (object_asking step)
+    on_from (job_at bytes uuid image cont) image here (state_of bytes m) asked cont.objects (object_asking step)
 
 -- so has an object call come, over the bytes of this machine
-abbrev pub Came : {M X : Type 0} {g : _} → (M → List ℕ) → List ℕ → Cont M X g → AnyMachine M → ObjectCall → Asked → ObjectState → StorageStep → Type 0
+abbrev pub Came : {M X : Type 0} {g : _} → (M → List ℕ) → List ℕ → Cont M X g → AnyMachine M → ObjectCall → PendingRequest → ObjectState → StorageStep → Type 0
 Came bytes uuid cont m call asked state step =
     let span = object_span call in
     StandsFor state call uuid asked.range asked.objects asked.answers
     (record { step = step; range = bytes_at (state_of bytes m) span.0 span.1; objects = cont.objects })
 
 pub object-asks : {M X : Type 0} {g : _} (bytes : M → List ℕ) (uuid : List ℕ) (image : Image) (old new : Cont M X g) (answer : ContStop)
-    (here : EntryPoint) (m : AnyMachine M) (call : ObjectCall) (asked : Asked) (state : ObjectState) (step : StorageStep) (wanted : Rpc) (payload : List ℕ)
+    (here : EntryPoint) (m : AnyMachine M) (call : ObjectCall) (asked : PendingRequest) (state : ObjectState) (step : StorageStep) (wanted : Rpc) (payload : List ℕ)
     → asked.request ≡ request.Object call → step ≡ storage.Ask wanted payload
     → new ≡ asking_for old (Some state) wanted payload → answer ≡ stop.Asks
     → old.memory ≡ None → old.point ≡ Some here → old.machine ≡ Some m → HasAskedFor old.cancelled (request.Object call) (state_of bytes m)
@@ -128,14 +126,14 @@ abbrev pub answered_with : {M X : Type 0} {g : _} → Cont M X g → Option (Any
 answered_with cont machine = record cont { machine = machine; request = None }
 
 pub gives-turn : {M X : Type 0} {g : _} (bytes : M → List ℕ) (uuid : List ℕ) (image : Image) (old : Cont M X g) (here : EntryPoint) (m : AnyMachine M)
-    (asked : Asked) (r0 r1 r2 : ℕ) (machine : Option (AnyMachine M))
+    (asked : PendingRequest) (r0 r1 r2 : ℕ) (machine : Option (AnyMachine M))
     → old.memory ≡ None → old.object ≡ None → old.point ≡ Some here → HasAskedFor old.cancelled asked.request (state_of bytes m)
     → IsSomeAnd machine (λ n. state_of bytes n ≡ answered asked.request r0 r1 r2 (state_of bytes m))
     → IsTurn bytes uuid image (answered_with old machine)
-    (on_from (job_at bytes uuid image old) image (point_of old.kind here) (state_of bytes m) asked old.objects (Gives r0 r1 r2)) None
+    (on_from (job_at bytes uuid image old) image here (state_of bytes m) asked old.objects (Gives r0 r1 r2)) None
 gives-turn bytes uuid image old here m asked r0 r1 r2 None memory object at asks gives = absurd gives
 gives-turn {M} bytes uuid image old here m asked r0 r1 r2 (Some n) memory object at asks gives =
-    let body = ap (Machine image (point_of old.kind here)) (sym gives) ∙ sym (body_there bytes old.kind image old.point (Some n) here n at refl) in
+    let body = ap (Machine image here) (sym gives) ∙ sym (body_there bytes image old.point (Some n) here n at refl) in
     let flag = ap (λ (s : State). s.cancelled) gives ∙ asks.flag in (
       refl,
       ap (λ (b : Body). record (job_at bytes uuid image old) { body = b }) body,
@@ -150,7 +148,7 @@ gives-turn {M} bytes uuid image old here m asked r0 r1 r2 (Some n) memory object
     )
 
 pub object-gives : {M X : Type 0} {g : _} (bytes : M → List ℕ) (uuid : List ℕ) (image : Image) (old new : Cont M X g)
-    (here : EntryPoint) (m : AnyMachine M) (call : ObjectCall) (asked : Asked) (step : StorageStep) (result value : ℕ)
+    (here : EntryPoint) (m : AnyMachine M) (call : ObjectCall) (asked : PendingRequest) (step : StorageStep) (result value : ℕ)
     → asked.request ≡ request.Object call → step ≡ storage.Done result value
     → new ≡ answered_with old new.machine
     → old.memory ≡ None → old.object ≡ None → old.point ≡ Some here → HasAskedFor old.cancelled (request.Object call) (state_of bytes m)
@@ -168,16 +166,16 @@ object-gives {M} {X} {g} bytes uuid image old new here m call asked step result 
 
 -- ---- an object call that is served
 
-pub on_alike : (job : Job) (body : Body) (held : NumberMap Handle) (before : Option Asked) (image : Image) (point : Point) (machine : State) (asked : Asked)
+pub on_alike : (job : Job) (body : Body) (held : NumberMap Handle) (before : Option PendingRequest) (image : Image) (point : EntryPoint) (machine : State) (asked : PendingRequest)
     (objects : NumberMap Handle) (next : Asking)
     → on_from (record job { body = body; objects = held; asked = before }) image point machine asked objects next ≡ on_from job image point machine asked objects next
 on_alike job body held before image point machine asked objects (Needs wanted payload) = refl
 on_alike job body held before image point machine asked objects (Gives r0 r1 r2) = refl
 on_alike job body held before image point machine asked objects (Bad code) = refl
 
-pub served-object : (job : Job) (image : Image) (point : Point) (machine : State) (call : ObjectCall) (asked : Asked) (now : Serving)
+pub served-object : (job : Job) (image : Image) (point : EntryPoint) (machine : State) (call : ObjectCall) (asked : PendingRequest) (now : Serving)
     → asked.request ≡ request.Object call → serving call job.uuid asked.range asked.objects asked.answers ≡ Some now
-    → served job image point machine asked
+    → advance_on_answers job image point machine asked
     ≡ Some (on_from job image point (with_bytes machine (request.Object call) now.range) asked now.objects (object_asking now.step))
 served-object job image point machine call asked now names serves =
     let on = λ (r : Request) (came : Ask). on_from job image point (with_bytes machine r came.range) asked came.objects came.next in
@@ -202,15 +200,15 @@ came-over s call uuid range left objects held answers state step here came =
 
 -- what it comes to is what its next step does
 pub object-served : {M X : Type 0} {g : _} (bytes : M → List ℕ) (uuid : List ℕ) (image : Image) (old : Cont M X g)
-    (here : EntryPoint) (m n : AnyMachine M) (before : Option Asked) (call : ObjectCall) (asked : Asked) (state : ObjectState) (now : Serving) (Q : Advance → Type 0)
+    (here : EntryPoint) (m n : AnyMachine M) (before : Option PendingRequest) (call : ObjectCall) (asked : PendingRequest) (state : ObjectState) (now : Serving) (Q : Advance → Type 0)
     → asked.request ≡ request.Object call
     → state_of bytes n ≡ with_bytes (state_of bytes m) (request.Object call) now.range
     → StandsFor state call uuid asked.range asked.objects asked.answers now
     → Q (object_turn bytes uuid image (moved old n now.objects) here n asked now.step)
-    → IsSomeAnd (served (record (job_at bytes uuid image old) { asked = before }) image (point_of old.kind here) (state_of bytes m) asked) Q
+    → IsSomeAnd (advance_on_answers (record (job_at bytes uuid image old) { asked = before }) image here (state_of bytes m) asked) Q
 object-served {M} {X} {g} bytes uuid image old here m n before call asked state now Q names stored stands turn =
     let job = record (job_at bytes uuid image old) { asked = before } in
-    let point = point_of old.kind here in
+    let point = here in
     let left = job_at bytes uuid image (moved old n now.objects) in
     let next = object_asking now.step in
     let same =

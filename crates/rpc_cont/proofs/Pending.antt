@@ -1,18 +1,19 @@
 -- A call that has stopped with a request takes an answer.
 use Rattle.std.proofs.Common.{◌≡◌, ℕ, zero, suc, List, Option, Some, None, refl, sym, subst}
 use Rattle.std.specs.Prelude.{IsSome, IsSomeAnd}
-use Rattle.job_model.specs.Asking.{Asked, bytes_at}
+use Rattle.job_model.specs.Asking.{PendingRequest, bytes_at}
 use Rattle.job_model.specs.Job.{Job}
-use Rattle.job_model.specs.Steps.{JobStop, Ends, Panics, Asks, Grant, Left, Stopped, granted}
+use Rattle.job_model.specs.Steps.{JobStop, Ends, Panics, Asks, Grant, Left, Stopped, grant_of}
 use Rattle.rpc_cont.specs.Advancing.{CanRun, IsAdvance, IsRunnable}
 use Rattle.rpc_cont.specs.Answering.{HasImage, HasObject, IsPending}
 use Rattle.rpc_cont.specs.Conts.{body_of, job_for, job_with, uuid_of}
 use Rattle.rpc_cont.specs.Running.{HasCome, IsStop, IsWaiting}
 use Rattle.rpc_cont.specs.declared.app.ContApp.{ContApp}
 use Rattle.rpc_cont.specs.declared.app.ContApp.TheVariants as app
-use Rattle.rpc_cont.specs.declared.cont.Asked.{Asked as Pending}
+use Rattle.rpc_cont.specs.declared.cont.Asked.{Asked}
 use Rattle.rpc_cont.specs.declared.cont.Cont.{Cont}
-use Rattle.rpc_cont.specs.declared.entry_point.EntryPoint.{EntryPoint}
+use Rattle.job_model.specs.declared.entry_point.EntryPoint.{EntryPoint}
+use Rattle.job_model.specs.declared.entry_point.EntryPoint.TheVariants as entry
 use Rattle.rpc_cont.specs.declared.stop.ContStop.{ContStop}
 use Rattle.rpc_cont.specs.declared.stop.ContStop.TheVariants as stop
 use Rattle.rpc_cont.proofs.Asking.{where_there, holds_as, from_there}
@@ -26,7 +27,7 @@ use Rattle.tee_storage.specs.declared.state.ObjectState.{ObjectState}
 
 -- ---- a call that waits
 
-pub has_object : {M X : Type 0} {g : _} (uuid : List ℕ) (asked : Asked) (cont : Cont M X g) (machine : State) (wanted : Request) (pending : Option Pending) (object : Option ObjectState)
+pub has_object : {M X : Type 0} {g : _} (uuid : List ℕ) (asked : PendingRequest) (cont : Cont M X g) (machine : State) (wanted : Request) (pending : Option Asked) (object : Option ObjectState)
     → (let span = span_of wanted in HasCome uuid (bytes_at machine span.0 span.1) asked cont wanted pending object) → HasObject machine wanted object
 has_object uuid asked cont machine request.Time None object come = absurd come
 has_object uuid asked cont machine request.Time (Some pending) None come = refl
@@ -38,12 +39,12 @@ has_object uuid asked cont machine (request.Object call) None object come = absu
 has_object uuid asked cont machine (request.Object call) (Some pending) None come = absurd come
 has_object uuid asked cont machine (request.Object call) (Some pending) (Some state) come = come.ready
 
-pub waits-pending : {M X : Type 0} {g : _} (bytes : M → List ℕ) (uuid : List ℕ) (cont : Cont M X g) (plain job : Job) (pending : Pending)
+pub waits-pending : {M X : Type 0} {g : _} (bytes : M → List ℕ) (uuid : List ℕ) (cont : Cont M X g) (plain job : Job) (pending : Asked)
     → IsWaiting bytes uuid cont plain job → cont.request ≡ Some pending → IsPending bytes cont
 waits-pending bytes uuid cont plain job pending waits is = record {
   point = waits.point;
   memory = waits.memory;
-  request = subst (λ (o : Option Pending). IsSome o) (sym is) refl;
+  request = subst (λ (o : Option Asked). IsSome o) (sym is) refl;
   machine =
       from_there job.asked _ waits.asked
       (λ asked at awaits.
@@ -73,18 +74,24 @@ advance-pending bytes whose cont before steps (Some grant) answer is asks = gran
 -- only an image asks
 abbrev Advanced : {M X : Type 0} {g : _} → (M → List ℕ) → Option (ContApp X g) → Cont M X g → Cont M X g → ℕ → ContStop → Option EntryPoint → Option (AnyMachine M) → Type 0
 Advanced bytes whose old new steps answer point machine =
-    IsSomeAnd (granted steps (job_with (body_of bytes old.kind whose point machine) (uuid_of whose) old)) (λ grant. IsAdvance bytes whose new old.steps steps grant answer)
+    IsSomeAnd (grant_of steps (job_with (body_of bytes whose point machine) (uuid_of whose) old)) (λ grant. IsAdvance bytes whose new old.steps steps grant answer)
 
 image_at : {M X : Type 0} {g : _} (bytes : M → List ℕ) (whose : Option (ContApp X g)) (old new : Cont M X g) (steps : ℕ) (answer : ContStop) (point : Option EntryPoint) (machine : Option (AnyMachine M))
     → IsRunnable bytes old.cancelled whose point machine → Advanced bytes whose old new steps answer point machine → answer ≡ stop.Asks → HasImage whose
 image_at bytes None old new steps answer point machine runs ((ended, left, none), count) asks = absurd cc
 image_at bytes (Some (app.Image uuid image)) old new steps answer None machine runs ((ended, left, none), count) asks = absurd cc
 image_at bytes (Some (app.Image uuid image)) old new steps answer (Some here) machine runs is asks = runs.0
+image_at bytes (Some (app.Dead uuid)) old new steps answer None machine runs ((ended, left, none), count) asks = absurd cc
+image_at bytes (Some (app.Dead uuid)) old new steps answer (Some here) machine runs is asks = absurd runs
 image_at bytes (Some (app.Native native)) old new steps answer None machine runs ((ended, left, none), count) asks = absurd cc
-image_at bytes (Some (app.Native native)) old new zero answer (Some here) machine runs (interrupted, same, can, count) asks = absurd cc
-image_at bytes (Some (app.Native native)) old new (suc n) answer (Some here) machine runs ((ended, left, none), count) asks = absurd cc
+image_at bytes (Some (app.Native native)) old new steps answer (Some entry.Create) machine runs is asks = absurd runs.0
+image_at bytes (Some (app.Native native)) old new steps answer (Some entry.Open) machine runs is asks = absurd runs.0
+image_at bytes (Some (app.Native native)) old new steps answer (Some entry.Close) machine runs is asks = absurd runs.0
+image_at bytes (Some (app.Native native)) old new steps answer (Some entry.Destroy) machine runs is asks = absurd runs.0
+image_at bytes (Some (app.Native native)) old new zero answer (Some (entry.Invoke func)) machine runs (interrupted, same, can, count) asks = absurd cc
+image_at bytes (Some (app.Native native)) old new (suc n) answer (Some (entry.Invoke func)) machine runs ((ended, left, none), count) asks = absurd cc
 
 pub advance-image : {M X : Type 0} {g : _} (bytes : M → List ℕ) (whose : Option (ContApp X g)) (old new : Cont M X g) (steps : ℕ) (answer : ContStop)
-    → CanRun bytes whose old → IsSomeAnd (granted steps (job_for bytes whose old)) (λ grant. IsAdvance bytes whose new old.steps steps grant answer)
+    → CanRun bytes whose old → IsSomeAnd (grant_of steps (job_for bytes whose old)) (λ grant. IsAdvance bytes whose new old.steps steps grant answer)
     → answer ≡ stop.Asks → HasImage whose
 advance-image bytes whose old new steps answer can is asks = image_at bytes whose old new steps answer old.point old.machine can.runs is asks

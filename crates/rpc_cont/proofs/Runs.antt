@@ -3,14 +3,13 @@ use Rattle.std.proofs.Common.{◌≡◌, ℕ, ◌+◌, ◌-◌, List, Option, So
 use Rattle.std.specs.Prelude.{option_and_then, IsSomeAnd}
 use Rattle.std.specs.Option.{option_map}
 use Rattle.job_model.proofs.MachineRuns.{run_for-machine}
-use Rattle.job_model.specs.Job.{Job, Machine}
-use Rattle.job_model.specs.Point.{Point}
-use Rattle.job_model.specs.Steps.{Advance, Goes, Stops, Grant, Left, Stopped, after_run, granted_after, later, run_for}
+use Rattle.job_model.specs.Job.{Job, Machine, Nothing}
+use Rattle.job_model.specs.Steps.{Advance, Goes, Stops, Grant, Left, Stopped, after_run, grant_after, later, run_for}
 use Rattle.rpc_cont.specs.Advancing.{after_ran, turn_of}
-use Rattle.rpc_cont.specs.Conts.{body_at, job_at, job_with, point_of}
+use Rattle.rpc_cont.specs.Conts.{body_at, job_at, job_with}
 use Rattle.rpc_cont.specs.Running.{HasReady, IsRun, IsRunning, IsStop, IsTurn}
 use Rattle.rpc_cont.specs.declared.cont.Cont.{Cont}
-use Rattle.rpc_cont.specs.declared.entry_point.EntryPoint.{EntryPoint}
+use Rattle.job_model.specs.declared.entry_point.EntryPoint.{EntryPoint}
 use Rattle.rpc_cont.specs.declared.stop.ContStop.{ContStop}
 use Rattle.rpc_cont.specs.declared.stop.ContStop.TheVariants as stop
 use Rattle.ta_isa.specs.declared.image.Image.{Image}
@@ -24,28 +23,41 @@ use Rattle.ta_step.specs.declared.machine.Machine.{Machine as AnyMachine}
 -- what a turn has made of a grant
 abbrev Granted : Option Grant → ℕ → ℕ → Option (ℕ × Advance) → Type 0
 Granted grant n used None = Unit {0}
-Granted grant n used (Some turn) = grant ≡ granted_after turn.0 (n - turn.0) turn.1
+Granted grant n used (Some turn) = grant ≡ grant_after turn.0 (n - turn.0) turn.1
 
-turn_after : (job : Job) (image : Image) (here : Point) (n : ℕ) (ran : Ran) (grant : Option Grant) (turn : ℕ × Advance) (o : Option Advance)
-    → grant ≡ option_and_then (granted_after ran.steps (n - ran.steps)) o
+turn_after : (job : Job) (image : Image) (here : EntryPoint) (n : ℕ) (ran : Ran) (grant : Option Grant) (turn : ℕ × Advance) (o : Option Advance)
+    → grant ≡ option_and_then (grant_after ran.steps (n - ran.steps)) o
     → option_map (λ (a : Advance). (ran.steps, a)) o ≡ Some turn
-    → grant ≡ granted_after turn.0 (n - turn.0) turn.1
+    → grant ≡ grant_after turn.0 (n - turn.0) turn.1
 turn_after job image here n ran grant turn None grants e = absurd cc
 turn_after job image here n ran grant turn (Some a) grants e =
     let same : (ran.steps, a) ≡ turn = cc in
-    subst (λ (t : ℕ × Advance). grant ≡ granted_after t.0 (n - t.0) t.1) same grants
+    subst (λ (t : ℕ × Advance). grant ≡ grant_after t.0 (n - t.0) t.1) same grants
 
-turn_ran : (job : Job) (image : Image) (here : Point) (machine : State) (n : ℕ) (turn : ℕ × Advance) (o : Option Ran) → runs image.code n machine ≡ o
+turn_ran : (job : Job) (image : Image) (here : EntryPoint) (machine : State) (n : ℕ) (turn : ℕ × Advance) (o : Option Ran) → runs image.code n machine ≡ o
     → option_and_then (after_ran job image here) o ≡ Some turn
-    → run_for n (record job { body = Machine image here machine }) ≡ granted_after turn.0 (n - turn.0) turn.1
+    → run_for n (record job { body = Machine image here machine }) ≡ grant_after turn.0 (n - turn.0) turn.1
 turn_ran job image here machine n turn None is e = absurd cc
 turn_ran job image here machine n turn (Some ran) is e =
     turn_after job image here n ran (run_for n (record job { body = Machine image here machine })) turn (after_run job image here ran.state ran.stop)
     (run_for-machine job image here machine n ran is) e
 
-turn_grants : (job : Job) (image : Image) (here : Point) (machine : State) (n : ℕ) (turn : ℕ × Advance) → turn_of job image here machine n ≡ Some turn
-    → run_for n (record job { body = Machine image here machine }) ≡ granted_after turn.0 (n - turn.0) turn.1
+turn_grants : (job : Job) (image : Image) (here : EntryPoint) (machine : State) (n : ℕ) (turn : ℕ × Advance) → turn_of job image here machine n ≡ Some turn
+    → run_for n (record job { body = Machine image here machine }) ≡ grant_after turn.0 (n - turn.0) turn.1
 turn_grants job image here machine n turn e = turn_ran job image here machine n turn (runs image.code n machine) refl e
+
+ran_at : (used : ℕ) (o : Option Advance) (P : Advance → Type 0) → IsSomeAnd o P
+    → IsSomeAnd {T = ℕ × Advance} (option_map (λ (turn : Advance). (used, turn)) o) (λ (turn : ℕ × Advance). (turn.0 ≡ used) × P turn.1)
+ran_at used None P holds = absurd holds
+ran_at used (Some turn) P holds = (refl, holds)
+
+-- a turn by its run
+pub ran_turn : (job : Job) (image : Image) (here : EntryPoint) (machine : State) (n : ℕ) (ran : Ran) (P : Advance → Type 0)
+    → runs image.code n machine ≡ Some ran → IsSomeAnd (after_run job image here ran.state ran.stop) P
+    → IsSomeAnd (turn_of job image here machine n) (λ (turn : ℕ × Advance). (turn.0 ≡ ran.steps) × P turn.1)
+ran_turn job image here machine n ran P is holds =
+    subst (λ (o : Option Ran). IsSomeAnd (option_and_then (after_ran job image here) o) (λ (turn : ℕ × Advance). (turn.0 ≡ ran.steps) × P turn.1)) (sym is)
+    (ran_at ran.steps (after_run job image here ran.state ran.stop) P holds)
 
 -- ---- one turn of a call
 
@@ -61,7 +73,7 @@ IsTaken bytes uuid image grant n used new None =
 IsTaken bytes uuid image grant n used new (Some answer) = IsSomeAnd grant (IsStopped bytes uuid image used new answer)
 
 taken : {M X : Type 0} {g : _} (bytes : M → List ℕ) (uuid : List ℕ) (image : Image) (grant : Option Grant) (n used : ℕ) (new : Cont M X g) (answer : Option ContStop) (turn : Advance)
-    → grant ≡ granted_after used (n - used) turn → IsTurn bytes uuid image new turn answer → IsTaken bytes uuid image grant n used new answer
+    → grant ≡ grant_after used (n - used) turn → IsTurn bytes uuid image new turn answer → IsTaken bytes uuid image grant n used new answer
 taken bytes uuid image grant n used new None (Goes job) grants is =
     (grants ∙ ap (λ (j : Job). option_map (later used) (run_for (n - used) j)) is.1, is.2)
 taken bytes uuid image grant n used new (Some answer) (Goes job) grants is = let e = is.0 in absurd cc
@@ -73,27 +85,27 @@ taken bytes uuid image grant n used new (Some answer) (Stops why) grants is =
 abbrev Turns : {M X : Type 0} {g : _} → (M → List ℕ) → List ℕ → Image → Cont M X g → Cont M X g → ℕ → ℕ → Option ContStop → Option EntryPoint → Option (AnyMachine M) → Type 0
 Turns bytes uuid image old new n used answer point machine =
     IsSomeAnd machine (λ m. (here : EntryPoint) → point ≡ Some here
-    → IsSomeAnd (turn_of (job_with (body_at bytes old.kind image point machine) uuid old) image (point_of old.kind here) (state_of bytes m) n)
+    → IsSomeAnd (turn_of (job_with Nothing uuid old) image here (state_of bytes m) n)
     (λ turn. (turn.0 ≡ used) × IsTurn bytes uuid image new turn.1 answer))
 
-turn_found : {M X : Type 0} {g : _} (bytes : M → List ℕ) (uuid : List ℕ) (image : Image) (job : Job) (here : Point) (machine : State) (n used : ℕ) (new : Cont M X g) (answer : Option ContStop)
+turn_found : {M X : Type 0} {g : _} (bytes : M → List ℕ) (uuid : List ℕ) (image : Image) (job : Job) (here : EntryPoint) (machine : State) (n used : ℕ) (new : Cont M X g) (answer : Option ContStop)
     (o : Option (ℕ × Advance)) → turn_of job image here machine n ≡ o → IsSomeAnd o (λ turn. (turn.0 ≡ used) × IsTurn bytes uuid image new turn.1 answer)
     → IsTaken bytes uuid image (run_for n (record job { body = Machine image here machine })) n used new answer
 turn_found bytes uuid image job here machine n used new answer None e is = absurd is
 turn_found bytes uuid image job here machine n used new answer (Some turn) e is =
     let grants = turn_grants job image here machine n turn e in
-    let by_used = ap (λ (k : ℕ). granted_after k (n - k) turn.1) is.0 in
+    let by_used = ap (λ (k : ℕ). grant_after k (n - k) turn.1) is.0 in
     taken bytes uuid image (run_for n (record job { body = Machine image here machine })) n used new answer turn.1 (grants ∙ by_used) is.1
 
 turns_at : {M X : Type 0} {g : _} (bytes : M → List ℕ) (uuid : List ℕ) (image : Image) (old new : Cont M X g) (n used : ℕ) (answer : Option ContStop)
     (point : Option EntryPoint) (machine : Option (AnyMachine M)) → HasReady bytes old.cancelled point machine
     → Turns bytes uuid image old new n used answer point machine
-    → IsTaken bytes uuid image (run_for n (job_with (body_at bytes old.kind image point machine) uuid old)) n used new answer
+    → IsTaken bytes uuid image (run_for n (job_with (body_at bytes image point machine) uuid old)) n used new answer
 turns_at bytes uuid image old new n used answer None machine ready turns = absurd ready
 turns_at bytes uuid image old new n used answer (Some here) None ready turns = absurd turns
 turns_at bytes uuid image old new n used answer (Some here) (Some m) ready turns =
-    let job = job_with (body_at bytes old.kind image (Some here) (Some m)) uuid old in
-    turn_found bytes uuid image job (point_of old.kind here) (state_of bytes m) n used new answer _ refl (turns here refl)
+    let job = job_with Nothing uuid old in
+    turn_found bytes uuid image job here (state_of bytes m) n used new answer _ refl (turns here refl)
 
 -- a turn of a call that runs
 pub turn_taken : {M X : Type 0} {g : _} (bytes : M → List ℕ) (uuid : List ℕ) (image : Image) (old new : Cont M X g) (n used : ℕ) (answer : Option ContStop)

@@ -2,17 +2,16 @@
 use Rattle.std.specs.Prelude.{◌≡◌, ℕ, ◌+◌, Bool, List, Option, Some, None, option_and_then, IsSomeAnd}
 use Rattle.std.specs.Option.{option_map}
 use Rattle.job_model.specs.Job.{Job}
-use Rattle.job_model.specs.Point.{Point}
 use Rattle.job_model.specs.Steps.{Advance, Grant, Left, Stopped, after_run}
-use Rattle.job_model.specs.declared.phase.Phase.{Phase}
-use Rattle.job_model.specs.declared.phase.Phase.TheVariants as phase
+use Rattle.rpc_cont.specs.declared.phase.Phase.{Phase}
+use Rattle.rpc_cont.specs.declared.phase.Phase.TheVariants as phase
 use Rattle.rpc_cont.specs.Conts.{uuid_of, job_for}
 use Rattle.rpc_cont.specs.Running.{IsReady, IsStop}
 use Rattle.rpc_cont.specs.declared.app.ContApp.{ContApp}
 use Rattle.rpc_cont.specs.declared.app.ContApp.TheVariants as app
 use Rattle.rpc_cont.specs.declared.cont.Cont.{Cont}
-use Rattle.rpc_cont.specs.declared.entry_point.EntryPoint.{EntryPoint}
-use Rattle.rpc_cont.specs.declared.entry_point.EntryPoint.TheVariants as entry
+use Rattle.job_model.specs.declared.entry_point.EntryPoint.{EntryPoint}
+use Rattle.job_model.specs.declared.entry_point.EntryPoint.TheVariants as entry
 use Rattle.rpc_cont.specs.declared.stop.ContStop.{ContStop}
 use Rattle.rpc_cont.specs.declared.stop.ContStop.TheVariants as stop
 use Rattle.ta_isa.specs.Spelling.{IsValid}
@@ -25,19 +24,28 @@ use Rattle.ta_step.specs.declared.machine.Machine.{Machine as AnyMachine}
 -- ---- one run of a machine
 
 -- what the job comes to by a run of its machine, with the steps that it uses
-abbrev pub after_ran : Job → Image → Point → Ran → Option (ℕ × Advance)
+abbrev pub after_ran : Job → Image → EntryPoint → Ran → Option (ℕ × Advance)
 after_ran job image point ran = option_map (λ (turn : Advance). (ran.steps, turn)) (after_run job image point ran.state ran.stop)
 
-abbrev pub turn_of : Job → Image → Point → State → ℕ → Option (ℕ × Advance)
+abbrev pub turn_of : Job → Image → EntryPoint → State → ℕ → Option (ℕ × Advance)
 turn_of job image point machine steps = option_and_then (after_ran job image point) (runs image.code steps machine)
 
 -- ---- a grant of steps
+
+-- to invoke
+abbrev pub IsInvoke : EntryPoint → Type 0
+IsInvoke entry.Create = ⊥
+IsInvoke entry.Open = ⊥
+IsInvoke (entry.Invoke func) = Unit {0}
+IsInvoke entry.Close = ⊥
+IsInvoke entry.Destroy = ⊥
 
 -- what runs can run: the machine of an image, the function of a built-in application, or nothing
 abbrev pub IsRunnable : {M X : Type 0} {g : _} → (M → List ℕ) → Bool → Option (ContApp X g) → Option EntryPoint → Option (AnyMachine M) → Type 0
 IsRunnable bytes seen (Some (app.Image uuid image)) (Some point) machine =
     IsValid image.value × IsSomeAnd machine (λ m. IsReady seen (state_of bytes m))
-IsRunnable bytes seen (Some (app.Native native)) (Some point) machine = (point ≡ entry.Invoke) × (machine ≡ None)
+IsRunnable bytes seen (Some (app.Native native)) (Some point) machine = IsInvoke point × (machine ≡ None)
+IsRunnable bytes seen (Some (app.Dead uuid)) (Some point) machine = ⊥
 IsRunnable bytes seen None (Some point) machine = ⊥
 IsRunnable bytes seen _ None machine = machine ≡ None
 

@@ -2,8 +2,8 @@
 use Rattle.std.specs.Prelude.{◌≡◌, ℕ, Bool, List, Option, Some, None, IsSome, IsSomeAnd}
 use Rattle.job_model.specs.Asking.{bytes_at}
 use Rattle.job_model.specs.Steps.{Ends, Panics, Asks, Advance, Goes, Stops}
-use Rattle.job_model.specs.declared.phase.Phase.{Phase}
-use Rattle.job_model.specs.declared.phase.Phase.TheVariants as phase
+use Rattle.rpc_cont.specs.declared.phase.Phase.{Phase}
+use Rattle.rpc_cont.specs.declared.phase.Phase.TheVariants as phase
 use Rattle.rpc_cont.specs.Advancing.{CanAdvance, phase_after}
 use Rattle.rpc_cont.specs.Conts.{uuid_of, job_of}
 use Rattle.rpc_cont.specs.Running.{HasAsked, HasAskedFor}
@@ -27,6 +27,7 @@ abbrev pub HasImage : {X : Type 0} {g : _} → Option (ContApp X g) → Type 0
 HasImage None = ⊥
 HasImage (Some (app.Image uuid image)) = IsValid image.value
 HasImage (Some (app.Native native)) = ⊥
+HasImage (Some (app.Dead uuid)) = ⊥
 
 -- the state of a call on an object is there where that is what the machine waits for, and can go on over its bytes
 abbrev pub HasObject : State → Request → Option ObjectState → Type 0

@@ -1,20 +1,21 @@
 -- Examples of the definitions, worked out by hand.
 use Rattle.std.specs.Prelude.{◌≡◌, true, false, [], ◌∷◌, Some, None}
-use Rattle.job_model.specs.Point.{Create, Invoke, no_params}
-use Rattle.job_model.specs.declared.call_kind.CallKind.TheVariants as kind
-use Rattle.job_model.specs.declared.phase.Phase.TheVariants as phase
+use Rattle.job_model.specs.Point.{no_params}
+use Rattle.job_model.specs.Job.{Native, Nothing}
+use Rattle.native_tas.specs.declared.relation.Relation.TheVariants.{Fixed}
+use Rattle.rpc_cont.specs.declared.phase.Phase.TheVariants as phase
 use Rattle.rpc_cont.specs.Advancing.{phase_after}
 use Rattle.rpc_cont.specs.Answering.{phase_behind}
-use Rattle.rpc_cont.specs.Conts.{is_at_its_end, kept_params, point_of}
+use Rattle.rpc_cont.specs.Conts.{is_at_its_end, kept_params, native_body}
 use Rattle.rpc_cont.specs.Resuming.{answer_in}
-use Rattle.rpc_cont.specs.declared.entry_point.EntryPoint.TheVariants as entry
+use Rattle.job_model.specs.declared.entry_point.EntryPoint.TheVariants as entry
 use Rattle.rpc_cont.specs.declared.input.ResumeInput.TheVariants as input
 use Rattle.rpc_cont.specs.declared.stop.ContStop.TheVariants as stop
 use Rattle.rpc_msgs.specs.Answer.{NoBuffer}
 
 pub record Examples : Type 0 where
-  pub invokes_seven : point_of (kind.Invoke 7) entry.Invoke ≡ Invoke 7
-  pub creates : point_of kind.Open entry.Create ≡ Create
+  pub invokes_seven : native_body (Fixed 3) (Some (entry.Invoke 7)) ≡ Native (Fixed 3) 7
+  pub nothing_to_close : native_body (Fixed 3) (Some entry.Close) ≡ Nothing
   pub no_parameters : kept_params None ≡ no_params
   -- a create was the last to run, so it has failed
   pub create_failed : is_at_its_end (Some entry.Create) [] ≡ true

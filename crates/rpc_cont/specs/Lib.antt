@@ -1,5 +1,6 @@
 pub mod Conts
 pub mod Running
+pub mod Beginning
 pub mod Spans
 pub mod Advancing
 pub mod Answering

@@ -1,18 +1,17 @@
 -- What a call comes to as it runs.
 use Rattle.std.specs.Prelude.{◌≡◌, ℕ, ◌+◌, Bool, true, List, [], Option, Some, None, IsSome, IsSomeAnd}
-use Rattle.job_model.specs.Asking.{Asked, bytes_at}
+use Rattle.job_model.specs.Asking.{PendingRequest, bytes_at}
 use Rattle.job_model.specs.Job.{Job, of_tee}
 use Rattle.job_model.specs.Steps.{JobStop, Ends, Panics, Asks, Advance, Goes, Stops, Grant, Left, Stopped}
 use Rattle.rpc_cont.specs.Conts.{job_at, end_left}
-use Rattle.rpc_cont.specs.declared.cont.Asked.{Asked as Pending}
+use Rattle.rpc_cont.specs.declared.cont.Asked.{Asked}
 use Rattle.rpc_cont.specs.declared.cont.Cont.{Cont}
-use Rattle.rpc_cont.specs.declared.entry_point.EntryPoint.{EntryPoint}
+use Rattle.job_model.specs.declared.entry_point.EntryPoint.{EntryPoint}
 use Rattle.rpc_cont.specs.declared.stop.ContStop.{ContStop}
 use Rattle.rpc_cont.specs.declared.stop.ContStop.TheVariants as stop
 use Rattle.rpc_msgs.specs.declared.rpc.Rpc.{Rpc}
 use Rattle.rpc_msgs.specs.declared.rpc.Rpc.TheVariants as rpc
 use Rattle.ta_isa.specs.declared.image.Image.{Image}
-use Rattle.ta_params.specs.declared.codes.TheConstants.{TEE_ERROR_TARGET_DEAD}
 use Rattle.ta_step.specs.Machine.{state_of}
 use Rattle.ta_step.specs.Requests.{span_of}
 use Rattle.ta_step.specs.State.{State}
@@ -51,7 +50,7 @@ pub record IsRunning {M X : Type 0} {g : _} (bytes : M → List ℕ) (cont : Con
 -- ---- a call that waits for an answer
 
 -- the object call that waits has come so far, with these bytes of memory, for this request
-abbrev pub HasCome : {M X : Type 0} {g : _} → List ℕ → List ℕ → Asked → Cont M X g → Request → Option Pending → Option ObjectState → Type 0
+abbrev pub HasCome : {M X : Type 0} {g : _} → List ℕ → List ℕ → PendingRequest → Cont M X g → Request → Option Asked → Option ObjectState → Type 0
 HasCome uuid range asked cont (request.Object call) (Some pending) (Some state) =
     let step = storage.Ask pending.rpc pending.payload in
     StandsFor state call uuid asked.range asked.objects asked.answers (record { step = step; range = range; objects = cont.objects })
@@ -70,7 +69,7 @@ pub record HasAskedFor (seen : Bool) (wanted : Request) (machine : State) : Type
   pub in_range : (let span = span_of wanted in is_range machine span.0 span.1 ≡ true)
 
 -- it waits for the answer to this, and the call has come so far with it
-pub record Awaits {M X : Type 0} {g : _} (uuid : List ℕ) (cont : Cont M X g) (asked : Asked) (machine : State) : Type 0 where
+pub record Awaits {M X : Type 0} {g : _} (uuid : List ℕ) (cont : Cont M X g) (asked : PendingRequest) (machine : State) : Type 0 where
   pub asks : HasAskedFor cont.cancelled asked.request machine
   pub come : (let span = span_of asked.request in HasCome uuid (bytes_at machine span.0 span.1) asked cont asked.request cont.request cont.object)
 
@@ -89,6 +88,12 @@ pub record IsAsking {M X : Type 0} {g : _} (bytes : M → List ℕ) (cont : Cont
 
 -- ---- why it stops
 
+-- it has nothing left to run, and nothing to ask for
+pub record IsOver {M X : Type 0} {g : _} (cont : Cont M X g) : Type 0 where
+  pub machine : cont.machine ≡ None
+  pub request : cont.request ≡ None
+  pub object : cont.object ≡ None
+
 -- it has asked for this
 abbrev pub HasAsked : {M X : Type 0} {g : _} → (M → List ℕ) → List ℕ → Cont M X g → Job → Rpc → List ℕ → Job → Type 0
 HasAsked bytes uuid cont plain wanted payload left =
@@ -96,9 +101,9 @@ HasAsked bytes uuid cont plain wanted payload left =
 
 -- an answer, and the call behind it, are those of a stop
 abbrev pub IsStop : {M X : Type 0} {g : _} → (M → List ℕ) → List ℕ → Cont M X g → Job → JobStop → ContStop → Type 0
-IsStop bytes uuid cont plain (Ends end) answer = (answer ≡ stop.Ended end.result) × (end ≡ end_left bytes cont) × (cont.machine ≡ None)
+IsStop bytes uuid cont plain (Ends end) answer = (answer ≡ stop.Ended end.result) × (end ≡ end_left bytes cont) × IsOver cont
 IsStop bytes uuid cont plain (Panics code) answer =
-    (answer ≡ stop.Panicked code) × (cont.result ≡ of_tee TEE_ERROR_TARGET_DEAD) × (cont.machine ≡ None)
+    (answer ≡ stop.Panicked code) × (cont.result ≡ of_tee 0xffff3024) × IsOver cont
 IsStop bytes uuid cont plain (Asks wanted payload left) answer =
     (answer ≡ stop.Asks) × HasAsked bytes uuid cont plain wanted payload left
 

@@ -1,13 +1,13 @@
 //! How a call goes on, by so many steps.
 ghost use Rattle.std.specs.Prelude.{◌≡◌, ◌+◌, ◌<◌, ◌≤◌, ◌^◌, List, ℕ, length, Some, None, IsSomeAnd};
+ghost use Rattle.job_model.specs.declared.entry_point.EntryPoint.{EntryPoint as AnyPoint};
 ghost use Rattle.job_model.specs.Job.{Nothing, of_application};
-ghost use Rattle.job_model.specs.Steps.{after_run, granted, run_for};
+ghost use Rattle.job_model.specs.Steps.{after_run, grant_of, run_for};
 ghost use Rattle.native_tas.specs.Relation.{answer_of};
 ghost use Rattle.rpc_cont.specs.Advancing.{CanAdvance, CanRun, IsAdvance, phase_after, turn_of};
 ghost use Rattle.rpc_cont.specs.Answering.{CanBeAnswered};
-ghost use Rattle.rpc_cont.specs.Conts.{func_of, job_at, job_for, job_of, job_with, kept_params, memory_size, point_of};
+ghost use Rattle.rpc_cont.specs.Conts.{job_at, job_for, job_of, job_with, kept_params, memory_size};
 ghost use Rattle.rpc_cont.specs.Running.{IsIdle, IsRun, IsRunning, IsTurn, worked};
-ghost use Rattle.rpc_cont.specs.declared.entry_point.EntryPoint.{EntryPoint as AnyPoint};
 ghost use Rattle.ta_isa.specs.Spelling.{IsValid};
 ghost use Rattle.ta_step.specs.Machine.{state_of};
 ghost use Rattle.ta_step.specs.Requests.{NamesRange};
@@ -18,6 +18,7 @@ use crate::app::ContApp;
 use crate::begin::of_application;
 use crate::cont::Cont;
 use crate::stop::ContStop;
+use job_model::EntryPoint;
 use native_tas::Native;
 use ta_isa::Image;
 use ta_step::{Machine, Stop, TaMemory};
@@ -43,7 +44,7 @@ impl<M: TaMemory + Drop> Cont<M> {
     pub fn advance(&mut self, steps: u32) -> ContStop
         requires runs { CanAdvance M.bytes self.old }
         requires steps { self.old.steps + steps < 2 ^ 128 }
-        ensures advances { IsSomeAnd (granted steps (job_of M.bytes self.old))
+        ensures advances { IsSomeAnd (grant_of steps (job_of M.bytes self.old))
             (λ grant. IsAdvance M.bytes self.new.app self.new self.old.steps steps grant result) }
         ensures asks { result ≡ ContStop.Asks → CanBeAnswered M.bytes self.new }
         ensures phase { self.new.phase ≡ phase_after result }
@@ -61,20 +62,23 @@ impl<M: TaMemory + Drop> Cont<M> {
     fn advance_as(&mut self, app: &Option<ContApp>, steps: u32) -> ContStop
         requires runs { CanRun M.bytes app.now self.old }
         requires steps { self.old.steps + steps < 2 ^ 128 }
-        ensures advances { IsSomeAnd (granted steps (job_for M.bytes app.now self.old))
+        ensures advances { IsSomeAnd (grant_of steps (job_for M.bytes app.now self.old))
             (λ grant. IsAdvance M.bytes app.now self.new self.old.steps steps grant result) }
         ensures size { memory_size M.bytes self.new ≡ memory_size M.bytes self.old }
         ensures stays { self.new ≡ record (worked self.old self.new) { steps = self.new.steps } }
     {
-        if self.point.is_none() {
+        let Some(point) = self.point else {
             return ContStop::Ended(self.result);
-        }
-        let Some(app) = app else {
-            unreachable!();
         };
         match app {
-            ContApp::Image { uuid, image } => self.run(*uuid, image, steps),
-            ContApp::Native(native) => self.run_native(native, steps),
+            Some(ContApp::Image { uuid, image }) => self.run(*uuid, image, steps),
+            Some(ContApp::Native(native)) => match point {
+                EntryPoint::Invoke { func } => self.run_native(native, func, steps),
+                EntryPoint::Create | EntryPoint::Open | EntryPoint::Close | EntryPoint::Destroy => {
+                    ContStop::Ended(self.result)
+                }
+            },
+            Some(ContApp::Dead { .. }) | None => ContStop::Ended(self.result),
         }
     }
 
@@ -107,7 +111,7 @@ impl<M: TaMemory + Drop> Cont<M> {
         requires some { 0 < steps }
         requires steps { self.old.steps + steps < 2 ^ 128 }
         ensures turns { IsSomeAnd self.old.machine (λ m. (here : AnyPoint) → self.old.point ≡ Some here
-            → IsSomeAnd (turn_of (job_at M.bytes uuid image.now self.old) image.now (point_of self.old.kind here) (state_of M.bytes m) steps)
+            → IsSomeAnd (turn_of (job_with Nothing uuid self.old) image.now here (state_of M.bytes m) steps)
             (λ turn. (turn.0 ≡ result.1) × IsTurn M.bytes uuid image.now self.new turn.1 result.0)) }
         ensures some { 0 < result.1 }
         ensures most { result.1 ≤ steps }
@@ -137,7 +141,7 @@ impl<M: TaMemory + Drop> Cont<M> {
         requires asked { (state_of M.bytes machine).asked ≡ request_of stop }
         requires named { NamesRange stop (state_of M.bytes machine) }
         ensures serves { (here : AnyPoint) → self.old.point ≡ Some here
-            → IsSomeAnd (after_run (job_with Nothing uuid self.old) image.now (point_of self.old.kind here) (state_of M.bytes machine) stop)
+            → IsSomeAnd (after_run (job_with Nothing uuid self.old) image.now here (state_of M.bytes machine) stop)
             (λ turn. IsTurn M.bytes uuid image.now self.new turn result) }
         ensures size { memory_size M.bytes self.new ≡ length (state_of M.bytes machine).memory }
         ensures stays { self.new ≡ worked self.old self.new }
@@ -159,11 +163,11 @@ impl<M: TaMemory + Drop> Cont<M> {
         }
     }
 
-    /// The same of a built-in application: an invoke is one step.
-    fn run_native(&mut self, native: &Native, steps: u32) -> ContStop
+    /// The same of a built-in application: an invoke of this function is one step.
+    fn run_native(&mut self, native: &Native, func: u32, steps: u32) -> ContStop
         requires steps { self.old.steps + steps < 2 ^ 128 }
         ensures none { steps ≡ 0 → (result ≡ ContStop.Interrupted) × (self.new ≡ self.old) }
-        ensures one { 0 < steps → (let answer = answer_of native.now.relation (func_of self.old.kind) (kept_params self.old.params) in
+        ensures one { 0 < steps → (let answer = answer_of native.now.relation func (kept_params self.old.params) in
             (result ≡ ContStop.Ended (of_application answer.0))
             × (self.new ≡ record self.old { params = Some answer.1; result = of_application answer.0; steps = self.old.steps + 1 })) }
     {
@@ -171,7 +175,6 @@ impl<M: TaMemory + Drop> Cont<M> {
             return ContStop::Interrupted;
         }
         let mut params = self.take_params();
-        let func = self.func();
         let code = native.answer(func, &mut params);
         self.params = Some(params);
         self.result = of_application(code);

@@ -1,13 +1,12 @@
 //! The answers to what an application has asked for.
-ghost use Rattle.std.specs.Prelude.{◌≡◌, List, ℕ, Some, None, true, IsSome, IsSomeAnd, if◌then◌else◌};
-ghost use Rattle.job_model.specs.Job.{Job, seen};
-ghost use Rattle.job_model.specs.Steps.{given};
+ghost use Rattle.std.specs.Prelude.{◌≡◌, ◌≢◌, List, ℕ, Some, None, true, IsSome, IsSomeAnd, if◌then◌else◌};
+ghost use Rattle.job_model.specs.Job.{Job, with_cancel_seen};
+ghost use Rattle.job_model.specs.Steps.{advance_on_answer};
 ghost use Rattle.rpc_cont.specs.Advancing.{CanAdvance};
 ghost use Rattle.rpc_cont.specs.Answering.{CanBeAnswered, IsAnswered, phase_behind};
 ghost use Rattle.rpc_cont.specs.Conts.{is_at_its_end, job_of, memory_size, uuid_of};
 ghost use Rattle.rpc_cont.specs.Running.{IsWaiting, worked};
 ghost use Rattle.rpc_msgs.specs.Answer.{NoBuffer, Replied};
-ghost use Rattle.ta_params.specs.declared.codes.TheConstants.{TEE_ERROR_CANCEL};
 ghost use Rattle.ta_step.specs.Machine.{state_of};
 ghost use Rattle.ta_step.specs.State.{is_cancelled};
 ghost use Rattle.ta_step.specs.SystemCalls.{answered};
@@ -15,13 +14,13 @@ ghost use Rattle.ta_step.specs.declared.stop.Request.{Request as AnyRequest};
 
 use crate::asks::told_time;
 use crate::cont::Cont;
-use crate::entry_point::EntryPoint;
 use crate::machine_span::MachineSpan;
+use crate::phase::Phase;
 use crate::stop::ContStop;
-use job_model::Phase;
+use job_model::EntryPoint;
 use rpc_msgs::RpcReply;
 use ta_params::codes::*;
-use ta_step::{ObjectCall, Request, TaMemory};
+use ta_step::{Machine, ObjectCall, Request, TaMemory};
 
 /// How far a call has come behind an answer, by what it then stops with.
 fn phase_behind(stop: Option<ContStop>) -> Phase
@@ -38,7 +37,7 @@ impl<M: TaMemory + Drop> Cont<M> {
     pub(crate) fn reply(&mut self, reply: &RpcReply)
         requires { CanBeAnswered M.bytes self.old }
         ensures answers { (job : Job) → IsWaiting M.bytes (uuid_of self.old.app) self.old (job_of M.bytes self.old) job
-            → IsSomeAnd (given (Replied reply.now) job) (λ next. IsAnswered M.bytes self.new next) }
+            → IsSomeAnd (advance_on_answer (Replied reply.now) job) (λ next. IsAnswered M.bytes self.new next) }
         ensures size { memory_size M.bytes self.new ≡ memory_size M.bytes self.old }
         ensures stays { self.new ≡ record (worked self.old self.new) { phase = self.new.phase } }
     {
@@ -59,7 +58,7 @@ impl<M: TaMemory + Drop> Cont<M> {
     pub(crate) fn without_buffer(&mut self)
         requires { CanBeAnswered M.bytes self.old }
         ensures answers { (job : Job) → IsWaiting M.bytes (uuid_of self.old.app) self.old (job_of M.bytes self.old) job
-            → IsSomeAnd (given NoBuffer job) (λ next. IsAnswered M.bytes self.new next) }
+            → IsSomeAnd (advance_on_answer NoBuffer job) (λ next. IsAnswered M.bytes self.new next) }
         ensures size { memory_size M.bytes self.new ≡ memory_size M.bytes self.old }
         ensures stays { self.new ≡ record (worked self.old self.new) { phase = self.new.phase } }
     {
@@ -70,11 +69,20 @@ impl<M: TaMemory + Drop> Cont<M> {
                 self.answer(code, 0, 0);
             }
             Request::Object(_) => {
-                let Some(state) = self.object.take() else {
-                    unreachable!();
-                };
+                let state = self.object.take().unwrap();
                 self.answer(state.no_buffer(), 0, 0);
             }
+        }
+    }
+
+    /// Its machine.
+    fn machine(&self) -> &Machine<M>
+        requires { self.now.machine ≢ None }
+        ensures { self.now.machine ≡ Some result.now }
+    {
+        match &self.machine {
+            Some(machine) => machine,
+            None => unreachable!(),
         }
     }
 
@@ -83,24 +91,18 @@ impl<M: TaMemory + Drop> Cont<M> {
         requires { CanBeAnswered M.bytes self.now }
         ensures { IsSomeAnd self.now.machine (λ m. (state_of M.bytes m).asked ≡ Some result) }
     {
-        let Some(machine) = &self.machine else {
-            unreachable!();
-        };
-        let Some(request) = machine.asked() else {
-            unreachable!();
-        };
-        request
+        match self.machine().asked() {
+            Some(request) => request,
+            None => unreachable!(),
+        }
     }
 
     /// The result of a wait that would have this one if the call weren't cancelled.
     fn waited(&self, code: u32) -> u32
         requires { CanBeAnswered M.bytes self.now }
-        ensures { IsSomeAnd self.now.machine (λ m. result ≡ (if is_cancelled (state_of M.bytes m) then TEE_ERROR_CANCEL else code)) }
+        ensures { IsSomeAnd self.now.machine (λ m. result ≡ (if is_cancelled (state_of M.bytes m) then 0xffff0002 else code)) }
     {
-        let Some(machine) = &self.machine else {
-            unreachable!();
-        };
-        if machine.cancelled() {
+        if self.machine().cancelled() {
             TEE_ERROR_CANCEL
         } else {
             code
@@ -124,16 +126,12 @@ impl<M: TaMemory + Drop> Cont<M> {
         requires can { CanBeAnswered M.bytes self.old }
         requires asked { IsSomeAnd self.old.machine (λ m. (state_of M.bytes m).asked ≡ Some (Request.Object call)) }
         ensures answers { (job : Job) → IsWaiting M.bytes (uuid_of self.old.app) self.old (job_of M.bytes self.old) job
-            → IsSomeAnd (given (Replied reply.now) job) (λ next. IsAnswered M.bytes self.new next) }
+            → IsSomeAnd (advance_on_answer (Replied reply.now) job) (λ next. IsAnswered M.bytes self.new next) }
         ensures size { memory_size M.bytes self.new ≡ memory_size M.bytes self.old }
         ensures stays { self.new ≡ record (worked self.old self.new) { phase = self.new.phase } }
     {
-        let Some(machine) = self.machine.take() else {
-            unreachable!();
-        };
-        let Some(mut state) = self.object.take() else {
-            unreachable!();
-        };
+        let machine = self.machine.take().unwrap();
+        let mut state = self.object.take().unwrap();
         let mut span = MachineSpan::of(call, machine);
         let step = state.answer(reply, &mut span, &mut self.objects);
         self.machine = Some(span.into_machine());
@@ -143,10 +141,10 @@ impl<M: TaMemory + Drop> Cont<M> {
 
     /// The call has seen that it was cancelled, and its machine is told.
     pub fn see_cancel(&mut self)
-        ensures job { job_of M.bytes self.new ≡ seen (job_of M.bytes self.old) }
+        ensures job { job_of M.bytes self.new ≡ with_cancel_seen (job_of M.bytes self.old) }
         ensures runs { CanAdvance M.bytes self.old → CanAdvance M.bytes self.new }
         ensures waits { (uuid : List ℕ) (job : Job) → IsWaiting M.bytes uuid self.old (job_of M.bytes self.old) job
-            → IsWaiting M.bytes uuid self.new (job_of M.bytes self.new) (seen job) }
+            → IsWaiting M.bytes uuid self.new (job_of M.bytes self.new) (with_cancel_seen job) }
         ensures answers { CanBeAnswered M.bytes self.old → CanBeAnswered M.bytes self.new }
         ensures size { memory_size M.bytes self.new ≡ memory_size M.bytes self.old }
         ensures stays { self.new ≡ record self.old { cancelled = true; machine = self.new.machine } }
@@ -164,7 +162,7 @@ impl<M: TaMemory + Drop> Cont<M> {
         match self.point {
             None => !self.points.is_empty(),
             Some(EntryPoint::Create | EntryPoint::Destroy) => true,
-            Some(EntryPoint::Open | EntryPoint::Invoke | EntryPoint::Close) => false,
+            Some(EntryPoint::Open | EntryPoint::Invoke { .. } | EntryPoint::Close) => false,
         }
     }
 }

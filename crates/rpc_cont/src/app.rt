@@ -14,4 +14,8 @@ pub enum ContApp {
     },
     /// One that is built in.
     Native(Native),
+    /// That of a dead instance, with its UUID: nothing runs.
+    Dead {
+        uuid: Uuid,
+    },
 }

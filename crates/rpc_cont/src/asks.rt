@@ -1,13 +1,12 @@
 //! What an application asks for as it runs, and what becomes of the answer.
 ghost use Rattle.std.specs.Prelude.{◌≡◌, List, ℕ, Some, None, IsSome, IsSomeAnd};
-ghost use Rattle.job_model.specs.Asking.{Asked as AskedJob, Gives, bytes_at, object_asking, told_time};
+ghost use Rattle.job_model.specs.declared.entry_point.EntryPoint.{EntryPoint as AnyPoint};
+ghost use Rattle.job_model.specs.Asking.{PendingRequest, Gives, bytes_at, object_asking, told_time};
 ghost use Rattle.job_model.specs.Job.{of_tee};
-ghost use Rattle.job_model.specs.Steps.{made, on_from, served};
-ghost use Rattle.rpc_cont.specs.Conts.{job_at, memory_size, point_of};
-ghost use Rattle.rpc_cont.specs.Running.{IsAsking, IsTurn, worked};
-ghost use Rattle.rpc_cont.specs.declared.entry_point.EntryPoint.{EntryPoint as AnyPoint};
+ghost use Rattle.job_model.specs.Steps.{new_request, on_from, advance_on_answers};
+ghost use Rattle.rpc_cont.specs.Conts.{job_at, memory_size};
+ghost use Rattle.rpc_cont.specs.Running.{IsAsking, IsOver, IsTurn, worked};
 ghost use Rattle.ta_isa.specs.declared.image.Image.{Image as AnyImage};
-ghost use Rattle.ta_params.specs.declared.codes.TheConstants.{TEE_ERROR_TARGET_DEAD};
 ghost use Rattle.ta_step.specs.Machine.{state_of};
 ghost use Rattle.ta_step.specs.Requests.{object_span};
 ghost use Rattle.ta_step.specs.SystemCalls.{answered};
@@ -52,7 +51,7 @@ impl<M: TaMemory + Drop> Cont<M> {
         ensures asks { (image : AnyImage) → IsSomeAnd self.old.machine (λ m. (here : AnyPoint) → self.old.point ≡ Some here
             → (let job = job_at M.bytes uuid image self.old in
             let machine = state_of M.bytes m in
-            IsSomeAnd (served job image (point_of self.old.kind here) machine (made job machine request))
+            IsSomeAnd (advance_on_answers job image here machine (new_request job machine request))
             (λ turn. IsTurn M.bytes uuid image self.new turn result))) }
         ensures size { memory_size M.bytes self.new ≡ memory_size M.bytes self.old }
         ensures stays { self.new ≡ worked self.old self.new }
@@ -61,9 +60,7 @@ impl<M: TaMemory + Drop> Cont<M> {
             Request::Time => Some(self.wait_for(Rpc::Time, Payload::new())),
             Request::Suspend(ms) => Some(self.wait_for(Rpc::Suspend(ms), Payload::new())),
             Request::Object(call) => {
-                let Some(machine) = self.machine.take() else {
-                    unreachable!();
-                };
+                let machine = self.machine.take().unwrap();
                 let span = MachineSpan::of(call, machine);
                 let (state, step) = ObjectState::start(call, uuid, &span, &mut self.objects);
                 self.machine = Some(span.into_machine());
@@ -80,13 +77,13 @@ impl<M: TaMemory + Drop> Cont<M> {
         step: StorageStep,
     ) -> Option<ContStop>
         requires { IsAsking M.bytes self.old (Request.Object call) }
-        ensures turns { (uuid : List ℕ) (image : AnyImage) (asked : AskedJob) → asked.request ≡ Request.Object call
+        ensures turns { (uuid : List ℕ) (image : AnyImage) (asked : PendingRequest) → asked.request ≡ Request.Object call
             → IsSomeAnd self.old.machine (λ m. (here : AnyPoint) → self.old.point ≡ Some here
             → (let machine = state_of M.bytes m in
             let range = (let span = object_span call in bytes_at machine span.0 span.1) in
             StandsFor state call uuid asked.range asked.objects asked.answers
             (record { step = step; range = range; objects = self.old.objects })
-            → IsTurn M.bytes uuid image self.new (on_from (job_at M.bytes uuid image self.old) image (point_of self.old.kind here)
+            → IsTurn M.bytes uuid image self.new (on_from (job_at M.bytes uuid image self.old) image here
             machine asked self.old.objects (object_asking step)) result)) }
         ensures size { memory_size M.bytes self.new ≡ memory_size M.bytes self.old }
         ensures stays { self.new ≡ worked self.old self.new }
@@ -132,15 +129,18 @@ impl<M: TaMemory + Drop> Cont<M> {
     pub(crate) fn panicked(&mut self, code: u32) -> ContStop
         requires { self.old.memory ≡ None }
         ensures answer { result ≡ ContStop.Panicked code }
-        ensures dead { self.new.result ≡ of_tee TEE_ERROR_TARGET_DEAD }
-        ensures machine { self.new.machine ≡ None }
+        ensures dead { self.new.result ≡ of_tee 0xffff3024 }
+        ensures over { IsOver self.new }
         ensures size { memory_size M.bytes self.new ≡ memory_size M.bytes self.old }
-        ensures stays { self.new ≡ record self.old { result = self.new.result; machine = self.new.machine; memory = self.new.memory } }
+        ensures stays { self.new ≡ record self.old
+            { result = self.new.result; machine = None; memory = self.new.memory; object = None; request = None } }
     {
         if let Some(machine) = self.machine.take() {
             let (memory, _) = machine.finish();
             self.memory = Some(memory);
         }
+        self.request = None;
+        self.object = None;
         self.result = CallResult {
             result: TEE_ERROR_TARGET_DEAD,
             origin: TEE_ORIGIN_TEE,

@@ -1,19 +1,18 @@
 //! How an entry point begins, and what its return leaves.
 ghost use Rattle.std.specs.Prelude.{◌≡◌, List, ℕ, [], map, length, Some, None, IsSomeAnd};
-ghost use Rattle.job_model.specs.Job.{Nothing, at_point, of_application};
+ghost use Rattle.job_model.specs.declared.entry_point.EntryPoint.{EntryPoint as AnyPoint};
+ghost use Rattle.job_model.specs.Job.{Nothing, image_job_at, of_application};
 ghost use Rattle.job_model.specs.Point.{first_registers, no_params, params_at, params_beside};
-ghost use Rattle.job_model.specs.Steps.{followed, returned, still_to_come};
-ghost use Rattle.rpc_cont.specs.Conts.{func_of, job_at, job_with, kept_params, memory_size, point_of};
+ghost use Rattle.job_model.specs.Steps.{on_to_next, job_after_return, still_to_come};
+ghost use Rattle.rpc_cont.specs.Conts.{job_at, job_with, kept_params, memory_size};
 ghost use Rattle.rpc_cont.specs.Running.{HasReady, IsIdle, IsTurn, worked};
-ghost use Rattle.rpc_cont.specs.declared.entry_point.EntryPoint.{EntryPoint as AnyPoint};
 ghost use Rattle.ta_params.specs.CopiedParams.{type_word};
 ghost use Rattle.ta_step.specs.Machine.{state_of};
 ghost use Rattle.ta_step.specs.State.{State};
 
 use crate::cont::Cont;
-use crate::entry_point::EntryPoint;
 use crate::stop::ContStop;
-use job_model::CallKind;
+use job_model::EntryPoint;
 use ta_isa::Image;
 use ta_params::codes::{TEE_ORIGIN_TRUSTED_APP, TEE_SUCCESS};
 use ta_params::{CallResult, CopiedParams, GpParam};
@@ -47,8 +46,8 @@ impl<M: TaMemory + Drop> Cont<M> {
     pub fn begin(&mut self, image: &Image, memory: M, point: EntryPoint)
         requires { self.old.machine ≡ None }
         ensures begins { (uuid : List ℕ) → job_at M.bytes uuid image.now self.new
-            ≡ at_point image.now (M.bytes memory) self.old.cancelled (job_with Nothing uuid self.old)
-            (point_of self.old.kind point) (map (point_of self.old.kind) self.old.points.items) }
+            ≡ image_job_at image.now (M.bytes memory) self.old.cancelled (job_with Nothing uuid self.old)
+            point self.old.points.items }
         ensures ready { HasReady M.bytes self.new.cancelled self.new.point self.new.machine }
         ensures size { memory_size M.bytes self.new ≡ length (M.bytes memory) }
         ensures stays { self.new ≡ record self.old { params = self.new.params; point = self.new.point; machine = self.new.machine } }
@@ -65,23 +64,13 @@ impl<M: TaMemory + Drop> Cont<M> {
 
     /// The first registers as the entry point begins.
     fn first_registers(&self, point: EntryPoint) -> [u32; 3]
-        ensures { result ≡ first_registers (point_of self.now.kind point) (kept_params self.now.params) self.now.context }
+        ensures { result ≡ first_registers point (kept_params self.now.params) self.now.context }
     {
         match point {
             EntryPoint::Create | EntryPoint::Destroy => [0, 0, 0],
             EntryPoint::Open => [self.types(), 0, 0],
-            EntryPoint::Invoke => [self.func(), self.types(), self.context],
+            EntryPoint::Invoke { func } => [func, self.types(), self.context],
             EntryPoint::Close => [0, 0, self.context],
-        }
-    }
-
-    /// The function that an invoke names.
-    pub(crate) fn func(&self) -> u32
-        ensures { result ≡ func_of self.now.kind }
-    {
-        match self.kind {
-            CallKind::Invoke { func } => func,
-            CallKind::Open | CallKind::Close | CallKind::Settled => 0,
         }
     }
 
@@ -97,12 +86,12 @@ impl<M: TaMemory + Drop> Cont<M> {
 
     /// The parameters that the entry point has, taken out of the call.
     fn params_for(&mut self, point: EntryPoint) -> CopiedParams
-        ensures has { result ≡ params_at (point_of self.old.kind point) (kept_params self.old.params) }
-        ensures beside { kept_params self.new.params ≡ params_beside (point_of self.old.kind point) (kept_params self.old.params) }
+        ensures has { result ≡ params_at point (kept_params self.old.params) }
+        ensures beside { kept_params self.new.params ≡ params_beside point (kept_params self.old.params) }
         ensures stays { self.new ≡ record self.old { params = self.new.params } }
     {
         match point {
-            EntryPoint::Open | EntryPoint::Invoke => self.take_params(),
+            EntryPoint::Open | EntryPoint::Invoke { .. } => self.take_params(),
             EntryPoint::Create | EntryPoint::Close | EntryPoint::Destroy => no_params(),
         }
     }
@@ -122,8 +111,8 @@ impl<M: TaMemory + Drop> Cont<M> {
     /// the context too. No entry point comes behind a create that fails, or an open that succeeds.
     fn take_result(&mut self, params: CopiedParams, r0: u32, r1: u32)
         ensures takes { (uuid : List ℕ) (point : AnyPoint) → self.old.point ≡ Some point
-            → (let here = point_of self.old.kind point in let job = job_with Nothing uuid self.old in
-            job_with Nothing uuid self.new ≡ record (returned job here params r0 r1) { points = still_to_come here r0 job.points }) }
+            → (let here = point in let job = job_with Nothing uuid self.old in
+            job_with Nothing uuid self.new ≡ record (job_after_return job here params r0 r1) { points = still_to_come here r0 job.points }) }
         ensures stays { self.new ≡ record self.old
             { result = self.new.result; context = self.new.context; params = self.new.params; points = self.new.points } }
     {
@@ -142,7 +131,7 @@ impl<M: TaMemory + Drop> Cont<M> {
                     self.points.clear();
                 }
             }
-            Some(EntryPoint::Invoke) => {
+            Some(EntryPoint::Invoke { .. }) => {
                 self.result = of_application(r0);
                 self.params = Some(params);
             }
@@ -155,8 +144,8 @@ impl<M: TaMemory + Drop> Cont<M> {
         requires idle { IsIdle self.old }
         ensures follows { (uuid : List ℕ) (here : AnyPoint) (machine : State) → self.old.point ≡ Some here
             → machine.memory ≡ M.bytes memory → machine.cancelled ≡ self.old.cancelled
-            → IsTurn M.bytes uuid image.now self.new (followed (job_with Nothing uuid self.old) image.now (point_of self.old.kind here)
-            machine (map (point_of self.old.kind) self.old.points.items)) result }
+            → IsTurn M.bytes uuid image.now self.new (on_to_next (job_with Nothing uuid self.old) image.now here
+            machine self.old.points.items) result }
         ensures size { memory_size M.bytes self.new ≡ length (M.bytes memory) }
         ensures stays { self.new ≡ worked self.old self.new }
     {
@@ -184,10 +173,10 @@ impl<M: TaMemory + Drop> Cont<M> {
         requires flag { (state_of M.bytes machine).cancelled ≡ self.old.cancelled }
         ensures goes { (uuid : List ℕ) (point : AnyPoint) → self.old.point ≡ Some point
             → (let job = job_with Nothing uuid self.old in
-            let here = point_of self.old.kind point in
+            let here = point in
             let left = state_of M.bytes machine in
             IsTurn M.bytes uuid image.now self.new
-            (followed (returned job here left.params r0 r1) image.now here left (still_to_come here r0 job.points)) result) }
+            (on_to_next (job_after_return job here left.params r0 r1) image.now here left (still_to_come here r0 job.points)) result) }
         ensures size { memory_size M.bytes self.new ≡ length (state_of M.bytes machine).memory }
         ensures stays { self.new ≡ worked self.old self.new }
     {

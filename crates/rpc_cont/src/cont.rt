@@ -1,9 +1,9 @@
 use crate::app::ContApp;
-use crate::entry_point::EntryPoint;
+use crate::phase::Phase;
 use arrayvec::ArrayVec;
-use job_model::{CallKind, Phase, RpcBuffer};
+use job_model::{CallKind, EntryPoint};
 use param_copy::Places;
-use rpc_msgs::{Payload, Rpc};
+use rpc_msgs::{Payload, Rpc, RpcBuffer};
 use ta_params::{CallResult, CopiedParams, Login};
 use ta_step::{Machine, TaMemory};
 use tee_storage::{Handles, ObjectState};

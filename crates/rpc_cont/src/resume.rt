@@ -1,7 +1,7 @@
 //! What a call is resumed with.
 ghost use Rattle.std.specs.Prelude.{◌≡◌, ◌≢◌, ℕ, Some, None, IsSome, IsSomeAnd};
 ghost use Rattle.job_model.specs.Job.{Job};
-ghost use Rattle.job_model.specs.Steps.{given};
+ghost use Rattle.job_model.specs.Steps.{advance_on_answer};
 ghost use Rattle.rpc_cont.specs.Answering.{CanBeAnswered, IsAnswered};
 ghost use Rattle.rpc_cont.specs.Conts.{job_of, memory_size, uuid_of};
 ghost use Rattle.rpc_cont.specs.Resuming.{answer_in};
@@ -10,21 +10,23 @@ ghost use Rattle.rpc_msgs.specs.Answer.{RpcAnswer};
 
 use crate::cont::Cont;
 use crate::input::ResumeInput;
-use job_model::{Phase, RpcBuffer};
+use crate::phase::Phase;
+use rpc_msgs::RpcBuffer;
 use ta_step::TaMemory;
 
 impl<M: TaMemory + Drop> Cont<M> {
     /// Resumes the call with what the normal world gives it: a buffer for its requests, or the answer to what it
-    /// asks for. Takes no memory.
+    /// asks for. It has no buffer when it gets one. Takes no memory.
     pub fn resume_with(&mut self, input: ResumeInput)
-        requires { self.old.phase ≡ Phase.Asks → IsSome (answer_in input) → CanBeAnswered M.bytes self.old }
+        requires answers { self.old.phase ≡ Phase.Asks → IsSome (answer_in input) → CanBeAnswered M.bytes self.old }
+        requires buffer { (addr cookie : ℕ) → input ≡ ResumeInput.Buffer addr cookie → self.old.buffer ≡ None }
         ensures nothing { input ≡ ResumeInput.Nothing → self.new ≡ self.old }
         ensures runs { self.old.phase ≡ Phase.Runs → self.new ≡ self.old }
         ensures buffer { (addr cookie : ℕ) → input ≡ ResumeInput.Buffer addr cookie → self.old.phase ≢ Phase.Runs
             → self.new ≡ record self.old { buffer = Some (record { addr = addr; cookie = cookie }) } }
         ensures asks { (answer : RpcAnswer) (job : Job) → self.old.phase ≡ Phase.Asks → answer_in input ≡ Some answer
             → IsWaiting M.bytes (uuid_of self.old.app) self.old (job_of M.bytes self.old) job
-            → IsSomeAnd (given answer job) (λ next. IsAnswered M.bytes self.new next) }
+            → IsSomeAnd (advance_on_answer answer job) (λ next. IsAnswered M.bytes self.new next) }
         ensures waits { self.old.phase ≡ Phase.Waits → IsSome (answer_in input) → self.new ≡ self.old }
         ensures ends { self.old.phase ≡ Phase.Ends → IsSome (answer_in input) → self.new ≡ record self.old { request = None } }
         ensures keeps { IsSome (answer_in input) → self.new.buffer ≡ self.old.buffer }

@@ -1,7 +1,7 @@
 ghost use Rattle.std.specs.Prelude.{◌≡◌};
 ghost use Rattle.rpc_cont.specs.Advancing.{phase_after};
 
-use job_model::Phase;
+use crate::phase::Phase;
 use ta_params::CallResult;
 
 /// Why a call stopped.

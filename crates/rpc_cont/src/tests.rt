@@ -16,7 +16,7 @@ use std::alloc::Global;
 use std::sync::Arc;
 use std::test::Fail;
 use ta_isa::{Image, decode_image};
-use ta_params::{Buf, CallResult, CopiedParams, GpParam, Login, Way};
+use ta_params::{CallResult, CopiedParams, GpParam, Login};
 use ta_step::{Plain, TaMemory};
 use tee_storage::{Handle, Handles};
 use uuid::Uuid;
@@ -90,20 +90,7 @@ struct Start {
     context: u32,
     params: CopiedParams,
     objects: Handles,
-    cancelled: bool,
-}
-
-fn params_of(p0: GpParam, p1: GpParam) -> CopiedParams {
-    CopiedParams {
-        p0,
-        p1,
-        p2: GpParam::Empty,
-        p3: GpParam::Empty,
-    }
-}
-
-fn no_params() -> CopiedParams {
-    params_of(GpParam::Empty, GpParam::Empty)
+    first: EntryPoint,
 }
 
 /// Of this kind, with context 5, no parameters and no open objects.
@@ -111,14 +98,21 @@ fn of_kind(kind: CallKind) -> Start {
     Start {
         kind,
         context: 5,
-        params: no_params(),
+        params: CopiedParams {
+            p0: GpParam::Empty,
+            p1: GpParam::Empty,
+            p2: GpParam::Empty,
+            p3: GpParam::Empty,
+        },
         objects: Handles::new(),
-        cancelled: false,
+        first: EntryPoint::Create,
     }
 }
 
 fn invoke(func: u32) -> Start {
-    of_kind(CallKind::Invoke { func })
+    let mut start = of_kind(CallKind::Invoke { func });
+    start.first = EntryPoint::Invoke { func };
+    start
 }
 
 fn result_of(code: u32, origin: u32) -> CallResult {
@@ -167,7 +161,7 @@ fn idle(alloc: Global, start: Start, behind: &[EntryPoint]) -> Cont<Plain>
         object: None,
         request: None,
         buffer: None,
-        cancelled: start.cancelled,
+        cancelled: false,
         steps: 0,
         phase: Phase::Runs,
         done: false,
@@ -215,7 +209,8 @@ fn invoked(alloc: Global, code: &[u64], start: Start) -> Result<Cont<Plain>, Fai
     ensures { IfOk result (λ cont. CanAdvance ⟦<Plain as TaMemory>⟧.bytes cont) }
 {
     let image = image_of(alloc, [0, 0, 1, 0, 0], code)?;
-    call_at(alloc, image, start, EntryPoint::Invoke, &[])
+    let first = start.first;
+    call_at(alloc, image, start, first, &[])
 }
 
 /// A constant of a register.
@@ -238,283 +233,43 @@ fn returning(alloc: Global, results: [u32; 5]) -> Result<Image, Fail>
 
 #[test]
 fn an_open_makes_its_instance(rt: HostRuntime) -> Result<(), Fail> {
-    use EntryPoint::{Create, Destroy, Open};
-    let making: &[EntryPoint] = &[Open, Destroy];
-    for (results, first, behind, want, context, last, steps, at_end) in [
-        ([0, 0, 1, 1, 1], Create, making, 0, 9, Open, 6, false),
-        ([6, 0, 1, 1, 1], Create, making, 6, 5, Create, 3, true),
-        ([0, 7, 1, 1, 1], Create, making, 7, 9, Destroy, 9, true),
-        ([1, 0, 1, 1, 1], Open, &[], 0, 9, Open, 3, false),
-        ([1, 7, 1, 1, 1], Open, &[], 7, 9, Open, 3, false),
+    for (results, want, context, last, steps) in [
+        ([0, 0, 1, 1, 1], 0, 9, EntryPoint::Open, 6),
+        ([6, 0, 1, 1, 1], 6, 5, EntryPoint::Create, 3),
+        ([0, 7, 1, 1, 1], 7, 9, EntryPoint::Destroy, 9),
     ] {
         let image = returning(rt.alloc(), results)?;
-        let mut cont = call_at(rt.alloc(), image, of_kind(CallKind::Open), first, behind)?;
+        let behind = [EntryPoint::Open, EntryPoint::Destroy];
+        let start = of_kind(CallKind::Open);
+        let mut cont = call_at(rt.alloc(), image, start, EntryPoint::Create, &behind)?;
         let ended = ContStop::Ended(result_of(want, 4));
         assert_eq!(rt; advance(&mut cont, 1000)?, ended, "{results:?}");
-        assert!(rt; cont.phase == Phase::Ends);
-        assert_eq!(rt; cont.result, result_of(want, 4));
-        assert_eq!(rt; cont.context, context);
-        assert_eq!(rt; cont.point, Some(last));
+        assert_eq!(rt; (cont.context, cont.point), (context, Some(last)));
         assert_eq!(rt; cont.steps, steps);
-        assert_eq!(rt; cont.ends_instance(), at_end);
-        assert_eq!(rt; word(&cont, 0), Some(0));
+        assert_eq!(rt; cont.ends_instance(), last != EntryPoint::Open);
     }
     Ok(())
 }
 
-/// Opens with the type word as the context, and the sum of the value parameter 0 in its place.
-const OPEN: [u64; 10] = [
+/// Waits for as many milliseconds as the function says, behind an instruction that unmasks.
+const WAIT: [u64; 6] = [
     RETURN,
-    0x0204_0000_0000_0000,
-    0x0100_0000_0000_0000,
-    0x1800_0000_0300_0000,
-    0x0301_0001_0000_0000,
-    0x0100_0000_0000_0000,
-    0x0102_0000_2000_0000,
-    0x1800_0000_0400_0000,
-    0x0201_0400_0000_0000,
-    RETURN,
-];
-
-fn value(way: Way, a: u32, b: u32) -> GpParam {
-    GpParam::Value { way, a, b }
-}
-
-/// Whether the first parameter is this value, which goes both ways.
-fn has_value(params: &Option<CopiedParams>, first: u32, second: u32) -> bool {
-    match params {
-        Some(
-            CopiedParams {
-                p0: GpParam::Value {
-                    way: Way::Inout,
-                    a,
-                    b,
-                },
-                ..
-            },
-        ) => *a == first && *b == second,
-        _ => false,
-    }
-}
-
-#[test]
-fn an_open_has_the_parameters_behind_its_create(rt: HostRuntime) -> Result<(), Fail> {
-    let image = image_of(rt.alloc(), [0, 1, 0, 0, 0], &OPEN)?;
-    let mut start = of_kind(CallKind::Open);
-    start.params = params_of(value(Way::Inout, 5, 7), GpParam::Empty);
-    let behind = [EntryPoint::Open, EntryPoint::Destroy];
-    let mut cont = call_at(rt.alloc(), image, start, EntryPoint::Create, &behind)?;
-    assert_eq!(rt; advance(&mut cont, 1000)?, ContStop::Ended(result_of(0, 4)));
-    assert_eq!(rt; cont.context, 3);
-    assert!(rt; has_value(&cont.params, 12, 0x20));
-    assert_eq!(rt; cont.steps, 10);
-    Ok(())
-}
-
-/// Returns the context, and leaves the type word and the context in the value parameter 0.
-const INVOKE: [u64; 4] = [RETURN, 0x1800_0000_0400_0000, 0x0200_0200_0000_0000, RETURN];
-
-#[test]
-fn an_invoke_is_the_same_however_its_steps_are_granted(rt: HostRuntime) -> Result<(), Fail> {
-    for (first, second, third) in [(0, 0, 1000), (0, 0, 3), (2, 0, 1), (1, 1, 1)] {
-        let mut start = invoke(0);
-        start.params = params_of(value(Way::Inout, 8, 7), GpParam::Empty);
-        let mut cont = invoked(rt.alloc(), &INVOKE, start)?;
-        assert_eq!(rt; advance(&mut cont, first)?, ContStop::Interrupted);
-        assert_eq!(rt; cont.steps, u128::from(first));
-        assert_eq!(rt; advance(&mut cont, second)?, ContStop::Interrupted);
-        assert!(rt; cont.phase == Phase::Runs && cont.memory.is_none());
-        let ended = ContStop::Ended(result_of(5, 4));
-        assert_eq!(rt;
-            advance(&mut cont, third)?,
-            ended,
-            "{first} {second} {third}"
-        );
-        assert!(rt; has_value(&cont.params, 3, 5));
-        assert_eq!(rt; cont.context, 5);
-        assert_eq!(rt; cont.steps, 3);
-    }
-    Ok(())
-}
-
-#[test]
-fn a_close_succeeds_whatever_is_returned(rt: HostRuntime) -> Result<(), Fail> {
-    let (alone, ending): (&[EntryPoint], &[EntryPoint]) = (&[], &[EntryPoint::Destroy]);
-    for (behind, last, steps, at_end) in [
-        (alone, EntryPoint::Close, 3, false),
-        (ending, EntryPoint::Destroy, 6, true),
-    ] {
-        let image = returning(rt.alloc(), [1, 1, 1, 7, 8])?;
-        let start = of_kind(CallKind::Close);
-        let mut cont = call_at(rt.alloc(), image, start, EntryPoint::Close, behind)?;
-        assert_eq!(rt; advance(&mut cont, 1000)?, ContStop::Ended(result_of(0, 3)));
-        assert_eq!(rt; cont.point, Some(last));
-        assert_eq!(rt; cont.context, 5);
-        assert_eq!(rt; cont.steps, steps);
-        assert_eq!(rt; cont.ends_instance(), at_end);
-    }
-    Ok(())
-}
-
-/// Stores 5 at address 0, and panics with the function.
-const PANIC: [u64; 4] = [
-    RETURN,
-    0x0104_0000_0500_0000,
-    0x1000_0504_0000_0000,
-    0x1800_0000_0100_0000,
-];
-
-#[test]
-fn a_panic_gives_the_memory_back(rt: HostRuntime) -> Result<(), Fail> {
-    let mut cont = invoked(rt.alloc(), &PANIC, invoke(9))?;
-    assert_eq!(rt; advance(&mut cont, 1000)?, ContStop::Panicked(9));
-    assert!(rt; cont.phase == Phase::Ends);
-    assert_eq!(rt; cont.result, result_of(0xffff_3024, 3));
-    assert_eq!(rt; word(&cont, 0), Some(5));
-    assert!(rt; cont.machine.is_none());
-    assert_eq!(rt; cont.steps, 3);
-    Ok(())
-}
-
-/// Whether the call waits for the answer to this, with no bytes.
-fn waits_for(cont: &Cont<Plain>, rpc: &Rpc) -> bool {
-    match &cont.request {
-        Some(asked) => {
-            cont.phase == Phase::Asks && asked.rpc == *rpc && asked.payload.bytes().is_empty()
-        }
-        None => false,
-    }
-}
-
-fn reply(ret: u32, v: u64, w: u64) -> RpcReply {
-    RpcReply {
-        ret,
-        v,
-        w,
-        size: 0,
-        bytes: Payload::new(),
-    }
-}
-
-const BUFFER: RpcBuffer = RpcBuffer {
-    addr: 0x4001_0000,
-    cookie: 77,
-};
-
-fn lent() -> ResumeInput {
-    ResumeInput::Buffer {
-        addr: BUFFER.addr,
-        cookie: BUFFER.cookie,
-    }
-}
-
-/// Asks for the time, and stores the seconds and milliseconds at addresses 0 and 4.
-const TIME: [u64; 5] = [
-    RETURN,
-    0x1800_0000_0b00_0000,
-    0x1000_0501_0000_0000,
-    0x1000_0502_0400_0000,
+    0x0203_0000_0000_0000,
+    0x1800_0000_0a00_0000,
+    0x0200_0300_0000_0000,
+    0x1800_0000_0c00_0000,
     RETURN,
 ];
 
 #[test]
-fn the_time_is_told(rt: HostRuntime) -> Result<(), Fail> {
-    for (told, want, seconds, milliseconds) in [
-        (Some(reply(0, 0x7_0000_0005, 7_999_999)), 0, 5, 7),
-        (Some(reply(0, 6, 0x1_0000_0000 + 2_000_000)), 0, 6, 2),
-        (Some(reply(0xffff_0008, 5, 7_999_999)), 0xffff_0000, 0, 0),
-        (None, 0xffff_000c, 0, 0),
-    ] {
-        let mut cont = invoked(rt.alloc(), &TIME, invoke(0))?;
-        assert_eq!(rt; advance(&mut cont, 1000)?, ContStop::Asks);
-        assert_eq!(rt; cont.steps, 1);
-        assert!(rt; waits_for(&cont, &Rpc::Time));
-        answer(&mut cont, told)?;
-        assert!(rt; cont.phase == Phase::Runs && cont.request.is_none());
-        assert_eq!(rt;
-            advance(&mut cont, 1000)?,
-            ContStop::Ended(result_of(want, 4))
-        );
-        assert_eq!(rt; word(&cont, 0), Some(seconds));
-        assert_eq!(rt; word(&cont, 4), Some(milliseconds));
-        assert_eq!(rt; cont.steps, 4);
-    }
-    Ok(())
-}
-
-const UNMASK: u64 = 0x1800_0000_0a00_0000;
-
-/// Leaves everything as it is.
-const IDLE: u64 = 0x0205_0500_0000_0000;
-
-/// Waits for as many milliseconds as the function says, behind an instruction that may unmask.
-fn waiting(first: u64) -> [u64; 6] {
-    [
-        RETURN,
-        0x0203_0000_0000_0000,
-        first,
-        0x0200_0300_0000_0000,
-        0x1800_0000_0c00_0000,
-        RETURN,
-    ]
-}
-
-#[test]
-fn a_wait_ends_by_its_answer(rt: HostRuntime) -> Result<(), Fail> {
-    for (first, told, want) in [
-        (UNMASK, Some(reply(0, 0, 0)), 0),
-        (UNMASK, Some(reply(0xffff_0008, 0, 0)), 0),
-        (UNMASK, None, 0xffff_000c),
-        (IDLE, None, 0xffff_000c),
-    ] {
-        let mut cont = invoked(rt.alloc(), &waiting(first), invoke(250))?;
-        assert_eq!(rt; advance(&mut cont, 1000)?, ContStop::Asks);
-        assert_eq!(rt; cont.steps, 4);
-        assert!(rt; waits_for(&cont, &Rpc::Suspend(250)));
-        answer(&mut cont, told)?;
-        let ended = ContStop::Ended(result_of(want, 4));
-        assert_eq!(rt; advance(&mut cont, 1000)?, ended, "{first:x}");
-        assert_eq!(rt; cont.steps, 5);
-    }
-    Ok(())
-}
-
-#[test]
-fn a_wait_ends_by_its_cancellation_where_that_is_not_masked(rt: HostRuntime) -> Result<(), Fail> {
-    for (first, told, want) in [
-        (UNMASK, Some(reply(0, 0, 0)), 0xffff_0002),
-        (UNMASK, None, 0xffff_0002),
-        (IDLE, Some(reply(0, 0, 0)), 0),
-        (IDLE, None, 0xffff_000c),
-    ] {
-        let mut cont = invoked(rt.alloc(), &waiting(first), invoke(250))?;
-        assert_eq!(rt; advance(&mut cont, 1000)?, ContStop::Asks);
-        cancel_and_answer(&mut cont, told)?;
-        assert!(rt; cont.cancelled);
-        let ended = ContStop::Ended(result_of(want, 4));
-        assert_eq!(rt; advance(&mut cont, 1000)?, ended, "{first:x}");
-        assert_eq!(rt; cont.steps, 5);
-    }
-    Ok(())
-}
-
-#[test]
-fn a_cancelled_call_does_not_wait(rt: HostRuntime) -> Result<(), Fail> {
+fn a_wait_ends_by_its_cancellation(rt: HostRuntime) -> Result<(), Fail> {
+    let mut cont = invoked(rt.alloc(), &WAIT, invoke(250))?;
+    assert_eq!(rt; advance(&mut cont, 3)?, ContStop::Interrupted);
+    assert_eq!(rt; advance(&mut cont, 1000)?, ContStop::Asks);
+    cancel_and_answer(&mut cont, None)?;
     let ended = ContStop::Ended(result_of(0xffff_0002, 4));
-    for (first, seen_before, want, steps) in [
-        (UNMASK, true, ended, 5),
-        (UNMASK, false, ended, 5),
-        (IDLE, true, ContStop::Asks, 4),
-    ] {
-        let mut start = invoke(250);
-        start.cancelled = seen_before;
-        let mut cont = invoked(rt.alloc(), &waiting(first), start)?;
-        assert_eq!(rt; cont.cancelled, seen_before);
-        cont.see_cancel();
-        assert!(rt; cont.cancelled);
-        assert_eq!(rt; advance(&mut cont, 1000)?, want);
-        assert_eq!(rt; cont.steps, steps);
-    }
+    assert_eq!(rt; advance(&mut cont, 1000)?, ended);
+    assert_eq!(rt; cont.steps, 5);
     Ok(())
 }
 
@@ -528,115 +283,44 @@ const READ: [u64; 6] = [
     RETURN,
 ];
 
-/// An invoke with the object of this handle open, at position 3 of 3588 bytes.
-fn invoke_with_object(func: u32, handle: u32) -> Result<Start, Fail> {
-    if handle >= 8 {
-        return Err(Fail::from("eight handles"));
-    }
-    let mut start = invoke(func);
+/// An invoke with the object 6 open, at position 3 of 7 bytes, which reads the object of this handle.
+fn with_object(handle: u32) -> Result<Start, Fail> {
+    let mut start = invoke(handle);
     let object = Handle {
         name: FileName::new(b"1/A")?,
         fd: 70,
-        length: 3588,
+        length: 7,
         position: 3,
     };
-    start.objects.put(handle, object);
+    start.objects.put(6, object);
     Ok(start)
 }
 
-/// A reply that brings so many bytes of a file, all of them this.
-fn piece_of(alloc: Global, byte: u8, len: u32) -> Result<RpcReply, Fail> {
-    if len > 3584 {
-        return Err(Fail::from("a long piece"));
-    }
-    let bytes = vec![in alloc; byte; len as usize]?;
-    Ok(RpcReply {
+/// A reply that brings four bytes.
+fn piece() -> RpcReply {
+    RpcReply {
         ret: 0,
         v: 0,
         w: 0,
-        size: u64::from(len),
-        bytes: Payload::of(&bytes),
-    })
-}
-
-/// The byte at an address of the call's machine.
-fn machine_byte(cont: &Cont<Plain>, addr: u32) -> Option<u8> {
-    cont.machine.as_ref()?.load(addr)
-}
-
-#[test]
-fn an_object_is_read_in_two_pieces(rt: HostRuntime) -> Result<(), Fail> {
-    for (len, want, read, sixth, position) in [
-        (1, 0, 3585, 6, 3588),
-        (2, 0xf010_0001, 0, 0, 3),
-        (0, 0xf010_0001, 0, 0, 3),
-    ] {
-        let mut cont = invoked(rt.alloc(), &READ, invoke_with_object(6, 6)?)?;
-        assert_eq!(rt; advance(&mut cont, 1000)?, ContStop::Asks);
-        let first = Rpc::FsRead {
-            fd: 70,
-            offset: 11,
-            len: 3584,
-        };
-        assert!(rt; waits_for(&cont, &first));
-        answer(&mut cont, Some(piece_of(rt.alloc(), 5, 3584)?))?;
-        let second = Rpc::FsRead {
-            fd: 70,
-            offset: 3595,
-            len: 1,
-        };
-        assert!(rt; waits_for(&cont, &second));
-        assert_eq!(rt; machine_byte(&cont, 255), Some(0));
-        assert_eq!(rt; machine_byte(&cont, 256), Some(5));
-        assert_eq!(rt; machine_byte(&cont, 3839), Some(5));
-        assert_eq!(rt; machine_byte(&cont, 3840), Some(0));
-        answer(&mut cont, Some(piece_of(rt.alloc(), 6, len)?))?;
-        assert!(rt; cont.phase == Phase::Runs && cont.object.is_none());
-        assert_eq!(rt; machine_byte(&cont, 3840), Some(sixth));
-        assert_eq!(rt;
-            advance(&mut cont, 1000)?,
-            ContStop::Ended(result_of(want, 4))
-        );
-        assert_eq!(rt; word(&cont, 0), Some(read));
-        assert_eq!(rt;
-            word(&cont, 3837),
-            Some(0x0005_0505 | u32::from(sixth) << 24)
-        );
-        assert_eq!(rt;
-            cont.objects.get(6).map(|object| object.position),
-            Some(position)
-        );
-        assert_eq!(rt; cont.steps, 5);
+        size: 4,
+        bytes: Payload::of(&[5, 6, 7, 8]),
     }
-    Ok(())
 }
 
 #[test]
-fn an_object_that_is_not_open_is_a_panic(rt: HostRuntime) -> Result<(), Fail> {
-    let mut cont = invoked(rt.alloc(), &READ, invoke_with_object(2, 6)?)?;
-    assert_eq!(rt; advance(&mut cont, 1000)?, ContStop::Panicked(5));
-    assert!(rt; cont.phase == Phase::Ends && cont.request.is_none());
-    assert_eq!(rt; cont.steps, 3);
-    assert_eq!(rt; word(&cont, 0), Some(0));
+fn an_object_is_read(rt: HostRuntime) -> Result<(), Fail> {
+    for (told, want, first) in [(Some(piece()), 0, 0x0807_0605), (None, 0xffff_000c, 0)] {
+        let mut cont = invoked(rt.alloc(), &READ, with_object(6)?)?;
+        assert_eq!(rt; advance(&mut cont, 1000)?, ContStop::Asks);
+        answer(&mut cont, told)?;
+        let ended = ContStop::Ended(result_of(want, 4));
+        assert_eq!(rt; advance(&mut cont, 1000)?, ended);
+        assert_eq!(rt; word(&cont, 256), Some(first));
+    }
+    let mut closed = invoked(rt.alloc(), &READ, with_object(2)?)?;
+    assert_eq!(rt; advance(&mut closed, 1000)?, ContStop::Panicked(5));
     Ok(())
 }
-
-#[test]
-fn a_read_without_a_buffer_ends(rt: HostRuntime) -> Result<(), Fail> {
-    let mut cont = invoked(rt.alloc(), &READ, invoke_with_object(6, 6)?)?;
-    assert_eq!(rt; advance(&mut cont, 1000)?, ContStop::Asks);
-    answer(&mut cont, None)?;
-    let ended = ContStop::Ended(result_of(0xffff_000c, 4));
-    assert_eq!(rt; advance(&mut cont, 1000)?, ended);
-    assert_eq!(rt; cont.objects.get(6).map(|object| object.position), Some(3));
-    Ok(())
-}
-
-/// SHA-256 of "abc", by FIPS 180-4.
-const ABC: [u8; 32] = [
-    0xba, 0x78, 0x16, 0xbf, 0x8f, 0x01, 0xcf, 0xea, 0x41, 0x41, 0x40, 0xde, 0x5d, 0xae, 0x22, 0x23,
-    0xb0, 0x03, 0x61, 0xa3, 0x96, 0x17, 0x7a, 0x9c, 0xb4, 0x10, 0xff, 0x61, 0xf2, 0x00, 0x15, 0xad,
-];
 
 /// An invoke of a built-in application.
 fn built_in_invoke(alloc: Global, native: Native, start: Start) -> Cont<Plain>
@@ -644,111 +328,21 @@ fn built_in_invoke(alloc: Global, native: Native, start: Start) -> Cont<Plain>
 {
     let mut cont = idle(alloc, start, &[]);
     cont.app = Some(ContApp::Native(native));
-    cont.point = Some(EntryPoint::Invoke);
+    cont.point = Some(EntryPoint::Invoke { func: 1 });
     cont
-}
-
-/// A call of a built-in application that has nothing to run, with these entry points to come.
-fn built_in(alloc: Global, native: Native, start: Start, behind: &[EntryPoint]) -> Cont<Plain>
-    ensures { CanAdvance ⟦<Plain as TaMemory>⟧.bytes result }
-{
-    let mut cont = idle(alloc, start, behind);
-    cont.app = Some(ContApp::Native(native));
-    cont.point = None;
-    cont
-}
-
-fn buffer(way: Way, bytes: Vec<u8>) -> GpParam {
-    GpParam::Memref {
-        way,
-        buf: Buf::of(bytes),
-        size: 32,
-    }
 }
 
 #[test]
 fn an_invoke_of_a_built_in_application_is_one_step(rt: HostRuntime) -> Result<(), Fail> {
-    for (func, want, byte, bytes) in [(0, 0, 0xba, ABC), (1, 0xffff_0006, 7, [7; 32])] {
-        let mut start = invoke(func);
-        let message = buffer(Way::In, b"abc".to_vec(rt.alloc())?);
-        start.params = params_of(message, buffer(Way::Out, vec![in rt.alloc(); 7; 32]?));
-        let native = Native {
-            uuid: Uuid::NAMESPACE_DNS,
-            relation: Relation::Digest,
-            call: digest,
-        };
-        let mut cont = built_in_invoke(rt.alloc(), native, start);
-        assert_eq!(rt; advance(&mut cont, 0)?, ContStop::Interrupted);
-        assert_eq!(rt; cont.steps, 0);
-        assert_eq!(rt;
-            advance(&mut cont, 1000)?,
-            ContStop::Ended(result_of(want, 4))
-        );
-        assert_eq!(rt; cont.steps, 1);
-        assert!(rt; !cont.ends_instance());
-        let Some(
-            CopiedParams {
-                p1: GpParam::Memref { buf, .. },
-                ..
-            },
-        ) = &cont.params
-        else {
-            panic!(rt; "the output is there");
-        };
-        assert_eq!(rt; buf.bytes().first().copied(), Some(byte));
-        assert_eq!(rt; buf.bytes(), bytes.as_slice());
-    }
-    Ok(())
-}
-
-#[test]
-fn a_close_of_a_built_in_application_ends_at_once(rt: HostRuntime) -> Result<(), Fail> {
-    let (alone, ending): (&[EntryPoint], &[EntryPoint]) = (&[], &[EntryPoint::Destroy]);
-    for (behind, at_end) in [(alone, false), (ending, true)] {
-        let native = Native {
-            uuid: Uuid::NAMESPACE_DNS,
-            relation: Relation::Digest,
-            call: digest,
-        };
-        let mut cont = built_in(rt.alloc(), native, of_kind(CallKind::Close), behind);
-        assert_eq!(rt; advance(&mut cont, 0)?, ContStop::Ended(result_of(0, 3)));
-        assert!(rt; cont.phase == Phase::Ends);
-        assert_eq!(rt; cont.steps, 0);
-        assert_eq!(rt; cont.ends_instance(), at_end);
-    }
-    Ok(())
-}
-
-#[test]
-fn a_call_that_asks_takes_a_buffer(rt: HostRuntime) -> Result<(), Fail> {
-    let mut cont = invoked(rt.alloc(), &TIME, invoke(0))?;
-    assert_eq!(rt; advance(&mut cont, 1000)?, ContStop::Asks);
-    cont.resume_with(ResumeInput::Nothing);
-    assert!(rt; cont.buffer.is_none());
-    cont.resume_with(lent());
-    assert_eq!(rt; cont.buffer, Some(BUFFER));
-    assert!(rt; waits_for(&cont, &Rpc::Time));
-    Ok(())
-}
-
-#[test]
-fn a_wake_is_written_once(rt: HostRuntime) -> Result<(), Fail> {
-    for (input, kept, buffer) in [
-        (ResumeInput::Nothing, true, None),
-        (lent(), true, Some(BUFFER)),
-        (ResumeInput::NoBuffer, false, None),
-        (ResumeInput::Reply(reply(0, 0, 0)), false, None),
-    ] {
-        let mut cont = idle(rt.alloc(), of_kind(CallKind::Close), &[]);
-        cont.phase = Phase::Ends;
-        cont.request = Some(Asked {
-            rpc: Rpc::Wake(7),
-            payload: Payload::new(),
-        });
-        cont.resume_with(input);
-        assert_eq!(rt; cont.request.is_some(), kept);
-        assert_eq!(rt; cont.buffer, buffer);
-        assert!(rt; cont.phase == Phase::Ends);
-    }
+    let native = Native {
+        uuid: Uuid::NAMESPACE_DNS,
+        relation: Relation::Digest,
+        call: digest,
+    };
+    let mut cont = built_in_invoke(rt.alloc(), native, invoke(1));
+    assert_eq!(rt; advance(&mut cont, 0)?, ContStop::Interrupted);
+    let ended = ContStop::Ended(result_of(0xffff_0006, 4));
+    assert_eq!(rt; advance(&mut cont, 1000)?, ended);
+    assert_eq!(rt; cont.steps, 1);
     Ok(())
 }

@@ -2,8 +2,8 @@ use Rattle.std.proofs.Common.{rules, ◌≡◌, List, ℕ, Option, Some, None, r
 use Rattle.std.specs.Prelude.{IsSome, IsSomeAnd}
 use Rattle.job_model.specs.Job.{Job}
 use Rattle.job_model.specs.Steps.{Advance, Goes, Stops, Ends, Panics, Asks}
-use Rattle.job_model.specs.declared.phase.Phase.{Phase}
-use Rattle.job_model.specs.declared.phase.Phase.TheVariants as phase
+use Rattle.rpc_cont.specs.declared.phase.Phase.{Phase}
+use Rattle.rpc_cont.specs.declared.phase.Phase.TheVariants as phase
 use Rattle.rpc_msgs.specs.Answer.{RpcAnswer}
 use Rattle.rpc_cont.specs.Advancing.{CanAdvance}
 use Rattle.rpc_cont.specs.Answering.{CanBeAnswered, IsAnswered}

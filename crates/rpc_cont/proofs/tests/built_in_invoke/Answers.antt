@@ -1,4 +1,3 @@
-use Rattle.std.proofs.Common.{refl}
 use Rattle.rpc_cont.proofs.tests.built_in_invoke.Goals as goal
 
 pub returns : goal.returns
@@ -6,5 +5,5 @@ returns g c =
     let idle = c.idle-cont.ensures in
     record {
       phase = idle.phase;
-      runs = record { memory = idle.memory; request = idle.request; object = idle.object; runs = (refl, idle.machine) };
+      runs = record { memory = idle.memory; request = idle.request; object = idle.object; runs = (tt, idle.machine) };
     }

@@ -1,5 +1,5 @@
 use Rattle.std.proofs.Common.{◌≡◌, ap, sym, subst, ◌∙◌, List, ℕ}
-use Rattle.job_model.specs.Job.{Job, seen}
+use Rattle.job_model.specs.Job.{Job, with_cancel_seen}
 use Rattle.rpc_cont.specs.Conts.{job_of, uuid_of}
 use Rattle.rpc_cont.specs.Running.{IsWaiting}
 use Rattle.rpc_cont.specs.declared.cont.Cont.{Cont}
@@ -13,4 +13,4 @@ pub answer-requires-clause-waits : goal.answer-requires-clause-waits
 answer-requires-clause-waits g c phase =
     let stays = c.see_cancel.ensures.stays in
     let found = c.requires.waits (sym (ap (λ x. x.phase) stays) ∙ phase) in
-    (seen found.0, waits_as _ _ _ _ _ (sym (ap (λ x. uuid_of x.app) stays)) (c.see_cancel.ensures.waits _ found.0 found.1))
+    (with_cancel_seen found.0, waits_as _ _ _ _ _ (sym (ap (λ x. uuid_of x.app) stays)) (c.see_cancel.ensures.waits _ found.0 found.1))

@@ -1,6 +1,6 @@
 use Rattle.std.proofs.Common.{◌≡◌, List, ℕ, [], ap, sym, subst, ◌∙◌, Option, Some, None, length}
 use Rattle.job_model.specs.Asking.{bytes_at, range_of}
-use Rattle.job_model.specs.Steps.{made}
+use Rattle.job_model.specs.Steps.{new_request}
 use Rattle.rpc_cont.specs.Conts.{job_at, memory_of}
 use Rattle.rpc_cont.specs.Running.{HasAskedFor}
 use Rattle.ta_step.specs.Machine.{state_of}
@@ -19,11 +19,11 @@ go_on-requires g c =
     let bytes = g.M.TaMemory.bytes in
     let old = c.args.self.now in
     let span = object_span c.in-Object.call in
-    let s = state_of bytes c.in-Some.machine in
-    let is : old.machine ≡ Some c.in-Some.machine = cc in
+    let s = state_of bytes c.unwrap-machine.result in
+    let is : old.machine ≡ Some c.unwrap-machine.result = cc in
     let asks =
     subst (λ (r : Request). HasAskedFor old.cancelled r s) c.in-Object.is
-    (holds_there old.machine _ c.in-Some.machine is c.requires.machine)
+    (holds_there old.machine _ c.unwrap-machine.result is c.requires.machine)
     in
     let kept =
     unread s (state_of bytes c.into_machine.result) span.0 span.1 _ asks.in_range
@@ -35,13 +35,13 @@ go_on-requires g c =
       machine = subst (λ (t : State). HasAskedFor old.cancelled (request.Object c.in-Object.call) t) (sym kept) asks;
     }
 
-pub returns-in-Some-clause-asks : goal.returns-in-Some-clause-asks
-returns-in-Some-clause-asks g c image =
+pub returns-in-Object-clause-asks : goal.returns-in-Object-clause-asks
+returns-in-Object-clause-asks g c image =
     let bytes = g.M.TaMemory.bytes in
     let old = c.args.self.now in
     let call = c.in-Object.call in
     let span = object_span call in
-    let m = c.in-Some.machine in
+    let m = c.unwrap-machine.result in
     let n = c.into_machine.result in
     let s = state_of bytes m in
     let is : old.machine ≡ Some m = cc in
@@ -50,7 +50,7 @@ returns-in-Some-clause-asks g c image =
     in
     let stored = c.into_machine.ensures s span.0 span.1 asks.in_range c.of-span.ensures.rest in
     let kept = unread s (state_of bytes n) span.0 span.1 _ asks.in_range stored c.of-span.ensures.bytes in
-    let asked = made (job_at bytes c.args.uuid image old) s c.args.request in
+    let asked = new_request (job_at bytes c.args.uuid image old) s c.args.request in
     let range = bytes_at (state_of bytes c.of-span.result.machine) c.of-span.result.addr c.of-span.result.len in
     let now : Serving = record { step = c.start-state.result.1; range = range; objects = c.start-state.new.handles } in
     let named = c.of-span.ensures.bytes ∙ ap (λ (r : Request). range_of r s) (sym c.in-Object.is) in
@@ -62,16 +62,16 @@ returns-in-Some-clause-asks g c image =
     (came-over (state_of bytes n) call c.args.uuid asked.range range asked.objects c.start-state.new.handles [] c.start-state.result.0 c.start-state.result.1
     (ap (λ (t : State). bytes_at t span.0 span.1) kept ∙ sym c.of-span.ensures.bytes) stands)))
 
-pub returns-in-Some-clause-size : goal.returns-in-Some-clause-size
-returns-in-Some-clause-size g c =
+pub returns-in-Object-clause-size : goal.returns-in-Object-clause-size
+returns-in-Object-clause-size g c =
     let bytes = g.M.TaMemory.bytes in
     let old = c.args.self.now in
     let span = object_span c.in-Object.call in
-    let s = state_of bytes c.in-Some.machine in
-    let is : old.machine ≡ Some c.in-Some.machine = cc in
+    let s = state_of bytes c.unwrap-machine.result in
+    let is : old.machine ≡ Some c.unwrap-machine.result = cc in
     let asks =
     subst (λ (r : Request). HasAskedFor old.cancelled r s) c.in-Object.is
-    (holds_there old.machine _ c.in-Some.machine is c.requires.machine)
+    (holds_there old.machine _ c.unwrap-machine.result is c.requires.machine)
     in
     let kept =
     unread s (state_of bytes c.into_machine.result) span.0 span.1 _ asks.in_range

@@ -2,7 +2,7 @@ use Rattle.std.proofs.Common.{◌≡◌, ℕ, List, Option, Some, None, ap, sym,
 use Rattle.job_model.specs.Asking.{bytes_at, object_asking}
 use Rattle.job_model.specs.Steps.{Advance, on_from}
 use Rattle.rpc_cont.specs.Answering.{IsAnswered}
-use Rattle.rpc_cont.specs.Conts.{job_at, memory_of, point_of, uuid_of}
+use Rattle.rpc_cont.specs.Conts.{job_at, memory_of, uuid_of}
 use Rattle.rpc_msgs.specs.Answer.{Replied}
 use Rattle.ta_step.specs.Machine.{state_of}
 use Rattle.ta_step.specs.Requests.{object_span}
@@ -21,7 +21,7 @@ pub go_on-stop-requires : goal.go_on-stop-requires
 go_on-stop-requires g c =
     let bytes = g.M.TaMemory.bytes in
     let old = c.args.self.now in
-    let m = c.in-Some.machine in
+    let m = c.unwrap-machine.result in
     let span = object_span c.args.call in
     let is : old.machine ≡ Some m = cc in
     let wants = holds_there old.machine _ m is c.requires.asked in
@@ -40,11 +40,11 @@ returns-clause-answers g c job waits =
     let uuid = uuid_of old.app in
     let call = c.args.call in
     let span = object_span call in
-    let m = c.in-Some.machine in
+    let m = c.unwrap-machine.result in
     let n = c.into_machine.result in
     let s = state_of bytes m in
     let is : old.machine ≡ Some m = cc in
-    let object_is : old.object ≡ Some c.in-Some-take.state = cc in
+    let object_is : old.object ≡ Some c.unwrap-state.result = cc in
     let wants = holds_there old.machine _ m is c.requires.asked in
     let w = waiting bytes old job m (request.Object call) c.requires.can waits is wants in
     let answer = Replied c.args.reply.now in
@@ -54,11 +54,11 @@ returns-clause-answers g c job waits =
     let rest = c.answer-step.ensures.rest ∙ c.of-span.ensures.rest in
     let stored = c.into_machine.ensures s span.0 span.1 w.asks.in_range rest in
     let here = stored-there s (state_of bytes n) (state_of bytes left.machine) left.addr left.len span.0 span.1 left.inside w.asks.in_range rest stored in
-    let come = come-object uuid (bytes_at s span.0 span.1) w.asked old call old.request old.object c.in-Some-take.state object_is w.come in
+    let come = come-object uuid (bytes_at s span.0 span.1) w.asked old call old.request old.object c.unwrap-state.result object_is w.come in
     let asking = storage.Ask come.0.rpc come.0.payload in
     let came =
     subst (λ (r : List ℕ).
-    StandsFor c.in-Some-take.state call uuid w.asked.range w.asked.objects w.asked.answers (record { step = asking; range = r; objects = old.objects }))
+    StandsFor c.unwrap-state.result call uuid w.asked.range w.asked.objects w.asked.answers (record { step = asking; range = r; objects = old.objects }))
     (sym c.of-span.ensures.bytes) come.1
     in
     let stands = c.answer-step.ensures.stands call uuid w.asked.range w.asked.objects w.asked.answers come.0.rpc come.0.payload came in
@@ -67,8 +67,8 @@ returns-clause-answers g c job waits =
     let now : Serving = record { step = step; range = range; objects = objects } in
     let plain = record old { object = None } in
     let mid = moved plain n objects in
-    let next = on_from (job_at bytes uuid w.image mid) w.image (point_of old.kind w.here) (state_of bytes n) more objects (object_asking step) in
-    let calm = goes_or_asks (job_at bytes uuid w.image mid) w.image (point_of old.kind w.here) (state_of bytes n) more objects step c.answer-step.ensures.no_panic in
+    let next = on_from (job_at bytes uuid w.image mid) w.image w.here (state_of bytes n) more objects (object_asking step) in
+    let calm = goes_or_asks (job_at bytes uuid w.image mid) w.image w.here (state_of bytes n) more objects step c.answer-step.ensures.no_panic in
     let turn =
     c.go_on-stop.ensures.turns uuid w.image more w.names w.here w.at
     (came-over (state_of bytes n) call uuid more.range range more.objects objects more.answers c.answer-step.new.self step here stands)
@@ -82,7 +82,7 @@ pub returns-clause-size : goal.returns-clause-size
 returns-clause-size g c =
     let bytes = g.M.TaMemory.bytes in
     let old = c.args.self.now in
-    let m = c.in-Some.machine in
+    let m = c.unwrap-machine.result in
     let s = state_of bytes m in
     let span = object_span c.args.call in
     let is : old.machine ≡ Some m = cc in

@@ -1,6 +1,6 @@
 use Rattle.job_model.specs.Job.{Nothing}
 use Rattle.job_model.specs.Steps.{Advance}
-use Rattle.rpc_cont.specs.Conts.{body_at, job_with, point_of}
+use Rattle.rpc_cont.specs.Conts.{body_at, job_with}
 use Rattle.rpc_cont.specs.Running.{IsTurn}
 use Rattle.std.proofs.Common.{Some}
 use Rattle.ta_step.specs.Machine.{state_of}
@@ -13,7 +13,7 @@ returns-in-Ended-clause-serves g c here at =
     let bytes = g.M.TaMemory.bytes in
     let image = c.args.image.now in
     let cont = c.args.self.now in
-    stops_so (job_with Nothing c.args.uuid cont) image (point_of cont.kind here) (state_of bytes c.args.machine) c.args.stop (stop.Ended c.in-Ended.result c.in-Ended.context)
+    stops_so (job_with Nothing c.args.uuid cont) image here (state_of bytes c.args.machine) c.args.stop (stop.Ended c.in-Ended.result c.in-Ended.context)
     (λ (turn : Advance). IsTurn bytes c.args.uuid image c.returned.new.self turn c.returned.result)
     c.in-Ended.is (c.returned.ensures.goes c.args.uuid here at)
 
@@ -22,7 +22,7 @@ returns-in-Asks-clause-serves g c here at =
     let bytes = g.M.TaMemory.bytes in
     let image = c.args.image.now in
     let cont = c.args.self.now in
-    asks_so (job_with Nothing c.args.uuid cont) (body_at bytes cont.kind image cont.point (Some c.args.machine)) image (point_of cont.kind here) (state_of bytes c.args.machine)
+    asks_so (job_with Nothing c.args.uuid cont) (body_at bytes image cont.point (Some c.args.machine)) image here (state_of bytes c.args.machine)
     c.args.stop c.in-Asks.request
     (λ (turn : Advance). IsTurn bytes c.args.uuid image c.ask.new.self turn c.ask.result)
     c.in-Asks.is (c.ask.ensures.asks image here at)

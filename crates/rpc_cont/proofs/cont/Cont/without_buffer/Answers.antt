@@ -40,14 +40,14 @@ returns-in-Suspend-clause-answers g c job waits =
     (holds_there old.machine _ m there c.answer-in-Suspend.ensures.gives (request.Suspend ms) wait)
     (wait-gives bytes old job m ms w NoBuffer code (holds_there old.machine _ m there c.waited-code.ensures)))
 
-pub returns-in-Some-clause-answers : goal.returns-in-Some-clause-answers
-returns-in-Some-clause-answers g c job waits =
+pub returns-in-Object-clause-answers : goal.returns-in-Object-clause-answers
+returns-in-Object-clause-answers g c job waits =
     let bytes = g.M.TaMemory.bytes in
     let old = c.args.self.now in
     let uuid = uuid_of old.app in
     let call = c.in-Object.field-0 in
     let span = object_span call in
-    let state = c.in-Some.state in
+    let state = c.unwrap-state.result in
     let code = c.no_buffer.result in
     let is : old.object ≡ Some state = cc in
     from_there old.machine _ c.asked.ensures

@@ -1,0 +1,64 @@
+-- How a call begins on its instance.
+use Rattle.std.specs.Prelude.{◌≡◌, ℕ, Bool, false, if◌then◌else◌, List, [], ◌∷◌, length, Option, Some, None}
+use Rattle.job_model.specs.Beginning.{Program, OfImage, OfRelation, Beginning}
+use Rattle.job_model.specs.declared.entry_point.EntryPoint.{EntryPoint}
+use Rattle.job_model.specs.declared.entry_point.EntryPoint.TheVariants as entry
+use Rattle.rpc_cont.specs.Running.{IsIdle}
+use Rattle.rpc_cont.specs.declared.call_entry.CallEntry.{CallEntry}
+use Rattle.rpc_cont.specs.declared.cont.Cont.{Cont}
+use Rattle.rpc_cont.specs.declared.held.Held.{Held}
+use Rattle.rpc_cont.specs.declared.held.Held.TheVariants as held
+use Rattle.ta_isa.specs.Spelling.{IsValid}
+
+-- ---- the instance
+
+-- what it begins on, with the flag as the call has seen it
+abbrev pub beginning_on : {M X : Type 0} {g : _} → (M → List ℕ) → Held M X g → Bool → Beginning
+beginning_on bytes (held.Image uuid image memory) seen = record { program = Some (OfImage image.value); memory = bytes memory; seen = seen }
+beginning_on bytes (held.Native native) seen = record { program = Some (OfRelation native.relation); memory = []; seen = seen }
+beginning_on bytes (held.Dead uuid) seen = record { program = None; memory = []; seen = seen }
+
+-- the UUID of its application
+abbrev pub held_uuid : {M X : Type 0} {g : _} → Held M X g → List ℕ
+held_uuid (held.Image uuid image memory) = uuid
+held_uuid (held.Native native) = native.uuid
+held_uuid (held.Dead uuid) = uuid
+
+-- its image, if it has one, is valid
+abbrev pub HasValidImage : {M X : Type 0} {g : _} → Held M X g → Type 0
+HasValidImage (held.Image uuid image memory) = IsValid image.value
+HasValidImage (held.Native native) = Unit {0}
+HasValidImage (held.Dead uuid) = Unit {0}
+
+-- ---- the call
+
+-- it has come to no entry point yet, and has nothing to run
+pub record IsFresh {M X : Type 0} {g : _} (cont : Cont M X g) : Type 0 where
+  pub idle : IsIdle cont
+  pub point : cont.point ≡ None
+  pub points : cont.points.items ≡ []
+
+-- it is as it was at its entry
+pub record IsEntered {M X : Type 0} {g : _} (entered : CallEntry) (cont : Cont M X g) : Type 0 where
+  pub client : cont.client ≡ entered.client
+  pub kind : cont.kind ≡ entered.kind
+  pub login : cont.login ≡ entered.login
+  pub context : cont.context ≡ entered.context
+  pub arg : cont.arg ≡ entered.arg
+  pub places : cont.places ≡ entered.places
+  pub session : cont.session ≡ entered.session
+  pub instance : cont.instance ≡ entered.instance
+  pub buffer : cont.buffer ≡ None
+  pub cancelled : cont.cancelled ≡ false
+  pub steps : cont.steps ≡ 0
+  pub done : cont.done ≡ false
+
+-- ---- entry points
+
+-- a destroy, where the instance goes with the call
+abbrev pub destroy_where : Bool → List EntryPoint
+destroy_where unmakes = if unmakes then entry.Destroy ∷ [] else []
+
+-- those of an open: its instance is made first where it is new
+abbrev pub opening_points : Bool → Bool → List EntryPoint
+opening_points makes unmakes = if makes then entry.Create ∷ entry.Open ∷ destroy_where unmakes else entry.Open ∷ destroy_where unmakes
