@@ -1,3 +1,2 @@
-pub mod KeptLemmas
-pub mod Numbered
+pub mod Given
 pub mod LineLemmas

@@ -1,10 +1,9 @@
 -- The sessions as a map from their numbers, and the number that the next one gets.
-use Rattle.std.specs.Prelude.{◌≡◌, ℕ, ◌<◌, ◌≤◌, ◌^◌, Bool, false, ◌==◌, ◌&&◌, nat_lt, length, All, Option, IsSomeAnd, position}
+use Rattle.std.specs.Prelude.{◌≡◌, ℕ, ◌<◌, ◌≤◌, ◌^◌, Bool, false, ◌&&◌, nat_lt, length, All, IsSomeAnd}
 use Rattle.std.specs.Option.{option_map_or}
 use Rattle.base.specs.NumberMap.{NumberMap, IsRising, get, insert}
 use Rattle.session_table.specs.declared.session.Session.{Session}
 use Rattle.session_table.specs.Session.{opened_with}
-use Rattle.session_table.specs.declared.sessions.TheConstants.{MAX_SESSIONS}
 
 pub record SessionTable : Type 0 where
   pub kept : NumberMap Session
@@ -12,7 +11,7 @@ pub record SessionTable : Type 0 where
 
 -- another session can be added: fewer than 64 are kept, and number 4294967295 was not given
 abbrev pub has_room : SessionTable → Bool
-has_room table = nat_lt (length table.kept) MAX_SESSIONS && nat_lt table.next (2 ^ 32)
+has_room table = nat_lt (length table.kept) 64 && nat_lt table.next (2 ^ 32)
 
 -- the session of this number is kept, and not opened
 abbrev pub IsBeingOpened : SessionTable → ℕ → Type 0
@@ -23,13 +22,13 @@ abbrev pub settled : NumberMap Session → ℕ → ℕ → NumberMap Session
 settled kept number context =
     option_map_or (λ session. insert kept number (opened_with session context)) (get kept number) kept
 
--- where a session stands among those kept
-abbrev pub place_of : NumberMap Session → ℕ → Option ℕ
-place_of kept number = position (λ entry. entry.0 == number) kept
+-- each number was given, from 1 on
+pub record AreGiven (kept : NumberMap Session) (next : ℕ) : Type 0 where
+  pub from_one : All (λ entry. 0 < entry.0) kept
+  pub given : All (λ entry. entry.0 < next) kept
 
 -- the numbers rise, each was given, from 1 on, and at most 64 sessions are kept
 pub record IsNumbered (table : SessionTable) : Type 0 where
   pub rising : IsRising table.kept
-  pub from_one : All (λ entry. 0 < entry.0) table.kept
-  pub given : All (λ entry. entry.0 < table.next) table.kept
-  pub few : length table.kept ≤ MAX_SESSIONS
+  pub numbers : AreGiven table.kept table.next
+  pub few : length table.kept ≤ 64

@@ -3,7 +3,6 @@ use Rattle.std.specs.Prelude.{◌≢◌, ℕ, ◌<◌, Bool, ◌==◌, not, List
 use Rattle.std.specs.List.{list_any}
 use Rattle.std.specs.Option.{option_map}
 use Rattle.std.specs.Str.{bytes_eq}
-use Rattle.session_table.specs.declared.waiters.TheConstants.{MAX_WAITERS}
 use Rattle.session_table.specs.declared.waiters.Waiter.{Waiter}
 
 -- the call of the slot waits
@@ -25,4 +24,4 @@ instance_with waiters uuid = option_map (λ waiter. waiter.instance) (find (λ w
 -- each waits in a slot of its own, and so at most 16 do
 pub record IsLine (waiters : List Waiter) : Type 0 where
   pub apart : AllPairs (λ earlier later. earlier.slot ≢ later.slot) waiters
-  pub in_range : All (λ waiter. waiter.slot < MAX_WAITERS) waiters
+  pub in_range : All (λ waiter. waiter.slot < 16) waiters

@@ -2,10 +2,10 @@ ghost use Rattle.std.specs.Prelude.{◌≡◌, ◌+◌, [], IfOk, IfSome, IsSome
 ghost use Rattle.std.specs.Option.{option_copied};
 ghost use Rattle.base.specs.NumberMap.{get, insert, remove};
 ghost use Rattle.session_table.specs.Session.{is_of, is_opened_of, reserved_for};
-ghost use Rattle.session_table.specs.Sessions.{IsBeingOpened, IsNumbered, has_room, place_of, settled};
+ghost use Rattle.session_table.specs.Sessions.{IsBeingOpened, IsNumbered, has_room, settled};
 
 use crate::session::Session;
-use base::NoMemory;
+use base::{NoMemory, NumberTable};
 use std::alloc::Global;
 use std::marker::Model;
 use ta_params::Login;
@@ -17,22 +17,20 @@ pub const MAX_SESSIONS: usize = 64;
 /// given twice.
 #[derive(Debug, Drop)]
 pub struct Sessions {
-    /// In rising order of numbers, with room for all that may be kept.
-    kept: Vec<(u32, Session)>,
+    kept: NumberTable<Session, MAX_SESSIONS>,
     /// The last number that was given, 0 at the start.
     given: u32,
 }
 
 impl Model for Sessions {
-    ghost use Rattle.std.specs.Prelude.{◌+◌, ◌≤◌, vec_capacity};
-    ghost use Rattle.session_table.specs.declared.sessions.TheConstants.{MAX_SESSIONS};
-    ghost use Rattle.session_table.specs.Sessions.{IsNumbered, SessionTable};
+    ghost use Rattle.std.specs.Prelude.{◌+◌};
+    ghost use Rattle.session_table.specs.Sessions.{AreGiven, SessionTable};
 
     ghost Value = { SessionTable };
 
-    ghost view = { λ s. record { kept = s.kept.items; next = s.given + 1 } };
+    ghost view = { λ s. record { kept = s.kept; next = s.given + 1 } };
 
-    ghost invariant = { λ s. IsNumbered (record { kept = s.kept.items; next = s.given + 1 }) × (MAX_SESSIONS ≤ vec_capacity s.kept) };
+    ghost invariant = { λ s. AreGiven s.kept (s.given + 1) };
 }
 
 /// How many sessions an instance has.
@@ -49,7 +47,7 @@ impl Sessions {
     pub fn new(alloc: Global) -> Result<Sessions, NoMemory>
         ensures { IfOk result (λ sessions. sessions ≡ record { kept = []; next = 1 }) }
     {
-        let kept = Vec::with_capacity(alloc, MAX_SESSIONS)?;
+        let kept = NumberTable::new(alloc)?;
         Ok(Sessions { kept, given: 0 })
     }
 
@@ -77,8 +75,8 @@ impl Sessions {
             return None;
         }
         self.given += 1;
-        self.kept
-            .push_reserved((self.given, Session::reserved(client, login, instance)));
+        let session = Session::reserved(client, login, instance);
+        self.kept.insert(u64::from(self.given), session);
         Some(self.given)
     }
 
@@ -86,8 +84,7 @@ impl Sessions {
     pub fn find(&self, number: u32) -> Option<&Session>
         ensures { option_copied result ≡ get self.now.kept number }
     {
-        let place = self.place(number)?;
-        Some(&self.kept[place].1)
+        self.kept.get(u64::from(number))
     }
 
     /// How many sessions the instance has.
@@ -95,11 +92,9 @@ impl Sessions {
         ensures all { result.all ≡ count_by (λ entry. is_of instance entry.1) self.now.kept }
         ensures opened { result.opened ≡ count_by (λ entry. is_opened_of instance entry.1) self.now.kept }
     {
-        let all = self.kept.iter().filter(|entry| entry.1.is_of(instance));
-        let opened = self
-            .kept
-            .iter()
-            .filter(|entry| entry.1.is_opened_of(instance));
+        let kept = self.kept.entries();
+        let all = kept.iter().filter(|entry| entry.1.is_of(instance));
+        let opened = kept.iter().filter(|entry| entry.1.is_opened_of(instance));
         Users {
             all: all.count() as u32,
             opened: opened.count() as u32,
@@ -111,11 +106,8 @@ impl Sessions {
         requires { IsBeingOpened self.old number }
         ensures { self.new ≡ record self.old { kept = settled self.old.kept number context } }
     {
-        let Some(place) = self.place(number) else {
-            unreachable!()
-        };
-        let session = self.kept[place].1;
-        self.kept[place] = (number, session.opened_with(context));
+        let session = self.kept.get_mut(u64::from(number));
+        *session = session.opened_with(context);
     }
 
     /// Takes a session away. Its number is not given again.
@@ -123,12 +115,6 @@ impl Sessions {
         requires { IsSome (get self.old.kept number) }
         ensures { self.new ≡ record self.old { kept = remove self.old.kept number } }
     {
-        self.kept.retain(|entry| entry.0 != number);
-    }
-
-    fn place(&self, number: u32) -> Option<usize>
-        ensures { result ≡ place_of self.now.kept number }
-    {
-        self.kept.iter().position(|entry| entry.0 == number)
+        self.kept.remove(u64::from(number));
     }
 }

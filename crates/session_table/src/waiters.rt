@@ -50,7 +50,7 @@ impl Waiters {
 
     /// Puts the call of a slot at the end of the line.
     pub fn join(&mut self, instance: u32, uuid: Uuid, slot: u8)
-        requires in_range { slot < MAX_WAITERS }
+        requires in_range { slot < 16 }
         requires absent { waits self.old slot ≡ false }
         ensures { self.new ≡ self.old ++ record { instance = instance; uuid = uuid; slot = slot } ∷ [] }
     {

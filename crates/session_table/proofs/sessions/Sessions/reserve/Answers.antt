@@ -1,31 +1,24 @@
-use Rattle.std.proofs.Common.{◌≡◌, ◌+◌, ◌++◌, ◌∷◌, [], true, ap, sym, ◌∙◌, arith}
-use Rattle.base.specs.NumberMap.{NumberMap, get, insert}
-use Rattle.session_table.specs.declared.session.Session.{Session}
-use Rattle.session_table.specs.Session.{reserved_for}
+use Rattle.std.proofs.Common.{◌≡◌, ◌+◌, ◌<◌, ◌&&◌, Bool, true, None, length, nat_lt, lit<, ap, sym, ◌∙◌, arith}
+use Rattle.std.proofs.lemmas.Bool.Decides.{nat_tests}
+use Rattle.base.specs.NumberMap.{get}
+use Rattle.base.proofs.MapLemmas.{none_above}
 use Rattle.session_table.specs.Sessions.{SessionTable, has_room}
-use Rattle.session_table.proofs.KeptLemmas.{push_is_insert, not_kept_above}
-use Rattle.session_table.proofs.Numbered.{table_of, numbered_after_push}
+use Rattle.session_table.proofs.Given.{given_after_reserve}
 use Rattle.session_table.proofs.sessions.Sessions.reserve.Goals as goal
 
-pub invariant_of-self : goal.invariant_of-self
-invariant_of-self c =
-    let table : SessionTable = record { kept = c.self.inside.kept.items; next = c.self.inside.given + 1 } in
+pub insert-requires : goal.insert-requires
+insert-requires c =
+    let table : SessionTable = record { kept = c.self.inside.kept; next = c.self.inside.given + 1 } in
     let room : has_room table ≡ true = ap has_room c.self.view_is ∙ sym c.if-not-has_room.ensures.room in
-    (rw c.push_reserved.ensures.items (numbered_after_push table _ c.self.invariant.0 (omega arith) room), omega arith)
+    (lit< tt, (rw c.from.ensures (none_above c.self.inside.kept (c.self.inside.given + 1) c.self.invariant.given), few (nat_lt table.next 4294967296) room))
+  where
+    few : (other : Bool) → (nat_lt (length c.self.inside.kept) 64 && other) ≡ true → length c.self.inside.kept < 64
+    few other test = grind (arith, nat_tests)
+
+pub invariant_of-self : goal.invariant_of-self
+invariant_of-self c = rw (c.insert.ensures, c.from.ensures) (given_after_reserve c.self.inside.kept (c.self.inside.given + 1) c.reserved-session.result c.self.invariant (omega arith))
 
 pub returns-clause-fresh : goal.returns-clause-fresh
 returns-clause-fresh c =
     ap (λ (table : SessionTable). get table.kept (c.self.inside.given + 1)) (sym c.self.view_is)
-    ∙ not_kept_above c.self.inside.kept.items (c.self.inside.given + 1) c.self.invariant.0.given
-
-pub returns-clause-after : goal.returns-clause-after
-returns-clause-after c =
-    let kept = c.self.inside.kept.items in
-    let number = c.self.inside.given + 1 in
-    let session = reserved_for c.args.client c.args.login c.args.instance in
-    let after =
-    c.push_reserved.ensures.items
-    ∙ ap (λ (s : Session). kept ++ (number, s) ∷ []) c.reserved.ensures
-    ∙ push_is_insert kept number session c.self.invariant.0.given
-    ∙ ap (λ (table : SessionTable). insert table.kept number session) c.self.view_is in
-    ap (λ (m : NumberMap Session). table_of (number + 1) m) after
+    ∙ none_above c.self.inside.kept (c.self.inside.given + 1) c.self.invariant.given
