@@ -42,8 +42,8 @@ impl Pages {
 
     /// Puts a page behind the others.
     pub(crate) fn add(&mut self, frame: Frame)
-        requires room { length self.old < PAGE_BYTES * MAX_PAGES }
-        requires whole { length frame ≡ PAGE_BYTES }
+        requires room { length self.old < 4096 * 64 }
+        requires whole { length frame ≡ 4096 }
         ensures { self.new ≡ self.old ++ frame }
     {
         self.frames.push(frame);
@@ -62,8 +62,8 @@ impl Pages {
     /// How many pages there are.
     pub fn count(&self) -> u16
         ensures count { result ≡ page_count self.now }
-        ensures whole { length self.now ≡ PAGE_BYTES * result }
-        ensures at_most { result ≤ MAX_PAGES }
+        ensures whole { length self.now ≡ 4096 * result }
+        ensures at_most { result ≤ 64 }
     {
         self.frames.len() as u16
     }

@@ -4,7 +4,7 @@ ghost use Rattle.frame_pool.specs.Pages.{AreWhole, page_count};
 ghost use Rattle.frame_pool.specs.Pool.{Frames};
 
 use crate::frame::{Frame, PAGE_BYTES};
-use crate::pages::{MAX_PAGES, Pages};
+use crate::pages::Pages;
 use crate::short::Short;
 use base::NoMemory;
 use std::alloc::Global;
@@ -24,21 +24,20 @@ impl Model for Pool {
     ghost use Rattle.std.specs.Prelude.{◌≤◌, vec_len, vec_capacity};
     ghost use Rattle.frame_pool.specs.Pages.{AreWhole};
     ghost use Rattle.frame_pool.specs.Pool.{Frames};
-    ghost use Rattle.frame_pool.specs.declared.pool.TheConstants.{MAX_FRAMES};
 
     ghost Value = { Frames };
 
     ghost view = { λ pool. record { frames = pool.frames; free = vec_len pool.free } };
 
     ghost invariant = { λ pool. (vec_len pool.free ≤ pool.frames) × (pool.frames ≤ vec_capacity pool.free)
-        × (pool.frames ≤ MAX_FRAMES) × AreWhole pool.free.items };
+        × (pool.frames ≤ 1024) × AreWhole pool.free.items };
 }
 
 impl Pool {
     /// A pool of so many frames, all free. No call after this one takes memory.
     pub fn new(alloc: Global, frames: u16) -> Result<Pool, NoMemory>
         requires some { 0 < frames }
-        requires at_most { frames ≤ MAX_FRAMES }
+        requires at_most { frames ≤ 1024 }
         ensures { IfOk result (λ pool. pool ≡ record { frames = frames; free = frames }) }
     {
         let mut free = Vec::with_capacity(alloc, usize::from(frames))?;
@@ -52,17 +51,17 @@ impl Pool {
     pub fn free(&self) -> u16
         ensures free { result ≡ self.now.free }
         ensures at_most { self.now.free ≤ self.now.frames }
-        ensures in_all { self.now.frames ≤ MAX_FRAMES }
+        ensures in_all { self.now.frames ≤ 1024 }
     {
         self.free.len() as u16
     }
 
     /// Gives `n` pages of zeros, or tells how many are free where these are fewer.
     pub fn take(&mut self, n: u16) -> Result<Pages, Short>
-        requires { n ≤ MAX_PAGES }
+        requires { n ≤ 64 }
         ensures short { IsErr result ↔ (self.old.free < n) }
         ensures free { IfErr result (λ short. short.0 ≡ self.old.free) }
-        ensures zeros { IfOk result (λ pages. pages ≡ zeros (PAGE_BYTES * n)) }
+        ensures zeros { IfOk result (λ pages. pages ≡ zeros (4096 * n)) }
         ensures count { IfOk result (λ pages. page_count pages ≡ n) }
         ensures after { MatchResult result
             (λ _. self.new ≡ record self.old { free = self.old.free - n })
@@ -87,9 +86,9 @@ impl Pool {
 /// Moves `n` frames out of the free ones, and makes pages of zeros of them.
 fn take_cleared(free: &mut Vec<Frame>, n: u16) -> Pages
     requires enough { n ≤ vec_len free.old }
-    requires at_most { n ≤ MAX_PAGES }
+    requires at_most { n ≤ 64 }
     requires whole { AreWhole free.old.items }
-    ensures zeros { result ≡ zeros (PAGE_BYTES * n) }
+    ensures zeros { result ≡ zeros (4096 * n) }
     ensures count { page_count result ≡ n }
     ensures len { vec_len free.new + n ≡ vec_len free.old }
     ensures room { vec_capacity free.new ≡ vec_capacity free.old }
@@ -106,7 +105,7 @@ fn take_cleared(free: &mut Vec<Frame>, n: u16) -> Pages
 fn pop_cleared(free: &mut Vec<Frame>) -> Frame
     requires some { 0 < vec_len free.old }
     requires whole { AreWhole free.old.items }
-    ensures zeros { result ≡ zeros PAGE_BYTES }
+    ensures zeros { result ≡ zeros 4096 }
     ensures len { vec_len free.new + 1 ≡ vec_len free.old }
     ensures room { vec_capacity free.new ≡ vec_capacity free.old }
     ensures whole { AreWhole free.new.items }
@@ -120,7 +119,7 @@ fn pop_cleared(free: &mut Vec<Frame>) -> Frame
 fn pop_frame(free: &mut Vec<Frame>) -> Frame
     requires some { 0 < vec_len free.old }
     requires whole { AreWhole free.old.items }
-    ensures page { length result ≡ PAGE_BYTES }
+    ensures page { length result ≡ 4096 }
     ensures len { vec_len free.new + 1 ≡ vec_len free.old }
     ensures room { vec_capacity free.new ≡ vec_capacity free.old }
     ensures whole { AreWhole free.new.items }

@@ -1,19 +1,20 @@
 -- Each change keeps what holds of each registry.
 use Rattle.std.proofs.Common.{◌≡◌, ℕ, zero, suc, ◌+◌, ◌*◌, ◌<◌, ◌≤◌, Bool, true, false, not, ◌&&◌, ◌||◌, ◌==◌, cond, List, [], ◌∷◌, ◌++◌, length, map, filter, get_or, take, drop, Option, Some, None, IsSome, IsNone, refl, sym, ◌∙◌, ap, arith, inl, inr, length-append, length-drop}
-use Rattle.std.proofs.lemmas.List.{length-map, length-take-le, take-append-drop}
+use Rattle.std.proofs.lemmas.List.{length-map}
 use Rattle.std.specs.Ordering.{nat_cmp, eq_by_cmp}
 use Rattle.std.specs.List.{AllByRecursion, IsDistinct, list_any}
 use Rattle.std.specs.Cmp.{nat_eq_equiv}
 use Rattle.std.proofs.lemmas.Bool.{cases_Bool, eqb-true, eq-eqb}
 use Rattle.std.proofs.lemmas.Bool.Decides.{nat_tests}
+use Rattle.std.proofs.lemmas.List.Elements.{All-nil}
 use Rattle.std.proofs.lemmas.List.Folds.{list_any-append}
 use Rattle.std.proofs.lemmas.Map.Made.{length-le_from_is_member}
 use Rattle.base.specs.NumberMap.{NumberMap, get, insert, remove, get-insert, get-remove, IsRising-insert, IsRising-remove}
+use Rattle.base.proofs.MapLemmas.{All-insert, All-remove, length-insert-le, length-remove-le}
 use Rattle.shm_registry.specs.declared.page_buffer.PageBuffer.{PageBuffer}
 use Rattle.shm_registry.specs.declared.pin.Pin.{Pin}
 use Rattle.shm_registry.specs.Pieces.{IsBuffer}
 use Rattle.shm_registry.specs.Registered.{IsKeptPin, IsSound, is_pin, without_slot, lowest_slot}
-use Rattle.base.specs.Places.{IsBefore}
 
 -- ---- facts of each element
 
@@ -33,41 +34,22 @@ All-append : {X : Type 0} (P : X → Type 0) (xs ys : List X) → AllByRecursion
 All-append P [] ys h g = g
 All-append P (x ∷ xs) ys h g = (h.0, All-append P xs ys h.1 g)
 
-All-parts : {X : Type 0} (P : X → Type 0) (xs ys : List X) → AllByRecursion P (xs ++ ys) → AllByRecursion P xs × AllByRecursion P ys
-All-parts P [] ys h = (tt, h)
-All-parts P (x ∷ xs) ys h = let rest = All-parts P xs ys h.1 in ((h.0, rest.0), rest.1)
-
-length-filter-le : {X : Type 0} (p : X → Bool) (xs : List X) → length (filter p xs) ≤ length xs
-length-filter-le p [] = omega arith
-length-filter-le p (x ∷ xs) =
-    let rest : length (filter p xs) ≤ length xs = length-filter-le p xs in
-    elim (p x) as (λ b. length (cond b (x ∷ filter p xs) (filter p xs)) ≤ suc (length xs)) [ true ↦ omega arith | false ↦ omega arith ]
-
-pub All-at : {X : Type 0} (P : X → Type 0) (xs : List X) (i : ℕ) (d : X) → AllByRecursion P xs → i < length xs → P (get_or xs i d)
-All-at P [] i d h q = absurd (omega arith)
-All-at P (x ∷ xs) zero d h q = h.0
-All-at P (x ∷ xs) (suc i) d h q = All-at P xs i d h.1 (omega arith)
-
 -- ---- a buffer more, a buffer less
 
 kept_with : (m : NumberMap PageBuffer) (k : ℕ) (v : PageBuffer) (q : ℕ) → IsSome (get m q) → IsSome (get (insert m k v) q)
 kept_with m k v q h =
     rw (get-insert m k v q) (elim (eq_by_cmp nat_cmp q k) as (λ b. IsSome (cond b (Some v) (get m q))) [ true ↦ refl | false ↦ h ])
 
-pub IsSound-insert : (buffers : NumberMap PageBuffer) (pins : List Pin) (k i : ℕ) (v : PageBuffer) →
-    IsSound (record { buffers = buffers; pins = pins }) → IsBefore PageBuffer buffers k i → length buffers < 64 → IsBuffer v →
+pub IsSound-insert : (buffers : NumberMap PageBuffer) (pins : List Pin) (k : ℕ) (v : PageBuffer) →
+    IsSound (record { buffers = buffers; pins = pins }) → length buffers < 64 → IsBuffer v →
     IsSound (record { buffers = insert buffers k v; pins = pins })
-IsSound-insert buffers pins k i v s b room valid =
-    let inside : i ≤ length buffers = b.inside in
-    let front : length (take i buffers) ≡ i = length-take-le i buffers inside in
-    let parts = All-parts (λ e. IsBuffer e.1) (take i buffers) (drop i buffers) (rw (take-append-drop i buffers) s.buffers) in
-    record {
-      rising = IsRising-insert buffers k v s.rising;
-      few = rw (b.with v) (omega (arith, length-append (take i buffers) ((k, v) ∷ drop i buffers), length-drop i buffers));
-      buffers = rw (b.with v) (All-append (λ e. IsBuffer e.1) (take i buffers) ((k, v) ∷ drop i buffers) parts.0 (valid, parts.1));
-      distinct = s.distinct;
-      pins = All-map (IsKeptPin buffers) (IsKeptPin (insert buffers k v)) pins (λ pin kept. record { cookie = kept_with buffers k v pin.cookie kept.cookie; slot = kept.slot }) s.pins;
-    }
+IsSound-insert buffers pins k v s room valid = record {
+  rising = IsRising-insert buffers k v s.rising;
+  few = omega (arith, length-insert-le buffers k v);
+  buffers = All-insert (λ e. IsBuffer e.1) buffers k v s.buffers valid;
+  distinct = s.distinct;
+  pins = All-map (IsKeptPin buffers) (IsKeptPin (insert buffers k v)) pins (λ pin kept. record { cookie = kept_with buffers k v pin.cookie kept.cookie; slot = kept.slot }) s.pins;
+}
 
 -- where no slot pins a cookie, no pin names it
 none_pins : (pins : List Pin) (k : ℕ) → lowest_slot pins k ≡ None → AllByRecursion (λ pin. (pin.cookie == k) ≡ false) pins
@@ -109,8 +91,8 @@ pub IsSound-remove : (buffers : NumberMap PageBuffer) (pins : List Pin) (k : ℕ
     IsSound (record { buffers = remove buffers k; pins = pins })
 IsSound-remove buffers pins k s free = record {
   rising = IsRising-remove buffers k s.rising;
-  few = let fewer = length-filter-le (λ e. not (eq_by_cmp nat_cmp k e.0)) buffers in omega (arith, fewer, s.few);
-  buffers = All-filter (λ e. IsBuffer e.1) (λ e. not (eq_by_cmp nat_cmp k e.0)) buffers s.buffers;
+  few = omega (arith, length-remove-le buffers k, s.few);
+  buffers = All-remove (λ e. IsBuffer e.1) buffers k s.buffers;
   distinct = s.distinct;
   pins = kept_pins buffers k pins (none_pins pins k free) s.pins;
 }
@@ -282,4 +264,4 @@ room_for_pin buffers pins cookie slot s kept low fresh =
 
 pub IsSound-none : IsSound (record { buffers = []; pins = [] })
 unfolding IsDistinct
-IsSound-none = record { rising = refl; few = omega arith; buffers = tt; distinct = tt; pins = tt }
+IsSound-none = record { rising = refl; few = omega arith; buffers = All-nil (λ e. IsBuffer e.1); distinct = tt; pins = tt }

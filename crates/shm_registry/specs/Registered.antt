@@ -1,6 +1,6 @@
 -- What a registry has: the buffers by their cookies, and which slots pin them.
 use Rattle.std.specs.Prelude.{ℕ, ◌+◌, ◌<◌, ◌≤◌, Bool, not, ◌==◌, ◌&&◌, List, [], ◌∷◌, ◌++◌, length, map, filter, min, Option, IsSome, if◌then◌else◌}
-use Rattle.std.specs.List.{AllByRecursion, IsDistinct, list_any, reduce}
+use Rattle.std.specs.List.{All, AllByRecursion, IsDistinct, list_any, reduce}
 use Rattle.std.specs.Option.{option_map}
 use Rattle.base.specs.NumberMap.{NumberMap, get, IsRising}
 use Rattle.shm_registry.specs.declared.page_buffer.PageBuffer.{PageBuffer}
@@ -49,6 +49,6 @@ pub record IsKeptPin (buffers : NumberMap PageBuffer) (pin : Pin) : Type 0 where
 pub record IsSound (registered : Registered) : Type 0 where
   pub rising : IsRising registered.buffers
   pub few : length registered.buffers ≤ 64
-  pub buffers : AllByRecursion (λ kept. IsBuffer kept.1) registered.buffers
+  pub buffers : All (λ kept. IsBuffer kept.1) registered.buffers
   pub distinct : IsDistinct (λ pin other. is_pin pin.cookie pin.slot other) registered.pins
   pub pins : AllByRecursion (IsKeptPin registered.buffers) registered.pins

@@ -21,7 +21,7 @@ pub struct Piece {
 pub fn pieces(alloc: Global, pages: &[u64], start: u64, size: u64) -> Result<Vec<Piece>, NoMemory>
     requires pages { IsTrue (list_all is_page pages.now) }
     requires few { length pages.now ≤ 1024 }
-    requires enough { 0 < size → start + size ≤ PAGE_BYTES * length pages.now }
+    requires enough { 0 < size → start + size ≤ 4096 * length pages.now }
     ensures pieces { IfOk result (λ pieces. pieces.items ≡ pieces_from pages.now start size) }
     ensures in_ram { IfOk result (λ pieces. AllByRecursion IsPieceOfRam pieces.items) }
     ensures size { IfOk result (λ pieces. sum_by (λ piece. piece.len) pieces.items ≡ size) }

@@ -1,15 +1,14 @@
 ghost use Rattle.std.specs.Prelude.{◌≡◌, ℕ, ◌+◌, ◌<◌, ◌≤◌, ◌↔◌, ◌==◌, [], ◌∷◌, length, sum_by, IsTrue, IsSome, IsNone, IsOk, IfOk, OnOk, OnErr, IsErrOf, IsSomeAnd, Some, None};
 ghost use Rattle.std.specs.List.{AllByRecursion, list_any};
-ghost use Rattle.base.specs.NumberMap.{IsRising, NumberMap, get, insert, remove};
+ghost use Rattle.base.specs.NumberMap.{NumberMap, get, insert, remove};
 ghost use Rattle.shm_registry.specs.Pieces.{IsBuffer, IsPieceOfRam};
 ghost use Rattle.shm_registry.specs.Registered.{IsSound, is_pin, lowest_slot, pieces_of, with_pin, without_slot};
-ghost use Rattle.base.specs.Places.{IsPlaceOf};
 
 use crate::fault::{RegisterFault, ResolveFault, UnregisterFault};
 use crate::page_buffer::PageBuffer;
 use crate::piece::{Piece, pieces};
 use crate::pin::Pin;
-use base::NoMemory;
+use base::{NoMemory, NumberTable};
 use std::alloc::Global;
 use std::marker::Model;
 
@@ -22,8 +21,8 @@ const PIN_LIMIT: usize = 1024;
 /// The registered buffers and their pins. Its memory is taken when it is made.
 #[derive(Drop)]
 pub struct Registry {
-    // by their cookies, which rise
-    buffers: Vec<(u64, PageBuffer)>,
+    // By their cookies.
+    buffers: NumberTable<PageBuffer, REGISTRY_LIMIT>,
     pins: Vec<Pin>,
 }
 
@@ -34,10 +33,10 @@ impl Model for Registry {
 
     ghost Value = { Registered };
 
-    ghost view = { λ r. record { buffers = r.buffers.items; pins = r.pins.items } };
+    ghost view = { λ r. record { buffers = r.buffers; pins = r.pins.items } };
 
-    ghost invariant = { λ r. IsSound (record { buffers = r.buffers.items; pins = r.pins.items })
-        × (64 ≤ vec_capacity r.buffers) × (1024 ≤ vec_capacity r.pins) };
+    ghost invariant = { λ r. IsSound (record { buffers = r.buffers; pins = r.pins.items })
+        × (1024 ≤ vec_capacity r.pins) };
 }
 
 impl Registry {
@@ -46,7 +45,7 @@ impl Registry {
         ensures { IfOk result (λ registry. registry ≡ record { buffers = []; pins = [] }) }
     {
         Ok(Registry {
-            buffers: Vec::with_capacity(alloc, REGISTRY_LIMIT)?,
+            buffers: NumberTable::new(alloc)?,
             pins: Vec::with_capacity(alloc, PIN_LIMIT)?,
         })
     }
@@ -63,7 +62,7 @@ impl Registry {
     pub fn contains(&self, cookie: u64) -> bool
         ensures { IsTrue result ↔ IsSome (get self.now.buffers cookie) }
     {
-        place_of(self.buffers.as_slice(), cookie).is_ok()
+        self.buffers.contains(cookie)
     }
 
     /// Registers the buffer.
@@ -79,13 +78,13 @@ impl Registry {
             ↔ (IsNone (get self.old.buffers cookie) × (length self.old.buffers ≡ 64)) }
         ensures refused { OnErr result (self.new ≡ self.old) }
     {
-        let Err(place) = place_of(self.buffers.as_slice(), cookie) else {
+        if self.buffers.contains(cookie) {
             return Err(RegisterFault::Repeated(cookie));
-        };
-        if self.buffers.len() == REGISTRY_LIMIT {
+        }
+        if self.buffers.is_full() {
             return Err(RegisterFault::Full);
         }
-        self.buffers.insert(place, (cookie, buffer)).unwrap();
+        self.buffers.insert(cookie, buffer);
         Ok(())
     }
 
@@ -100,14 +99,13 @@ impl Registry {
             ↔ (lowest_slot self.old.pins cookie ≡ Some slot) }
         ensures refused { OnErr result (self.new ≡ self.old) }
     {
-        let Ok(place) = place_of(self.buffers.as_slice(), cookie) else {
+        if !self.buffers.contains(cookie) {
             return Err(UnregisterFault::Unknown);
-        };
+        }
         if let Some(slot) = lowest_slot(self.pins.as_slice(), cookie) {
             return Err(UnregisterFault::Pinned(slot));
         }
-        let (_cookie, buffer) = self.buffers.remove(place);
-        Ok(buffer)
+        Ok(self.buffers.remove(cookie))
     }
 
     /// The slot uses the buffer of the cookie. A pin that is there isn't added again.
@@ -146,24 +144,15 @@ impl Registry {
         ensures range { IsErrOf result ResolveFault.Range
             ↔ IsSomeAnd (get self.now.buffers cookie) (λ buffer. buffer.size < offset + size) }
     {
-        let Ok(place) = place_of(self.buffers.as_slice(), cookie) else {
+        let Some(buffer) = self.buffers.get(cookie) else {
             return Err(ResolveFault::Unknown);
         };
-        let buffer = &self.buffers[place].1;
         if size > buffer.size || offset > buffer.size - size {
             return Err(ResolveFault::Range);
         }
         let start = u64::from(buffer.offset) + offset;
         Ok(pieces(alloc, buffer.pages.as_slice(), start, size)?)
     }
-}
-
-/// Where the cookie stands, or else where it would.
-fn place_of(buffers: &[(u64, PageBuffer)], cookie: u64) -> Result<usize, usize>
-    requires { IsRising buffers.now }
-    ensures { IsPlaceOf buffers.now cookie result }
-{
-    buffers.binary_search_by_key(&cookie, |kept| kept.0)
 }
 
 /// Whether the slot pins the cookie.

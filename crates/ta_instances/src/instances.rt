@@ -1,13 +1,12 @@
 ghost use Rattle.std.specs.Prelude.{◌≡◌, ◌<◌, [], true, None, Some, IfOk, find, length};
 ghost use Rattle.std.specs.Option.{IsSomeAnd, option_copied, option_map};
 ghost use Rattle.std.specs.Str.{bytes_eq};
-ghost use Rattle.base.specs.NumberMap.{IsRising, get, insert, remove};
-ghost use Rattle.base.specs.Places.{IsPlaceOf};
+ghost use Rattle.base.specs.NumberMap.{get, insert, remove};
 ghost use Rattle.ta_instances.specs.Instance.{given_back, held_by, killed, made};
 ghost use Rattle.ta_instances.specs.Instances.{AreInstances, changed, is_free, is_held, least_with};
 
 use crate::instance::Instance;
-use base::NoMemory;
+use base::{NoMemory, NumberTable};
 use frame_pool::Pages;
 use std::alloc::Global;
 use std::marker::Model;
@@ -20,21 +19,19 @@ pub const MAX_INSTANCES: usize = 80;
 /// The instances by their numbers.
 #[derive(Drop)]
 pub struct Instances {
-    /// In rising order of numbers, with room for all that may be kept.
-    kept: Vec<(u32, Instance)>,
+    kept: NumberTable<Instance, MAX_INSTANCES>,
 }
 
 impl Model for Instances {
-    ghost use Rattle.std.specs.Prelude.{◌≤◌, vec_capacity};
     ghost use Rattle.base.specs.NumberMap.{NumberMap};
     ghost use Rattle.ta_instances.specs.declared.instance.Instance.{Instance};
-    ghost use Rattle.ta_instances.specs.Instances.{AreInstances};
+    ghost use Rattle.ta_instances.specs.Instances.{AreNumbered};
 
     ghost Value = { NumberMap Instance };
 
-    ghost view = { λ i. i.kept.items };
+    ghost view = { λ i. i.kept };
 
-    ghost invariant = { λ i. AreInstances i.kept.items × (80 ≤ vec_capacity i.kept) };
+    ghost invariant = { λ i. AreNumbered i.kept };
 }
 
 impl Instances {
@@ -42,7 +39,7 @@ impl Instances {
     pub fn new(alloc: Global) -> Result<Instances, NoMemory>
         ensures { IfOk result (λ instances. instances ≡ []) }
     {
-        let kept = Vec::with_capacity(alloc, MAX_INSTANCES)?;
+        let kept = NumberTable::new(alloc)?;
         Ok(Instances { kept })
     }
 
@@ -51,17 +48,15 @@ impl Instances {
         ensures instance { option_copied result ≡ get self.now number }
         ensures instances { AreInstances self.now }
     {
-        let Ok(place) = place_of(self.kept.as_slice(), number) else {
-            return None;
-        };
-        Some(&self.kept[place].1)
+        self.kept.get(u64::from(number))
     }
 
     /// The least number of an instance of the application with this UUID, if one is kept.
     pub fn find(&self, uuid: &Uuid) -> Option<u32>
         ensures { result ≡ least_with self.now uuid.now }
     {
-        first_with(self.kept.as_slice(), uuid)
+        let first = first_with(self.kept.entries(), uuid)?;
+        Some(first as u32)
     }
 
     /// Keeps a new instance, which is alive, and which no call holds.
@@ -70,11 +65,8 @@ impl Instances {
         requires room { length self.old < 80 }
         ensures { self.new ≡ insert self.old number (made uuid flags memory) }
     {
-        let Err(place) = place_of(self.kept.as_slice(), number) else {
-            unreachable!()
-        };
         let instance = Instance::new(uuid, flags, memory);
-        self.kept.insert(place, (number, instance)).unwrap();
+        self.kept.insert(u64::from(number), instance);
     }
 
     /// Lets the call of a slot hold an instance that no call holds, and moves its memory and open objects out.
@@ -84,10 +76,8 @@ impl Instances {
             (get self.old number) ≡ Some result }
         ensures after { self.new ≡ changed self.old number (held_by slot) }
     {
-        let Ok(place) = place_of(self.kept.as_slice(), number) else {
-            unreachable!()
-        };
-        self.kept[place].1.hold(slot)
+        let instance = self.kept.get_mut(u64::from(number));
+        instance.hold(slot)
     }
 
     /// Puts memory and open objects of an instance that a call holds back, and nobody holds it.
@@ -97,10 +87,8 @@ impl Instances {
             (λ instance. instance.dead ≡ true → memory ≡ None) }
         ensures { self.new ≡ changed self.old number (given_back memory objects) }
     {
-        let Ok(place) = place_of(self.kept.as_slice(), number) else {
-            unreachable!()
-        };
-        self.kept[place].1.give_back(memory, objects);
+        let instance = self.kept.get_mut(u64::from(number));
+        instance.give_back(memory, objects);
     }
 
     /// Kills an instance that a call holds. What was moved out of it does not come back.
@@ -108,10 +96,8 @@ impl Instances {
         requires { is_held self.old number ≡ true }
         ensures { self.new ≡ changed self.old number killed }
     {
-        let Ok(place) = place_of(self.kept.as_slice(), number) else {
-            unreachable!()
-        };
-        self.kept[place].1.kill();
+        let instance = self.kept.get_mut(u64::from(number));
+        instance.kill();
     }
 
     /// Takes an instance away that no call holds, and gives its memory. Its open objects are forgotten.
@@ -120,28 +106,17 @@ impl Instances {
         ensures memory { option_map (λ instance. instance.memory) (get self.old number) ≡ Some result }
         ensures after { self.new ≡ remove self.old number }
     {
-        let Ok(place) = place_of(self.kept.as_slice(), number) else {
-            unreachable!()
-        };
-        let (_number, instance) = self.kept.remove(place);
+        let instance = self.kept.remove(u64::from(number));
         let Instance { memory, .. } = instance;
         memory
     }
 }
 
 /// The number of the first instance of the application with this UUID.
-fn first_with(kept: &[(u32, Instance)], uuid: &Uuid) -> Option<u32>
+fn first_with(kept: &[(u64, Instance)], uuid: &Uuid) -> Option<u64>
     ensures { result ≡ option_map (λ entry. entry.0)
         (find (λ entry. bytes_eq entry.1.uuid uuid.now) kept.now) }
 {
     let first = kept.iter().find(|entry| entry.1.uuid == *uuid)?;
     Some(first.0)
-}
-
-/// Where the instance of the number stands, or else where it would.
-fn place_of(kept: &[(u32, Instance)], number: u32) -> Result<usize, usize>
-    requires { IsRising kept.now }
-    ensures { IsPlaceOf kept.now number result }
-{
-    kept.binary_search_by_key(&number, |entry| entry.0)
 }

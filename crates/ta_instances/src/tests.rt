@@ -9,7 +9,7 @@ const ONE: Uuid = Uuid::NAMESPACE_DNS;
 const TWO: Uuid = Uuid::NAMESPACE_URL;
 
 #[test]
-fn an_instance_is_held_and_given_back(rt: HostRuntime) -> Result<(), Fail> {
+fn an_instance_is_held_given_back_and_killed(rt: HostRuntime) -> Result<(), Fail> {
     let mut pool = Pool::new(rt.alloc(), 1)?;
     let Ok(mut pages) = pool.take(1) else {
         panic!(rt; "one is free");
@@ -42,45 +42,25 @@ fn an_instance_is_held_and_given_back(rt: HostRuntime) -> Result<(), Fail> {
         }
         None => panic!(rt; "7 is kept"),
     }
-    match instances.remove(7) {
-        Some(pages) => assert_eq!(rt; pages.load(5), Some(9)),
-        None => panic!(rt; "7 has memory"),
-    }
-    assert!(rt; instances.get(7).is_none());
-    Ok(())
-}
-
-#[test]
-fn a_dead_instance_has_no_memory(rt: HostRuntime) -> Result<(), Fail> {
-    let mut pool = Pool::new(rt.alloc(), 1)?;
-    let Ok(pages) = pool.take(1) else {
-        panic!(rt; "one is free");
-    };
-    let mut instances = Instances::new(rt.alloc())?;
-    instances.make(7, ONE, 0, Some(pages));
     let (memory, _objects) = instances.hold(7, 0);
     assert!(rt; memory.is_some());
     instances.kill(7);
     match instances.get(7) {
-        Some(killed) => {
-            assert!(rt; killed.dead && killed.holder.is_none() && killed.memory.is_none());
-        }
+        Some(killed) => assert!(rt; killed.dead && killed.memory.is_none()),
         None => panic!(rt; "7 is kept"),
     }
     assert!(rt; instances.remove(7).is_none());
+    assert!(rt; instances.get(7).is_none());
     Ok(())
 }
 
 #[test]
 fn the_least_number_of_an_application_is_found(rt: HostRuntime) -> Result<(), Fail> {
     let mut instances = Instances::new(rt.alloc())?;
-    assert_eq!(rt; instances.find(&ONE), None);
     instances.make(7, ONE, 0, None);
     instances.make(4, TWO, 0, None);
     instances.make(5, ONE, 0, None);
     assert_eq!(rt; instances.find(&ONE), Some(5));
     assert_eq!(rt; instances.find(&TWO), Some(4));
-    assert!(rt; instances.remove(5).is_none());
-    assert_eq!(rt; instances.find(&ONE), Some(7));
     Ok(())
 }

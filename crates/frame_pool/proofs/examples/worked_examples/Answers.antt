@@ -1,5 +1,4 @@
 use Rattle.std.proofs.Common.{◌≡◌, ◌/◌, [], ◌∷◌, refl, ap}
-use Rattle.frame_pool.specs.declared.frame.TheConstants.{PAGE_BYTES}
 use Rattle.base.specs.Zeros.{zeros}
 use Rattle.base.proofs.ZeroLemmas.{length-zeros, no_zeros}
 use Rattle.frame_pool.proofs.examples.worked_examples.Goals as goal
@@ -10,10 +9,11 @@ three_zeros = refl
 
 pub returns : goal.returns
 returns c = record {
+  most_frames = refl;
   no_zeros = no_zeros;
   three_zeros = three_zeros;
   no_pages = refl;
   less_than_a_page = refl;
-  a_byte_less_than_two = ap (λ n. n / PAGE_BYTES) (length-zeros 8191);
-  two_pages = ap (λ n. n / PAGE_BYTES) (length-zeros 8192);
+  a_byte_less_than_two = ap (λ n. n / 4096) (length-zeros 8191);
+  two_pages = ap (λ n. n / 4096) (length-zeros 8192);
 }

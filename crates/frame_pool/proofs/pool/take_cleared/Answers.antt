@@ -1,5 +1,4 @@
 use Rattle.std.proofs.Common.{◌≡◌, ◌+◌, ◌*◌, length, refl, sym, ◌∙◌, ap, arith}
-use Rattle.frame_pool.specs.declared.frame.TheConstants.{PAGE_BYTES}
 use Rattle.base.specs.Zeros.{zeros}
 use Rattle.base.proofs.ZeroLemmas.{length-zeros, no_zeros, zeros_more}
 use Rattle.frame_pool.proofs.pool.take_cleared.Goals as goal
@@ -14,14 +13,14 @@ loop-i-init c = record {
 
 pub add-requires-clause-room : goal.add-requires-clause-room
 add-requires-clause-room c =
-    omega (arith, ap length c.loop-i.invariant.pages, length-zeros (PAGE_BYTES * c.loop-i._i))
+    omega (arith, ap length c.loop-i.invariant.pages, length-zeros (4096 * c.loop-i._i))
 
 pub add-requires-clause-whole : goal.add-requires-clause-whole
-add-requires-clause-whole c = ap length c.pop_cleared.ensures.zeros ∙ length-zeros PAGE_BYTES
+add-requires-clause-whole c = ap length c.pop_cleared.ensures.zeros ∙ length-zeros 4096
 
 pub loop-i-preserved : goal.loop-i-preserved
 loop-i-preserved c =
-    let sum : PAGE_BYTES * c.loop-i._i + PAGE_BYTES ≡ PAGE_BYTES * (c.loop-i._i + 1) = omega arith in
+    let sum : 4096 * c.loop-i._i + 4096 ≡ 4096 * (c.loop-i._i + 1) = omega arith in
     record {
       pages = rw (c.add.ensures, c.loop-i.invariant.pages, c.pop_cleared.ensures.zeros, zeros_more) (ap zeros sum);
       len = omega arith;
@@ -31,4 +30,4 @@ loop-i-preserved c =
 
 pub returns-clause-count : goal.returns-clause-count
 returns-clause-count c =
-    omega (arith, ap length c.loop-i.invariant.pages, length-zeros (PAGE_BYTES * c.loop-i._i))
+    omega (arith, ap length c.loop-i.invariant.pages, length-zeros (4096 * c.loop-i._i))

@@ -1,11 +1,10 @@
 use Rattle.std.proofs.Common.{arith}
-use Rattle.frame_pool.specs.declared.frame.TheConstants.{PAGE_BYTES}
 use Rattle.frame_pool.proofs.PageBytes.{concat_more, length-concat}
 use Rattle.frame_pool.proofs.pages.Pages.add.Goals as goal
 
 pub push-requires : goal.push-requires
 push-requires c =
-    let whole = rw c.self.view_is at (length-concat PAGE_BYTES c.self.inside.frames.items c.self.invariant) in
+    let whole = rw c.self.view_is at (length-concat 4096 c.self.inside.frames.items c.self.invariant) in
     (omega arith, omega (arith, whole))
 
 pub returns : goal.returns

@@ -4,7 +4,6 @@ use Rattle.shm_registry.proofs.registry.Registry.new.Goals as goal
 
 pub invariant_of-result : goal.invariant_of-result
 invariant_of-result c = (
-  rw (c.in_ok-with_capacity.ensures.items, c.in_ok-with_capacity-2.ensures.items) IsSound-none,
+  rw (c.in_ok-new.ensures, c.in_ok-with_capacity.ensures.items) IsSound-none,
   omega (arith, c.in_ok-with_capacity.ensures.capacity),
-  omega (arith, c.in_ok-with_capacity-2.ensures.capacity),
 )

@@ -9,25 +9,24 @@ use Rattle.shm_registry.proofs.registry.Registry.pin.Goals as goal
 
 pub unwrap-requires : goal.unwrap-requires
 unwrap-requires c =
-    let buffers : NumberMap PageBuffer = c.self.inside.buffers.items in
+    let buffers : NumberMap PageBuffer = c.self.inside.buffers in
     let pins : List Pin = c.self.inside.pins.items in
     let kept : IsSome (get buffers c.args.cookie) = rw (← c.self.view_is) at c.requires.kept in
     let tested : c.is_pinned.result ≡ list_any (is_pin c.args.cookie c.args.slot) pins = rw c.as_slice.ensures.value at c.is_pinned.ensures in
     let fresh : list_any (is_pin c.args.cookie c.args.slot) pins ≡ false = cc in
     let room : length pins < 1024 = room_for_pin buffers pins c.args.cookie c.args.slot c.self.invariant.0 kept c.requires.slot fresh in
-    c.push.ensures.succeeds (omega (arith, c.self.invariant.2))
+    c.push.ensures.succeeds (omega (arith, c.self.invariant.1))
 
 pub invariant_of-self : goal.invariant_of-self
 invariant_of-self c =
-    let buffers : NumberMap PageBuffer = c.self.inside.buffers.items in
+    let buffers : NumberMap PageBuffer = c.self.inside.buffers in
     let pins : List Pin = c.self.inside.pins.items in
     let kept : IsSome (get buffers c.args.cookie) = rw (← c.self.view_is) at c.requires.kept in
     let tested : c.is_pinned.result ≡ list_any (is_pin c.args.cookie c.args.slot) pins = rw c.as_slice.ensures.value at c.is_pinned.ensures in
     let fresh : list_any (is_pin c.args.cookie c.args.slot) pins ≡ false = cc in
     let items : c.push.new.self.items ≡ pins ++ record { cookie = c.args.cookie; slot = c.args.slot } ∷ [] = rw c.unwrap.ensures at c.push.ensures.items in (
       rw items (IsSound-pin buffers pins c.args.cookie c.args.slot c.self.invariant.0 kept c.requires.slot fresh),
-      c.self.invariant.1,
-      omega (arith, c.push.ensures.capacity, c.self.invariant.2),
+      omega (arith, c.push.ensures.capacity, c.self.invariant.1),
     )
 
 pub returns-then-not-is_pinned : goal.returns-then-not-is_pinned

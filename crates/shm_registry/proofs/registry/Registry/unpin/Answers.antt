@@ -9,9 +9,8 @@ pub invariant_of-self : goal.invariant_of-self
 invariant_of-self c =
     let kept : c.retain.new.self.items ≡ without_slot c.self.inside.pins.items c.args.slot =
     filter_same _ (λ (pin : Pin). not (pin.slot == c.args.slot)) _ (λ x b f called. search rules) _ _ c.retain.ensures.filtered in (
-      rw kept (IsSound-unpin c.self.inside.buffers.items c.self.inside.pins.items c.args.slot c.self.invariant.0),
-      c.self.invariant.1,
-      rw c.retain.ensures.capacity c.self.invariant.2,
+      rw kept (IsSound-unpin c.self.inside.buffers c.self.inside.pins.items c.args.slot c.self.invariant.0),
+      rw c.retain.ensures.capacity c.self.invariant.1,
     )
 
 pub returns : goal.returns

@@ -1,28 +1,14 @@
-use Rattle.std.proofs.Common.{set, ap, ◌∙◌}
-use Rattle.base.specs.NumberMap.{NumberMap}
-use Rattle.base.specs.Places.{IsAt}
+use Rattle.std.proofs.Common.{◌≡◌, true, None, Some, Option, ap, sym, subst, ◌∙◌, arith}
+use Rattle.std.specs.Option.{IsSomeAnd}
+use Rattle.base.specs.NumberMap.{NumberMap, get}
 use Rattle.ta_instances.specs.declared.instance.Instance.{Instance}
-use Rattle.ta_instances.specs.Instance.{given_back}
-use Rattle.ta_instances.specs.Instances.{changed}
-use Rattle.ta_instances.proofs.KeptInstances.{are_instances-set, given_back_at, set_is_changed}
+use Rattle.ta_instances.proofs.KeptInstances.{given_back_is_instance, numbered_with}
 use Rattle.ta_instances.proofs.instances.Instances.give_back.Goals as goal
-
-at : (c : goal.After-self-1) → IsAt Instance c.self.inside.kept.items c.args.number c.in-Ok.place
-at c = rw c.as_slice.ensures.value at c.in-Ok.ensures
 
 pub invariant_of-self : goal.invariant_of-self
 invariant_of-self c =
-    let kept = c.self.inside.kept.items in
-    let entry = c.index_mut.result.now in (
-      are_instances-set kept c.args.number c.in-Ok.place entry c.give_back.new.self c.self.invariant.0 (at c) c.index_mut.ensures.value
-          (rw c.give_back.ensures (given_back_at kept c.args.number c.in-Ok.place entry c.args.memory c.args.objects (at c) c.index_mut.ensures.value (rw (← c.self.view_is) at c.requires.dead))),
-      c.self.invariant.1,
-    )
-
-pub returns : goal.returns
-returns c =
-    let kept = c.self.inside.kept.items in
-    let entry = c.index_mut.result.now in
-    ap (λ (instance : Instance). set kept c.in-Ok.place (entry.0, instance)) c.give_back.ensures
-    ∙ set_is_changed kept c.args.number c.in-Ok.place entry (given_back c.args.memory c.args.objects) (at c) c.index_mut.ensures.value
-    ∙ ap (λ (instances : NumberMap Instance). changed instances c.args.number (given_back c.args.memory c.args.objects)) c.self.view_is
+    let was = c.get_mut-instance.result.now in
+    let found : get c.args.self.now c.args.number ≡ Some was = ap (λ (instances : NumberMap Instance). get instances c.args.number) (sym c.self.view_is) ∙ rw c.from.ensures at c.get_mut-instance.ensures.value in
+    let dead : was.dead ≡ true → c.args.memory ≡ None = subst (λ (o : Option Instance). IsSomeAnd o (λ instance. instance.dead ≡ true → c.args.memory ≡ None)) found c.requires.dead in
+    numbered_with c.self.inside.kept c.from.result c.give_back.new.self c.self.invariant (omega arith)
+    (rw c.give_back.ensures (given_back_is_instance c.args.memory c.args.objects was dead))

@@ -1,28 +1,8 @@
-use Rattle.std.proofs.Common.{set, ap, ◌∙◌}
-use Rattle.base.specs.NumberMap.{NumberMap}
-use Rattle.base.specs.Places.{IsAt}
-use Rattle.ta_instances.specs.declared.instance.Instance.{Instance}
-use Rattle.ta_instances.specs.Instance.{killed}
-use Rattle.ta_instances.specs.Instances.{changed}
-use Rattle.ta_instances.proofs.KeptInstances.{are_instances-set, killed_is_instance, set_is_changed}
+use Rattle.std.proofs.Common.{arith}
+use Rattle.ta_instances.proofs.KeptInstances.{killed_is_instance, numbered_with}
 use Rattle.ta_instances.proofs.instances.Instances.kill.Goals as goal
-
-at : (c : goal.After-self-1) → IsAt Instance c.self.inside.kept.items c.args.number c.in-Ok.place
-at c = rw c.as_slice.ensures.value at c.in-Ok.ensures
 
 pub invariant_of-self : goal.invariant_of-self
 invariant_of-self c =
-    let kept = c.self.inside.kept.items in
-    let entry = c.index_mut.result.now in (
-      are_instances-set kept c.args.number c.in-Ok.place entry c.kill.new.self c.self.invariant.0 (at c) c.index_mut.ensures.value
-          (rw c.kill.ensures (killed_is_instance entry.1)),
-      c.self.invariant.1,
-    )
-
-pub returns : goal.returns
-returns c =
-    let kept = c.self.inside.kept.items in
-    let entry = c.index_mut.result.now in
-    ap (λ (instance : Instance). set kept c.in-Ok.place (entry.0, instance)) c.kill.ensures
-    ∙ set_is_changed kept c.args.number c.in-Ok.place entry (killed) (at c) c.index_mut.ensures.value
-    ∙ ap (λ (instances : NumberMap Instance). changed instances c.args.number (killed)) c.self.view_is
+    numbered_with c.self.inside.kept c.from.result c.kill.new.self c.self.invariant (omega arith)
+    (rw c.kill.ensures (killed_is_instance c.get_mut-instance.result.now))
