@@ -2,7 +2,6 @@
 use Rattle.std.specs.Prelude.{ℕ, ◌==◌, ◌&&◌, if◌then◌else◌, nat_lt, List, [], ◌++◌, length, drop}
 use Rattle.sha2.specs.Sha256.{sha256}
 use Rattle.ta_params.specs.CopiedParams.{type_word}
-use Rattle.ta_params.specs.declared.codes.TheConstants.{TEE_SUCCESS, TEE_ERROR_BAD_PARAMETERS, TEE_ERROR_SHORT_BUFFER}
 use Rattle.ta_params.specs.declared.copied_params.GpParam.{GpParam}
 use Rattle.ta_params.specs.declared.copied_params.GpParam.TheVariants.{Empty, Value, Memref}
 use Rattle.ta_params.specs.declared.copied_params.CopiedParams.{CopiedParams}
@@ -22,16 +21,17 @@ answered Empty bytes n = Empty
 answered (Value way a b) bytes n = Value way a b
 
 -- a result, and the bytes of the output: where they are at least 32, the digest of the message before what
--- stood behind
+-- stood behind, and else SHORT_BUFFER
 abbrev pub digested : List ℕ → List ℕ → ℕ × List ℕ
 digested message output =
     if nat_lt (length output) 32
-    then (TEE_ERROR_SHORT_BUFFER, output)
-    else (TEE_SUCCESS, sha256 message ++ drop 32 output)
+    then (0xffff0010, output)
+    else (0, sha256 message ++ drop 32 output)
 
 -- what a native application answers to a command with these parameters: a result, and the parameters that
 -- it leaves
--- (a digest takes a memref for input, one for output and no more, and its second size becomes 32)
+-- (a digest takes a memref for input, one for output and no more, and its second size becomes 32; anything else is
+-- BAD_PARAMETERS)
 abbrev pub answer_of : Relation → ℕ → CopiedParams → ℕ × CopiedParams
 answer_of (Fixed n) command params = (n, params)
 answer_of Digest command params =
@@ -40,4 +40,4 @@ answer_of Digest command params =
       (digested (bytes_of params.p0) (bytes_of params.p1)).0,
       record params { p1 = answered params.p1 (digested (bytes_of params.p0) (bytes_of params.p1)).1 32 },
     )
-    else (TEE_ERROR_BAD_PARAMETERS, params)
+    else (0xffff0006, params)

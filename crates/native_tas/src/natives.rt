@@ -4,7 +4,6 @@ ghost use Rattle.std.specs.Str.{bytes_eq};
 ghost use Rattle.std.proofs.Props.{props};
 ghost use Rattle.native_tas.specs.Native.{entry_of, find_entry, has};
 ghost use Rattle.native_tas.specs.declared.natives.AddFault.TheVariants.{Full, Repeated};
-ghost use Rattle.native_tas.specs.declared.natives.TheConstants.{MAX_NATIVES};
 
 use crate::native::Native;
 use arrayvec::ArrayVec;
@@ -29,7 +28,7 @@ pub enum AddFault {
 #[derive(Drop)]
 pub struct Natives {
     kept: Vec<Native>,
-    ghost few: { length kept.items ≤ MAX_NATIVES },
+    ghost few: { length kept.items ≤ 16 },
     ghost apart: { AllPairs (λ earlier later. earlier.uuid ≢ later.uuid) kept.items } by { Prim.hlevel props },
 }
 

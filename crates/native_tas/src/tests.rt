@@ -2,7 +2,6 @@ ghost use Rattle.std.specs.Prelude.{◌≡◌};
 
 use super::*;
 use std::alloc::{AllocError, Global};
-use std::process::Abort;
 use std::test::Fail;
 use ta_params::{Buf, GpParam, Way};
 
@@ -30,44 +29,12 @@ fn abc_and(alloc: Global, length: usize) -> Result<CopiedParams, AllocError> {
     })
 }
 
-fn assert_output(rt: &impl Abort, params: &CopiedParams, bytes: &[u8], wanted: u32) {
-    let GpParam::Memref {
-        way: Way::Out,
-        buf,
-        size,
-    } = &params.p1
-    else {
-        panic!(rt; "the output is none");
-    };
-    assert_eq!(rt; buf.bytes(), bytes);
-    assert_eq!(rt; *size, wanted);
-}
-
-#[test]
-fn digest_of_abc(rt: HostRuntime) -> Result<(), Fail> {
-    let mut params = abc_and(rt.alloc(), 34)?;
-    assert_eq!(rt; digest(0, &mut params), 0);
-    let mut bytes = [7; 34];
-    bytes[..32].copy_from_slice(&ABC);
-    assert_output(&rt, &params, &bytes, 32);
-    assert_eq!(rt; params.type_word(), 0x0065);
-    Ok(())
-}
-
-#[test]
-fn digest_into_thirty_one_bytes(rt: HostRuntime) -> Result<(), Fail> {
-    let mut params = abc_and(rt.alloc(), 31)?;
-    assert_eq!(rt; digest(0, &mut params), 0xffff_0010);
-    assert_output(&rt, &params, &[7; 31], 32);
-    Ok(())
-}
-
-#[test]
-fn digest_of_another_command(rt: HostRuntime) -> Result<(), Fail> {
-    let mut params = abc_and(rt.alloc(), 32)?;
-    assert_eq!(rt; digest(1, &mut params), 0xffff_0006);
-    assert_output(&rt, &params, &[7; 32], 0);
-    Ok(())
+/// The bytes of the output, and its size.
+fn output_of(params: &CopiedParams) -> Option<(&[u8], u32)> {
+    match &params.p1 {
+        GpParam::Memref { buf, size, .. } => Some((buf.bytes(), *size)),
+        _ => None,
+    }
 }
 
 /// Answers 5, and leaves the parameters as they are.
@@ -90,57 +57,39 @@ fn natives_are_called(rt: HostRuntime) -> Result<(), Fail> {
         relation: Relation::Digest,
         call: digest,
     };
-    assert_eq!(rt; natives.add(hashing), Ok(()));
     let fixed = Native {
         uuid: uuid_of(1),
         relation: Relation::Fixed(5),
         call: five,
     };
+    assert_eq!(rt; natives.add(hashing), Ok(()));
     assert_eq!(rt; natives.add(fixed), Ok(()));
-    let mut params = abc_and(rt.alloc(), 32)?;
-    let fixed: Native = *natives.get(&uuid_of(1)).ok_or("kept")?;
-    assert_eq!(rt; fixed.uuid, uuid_of(1));
-    assert_eq!(rt; fixed.relation, Relation::Fixed(5));
-    assert_eq!(rt; fixed.answer(9, &mut params), 5);
-    assert_output(&rt, &params, &[7; 32], 0);
-    let hashing = natives.get(&uuid_of(2)).ok_or("kept")?;
-    assert_eq!(rt; hashing.answer(0, &mut params), 0);
-    assert_output(&rt, &params, &ABC, 32);
-    assert!(rt; natives.get(&uuid_of(3)).is_none());
-    Ok(())
-}
-
-#[test]
-fn sixteen_are_kept_in_their_order(rt: HostRuntime) -> Result<(), Fail> {
-    let mut natives = Natives::new(rt.alloc());
-    assert_eq!(rt; natives.uuids().len(), 0);
-    // 0, 7, 14, 5, 12 and so on: each number once, and not in rising order.
-    for number in 0..18u8 {
-        let native = Native {
-            uuid: uuid_of(number * 7 % 16),
-            relation: Relation::Fixed(5),
-            call: five,
-        };
-        let wanted = if number < 16 {
-            Ok(())
-        } else {
-            Err(AddFault::Repeated)
-        };
-        assert_eq!(rt; natives.add(native), wanted);
-    }
-    let another = Native {
-        uuid: uuid_of(16),
-        relation: Relation::Fixed(5),
-        call: five,
+    let again = Native {
+        uuid: uuid_of(1),
+        relation: Relation::Digest,
+        call: digest,
     };
-    assert_eq!(rt; natives.add(another), Err(AddFault::Full));
-    let uuids = natives.uuids();
-    assert_eq!(rt; uuids.len(), 16);
-    for (uuid, number) in uuids
-        .iter()
-        .zip([0u8, 7, 14, 5, 12, 3, 10, 1, 8, 15, 6, 13, 4, 11, 2, 9])
-    {
-        assert_eq!(rt; *uuid, uuid_of(number));
+    assert_eq!(rt; natives.add(again), Err(AddFault::Repeated));
+    assert_eq!(rt;
+        natives.uuids().as_slice(),
+        [uuid_of(2), uuid_of(1)].as_slice()
+    );
+    let untouched = [7; 34];
+    let mut digested = untouched;
+    digested[..32].copy_from_slice(&ABC);
+    // (whose, the command, the length of the output, the result, the output, its size)
+    for (number, command, length, result, output, size) in [
+        (1, 9, 32, 5, untouched, 0),
+        (2, 1, 32, 0xffff_0006, untouched, 0),
+        (2, 0, 31, 0xffff_0010, untouched, 32),
+        (2, 0, 34, 0, digested, 32),
+    ] {
+        let native = natives.get(&uuid_of(number)).ok_or("kept")?;
+        let mut params = abc_and(rt.alloc(), length)?;
+        assert_eq!(rt; native.answer(command, &mut params), result);
+        let (bytes, told) = output_of(&params).ok_or("an output")?;
+        assert_eq!(rt; Some(bytes), output.get(..length));
+        assert_eq!(rt; told, size);
     }
     Ok(())
 }
