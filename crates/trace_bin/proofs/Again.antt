@@ -1,12 +1,11 @@
 -- Each record that is written keeps the rules where its trace is within its limits, and is read as what it was written of.
-use Rattle.std.proofs.Common.{◌≡◌, ℕ, zero, suc, ◌+◌, ◌^◌, ◌<◌, ◌≤◌, Bool, true, false, cond, eqb, leb, ltb, List, [], ◌∷◌, ◌++◌, length, take, drop, append_assoc, Option, Some, None, refl, sym, subst, ap, ◌∙◌, arith}
-use Rattle.std.specs.Prelude.{not, slice_index_or}
-use Rattle.std.specs.List.{AllByRecursion, flat_map}
+use Rattle.std.proofs.Common.{◌≡◌, ℕ, ◌+◌, ◌^◌, ◌<◌, ◌≤◌, Bool, true, false, cond, leb, ltb, List, [], ◌∷◌, ◌++◌, length, take, append_assoc, Some, None, refl, sym, subst, ap, ◌∙◌, arith}
+use Rattle.std.specs.Prelude.{not}
+use Rattle.std.specs.List.{AllByRecursion}
 use Rattle.std.proofs.Math.Seq.{take-append_seam}
 use Rattle.std.proofs.lemmas.Bool.{and_from, le-leb, lt-ltb, not_from_false}
-use Rattle.std.proofs.lemmas.List.{length-append}
 use Rattle.std.proofs.lemmas.List.Elements.{recursion_from_All}
-use Rattle.byteorder.specs.Endian.{little_bytes, little_number}
+use Rattle.byteorder.specs.Endian.{little_bytes}
 use Rattle.byteorder.specs.Numbers.{little_number-reads_back}
 use Rattle.ta_isa.specs.declared.boot.App.{App}
 use Rattle.ta_isa.specs.declared.boot.Boot.{Boot}
@@ -21,10 +20,10 @@ use Rattle.trace_text.specs.declared.item.Reg.TheVariants.{Num}
 use Rattle.trace_text.specs.declared.trace.Fill.{Fill}
 use Rattle.trace_text.specs.declared.trace.Trace.{Trace}
 use Rattle.trace_text.specs.Limits.{empty_trace, first_broken, inside_after, is_image, is_inside, is_known, is_within, lies_in_ram, with_item}
-use Rattle.trace_text.specs.Sound.{can_come, IsPartOfRam, IsSoundCall, IsSoundFill, IsSoundItem, IsSoundReg}
+use Rattle.trace_text.specs.Sound.{can_come, IsPartOfRam, IsSoundFill, IsSoundItem, IsSoundReg}
 use Rattle.trace_bin.specs.declared.record_kind.RecordKind.TheVariants as kind
 use Rattle.trace_bin.specs.Record.{is_whole, kind_tagged, number}
-use Rattle.trace_bin.specs.Rules.{added, after_record, app_in, behind_record, boot_in, boot_rules, entry_rules, fill_in, leave_rules, mem_rules, record_rules, registers_in, rules_of, show_rules, steps_in, ta_rules, write_rules}
+use Rattle.trace_bin.specs.Rules.{added, after_record, app_in, behind_record, boot_rules, entry_rules, fill_in, leave_rules, mem_rules, record_rules, registers_in, rules_of, show_rules, steps_in, ta_rules, write_rules}
 use Rattle.trace_bin.specs.Spelling.{app_record, boot_record, call_bytes, counted, fill_record, item_record}
 use Rattle.trace_bin.proofs.Payload.{counted_body}
 use Rattle.trace_bin.proofs.Registers.{eight_are, entry_body}

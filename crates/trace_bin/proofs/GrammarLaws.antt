@@ -11,8 +11,11 @@ use Rattle.trace_text.specs.Limits.{empty_trace, end_fault, first_broken}
 use Rattle.trace_text.specs.Judging.{placed}
 use Rattle.trace_bin.specs.Record.{kind_tagged}
 use Rattle.trace_bin.specs.Rules.{after_record, behind_record, record_rules}
+use Rattle.trace_text.specs.Sound.{IsSound}
+use Rattle.ta_isa.proofs.Words.{IsBytes}
+use Rattle.trace_bin.proofs.SoundRecords.{IsSound-spelled}
 use Rattle.trace_bin.specs.Taking.{IsRefused}
-use Rattle.trace_bin.specs.Grammar.{AllBytes, fault_at, IsFaultBehind, IsFaultOf, IsFirstFault, Leads, magic_fault, Meaning, Spells}
+use Rattle.trace_bin.specs.Grammar.{AllBytes, fault_at, IsFaultBehind, IsFaultOf, IsFirstFault, Leads, magic_fault, Spells}
 
 -- the fault of a record is that of equal bytes behind an equal trace
 same_fault : (natives : List (List ℕ)) (one other : Trace) (bytes others : List ℕ) → one ≡ other → bytes ≡ others → first_broken (record_rules natives one bytes) ≡ first_broken (record_rules natives other others)
@@ -109,6 +112,11 @@ pub record Clauses (natives : List (List ℕ)) (bytes : List ℕ) (result : Resu
   pub only : (trace : Trace) → Spells natives bytes trace → (result ≡ Ok trace) ⊎ (result ≡ Err Memory)
   pub bad : IfErr result (IsFaultOf natives bytes)
   pub refused : (place : ℕ) (kind : BadKind) → IsFirstFault natives bytes place kind → (result ≡ Err (Bad place kind)) ⊎ (result ≡ Err Memory)
+  pub sound : IfOk result (IsSound natives)
+
+sound_so : (natives : List (List ℕ)) (bytes : List ℕ) (result : Result Trace TraceFault) → IsBytes bytes → IsAnswer natives bytes result → IfOk result (IsSound natives)
+sound_so natives bytes (Ok trace) fit answer = IsSound-spelled natives bytes trace fit answer
+sound_so natives bytes (Err fault) fit answer = tt
 
 found_so : (natives : List (List ℕ)) (bytes : List ℕ) (result : Result Trace TraceFault) → IsAnswer natives bytes result → IfOk result (λ trace. Spells natives bytes trace)
 found_so natives bytes (Ok trace) answer = answer
@@ -118,12 +126,13 @@ bad_so : (natives : List (List ℕ)) (bytes : List ℕ) (result : Result Trace T
 bad_so natives bytes (Ok trace) answer = tt
 bad_so natives bytes (Err fault) answer = answer
 
-pub clauses : (natives : List (List ℕ)) (bytes : List ℕ) (result : Result Trace TraceFault) → IsAnswer natives bytes result → Clauses natives bytes result
-clauses natives bytes result answer = record {
+pub clauses : (natives : List (List ℕ)) (bytes : List ℕ) (result : Result Trace TraceFault) → IsBytes bytes → IsAnswer natives bytes result → Clauses natives bytes result
+clauses natives bytes result fit answer = record {
   found = found_so natives bytes result answer;
   only = only_this natives bytes result answer;
   bad = bad_so natives bytes result answer;
   refused = refused_so natives bytes result answer;
+  sound = sound_so natives bytes result fit answer;
 }
 
 -- ---- the loop

@@ -1,3 +1,4 @@
+pub mod SoundRecords
 pub mod GrammarLaws
 pub mod Lengths
 pub mod Payload

@@ -1,5 +1,5 @@
 -- The bytes that are written of a trace within its limits are read as that trace.
-use Rattle.std.proofs.Common.{◌≡◌, ℕ, zero, suc, ◌+◌, ◌*◌, ◌^◌, ◌<◌, ◌≤◌, Bool, true, false, cond, ltb, List, [], ◌∷◌, ◌++◌, length, get_or, append_assoc, Option, Some, None, is_none, Result, Ok, Err, refl, sym, subst, ap, ◌∙◌, arith}
+use Rattle.std.proofs.Common.{◌≡◌, ℕ, suc, ◌+◌, ◌^◌, ◌<◌, Bool, true, false, cond, ltb, List, [], ◌∷◌, ◌++◌, length, get_or, append_assoc, Option, Some, None, is_none, Ok, refl, sym, subst, ap, ◌∙◌, arith}
 use Rattle.std.specs.Prelude.{not, All, IsSome, nat_eq, ◌||◌}
 use Rattle.std.specs.List.{AllByRecursion, flat_map, list_any, starts_with}
 use Rattle.std.specs.Str.{bytes_eq}
@@ -15,17 +15,16 @@ use Rattle.ta_isa.specs.declared.image_fault.ImageFault.{ImageFault}
 use Rattle.ta_isa.specs.Reading.{answer, fault_of, image_of}
 use Rattle.ta_isa.specs.Spelling.{IsValid, spelling as image_spelling}
 use Rattle.ta_isa.proofs.Again.{spelling-again}
-use Rattle.trace_text.specs.declared.fault.BadKind.{BadKind}
 use Rattle.trace_text.specs.declared.fault.BadKind.TheVariants as bad
 use Rattle.trace_text.specs.declared.item.Item.{Item}
 use Rattle.trace_text.specs.declared.trace.Fill.{Fill}
 use Rattle.trace_text.specs.declared.trace.Trace.{Trace}
-use Rattle.trace_text.specs.Limits.{apps_of, empty_trace, end_fault, inside_after, is_image, is_known, moved, outside}
+use Rattle.trace_text.specs.Limits.{apps_of, empty_trace, inside_after, is_image, is_known}
 use Rattle.trace_text.specs.Sound.{ComeInTurn, IsSound, IsSoundBoot, IsSoundFill, IsSoundItem}
 use Rattle.trace_text.proofs.Inside.{inside_push}
-use Rattle.trace_bin.specs.Rules.{after_record, behind_record}
+use Rattle.trace_bin.specs.Rules.{behind_record}
 use Rattle.trace_bin.specs.Grammar.{Leads, magic, magic_fault, Spells}
-use Rattle.trace_bin.specs.Spelling.{app_record, boot_record, boot_records, fill_record, item_record, IsIdentified, spelling, WrittenIsRead}
+use Rattle.trace_bin.specs.Spelling.{app_record, boot_record, fill_record, item_record, IsIdentified, spelling, WrittenIsRead}
 use Rattle.trace_bin.proofs.Lengths.{few_bytes, some_bytes}
 use Rattle.trace_bin.proofs.Again.{app_read, boot_read, fill_read, IsRead, item_read}
 

@@ -1,5 +1,5 @@
 -- What taking a record answers, in the words of the rules.
-use Rattle.std.specs.Prelude.{◌≡◌, List, Bool, Option, None, Some, Result, Ok, Err}
+use Rattle.std.specs.Prelude.{◌≡◌, List, Bool, None, Some, Result, Ok, Err}
 use Rattle.trace_text.specs.declared.fault.BadKind.{BadKind}
 use Rattle.trace_text.specs.declared.fault.LineFault.{LineFault}
 use Rattle.trace_text.specs.declared.fault.LineFault.TheVariants.{Broken, NoRoom}

@@ -2,6 +2,7 @@
 
 ghost use Rattle.std.specs.Prelude.{◌≡◌, ℕ, ◌<◌, ◌≤◌, ◌^◌, ◌+◌, ◌⊎◌, length, Ok, Err, IfOk, IfErr, IfNone};
 ghost use Rattle.trace_bin.specs.Grammar.{IsFaultOf, IsFirstFault, Spells, magic_fault};
+ghost use Rattle.trace_text.specs.Sound.{IsSound};
 ghost use Rattle.trace_text.specs.declared.fault.BadKind.{BadKind};
 ghost use Rattle.trace_text.specs.declared.trace.Trace.{Trace};
 
@@ -47,6 +48,8 @@ pub fn read_binary(alloc: Global, bytes: &[u8], natives: &[Uuid]) -> Result<Trac
     // Bytes with a fault are refused by their first one, unless memory runs out.
     ensures refused { (place : ℕ) (kind : BadKind) → IsFirstFault natives.now bytes.now place kind
         → (result ≡ Err (TraceFault.Bad place kind)) ⊎ (result ≡ Err TraceFault.Memory) }
+    // What is read is within the limits of a trace.
+    ensures sound { IfOk result (IsSound natives.now) }
 {
     if let Some(kind) = magic_fault(bytes) {
         return Err(TraceFault::Bad { place: 0, kind });

@@ -11,6 +11,7 @@ use Rattle.std.proofs.lemmas.List.Quantifiers.{all_pairs_push}
 use Rattle.std.proofs.lemmas.List.Sums.{AllPass-from_list_all}
 use Rattle.ta_isa.specs.declared.boot.App.{App}
 use Rattle.ta_isa.specs.declared.boot.Boot.{Boot}
+use Rattle.ta_isa.specs.Reading.{image_of}
 use Rattle.ta_isa.specs.Spelling.{IsValid}
 use Rattle.trace_text.specs.declared.fault.BadKind.{BadKind}
 use Rattle.trace_text.specs.declared.fault.BadKind.TheVariants as bad
@@ -20,26 +21,26 @@ use Rattle.trace_text.specs.declared.line_kind.LineKind.{LineKind}
 use Rattle.trace_text.specs.declared.line_kind.LineKind.TheVariants as kind
 use Rattle.trace_text.specs.declared.trace.Fill.{Fill}
 use Rattle.trace_text.specs.declared.trace.Trace.{Trace}
-use Rattle.trace_text.specs.Forms.{bytes, decimal, hexadecimal, register}
-use Rattle.trace_text.specs.Limits.{cpus_of, empty_trace, end_fault, first_broken, inside_after, is_inside, is_known, moved, outside}
+use Rattle.trace_text.specs.Forms.{bytes, decimal, hexadecimal, register, uuid}
+use Rattle.trace_text.specs.Limits.{app_limits, boot_limits, cpus_of, empty_trace, end_fault, first_broken, inside_after, is_inside, is_known, moved, outside}
 use Rattle.trace_text.specs.Grammar.{Leads, Spells}
 use Rattle.trace_text.specs.Reading.{words_of}
 use Rattle.trace_text.specs.Rules.{added, added_by_kind, after_line, app_of, boot_of, boot_rules, call_rules, counts, cpu_rules, fill_of, is_skipped, is_text_byte, kind_named, line_rules, mem_rules, rules_behind, rules_of_kind, show_rules, ta_rules, word, words_behind, write_rules}
 use Rattle.trace_text.specs.Sound.{can_come, ComeInTurn, IsSound, IsSoundBoot, IsSoundCall, IsSoundFill, IsSoundItem}
 use Rattle.trace_text.proofs.SoundWords.{fails_at, in_ram, part_of_ram, sound_registers, valid_image, within}
 
-abbrev IsKept : BadKind × Bool → Type 0
+abbrev pub IsKept : BadKind × Bool → Type 0
 IsKept rule = rule.1 ≡ true
 
 -- each rule is kept
-abbrev AreKept : List (BadKind × Bool) → Type 0
+abbrev pub AreKept : List (BadKind × Bool) → Type 0
 AreKept rules = AllByRecursion IsKept rules
 
 one_kept : (kind : BadKind) (passed : Bool) (behind : Option BadKind) → cond passed behind (Some kind) ≡ None → (passed ≡ true) × (behind ≡ None)
 one_kept kind true behind e = (refl, e)
 one_kept kind false behind e = absurd cc
 
-are_kept : (rules : List (BadKind × Bool)) → first_broken rules ≡ None → AreKept rules
+pub are_kept : (rules : List (BadKind × Bool)) → first_broken rules ≡ None → AreKept rules
 are_kept [] e = tt
 are_kept ((kind, passed) ∷ rules) e =
     let p = one_kept kind passed (first_broken rules) e in
@@ -47,11 +48,11 @@ are_kept ((kind, passed) ∷ rules) e =
 
 -- ---- what the words of each kind of line say
 
-sound_boot : (natives : List (List ℕ)) (cpus threads frames : List ℕ) → AreKept (boot_rules cpus threads frames) → IsSoundBoot natives (boot_of cpus threads frames)
-sound_boot natives cpus threads frames (_, (_, (_, (few_cpus, (few_threads, (few_frames, _)))))) =
-    let cpus_in = within 1 8 (decimal cpus) few_cpus in
-    let threads_in = within 1 16 (decimal threads) few_threads in
-    let frames_in = within 1 1024 (decimal frames) few_frames in
+pub sound_boot : (natives : List (List ℕ)) (cpus threads frames : ℕ) → AreKept (boot_limits cpus threads frames) → IsSoundBoot natives (record { cpus = cpus; threads = threads; frames = frames; apps = [] })
+sound_boot natives cpus threads frames (few_cpus, (few_threads, (few_frames, _))) =
+    let cpus_in = within 1 8 cpus few_cpus in
+    let threads_in = within 1 16 threads few_threads in
+    let frames_in = within 1 1024 frames few_frames in
     record {
       boots = record {
         some_processor = cpus_in.0;
@@ -67,11 +68,11 @@ sound_boot natives cpus threads frames (_, (_, (_, (few_cpus, (few_threads, (few
       no_native = λ k d lt. absurd (omega arith);
     }
 
-sound_apps : (natives : List (List ℕ)) (boot : Boot) (id image : List ℕ) → AreKept (ta_rules natives boot.apps id image) → IsSoundBoot natives boot
-    → IsSoundBoot natives (record boot { apps = boot.apps ++ app_of id image ∷ [] })
+pub sound_apps : (natives : List (List ℕ)) (boot : Boot) (id image : List ℕ) → AreKept (app_limits natives boot.apps id image) → IsValid (image_of image) → IsSoundBoot natives boot
+    → IsSoundBoot natives (record boot { apps = boot.apps ++ record { uuid = id; image = image_of image } ∷ [] })
 unfolding is_known
-sound_apps natives boot id image (_, (hex, (room, (new, (loads, _))))) sound =
-    let app : App = app_of id image in
+sound_apps natives boot id image (room, (new, _)) valid sound =
+    let app : App = record { uuid = id; image = image_of image } in
     let few = ltb-true (length boot.apps) 16 room in
     let unknown = or_parts (list_any (λ a. bytes_eq a.uuid app.uuid) boot.apps) (list_any (λ native. bytes_eq native app.uuid) natives) (not-true _ new) in
     let was = sound.boots in
@@ -84,7 +85,7 @@ sound_apps natives boot id image (_, (hex, (room, (new, (loads, _))))) sound =
         some_frame = was.some_frame;
         few_frames = was.few_frames;
         few_apps = omega (arith, few, length-append boot.apps (app ∷ []));
-        valid = All-push (λ a. IsValid a.image) boot.apps app was.valid (valid_image image hex loads);
+        valid = All-push (λ a. IsValid a.image) boot.apps app was.valid valid;
         apart = all_pairs_push (λ earlier later. not (bytes_eq earlier.uuid later.uuid) ≡ true) boot.apps app was.apart (fails_at (λ a. bytes_eq a.uuid app.uuid) boot.apps unknown.0);
       };
       no_native = All-push (λ a. not (list_any (λ native. bytes_eq native a.uuid) natives) ≡ true) boot.apps app sound.no_native (not_from_false _ unknown.1);
@@ -121,17 +122,17 @@ sound_show cpus cpu addr len (_, (_, (_, (few, (ram, (there, _)))))) =
 -- ---- traces, line by line
 
 -- what holds of the trace of the lines so far
-record IsSoFar (natives : List (List ℕ)) (boot : Option Boot) (fills : List Fill) (items : List Item) : Type 0 where
-  no_boot : IfNone boot ((fills ≡ []) × (items ≡ []))
-  is_boot : IfSome boot (IsSoundBoot natives)
-  are_fills : All IsSoundFill fills
-  are_items : All (IsSoundItem (cpus_of boot)) items
-  in_turn : ComeInTurn outside items
+pub record IsSoFar (natives : List (List ℕ)) (boot : Option Boot) (fills : List Fill) (items : List Item) : Type 0 where
+  pub no_boot : IfNone boot ((fills ≡ []) × (items ≡ []))
+  pub is_boot : IfSome boot (IsSoundBoot natives)
+  pub are_fills : All IsSoundFill fills
+  pub are_items : All (IsSoundItem (cpus_of boot)) items
+  pub in_turn : ComeInTurn outside items
 
-abbrev IsSoFarOf : List (List ℕ) → Trace → Type 0
+abbrev pub IsSoFarOf : List (List ℕ) → Trace → Type 0
 IsSoFarOf natives trace = IsSoFar natives trace.boot trace.fills trace.items
 
-at_first : (natives : List (List ℕ)) → IsSoFarOf natives empty_trace
+pub at_first : (natives : List (List ℕ)) → IsSoFarOf natives empty_trace
 at_first natives = record {
   no_boot = (refl, refl);
   is_boot = tt;
@@ -140,7 +141,7 @@ at_first natives = record {
   in_turn = tt;
 }
 
-with_boot : (natives : List (List ℕ)) (boot : Boot) (fills : List Fill) (items : List Item) → IsSoundBoot natives boot → IsSoFar natives None fills items → IsSoFar natives (Some boot) fills items
+pub with_boot : (natives : List (List ℕ)) (boot : Boot) (fills : List Fill) (items : List Item) → IsSoundBoot natives boot → IsSoFar natives None fills items → IsSoFar natives (Some boot) fills items
 with_boot natives boot fills items sound before = record {
   no_boot = tt;
   is_boot = sound;
@@ -149,7 +150,7 @@ with_boot natives boot fills items sound before = record {
   in_turn = before.in_turn;
 }
 
-with_apps : (natives : List (List ℕ)) (boot : Boot) (app : App) (fills : List Fill) (items : List Item) → IsSoundBoot natives (record boot { apps = boot.apps ++ app ∷ [] }) → IsSoFar natives (Some boot) fills items
+pub with_apps : (natives : List (List ℕ)) (boot : Boot) (app : App) (fills : List Fill) (items : List Item) → IsSoundBoot natives (record boot { apps = boot.apps ++ app ∷ [] }) → IsSoFar natives (Some boot) fills items
     → IsSoFar natives (Some (record boot { apps = boot.apps ++ app ∷ [] })) fills items
 with_apps natives boot app fills items sound before = record {
   no_boot = tt;
@@ -159,7 +160,7 @@ with_apps natives boot app fills items sound before = record {
   in_turn = before.in_turn;
 }
 
-with_fill : (natives : List (List ℕ)) (boot : Boot) (fills : List Fill) (fill : Fill) (items : List Item) → IsSoundFill fill → IsSoFar natives (Some boot) fills items → IsSoFar natives (Some boot) (fills ++ fill ∷ []) items
+pub with_fill : (natives : List (List ℕ)) (boot : Boot) (fills : List Fill) (fill : Fill) (items : List Item) → IsSoundFill fill → IsSoFar natives (Some boot) fills items → IsSoFar natives (Some boot) (fills ++ fill ∷ []) items
 with_fill natives boot fills fill items sound before = record {
   no_boot = tt;
   is_boot = before.is_boot;
@@ -172,7 +173,7 @@ turn_push : (inside : List Bool) (items : List Item) (i : Item) → ComeInTurn i
 turn_push inside [] i turn comes = (comes, tt)
 turn_push inside (j ∷ items) i turn comes = (turn.0, turn_push (moved inside j) items i turn.1 comes)
 
-with_one : (natives : List (List ℕ)) (boot : Boot) (fills : List Fill) (items : List Item) (i : Item) → IsSoundItem boot.cpus i → can_come (inside_after items) i ≡ true → IsSoFar natives (Some boot) fills items
+pub with_one : (natives : List (List ℕ)) (boot : Boot) (fills : List Fill) (items : List Item) (i : Item) → IsSoundItem boot.cpus i → can_come (inside_after items) i ≡ true → IsSoFar natives (Some boot) fills items
     → IsSoFar natives (Some boot) fills (items ++ i ∷ [])
 unfolding inside_after
 with_one natives boot fills items i sound comes before = record {
@@ -195,14 +196,15 @@ Adds kind natives boot fills items ws =
 after_boot : (natives : List (List ℕ)) (boot : Option Boot) (fills : List Fill) (items : List Item) (ws : List (List ℕ)) → Adds kind.Boot natives boot fills items ws
 unfolding rules_behind added
 after_boot natives None fills items ws (_, said) count some so_far =
-    with_boot natives (boot_of (word ws 0) (word ws 1) (word ws 2)) fills items (sound_boot natives (word ws 0) (word ws 1) (word ws 2) said) so_far
+    with_boot natives (boot_of (word ws 0) (word ws 1) (word ws 2)) fills items (sound_boot natives (decimal (word ws 0)) (decimal (word ws 1)) (decimal (word ws 2)) said.1.1.1) so_far
 after_boot natives (Some boot) fills items ws (first, _) count some so_far = absurd cc
 
 after_ta : (natives : List (List ℕ)) (boot : Option Boot) (fills : List Fill) (items : List Item) (ws : List (List ℕ)) → Adds kind.Ta natives boot fills items ws
 unfolding rules_behind added
 after_ta natives None fills items ws (booted, _) count some so_far = absurd cc
-after_ta natives (Some boot) fills items ws (_, (_, said)) count some so_far =
-    with_apps natives boot (app_of (word ws 0) (word ws 1)) fills items (sound_apps natives boot (word ws 0) (word ws 1) said so_far.is_boot) so_far
+after_ta natives (Some boot) fills items ws (_, (_, (_, (hex, said)))) count some so_far =
+    with_apps natives boot (app_of (word ws 0) (word ws 1)) fills items
+    (sound_apps natives boot (uuid (word ws 0)) (bytes (word ws 1)) said (valid_image (word ws 1) hex said.1.1.0) so_far.is_boot) so_far
 
 after_mem : (natives : List (List ℕ)) (boot : Option Boot) (fills : List Fill) (items : List Item) (ws : List (List ℕ)) → Adds kind.Mem natives boot fills items ws
 unfolding rules_behind added
@@ -321,7 +323,7 @@ no_one : (anyone : Bool) → cond anyone (Some bad.Unended) None ≡ None → an
 no_one true e = absurd cc
 no_one false e = refl
 
-at_last : (trace : Trace) → end_fault trace ≡ None → inside_after trace.items ≡ outside
+pub at_last : (trace : Trace) → end_fault trace ≡ None → inside_after trace.items ≡ outside
 unfolding inside_after
 at_last trace e = all_outside 8 (fold moved outside trace.items) (length-fold outside trace.items) (no_one (list_any (λ inside. inside) (fold moved outside trace.items)) e)
 

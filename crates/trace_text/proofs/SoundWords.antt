@@ -88,12 +88,14 @@ none_is : {A : Type 0} (o : Option A) → is_none o ≡ true → o ≡ None
 none_is None e = refl
 none_is (Some x) e = absurd cc
 
-pub valid_image : (word : List ℕ) → is_hex word ≡ true → is_image (bytes word) ≡ true → IsValid (image_of (bytes word))
+pub valid_bytes : (image : List ℕ) → IsBytes image → is_image image ≡ true → IsValid (image_of image)
 unfolding is_image
-valid_image word hex image =
-    let faultless : fault_of (bytes word) ≡ None = none_is (fault_of (bytes word)) image in
-    let said = bytes_said word hex in
-    (found (bytes word) (Ok (image_of (bytes word))) said.fit (inl (sym (ap (λ o. answer o (image_of (bytes word))) faultless)))).valid
+valid_bytes image fit loads =
+    let faultless : fault_of image ≡ None = none_is (fault_of image) loads in
+    (found image (Ok (image_of image)) fit (inl (sym (ap (λ o. answer o (image_of image)) faultless)))).valid
+
+pub valid_image : (word : List ℕ) → is_hex word ≡ true → is_image (bytes word) ≡ true → IsValid (image_of (bytes word))
+valid_image word hex image = valid_bytes (bytes word) (bytes_said word hex).fit image
 
 -- ---- tests of lists
 

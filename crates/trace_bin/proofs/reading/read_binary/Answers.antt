@@ -1,10 +1,10 @@
-use Rattle.std.proofs.Common.{◌≡◌, ◌<◌, ◌∷◌, [], List, ℕ, None, length, Ok, Err, sym, subst, arith, rules}
+use Rattle.std.proofs.Common.{◌≡◌, ◌<◌, [], length, Ok, Err, sym, subst, arith, rules}
 use Rattle.std.proofs.lemmas.Bool.{eqb-true}
 use Rattle.std.proofs.lemmas.List.{nil_from_length}
 use Rattle.trace_text.specs.declared.fault.TraceFault.{TraceFault}
 use Rattle.trace_text.specs.declared.fault.TraceFault.TheVariants.{Bad}
 use Rattle.trace_text.specs.declared.trace.Trace.{Trace}
-use Rattle.trace_bin.specs.Grammar.{magic_fault, Spells}
+use Rattle.trace_bin.specs.Grammar.{Spells}
 use Rattle.trace_bin.proofs.GrammarLaws.{clauses, ends, ends_badly, goes_on, IsAnswer, stops}
 use Rattle.trace_bin.proofs.reading.read_binary.Goals as goal
 
@@ -12,11 +12,11 @@ pub returns-in-Err : goal.returns-in-Err
 returns-in-Err c =
     let A : TraceFault → Type 0 = λ f. IsAnswer c.args.natives.now c.args.bytes.now (Err f) in
     let more : 0 < length c.loop-rest.rest.now = search rules in
-    let answer = clauses c.args.natives.now c.args.bytes.now (Err c.at.result)
+    let answer = clauses c.args.natives.now c.args.bytes.now (Err c.at.result) (λ i. omega (arith, c.type_inv.bytes i))
     (subst A (sym c.at.ensures)
     (stops c.args.natives.now c.args.bytes.now c.loop-rest.place c.loop-rest.builder c.loop-rest.rest.now c.in-Err.fault (sym c.in_default.ensures.which) c.loop-rest.invariant.some more c.loop-rest.invariant.so_far
     c.in-Err.ensures.taken)) in
-    record { found = answer.found; only = answer.only; bad = answer.bad; refused = answer.refused }
+    record { found = answer.found; only = answer.only; bad = answer.bad; refused = answer.refused; sound = answer.sound }
 
 pub loop-rest-preserved : goal.loop-rest-preserved
 loop-rest-preserved c = record {
@@ -31,15 +31,15 @@ pub returns-in-Ok-finish : goal.returns-in-Ok-finish
 returns-in-Ok-finish c =
     let none : c.loop-rest.rest.now ≡ [] = nil_from_length c.loop-rest.rest.now (eqb-true (length c.loop-rest.rest.now) 0 (sym c.loop-rest-test.ensures)) in
     let S : Trace → Type 0 = λ t. Spells c.args.natives.now c.args.bytes.now t in
-    let answer = clauses c.args.natives.now c.args.bytes.now (Ok c.in-Ok-finish.trace)
+    let answer = clauses c.args.natives.now c.args.bytes.now (Ok c.in-Ok-finish.trace) (λ i. omega (arith, c.type_inv.bytes i))
     (subst S (sym c.in-Ok-finish.ensures.1)
     (ends c.args.natives.now c.args.bytes.now c.loop-rest.place c.loop-rest.builder c.loop-rest.rest.now (sym c.in_default.ensures.which) none c.loop-rest.invariant.so_far c.in-Ok-finish.ensures.0)) in
-    record { found = answer.found; only = answer.only; bad = answer.bad; refused = answer.refused }
+    record { found = answer.found; only = answer.only; bad = answer.bad; refused = answer.refused; sound = answer.sound }
 
 pub returns-in-Err-finish : goal.returns-in-Err-finish
 returns-in-Err-finish c =
     let none : c.loop-rest.rest.now ≡ [] = nil_from_length c.loop-rest.rest.now (eqb-true (length c.loop-rest.rest.now) 0 (sym c.loop-rest-test.ensures)) in
-    let answer = clauses c.args.natives.now c.args.bytes.now (Err (Bad c.loop-rest.place c.in-Err-finish.kind))
+    let answer = clauses c.args.natives.now c.args.bytes.now (Err (Bad c.loop-rest.place c.in-Err-finish.kind)) (λ i. omega (arith, c.type_inv.bytes i))
     (ends_badly c.args.natives.now c.args.bytes.now c.loop-rest.place c.loop-rest.builder c.loop-rest.rest.now c.in-Err-finish.kind (sym c.in_default.ensures.which) c.loop-rest.invariant.some none c.loop-rest.invariant.so_far
     c.in-Err-finish.ensures) in
-    record { found = answer.found; only = answer.only; bad = answer.bad; refused = answer.refused }
+    record { found = answer.found; only = answer.only; bad = answer.bad; refused = answer.refused; sound = answer.sound }

@@ -1,4 +1,4 @@
-use Rattle.std.proofs.Common.{◌≡◌, ◌≤◌, ◌+◌, ◌-◌, length, drop}
+use Rattle.std.proofs.Common.{◌≤◌, ◌+◌, ◌-◌, length, drop}
 use Rattle.trace_text.specs.Limits.{empty_trace}
 use Rattle.trace_bin.specs.Grammar.{Leads}
 use Rattle.trace_bin.proofs.reading.read_binary.Given as goal

@@ -1,4 +1,4 @@
-use Rattle.std.proofs.Common.{◌≡◌, ◌<◌, ◌^◌, ℕ, List, length, sym, subst, ap, ◌∙◌}
+use Rattle.std.proofs.Common.{◌<◌, ◌^◌, ℕ, List, length, sym, subst, ◌∙◌}
 use Rattle.trace_bin.proofs.Lengths.{few_bytes}
 use Rattle.trace_bin.proofs.writing.put_app.Goals as goal
 
