@@ -1,0 +1,95 @@
+//! Lines of a text, and the words of a line.
+
+ghost use Rattle.std.specs.Prelude.{◌≡◌, ℕ, ◌-◌, List, ◌∷◌, length, take, MatchOption, IfSome, ◌<◌};
+ghost use Rattle.std.specs.Option.{option_map, option_copied};
+ghost use Rattle.ta_asm.specs.Lines.{is_skipped, is_label, words_of, word_at, last_word};
+ghost use Rattle.ta_asm.specs.Reading.{Lacks, IsCutAt, words_left, is_ended};
+
+use memchr::memchr;
+use std::marker::Model;
+
+/// The first line of a text, without its line feed, and what stands behind it.
+pub fn split_line(text: &[u8]) -> Option<(&[u8], &[u8])>
+    ensures { MatchOption result (Lacks 10 text.now) (λ x. IsCutAt 10 text.now x.0.now x.1.now) }
+{
+    let end = memchr(b'\n', text)?;
+    Some((&text[..end], &text[end + 1..]))
+}
+
+/// The first word of a line that has others, and what stands behind the space after it.
+fn split_word(line: &[u8]) -> Option<(&[u8], &[u8])>
+    ensures { MatchOption result (Lacks 32 line.now) (λ x. IsCutAt 32 line.now x.0.now x.1.now) }
+{
+    // Words are short, and a search that reads many bytes at a time is no gain.
+    for (end, byte) in line.iter().enumerate() {
+        if *byte == b' ' {
+            return Some((&line[..end], &line[end + 1..]));
+        }
+    }
+    None
+}
+
+/// Whether a line is empty or a comment.
+#[tactic(auto, unfolding(crate::specs::Lines::is_skipped))]
+pub fn is_skipped(line: &[u8]) -> bool
+    ensures { result ≡ is_skipped line.now }
+{
+    line.is_empty() || line[0] == b'#'
+}
+
+/// The words of a line that are still to be read. Two words are parted by one space, so two spaces in a row part
+/// an empty word from its neighbours. A contract sees the list of these words.
+#[derive(Drop)]
+pub struct Words<'a> {
+    rest: Option<&'a [u8]>,
+}
+
+impl<'a> Model for Words<'a> {
+    ghost Value = { List (List ℕ) };
+
+    ghost view = { λ w. words_left (option_copied w.rest) };
+}
+
+impl<'a> Words<'a> {
+    /// The words of a line, which is given without its line feed.
+    pub fn of(line: &'a [u8]) -> Words<'a>
+        ensures { result ≡ words_of line.now }
+    {
+        Words { rest: Some(line) }
+    }
+
+    /// Takes the next word.
+    pub fn next_word(&mut self) -> Option<&'a [u8]>
+        ensures { word_at self.old ≡ option_map (λ word. (word.now, self.new)) result }
+    {
+        let line = self.rest?;
+        match split_word(line) {
+            Some((word, rest)) => {
+                self.rest = Some(rest);
+                Some(word)
+            }
+            None => {
+                self.rest = None;
+                Some(line)
+            }
+        }
+    }
+
+    /// Takes the one word that is left.
+    pub fn last_word(&mut self) -> Option<&'a [u8]>
+        ensures { last_word self.old ≡ option_map (λ word. word.now) result }
+    {
+        let word = self.next_word()?;
+        match self.next_word() {
+            Some(_) => None,
+            None => Some(word),
+        }
+    }
+
+    /// Whether all words were taken.
+    pub fn is_ended(&mut self) -> bool
+        ensures { result ≡ is_ended self.old }
+    {
+        self.next_word().is_none()
+    }
+}
