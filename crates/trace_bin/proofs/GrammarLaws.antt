@@ -12,7 +12,7 @@ use Rattle.trace_text.specs.Judging.{placed}
 use Rattle.trace_bin.specs.Record.{kind_tagged}
 use Rattle.trace_bin.specs.Rules.{after_record, behind_record, record_rules}
 use Rattle.trace_text.specs.Sound.{IsSound}
-use Rattle.ta_isa.proofs.Words.{IsBytes}
+use Rattle.base.proofs.Numbers.{IsBytes}
 use Rattle.trace_bin.proofs.SoundRecords.{IsSound-spelled}
 use Rattle.trace_bin.specs.Taking.{IsRefused}
 use Rattle.trace_bin.specs.Grammar.{AllBytes, fault_at, IsFaultBehind, IsFaultOf, IsFirstFault, Leads, magic_fault, Spells}

@@ -5,7 +5,7 @@ use Rattle.std.specs.List.{AllByRecursion, list_all}
 use Rattle.std.proofs.lemmas.Bool.{and_parts, leb-true, ltb-true}
 use Rattle.std.proofs.lemmas.List.Elements.{All-from_recursion}
 use Rattle.ta_isa.specs.declared.boot.Boot.{Boot}
-use Rattle.ta_isa.proofs.Words.{IsBytes, IsBytes-drop, IsBytes-take}
+use Rattle.base.proofs.Numbers.{IsBytes, IsBytes-drop, IsBytes-take}
 use Rattle.trace_text.specs.declared.item.Item.{Item}
 use Rattle.trace_text.specs.declared.item.Item.TheVariants as item
 use Rattle.trace_text.specs.declared.item.Reg.TheVariants.{Num, Last}
