@@ -10,7 +10,6 @@ use Rattle.rpc_msgs.specs.declared.rpc.RpcReply.{RpcReply}
 use Rattle.ta_step.specs.Addresses.{range_at}
 use Rattle.ta_step.specs.Requests.{span_of}
 use Rattle.ta_step.specs.State.{State}
-use Rattle.ta_step.specs.declared.addresses.TheConstants.{RANGE}
 use Rattle.ta_step.specs.declared.stop.Request.{Request}
 use Rattle.ta_step.specs.declared.stop.Request.TheVariants as request
 use Rattle.tee_storage.specs.declared.handle.Handle.{Handle}
@@ -81,7 +80,7 @@ object_ask s = record { next = object_asking s.step; range = s.range; objects = 
 
 -- so many bytes from an address on
 abbrev pub bytes_at : State → ℕ → ℕ → List ℕ
-bytes_at machine addr count = take count (drop (addr % RANGE) (range_at machine addr))
+bytes_at machine addr count = take count (drop (addr % 0x10000000) (range_at machine addr))
 
 -- those that a request names
 abbrev pub range_of : Request → State → List ℕ

@@ -1,4 +1,3 @@
-pub mod Written
 pub mod RangeWrites
 pub mod Spans
 pub mod Returning

@@ -12,14 +12,13 @@ use Rattle.ta_step.specs.Addresses.{ranges, range_at, with_range, is_inside, loa
 use Rattle.ta_step.specs.Bytes.{has_bytes, written}
 use Rattle.ta_step.specs.State.{State}
 use Rattle.ta_step.specs.SystemCalls.{is_range}
-use Rattle.ta_step.specs.declared.addresses.TheConstants.{RANGE}
 use Rattle.rpc_cont.specs.Spans.{rest_of}
-use Rattle.rpc_cont.proofs.Written.{length-written, written-there, written-none, written-twice, part-overwritten, overwritten-same, overwritten-one, has_bytes-same}
+use Rattle.base.proofs.Overwriting.{length-written, written-there, written-none, written-twice, part-overwritten, overwritten-same, overwritten-one, has_bytes-same}
 use Rattle.rpc_cont.proofs.RangeWrites.{range, range-with_range, with_range-twice, with_range-same}
 
 -- the bytes of the range that an address names, with those that are stored
 abbrev stored : State → ℕ → List ℕ → List ℕ
-stored s addr new = written (range_at s addr) (addr % RANGE) new
+stored s addr new = written (range_at s addr) (addr % 0x10000000) new
 
 -- ---- what a store keeps
 
@@ -39,24 +38,24 @@ with_range-same_but s zero bytes e = record { registers = refl; place = refl; st
 with_range-same_but s (suc number) bytes e = record { registers = refl; place = refl; stack = refl; memory = refl; login = refl; masked = refl; cancelled = refl; asked = refl }
 
 pub store-same_but : (s : State) (addr : ℕ) (new : List ℕ) → SameBut s (store s addr new)
-store-same_but s addr new = with_range-same_but s (addr / RANGE) (stored s addr new) (length-written (range_at s addr) (addr % RANGE) new)
+store-same_but s addr new = with_range-same_but s (addr / 0x10000000) (stored s addr new) (length-written (range_at s addr) (addr % 0x10000000) new)
 
 -- a store of no bytes changes nothing
 pub store-none : (s : State) (addr : ℕ) → store s addr [] ≡ s
 store-none s addr =
-    ap (with_range s (addr / RANGE)) (written-none (range_at s addr) (addr % RANGE))
-    ∙ with_range-same s (addr / RANGE)
+    ap (with_range s (addr / 0x10000000)) (written-none (range_at s addr) (addr % 0x10000000))
+    ∙ with_range-same s (addr / 0x10000000)
 
 pub range_at-store : (s : State) (addr : ℕ) (new : List ℕ) → range_at (store s addr new) addr ≡ stored s addr new
-range_at-store s addr new = range-with_range s (addr / RANGE) (stored s addr new) (length-written (range_at s addr) (addr % RANGE) new)
+range_at-store s addr new = range-with_range s (addr / 0x10000000) (stored s addr new) (length-written (range_at s addr) (addr % 0x10000000) new)
 
 length-range_at-store : (s : State) (addr : ℕ) (new : List ℕ) → length (range_at (store s addr new) addr) ≡ length (range_at s addr)
-length-range_at-store s addr new = ap length (range_at-store s addr new) ∙ length-written (range_at s addr) (addr % RANGE) new
+length-range_at-store s addr new = ap length (range_at-store s addr new) ∙ length-written (range_at s addr) (addr % 0x10000000) new
 
 pub is_range-store : (s : State) (addr : ℕ) (new : List ℕ) (count : ℕ) → is_range (store s addr new) addr count ≡ is_range s addr count
 is_range-store s addr new count =
-    ap (λ (b : Bool). (count == 0) || (nat_le (addr % RANGE + count) RANGE && b))
-    (has_bytes-same (range_at (store s addr new) addr) (range_at s addr) (addr % RANGE) count (length-range_at-store s addr new))
+    ap (λ (b : Bool). (count == 0) || (nat_le (addr % 0x10000000 + count) 0x10000000 && b))
+    (has_bytes-same (range_at (store s addr new) addr) (range_at s addr) (addr % 0x10000000) count (length-range_at-store s addr new))
 
 -- ---- the bytes that stand there
 
@@ -76,24 +75,24 @@ some count = grind (arith, nat_tests)
 
 -- bytes in one range are in it, if there are any
 inside : (s : State) (addr count : ℕ) → is_range s addr (suc count) ≡ true → is_inside s addr (suc count) ≡ true
-inside s addr count e = last_holds (suc count == 0) (nat_le (addr % RANGE + suc count) RANGE) (is_inside s addr (suc count)) (some count) e
+inside s addr count e = last_holds (suc count == 0) (nat_le (addr % 0x10000000 + suc count) 0x10000000) (is_inside s addr (suc count)) (some count) e
 
 -- their addresses are in it too
-pub is_range-fits : (s : State) (addr count : ℕ) → is_range s addr count ≡ true → addr % RANGE + count ≤ RANGE
+pub is_range-fits : (s : State) (addr count : ℕ) → is_range s addr count ≡ true → addr % 0x10000000 + count ≤ 0x10000000
 is_range-fits s addr zero e = omega arith
 is_range-fits s addr (suc count) e =
-    leb-true (addr % RANGE + suc count) RANGE
-    (middle_holds (suc count == 0) (nat_le (addr % RANGE + suc count) RANGE) (is_inside s addr (suc count)) (some count) e)
+    leb-true (addr % 0x10000000 + suc count) 0x10000000
+    (middle_holds (suc count == 0) (nat_le (addr % 0x10000000 + suc count) 0x10000000) (is_inside s addr (suc count)) (some count) e)
 
 pub length-bytes_at : (s : State) (addr count : ℕ) → is_range s addr count ≡ true → length (bytes_at s addr count) ≡ count
 length-bytes_at s addr zero e = refl
 length-bytes_at s addr (suc count) e =
     let xs = range_at s addr in
-    let there = leb-true (addr % RANGE + suc count) (length xs) (inside s addr count e) in
-    omega (arith, length-take (suc count) (drop (addr % RANGE) xs), length-drop (addr % RANGE) xs)
+    let there = leb-true (addr % 0x10000000 + suc count) (length xs) (inside s addr count e) in
+    omega (arith, length-take (suc count) (drop (addr % 0x10000000) xs), length-drop (addr % 0x10000000) xs)
 
 below : (s : State) (addr count at : ℕ) → at < length (bytes_at s addr count) → at < count
-below s addr count at lt = omega (arith, length-take count (drop (addr % RANGE) (range_at s addr)))
+below s addr count at lt = omega (arith, length-take count (drop (addr % 0x10000000) (range_at s addr)))
 
 part-written : (xs : List ℕ) (place : ℕ) (new : List ℕ) → has_bytes xs place (length new) ≡ true → take (length new) (drop place (written xs place new)) ≡ new
 part-written xs place new e =
@@ -105,8 +104,8 @@ pub bytes_at-store : (s : State) (addr : ℕ) (new : List ℕ) → is_range s ad
 bytes_at-store s addr [] e = refl
 bytes_at-store s addr (byte ∷ more) e =
     let new = byte ∷ more in
-    ap (λ (l : List ℕ). take (length new) (drop (addr % RANGE) l)) (range_at-store s addr new)
-    ∙ part-written (range_at s addr) (addr % RANGE) new (inside s addr (length more) e)
+    ap (λ (l : List ℕ). take (length new) (drop (addr % 0x10000000) l)) (range_at-store s addr new)
+    ∙ part-written (range_at s addr) (addr % 0x10000000) new (inside s addr (length more) e)
 
 written-same : (xs : List ℕ) (place count : ℕ) → has_bytes xs place count ≡ true → written xs place (take count (drop place xs)) ≡ xs
 written-same xs place count e =
@@ -121,15 +120,15 @@ written-same xs place count e =
 pub store-same : (s : State) (addr count : ℕ) → is_range s addr count ≡ true → store s addr (bytes_at s addr count) ≡ s
 store-same s addr zero e = store-none s addr
 store-same s addr (suc count) e =
-    ap (with_range s (addr / RANGE)) (written-same (range_at s addr) (addr % RANGE) (suc count) (inside s addr count e))
-    ∙ with_range-same s (addr / RANGE)
+    ap (with_range s (addr / 0x10000000)) (written-same (range_at s addr) (addr % 0x10000000) (suc count) (inside s addr count e))
+    ∙ with_range-same s (addr / 0x10000000)
 
 -- of two stores of as many bytes the last one counts
 pub store-twice : (s : State) (addr : ℕ) (first new : List ℕ) → length first ≡ length new → store (store s addr first) addr new ≡ store s addr new
 store-twice s addr first new same =
-    ap (λ (l : List ℕ). with_range (store s addr first) (addr / RANGE) (written l (addr % RANGE) new)) (range_at-store s addr first)
-    ∙ ap (with_range (store s addr first) (addr / RANGE)) (written-twice (range_at s addr) (addr % RANGE) first new same)
-    ∙ with_range-twice s (addr / RANGE) (stored s addr first) (stored s addr new)
+    ap (λ (l : List ℕ). with_range (store s addr first) (addr / 0x10000000) (written l (addr % 0x10000000) new)) (range_at-store s addr first)
+    ∙ ap (with_range (store s addr first) (addr / 0x10000000)) (written-twice (range_at s addr) (addr % 0x10000000) first new same)
+    ∙ with_range-twice s (addr / 0x10000000) (stored s addr first) (stored s addr new)
 
 -- ---- what lies around
 
@@ -176,10 +175,10 @@ written-one xs place count at byte e lt =
     ∙ sym (written-there xs place (set part at byte) there)
 
 -- the address of a byte of a span
-same_range : (addr count at : ℕ) → addr % RANGE + count ≤ RANGE → at < count → (addr + at) / RANGE ≡ addr / RANGE
+same_range : (addr count at : ℕ) → addr % 0x10000000 + count ≤ 0x10000000 → at < count → (addr + at) / 0x10000000 ≡ addr / 0x10000000
 same_range addr count at fits lt = omega arith
 
-next_place : (addr count at : ℕ) → addr % RANGE + count ≤ RANGE → at < count → (addr + at) % RANGE ≡ addr % RANGE + at
+next_place : (addr count at : ℕ) → addr % 0x10000000 + count ≤ 0x10000000 → at < count → (addr + at) % 0x10000000 ≡ addr % 0x10000000 + at
 next_place addr count at fits lt = omega arith
 
 -- the byte that stands there
@@ -189,15 +188,15 @@ slice_get-bytes_at s addr count at byte e lt is =
     let fits = is_range-fits s addr count e in
     let xs = range_at s addr in
     let less = below s addr count at lt in
-    let loaded : load s (addr + at) ≡ slice_get xs (addr % RANGE + at) =
-    ap (λ (n : ℕ). slice_get (slice_index_or (ranges s) n []) ((addr + at) % RANGE)) (same_range addr count at fits less)
+    let loaded : load s (addr + at) ≡ slice_get xs (addr % 0x10000000 + at) =
+    ap (λ (n : ℕ). slice_get (slice_index_or (ranges s) n []) ((addr + at) % 0x10000000)) (same_range addr count at fits less)
     ∙ ap (slice_get xs) (next_place addr count at fits less)
     in
-    let here : byte ≡ get_or xs (addr % RANGE + at) 0 =
-    is ∙ ap (λ (o : Option ℕ). unwrap_or o 0) loaded ∙ unwrap_or-slice_get xs (addr % RANGE + at) 0
+    let here : byte ≡ get_or xs (addr % 0x10000000 + at) 0 =
+    is ∙ ap (λ (o : Option ℕ). unwrap_or o 0) loaded ∙ unwrap_or-slice_get xs (addr % 0x10000000 + at) 0
     in
     slice_get-get_or (bytes_at s addr count) at 0 lt
-    ∙ ap Some (get_or-take count (drop (addr % RANGE) xs) at 0 less ∙ get_or-drop (addr % RANGE) xs at 0 ∙ sym here)
+    ∙ ap Some (get_or-take count (drop (addr % 0x10000000) xs) at 0 less ∙ get_or-drop (addr % 0x10000000) xs at 0 ∙ sym here)
 
 -- a byte stored in a span is the span stored with another byte
 pub store-one : (s : State) (addr count at byte : ℕ) → is_range s addr count ≡ true → at < length (bytes_at s addr count)
@@ -206,9 +205,9 @@ store-one s addr zero at byte e lt = absurd (omega arith)
 store-one s addr (suc count) at byte e lt =
     let fits = is_range-fits s addr (suc count) e in
     let less = below s addr (suc count) at lt in
-    ap (λ (n : ℕ). with_range s n (written (slice_index_or (ranges s) n []) ((addr + at) % RANGE) (byte ∷ []))) (same_range addr (suc count) at fits less)
-    ∙ ap (λ (k : ℕ). with_range s (addr / RANGE) (written (range_at s addr) k (byte ∷ []))) (next_place addr (suc count) at fits less)
-    ∙ ap (with_range s (addr / RANGE)) (written-one (range_at s addr) (addr % RANGE) (suc count) at byte (inside s addr count e) less)
+    ap (λ (n : ℕ). with_range s n (written (slice_index_or (ranges s) n []) ((addr + at) % 0x10000000) (byte ∷ []))) (same_range addr (suc count) at fits less)
+    ∙ ap (λ (k : ℕ). with_range s (addr / 0x10000000) (written (range_at s addr) k (byte ∷ []))) (next_place addr (suc count) at fits less)
+    ∙ ap (with_range s (addr / 0x10000000)) (written-one (range_at s addr) (addr % 0x10000000) (suc count) at byte (inside s addr count e) less)
 
 -- what such a store makes of the span, and of what lies around it
 pub bytes_at-one : (s : State) (addr count at byte : ℕ) → is_range s addr count ≡ true → at < length (bytes_at s addr count)

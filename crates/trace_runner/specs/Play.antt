@@ -7,7 +7,6 @@ use Rattle.smc_abi.specs.declared.answer.Answer.{Answer}
 use Rattle.smc_abi.specs.declared.answer.Answer.TheVariants.{Words}
 use Rattle.smc_abi.specs.declared.call.Call.{Call}
 use Rattle.smc_abi.specs.declared.call.Call.TheVariants.{Fast, WithArg, Resume, Unknown}
-use Rattle.smc_abi.specs.declared.answer.TheConstants.{ERESUME, UNKNOWN_FUNCTION}
 use Rattle.ta_isa.specs.declared.boot.Boot.{Boot}
 use Rattle.trace_text.specs.declared.item.Item.{Item}
 use Rattle.trace_text.specs.declared.item.Item.TheVariants.{Smc, Enter, Leave, Write, Show}
@@ -33,9 +32,9 @@ number_of (Last i) = 0
 -- which no plain script has, is not served
 abbrev pub answer_of : Call → List ℕ → State → Answer
 answer_of (Fast call) regs state = fast_answer_of call regs state.threads
-answer_of Resume regs state = Words ERESUME 0 0 0
-answer_of WithArg regs state = Words UNKNOWN_FUNCTION 0 0 0
-answer_of Unknown regs state = Words UNKNOWN_FUNCTION 0 0 0
+answer_of Resume regs state = Words 3 0 0 0
+answer_of WithArg regs state = Words 0xffffffff 0 0 0
+answer_of Unknown regs state = Words 0xffffffff 0 0 0
 
 -- the registers after a call that was made with these
 abbrev pub returned : List ℕ → State → List ℕ
