@@ -15,6 +15,3 @@ pub use base::NoMemory;
 pub use laws::{one_meaning, worked_examples, written_is_read};
 pub use reading::{MAGIC, read_binary};
 pub use writing::write_binary;
-
-#[cfg(test)]
-mod tests;

@@ -27,6 +27,3 @@ pub use laws::{grammar_examples, one_meaning, one_spelling, worked_examples};
 pub use plain::read_plain;
 pub use reading::read_trace;
 pub use trace::{Fill, Trace};
-
-#[cfg(test)]
-mod tests;

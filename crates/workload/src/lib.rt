@@ -12,6 +12,3 @@ mod work;
 pub use base::NoMemory;
 pub use laws::{made_traces_read_little, worked_examples};
 pub use work::{MOST_CALLS, make_work};
-
-#[cfg(test)]
-mod tests;
