@@ -1,0 +1,117 @@
+-- What happens to sessions of small boots and what they are answered, worked out by hand.
+use Rattle.std.specs.Prelude.{◌≡◌, ℕ, List, [], ◌∷◌, ◌++◌, Option, Some, replicate}
+use Rattle.std.specs.Option.{option_map, option_and_then}
+use Rattle.event_journal.specs.declared.event.Event.{Event}
+use Rattle.job_model.specs.Point.{no_params}
+use Rattle.kernel_model.specs.Application.{Application, Booted}
+use Rattle.kernel_model.specs.RpcExamples.{two_waits}
+use Rattle.kernel_model.specs.Worked.{Move, boot, add, panic, wait, adds, invokes, closes, call, offer, opens, resume, history_of}
+use Rattle.rpc_msgs.specs.Answer.{nothing_read}
+use Rattle.rpc_msgs.specs.declared.rpc.Rpc.TheVariants.{Suspend}
+use Rattle.ta_params.specs.declared.copied_params.CopiedParams.{CopiedParams}
+use Rattle.ta_params.specs.declared.copied_params.GpParam.TheVariants.{Value}
+use Rattle.ta_params.specs.declared.copied_params.Way.TheVariants.{Inout}
+use Rattle.ta_params.specs.declared.login.Login.{Login}
+use Rattle.own_model.specs.declared.own_event.BackInput.TheVariants as back
+use Rattle.own_model.specs.declared.own_event.OwnEvent.{OwnEvent}
+use Rattle.own_model.specs.declared.own_event.OwnEvent.TheVariants.{Open, Invoke, Close, Back, Out}
+use Rattle.own_model.specs.declared.own_event.OwnInput.TheVariants.{Copied, Unread}
+use Rattle.own_model.specs.declared.own_reply.OwnReply.{OwnReply}
+use Rattle.own_model.specs.declared.own_reply.OwnReply.TheVariants as reply
+use Rattle.own_model.specs.Own.{own_app, own_events, own_replies}
+use Rattle.own_model.specs.Solo.{solo_replies}
+
+-- what happens to a session by moves from the boot on, what it is answered, and what its own machine answers
+abbrev pub events_of : Booted → List Move → ℕ → Option (List OwnEvent)
+events_of on moves session = option_map (λ history. own_events on history session) (history_of on moves)
+
+abbrev pub replies_of : Booted → List Move → ℕ → Option (List OwnReply)
+replies_of on moves session = option_map (λ history. own_replies on history session) (history_of on moves)
+
+abbrev pub solo_of : Booted → List Move → ℕ → Option (List OwnReply)
+solo_of on moves session =
+    let answers = λ (history : List Event) (app : Application). solo_replies 1000 app (own_events on history session) in
+    option_and_then (λ history. option_and_then (answers history) (own_app on history session)) (history_of on moves)
+
+-- the open of a client that is nobody
+abbrev pub nobody : Login
+nobody = record { client = replicate 16 0; kind = 0 }
+
+abbrev pub opened : OwnEvent
+opened = Open no_params nobody
+
+-- two numbers, which come back as two others
+abbrev pub numbers : ℕ → ℕ → CopiedParams
+numbers a b = record no_params { p0 = Value Inout a b }
+
+-- a call has ended with a result and an origin, and nothing is written back
+abbrev pub ended : ℕ → ℕ → OwnReply
+ended result origin = reply.Ended result origin no_params
+
+-- an open and an invoke of the adder, granted at once and step by step
+abbrev pub at_once : List Move
+at_once = opens ++ call 0 1000 (adds 5 7)
+
+abbrev pub step_by_step : List Move
+step_by_step =
+    opens ++ call 0 1 (adds 5 7) ++ resume 0 1 0 ++ resume 0 1 0 ++ resume 0 1 0 ++ resume 0 1 0 ++ resume 0 1 0
+
+abbrev pub sum_events : List OwnEvent
+sum_events = opened ∷ Out 0 ∷ Invoke 0 (Copied (numbers 5 7)) ∷ Out 1 ∷ []
+
+abbrev pub sum_replies : List OwnReply
+sum_replies = ended 0 4 ∷ reply.Ended 0 4 (numbers 12 0) ∷ []
+
+-- two calls of a session: the first waits for its time, and the second for the first, which wakes it
+abbrev pub woken : List Move
+woken =
+    opens ++ two_waits ++ offer 1 9 1 0x40020000 0x88 ++ resume 1 9 1 ++ resume 0 9 0 ++ offer 0 9 0 0x40010000 0x77
+    ++ resume 1 9 1 ++ resume 0 9 0 ++ resume 0 9 0 ++ resume 1 9 1 ++ resume 1 9 1
+
+abbrev pub woken_events : List OwnEvent
+woken_events =
+    opened ∷ Out 0 ∷ Invoke 250 (Copied no_params) ∷ Out 1 ∷ Invoke 250 (Copied no_params) ∷ Out 2
+    ∷ Back 2 back.Buffer ∷ Out 2
+    ∷ Back 2 (back.Reply nothing_read) ∷ Out 2
+    ∷ Back 1 back.NoBuffer ∷ Out 1
+    ∷ Back 1 back.Buffer ∷ Out 1
+    ∷ Back 2 (back.Reply nothing_read) ∷ Out 2
+    ∷ Back 1 (back.Reply nothing_read) ∷ Out 1
+    ∷ Back 1 back.Nothing ∷ Out 1
+    ∷ Back 2 (back.Reply nothing_read) ∷ Out 2
+    ∷ Back 2 back.Nothing ∷ Out 2
+    ∷ []
+
+abbrev pub woken_replies : List OwnReply
+woken_replies =
+    ended 0 4 ∷ reply.Alloc ∷ reply.Alloc ∷ reply.Sleep ∷ reply.Sleep ∷ reply.Alloc ∷ reply.Wake 2
+    ∷ reply.Ask (Suspend 250) [] ∷ reply.Free ∷ ended 0xffff000c 4 ∷ reply.Free ∷ ended 0 4 ∷ []
+
+-- two sessions, of which the first panics
+abbrev pub one_panics : List Move
+one_panics =
+    opens ++ opens ++ call 0 1000 (invokes 1 1) ++ call 0 1000 (invokes 1 1) ++ call 0 1000 (invokes 2 0)
+    ++ call 0 1000 (closes 2) ++ call 0 1000 (closes 1)
+
+pub record Examples : Type 0 where
+  -- an open and an invoke: the events and the replies are the same however the steps are granted
+  pub at_once_events : events_of (boot 1 1 1 add) at_once 1 ≡ Some sum_events
+  pub at_once_replies : replies_of (boot 1 1 1 add) at_once 1 ≡ Some sum_replies
+  pub at_once_solo : solo_of (boot 1 1 1 add) at_once 1 ≡ Some sum_replies
+  pub stepwise_events : events_of (boot 1 1 1 add) step_by_step 1 ≡ Some sum_events
+  pub stepwise_replies : replies_of (boot 1 1 1 add) step_by_step 1 ≡ Some sum_replies
+  -- a session that waits for itself
+  pub woken_calls : events_of (boot 2 2 1 wait) woken 1 ≡ Some woken_events
+  pub woken_answers : replies_of (boot 2 2 1 wait) woken 1 ≡ Some woken_replies
+  pub woken_solo : solo_of (boot 2 2 1 wait) woken 1 ≡ Some woken_replies
+  -- a session that panics, and another beside it
+  pub first_events : events_of (boot 1 1 2 panic) one_panics 1
+      ≡ Some (opened ∷ Out 0 ∷ Invoke 1 (Copied no_params) ∷ Out 1 ∷ Invoke 1 Unread ∷ Out 2 ∷ Close ∷ Out 3 ∷ [])
+  pub first_replies : replies_of (boot 1 1 2 panic) one_panics 1
+      ≡ Some (ended 0 4 ∷ ended 0xffff3024 3 ∷ ended 0xffff3024 3 ∷ ended 0 3 ∷ [])
+  pub first_solo : solo_of (boot 1 1 2 panic) one_panics 1
+      ≡ Some (ended 0 4 ∷ ended 0xffff3024 3 ∷ ended 0xffff3024 3 ∷ ended 0 3 ∷ [])
+  pub second_events : events_of (boot 1 1 2 panic) one_panics 2
+      ≡ Some (opened ∷ Out 0 ∷ Invoke 0 (Copied no_params) ∷ Out 1 ∷ Close ∷ Out 2 ∷ [])
+  pub second_replies : replies_of (boot 1 1 2 panic) one_panics 2 ≡ Some (ended 0 4 ∷ ended 0 4 ∷ ended 0 3 ∷ [])
+  pub second_solo : solo_of (boot 1 1 2 panic) one_panics 2 ≡ Some (ended 0 4 ∷ ended 0 4 ∷ ended 0 3 ∷ [])

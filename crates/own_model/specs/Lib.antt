@@ -1,0 +1,4 @@
+pub mod Parameters
+pub mod Own
+pub mod Solo
+pub mod Examples

@@ -1,0 +1,10 @@
+//! What happens to one session, what it is answered, and the machine that answers so when nobody else is there.
+#![tactic(auto)]
+
+mod laws;
+mod own_event;
+mod own_reply;
+
+pub use laws::worked_examples;
+pub use own_event::{BackInput, OwnEvent, OwnInput};
+pub use own_reply::OwnReply;
