@@ -1,4 +1,5 @@
 pub mod Parameters
 pub mod Own
 pub mod Solo
+pub mod Tied
 pub mod Examples

@@ -1,0 +1,32 @@
+use Rattle.std.proofs.Common.{refl}
+use Rattle.base.specs.Zeros.{zeros}
+use Rattle.hex.specs.Hex.{encode_with}
+use Rattle.own_model.proofs.laws.worked_examples.Goals as goal
+
+pub returns : goal.returns
+unfolding zeros encode_with
+returns c = record {
+  at_once_events = refl;
+  at_once_replies = (refl, refl);
+  stepwise_events = refl;
+  stepwise_replies = (refl, refl);
+  woken_events_are = refl;
+  woken_replies_are = (refl, refl);
+  first_events = refl;
+  first_replies = (refl, refl);
+  second_events = refl;
+  second_replies = (refl, refl);
+  seen_events = refl;
+  seen = (refl, refl);
+  seen_waiting = (refl, refl);
+  session_gone = (refl, refl);
+  dead = (refl, refl);
+  sleepless = (refl, refl);
+  limited = (refl, refl);
+  woken_before = (refl, refl);
+  open_failed = (refl, refl);
+  create_failed = (refl, refl);
+  open_panicked = (refl, refl);
+  built_in = (refl, refl);
+  faulty = refl;
+}
