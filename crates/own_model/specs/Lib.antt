@@ -2,4 +2,5 @@ pub mod Parameters
 pub mod Own
 pub mod Solo
 pub mod Tied
+pub mod Laws
 pub mod Examples

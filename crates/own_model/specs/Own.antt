@@ -40,23 +40,28 @@ use Rattle.own_model.specs.Parameters.{params_of, outputs_with}
 abbrev pub Logged : Type 0
 Logged = OwnEvent × Option OwnReply
 
+-- the numbers of a session's calls
+pub record Numbering : Type 0 where
+  -- how many have come in: the number of the next one
+  pub entered : ℕ
+  -- those of the calls that are in slots, by their slots
+  pub in_slots : NumberMap ℕ
+  -- those of the calls that are woken, by the slots of the calls that wake them, from where that is fixed on
+  pub wakes : NumberMap ℕ
+
 -- what is noted of a session as a history goes on
 pub record Notes : Type 0 where
   -- the UUID of its application, once its open has come in
   pub uuid : Option (List ℕ)
-  -- how many calls of it have come in: the number of the next one
-  pub entered : ℕ
-  -- the numbers of its calls that are in slots, by their slots
-  pub numbers : NumberMap ℕ
-  -- by the slot of a call the number of the call that it wakes, from where that is fixed on
-  pub wakes : NumberMap ℕ
+  pub numbering : Numbering
   -- the processors inside whose new call, of the session's client, found no slot while the session was there
   pub turned_away : List ℕ
   -- its events so far
   pub log : List Logged
 
 abbrev pub no_notes : Notes
-no_notes = record { uuid = None; entered = 0; numbers = []; wakes = []; turned_away = []; log = [] }
+no_notes =
+    record { uuid = None; numbering = record { entered = 0; in_slots = []; wakes = [] }; turned_away = []; log = [] }
 
 -- with this event, which has no reply
 abbrev pub with_event : Notes → OwnEvent → Notes
@@ -94,11 +99,16 @@ uuid_by (Open params login) call notes = call.uuid
 uuid_by _ call notes = notes.uuid
 
 -- a call of the session comes into a slot: it gets the next number
+abbrev pub next_in : Numbering → ℕ → Numbering
+next_in numbering slot = record numbering {
+  entered = numbering.entered + 1;
+  in_slots = insert numbering.in_slots slot numbering.entered;
+}
+
 abbrev pub numbered : Notes → ℕ → PendingCall → OwnEvent → Notes
 numbered notes slot call came = record (with_event notes came) {
   uuid = uuid_by came call notes;
-  entered = notes.entered + 1;
-  numbers = insert notes.numbers slot notes.entered;
+  numbering = next_in notes.numbering slot;
 }
 
 -- a call comes into a slot
@@ -142,7 +152,7 @@ resume_noted r before now notes number =
 abbrev pub slot_noted : ℕ → Resuming → Notes → Option ThreadSlot → Option ThreadSlot → Notes
 slot_noted session r notes (Some Free) (Some (Active cpu call)) = call_noted session notes r.slot call
 slot_noted session r notes (Some (Suspended client before)) (Some (Active cpu now)) =
-    option_map_or (resume_noted r before now notes) (get notes.numbers r.slot) notes
+    option_map_or (resume_noted r before now notes) (get notes.numbering.in_slots r.slot) notes
 slot_noted session r notes _ _ = notes
 
 -- the answer is ETHREAD_LIMIT
@@ -182,10 +192,10 @@ entry_noted session e notes _ = notes
 -- ---- exits
 
 -- the number of the call that a call in this phase wakes: that which was kept, or else that of the call in the slot now
-abbrev pub woken_in : Notes → ℕ → CallPhase → Option ℕ
-woken_in notes slot (Ends result params told (Some woken)) =
-    option_or (get notes.wakes slot) (get notes.numbers woken)
-woken_in notes slot _ = None
+abbrev pub woken_in : Numbering → ℕ → CallPhase → Option ℕ
+woken_in numbering slot (Ends result params told (Some woken)) =
+    option_or (get numbering.wakes slot) (get numbering.in_slots woken)
+woken_in numbering slot _ = None
 
 -- what is told of a request
 abbrev pub request_reply : Option ℕ → CallPhase → Option OwnReply
@@ -211,26 +221,23 @@ abbrev pub with_reply : ℕ → Notes → OwnReply → Notes
 with_reply number notes told = record notes { log = notes.log ++ (Out number, Some told) ∷ [] }
 
 -- whom the call of the slot wakes is kept
-abbrev pub with_wake : Notes → ℕ → Option ℕ → Notes
-with_wake notes slot None = notes
-with_wake notes slot (Some woken) = record notes { wakes = insert notes.wakes slot woken }
+abbrev pub with_wake : Numbering → ℕ → Option ℕ → Numbering
+with_wake numbering slot None = numbering
+with_wake numbering slot (Some woken) = record numbering { wakes = insert numbering.wakes slot woken }
 
--- the slot holds no call of the session any more
-abbrev pub without_slot : Notes → ℕ → Notes
-without_slot notes slot =
-    record notes { numbers = remove notes.numbers slot; wakes = remove notes.wakes slot }
-
-abbrev pub slot_kept : Notes → ℕ → Leaving → Notes
-slot_kept notes slot (Finishes result params) = without_slot notes slot
-slot_kept notes slot _ = notes
+-- the slot holds no call of the session any more where its call goes out so
+abbrev pub slot_kept : Numbering → ℕ → Leaving → Numbering
+slot_kept numbering slot (Finishes result params) =
+    record numbering { in_slots = remove numbering.in_slots slot; wakes = remove numbering.wakes slot }
+slot_kept numbering slot _ = numbering
 
 -- the session's call of this number, which is this by now, goes out of the slot
 abbrev pub exit_noted : Notes → ℕ → PendingCall → ℕ → Notes
 exit_noted notes slot call number =
     let leaving = leaving_of slot call in
-    let woken = woken_in notes slot call.phase in
+    let woken = woken_in notes.numbering slot call.phase in
     let told = option_map_or (with_reply number notes) (reply_of woken call.phase leaving) notes in
-    slot_kept (with_wake told slot woken) slot leaving
+    record told { numbering = slot_kept (with_wake notes.numbering slot woken) slot leaving }
 
 -- a call that was turned away goes out
 abbrev pub limit_noted : Notes → ℕ → Notes
@@ -246,7 +253,7 @@ limit_noted notes cpu =
 abbrev pub out_noted : Kernel → Notes → ℕ → Option Processor → Notes
 out_noted kernel notes cpu (Some (Inside regs steps (Fixed answer))) = limit_noted notes cpu
 out_noted kernel notes cpu (Some (Inside regs steps (InSlot slot))) =
-    let with_progress = λ (progress : Progress). option_map_or (exit_noted notes slot progress.call) (get notes.numbers slot) notes in
+    let with_progress = λ (progress : Progress). option_map_or (exit_noted notes slot progress.call) (get notes.numbering.in_slots slot) notes in
     option_map_or with_progress (progress_in_slot kernel steps slot) notes
 out_noted kernel notes cpu _ = notes
 

@@ -10,9 +10,9 @@ use Rattle.job_model.specs.Steps.{After}
 use Rattle.session_table.specs.declared.session.Session.{Session}
 use Rattle.session_table.specs.declared.waiters.Waiter.{Waiter}
 use Rattle.kernel_model.specs.Application.{Application, uuid_of}
-use Rattle.kernel_model.specs.Kernel.{CallPhase, Runs, Asks, Waits, Ends, PendingCall, ThreadSlot, Free, Active, Suspended, Instance, Kernel, Tables}
+use Rattle.kernel_model.specs.Kernel.{CallPhase, Runs, Asks, Waits, Ends, PendingCall, ThreadSlot, Free, Active, Suspended, Instance, Tables}
 use Rattle.kernel_model.specs.Resume.{phase_seen}
-use Rattle.own_model.specs.Own.{Notes}
+use Rattle.own_model.specs.Own.{Numbering}
 use Rattle.own_model.specs.Solo.{OwnSession, OwnCall, Solo}
 
 -- ---- the session and its instance
@@ -51,8 +51,8 @@ call_in Free = None
 call_in (Active cpu call) = Some call
 call_in (Suspended client call) = Some call
 
-abbrev pub call_at : Kernel → ℕ → Option PendingCall
-call_at kernel slot = option_and_then call_in (slice_get kernel.slots slot)
+abbrev pub call_at : List ThreadSlot → ℕ → Option PendingCall
+call_at slots slot = option_and_then call_in (slice_get slots slot)
 
 -- the job of a call that has done so many steps is that of the machine's call by so many more than that has done
 pub record IsFurther (done_by_now done_by_then : ℕ) (now then : Job) : Type 0 where
@@ -93,34 +93,47 @@ pub record CallsAlike (session instance : ℕ) (kept : Option ℕ) (call : Pendi
   -- a job that has the flag keeps it, so that it makes no difference at which resumes the call sees it again
   pub flagged : own.seen ≡ true → phase_seen own.phase ≡ own.phase
 
+-- a session, the instance that it has or had, and the numbers of its calls
+pub record Whose : Type 0 where
+  pub session : ℕ
+  pub instance : ℕ
+  pub numbering : Numbering
+
 -- the call of a slot that has a number, and the machine's call of that number
-pub record IsTiedCall (session instance : ℕ) (kernel : Kernel) (notes : Notes) (solo : Solo) (slot number : ℕ) : Type 0 where
+pub record IsTiedCall (whose : Whose) (slots : List ThreadSlot) (calls : NumberMap OwnCall) (slot number : ℕ) : Type 0 where
   pub call : PendingCall
   pub own : OwnCall
-  pub in_slot : call_at kernel slot ≡ Some call
-  pub of_number : get solo.calls number ≡ Some own
-  pub given : number < notes.entered
-  pub alike : CallsAlike session instance (get notes.wakes slot) call own
+  pub in_slot : call_at slots slot ≡ Some call
+  pub of_number : get calls number ≡ Some own
+  pub given : number < whose.numbering.entered
+  pub alike : CallsAlike whose.session whose.instance (get whose.numbering.wakes slot) call own
+
+-- the slot has the number
+abbrev pub HasNumber : Whose → ℕ → ℕ → Type 0
+HasNumber whose slot number = get whose.numbering.in_slots slot ≡ Some number
 
 -- the session's calls in the slots are the machine's, one for each number
-pub record AreTiedCalls (session instance : ℕ) (kernel : Kernel) (notes : Notes) (solo : Solo) : Type 0 where
-  pub own : (slot number : ℕ) → get notes.numbers slot ≡ Some number → IsTiedCall session instance kernel notes solo slot number
-  pub apart : (first second number : ℕ) → get notes.numbers first ≡ Some number → get notes.numbers second ≡ Some number → first ≡ second
-  pub all : (number : ℕ) (own : OwnCall) → get solo.calls number ≡ Some own → (slot : ℕ) × (get notes.numbers slot ≡ Some number)
+pub record AreTiedCalls (whose : Whose) (slots : List ThreadSlot) (calls : NumberMap OwnCall) : Type 0 where
+  pub own : (slot number : ℕ) → HasNumber whose slot number → IsTiedCall whose slots calls slot number
+  pub apart : (first second number : ℕ) → HasNumber whose first number → HasNumber whose second number → first ≡ second
+  pub all : (number : ℕ) (own : OwnCall) → get calls number ≡ Some own → (slot : ℕ) × HasNumber whose slot number
 
 -- ---- others
 
+-- a session is on the instance exactly where it is this session
+abbrev pub IsOnlySession : Whose → ℕ → Session → Type 0
+IsOnlySession whose number session = (number ≡ whose.session) ↔ (session.instance ≡ whose.instance)
+
 -- a call is neither of the session nor on its instance
-pub record IsOther (session instance : ℕ) (call : PendingCall) : Type 0 where
-  pub session_of_another : call.session ≡ session → ⊥
-  pub instance_of_another : call.instance ≡ instance → ⊥
+pub record IsOther (whose : Whose) (call : PendingCall) : Type 0 where
+  pub session_of_another : call.session ≡ whose.session → ⊥
+  pub instance_of_another : call.instance ≡ whose.instance → ⊥
 
 -- the instance is the session's alone: no other session and no call of another session has it
-pub record IsAlone (session instance : ℕ) (kernel : Kernel) (notes : Notes) : Type 0 where
-  pub sessions : (number : ℕ) (kept : Session) → get kernel.tables.sessions number ≡ Some kept →
-      ((number ≡ session) ↔ (kept.instance ≡ instance))
-  pub calls : (slot : ℕ) (call : PendingCall) → call_at kernel slot ≡ Some call → get notes.numbers slot ≡ None →
-      IsOther session instance call
+pub record IsAlone (whose : Whose) (slots : List ThreadSlot) (sessions : NumberMap Session) : Type 0 where
+  pub only : (number : ℕ) (session : Session) → get sessions number ≡ Some session → IsOnlySession whose number session
+  pub others : (slot : ℕ) (call : PendingCall) → call_at slots slot ≡ Some call → get whose.numbering.in_slots slot ≡ None →
+      IsOther whose call
 
 -- ---- those that wait
 
@@ -129,31 +142,32 @@ abbrev pub waiting_for : ℕ → List Waiter → List Waiter
 waiting_for instance waiters = filter (λ waiter. waiter.instance == instance) waiters
 
 -- the session's calls that wait are the machine's, in their order, and wait for its application
-pub record AreTiedWaiters (app : Application) (instance : ℕ) (tables : Tables) (notes : Notes) (solo : Solo) : Type 0 where
-  pub order : map (λ (waiter : Waiter). get notes.numbers waiter.slot) (waiting_for instance tables.waiters)
-      ≡ map (λ number. Some number) solo.waiting
-  pub uuids : All (λ (waiter : Waiter). waiter.uuid ≡ uuid_of app) (waiting_for instance tables.waiters)
+pub record AreTiedWaiters (app : Application) (whose : Whose) (waiters : List Waiter) (waiting : List ℕ) : Type 0 where
+  pub order : map (λ (waiter : Waiter). get whose.numbering.in_slots waiter.slot) (waiting_for whose.instance waiters)
+      ≡ map (λ number. Some number) waiting
+  pub uuids : All (λ (waiter : Waiter). waiter.uuid ≡ uuid_of app) (waiting_for whose.instance waiters)
 
 -- ---- all of it
 
 -- both numbers were given, and so are not given again
-pub record AreGiven (session instance : ℕ) (tables : Tables) : Type 0 where
-  pub from_one : 1 ≤ instance
-  pub session_given : session < tables.next_session
-  pub instance_given : instance < tables.next_instance
+pub record AreGiven (whose : Whose) (tables : Tables) : Type 0 where
+  pub session_from_one : 1 ≤ whose.session
+  pub instance_from_one : 1 ≤ whose.instance
+  pub session_given : whose.session < tables.next_session
+  pub instance_given : whose.instance < tables.next_instance
 
--- the kernel and the machine are tied for a session of an application, whose instance has or had this number
-pub record Tied (app : Application) (session instance : ℕ) (kernel : Kernel) (notes : Notes) (solo : Solo) : Type 0 where
+-- the slots and the tables of a kernel and the machine of a session of this application are tied
+pub record Tied (app : Application) (whose : Whose) (slots : List ThreadSlot) (tables : Tables) (solo : Solo) : Type 0 where
   -- 1. the session is there exactly where the machine has it, with the same login and context, opened or not
-  pub session_alike : option_map shown (get kernel.tables.sessions session) ≡ solo.session
+  pub session_alike : option_map shown (get tables.sessions whose.session) ≡ solo.session
   -- 2 and 3. its instance is, dead exactly where the machine's is, with the same memory and objects
-  pub instance_alike : FoundAlike notes.numbers (get kernel.tables.instances instance) solo.instance
-  -- 4 and 5. its calls in the slots are the machine's
-  pub calls : AreTiedCalls session instance kernel notes solo
-  -- 6. so are those that wait; the holder and the wakes are numbered above
-  pub waiters : AreTiedWaiters app instance kernel.tables notes solo
+  pub instance_alike : FoundAlike whose.numbering.in_slots (get tables.instances whose.instance) solo.instance
+  -- 4 and 5. its calls in the slots are the machine's, which may be behind in steps
+  pub calls : AreTiedCalls whose slots solo.calls
+  -- 6. so are those that wait. The holder and the wakes stand above, by the numbers of their calls
+  pub waiters : AreTiedWaiters app whose tables.waiters solo.waiting
   -- 7. nobody else has the instance
-  pub alone : IsAlone session instance kernel notes
-  -- as many calls have come in, and both numbers are given
-  pub entered : notes.entered ≡ solo.entered
-  pub given : AreGiven session instance kernel.tables
+  pub alone : IsAlone whose slots tables.sessions
+  -- as many calls have come in, and both numbers were given
+  pub entered : whose.numbering.entered ≡ solo.entered
+  pub given : AreGiven whose tables

@@ -1,5 +1,12 @@
 //! What holds of the definitions themselves.
 ghost use Rattle.own_model.specs.Examples.{Examples};
+ghost use Rattle.own_model.specs.Laws.{FixedKeepTied};
+
+/// A fixed answer leaves a kernel and the machine of each session tied: nothing happens to the machine, but where the
+/// session's client is told that no thread was free.
+pub fn fixed_answers_keep_sessions()
+    ensures { FixedKeepTied }
+{}
 
 /// Examples of the definitions, worked out by hand.
 #[tactic(auto, unfolding(base::specs::Zeros::zeros, hex::specs::Hex::encode_with))]

@@ -1,0 +1,37 @@
+-- What a map has at a number after a change at another number.
+use Rattle.std.proofs.Common.{◌≡◌, ℕ, Bool, true, false, not, cond, List, Option, Some, None, refl, ap, sym, ◌∙◌, arith}
+use Rattle.std.specs.Ordering.{nat_cmp, eq_by_cmp}
+use Rattle.std.proofs.lemmas.Bool.Decides.{nat_tests}
+use Rattle.base.specs.NumberMap.{NumberMap, get, insert, remove, get-insert, get-remove}
+
+pub get-insert-other : {X : Type 0} (m : NumberMap X) (k : ℕ) (v : X) (q : ℕ) → (k ≡ q → ⊥) → get (insert m k v) q ≡ get m q
+get-insert-other m k v q apart =
+    let differ : eq_by_cmp nat_cmp q k ≡ false = by_test (eq_by_cmp nat_cmp q k) refl in
+    get-insert m k v q ∙ ap (λ b. cond b (Some v) (get m q)) differ
+  where
+    same : (a b : ℕ) → eq_by_cmp nat_cmp a b ≡ true → b ≡ a
+    same a b equal = grind (arith, nat_tests)
+
+    by_test : (b : Bool) → eq_by_cmp nat_cmp q k ≡ b → b ≡ false
+    by_test true equal = absurd (apart (same q k equal))
+    by_test false other = refl
+
+pub get-remove-other : {X : Type 0} (m : NumberMap X) (k q : ℕ) → (k ≡ q → ⊥) → get (remove m k) q ≡ get m q
+get-remove-other m k q apart =
+    let differ : eq_by_cmp nat_cmp k q ≡ false = by_test (eq_by_cmp nat_cmp k q) refl in
+    get-remove m k q ∙ ap (λ b. cond (not b) (get m q) None) differ
+  where
+    same : (a b : ℕ) → eq_by_cmp nat_cmp a b ≡ true → a ≡ b
+    same a b equal = grind (arith, nat_tests)
+
+    by_test : (b : Bool) → eq_by_cmp nat_cmp k q ≡ b → b ≡ false
+    by_test true equal = absurd (apart (same k q equal))
+    by_test false other = refl
+
+-- what is there after a removal was there
+pub get-removed : {X : Type 0} (m : NumberMap X) (k q : ℕ) (v : X) → get (remove m k) q ≡ Some v → get m q ≡ Some v
+get-removed m k q v found = by_test (eq_by_cmp nat_cmp k q) (sym (get-remove m k q) ∙ found)
+  where
+    by_test : (b : Bool) → cond (not b) (get m q) None ≡ Some v → get m q ≡ Some v
+    by_test true here = absurd cc
+    by_test false here = here

@@ -1,0 +1,54 @@
+-- What holds of a kernel and the machine of one of its sessions at an event.
+use Rattle.std.specs.Prelude.{◌≡◌, ℕ, List, ◌++◌, Option, Some, None, slice_get}
+use Rattle.base.specs.NumberMap.{get}
+use Rattle.event_journal.specs.declared.event.Event.{Event}
+use Rattle.event_journal.specs.declared.event.Event.TheVariants.{Entry, Exit}
+use Rattle.ns_ram.specs.declared.read.Read.{Read}
+use Rattle.smc_abi.specs.declared.answer.Answer.{Answer}
+use Rattle.smc_abi.specs.declared.regs.Regs.{Regs}
+use Rattle.kernel_model.specs.Application.{Application, Booted}
+use Rattle.kernel_model.specs.History.{after_event}
+use Rattle.kernel_model.specs.Kernel.{Errand, Fixed, InSlot, Inside, Kernel}
+use Rattle.own_model.specs.Own.{Logged, Notes, event_noted, events_in, replies_in}
+use Rattle.own_model.specs.Solo.{Solo, run}
+use Rattle.own_model.specs.Tied.{Tied, Whose}
+
+-- a session with its instance and the numbers that were noted
+abbrev pub whose_of : ℕ → ℕ → Notes → Whose
+whose_of session instance notes = record { session = session; instance = instance; numbering = notes.numbering }
+
+-- a session, its application and its instance; and how many steps a job of it takes at most to its stop
+pub record About : Type 0 where
+  pub app : Application
+  pub session : ℕ
+  pub instance : ℕ
+  pub most : ℕ
+
+-- the kernel and the machine are tied for it
+abbrev pub AreTied : About → Kernel → Notes → Solo → Type 0
+AreTied about kernel notes solo =
+    Tied about.app (whose_of about.session about.instance notes) kernel.slots kernel.tables solo
+
+-- by what was noted since, the machine goes on and replies as was noted, and is tied to the kernel then
+pub record GoesAlong (about : About) (before : Notes) (solo : Solo) (next : Kernel) (after : Notes) : Type 0 where
+  pub items : List Logged
+  pub noted : after.log ≡ before.log ++ items
+  pub then : Solo
+  pub replies : run about.most about.app solo (events_in items) ≡ Some (then, replies_in items)
+  pub tied : AreTied about next after then
+
+-- the machine goes along with an event of a kernel to which it is tied
+abbrev pub KeepsTied : Booted → About → Kernel → Kernel → Event → Type 0
+KeepsTied boot about kernel next event = (notes : Notes) (solo : Solo) →
+    after_event boot kernel event ≡ Some next → AreTied about kernel notes solo →
+    GoesAlong about notes solo next (event_noted about.session kernel next notes event)
+
+-- with the entry and the exit of a fixed answer: nothing happens to the machine, but where its client is told that no
+-- thread was free
+pub record FixedKeepTied : Type 0 where
+  pub entry : (boot : Booted) (about : About) (kernel next : Kernel) (cpu steps : ℕ) (regs : Regs) (reads : List Read) (answer : Answer) →
+      slice_get next.processors cpu ≡ Some (Inside regs.a steps (Fixed answer)) →
+      KeepsTied boot about kernel next (Entry cpu regs steps reads)
+  pub exit : (boot : Booted) (about : About) (kernel next : Kernel) (cpu steps : ℕ) (came : List ℕ) (regs : Regs) (answer : Answer) →
+      slice_get kernel.processors cpu ≡ Some (Inside came steps (Fixed answer)) →
+      KeepsTied boot about kernel next (Exit cpu regs)
