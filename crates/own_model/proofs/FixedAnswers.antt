@@ -1,8 +1,7 @@
 -- Fixed answers leave a kernel and a machine tied.
 use Rattle.std.proofs.Common.{◌≡◌, ℕ, Bool, true, false, List, [], ◌∷◌, ◌++◌, Option, Some, None, refl, ap, subst, sym, ◌∙◌}
-use Rattle.std.specs.Prelude.{slice_get, slice_set, if◌then◌else◌, ◌&&◌, ◌==◌, not, filter}
+use Rattle.std.specs.Prelude.{slice_get, if◌then◌else◌, ◌&&◌, ◌==◌, not, filter}
 use Rattle.std.specs.List.{list_any}
-use Rattle.std.specs.Option.{option_and_then}
 use Rattle.std.proofs.lemmas.Option.{option_and_then_some}
 use Rattle.std.proofs.lemmas.List.{append-nil}
 use Rattle.event_journal.specs.declared.event.Event.TheVariants.{Entry, Exit}
@@ -10,13 +9,13 @@ use Rattle.ns_ram.specs.declared.read.Read.{Read}
 use Rattle.smc_abi.specs.declared.answer.Answer.{Answer}
 use Rattle.smc_abi.specs.declared.regs.Regs.{Regs}
 use Rattle.kernel_model.specs.Application.{Booted}
-use Rattle.kernel_model.specs.Exit.{Exited, exit, exit_of, goes_out}
+use Rattle.kernel_model.specs.Exit.{Exited, exit, goes_out}
 use Rattle.kernel_model.specs.History.{after_event, entry_from, exit_to}
 use Rattle.kernel_model.specs.Entry.{after_entry}
-use Rattle.kernel_model.specs.Kernel.{Errand, Fixed, Inside, Kernel, Processor, Visit, with_visitor, without_visitor}
+use Rattle.kernel_model.specs.Kernel.{Fixed, Inside, Kernel, Processor, Visit, with_visitor, without_visitor}
 use Rattle.kernel_model.proofs.FixedAnswer.{fixed_answers}
 use Rattle.own_model.specs.Laws.{About, AreTied, FixedKeepTied, GoesAlong, KeepsTied, whose_of}
-use Rattle.own_model.specs.Own.{Entering, Notes, entry_noted, event_noted, fixed_noted, is_limit, is_of_client, limit_noted, out_noted}
+use Rattle.own_model.specs.Own.{Entering, Notes, entry_noted, is_limit, is_of_client, out_noted}
 use Rattle.own_model.specs.Solo.{Solo}
 use Rattle.kernel_model.proofs.Parts.{if-both}
 use Rattle.own_model.specs.Tied.{Tied}
@@ -73,12 +72,12 @@ fixed_entry boot about kernel next cpu steps regs reads answer inside notes solo
     let visit : Visit = record { cpu = cpu; regs = regs.a; steps = steps } in
     let at : Entering = record { kernel = kernel; next = next; visit = visit; reads = reads } in
     let comes : next ≡ with_visitor kernel visit (Fixed answer) =
-      fixed_answers.entry boot kernel next visit reads answer (entered boot kernel next cpu steps regs reads e) inside in
+    fixed_answers.entry boot kernel next visit reads answer (entered boot kernel next cpu steps regs reads e) inside in
     let still : Tied about.app (whose_of about.session about.instance notes) next.slots next.tables solo =
-      subst (λ (k : Kernel). Tied about.app (whose_of about.session about.instance notes) k.slots k.tables solo) (sym comes) tied in
+    subst (λ (k : Kernel). Tied about.app (whose_of about.session about.instance notes) k.slots k.tables solo) (sym comes) tied in
     let noted = if-both (GoesAlong about notes solo next) (is_limit answer && is_of_client kernel about.session visit.regs)
-      (record notes { turned_away = cpu ∷ notes.turned_away }) notes
-      (goes_silently about notes _ solo next refl still) (goes_silently about notes notes solo next refl still) in
+    (record notes { turned_away = cpu ∷ notes.turned_away }) notes
+    (goes_silently about notes _ solo next refl still) (goes_silently about notes notes solo next refl still) in
     subst (λ (p : Option Processor). GoesAlong about notes solo next (entry_noted about.session at notes p)) (sym inside) noted
 
 fixed_exit : (boot : Booted) (about : About) (kernel next : Kernel) (cpu steps : ℕ) (came : List ℕ) (regs : Regs) (answer : Answer)
@@ -91,14 +90,14 @@ fixed_exit boot about kernel next cpu steps came regs answer inside notes solo e
     let is : out.0 ≡ goes_out kernel visit answer [] = some_same _ _ (sym out.1 ∙ goes) in
     let comes : next ≡ without_visitor kernel visit = sym out.2 ∙ ap (λ (x : Exited). x.kernel) is in
     let still : Tied about.app (whose_of about.session about.instance notes) next.slots next.tables solo =
-      subst (λ (k : Kernel). Tied about.app (whose_of about.session about.instance notes) k.slots k.tables solo) (sym comes) tied in
+    subst (λ (k : Kernel). Tied about.app (whose_of about.session about.instance notes) k.slots k.tables solo) (sym comes) tied in
     let noted = if-both (GoesAlong about notes solo next) (list_any (λ away. away == cpu) notes.turned_away)
-      (record notes {
-        turned_away = filter (λ away. not (away == cpu)) notes.turned_away;
-        log = notes.log ++ (Limited, Some reply.Limited) ∷ [];
-      }) notes
-      (record { items = (Limited, Some reply.Limited) ∷ []; noted = refl; then = solo; replies = refl; tied = still })
-      (goes_silently about notes notes solo next refl still) in
+    (record notes {
+      turned_away = filter (λ away. not (away == cpu)) notes.turned_away;
+      log = notes.log ++ (Limited, Some reply.Limited) ∷ [];
+    }) notes
+    (record { items = (Limited, Some reply.Limited) ∷ []; noted = refl; then = solo; replies = refl; tied = still })
+    (goes_silently about notes notes solo next refl still) in
     subst (λ (p : Option Processor). GoesAlong about notes solo next (out_noted kernel notes cpu p)) (sym inside) noted
 
 pub fixed_keep_tied : FixedKeepTied

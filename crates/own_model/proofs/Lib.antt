@@ -1,2 +1,5 @@
 pub mod Maps
 pub mod FixedAnswers
+pub mod Others
+pub mod OtherSessions
+pub mod OtherExits

@@ -1,5 +1,6 @@
 -- What a map has at a number after a change at another number.
-use Rattle.std.proofs.Common.{◌≡◌, ℕ, Bool, true, false, not, cond, List, Option, Some, None, refl, ap, sym, ◌∙◌, arith}
+use Rattle.std.proofs.Common.{◌≡◌, ℕ, zero, suc, Bool, true, false, not, cond, List, [], ◌∷◌, Option, Some, None, refl, ap, sym, ◌∙◌, arith}
+use Rattle.std.specs.Prelude.{slice_get, slice_set}
 use Rattle.std.specs.Ordering.{nat_cmp, eq_by_cmp}
 use Rattle.std.proofs.lemmas.Bool.Decides.{nat_tests}
 use Rattle.base.specs.NumberMap.{NumberMap, get, insert, remove, get-insert, get-remove}
@@ -35,3 +36,24 @@ get-removed m k q v found = by_test (eq_by_cmp nat_cmp k q) (sym (get-remove m k
     by_test : (b : Bool) → cond (not b) (get m q) None ≡ Some v → get m q ≡ Some v
     by_test true here = absurd cc
     by_test false here = here
+
+-- what is there after an insertion is what was inserted, or was there
+pub get-inserted : {X : Type 0} {P : Type 0} (m : NumberMap X) (k : ℕ) (v : X) (q : ℕ) (x : X) → get (insert m k v) q ≡ Some x
+    → (q ≡ k → v ≡ x → P) → (get m q ≡ Some x → P) → P
+get-inserted {X} {P} m k v q x found here there = by_test (eq_by_cmp nat_cmp q k) refl (sym (get-insert m k v q) ∙ found)
+  where
+    same : (a b : ℕ) → eq_by_cmp nat_cmp a b ≡ true → a ≡ b
+    same a b equal = grind (arith, nat_tests)
+
+    by_test : (b : Bool) → eq_by_cmp nat_cmp q k ≡ b → cond b (Some v) (get m q) ≡ Some x → P
+    by_test true equal e = here (same q k equal) cc
+    by_test false other e = there e
+
+-- an element of a list after one was set is that, or was there
+pub set_either : {X : Type 0} {P : Type 0} (xs : List X) (i j : ℕ) (x : X) (y : Option X) → slice_get (slice_set xs i x) j ≡ y
+    → (Some x ≡ y → P) → (slice_get xs j ≡ y → P) → P
+set_either [] i j x y e here there = there e
+set_either (first ∷ xs) zero zero x y e here there = here e
+set_either (first ∷ xs) zero (suc j) x y e here there = there e
+set_either (first ∷ xs) (suc i) zero x y e here there = there e
+set_either (first ∷ xs) (suc i) (suc j) x y e here there = set_either xs i j x y e here there

@@ -1,5 +1,5 @@
 -- What holds of a kernel and the machine of one of its sessions at an event.
-use Rattle.std.specs.Prelude.{◌≡◌, ℕ, List, ◌++◌, Option, Some, None, slice_get}
+use Rattle.std.specs.Prelude.{◌≡◌, ℕ, List, ◌++◌, Some, None, slice_get}
 use Rattle.base.specs.NumberMap.{get}
 use Rattle.event_journal.specs.declared.event.Event.{Event}
 use Rattle.event_journal.specs.declared.event.Event.TheVariants.{Entry, Exit}
@@ -8,7 +8,7 @@ use Rattle.smc_abi.specs.declared.answer.Answer.{Answer}
 use Rattle.smc_abi.specs.declared.regs.Regs.{Regs}
 use Rattle.kernel_model.specs.Application.{Application, Booted}
 use Rattle.kernel_model.specs.History.{after_event}
-use Rattle.kernel_model.specs.Kernel.{Errand, Fixed, InSlot, Inside, Kernel}
+use Rattle.kernel_model.specs.Kernel.{Fixed, InSlot, Inside, Kernel}
 use Rattle.own_model.specs.Own.{Logged, Notes, event_noted, events_in, replies_in}
 use Rattle.own_model.specs.Solo.{Solo, run}
 use Rattle.own_model.specs.Tied.{Tied, Whose}
@@ -37,11 +37,14 @@ pub record GoesAlong (about : About) (before : Notes) (solo : Solo) (next : Kern
   pub replies : run about.most about.app solo (events_in items) ≡ Some (then, replies_in items)
   pub tied : AreTied about next after then
 
--- the machine goes along with an event of a kernel to which it is tied
-abbrev pub KeepsTied : Booted → About → Kernel → Kernel → Event → Type 0
-KeepsTied boot about kernel next event = (notes : Notes) (solo : Solo) →
+-- the machine goes along with an event, where it is tied to the kernel before that
+abbrev pub GoesAlongWith : Booted → About → Kernel → Kernel → Event → Notes → Solo → Type 0
+GoesAlongWith boot about kernel next event notes solo =
     after_event boot kernel event ≡ Some next → AreTied about kernel notes solo →
     GoesAlong about notes solo next (event_noted about.session kernel next notes event)
+
+abbrev pub KeepsTied : Booted → About → Kernel → Kernel → Event → Type 0
+KeepsTied boot about kernel next event = (notes : Notes) (solo : Solo) → GoesAlongWith boot about kernel next event notes solo
 
 -- with the entry and the exit of a fixed answer: nothing happens to the machine, but where its client is told that no
 -- thread was free
@@ -52,3 +55,9 @@ pub record FixedKeepTied : Type 0 where
   pub exit : (boot : Booted) (about : About) (kernel next : Kernel) (cpu steps : ℕ) (came : List ℕ) (regs : Regs) (answer : Answer) →
       slice_get kernel.processors cpu ≡ Some (Inside came steps (Fixed answer)) →
       KeepsTied boot about kernel next (Exit cpu regs)
+
+-- with the exit from a call that isn't the session's: nothing happens to the machine
+abbrev pub OtherExitsKeepTied : Type 0
+OtherExitsKeepTied = (boot : Booted) (about : About) (kernel next : Kernel) (cpu steps slot : ℕ) (came : List ℕ) (regs : Regs)
+    (notes : Notes) (solo : Solo) → slice_get kernel.processors cpu ≡ Some (Inside came steps (InSlot slot)) →
+    get notes.numbering.in_slots slot ≡ None → GoesAlongWith boot about kernel next (Exit cpu regs) notes solo

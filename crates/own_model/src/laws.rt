@@ -1,11 +1,16 @@
 //! What holds of the definitions themselves.
 ghost use Rattle.own_model.specs.Examples.{Examples};
-ghost use Rattle.own_model.specs.Laws.{FixedKeepTied};
+ghost use Rattle.own_model.specs.Laws.{FixedKeepTied, OtherExitsKeepTied};
 
 /// A fixed answer leaves a kernel and the machine of each session tied: nothing happens to the machine, but where the
 /// session's client is told that no thread was free.
 pub fn fixed_answers_keep_sessions()
     ensures { FixedKeepTied }
+{}
+
+/// So does an exit from a call that isn't the session's: nothing happens to the machine.
+pub fn exits_of_others_keep_sessions()
+    ensures { OtherExitsKeepTied }
 {}
 
 /// Examples of the definitions, worked out by hand.
