@@ -3,3 +3,5 @@ pub mod FixedAnswers
 pub mod Others
 pub mod OtherSessions
 pub mod OtherExits
+pub mod WaitersLeft
+pub mod OtherResumes

@@ -107,7 +107,7 @@ progress_other whose tables call granted (Ends result params false wakes) progre
 abbrev HoldsOther : Whose → ThreadSlot → Type 0
 HoldsOther whose held = (call : PendingCall) → call_in held ≡ Some call → IsOther whose call
 
-held_other : (whose : Whose) (found call : PendingCall) → Some found ≡ Some call → IsOther whose found → IsOther whose call
+pub held_other : (whose : Whose) (found call : PendingCall) → Some found ≡ Some call → IsOther whose found → IsOther whose call
 held_other whose found call e other = let same : found ≡ call = cc in subst (IsOther whose) same other
 
 left_other : (whose : Whose) (call : PendingCall) (leaving : Leaving) → IsOther whose call → HoldsOther whose (slot_left call leaving)

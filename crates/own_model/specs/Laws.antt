@@ -6,9 +6,13 @@ use Rattle.event_journal.specs.declared.event.Event.TheVariants.{Entry, Exit}
 use Rattle.ns_ram.specs.declared.read.Read.{Read}
 use Rattle.smc_abi.specs.declared.answer.Answer.{Answer}
 use Rattle.smc_abi.specs.declared.regs.Regs.{Regs}
+use Rattle.smc_abi.specs.Call.{call_of}
+use Rattle.smc_abi.specs.declared.call.Call.TheVariants.{Resume}
 use Rattle.kernel_model.specs.Application.{Application, Booted}
+use Rattle.kernel_model.specs.Argument.{reg, thread_in}
+use Rattle.kernel_model.specs.Resume.{call_resumed_by}
 use Rattle.kernel_model.specs.History.{after_event}
-use Rattle.kernel_model.specs.Kernel.{Fixed, InSlot, Inside, Kernel}
+use Rattle.kernel_model.specs.Kernel.{Fixed, InSlot, Inside, Kernel, PendingCall}
 use Rattle.own_model.specs.Own.{Logged, Notes, event_noted, events_in, replies_in}
 use Rattle.own_model.specs.Solo.{Solo, run}
 use Rattle.own_model.specs.Tied.{Tied, Whose}
@@ -61,3 +65,10 @@ abbrev pub OtherExitsKeepTied : Type 0
 OtherExitsKeepTied = (boot : Booted) (about : About) (kernel next : Kernel) (cpu steps slot : ℕ) (came : List ℕ) (regs : Regs)
     (notes : Notes) (solo : Solo) → slice_get kernel.processors cpu ≡ Some (Inside came steps (InSlot slot)) →
     get notes.numbering.in_slots slot ≡ None → GoesAlongWith boot about kernel next (Exit cpu regs) notes solo
+
+-- with a resume of a call that isn't the session's: nothing happens to the machine
+abbrev pub OtherResumesKeepTied : Type 0
+OtherResumesKeepTied = (boot : Booted) (about : About) (kernel next : Kernel) (cpu steps : ℕ) (regs : Regs) (reads : List Read)
+    (call : PendingCall) (notes : Notes) (solo : Solo) → call_of (reg regs.a 0) ≡ Resume →
+    call_resumed_by kernel.slots regs.a ≡ Some call → get notes.numbering.in_slots (thread_in regs.a) ≡ None →
+    GoesAlongWith boot about kernel next (Entry cpu regs steps reads) notes solo

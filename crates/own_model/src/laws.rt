@@ -1,6 +1,6 @@
 //! What holds of the definitions themselves.
 ghost use Rattle.own_model.specs.Examples.{Examples};
-ghost use Rattle.own_model.specs.Laws.{FixedKeepTied, OtherExitsKeepTied};
+ghost use Rattle.own_model.specs.Laws.{FixedKeepTied, OtherExitsKeepTied, OtherResumesKeepTied};
 
 /// A fixed answer leaves a kernel and the machine of each session tied: nothing happens to the machine, but where the
 /// session's client is told that no thread was free.
@@ -11,6 +11,11 @@ pub fn fixed_answers_keep_sessions()
 /// So does an exit from a call that isn't the session's: nothing happens to the machine.
 pub fn exits_of_others_keep_sessions()
     ensures { OtherExitsKeepTied }
+{}
+
+/// And a resume of a call that isn't the session's.
+pub fn resumes_of_others_keep_sessions()
+    ensures { OtherResumesKeepTied }
 {}
 
 /// Examples of the definitions, worked out by hand.
