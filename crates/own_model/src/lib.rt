@@ -1,4 +1,9 @@
 //! What happens to one session, what it is answered, and the machine that answers so when nobody else is there.
+//!
+//! The crate is one of definitions. `specs/` reads in the order of its modules: `Own` reads a session's events and
+//! replies off the kernels that a history goes through, `Solo` is the machine of one session, a function from its state
+//! and an event to the next state and a reply, and `Tied` says when a kernel and a machine do the same next. `laws` has
+//! what leaves them tied.
 #![tactic(auto)]
 
 mod laws;
