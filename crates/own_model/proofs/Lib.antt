@@ -5,3 +5,5 @@ pub mod OtherSessions
 pub mod OtherExits
 pub mod WaitersLeft
 pub mod OtherResumes
+pub mod Tests
+pub mod Lookups

@@ -32,7 +32,7 @@ pub record StaysOther (whose : Whose) (before : Tables) (progress : Progress) : 
   pub kept : KeepsTables whose before progress.tables
 
 same_tables : (whose : Whose) (tables : Tables) → AreOnly whose tables.sessions → AreGiven whose tables → KeepsTables whose tables tables
-same_tables whose tables only given = record { session = refl; only = only; instance = refl; waiting = refl; given = given }
+same_tables whose tables only given = record { session = refl; only = only; instance = refl; of_app = λ uuid all. all; waiting = refl; given = given }
 
 other_in : (whose : Whose) (call : PendingCall) (done_by : ℕ) (phase : CallPhase) → IsOther whose call
     → IsOther whose (record call { steps = done_by; phase = phase })
@@ -91,6 +91,7 @@ progress_other whose tables call granted (Ends result params false wakes) progre
         session = sessions.session;
         only = sessions.only;
         instance = refl;
+        of_app = λ uuid all. all;
         waiting = refl;
         given = record {
           session_from_one = given.session_from_one;
@@ -144,6 +145,7 @@ pins_keep whose before tables slot Free kept = record {
   session = kept.session;
   only = kept.only;
   instance = kept.instance;
+  of_app = kept.of_app;
   waiting = kept.waiting;
   given = record {
     session_from_one = kept.given.session_from_one;

@@ -27,14 +27,14 @@ use Rattle.kernel_model.specs.Resume.{Resumed, app_of_call, begins, begins_in, b
 use Rattle.kernel_model.proofs.EntryLaws.{resumes_call}
 use Rattle.kernel_model.proofs.Parts.{anything, if-both, map_or-both, reading-all, set_found}
 use Rattle.own_model.proofs.FixedAnswers.{entered, goes_silently}
-use Rattle.own_model.proofs.Maps.{get-insert-other}
+use Rattle.own_model.proofs.OtherSessions.{other_put}
 use Rattle.own_model.proofs.Others.{stays_tied}
 use Rattle.own_model.proofs.OtherExits.{StaysOther, held_other, slot_keeps}
 use Rattle.own_model.proofs.WaitersLeft.{others_leave}
 use Rattle.own_model.specs.Laws.{About, AreTied, GoesAlong, whose_of}
 use Rattle.own_model.specs.Own.{Entering, Notes, Resuming, entry_noted, event_noted, resume_noted, slot_noted}
 use Rattle.own_model.specs.Solo.{Solo}
-use Rattle.own_model.specs.Tied.{AreGiven, IsOnlySession, IsOther, Tied, Whose, call_in, waiting_for}
+use Rattle.own_model.specs.Tied.{AreGiven, AreOf, IsOnlySession, IsOther, Tied, Whose, call_in, waiting_for}
 
 -- ---- what the call comes to
 
@@ -66,13 +66,13 @@ other_phase whose r phase o =
 goes_on_other : (whose : Whose) (r : Resumed) (phase : CallPhase) → ResumesOther whose r → Stays whose r (goes_on r phase)
 goes_on_other whose r phase o = record {
   other = other_phase whose r phase o;
-  kept = record { session = refl; only = o.only; instance = refl; waiting = refl; given = o.given };
+  kept = record { session = refl; only = o.only; instance = refl; of_app = λ uuid all. all; waiting = refl; given = o.given };
 }
 
 ends_other : (whose : Whose) (r : Resumed) (code : ℕ) → ResumesOther whose r → Stays whose r (ends_with r code)
 ends_other whose r code o = record {
   other = other_phase whose r _ o;
-  kept = record { session = refl; only = o.only; instance = refl; waiting = o.leaves; given = given_as whose r.tables _ refl refl o.given };
+  kept = record { session = refl; only = o.only; instance = refl; of_app = λ uuid all. all; waiting = o.leaves; given = given_as whose r.tables _ refl refl o.given };
 }
 
 -- a call that begins on an instance of another number
@@ -84,7 +84,9 @@ begins_other whose r number instance begun o apart is =
       kept = record {
         session = ap (λ (t : Tables). get t.sessions whose.session) is;
         only = λ other kept found. o.only other kept (ap (λ (t : Tables). get t.sessions other) (sym is) ∙ found);
-        instance = ap (λ (t : Tables). get t.instances whose.instance) is ∙ get-insert-other r.tables.instances number instance whose.instance apart;
+        instance = ap (λ (t : Tables). get t.instances whose.instance) is ∙ (other_put whose r.tables.instances number instance apart).instance;
+        of_app = λ uuid all. subst (λ (t : Tables). AreOf whose.instance uuid t.instances) (sym is)
+        ((other_put whose r.tables.instances number instance apart).of_app uuid all);
         waiting = ap (λ (t : Tables). waiting_for whose.instance (without t.waiters r.slot)) is ∙ o.leaves;
         given = given_as whose r.tables (begins r begun).tables (ap (λ (t : Tables). t.next_session) is) (ap (λ (t : Tables). t.next_instance) is) o.given;
       };

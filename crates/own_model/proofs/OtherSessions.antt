@@ -1,5 +1,5 @@
 -- What the end of a call of another session makes of sessions and instances leaves the session's as they were.
-use Rattle.std.proofs.Common.{◌≡◌, ℕ, Bool, Option, Some, None, refl, subst, sym}
+use Rattle.std.proofs.Common.{◌≡◌, ℕ, List, Bool, Option, Some, None, refl, subst, sym}
 use Rattle.std.specs.Prelude.{◌==◌, ◌&&◌, ◌||◌, not}
 use Rattle.std.specs.Option.{option_map_or}
 use Rattle.base.specs.NumberMap.{NumberMap, get, insert, remove}
@@ -14,9 +14,10 @@ use Rattle.kernel_model.specs.Instances.{instances_after}
 use Rattle.kernel_model.specs.Kernel.{Instance, PendingCall, Tables}
 use Rattle.kernel_model.specs.Sessions.{has_opened, sessions_after, sessions_after_panic, sessions_unrun}
 use Rattle.kernel_model.proofs.Parts.{if-both}
+use Rattle.base.proofs.MapLemmas.{All-insert, All-remove}
 use Rattle.own_model.proofs.Maps.{get-insert-other, get-inserted, get-remove-other, get-removed}
 use Rattle.own_model.proofs.Others.{KeepsTables}
-use Rattle.own_model.specs.Tied.{AreGiven, IsOnlySession, IsOther, Whose}
+use Rattle.own_model.specs.Tied.{AreGiven, AreOf, IsOnlySession, IsOther, Whose}
 
 -- ---- sessions
 
@@ -86,38 +87,57 @@ unrun_keeps whose Settled sessions number apart only = unchanged whose sessions 
 
 -- ---- instances
 
--- the instance is as it was
-abbrev pub KeepsInstance : Whose → NumberMap Instance → NumberMap Instance → Type 0
-KeepsInstance whose before after = get after whose.instance ≡ get before whose.instance
+-- the instance is as it was, and what has its number is of the application that it was
+pub record KeepsInstance (whose : Whose) (before after : NumberMap Instance) : Type 0 where
+  pub instance : get after whose.instance ≡ get before whose.instance
+  pub of_app : (uuid : List ℕ) → AreOf whose.instance uuid before → AreOf whose.instance uuid after
+
+-- after another is put there, or removed
+pub other_put : (whose : Whose) (instances : NumberMap Instance) (number : ℕ) (instance : Instance) → (number ≡ whose.instance → ⊥)
+    → KeepsInstance whose instances (insert instances number instance)
+other_put whose instances number instance apart = record {
+  instance = get-insert-other instances number instance whose.instance apart;
+  of_app = λ uuid all.
+  All-insert (λ (kept : ℕ × Instance). kept.0 ≡ whose.instance → kept.1.uuid ≡ uuid) instances number instance all (λ same. absurd (apart same));
+}
+
+other_removed : (whose : Whose) (instances : NumberMap Instance) (number : ℕ) → (number ≡ whose.instance → ⊥)
+    → KeepsInstance whose instances (remove instances number)
+other_removed whose instances number apart = record {
+  instance = get-remove-other instances number whose.instance apart;
+  of_app = λ uuid all. All-remove (λ (kept : ℕ × Instance). kept.0 ≡ whose.instance → kept.1.uuid ≡ uuid) instances number all;
+}
 
 back_keeps : (whose : Whose) (sessions : NumberMap Session) (instances : NumberMap Instance) (number : ℕ) (is_last : Bool) (instance : Instance)
     → (number ≡ whose.instance → ⊥) → KeepsInstance whose instances (instances_after sessions instances number is_last instance)
 back_keeps whose sessions instances number is_last instance apart =
     if-both (KeepsInstance whose instances) (is_last || (instance.dead && not (has_opened sessions number)))
     (remove instances number) (insert instances number instance)
-    (get-remove-other instances number whose.instance apart) (get-insert-other instances number instance whose.instance apart)
+    (other_removed whose instances number apart) (other_put whose instances number instance apart)
 
 found_keeps : (whose : Whose) (sessions : NumberMap Session) (instances : NumberMap Instance) (number : ℕ) (is_last : Bool)
     (change : Instance → Instance) (found : Option Instance) → (number ≡ whose.instance → ⊥)
     → KeepsInstance whose instances
     (option_map_or (λ (instance : Instance). instances_after sessions instances number is_last (change instance)) found instances)
-found_keeps whose sessions instances number is_last change None apart = refl
+found_keeps whose sessions instances number is_last change None apart = record { instance = refl; of_app = λ uuid all. all }
 found_keeps whose sessions instances number is_last change (Some instance) apart =
     back_keeps whose sessions instances number is_last (change instance) apart
 
 pub gives_back_keeps : (whose : Whose) (tables : Tables) (call : PendingCall) (sessions : NumberMap Session) (is_last : Bool)
     (change : Instance → Instance) → IsOther whose call → KeepsSessions whose tables.sessions sessions → AreGiven whose tables
     → KeepsTables whose tables (gives_back tables call sessions is_last change)
-gives_back_keeps whose tables call sessions is_last change other kept given = record {
-  session = kept.session;
-  only = kept.only;
-  instance =
-      found_keeps whose sessions tables.instances call.instance is_last change (get tables.instances call.instance) other.instance_of_another;
-  waiting = refl;
-  given = record {
-    session_from_one = given.session_from_one;
-    instance_from_one = given.instance_from_one;
-    session_given = given.session_given;
-    instance_given = given.instance_given;
-  };
-}
+gives_back_keeps whose tables call sessions is_last change other kept given =
+    let back = found_keeps whose sessions tables.instances call.instance is_last change (get tables.instances call.instance) other.instance_of_another in
+    record {
+      session = kept.session;
+      only = kept.only;
+      instance = back.instance;
+      of_app = back.of_app;
+      waiting = refl;
+      given = record {
+        session_from_one = given.session_from_one;
+        instance_from_one = given.instance_from_one;
+        session_given = given.session_given;
+        instance_given = given.instance_given;
+      };
+    }

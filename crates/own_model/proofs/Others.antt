@@ -8,7 +8,7 @@ use Rattle.session_table.specs.declared.waiters.Waiter.{Waiter}
 use Rattle.kernel_model.specs.Application.{Application, uuid_of}
 use Rattle.kernel_model.specs.Kernel.{PendingCall, ThreadSlot, Instance, Tables}
 use Rattle.own_model.specs.Solo.{OwnCall, Solo}
-use Rattle.own_model.specs.Tied.{AreGiven, CallsAlike, FoundAlike, HasNumber, IsOnlySession, IsOther, IsTiedCall, Tied, Whose, call_at, shown, waiting_for}
+use Rattle.own_model.specs.Tied.{AreGiven, AreOf, CallsAlike, FoundAlike, HasNumber, IsOnlySession, IsOther, IsTiedCall, Tied, Whose, call_at, shown, waiting_for}
 
 -- ---- tables and slots that keep what is the session's
 
@@ -17,6 +17,7 @@ pub record KeepsTables (whose : Whose) (before after : Tables) : Type 0 where
   pub session : get after.sessions whose.session ≡ get before.sessions whose.session
   pub only : (number : ℕ) (session : Session) → get after.sessions number ≡ Some session → IsOnlySession whose number session
   pub instance : get after.instances whose.instance ≡ get before.instances whose.instance
+  pub of_app : (uuid : List ℕ) → AreOf whose.instance uuid before.instances → AreOf whose.instance uuid after.instances
   pub waiting : waiting_for whose.instance after.waiters ≡ waiting_for whose.instance before.waiters
   pub given : AreGiven whose after
 
@@ -84,6 +85,7 @@ stays_tied app whose slots slots_after tables tables_after solo kept_slots kept_
   session_alike = ap (λ (o : Option Session). option_map shown o) kept_tables.session ∙ tied.session_alike;
   instance_alike =
       subst (λ (o : Option Instance). FoundAlike whose.numbering.in_slots o solo.instance) (sym kept_tables.instance) tied.instance_alike;
+  of_app = kept_tables.of_app (uuid_of app) tied.of_app;
   calls = record {
     own = λ slot number has. call_tied whose slots slots_after solo.calls slot number (kept_slots.calls slot number has) (tied.calls.own slot number has);
     apart = tied.calls.apart;

@@ -149,6 +149,10 @@ pub record AreTiedWaiters (app : Application) (whose : Whose) (waiters : List Wa
 
 -- ---- all of it
 
+-- what has the number among the instances is of the application
+abbrev pub AreOf : ℕ → List ℕ → NumberMap Instance → Type 0
+AreOf instance uuid instances = All (λ (kept : ℕ × Instance). kept.0 ≡ instance → kept.1.uuid ≡ uuid) instances
+
 -- both numbers were given, and so are not given again
 pub record AreGiven (whose : Whose) (tables : Tables) : Type 0 where
   pub session_from_one : 1 ≤ whose.session
@@ -162,6 +166,7 @@ pub record Tied (app : Application) (whose : Whose) (slots : List ThreadSlot) (t
   pub session_alike : option_map shown (get tables.sessions whose.session) ≡ solo.session
   -- 2 and 3. its instance is, dead exactly where the machine's is, with the same memory and objects
   pub instance_alike : FoundAlike whose.numbering.in_slots (get tables.instances whose.instance) solo.instance
+  pub of_app : AreOf whose.instance (uuid_of app) tables.instances
   -- 4 and 5. its calls in the slots are the machine's, which may be behind in steps
   pub calls : AreTiedCalls whose slots solo.calls
   -- 6. so are those that wait. The holder and the wakes stand above, by the numbers of their calls

@@ -1,0 +1,70 @@
+-- What a search finds, and what is in the lowest free slot.
+use Rattle.std.proofs.Common.{◌≡◌, ℕ, zero, suc, Bool, true, false, cond, List, [], ◌∷◌, ◌++◌, Option, Some, None, refl, ap, subst, sym, ◌∙◌, arith}
+use Rattle.std.specs.Prelude.{◌==◌, All, find, filter, map, slice_get, position}
+use Rattle.std.specs.Option.{option_map}
+use Rattle.std.proofs.lemmas.Bool.Decides.{nat_tests}
+use Rattle.std.proofs.lemmas.List.Elements.{All-head, All-tail, filter-append}
+use Rattle.std.proofs.lemmas.List.{append-nil}
+use Rattle.session_table.specs.declared.waiters.Waiter.{Waiter}
+use Rattle.own_model.specs.Tied.{waiting_for}
+
+-- an element that passes the test, of which what holds of all holds
+pub record Passes {X : Type 0} (P : X → Type 0) (test : X → Bool) (x : X) : Type 0 where
+  pub holds : P x
+  pub passes : test x ≡ true
+
+some_same : {X : Type 0} (a b : X) → Some a ≡ Some b → a ≡ b
+some_same a b e = cc
+
+found_by : {X : Type 0} (P : X → Type 0) (test : X → Bool) (first : X) (later : Option X) (x : X) (here : Bool) → test first ≡ here → P first
+    → (later ≡ Some x → Passes P test x) → cond here (Some first) later ≡ Some x → Passes P test x
+found_by P test first later x true is holds rest e =
+    subst (Passes P test) (some_same first x e) (record { holds = holds; passes = is })
+found_by P test first later x false is holds rest e = rest e
+
+pub find-all : {X : Type 0} (P : X → Type 0) (test : X → Bool) (xs : List X) (x : X) → All P xs → find test xs ≡ Some x → Passes P test x
+find-all P test [] x all e = absurd cc
+find-all P test (first ∷ xs) x all e =
+    found_by P test first (find test xs) x (test first) refl (All-head P first xs all) (find-all P test xs x (All-tail P first xs all)) e
+
+-- ---- those that wait
+
+same_number : (a b : ℕ) → a ≡ b → (a == b) ≡ true
+same_number a b e = grind (arith, nat_tests)
+
+apart_numbers : (a b : ℕ) → (a ≡ b → ⊥) → (test : Bool) → (a == b) ≡ test → test ≡ false
+apart_numbers a b apart true e = absurd (apart (same a b e))
+  where
+    same : (c d : ℕ) → (c == d) ≡ true → c ≡ d
+    same c d is = grind (arith, nat_tests)
+apart_numbers a b apart false e = refl
+
+tail_holds : (P : Waiter → Type 0) (first : Waiter) (rest : List Waiter) (here : Bool) → All P (cond here (first ∷ rest) rest) → All P rest
+tail_holds P first rest true all = All-tail P first rest all
+tail_holds P first rest false all = all
+
+-- of the first that passes a test, where it waits for the instance, holds what holds of each that does
+pub waiter-all : (P : Waiter → Type 0) (test : Waiter → Bool) (instance : ℕ) (waiters : List Waiter) (x : Waiter)
+    → All P (waiting_for instance waiters) → x.instance ≡ instance → find test waiters ≡ Some x → Passes P test x
+waiter-all P test instance [] x all here e = absurd cc
+waiter-all P test instance (first ∷ waiters) x all here e =
+    by_test (test first) refl (waiter-all P test instance waiters x (tail_holds P first (waiting_for instance waiters) (first.instance == instance) all) here) e
+  where
+    by_test : (passes : Bool) → test first ≡ passes → (find test waiters ≡ Some x → Passes P test x)
+        → cond passes (Some first) (find test waiters) ≡ Some x → Passes P test x
+    by_test true is rest found =
+        let same : first ≡ x = some_same first x found in
+        let waits : (first.instance == instance) ≡ true = same_number first.instance instance (ap (λ (w : Waiter). w.instance) same ∙ here) in
+        let first_holds : P first =
+          All-head P first (waiting_for instance waiters)
+          (subst (λ b. All P (cond b (first ∷ waiting_for instance waiters) (waiting_for instance waiters))) waits all) in
+        subst (Passes P test) same (record { holds = first_holds; passes = is })
+    by_test false is rest found = rest found
+
+-- one more that waits for another instance
+pub another_waits : (instance : ℕ) (waiters : List Waiter) (last : Waiter) → (last.instance ≡ instance → ⊥)
+    → waiting_for instance (waiters ++ last ∷ []) ≡ waiting_for instance waiters
+another_waits instance waiters last apart =
+    filter-append (λ (w : Waiter). w.instance == instance) waiters (last ∷ [])
+    ∙ ap (λ b. waiting_for instance waiters ++ cond b (last ∷ []) []) (apart_numbers last.instance instance apart (last.instance == instance) refl)
+    ∙ append-nil (waiting_for instance waiters)
