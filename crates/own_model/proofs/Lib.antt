@@ -7,3 +7,5 @@ pub mod WaitersLeft
 pub mod OtherResumes
 pub mod Tests
 pub mod Lookups
+pub mod OtherCalls
+pub mod OtherNewCalls
