@@ -9,3 +9,4 @@ pub mod Tests
 pub mod Lookups
 pub mod OtherCalls
 pub mod OtherNewCalls
+pub mod OtherEntries

@@ -56,8 +56,8 @@ waiter-all P test instance (first ∷ waiters) x all here e =
         let same : first ≡ x = some_same first x found in
         let waits : (first.instance == instance) ≡ true = same_number first.instance instance (ap (λ (w : Waiter). w.instance) same ∙ here) in
         let first_holds : P first =
-          All-head P first (waiting_for instance waiters)
-          (subst (λ b. All P (cond b (first ∷ waiting_for instance waiters) (waiting_for instance waiters))) waits all) in
+        All-head P first (waiting_for instance waiters)
+        (subst (λ b. All P (cond b (first ∷ waiting_for instance waiters) (waiting_for instance waiters))) waits all) in
         subst (Passes P test) same (record { holds = first_holds; passes = is })
     by_test false is rest found = rest found
 

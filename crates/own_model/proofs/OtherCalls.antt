@@ -251,7 +251,7 @@ kept_apart : (app : Application) (whose : Whose) (c : NewCall) (uuid : List ℕ)
 kept_apart app whose c uuid of kept b found shared same =
     let parts = if_true (is_single of) (find (λ (k : ℕ × Instance). bytes_eq k.1.uuid (uuid_of of)) c.tables.instances) kept shared in
     let passes = find-all (λ (k : ℕ × Instance). k.0 ≡ whose.instance → k.1.uuid ≡ uuid_of app) (λ (k : ℕ × Instance). bytes_eq k.1.uuid (uuid_of of))
-      c.tables.instances kept b.instances parts.1 in
+    c.tables.instances kept b.instances parts.1 in
     let its : kept.1.uuid ≡ uuid_of of = (bytes_eq-Decides kept.1.uuid (uuid_of of)).0 passes.passes in
     shared_apart app whose c uuid of b found parts.0 (sym its ∙ passes.holds same)
 
@@ -261,7 +261,7 @@ awaited_apart app whose c uuid of number b found awaited same =
     let parts = if_true (is_single of) (instance_with c.tables.waiters (uuid_of of)) number awaited in
     let waits = option_map_some (λ (w : Waiter). w.instance) (find (λ (w : Waiter). bytes_eq w.uuid (uuid_of of)) c.tables.waiters) number parts.1 in
     let passes = waiter-all (λ (w : Waiter). w.uuid ≡ uuid_of app) (λ (w : Waiter). bytes_eq w.uuid (uuid_of of)) whose.instance c.tables.waiters waits.0
-      b.waiters (waits.2 ∙ same) waits.1 in
+    b.waiters (waits.2 ∙ same) waits.1 in
     let its : waits.0.uuid ≡ uuid_of of = (bytes_eq-Decides waits.0.uuid (uuid_of of)).0 passes.passes in
     shared_apart app whose c uuid of b found parts.0 (sym its ∙ passes.holds)
 
@@ -319,12 +319,12 @@ session_other app whose c wanted tables instance b kept next apart =
     record {
       session = get-insert-other tables.sessions c.tables.next_session reserved whose.session fresh ∙ kept.session;
       only = λ number session found.
-      get-inserted tables.sessions c.tables.next_session reserved number session found
-      (λ same is. (
-        λ own. absurd (fresh (sym same ∙ own)),
-        λ on. absurd (apart (ap (λ (s : Session). s.instance) is ∙ on)),
-      ))
-      (λ was. kept.only number session was);
+          get-inserted tables.sessions c.tables.next_session reserved number session found
+          (λ same is. (
+            λ own. absurd (fresh (sym same ∙ own)),
+            λ on. absurd (apart (ap (λ (s : Session). s.instance) is ∙ on)),
+          ))
+          (λ was. kept.only number session was);
       instance = kept.instance;
       of_app = kept.of_app;
       waiting = kept.waiting;

@@ -105,7 +105,7 @@ command_ends app whose cmd command is c b =
 -- ---- the tests of each call
 
 -- it holds of what a slot is taken for, if one is
-abbrev TakenIn : (Taken → Type 0) → Result Taken Answer → Type 0
+abbrev pub TakenIn : (Taken → Type 0) → Result Taken Answer → Type 0
 TakenIn P (Ok taken) = P taken
 TakenIn P (Err answer) = Unit {0}
 

@@ -86,7 +86,7 @@ begins_other whose r number instance begun o apart is =
         only = λ other kept found. o.only other kept (ap (λ (t : Tables). get t.sessions other) (sym is) ∙ found);
         instance = ap (λ (t : Tables). get t.instances whose.instance) is ∙ (other_put whose r.tables.instances number instance apart).instance;
         of_app = λ uuid all. subst (λ (t : Tables). AreOf whose.instance uuid t.instances) (sym is)
-        ((other_put whose r.tables.instances number instance apart).of_app uuid all);
+            ((other_put whose r.tables.instances number instance apart).of_app uuid all);
         waiting = ap (λ (t : Tables). waiting_for whose.instance (without t.waiters r.slot)) is ∙ o.leaves;
         given = given_as whose r.tables (begins r begun).tables (ap (λ (t : Tables). t.next_session) is) (ap (λ (t : Tables). t.next_instance) is) o.given;
       };

@@ -98,7 +98,7 @@ pub other_put : (whose : Whose) (instances : NumberMap Instance) (number : ℕ) 
 other_put whose instances number instance apart = record {
   instance = get-insert-other instances number instance whose.instance apart;
   of_app = λ uuid all.
-  All-insert (λ (kept : ℕ × Instance). kept.0 ≡ whose.instance → kept.1.uuid ≡ uuid) instances number instance all (λ same. absurd (apart same));
+      All-insert (λ (kept : ℕ × Instance). kept.0 ≡ whose.instance → kept.1.uuid ≡ uuid) instances number instance all (λ same. absurd (apart same));
 }
 
 other_removed : (whose : Whose) (instances : NumberMap Instance) (number : ℕ) → (number ≡ whose.instance → ⊥)

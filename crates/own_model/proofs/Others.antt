@@ -59,7 +59,7 @@ same_but_marked session instance kept call now own same alike =
     }
 
 -- a call that is there but for its mark
-there_but_marked : (o : Option PendingCall) (call : PendingCall) → option_map unmarked o ≡ Some (unmarked call)
+pub there_but_marked : (o : Option PendingCall) (call : PendingCall) → option_map unmarked o ≡ Some (unmarked call)
     → (now : PendingCall) × (o ≡ Some now) × (unmarked now ≡ unmarked call)
 there_but_marked None call e = absurd cc
 there_but_marked (Some now) call e = (now, refl, cc)

@@ -1,5 +1,5 @@
 -- What holds of a kernel and the machine of one of its sessions at an event.
-use Rattle.std.specs.Prelude.{◌≡◌, ℕ, List, ◌++◌, Some, None, slice_get}
+use Rattle.std.specs.Prelude.{◌≡◌, ℕ, false, List, ◌++◌, Some, None, slice_get}
 use Rattle.base.specs.NumberMap.{get}
 use Rattle.event_journal.specs.declared.event.Event.{Event}
 use Rattle.event_journal.specs.declared.event.Event.TheVariants.{Entry, Exit}
@@ -7,13 +7,14 @@ use Rattle.ns_ram.specs.declared.read.Read.{Read}
 use Rattle.smc_abi.specs.declared.answer.Answer.{Answer}
 use Rattle.smc_abi.specs.declared.regs.Regs.{Regs}
 use Rattle.smc_abi.specs.Call.{call_of}
-use Rattle.smc_abi.specs.declared.call.Call.TheVariants.{Resume}
-use Rattle.kernel_model.specs.Application.{Application, Booted}
+use Rattle.smc_abi.specs.declared.call.Call.TheVariants.{Resume, WithArg}
+use Rattle.kernel_model.specs.Application.{Application, Booted, uuid_of}
 use Rattle.kernel_model.specs.Argument.{reg, thread_in}
+use Rattle.kernel_model.specs.Instances.{app_of, is_single}
 use Rattle.kernel_model.specs.Resume.{call_resumed_by}
 use Rattle.kernel_model.specs.History.{after_event}
-use Rattle.kernel_model.specs.Kernel.{Fixed, InSlot, Inside, Kernel, PendingCall}
-use Rattle.own_model.specs.Own.{Logged, Notes, event_noted, events_in, replies_in}
+use Rattle.kernel_model.specs.Kernel.{Active, Fixed, InSlot, Inside, Kernel, PendingCall}
+use Rattle.own_model.specs.Own.{Logged, Notes, event_noted, event_of, events_in, replies_in}
 use Rattle.own_model.specs.Solo.{Solo, run}
 use Rattle.own_model.specs.Tied.{Tied, Whose}
 
@@ -72,3 +73,15 @@ OtherResumesKeepTied = (boot : Booted) (about : About) (kernel next : Kernel) (c
     (call : PendingCall) (notes : Notes) (solo : Solo) → call_of (reg regs.a 0) ≡ Resume →
     call_resumed_by kernel.slots regs.a ≡ Some call → get notes.numbering.in_slots (thread_in regs.a) ≡ None →
     GoesAlongWith boot about kernel next (Entry cpu regs steps reads) notes solo
+
+-- the application is the boot's, and its sessions share no instance
+pub record SharesNone (boot : Booted) (app : Application) : Type 0 where
+  pub of_boot : app_of boot (uuid_of app) ≡ Some app
+  pub shares_none : is_single app ≡ false
+
+-- with a new call that isn't the session's: nothing happens to the machine
+abbrev pub OtherCallsKeepTied : Type 0
+OtherCallsKeepTied = (boot : Booted) (about : About) (kernel next : Kernel) (cpu steps slot : ℕ) (regs : Regs) (reads : List Read)
+    (now : PendingCall) (notes : Notes) (solo : Solo) → SharesNone boot about.app → call_of (reg regs.a 0) ≡ WithArg →
+    slice_get next.processors cpu ≡ Some (Inside regs.a steps (InSlot slot)) → slice_get next.slots slot ≡ Some (Active cpu now) →
+    event_of about.session now ≡ None → GoesAlongWith boot about kernel next (Entry cpu regs steps reads) notes solo

@@ -1,6 +1,6 @@
 //! What holds of the definitions themselves.
 ghost use Rattle.own_model.specs.Examples.{Examples};
-ghost use Rattle.own_model.specs.Laws.{FixedKeepTied, OtherExitsKeepTied, OtherResumesKeepTied};
+ghost use Rattle.own_model.specs.Laws.{FixedKeepTied, OtherCallsKeepTied, OtherExitsKeepTied, OtherResumesKeepTied};
 
 /// A fixed answer leaves a kernel and the machine of each session tied: nothing happens to the machine, but where the
 /// session's client is told that no thread was free.
@@ -18,8 +18,12 @@ pub fn resumes_of_others_keep_sessions()
     ensures { OtherResumesKeepTied }
 {}
 
+/// And a new call that isn't the session's, where the session's application shares no instance.
+pub fn calls_of_others_keep_sessions()
+    ensures { OtherCallsKeepTied }
+{}
+
 /// Examples of the definitions, worked out by hand.
-#[tactic(auto, unfolding(base::specs::Zeros::zeros, hex::specs::Hex::encode_with))]
 pub fn worked_examples()
     ensures { Examples }
 {}

@@ -11,8 +11,8 @@ mod own_event;
 mod own_reply;
 
 pub use laws::{
-    exits_of_others_keep_sessions, fixed_answers_keep_sessions, resumes_of_others_keep_sessions,
-    worked_examples,
+    calls_of_others_keep_sessions, exits_of_others_keep_sessions, fixed_answers_keep_sessions,
+    resumes_of_others_keep_sessions, worked_examples,
 };
 pub use own_event::{BackInput, OwnEvent, OwnInput};
 pub use own_reply::OwnReply;
