@@ -1,38 +1,35 @@
 -- What a new call of another session decides leaves what is the session's.
-use Rattle.std.proofs.Common.{◌≡◌, ℕ, ◌+◌, Bool, true, false, List, [], ◌∷◌, ◌++◌, Option, Some, None, Result, Ok, Err, refl, ap, subst, sym, ◌∙◌, arith}
-use Rattle.std.specs.Prelude.{All, ◌&&◌, if◌then◌else◌, ◌==◌, ◌<◌, ◌≤◌, not, bytes_eq, find}
-use Rattle.std.specs.Option.{option_map, option_map_or, option_and_then}
+use Rattle.std.proofs.Common.{◌≡◌, ℕ, ◌+◌, Bool, true, false, List, [], ◌∷◌, Option, Some, None, refl, ap, subst, sym, ◌∙◌, arith}
+use Rattle.std.specs.Prelude.{All, ◌&&◌, if◌then◌else◌, ◌==◌, ◌<◌, ◌≤◌, bytes_eq, find}
+use Rattle.std.specs.Option.{option_map, option_map_or}
 use Rattle.std.proofs.lemmas.Bool.Decides.{nat_tests}
 use Rattle.std.proofs.lemmas.Option.{option_and_then_some}
 use Rattle.std.proofs.lemmas.List.Elements.{All-cons, All-nil}
 use Rattle.std.proofs.lemmas.Slice.Eq.{bytes_eq-Decides}
-use Rattle.base.specs.NumberMap.{NumberMap, get, insert}
-use Rattle.job_model.specs.declared.call_kind.CallKind.{CallKind}
-use Rattle.job_model.specs.declared.call_kind.CallKind.TheVariants as kind
-use Rattle.job_model.specs.declared.entry_point.EntryPoint.{EntryPoint}
+use Rattle.base.specs.NumberMap.{NumberMap, get}
 use Rattle.job_model.specs.Job.{Job}
-use Rattle.param_copy.specs.Copying.{Copies, copying}
+use Rattle.param_copy.specs.Copying.{Copies}
 use Rattle.session_table.specs.declared.session.Session.{Session}
 use Rattle.session_table.specs.declared.waiters.Waiter.{Waiter}
 use Rattle.session_table.specs.Session.{reserved_for}
 use Rattle.shm_registry.specs.declared.page_buffer.PageBuffer.{PageBuffer}
 use Rattle.session_table.specs.Waiters.{instance_with}
-use Rattle.kernel_model.specs.Application.{Application, Booted, uuid_of}
+use Rattle.kernel_model.specs.Application.{Application, uuid_of}
 use Rattle.kernel_model.specs.Argument.{Opening}
-use Rattle.kernel_model.specs.Begin.{Begun, Opener, awaited_number, begins_on, opens_kept, opens_made, opens_new, with_instance}
+use Rattle.kernel_model.specs.Begin.{Begun, Opener, awaited_number, opens_kept, opens_made, opens_new, with_instance}
 use Rattle.kernel_model.specs.Decision.{Taken}
-use Rattle.kernel_model.specs.Instances.{app_of, is_held, is_single, shared_instance}
-use Rattle.kernel_model.specs.Kernel.{CallPhase, Instance, PendingCall, Runs, SettledCall, ACancel, AnInvoke, AnOpen, Untold, Tables, Waits}
-use Rattle.kernel_model.specs.NewCall.{About, NewCall, about_session, beginner, call_about, cancels, closes, invokes, keeps_buffers, named_session, no_copies, open_waits, opens, opens_or_waits, runs_in, settles, settles_invoke, settles_open, shared_by, waits_in, with_pins, with_session, works_or_waits, opener, about_open}
+use Rattle.kernel_model.specs.Instances.{app_of, is_held, is_single}
+use Rattle.kernel_model.specs.Kernel.{Instance, PendingCall, Tables}
+use Rattle.kernel_model.specs.NewCall.{About, NewCall, beginner, cancels, closes, invokes, keeps_buffers, named_session, no_copies, open_waits, opens, opens_or_waits, runs_in, settles, settles_invoke, settles_open, shared_by, waits_in, with_session, opener}
 use Rattle.kernel_model.specs.Sessions.{opened_by}
-use Rattle.kernel_model.proofs.Parts.{if-both, map_or-both, option_map_some}
+use Rattle.kernel_model.proofs.Parts.{if-both, option_map_some}
 use Rattle.own_model.proofs.Lookups.{another_waits, find-all, waiter-all}
 use Rattle.own_model.proofs.Maps.{get-insert-other, get-inserted}
 use Rattle.own_model.proofs.Others.{KeepsTables}
 use Rattle.own_model.proofs.OtherSessions.{AreOnly, other_put}
-use Rattle.own_model.specs.Own.{event_of, event_in}
+use Rattle.own_model.specs.Own.{event_of}
 use Rattle.own_model.specs.declared.own_event.OwnEvent.{OwnEvent}
-use Rattle.own_model.specs.Tied.{AreGiven, AreOf, IsOnlySession, IsOther, Whose, waiting_for}
+use Rattle.own_model.specs.Tied.{AreGiven, AreOf, IsOther, Whose, waiting_for}
 
 -- a new call beside a session of this application that is tied: what is known of its tables
 pub record Beside (app : Application) (whose : Whose) (c : NewCall) : Type 0 where

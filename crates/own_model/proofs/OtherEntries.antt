@@ -1,9 +1,9 @@
 -- An entry with a new call of another session leaves kernel and machine tied.
-use Rattle.std.proofs.Common.{◌≡◌, ℕ, zero, suc, Bool, true, false, List, [], ◌∷◌, Option, Some, None, Result, Ok, Err, refl, ap, subst, sym, ◌∙◌}
+use Rattle.std.proofs.Common.{◌≡◌, ℕ, zero, suc, true, List, [], ◌∷◌, Option, Some, None, Ok, Err, refl, ap, subst, sym, ◌∙◌}
 use Rattle.std.specs.Prelude.{map, slice_get, slice_set}
 use Rattle.std.specs.Option.{option_map, option_map_or, option_and_then}
 use Rattle.std.proofs.lemmas.List.Quantifiers.{position-Some}
-use Rattle.std.proofs.lemmas.Option.{option_and_then_some, slice_get-get_or}
+use Rattle.std.proofs.lemmas.Option.{slice_get-get_or}
 use Rattle.base.specs.NumberMap.{get}
 use Rattle.event_journal.specs.declared.event.Event.TheVariants.{Entry}
 use Rattle.ns_ram.specs.Attempt.{Attempt, passes, ◌>>=◌}
@@ -19,7 +19,7 @@ use Rattle.kernel_model.specs.Argument.{reg}
 use Rattle.kernel_model.specs.Decision.{Answers, Decision, Taken, Takes, decided_by}
 use Rattle.kernel_model.specs.Entry.{after_decision, decision_of}
 use Rattle.kernel_model.specs.History.{after_event}
-use Rattle.kernel_model.specs.Kernel.{Active, Cancel, Free, InSlot, Inside, Kernel, PendingCall, Processor, Suspended, Tables, ThreadSlot, Visit, cancelled_call, cancelled_slot, cancelled_slots, is_free, lowest_free}
+use Rattle.kernel_model.specs.Kernel.{Active, Cancel, Free, InSlot, Inside, Kernel, PendingCall, Processor, Suspended, ThreadSlot, Visit, cancelled_slot, cancelled_slots, is_free, lowest_free}
 use Rattle.kernel_model.specs.NewCall.{new_call_in, new_call_of, new_call_with}
 use Rattle.kernel_model.proofs.FixedAnswer.{decided_errand, decides_all, errand_of}
 use Rattle.kernel_model.proofs.Parts.{AllOf, set_then_read}
@@ -32,7 +32,7 @@ use Rattle.own_model.specs.declared.own_event.OwnEvent.{OwnEvent}
 use Rattle.own_model.specs.Laws.{About, AreTied, GoesAlong, SharesNone, whose_of}
 use Rattle.own_model.specs.Own.{Entering, Notes, Resuming, entry_noted, event_noted, event_of, numbered, slot_noted}
 use Rattle.own_model.specs.Solo.{Solo}
-use Rattle.own_model.specs.Tied.{IsOther, Tied, Whose, call_at, call_in}
+use Rattle.own_model.specs.Tied.{IsOther, Whose, call_at, call_in}
 
 -- ---- what is decided
 

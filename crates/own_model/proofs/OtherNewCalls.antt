@@ -1,25 +1,23 @@
 -- A new call of another session leaves kernel and machine tied.
-use Rattle.std.proofs.Common.{◌≡◌, ℕ, zero, suc, Bool, true, false, cond, List, [], ◌∷◌, Option, Some, None, Result, Ok, Err, refl, ap, subst, sym, ◌∙◌}
-use Rattle.std.specs.Prelude.{All, find, is_none, is_some, length, map, nat_le, nat_lt, not, position, slice_get, slice_set, ◌%◌, ◌*◌, ◌+◌, ◌==◌}
-use Rattle.std.specs.Option.{option_map, option_and_then}
+use Rattle.std.proofs.Common.{◌≡◌, ℕ, Bool, true, false, List, Option, Some, None, Result, Ok, Err, refl, subst}
+use Rattle.std.specs.Prelude.{All, find, is_none, is_some, length, nat_le, nat_lt, not, ◌*◌, ◌+◌, ◌==◌}
 use Rattle.std.proofs.lemmas.List.Elements.{All-from_recursion}
-use Rattle.std.proofs.lemmas.Option.{option_and_then_some}
-use Rattle.base.specs.NumberMap.{get, insert, remove}
+use Rattle.base.specs.NumberMap.{get}
 use Rattle.msg_args.specs.Reading.{head_at}
-use Rattle.ns_ram.specs.Attempt.{Attempt, faultless, known, need, passes, read, ◌>>=◌}
+use Rattle.ns_ram.specs.Attempt.{Attempt, faultless, known, need, read, ◌>>=◌}
 use Rattle.ns_ram.specs.Reader.{Reader, done, take_bytes, want_bytes, want_words}
 use Rattle.param_copy.specs.Copying.{copying}
 use Rattle.shm_registry.specs.Registered.{lowest_slot}
 use Rattle.smc_abi.specs.declared.answer.Answer.{Answer}
 use Rattle.kernel_model.specs.Application.{Application, Booted}
 use Rattle.kernel_model.specs.Argument.{argument_at, invocation, opening, params_in, registering, unregistering}
-use Rattle.kernel_model.specs.Codes.{bad_parameters, busy, ebadaddr, ebadcmd, item_not_found, out_of_memory, success, target_dead}
-use Rattle.kernel_model.specs.Decision.{Answers, Decision, Taken, Takes, Tested, decided_by, taken_by, taken_in}
+use Rattle.kernel_model.specs.Codes.{bad_parameters, busy, ebadaddr, ebadcmd, item_not_found, out_of_memory, target_dead}
+use Rattle.kernel_model.specs.Decision.{Taken, Tested, taken_by, taken_in}
 use Rattle.kernel_model.specs.Instances.{app_of}
 use Rattle.kernel_model.specs.Kernel.{Tables}
-use Rattle.kernel_model.specs.NewCall.{NewCall, cancel_calls, close_session, command_of, commands, copied_params, has_argument, has_pages, has_session_room, invoke_command, is_head_address, is_taken, listed_pages, named_session, new_call_in, new_call_of, new_call_with, open_session, pages_touched, parameters, register_memory, settles, settles_invoke, settles_open, shares_one, unregister_memory}
+use Rattle.kernel_model.specs.NewCall.{NewCall, cancel_calls, close_session, command_of, commands, copied_params, has_argument, has_pages, has_session_room, invoke_command, is_head_address, is_taken, listed_pages, named_session, new_call_in, new_call_of, open_session, pages_touched, parameters, register_memory, settles, settles_invoke, settles_open, shares_one, unregister_memory}
 use Rattle.kernel_model.proofs.Parts.{AllOf, AllOf-onward, option_map_some}
-use Rattle.own_model.proofs.Lookups.{Passes, find-all}
+use Rattle.own_model.proofs.Lookups.{find-all}
 use Rattle.own_model.proofs.OtherCalls.{Beside, IfUnnoted, buffers_other, cancels_other, closes_other, invokes_other, opens_or_waits_other, settles_invoke_other, settles_open_other, settles_other}
 use Rattle.own_model.proofs.Tests.{Ends, Fails, faultless-fails, known-fails, known-then, need-then, reads-fails, test-then}
 use Rattle.own_model.specs.Tied.{Whose}

@@ -1,9 +1,9 @@
 -- What holds of each way in which the tests of a new call can end.
-use Rattle.std.proofs.Common.{◌≡◌, ℕ, Bool, true, false, Option, Some, None, Result, Ok, Err, refl}
-use Rattle.ns_ram.specs.Attempt.{Attempt, after_pass, faultless, known, need, read, unless_faulty, ◌>>=◌}
+use Rattle.std.proofs.Common.{◌≡◌, Bool, true, false, Option, Some, None, Result, Ok, Err, refl}
+use Rattle.ns_ram.specs.Attempt.{Attempt, faultless, known, need, read, ◌>>=◌}
 use Rattle.ns_ram.specs.Reader.{Reader, done, want_bytes, want_words}
 use Rattle.kernel_model.specs.Decision.{Taken, Tested, taken_in}
-use Rattle.kernel_model.proofs.Parts.{AllOf, AllOf-mapped, anything}
+use Rattle.kernel_model.proofs.Parts.{AllOf}
 
 -- it holds of what the slot is taken for, by each test that fails and at the end
 abbrev pub Ends : (Taken → Type 0) → Tested Taken → Type 0
