@@ -1,10 +1,9 @@
 use Rattle.std.proofs.Common.{refl}
 use Rattle.base.specs.Zeros.{zeros}
-use Rattle.hex.specs.Hex.{encode_with}
 use Rattle.own_model.proofs.laws.worked_examples.Goals as goal
 
 pub returns : goal.returns
-unfolding zeros encode_with
+unfolding zeros
 returns c = record {
   at_once_events = refl;
   at_once_replies = (refl, refl);
