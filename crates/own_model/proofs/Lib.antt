@@ -10,3 +10,4 @@ pub mod Lookups
 pub mod OtherCalls
 pub mod OtherNewCalls
 pub mod OtherEntries
+pub mod OwnInterrupts

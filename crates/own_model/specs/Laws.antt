@@ -11,9 +11,11 @@ use Rattle.smc_abi.specs.declared.call.Call.TheVariants.{Resume, WithArg}
 use Rattle.kernel_model.specs.Application.{Application, Booted, uuid_of}
 use Rattle.kernel_model.specs.Argument.{reg, thread_in}
 use Rattle.kernel_model.specs.Instances.{app_of, is_single}
+use Rattle.kernel_model.specs.Leaving.{Interrupted, leaving_of}
 use Rattle.kernel_model.specs.Resume.{call_resumed_by}
+use Rattle.kernel_model.specs.Exit.{progress_in_slot}
 use Rattle.kernel_model.specs.History.{after_event}
-use Rattle.kernel_model.specs.Kernel.{Active, Fixed, InSlot, Inside, Kernel, PendingCall}
+use Rattle.kernel_model.specs.Kernel.{Active, Fixed, InSlot, Inside, Kernel, PendingCall, Progress}
 use Rattle.own_model.specs.Own.{Logged, Notes, event_noted, event_of, events_in, replies_in}
 use Rattle.own_model.specs.Solo.{Solo, run}
 use Rattle.own_model.specs.Tied.{Tied, Whose}
@@ -85,3 +87,11 @@ OtherCallsKeepTied = (boot : Booted) (about : About) (kernel next : Kernel) (cpu
     (now : PendingCall) (notes : Notes) (solo : Solo) → SharesNone boot about.app → call_of (reg regs.a 0) ≡ WithArg →
     slice_get next.processors cpu ≡ Some (Inside regs.a steps (InSlot slot)) → slice_get next.slots slot ≡ Some (Active cpu now) →
     event_of about.session now ≡ None → GoesAlongWith boot about kernel next (Entry cpu regs steps reads) notes solo
+
+-- with an exit from a call of the session that is an interrupt: nothing happens to the machine, and the call's job is
+-- further ahead of the machine's
+abbrev pub InterruptsKeepTied : Type 0
+InterruptsKeepTied = (boot : Booted) (about : About) (kernel next : Kernel) (cpu steps slot number : ℕ) (came : List ℕ) (regs : Regs)
+    (progress : Progress) (notes : Notes) (solo : Solo) → slice_get kernel.processors cpu ≡ Some (Inside came steps (InSlot slot)) →
+    get notes.numbering.in_slots slot ≡ Some number → progress_in_slot kernel steps slot ≡ Some progress →
+    leaving_of slot progress.call ≡ Interrupted → GoesAlongWith boot about kernel next (Exit cpu regs) notes solo

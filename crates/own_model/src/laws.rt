@@ -1,6 +1,6 @@
 //! What holds of the definitions themselves.
 ghost use Rattle.own_model.specs.Examples.{Examples};
-ghost use Rattle.own_model.specs.Laws.{FixedKeepTied, OtherCallsKeepTied, OtherExitsKeepTied, OtherResumesKeepTied};
+ghost use Rattle.own_model.specs.Laws.{FixedKeepTied, InterruptsKeepTied, OtherCallsKeepTied, OtherExitsKeepTied, OtherResumesKeepTied};
 
 /// A fixed answer leaves a kernel and the machine of each session tied: nothing happens to the machine, but where the
 /// session's client is told that no thread was free.
@@ -21,6 +21,12 @@ pub fn resumes_of_others_keep_sessions()
 /// And a new call that isn't the session's, where the session's application shares no instance.
 pub fn calls_of_others_keep_sessions()
     ensures { OtherCallsKeepTied }
+{}
+
+/// And an exit from a call of the session that is an interrupt: nothing happens to the machine, and the call's job is
+/// further ahead of the machine's.
+pub fn interrupts_keep_sessions()
+    ensures { InterruptsKeepTied }
 {}
 
 /// Examples of the definitions, worked out by hand.
