@@ -8,3 +8,7 @@ pub mod Options
 pub mod WellMade
 pub mod Validity
 pub mod Meanings
+pub mod Told
+pub mod Written
+pub mod Spoken
+pub mod Output

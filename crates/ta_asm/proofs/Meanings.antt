@@ -1,14 +1,14 @@
 -- The lines of a text in their order, up to the first fault.
-use Rattle.std.proofs.Common.{◌≡◌, ℕ, suc, ◌+◌, ◌<◌, ◌≤◌, List, [], ◌∷◌, length, take, drop, Option, Some, None, refl, sym, ap, subst, ◌∙◌, ◌⊎◌, inl, inr, arith}
+use Rattle.std.proofs.Common.{◌≡◌, ℕ, ◌+◌, ◌≤◌, List, [], ◌∷◌, length, take, drop, Option, Some, None, refl, sym, ap, subst, ◌∙◌, ◌⊎◌, inl, inr, arith}
 use Rattle.std.specs.Option.{option_or}
 use Rattle.std.proofs.lemmas.List.{take_all}
 use Rattle.ta_isa.specs.declared.image.Image.{Image}
 use Rattle.ta_asm.specs.declared.fault.AsmFault.{AsmFault}
 use Rattle.ta_asm.specs.declared.statement.Statement.{Statement}
 use Rattle.ta_asm.specs.Lines.{statements_of}
-use Rattle.ta_asm.specs.Grammar.{EveryText, IsFirstFault, Meaning, Program, StandsFor, added, end_rules, fault_behind, first_broken, image_from, image_of, line_rules, no_program, program_of}
+use Rattle.ta_asm.specs.Grammar.{EveryText, IsFirstFault, Program, StandsFor, added, end_rules, fault_behind, first_broken, image_of, line_rules, no_program, program_of}
 use Rattle.ta_asm.proofs.Programs.{AreFaultless, before_or_past, end-line, fault-at, fault-end, faultless-more, not-both, one-fault, one-image, program-more, program-start}
-use Rattle.ta_asm.proofs.Steps.{Step, at_end, step}
+use Rattle.ta_asm.proofs.Steps.{at_end, step}
 
 -- the first fault from this line on, given what the lines before it add up to
 abbrev pub fault_from : List Statement → Program → ℕ → List Statement → Option AsmFault

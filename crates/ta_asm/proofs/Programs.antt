@@ -1,7 +1,5 @@
 -- Lines that are taken one after the other, and what their end answers.
-use Rattle.std.proofs.Common.{◌≡◌, ℕ, zero, suc, ◌+◌, ◌<◌, ◌≤◌, Bool, true, false, cond, ◌&&◌, eqb, ltb, List, [], ◌∷◌, ◌++◌, length, take, drop, slice_get, Option, Some, None, Result, Ok, Err, refl, sym, ap, subst, ◌∙◌, ◌⊎◌, inl, inr, arith}
-use Rattle.std.specs.Prelude.{IfOk, IfErr}
-use Rattle.std.specs.List.{fold}
+use Rattle.std.proofs.Common.{◌≡◌, ℕ, ◌+◌, ◌<◌, ◌≤◌, Bool, true, false, eqb, ltb, List, [], ◌∷◌, ◌++◌, length, take, slice_get, Option, Some, None, Result, Ok, Err, refl, sym, ap, subst, ◌∙◌, ◌⊎◌, inl, inr, arith}
 use Rattle.std.proofs.lemmas.List.{take_all}
 use Rattle.std.proofs.lemmas.List.Sums.{fold-append}
 use Rattle.std.proofs.lemmas.Option.{slice_get_cases}
@@ -10,7 +8,7 @@ use Rattle.ta_asm.specs.declared.fault.AsmFault.{AsmFault}
 use Rattle.ta_asm.specs.declared.fault.AsmFault.TheVariants.{BadLine, Memory}
 use Rattle.ta_asm.specs.declared.statement.Statement.{Statement}
 use Rattle.ta_asm.specs.Lines.{statements_of}
-use Rattle.ta_asm.specs.Grammar.{Program, IsFirstFault, StandsFor, added, end_rules, fault_behind, first_broken, image_from, image_of, line_rules, no_program, program_of, rules_of}
+use Rattle.ta_asm.specs.Grammar.{Program, IsFirstFault, StandsFor, added, end_rules, fault_behind, first_broken, image_from, line_rules, no_program, program_of, rules_of}
 use Rattle.ta_asm.specs.Reading.{Answer, Ends, IsTaken}
 use Rattle.ta_asm.proofs.Steps.{Step}
 

@@ -1,12 +1,10 @@
 -- The pieces of a text and the words of a line, one after the other.
-use Rattle.std.proofs.Common.{◌≡◌, ℕ, suc, ◌+◌, ◌<◌, ◌≤◌, Bool, true, false, cond, eqb, not, List, [], ◌∷◌, ◌++◌, length, Option, Some, None, All, Bor, refl, sym, ap, subst, ◌∙◌, arith}
-use Rattle.std.specs.Option.{is_some, option_copied}
+use Rattle.std.proofs.Common.{◌≡◌, ℕ, suc, ◌<◌, ◌≤◌, true, false, cond, eqb, List, [], ◌∷◌, length, Some, refl, sym, ap, ◌∙◌, arith}
 use Rattle.std.specs.List.{onto_first}
 use Rattle.std.proofs.lemmas.List.Splits.{slice_split_none, slice_split_at, length-slice_split}
-use Rattle.ta_asm.specs.declared.statement.Statement.{Statement}
 use Rattle.ta_asm.specs.declared.statement.Statement.TheVariants.{Unread}
 use Rattle.ta_asm.specs.Lines.{pieces_of, statement_of, statements_in, statements_of, unended, words_of, word_at}
-use Rattle.ta_asm.specs.Reading.{Lacks, IsCutAt, words_left}
+use Rattle.ta_asm.specs.Reading.{Lacks, IsCutAt}
 
 -- ---- words
 

@@ -1,5 +1,5 @@
 -- The fields of the instruction that a line writes are those of its row.
-use Rattle.std.proofs.Common.{◌≡◌, ℕ, suc, ◌+◌, ◌-◌, ◌<◌, ◌≤◌, ◌^◌, Bool, true, false, cond, ◌&&◌, eqb, ltb, leb, List, [], ◌∷◌, length, take, drop, get_or, Option, Some, None, refl, sym, ap, subst, ◌∙◌, arith}
+use Rattle.std.proofs.Common.{◌≡◌, ℕ, ◌-◌, ◌<◌, ◌≤◌, ◌^◌, Bool, true, false, cond, ◌&&◌, eqb, ltb, leb, List, [], ◌∷◌, length, take, drop, get_or, Option, Some, None, refl, ap, subst, ◌∙◌, arith}
 use Rattle.std.specs.Prelude.{codes}
 use Rattle.std.specs.List.{AllByRecursion}
 use Rattle.std.specs.Option.{option_map, option_map_or, unwrap_or}
@@ -13,7 +13,6 @@ use Rattle.ta_isa.specs.declared.row.Immediate.{Immediate}
 use Rattle.ta_isa.specs.declared.row.Immediate.TheVariants as immediate
 use Rattle.ta_isa.specs.declared.row.Row.{Row}
 use Rattle.ta_isa.specs.InstructionTable.{follows_row, is_immediate, is_instruction, is_operand, row_of}
-use Rattle.ta_asm.specs.declared.names.EntryPoint.{EntryPoint}
 use Rattle.ta_asm.specs.declared.statement.Statement.{Statement}
 use Rattle.ta_asm.specs.declared.statement.Statement.TheVariants.{Nothing, Flags, Pages, Entry, Label, Code, Unread}
 use Rattle.ta_asm.specs.Words.{are_digits, at_most, decimal_at, digits_at, has_leading_zero, has_radix_prefix, number_at, register_at}

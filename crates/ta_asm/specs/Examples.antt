@@ -4,7 +4,8 @@ use Rattle.ta_isa.specs.declared.image.Image.{Image}
 use Rattle.ta_isa.specs.Examples.{instr}
 use Rattle.ta_asm.specs.declared.fault.AsmFault.TheVariants.{BadLine, UnknownLabel, RepeatedLabel}
 use Rattle.ta_asm.specs.declared.names.EntryPoint.TheVariants.{Open}
-use Rattle.ta_asm.specs.declared.statement.Statement.TheVariants.{Nothing, Pages, Entry, Label, Code, Unread}
+use Rattle.ta_asm.specs.declared.statement.Statement.TheVariants.{Nothing, Entry, Label, Code, Unread}
+use Rattle.ta_asm.specs.Canonical.{canonical}
 use Rattle.ta_asm.specs.Grammar.{IsFirstFault, StandsFor}
 use Rattle.ta_asm.specs.Lines.{statement_of}
 use Rattle.ta_asm.specs.Words.{is_name, number_at, register_at}
@@ -12,6 +13,10 @@ use Rattle.ta_asm.specs.Words.{is_name, number_at, register_at}
 -- an application of one instruction, which returns
 abbrev pub returning : Image
 returning = record { flags = 0; pages = 1; entries = 0 ∷ 0 ∷ 0 ∷ 0 ∷ 0 ∷ []; code = instr 0x18 0 0 0 0 ∷ [] }
+
+-- one whose first instruction jumps to its second
+abbrev pub jumping : Image
+jumping = record { flags = 28; pages = 64; entries = 0 ∷ 0 ∷ 0 ∷ 0 ∷ 0 ∷ []; code = instr 0x15 0 0 0 1 ∷ instr 0x17 0 0 0 0 ∷ [] }
 
 abbrev pub header : List ℕ
 header = codes ".flags 0\n.pages 1\n.entry create A\n.entry open A\n.entry invoke A\n.entry close A\n.entry destroy A\n"
@@ -41,3 +46,4 @@ pub record Examples : Type 0 where
   pub label_alone : IsFirstFault (header ++ codes "A:\nsys 20\n") (BadLine 8)
   pub repeated : IsFirstFault (header ++ codes "A:\nA:\nsys 0\n") (RepeatedLabel 9)
   pub cut : IsFirstFault (header ++ codes "A:\nsys 0\nret") (BadLine 10)
+  pub canonical_text : canonical jumping ≡ codes ".flags 28\n.pages 64\n.entry create L0\n.entry open L0\n.entry invoke L0\n.entry close L0\n.entry destroy L0\nL0:\njump L1\nL1:\nret\n"

@@ -1,17 +1,18 @@
 -- What the private functions of the crate answer, in the words of the grammar.
-use Rattle.std.specs.Prelude.{◌≡◌, ◌+◌, ℕ, ◌<◌, ◌≤◌, List, Option, Some, None, Result, Ok, Err, ◌⊎◌, nat_lt, drop, Bool, ◌==◌, if◌then◌else◌, All, ◌++◌, ◌∷◌, false, true, [], IfOk, IfErr}
+use Rattle.std.specs.Prelude.{◌≡◌, ℕ, ◌<◌, List, Option, Some, None, Result, Ok, Err, ◌⊎◌, nat_lt, drop, Bool, ◌==◌, if◌then◌else◌, All, ◌++◌, ◌∷◌, false, true, [], IfOk, IfErr, codes, decimal, length, slice_index_or}
 use Rattle.std.specs.BTreeMap.{BTreeMap, get_by}
 use Rattle.std.specs.Cmp.Lexicographic.{slice_cmp}
 use Rattle.std.specs.List.{list_any}
 use Rattle.std.specs.Ordering.{nat_cmp}
 use denote.Ref.{Bor}
 use Rattle.ta_asm.specs.declared.fault.AsmFault.{AsmFault}
-use Rattle.ta_asm.specs.declared.fault.AsmFault.TheVariants.{BadLine, UnknownLabel, RepeatedLabel, Memory}
+use Rattle.ta_asm.specs.declared.fault.AsmFault.TheVariants.{Memory}
 use Rattle.ta_isa.specs.declared.image.Image.{Image}
 use Rattle.ta_isa.specs.declared.image.Instr.{Instr}
 use Rattle.ta_asm.specs.declared.labels.Definition.{Definition}
 use Rattle.ta_asm.specs.declared.labels.Labels.{Labels}
 use Rattle.ta_asm.specs.declared.statement.Statement.{Statement}
+use Rattle.ta_asm.specs.Canonical.{is_labelled}
 use Rattle.ta_asm.specs.Lines.{words_of}
 use Rattle.ta_asm.specs.Grammar.{Program, defines, definition, is_instruction_line, is_target_known, first_broken, image_from, targeted, IsFirstFault, StandsFor}
 
@@ -71,3 +72,12 @@ pub record Answer (text : List ℕ) (result : Result Image AsmFault) : Type 0 wh
   pub only : (image : Image) → StandsFor text image → (result ≡ Ok image) ⊎ (result ≡ Err Memory)
   pub bad : IfErr result (λ fault. (fault ≡ Memory) ⊎ IsFirstFault text fault)
   pub refused : (fault : AsmFault) → IsFirstFault text fault → (result ≡ Err fault) ⊎ (result ≡ Err Memory)
+
+-- the line of a label, where there is one
+abbrev pub label_bytes : Bool → ℕ → List ℕ
+label_bytes marked place = if marked then (codes "L" ++ decimal place) ++ codes ":\n" else []
+
+-- each instruction that has a label is marked, and no other
+pub record IsMarked (image : Image) (marks : List Bool) : Type 0 where
+  pub whole : length marks ≡ length image.code
+  pub marked : (place : ℕ) → place < length image.code → slice_index_or marks place false ≡ is_labelled image place

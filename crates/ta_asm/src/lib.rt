@@ -1,7 +1,8 @@
-//! The assembler: text to images of trusted applications. Its language is this project's own.
+//! The assembler: text to images of trusted applications, and back. Its language is this project's own.
 #![tactic(auto)]
 
 mod assembler;
+mod disassembler;
 mod fault;
 mod labels;
 mod laws;
@@ -14,5 +15,6 @@ mod statements;
 mod word;
 
 pub use assembler::assemble;
+pub use disassembler::disassemble;
 pub use fault::AsmFault;
-pub use laws::{one_meaning, worked_examples};
+pub use laws::{one_meaning, round_trip, worked_examples};

@@ -1,8 +1,6 @@
-use Rattle.std.proofs.Common.{◌≡◌, List, subst, sym}
-use Rattle.std.specs.Prelude.{IfOk}
+use Rattle.std.proofs.Common.{subst, sym}
 use Rattle.std.proofs.lemmas.Result.{IfOk-weaker}
 use Rattle.ta_isa.specs.Spelling.{IsValid}
-use Rattle.ta_asm.specs.Grammar.{StandsFor}
 use Rattle.ta_asm.specs.Lines.{statements_of}
 use Rattle.ta_asm.proofs.Validity.{IsValid-faultless}
 use Rattle.ta_asm.proofs.WellMade.{are_well_made}

@@ -1,4 +1,4 @@
-use Rattle.std.proofs.Common.{Bor, ◌≡◌, ◌≤◌, ◌+◌, [], List, ℕ, length, take, drop, refl, sym, ap, subst, ◌∙◌, arith}
+use Rattle.std.proofs.Common.{Bor, List, ℕ, refl, sym, ap, ◌∙◌, arith}
 use Rattle.std.specs.BTreeMap.{get_by, is_at}
 use Rattle.std.specs.Map.{lookup}
 use Rattle.std.specs.Cmp.Lexicographic.{slice_cmp}
@@ -8,8 +8,7 @@ use Rattle.ta_asm.specs.declared.labels.Definition.{Definition}
 use Rattle.ta_asm.specs.declared.statement.Statement.{Statement}
 use Rattle.ta_asm.specs.Grammar.{definition}
 use Rattle.ta_asm.specs.Lines.{statements_of}
-use Rattle.ta_asm.specs.Reading.{Defines}
-use Rattle.ta_asm.proofs.Definitions.{at, count_of, defines-more, one_at_most, placed-more}
+use Rattle.ta_asm.proofs.Definitions.{defines-more, one_at_most, placed-more}
 use Rattle.ta_asm.proofs.Steps.{at_end, step}
 use Rattle.ta_asm.proofs.Texts.{few_statements}
 use Rattle.ta_asm.proofs.labels.defined.Goals as goal

@@ -1,11 +1,13 @@
-use Rattle.std.proofs.Common.{ℕ, List, [], ◌∷◌, ◌++◌, None, refl}
+use Rattle.std.proofs.Common.{List, [], ◌∷◌, ◌++◌, None, refl}
 use Rattle.std.specs.Prelude.{codes}
+use Rattle.std.specs.Fmt.{digits}
 use Rattle.ta_isa.specs.Examples.{instr}
 use Rattle.ta_isa.specs.Spelling.{are_allowed}
 use Rattle.ta_asm.specs.declared.fault.AsmFault.TheVariants.{BadLine, UnknownLabel, RepeatedLabel}
 use Rattle.ta_asm.specs.declared.names.EntryPoint.TheVariants.{Create, Open, Invoke, Close, Destroy}
 use Rattle.ta_asm.specs.declared.statement.Statement.{Statement}
 use Rattle.ta_asm.specs.declared.statement.Statement.TheVariants.{Flags, Pages, Entry, Label, Code, Unread}
+use Rattle.ta_asm.specs.Canonical.{canonical, instruction_words, is_labelled, label_line, operation_word, targets}
 use Rattle.ta_asm.specs.Examples.{header, returning}
 use Rattle.ta_asm.specs.Grammar.{definition, end_rules, line_rules, program_of}
 use Rattle.ta_asm.specs.Lines.{code_at, code_left, entry_at, entry_left, immediate_at, is_label, is_skipped, number_left, operand_at, operation_at, said_by, said_in, statement_of, statements_of}
@@ -25,7 +27,7 @@ abbrev a : Statement
 a = Label (codes "A")
 
 pub returns : goal.returns
-unfolding are_allowed definition end_rules line_rules program_of code_at code_left entry_at entry_left immediate_at is_label is_skipped number_left operand_at operation_at said_by said_in statement_of statements_of decimal_at digits_at is_name number_at register_at
+unfolding are_allowed canonical digits instruction_words is_labelled label_line operation_word targets definition end_rules line_rules program_of code_at code_left entry_at entry_left immediate_at is_label is_skipped number_left operand_at operation_at said_by said_in statement_of statements_of decimal_at digits_at is_name number_at register_at
 returns c = record {
   zero = refl;
   hexadecimal = refl;
@@ -51,4 +53,5 @@ returns c = record {
   label_alone = first-fault-read (header ++ codes "A:\nsys 20\n") (behind (a ∷ Unread ∷ [])) (BadLine 8) refl refl;
   repeated = first-fault-read (header ++ codes "A:\nA:\nsys 0\n") (behind (a ∷ a ∷ sys ∷ [])) (RepeatedLabel 9) refl refl;
   cut = first-fault-read (header ++ codes "A:\nsys 0\nret") (behind (a ∷ sys ∷ Unread ∷ [])) (BadLine 10) refl refl;
+  canonical_text = refl;
 }
