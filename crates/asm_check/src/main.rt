@@ -1,11 +1,11 @@
-//! Reads texts of the assembler from standard input, parted by form feeds, and prints for each its image in hexadecimal,
-//! or its first fault.
+//! Reads texts of the assembler from standard input, parted by form feeds, and prints for each whether it is canonical and
+//! its image in hexadecimal, or its first fault.
 #![tactic(auto)]
 
 use anyhow::{Result, bail};
 use std::alloc::Global;
 use std::io::Read;
-use ta_asm::{AsmFault, assemble};
+use ta_asm::{AsmFault, assemble, disassemble};
 use ta_isa::encode_image;
 
 /// The bytes that a text may have here.
@@ -21,8 +21,15 @@ fn verdict(alloc: Global, text: &[u8]) -> Result<String> {
     }
     match assemble(alloc, text) {
         Ok(image) => {
+            let again = disassemble(alloc, &image)?;
+            let form = if again.as_slice() == text {
+                "canonical"
+            } else {
+                "other"
+            };
             let bytes = encode_image(alloc, &image)?;
-            Ok(hex::encode(alloc, bytes.as_slice())?)
+            let digits = hex::encode(alloc, bytes.as_slice())?;
+            Ok(format!(in alloc; "{form} {digits}")?)
         }
         Err(AsmFault::Memory) => bail!("out of memory"),
         Err(fault) => Ok(format!(in alloc; "{fault}")?),
