@@ -1,0 +1,32 @@
+-- What contracts see of a core: what it was booted with, its events, and the kernel that those come to.
+use Rattle.std.specs.Prelude.{ℕ, not, Bool, false, List, Option, count_by, slice_get}
+use Rattle.std.specs.Option.{option_map_or}
+use Rattle.event_journal.specs.declared.event.Event.{Event}
+use Rattle.kernel_model.specs.Application.{Booted}
+use Rattle.kernel_model.specs.History.{is_outside, kernel_after}
+use Rattle.kernel_model.specs.Instances.{free_pages}
+use Rattle.kernel_model.specs.Kernel.{Kernel, is_free}
+use Rattle.kernel_state.specs.StandsFor.{booted_with}
+use Rattle.kernel_state.specs.declared.kernel_core.Core.{Core}
+
+abbrev pub booted_of : {X : Type 0} {g : _} → Core X g → Booted
+booted_of core = booted_with core.parts
+
+abbrev pub events_of : {X : Type 0} {g : _} → Core X g → List Event
+events_of core = core.parts.journal.events
+
+-- there always is one
+abbrev pub kernel_of : {X : Type 0} {g : _} → Core X g → Option Kernel
+kernel_of core = kernel_after (booted_of core) (events_of core)
+
+-- ---- what is asked of a kernel
+
+abbrev pub free_slots_in : Kernel → ℕ
+free_slots_in kernel = count_by is_free kernel.slots
+
+abbrev pub free_pages_in : Booted → Kernel → ℕ
+free_pages_in boot kernel = free_pages boot kernel.tables.instances
+
+-- the processor is inside, where there is one of this number
+abbrev pub is_inside : ℕ → Kernel → Bool
+is_inside cpu kernel = option_map_or (λ processor. not (is_outside processor)) (slice_get kernel.processors cpu) false

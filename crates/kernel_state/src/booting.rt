@@ -1,0 +1,124 @@
+ghost use Rattle.std.specs.Prelude.{◌≡◌, ◌↔◌, ℕ, List, [], map, false, replicate, Some, IfNone, IfOk, IsErrOf};
+ghost use Rattle.kernel_model.specs.Application.{AreNatives, booted};
+ghost use Rattle.kernel_model.specs.Kernel.{first_kernel};
+ghost use Rattle.kernel_state.specs.Booting.{IsWithinLimits, first_repeated};
+ghost use Rattle.kernel_state.specs.StandsFor.{StandsFor, app_of, boot_in, booted_with};
+ghost use Rattle.kernel_state.specs.Meaning.{booted_of, events_of};
+ghost use Rattle.kernel_state.specs.declared.boot_fault.BootFault.TheVariants.{Repeated};
+ghost use Rattle.kernel_state.specs.declared.processor.Processor.TheVariants.{Outside};
+ghost use Rattle.native_tas.specs.Table.{entries};
+ghost use Rattle.ta_isa.specs.Boots.{IsBoot};
+
+use crate::boot_fault::BootFault;
+use crate::cancellation::Cancellation;
+use crate::kernel_core::Core;
+use crate::parts::Parts;
+use crate::processor::Processor;
+use crate::repeats::first_repeated;
+use crate::shared_app::SharedApp;
+use base::{NoMemory, Sequence};
+use event_journal::Journal;
+use frame_pool::Pool;
+use native_tas::Natives;
+use session_table::{Sessions, Waiters};
+use shm_registry::Registry;
+use std::alloc::Global;
+use std::sync::Arc;
+use ta_instances::Instances;
+use ta_isa::{App, Boot};
+use thread_slots::Slots;
+use uuid::Uuid;
+
+/// The UUID of the first application that an earlier one or a built-in one has. Where there is none, a core can be
+/// booted.
+fn repeated(boot: &Boot, natives: &Natives) -> Option<Uuid>
+    requires { IsWithinLimits boot.now }
+    ensures first { result ≡ first_repeated (map (λ native. native.0) (entries natives.now)) (map (λ app. app.uuid) boot.now.apps) }
+    ensures boot { IfNone result (IsBoot boot.now) }
+    ensures natives { IfNone result (AreNatives boot.now (entries natives.now)) }
+{
+    first_repeated(natives.uuids().as_slice(), boot.apps.as_slice())
+}
+
+/// The applications, each with its image where calls can share it.
+fn shared_apps(alloc: Global, apps: Sequence<App>) -> Result<Sequence<SharedApp>, NoMemory>
+    ensures { IfOk result (λ shared. map app_of shared ≡ apps) }
+{
+    let mut shared = Vec::with_capacity(alloc, apps.len())?;
+    for app in apps.into_vec() {
+        let App { uuid, image } = app;
+        let image = Arc::new(alloc, image)?;
+        shared.push(SharedApp { uuid, image })?;
+    }
+    Ok(Sequence::of(shared))
+}
+
+/// What stands beside so many free slots.
+fn free_cancellations(alloc: Global, threads: u8) -> Result<Sequence<Cancellation>, NoMemory>
+    ensures { IfOk result (λ cancellations. cancellations ≡ replicate threads (record { session = 0; cancel_id = 0; marked = false })) }
+{
+    let none = Cancellation {
+        session: 0,
+        cancel_id: 0,
+        marked: false,
+    };
+    Ok(Sequence::of(vec![in alloc; none; usize::from(threads)]?))
+}
+
+/// So many processors that are outside.
+fn outside_processors(alloc: Global, cpus: u8) -> Result<Sequence<Processor>, NoMemory>
+    ensures { IfOk result (λ processors. processors ≡ replicate cpus Outside) }
+{
+    Ok(Sequence::of(vec![in alloc; Processor::Outside; usize::from(cpus)]?))
+}
+
+/// The parts of a core where nothing has happened.
+fn first_parts(alloc: Global, boot: Boot, natives: Natives) -> Result<Parts, NoMemory>
+    requires { IsWithinLimits boot }
+    ensures boot { IfOk result (λ parts. boot_in parts ≡ boot) }
+    ensures natives { IfOk result (λ parts. entries parts.natives ≡ entries natives) }
+    ensures events { IfOk result (λ parts. parts.journal.events ≡ []) }
+    ensures stands { IfOk result (λ parts. StandsFor parts (first_kernel (booted_with parts))) }
+{
+    let Boot {
+        cpus,
+        threads,
+        frames,
+        apps,
+    } = boot;
+    Ok(Parts {
+        apps: shared_apps(alloc, apps)?,
+        natives,
+        slots: Slots::new(alloc, threads)?,
+        cancellations: free_cancellations(alloc, threads)?,
+        processors: outside_processors(alloc, cpus)?,
+        sessions: Sessions::new(alloc)?,
+        waiters: Waiters::new(),
+        instances: Instances::new(alloc)?,
+        instances_made: 0,
+        registry: Registry::new(alloc)?,
+        pool: Pool::new(alloc, frames)?,
+        journal: Journal::new(alloc),
+    })
+}
+
+impl Core {
+    #[tactic(auto, using(crate::proofs::Opened::opened))]
+    /// A core where nothing has happened, of a boot within the limits and of applications that are built in. Repeated
+    /// exactly where a UUID stands twice, and else Memory where there is too little.
+    pub fn boot(alloc: Global, boot: Boot, natives: Natives) -> Result<Core, BootFault>
+        requires { IsWithinLimits boot }
+        ensures booted { IfOk result (λ core. booted_of core ≡ booted boot (entries natives)) }
+        ensures events { IfOk result (λ core. events_of core ≡ []) }
+        ensures repeated { (uuid : List ℕ) → (IsErrOf result (Repeated uuid)
+            ↔ (first_repeated (map (λ native. native.0) (entries natives)) (map (λ app. app.uuid) boot.apps) ≡ Some uuid)) }
+    {
+        if let Some(uuid) = repeated(&boot, &natives) {
+            return Err(BootFault::Repeated(uuid));
+        }
+        let Ok(parts) = first_parts(alloc, boot, natives) else {
+            return Err(BootFault::Memory);
+        };
+        Ok(Core { parts })
+    }
+}

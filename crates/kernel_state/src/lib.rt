@@ -1,0 +1,23 @@
+//! The state that an entry and an exit work on, and what it stands for.
+//!
+//! A `Core` is what it was booted with and its events: contracts see it so, by `booted_of` and `events_of`. Its kernel
+//! is what those events make of the first one. The parts that it keeps for this are `Parts`, and that they stand for
+//! that kernel, table by table, is a fact of the type: a core that breaks it can't be made.
+#![tactic(auto)]
+
+mod boot_fault;
+mod booting;
+mod cancellation;
+mod kernel_core;
+mod parts;
+mod processor;
+mod reading;
+mod repeats;
+mod shared_app;
+
+pub use boot_fault::BootFault;
+pub use cancellation::Cancellation;
+pub use kernel_core::Core;
+pub use parts::Parts;
+pub use processor::{Errand, Processor};
+pub use shared_app::SharedApp;

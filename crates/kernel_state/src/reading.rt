@@ -1,0 +1,50 @@
+ghost use Rattle.std.specs.Prelude.{◌≡◌, ◌≤◌, ◌^◌, Some};
+ghost use Rattle.std.specs.List.{AllByRecursion};
+ghost use Rattle.std.specs.Option.{option_map};
+ghost use Rattle.event_journal.specs.Journal.{copied_bytes};
+ghost use Rattle.kernel_model.specs.History.{IsLegal};
+ghost use Rattle.kernel_state.specs.Meaning.{booted_of, events_of, kernel_of, free_slots_in, free_pages_in, is_inside};
+ghost use Rattle.kernel_state.specs.Reads.{ReadsAgree};
+
+use crate::kernel_core::Core;
+use event_journal::Journal;
+
+impl Core {
+    #[tactic(auto, using(crate::proofs::Told::is_legal, crate::proofs::Told::few_bytes, crate::proofs::Told::reads_agree))]
+    /// All events so far.
+    pub fn journal(&self) -> &Journal
+        ensures events { result.now.events ≡ events_of self.now }
+        ensures legal { IsLegal (booted_of self.now) (events_of self.now) }
+        ensures few { copied_bytes (events_of self.now) ≤ 2 ^ 28 }
+        ensures agree { AllByRecursion ReadsAgree (events_of self.now) }
+    {
+        &self.parts.journal
+    }
+
+    #[tactic(auto, using(crate::proofs::Told::free_slots_told))]
+    /// How many thread slots are free.
+    pub fn free_slots(&self) -> u8
+        ensures { option_map free_slots_in (kernel_of self.now) ≡ Some result }
+    {
+        self.parts.slots.free()
+    }
+
+    #[tactic(auto, using(crate::proofs::Told::free_pages_told))]
+    /// How many pages no instance has.
+    pub fn free_pages(&self) -> u16
+        ensures { option_map (free_pages_in (booted_of self.now)) (kernel_of self.now) ≡ Some result }
+    {
+        self.parts.pool.free()
+    }
+
+    #[tactic(auto, using(crate::proofs::Told::inside_told, crate::proofs::Told::absent_told))]
+    /// Whether the processor is inside. One that there isn't is not.
+    pub fn inside(&self, cpu: u8) -> bool
+        ensures { option_map (is_inside cpu) (kernel_of self.now) ≡ Some result }
+    {
+        match self.parts.processors.as_slice().get(usize::from(cpu)) {
+            Some(processor) => processor.is_inside(),
+            None => false,
+        }
+    }
+}
