@@ -21,3 +21,6 @@ pub use kernel_core::Core;
 pub use parts::Parts;
 pub use processor::{Errand, Processor};
 pub use shared_app::SharedApp;
+
+#[cfg(test)]
+mod tests;
