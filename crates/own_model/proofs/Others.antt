@@ -95,6 +95,7 @@ stays_tied app whose slots slots_after tables tables_after solo kept_slots kept_
     order = ap (λ (ws : List Waiter). map (λ (waiter : Waiter). get whose.numbering.in_slots waiter.slot) ws) kept_tables.waiting ∙ tied.waiters.order;
     uuids = subst (λ (ws : List Waiter). All (λ (waiter : Waiter). waiter.uuid ≡ uuid_of app) ws) (sym kept_tables.waiting) tied.waiters.uuids;
   };
+  kept = tied.kept;
   alone = record { only = kept_tables.only; others = kept_slots.others };
   entered = tied.entered;
   given = kept_tables.given;

@@ -225,6 +225,7 @@ left_running about kernel visit notes solo slot number (Active worker call) prog
       of_app = tied.of_app;
       calls = own_slot whose kernel.slots solo.calls slot number held (Active worker call) now has there refl its on tied.calls;
       waiters = tied.waiters;
+      kept = tied.kept;
       alone = record { only = tied.alone.only; others = others_stay whose kernel.slots slot number held has tied.alone.others };
       entered = tied.entered;
       given = tied.given;

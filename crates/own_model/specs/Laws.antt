@@ -1,6 +1,6 @@
 -- What holds of a kernel and the machine of one of its sessions at an event.
-use Rattle.std.specs.Prelude.{◌≡◌, ℕ, false, List, ◌++◌, Some, None, slice_get}
-use Rattle.base.specs.NumberMap.{get}
+use Rattle.std.specs.Prelude.{◌≡◌, ℕ, ◌≤◌, false, List, ◌++◌, Some, None, slice_get}
+use Rattle.base.specs.NumberMap.{IsRising, get}
 use Rattle.event_journal.specs.declared.event.Event.{Event}
 use Rattle.event_journal.specs.declared.event.Event.TheVariants.{Entry, Exit}
 use Rattle.ns_ram.specs.declared.read.Read.{Read}
@@ -17,7 +17,10 @@ use Rattle.kernel_model.specs.Exit.{progress_in_slot}
 use Rattle.kernel_model.specs.History.{after_event}
 use Rattle.kernel_model.specs.Kernel.{Active, Fixed, InSlot, Inside, Kernel, PendingCall, Progress}
 use Rattle.own_model.specs.Own.{Logged, Notes, event_noted, event_of, events_in, replies_in}
-use Rattle.own_model.specs.Solo.{Solo, run}
+use Rattle.own_model.specs.declared.own_event.OwnEvent.{OwnEvent}
+use Rattle.own_model.specs.declared.own_reply.OwnReply.{OwnReply}
+use Rattle.own_model.specs.Solo.{Solo, run, unopened}
+use Rattle.own_model.specs.InOrder.{IsInOrder}
 use Rattle.own_model.specs.Tied.{Tied, Whose}
 
 -- a session with its instance and the numbers that were noted
@@ -95,3 +98,34 @@ InterruptsKeepTied = (boot : Booted) (about : About) (kernel next : Kernel) (cpu
     (progress : Progress) (notes : Notes) (solo : Solo) → slice_get kernel.processors cpu ≡ Some (Inside came steps (InSlot slot)) →
     get notes.numbering.in_slots slot ≡ Some number → progress_in_slot kernel steps slot ≡ Some progress →
     leaving_of slot progress.call ≡ Interrupted → GoesAlongWith boot about kernel next (Exit cpu regs) notes solo
+
+-- ---- the machine alone
+
+-- what holds of it at all times: before its open, and after whatever happens to it
+pub record StaysInOrder : Type 0 where
+  pub first : IsInOrder unopened
+  pub runs : (most : ℕ) (app : Application) (solo then : Solo) (events : List OwnEvent) (replies : List OwnReply) →
+      IsInOrder solo → run most app solo events ≡ Some (then, replies) → IsInOrder then
+
+-- given more steps to a job's stop than it takes, it answers the same
+abbrev pub MoreStepsAgree : Type 0
+MoreStepsAgree = (app : Application) (most more : ℕ) (solo then : Solo) (events : List OwnEvent) (replies : List OwnReply) →
+    most ≤ more → run most app solo events ≡ Some (then, replies) → run more app solo events ≡ Some (then, replies)
+
+-- ---- calls of the session that go out and come back
+
+-- with an exit from a call of the session that isn't an interrupt: the machine's call goes out with the same, where no
+-- job takes more steps than the machine gives it
+abbrev pub OwnExitsKeepTied : Type 0
+OwnExitsKeepTied = (boot : Booted) (about : About) (kernel next : Kernel) (cpu steps slot number : ℕ) (came : List ℕ) (regs : Regs)
+    (progress : Progress) (notes : Notes) (solo : Solo) → slice_get kernel.processors cpu ≡ Some (Inside came steps (InSlot slot)) →
+    get notes.numbering.in_slots slot ≡ Some number → progress_in_slot kernel steps slot ≡ Some progress →
+    (leaving_of slot progress.call ≡ Interrupted → ⊥) → IsRising kernel.tables.sessions → IsInOrder solo →
+    progress.call.steps ≤ about.most → GoesAlongWith boot about kernel next (Exit cpu regs) notes solo
+
+-- with a resume of a call of the session: the machine's call sees that it was cancelled, and is given the same
+abbrev pub OwnResumesKeepTied : Type 0
+OwnResumesKeepTied = (boot : Booted) (about : About) (kernel next : Kernel) (cpu steps number : ℕ) (regs : Regs) (reads : List Read)
+    (call : PendingCall) (notes : Notes) (solo : Solo) → SharesNone boot about.app → call_of (reg regs.a 0) ≡ Resume →
+    call_resumed_by kernel.slots regs.a ≡ Some call → get notes.numbering.in_slots (thread_in regs.a) ≡ Some number →
+    IsRising kernel.tables.sessions → IsInOrder solo → GoesAlongWith boot about kernel next (Entry cpu regs steps reads) notes solo

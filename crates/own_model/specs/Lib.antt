@@ -1,6 +1,7 @@
 pub mod Parameters
 pub mod Own
 pub mod Solo
+pub mod InOrder
 pub mod Tied
 pub mod Laws
 pub mod Examples

@@ -147,6 +147,27 @@ pub record AreTiedWaiters (app : Application) (whose : Whose) (waiters : List Wa
       ≡ map (λ number. Some number) waiting
   pub uuids : All (λ (waiter : Waiter). waiter.uuid ≡ uuid_of app) (waiting_for whose.instance waiters)
 
+-- ---- those that are woken
+
+-- the result of a call in this phase was told
+abbrev pub WasTold : CallPhase → Type 0
+WasTold (Runs job) = ⊥
+WasTold (Asks job wanted payload) = ⊥
+WasTold (Waits params) = ⊥
+WasTold (Ends result params told wakes) = told ≡ true
+
+-- the slot has the number of a call whose result was told
+pub record HasToldCall (whose : Whose) (calls : NumberMap OwnCall) (slot : ℕ) : Type 0 where
+  pub number : ℕ
+  pub has : HasNumber whose slot number
+  pub own : OwnCall
+  pub of_number : get calls number ≡ Some own
+  pub told : WasTold own.phase
+
+-- whom a call wakes was kept only of calls whose result was told
+abbrev pub AreKeptTold : Whose → NumberMap OwnCall → Type 0
+AreKeptTold whose calls = (slot woken : ℕ) → get whose.numbering.wakes slot ≡ Some woken → HasToldCall whose calls slot
+
 -- ---- all of it
 
 -- what has the number among the instances is of the application
@@ -169,8 +190,10 @@ pub record Tied (app : Application) (whose : Whose) (slots : List ThreadSlot) (t
   pub of_app : AreOf whose.instance (uuid_of app) tables.instances
   -- 4 and 5. its calls in the slots are the machine's, which may be behind in steps
   pub calls : AreTiedCalls whose slots solo.calls
-  -- 6. so are those that wait. The holder and the wakes stand above, by the numbers of their calls
+  -- 6. so are those that wait. The holder and the wakes stand above, by the numbers of their calls; whom a call wakes is
+  -- kept from the first telling of its result on
   pub waiters : AreTiedWaiters app whose tables.waiters solo.waiting
+  pub kept : AreKeptTold whose solo.calls
   -- 7. nobody else has the instance
   pub alone : IsAlone whose slots tables.sessions
   -- as many calls have come in, and both numbers were given
