@@ -8,6 +8,11 @@ pub mod OtherResumes
 pub mod Tests
 pub mod Lookups
 pub mod OtherCalls
-pub mod OtherNewCalls
+pub mod NewCalls
+pub mod NewEntries
 pub mod OtherEntries
 pub mod OwnInterrupts
+pub mod OwnSessions
+pub mod OwnTaken
+pub mod OwnCalls
+pub mod OwnEntries

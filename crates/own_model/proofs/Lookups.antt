@@ -28,10 +28,10 @@ find-all P test (first ∷ xs) x all e =
 
 -- ---- those that wait
 
-same_number : (a b : ℕ) → a ≡ b → (a == b) ≡ true
+pub same_number : (a b : ℕ) → a ≡ b → (a == b) ≡ true
 same_number a b e = grind (arith, nat_tests)
 
-apart_numbers : (a b : ℕ) → (a ≡ b → ⊥) → (test : Bool) → (a == b) ≡ test → test ≡ false
+pub apart_numbers : (a b : ℕ) → (a ≡ b → ⊥) → (test : Bool) → (a == b) ≡ test → test ≡ false
 apart_numbers a b apart true e = absurd (apart (same a b e))
   where
     same : (c d : ℕ) → (c == d) ≡ true → c ≡ d

@@ -49,6 +49,14 @@ get-inserted {X} {P} m k v q x found here there = by_test (eq_by_cmp nat_cmp q k
     by_test true equal e = here (same q k equal) cc
     by_test false other e = there e
 
+pub get-insert-same : {X : Type 0} (m : NumberMap X) (k : ℕ) (v : X) → get (insert m k v) k ≡ Some v
+get-insert-same m k v =
+    let same : eq_by_cmp nat_cmp k k ≡ true = tied k in
+    get-insert m k v k ∙ ap (λ b. cond b (Some v) (get m k)) same
+  where
+    tied : (a : ℕ) → eq_by_cmp nat_cmp a a ≡ true
+    tied a = grind (arith, nat_tests)
+
 -- an element of a list after one was set is that, or was there
 pub set_either : {X : Type 0} {P : Type 0} (xs : List X) (i j : ℕ) (x : X) (y : Option X) → slice_get (slice_set xs i x) j ≡ y
     → (Some x ≡ y → P) → (slice_get xs j ≡ y → P) → P

@@ -17,6 +17,7 @@ use Rattle.session_table.specs.Waiters.{instance_with}
 use Rattle.kernel_model.specs.Application.{Application, uuid_of}
 use Rattle.kernel_model.specs.Argument.{Opening}
 use Rattle.kernel_model.specs.Begin.{Begun, Opener, awaited_number, opens_kept, opens_made, opens_new, with_instance}
+use Rattle.kernel_model.specs.Codes.{bad_parameters, target_dead}
 use Rattle.kernel_model.specs.Decision.{Taken}
 use Rattle.kernel_model.specs.Instances.{app_of, is_held, is_single}
 use Rattle.kernel_model.specs.Kernel.{Instance, PendingCall, Tables}
@@ -25,6 +26,7 @@ use Rattle.kernel_model.specs.Sessions.{opened_by}
 use Rattle.kernel_model.proofs.Parts.{if-both, option_map_some}
 use Rattle.own_model.proofs.Lookups.{another_waits, find-all, waiter-all}
 use Rattle.own_model.proofs.Maps.{get-insert-other, get-inserted}
+use Rattle.own_model.proofs.NewCalls.{OfAllEndings}
 use Rattle.own_model.proofs.Others.{KeepsTables}
 use Rattle.own_model.proofs.OtherSessions.{AreOnly, other_put}
 use Rattle.own_model.specs.Own.{event_of}
@@ -53,13 +55,13 @@ IfUnnoted whose c taken = event_of whose.session taken.call ≡ None → TakesOt
 positive : (n : ℕ) → 1 ≤ n → 0 ≡ n → ⊥
 positive n le e = grind (arith)
 
-less : (m n : ℕ) → m < n → n ≡ m → ⊥
+pub less : (m n : ℕ) → m < n → n ≡ m → ⊥
 less m n lt e = grind (arith)
 
 after_next : (m n : ℕ) → m < n → m < n + 1
 after_next m n lt = grind (arith)
 
-given_as : (whose : Whose) (before after : Tables) → after.next_session ≡ before.next_session → after.next_instance ≡ before.next_instance
+pub given_as : (whose : Whose) (before after : Tables) → after.next_session ≡ before.next_session → after.next_instance ≡ before.next_instance
     → AreGiven whose before → AreGiven whose after
 given_as whose before after sessions instances given = record {
   session_from_one = given.session_from_one;
@@ -82,10 +84,10 @@ nobodys app whose c call b session instance = record {
   instance_of_another = λ e. positive whose.instance b.given.instance_from_one (sym instance ∙ e);
 }
 
-pub settles_other : (app : Application) (whose : Whose) (c : NewCall) (code : ℕ) → Beside app whose c → IfUnnoted whose c (settles c code)
+settles_other : (app : Application) (whose : Whose) (c : NewCall) (code : ℕ) → Beside app whose c → IfUnnoted whose c (settles c code)
 settles_other app whose c code b = λ none. record { other = nobodys app whose c _ b refl refl; kept = nothing_changed app whose c b }
 
-pub settles_open_other : (app : Application) (whose : Whose) (c : NewCall) (of : Application) (code : ℕ) → Beside app whose c
+settles_open_other : (app : Application) (whose : Whose) (c : NewCall) (of : Application) (code : ℕ) → Beside app whose c
     → IfUnnoted whose c (settles_open c of code)
 settles_open_other app whose c of code b = λ none. record { other = nobodys app whose c _ b refl refl; kept = nothing_changed app whose c b }
 
@@ -105,20 +107,20 @@ in_session app whose c call b instance apart = record {
   instance_of_another = λ e. positive whose.instance b.given.instance_from_one (sym instance ∙ e);
 }
 
-pub settles_invoke_other : (app : Application) (whose : Whose) (c : NewCall) (code : ℕ) → Beside app whose c
+settles_invoke_other : (app : Application) (whose : Whose) (c : NewCall) (code : ℕ) → Beside app whose c
     → IfUnnoted whose c (settles_invoke c code)
 settles_invoke_other app whose c code b = λ none. record {
   other = in_session app whose c (settles_invoke c code).call b refl (not_noted whose.session c.head.session _ none);
   kept = nothing_changed app whose c b;
 }
 
-pub cancels_other : (app : Application) (whose : Whose) (c : NewCall) → Beside app whose c → IfUnnoted whose c (cancels c)
+cancels_other : (app : Application) (whose : Whose) (c : NewCall) → Beside app whose c → IfUnnoted whose c (cancels c)
 cancels_other app whose c b = λ none. record {
   other = in_session app whose c (cancels c).call b refl (not_noted whose.session c.head.session _ none);
   kept = nothing_changed app whose c b;
 }
 
-pub buffers_other : (app : Application) (whose : Whose) (c : NewCall) (buffers : NumberMap PageBuffer) → Beside app whose c
+buffers_other : (app : Application) (whose : Whose) (c : NewCall) (buffers : NumberMap PageBuffer) → Beside app whose c
     → IfUnnoted whose c (keeps_buffers c buffers)
 buffers_other app whose c buffers b = λ none. record {
   other = nobodys app whose c _ b refl refl;
@@ -127,9 +129,10 @@ buffers_other app whose c buffers b = λ none. record {
 
 -- ---- invoke and close
 
--- the named session is there
-named_there : (c : NewCall) (named : Session × Instance) → named_session c ≡ Some named → get c.tables.sessions c.head.session ≡ Some named.0
-named_there c named e =
+-- the named session is there, and so is its instance
+pub named_parts : (c : NewCall) (named : Session × Instance) → named_session c ≡ Some named
+    → (get c.tables.sessions c.head.session ≡ Some named.0) × (get c.tables.instances named.0.instance ≡ Some named.1)
+named_parts c named e =
     option_and_then_some (λ (session : Session). option_map (λ instance. (session, instance)) (get c.tables.instances session.instance))
     (opened_by c.tables.sessions c.head.session c.client) named e
     (λ session opened beside.
@@ -137,8 +140,11 @@ named_there c named e =
     (λ kept there own.
     let paired = option_map_some (λ (instance : Instance). (session, instance)) (get c.tables.instances session.instance) named beside in
     let first : session ≡ named.0 = ap (λ (n : Session × Instance). n.0) paired.2 in
-    let same : kept ≡ session = kept_is kept session (kept.opened && (kept.client == c.client)) own in
-    there ∙ ap (λ (s : Session). Some s) (same ∙ first)))
+    let second : paired.0 ≡ named.1 = ap (λ (n : Session × Instance). n.1) paired.2 in
+    let same : kept ≡ session = kept_is kept session (kept.opened && (kept.client == c.client)) own in (
+      there ∙ ap (λ (s : Session). Some s) (same ∙ first),
+      ap (λ (s : Session). get c.tables.instances s.instance) (sym first) ∙ paired.1 ∙ ap (λ (i : Instance). Some i) second,
+    )))
   where
     kept_is : (kept session : Session) (test : Bool) → (if test then Some kept else None) ≡ Some session → kept ≡ session
     kept_is kept session true e = cc
@@ -193,10 +199,10 @@ elsewhere : (app : Application) (whose : Whose) (c : NewCall) (session : Session
     → (c.head.session ≡ whose.session → ⊥) → session.instance ≡ whose.instance → ⊥
 elsewhere app whose c session b there apart e = apart ((b.only c.head.session session there).1 e)
 
-pub invokes_other : (app : Application) (whose : Whose) (c : NewCall) (named : Session × Instance) (copies : Copies) → Beside app whose c
+invokes_other : (app : Application) (whose : Whose) (c : NewCall) (named : Session × Instance) (copies : Copies) → Beside app whose c
     → named_session c ≡ Some named → IfUnnoted whose c (invokes c named copies)
 invokes_other app whose c named copies b is =
-    let there = named_there c named is in
+    let there = (named_parts c named is).0 in
     if-both (IfUnnoted whose c) (is_held named.1) (waits_in c c.tables _ copies) (runs_in c _ _ copies.cookies _)
     (λ none.
     let apart = not_noted whose.session c.head.session _ none in
@@ -206,10 +212,10 @@ invokes_other app whose c named copies b is =
     let other = elsewhere app whose c named.0 b there apart in
     runs_other app whose c _ _ copies.cookies _ (holds_other app whose c named.0.instance _ b other) apart other)
 
-pub closes_other : (app : Application) (whose : Whose) (c : NewCall) (named : Session × Instance) → Beside app whose c
+closes_other : (app : Application) (whose : Whose) (c : NewCall) (named : Session × Instance) → Beside app whose c
     → named_session c ≡ Some named → IfUnnoted whose c (closes c named)
 closes_other app whose c named b is =
-    let there = named_there c named is in
+    let there = (named_parts c named is).0 in
     if-both (IfUnnoted whose c) (is_held named.1) (waits_in c c.tables _ no_copies) (runs_in c _ _ no_copies.cookies _)
     (λ none.
     let apart = not_noted whose.session c.head.session _ none in
@@ -340,7 +346,7 @@ opens_other app whose c wanted of copies b is =
     let begun = begun_other app whose c wanted.uuid of (opener wanted of copies) (shared_by c of) b is refl refl in
     runs_other app whose c _ _ copies.cookies _ (session_other app whose c wanted _ _ b begun.kept begun.next begun.apart) fresh begun.apart
 
-pub opens_or_waits_other : (app : Application) (whose : Whose) (c : NewCall) (wanted : Opening) (of : Application) (copies : Copies) → Beside app whose c
+opens_or_waits_other : (app : Application) (whose : Whose) (c : NewCall) (wanted : Opening) (of : Application) (copies : Copies) → Beside app whose c
     → app_of c.boot wanted.uuid ≡ Some of → TakesOther whose c.tables (opens_or_waits c wanted of copies)
 opens_or_waits_other app whose c wanted of copies b is = by_shared (shared_by c of) refl
   where
@@ -354,3 +360,18 @@ opens_or_waits_other app whose c wanted of copies b is = by_shared (shared_by c 
         if-both (TakesOther whose c.tables) (is_held kept.1) (open_waits c wanted of copies kept) (opens c wanted of copies)
         (waits_other app whose c _ _ copies (session_other app whose c wanted c.tables kept.0 b (nothing_changed app whose c b) refl apart) fresh apart)
         (opens_other app whose c wanted of copies b is)
+
+-- ---- each way in which it can end
+
+pub endings_other : (app : Application) (whose : Whose) (c : NewCall) → Beside app whose c → OfAllEndings (IfUnnoted whose c) c
+endings_other app whose c b = record {
+  settled = λ code. settles_other app whose c code b;
+  settled_open = λ of code. settles_open_other app whose c of code b;
+  opened = λ wanted of copies is none. opens_or_waits_other app whose c wanted of copies b is;
+  dead = λ named is dead. settles_invoke_other app whose c target_dead b;
+  faulty = λ named is alive. settles_invoke_other app whose c bad_parameters b;
+  invoked = λ named copies is alive. invokes_other app whose c named copies b is;
+  closed = λ named is. closes_other app whose c named b is;
+  cancelled = λ named is. cancels_other app whose c b;
+  registered = λ buffers. buffers_other app whose c buffers b;
+}

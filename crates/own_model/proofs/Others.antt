@@ -64,7 +64,7 @@ pub there_but_marked : (o : Option PendingCall) (call : PendingCall) → option_
 there_but_marked None call e = absurd cc
 there_but_marked (Some now) call e = (now, refl, cc)
 
-call_tied : (whose : Whose) (before after : List ThreadSlot) (calls : NumberMap OwnCall) (slot number : ℕ)
+pub call_tied : (whose : Whose) (before after : List ThreadSlot) (calls : NumberMap OwnCall) (slot number : ℕ)
     → option_map unmarked (call_at after slot) ≡ option_map unmarked (call_at before slot)
     → IsTiedCall whose before calls slot number → IsTiedCall whose after calls slot number
 call_tied whose before after calls slot number same tied =

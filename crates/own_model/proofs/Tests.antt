@@ -34,6 +34,12 @@ pub need-then : (P : Taken → Type 0) (test : Bool) (refusal : Taken) (onward :
 need-then P true refusal onward fails rest = rest
 need-then P false refusal onward fails rest = fails
 
+-- the same, where the test's answer is used
+pub need-by : (P : Taken → Type 0) (test : Bool) (refusal : Taken) (onward : Unit {0} → Tested Taken)
+    → (test ≡ false → P refusal) → (test ≡ true → Ends P (onward tt)) → Ends P (need test refusal >>= onward)
+need-by P true refusal onward fails rest = rest refl
+need-by P false refusal onward fails rest = fails refl
+
 pub known-fails : {A : Type 0} (P : Taken → Type 0) (found : Option A) (refusal : Taken) → P refusal → Fails P (known found refusal)
 known-fails P None refusal fails = fails
 known-fails P (Some value) refusal fails = tt

@@ -129,3 +129,13 @@ OwnResumesKeepTied = (boot : Booted) (about : About) (kernel next : Kernel) (cpu
     (call : PendingCall) (notes : Notes) (solo : Solo) → SharesNone boot about.app → call_of (reg regs.a 0) ≡ Resume →
     call_resumed_by kernel.slots regs.a ≡ Some call → get notes.numbering.in_slots (thread_in regs.a) ≡ Some number →
     IsRising kernel.tables.sessions → IsInOrder solo → GoesAlongWith boot about kernel next (Entry cpu regs steps reads) notes solo
+
+-- ---- calls of the session that come in
+
+-- with a new call of the session, other than the open, which came before: the machine does the same with its event
+abbrev pub OwnCallsKeepTied : Type 0
+OwnCallsKeepTied = (boot : Booted) (about : About) (kernel next : Kernel) (cpu steps slot : ℕ) (regs : Regs) (reads : List Read)
+    (now : PendingCall) (came : OwnEvent) (notes : Notes) (solo : Solo) → SharesNone boot about.app → call_of (reg regs.a 0) ≡ WithArg →
+    slice_get next.processors cpu ≡ Some (Inside regs.a steps (InSlot slot)) → slice_get next.slots slot ≡ Some (Active cpu now) →
+    event_of about.session now ≡ Some came → IsRising kernel.tables.sessions →
+    GoesAlongWith boot about kernel next (Entry cpu regs steps reads) notes solo

@@ -1,6 +1,6 @@
 //! What holds of the definitions themselves.
 ghost use Rattle.own_model.specs.Examples.{Examples};
-ghost use Rattle.own_model.specs.Laws.{FixedKeepTied, InterruptsKeepTied, OtherCallsKeepTied, OtherExitsKeepTied, OtherResumesKeepTied};
+ghost use Rattle.own_model.specs.Laws.{FixedKeepTied, InterruptsKeepTied, OtherCallsKeepTied, OtherExitsKeepTied, OtherResumesKeepTied, OwnCallsKeepTied};
 
 /// A fixed answer leaves a kernel and the machine of each session tied: nothing happens to the machine, but where the
 /// session's client is told that no thread was free.
@@ -27,6 +27,11 @@ pub fn calls_of_others_keep_sessions()
 /// further ahead of the machine's.
 pub fn interrupts_keep_sessions()
     ensures { InterruptsKeepTied }
+{}
+
+/// And a new call of the session, where its application shares no instance: the machine does the same with its event.
+pub fn own_calls_keep_sessions()
+    ensures { OwnCallsKeepTied }
 {}
 
 /// Examples of the definitions, worked out by hand.
