@@ -172,3 +172,31 @@ granted_at_once n job (Some why) grant first h =
 
 pub granted-IsGrant : (job : Job) (n : ℕ) (grant : Grant) → grant_of n job ≡ Some grant → IsGrant job n grant
 granted-IsGrant job n grant h = granted_at_once n job (stop_at 0 job) grant refl h
+
+-- ---- a stop within a grant
+
+stopped_advance : (n m : ℕ) (o : Option Advance) (why : JobStop) → ((next : Job) → o ≡ Some (Goes next) → stop_at 0 next ≡ None)
+    → ((next : Job) (k : ℕ) → suc k ≤ n → Stop next (suc k) why → run_for n next ≡ Some (Stopped (suc k) why))
+    → suc m ≤ suc n → option_and_then (stop_behind (stop_at m) m) o ≡ Some why
+    → option_and_then (grant_behind (run_for n)) o ≡ Some (Stopped (suc m) why)
+stopped_advance n m None why runs rest le e = absurd cc
+stopped_advance n zero (Some (Stops first)) why runs rest le e = let same : first ≡ why = cc in ap (λ w. Some (Stopped 1 w)) same
+stopped_advance n (suc m) (Some (Stops first)) why runs rest le e = absurd cc
+stopped_advance n zero (Some (Goes next)) why runs rest le e = let none = runs next refl in absurd cc
+stopped_advance n (suc m) (Some (Goes next)) why runs rest le e = ap (λ o. option_map one_later o) (rest next m (omega arith) e)
+
+run_for-stop : (n m : ℕ) (job : Job) (why : JobStop) → suc m ≤ n → Stop job (suc m) why → run_for n job ≡ Some (Stopped (suc m) why)
+run_for-stop zero m job why le e = absurd (omega arith)
+run_for-stop (suc n) m job why le e =
+    stopped_advance n m (advance job) why (λ next goes. advance_runs job next job.body goes)
+    (λ next k lek stops. run_for-stop n k next why lek stops) le e
+
+granted_later : (n m : ℕ) (job : Job) (o : Option JobStop) (why : JobStop) → stop_at_once job job.body ≡ o → suc m ≤ n → Stop job (suc m) why
+    → option_or (option_map (Stopped 0) o) (run_for n job) ≡ Some (Stopped (suc m) why)
+granted_later n m job None why none le e = run_for-stop n m job why le e
+granted_later n m job (Some first) why once le e = absurd (at_once job job.body (stop_behind (stop_at m) m) first why once e)
+
+-- a grant that reaches the stop comes to it
+pub stop-granted : (job : Job) (n m : ℕ) (why : JobStop) → m ≤ n → Stop job m why → grant_of n job ≡ Some (Stopped m why)
+stop-granted job n zero why le e = ap (λ (o : Option JobStop). option_or (option_map (Stopped 0) o) (run_for n job)) e
+stop-granted job n (suc m) why le e = granted_later n m job (stop_at_once job job.body) why refl le e

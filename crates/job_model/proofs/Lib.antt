@@ -2,3 +2,4 @@ pub mod JobSteps
 pub mod MachineRuns
 pub mod Programs
 pub mod TakenAnswers
+pub mod SeenCancel

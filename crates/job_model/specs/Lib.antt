@@ -4,4 +4,5 @@ pub mod Job
 pub mod Beginning
 pub mod Steps
 pub mod Taken
+pub mod Flag
 pub mod Examples

@@ -1,11 +1,12 @@
 //! What holds of the definitions themselves.
-ghost use Rattle.std.specs.Prelude.{◌≡◌, ℕ, ◌+◌, ◌-◌, Some};
+ghost use Rattle.std.specs.Prelude.{◌≡◌, ℕ, ◌+◌, ◌-◌, ◌≤◌, Some};
 ghost use Rattle.std.specs.Option.{option_and_then};
 ghost use Rattle.job_model.specs.Examples.{Examples};
+ghost use Rattle.job_model.specs.Flag.{CancelStaysSeen};
 ghost use Rattle.job_model.specs.Job.{Job, Machine};
 ghost use Rattle.job_model.specs.declared.entry_point.EntryPoint.{EntryPoint};
 ghost use Rattle.job_model.specs.Taken.{AnswersAreTaken};
-ghost use Rattle.job_model.specs.Steps.{After, Grant, IsGrant, JobStop, Stop, after, after_run, grant_of, grant_after, run_for, stop_at};
+ghost use Rattle.job_model.specs.Steps.{After, Grant, IsGrant, JobStop, Stop, Stopped, after, after_run, grant_of, grant_after, run_for, stop_at};
 ghost use Rattle.ta_isa.specs.declared.image.Image.{Image as AnyImage};
 ghost use Rattle.ta_step.specs.Runs.{Ran, runs};
 ghost use Rattle.ta_step.specs.State.{State};
@@ -31,6 +32,11 @@ pub fn grants_take_on()
     ensures { (job : Job) (n : ℕ) (grant : Grant) → grant_of n job ≡ Some grant → IsGrant job n grant }
 {}
 
+/// A grant that reaches a job's stop comes to it.
+pub fn grants_reach_stops()
+    ensures { (job : Job) (n m : ℕ) (why : JobStop) → m ≤ n → Stop job m why → grant_of n job ≡ Some (Stopped m why) }
+{}
+
 /// A grant of steps to a job whose machine runs is a run of that machine, and then the rest of the grant to what the
 /// run leaves.
 pub fn grants_run_machines()
@@ -44,6 +50,11 @@ pub fn grants_run_machines()
 /// else.
 pub fn answers_are_taken()
     ensures { AnswersAreTaken }
+{}
+
+/// Neither a step nor an answer takes back from a job that its call has seen that it was cancelled.
+pub fn cancel_stays_seen()
+    ensures { CancelStaysSeen }
 {}
 
 /// Examples of the definitions, worked out by hand.
