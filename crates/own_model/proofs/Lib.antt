@@ -1,4 +1,6 @@
 pub mod Maps
+pub mod MoreSteps
+pub mod InOrder
 pub mod FixedAnswers
 pub mod Others
 pub mod OtherSessions

@@ -1,9 +1,9 @@
 -- What holds of the machine of a session at all times, whatever happens to it. This project's own.
-use Rattle.std.specs.Prelude.{◌≡◌, ℕ, ◌<◌, List, Option, Some, None, All}
+use Rattle.std.specs.Prelude.{◌≡◌, ℕ, ◌<◌, Option, Some, All}
 use Rattle.std.specs.Option.{option_and_then}
 use Rattle.base.specs.NumberMap.{NumberMap, get}
 use Rattle.job_model.specs.declared.call_kind.CallKind.{CallKind}
-use Rattle.job_model.specs.declared.call_kind.CallKind.TheVariants.{Open, Invoke, Close, Settled}
+use Rattle.job_model.specs.declared.call_kind.CallKind.TheVariants.{Open, Settled}
 use Rattle.kernel_model.specs.Kernel.{CallPhase, Runs, Asks, Waits, Ends, Instance}
 use Rattle.own_model.specs.Solo.{OwnCall, Solo}
 

@@ -1,6 +1,7 @@
 //! What holds of the definitions themselves.
 ghost use Rattle.own_model.specs.Examples.{Examples};
 ghost use Rattle.own_model.specs.Laws.{FixedKeepTied, InterruptsKeepTied, OtherCallsKeepTied, OtherExitsKeepTied, OtherResumesKeepTied, OwnCallsKeepTied};
+ghost use Rattle.own_model.specs.Laws.{MoreStepsAgree, StaysInOrder};
 
 /// A fixed answer leaves a kernel and the machine of each session tied: nothing happens to the machine, but where the
 /// session's client is told that no thread was free.
@@ -32,6 +33,16 @@ pub fn interrupts_keep_sessions()
 /// And a new call of the session, where its application shares no instance: the machine does the same with its event.
 pub fn own_calls_keep_sessions()
     ensures { OwnCallsKeepTied }
+{}
+
+/// A session's machine stays in order, whatever happens to it.
+pub fn machines_stay_in_order()
+    ensures { StaysInOrder }
+{}
+
+/// A machine that is given more steps to a job's stop than it takes answers the same.
+pub fn more_steps_agree()
+    ensures { MoreStepsAgree }
 {}
 
 /// Examples of the definitions, worked out by hand.
