@@ -278,7 +278,7 @@ works_or_waits_so app z call_kind start order waiting running =
 
 -- ---- what holds of a result, if there is one
 
-abbrev IfAny : {A : Type 0} → (A → Type 0) → Option A → Type 0
+abbrev pub IfAny : {A : Type 0} → (A → Type 0) → Option A → Type 0
 IfAny P None = Unit {0}
 IfAny P (Some a) = P a
 
@@ -290,7 +290,7 @@ if_any_map : {A B : Type 0} (P : B → Type 0) (f : A → B) (o : Option A) → 
 if_any_map P f None holds = tt
 if_any_map P f (Some a) holds = holds a refl
 
-if_any_of : {A : Type 0} (P : A → Type 0) (o : Option A) (a : A) → IfAny P o → o ≡ Some a → P a
+pub if_any_of : {A : Type 0} (P : A → Type 0) (o : Option A) (a : A) → IfAny P o → o ≡ Some a → P a
 if_any_of P None a holds e = absurd cc
 if_any_of P (Some b) a holds e = let same : b ≡ a = cc in subst P same holds
 

@@ -14,7 +14,12 @@ pub mod NewCalls
 pub mod NewEntries
 pub mod OtherEntries
 pub mod OwnInterrupts
+pub mod OwnChanges
 pub mod OwnSessions
+pub mod OwnEnds
+pub mod OwnWakes
+pub mod OwnProgress
+pub mod OwnExits
 pub mod OwnTaken
 pub mod OwnCalls
 pub mod OwnEntries

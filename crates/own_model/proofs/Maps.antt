@@ -59,13 +59,16 @@ get-insert-same m k v =
     tied : (a : ℕ) → eq_by_cmp nat_cmp a a ≡ true
     tied a = grind (arith, nat_tests)
 
+self_tied : (k : ℕ) → eq_by_cmp nat_cmp k k ≡ true
+self_tied k = grind (arith, nat_tests)
+
+pub get-remove-same : {X : Type 0} (m : NumberMap X) (k : ℕ) → get (remove m k) k ≡ None
+get-remove-same m k = get-remove m k k ∙ ap (λ b. cond (not b) (get m k) None) (self_tied k)
+
 -- ---- two changes at one number
 
 self_compared : (k : ℕ) → nat_cmp k k ≡ Equal
 self_compared k = grind (arith, nat_tests)
-
-self_tied : (k : ℕ) → eq_by_cmp nat_cmp k k ≡ true
-self_tied k = grind (arith, nat_tests)
 
 pub insert-again : {X : Type 0} (m : NumberMap X) (k : ℕ) (v w : X) → insert (insert m k v) k w ≡ insert m k w
 insert-again {X} [] k v w = ap (λ r. Entries.by_order r ((k, w) ∷ (k, v) ∷ []) ((k, w) ∷ []) ((k, v) ∷ insert [] k w)) (self_compared k)

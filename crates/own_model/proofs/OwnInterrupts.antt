@@ -122,10 +122,10 @@ phases_on kept now then granted job left_job (Ends result params told wakes) ali
 
 -- ---- the slot of a call of the session
 
-same_number : (a b : ℕ) → (a == b) ≡ true → a ≡ b
+pub same_number : (a b : ℕ) → (a == b) ≡ true → a ≡ b
 same_number a b e = grind (arith, nat_tests)
 
-other_number : (a b : ℕ) → (a == b) ≡ false → a ≡ b → ⊥
+pub other_number : (a b : ℕ) → (a == b) ≡ false → a ≡ b → ⊥
 other_number a b e same = grind (arith, nat_tests)
 
 some_same : (a b : ℕ) → Some a ≡ Some b → a ≡ b
@@ -171,7 +171,7 @@ own_slot whose slots calls slot number held before now has there in_it its alike
 }
 
 -- and the others stay
-others_stay : (whose : Whose) (slots : List ThreadSlot) (slot number : ℕ) (held : ThreadSlot) → HasNumber whose slot number
+pub others_stay : (whose : Whose) (slots : List ThreadSlot) (slot number : ℕ) (held : ThreadSlot) → HasNumber whose slot number
     → ((at : ℕ) (call : PendingCall) → call_at slots at ≡ Some call → get whose.numbering.in_slots at ≡ None → IsOther whose call)
     → (at : ℕ) (call : PendingCall) → call_at (slice_set slots slot held) at ≡ Some call → get whose.numbering.in_slots at ≡ None → IsOther whose call
 others_stay whose slots slot number held has others at call found none =

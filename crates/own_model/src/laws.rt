@@ -1,7 +1,7 @@
 //! What holds of the definitions themselves.
 ghost use Rattle.own_model.specs.Examples.{Examples};
 ghost use Rattle.own_model.specs.Laws.{FixedKeepTied, InterruptsKeepTied, OtherCallsKeepTied, OtherExitsKeepTied, OtherResumesKeepTied, OwnCallsKeepTied};
-ghost use Rattle.own_model.specs.Laws.{MoreStepsAgree, StaysInOrder};
+ghost use Rattle.own_model.specs.Laws.{MoreStepsAgree, OwnExitsKeepTied, StaysInOrder};
 
 /// A fixed answer leaves a kernel and the machine of each session tied: nothing happens to the machine, but where the
 /// session's client is told that no thread was free.
@@ -33,6 +33,12 @@ pub fn interrupts_keep_sessions()
 /// And a new call of the session, where its application shares no instance: the machine does the same with its event.
 pub fn own_calls_keep_sessions()
     ensures { OwnCallsKeepTied }
+{}
+
+/// And any other exit from a call of the session, where no job takes more steps than the machine gives it: the machine's
+/// call goes out with the same.
+pub fn own_exits_keep_sessions()
+    ensures { OwnExitsKeepTied }
 {}
 
 /// A session's machine stays in order, whatever happens to it.
