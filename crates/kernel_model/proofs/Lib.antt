@@ -5,3 +5,10 @@ pub mod Told
 pub mod EntryLaws
 pub mod Suspended
 pub mod Answered
+pub mod SoundNewCalls
+pub mod SoundEvents
+pub mod SoundSlots
+pub mod SoundWork
+pub mod SoundResumes
+pub mod SoundExits
+pub mod SoundSteps

@@ -8,9 +8,13 @@
 #![tactic(auto)]
 
 mod laws;
+mod soundness;
 
 pub use laws::{
     answers_come_exactly, exits_follow_from_the_past, fixed_answers_change_one_processor,
     limit_comes_exactly_without_a_slot, resumes_come_exactly, resumes_continue_what_was_left,
     some_history_is_legal, worked_examples,
+};
+pub use soundness::{
+    others_stay_away, processors_work_on_their_slots, slots_are_as_many, steps_are_granted,
 };

@@ -1,0 +1,250 @@
+-- How many slots and processors there are, and how many steps a call has done, after each event of a legal history.
+use Rattle.std.proofs.Common.{◌≡◌, ℕ, zero, suc, ◌+◌, ◌*◌, ◌≤◌, Bool, true, false, List, [], ◌∷◌, length, Option, Some, None, refl, ap, subst, sym, ◌∙◌, arith}
+use Rattle.std.specs.Prelude.{map, nat_le, slice_get, slice_set, replicate, ◌&&◌}
+use Rattle.std.proofs.lemmas.Bool.Decides.{nat_tests}
+use Rattle.std.proofs.lemmas.List.{length-set}
+use Rattle.event_journal.specs.declared.event.Event.{Event}
+use Rattle.job_model.specs.Job.{Job}
+use Rattle.job_model.specs.Steps.{Grant, JobStop, Left, Stopped, grant_of}
+use Rattle.job_model.proofs.JobSteps.{granted-IsGrant}
+use Rattle.kernel_model.specs.Application.{Booted, IsBooted}
+use Rattle.kernel_model.specs.Argument.{client_in, thread_in}
+use Rattle.kernel_model.specs.Decision.{Taken, Takes}
+use Rattle.kernel_model.specs.Entry.{after_decision}
+use Rattle.kernel_model.specs.Exit.{goes_out_from, progress_of, slot_left}
+use Rattle.kernel_model.specs.Given.{Buffer, Given, NoBuffer, Nothing, Reply, call_given}
+use Rattle.kernel_model.specs.History.{can_be_granted, kernel_after}
+use Rattle.kernel_model.specs.Kernel.{Active, Cancel, Fixed, Free, InSlot, Inside, Kernel, Outside, PendingCall, Processor, Progress, Suspended, ThreadSlot, Visit, cancelled_slots, first_kernel}
+use Rattle.kernel_model.specs.Laws.{IsOutside}
+use Rattle.kernel_model.specs.Leaving.{leaving_of}
+use Rattle.kernel_model.specs.NewCall.{NewCall}
+use Rattle.kernel_model.specs.Resume.{Resumed, onward_of, resumed_call, sees}
+use Rattle.kernel_model.specs.Sound.{Always, AreAsMany, AreGranted, HasStepsAfter, StepsAreGranted}
+use Rattle.kernel_model.proofs.Parts.{if-both, set_other, set_then_read}
+use Rattle.kernel_model.proofs.SoundEvents.{ComesIn, EventCases, holds_after, resumed_taken}
+use Rattle.kernel_model.proofs.SoundExits.{exits_all, left_all}
+use Rattle.kernel_model.proofs.SoundNewCalls.{NewCases, all_cases, cases_onward}
+use Rattle.kernel_model.proofs.SoundResumes.{resumes_all}
+use Rattle.kernel_model.proofs.SoundSlots.{by_number, free_there, plain, was_held}
+
+-- ---- how many there are
+
+length-mapped : {X Y : Type 0} (f : X → Y) (xs : List X) → length (map f xs) ≡ length xs
+length-mapped f [] = refl
+length-mapped f (x ∷ xs) = ap suc (length-mapped f xs)
+
+length-cancelled : (slots : List ThreadSlot) (cancels : Option Cancel) → length (cancelled_slots slots cancels) ≡ length slots
+length-cancelled slots None = refl
+length-cancelled slots (Some cancel) = length-mapped _ slots
+
+length-replicated : {X : Type 0} (count : ℕ) (x : X) → length (replicate count x) ≡ count
+length-replicated zero x = refl
+length-replicated (suc count) x = ap suc (length-replicated count x)
+
+many_cases : (boot : Booted) (kernel : Kernel) (cpu : ℕ) → AreAsMany boot kernel → EventCases boot kernel cpu (AreAsMany boot)
+many_cases boot kernel cpu sound = record {
+  answered = λ visit answer inside. record { slots = sound.slots; processors = length-set kernel.processors visit.cpu _ ∙ sound.processors };
+  comes = λ visit slot bytes inside free. all_cases _ _ (λ taken. taken_many visit slot taken);
+  resumes = λ visit call given inside there. taken_many visit (thread_in visit.regs) (resumed_taken boot kernel visit call given);
+  told = λ visit answer its fixed. record { slots = sound.slots; processors = length-set kernel.processors visit.cpu _ ∙ sound.processors };
+  goes = λ visit slot worker call progress its inside there e.
+      record { slots = length-set kernel.slots slot _ ∙ sound.slots; processors = length-set kernel.processors visit.cpu _ ∙ sound.processors };
+}
+  where
+    taken_many : (visit : Visit) (slot : ℕ) (taken : Taken) → AreAsMany boot (after_decision kernel visit (Takes slot taken))
+    taken_many visit slot taken = record {
+      slots = length-set (cancelled_slots kernel.slots taken.cancels) slot (Active visit.cpu taken.call)
+          ∙ length-cancelled kernel.slots taken.cancels ∙ sound.slots;
+      processors = length-set kernel.processors visit.cpu (Inside visit.regs visit.steps (InSlot slot)) ∙ sound.processors;
+    }
+
+pub as_many : Always AreAsMany
+as_many boot history kernel booted e =
+    holds_after boot (λ events k. AreAsMany boot k) (record {
+      first = record { slots = length-replicated boot.threads Free; processors = length-replicated boot.cpus Outside };
+      onward = λ events k cpu sound. many_cases boot k cpu sound;
+    }) history kernel e
+
+-- ---- steps
+
+later_steps : (events : ℕ) (held : ThreadSlot) → HasStepsAfter events held → HasStepsAfter (events + 1) held
+later_steps events Free has = tt
+later_steps events (Active cpu call) has = omega arith
+later_steps events (Suspended client call) has = omega arith
+
+plain_steps : (events : ℕ) (held : ThreadSlot) → HasStepsAfter events held → HasStepsAfter events (plain held)
+plain_steps events Free has = tt
+plain_steps events (Active cpu call) has = has
+plain_steps events (Suspended client call) has = has
+
+steps_of_plain : (events : ℕ) (held : ThreadSlot) → HasStepsAfter events (plain held) → HasStepsAfter events held
+steps_of_plain events Free has = tt
+steps_of_plain events (Active cpu call) has = has
+steps_of_plain events (Suspended client call) has = has
+
+few_granted : (steps : ℕ) → can_be_granted steps ≡ true → steps ≤ 1000000
+few_granted steps e = both (nat_le 1 steps) (nat_le steps 1000000) refl e
+  where
+    both : (some few : Bool) → nat_le steps 1000000 ≡ few → (some && few) ≡ true → steps ≤ 1000000
+    both true true is e = grind (arith, nat_tests)
+    both true false is e = absurd cc
+    both false few is e = absurd cc
+
+one_grant : (regs other : List ℕ) (steps more slot at : ℕ) → Inside regs steps (InSlot slot) ≡ Inside other more (InSlot at) → steps ≡ more
+one_grant regs other steps more slot at e = cc
+
+taken_steps : (events : ℕ) (kernel : Kernel) (cpu : ℕ) (visit : Visit) (slot : ℕ) (taken : Taken) → AreGranted events kernel → ComesIn kernel cpu visit
+    → taken.call.steps ≤ 1000000 * events → AreGranted (events + 1) (after_decision kernel visit (Takes slot taken))
+taken_steps events kernel cpu visit slot taken sound inside few = record {
+  calls = λ at held is.
+      by_number slot at
+      (λ same.
+      let its : Active visit.cpu taken.call ≡ held =
+      set_then_read marked slot (Active visit.cpu taken.call) held
+      (subst (λ (n : ℕ). slice_get (slice_set marked slot (Active visit.cpu taken.call)) n ≡ Some held) (sym same) is) in
+      let now : HasStepsAfter (events + 1) (Active visit.cpu taken.call) = omega arith in
+      subst (HasStepsAfter (events + 1)) its now)
+      (λ apart.
+      let was = was_held kernel.slots taken.cancels at held (sym (set_other marked slot at (Active visit.cpu taken.call) apart) ∙ is) in
+      let before = plain_steps events was.0 (sound.calls at was.0 was.1) in
+      later_steps events held (steps_of_plain events held (subst (HasStepsAfter events) was.2 before)));
+  grants = λ worker at steps regs is.
+      by_number visit.cpu worker
+      (λ same.
+      let its = set_then_read kernel.processors visit.cpu (Inside visit.regs visit.steps (InSlot slot)) (Inside regs steps (InSlot at))
+      (subst (λ (n : ℕ). slice_get (slice_set kernel.processors visit.cpu (Inside visit.regs visit.steps (InSlot slot))) n ≡ Some (Inside regs steps (InSlot at))) (sym same) is) in
+      subst (λ (n : ℕ). n ≤ 1000000) (one_grant visit.regs regs visit.steps steps slot at its) (few_granted visit.steps inside.granted))
+      (λ apart. sound.grants worker at steps regs (sym (set_other kernel.processors visit.cpu worker (Inside visit.regs visit.steps (InSlot slot)) apart) ∙ is));
+}
+  where
+    marked : List ThreadSlot
+    marked = cancelled_slots kernel.slots taken.cancels
+
+moved_steps : (events : ℕ) (kernel : Kernel) (cpu : ℕ) (now : Processor) → ((regs : List ℕ) (steps slot : ℕ) → now ≡ Inside regs steps (InSlot slot) → ⊥)
+    → AreGranted events kernel → AreGranted (events + 1) (record kernel { processors = slice_set kernel.processors cpu now })
+moved_steps events kernel cpu now never sound = record {
+  calls = λ slot held is. later_steps events held (sound.calls slot held is);
+  grants = λ worker at steps regs is.
+      by_number cpu worker
+      (λ same. absurd (never regs steps at (set_then_read kernel.processors cpu now (Inside regs steps (InSlot at))
+      (subst (λ (n : ℕ). slice_get (slice_set kernel.processors cpu now) n ≡ Some (Inside regs steps (InSlot at))) (sym same) is))))
+      (λ apart. sound.grants worker at steps regs (sym (set_other kernel.processors cpu worker now apart) ∙ is));
+}
+
+new_steps : (c : NewCall) → NewCases c (λ taken. taken.call.steps ≡ 0)
+new_steps c = record {
+  settles = λ code. refl;
+  settles_open = λ app code. refl;
+  settles_invoke = λ named code is. refl;
+  cancels = λ named is. refl;
+  registers = λ param pages new room. refl;
+  unregisters = λ param unpinned. refl;
+  opens_kept = λ wanted app copies kept shown shared free. refl;
+  opens_awaited = λ wanted app copies number shown shared awaited. refl;
+  opens_next = λ wanted app copies shown shared awaited. refl;
+  open_waits = λ wanted app copies kept shown shared held. refl;
+  invokes = λ named copies is alive free. refl;
+  invoke_waits = λ named copies is alive held. refl;
+  closes = λ named is free. refl;
+  close_waits = λ named is held. refl;
+}
+
+no_steps : (steps events : ℕ) → steps ≡ 0 → steps ≤ 1000000 * events
+no_steps steps events e = omega arith
+
+resumed_steps : (r : Resumed) → (onward_of r).call.steps ≡ r.call.steps
+resumed_steps r = resumes_all r (λ progress. progress.call.steps ≡ r.call.steps) (record {
+  runs = λ job is. refl;
+  asks_still = λ job wanted payload is. refl;
+  answered = λ job wanted payload answer advance is e. refl;
+  ends = λ result params told wakes still is. refl;
+  fails = λ params code is. refl;
+  sleeps = λ params is. refl;
+  opens = λ params session app instance ready alive opening is. refl;
+  opens_new = λ params session app awake none opening is pages. refl;
+  invokes = λ params session instance func ready alive is. refl;
+  closes = λ params session instance ready is. refl;
+})
+
+given_steps : (given : Given) (call : PendingCall) → (call_given given call).steps ≡ call.steps
+given_steps Nothing call = refl
+given_steps (Buffer buffer) call = refl
+given_steps NoBuffer call = refl
+given_steps (Reply reply) call = refl
+
+seen_steps : (call : PendingCall) → (sees call).steps ≡ call.steps
+seen_steps call = if-both (λ (c : PendingCall). c.steps ≡ call.steps) call.marked _ call refl refl
+
+used_few : (granted used : ℕ) (job : Job) (why : JobStop) → grant_of granted job ≡ Some (Stopped used why) → used ≤ granted
+used_few granted used job why e = (granted-IsGrant job granted (Stopped used why) e).0
+
+more_steps : (steps used granted : ℕ) → used ≤ granted → steps + used ≤ steps + granted
+more_steps steps used granted le = omega arith
+
+same_steps : (steps granted : ℕ) → steps ≤ steps + granted
+same_steps steps granted = omega arith
+
+exit_steps : (kernel : Kernel) (call : PendingCall) (granted : ℕ) (progress : Progress) → progress_of kernel.tables call granted ≡ Some progress
+    → progress.call.steps ≤ call.steps + granted
+exit_steps kernel call granted progress e = exits_all kernel.tables call granted (λ (p : Progress). p.call.steps ≤ call.steps + granted) progress (record {
+  left = λ job later is grant. omega arith;
+  ends = λ job used end is grant. more_steps call.steps used granted (used_few granted used job _ grant);
+  panics = λ job used code is grant. more_steps call.steps used granted (used_few granted used job _ grant);
+  asks = λ job later used wanted payload is grant. more_steps call.steps used granted (used_few granted used job _ grant);
+  asked = λ job wanted payload is. same_steps call.steps granted;
+  waits = λ params is. same_steps call.steps granted;
+  told = λ result params wakes is. same_steps call.steps granted;
+  tells = λ result params wakes is. same_steps call.steps granted;
+}) e
+
+gone_steps : (events granted before after : ℕ) → after ≤ before + granted → granted ≤ 1000000 → before + 1000000 ≤ 1000000 * events → after ≤ 1000000 * (events + 1)
+gone_steps events granted before after le few has = omega arith
+
+steps_cases : (boot : Booted) (events : ℕ) (kernel : Kernel) (cpu : ℕ) → AreGranted events kernel → EventCases boot kernel cpu (AreGranted (events + 1))
+steps_cases boot events kernel cpu sound = record {
+  answered = λ visit answer inside. moved_steps events kernel visit.cpu _ (λ regs steps slot e. cc) sound;
+  comes = λ visit slot bytes inside free.
+      cases_onward _ _ _ (λ taken none. taken_steps events kernel cpu visit slot taken sound inside (no_steps taken.call.steps events none)) (new_steps _);
+  resumes = λ visit call given inside there.
+      let r = resumed_call boot kernel.tables (thread_in visit.regs) call given in
+      let before : call.steps ≤ 1000000 * events = sound.calls (thread_in visit.regs) (Suspended (client_in visit.regs) call) there in
+      let same = resumed_steps r ∙ given_steps given (sees call) ∙ seen_steps call in
+      taken_steps events kernel cpu visit (thread_in visit.regs) (resumed_taken boot kernel visit call given) sound inside
+      (subst (λ (n : ℕ). n ≤ 1000000 * events) (sym same) before);
+  told = λ visit answer its fixed. moved_steps events kernel visit.cpu Outside (λ regs steps slot e. cc) sound;
+  goes = λ visit slot worker call progress its inside there e.
+      let before : call.steps + 1000000 ≤ 1000000 * events = sound.calls slot (Active worker call) there in
+      let few = sound.grants visit.cpu slot visit.steps visit.regs inside in
+      let after = gone_steps events visit.steps call.steps progress.call.steps (exit_steps kernel call visit.steps progress e) few before in
+      let moved = moved_steps events kernel visit.cpu Outside (λ regs steps at e. cc) sound in
+      let left = slot_left progress.call (leaving_of slot progress.call) in
+      let has : HasStepsAfter (events + 1) left = left_all slot progress.call (HasStepsAfter (events + 1)) after after (λ result params told is. tt) in
+      record {
+        calls = λ at held is.
+            by_number slot at
+            (λ same. subst (HasStepsAfter (events + 1)) (set_then_read kernel.slots slot left held
+            (subst (λ (n : ℕ). slice_get (slice_set kernel.slots slot left) n ≡ Some held) (sym same) is)) has)
+            (λ apart. later_steps events held (sound.calls at held (sym (set_other kernel.slots slot at left apart) ∙ is)));
+        grants = moved.grants;
+      };
+}
+
+no_calls : (count slot : ℕ) (held : ThreadSlot) → slice_get (replicate count Free) slot ≡ Some held → HasStepsAfter 0 held
+no_calls zero slot held e = absurd cc
+no_calls (suc count) zero held e = let is : Free ≡ held = cc in subst (HasStepsAfter 0) is tt
+no_calls (suc count) (suc slot) held e = no_calls count slot held e
+
+nobody_inside : (count cpu steps slot : ℕ) (regs : List ℕ) → slice_get (replicate count Outside) cpu ≡ Some (Inside regs steps (InSlot slot)) → ⊥
+nobody_inside zero cpu steps slot regs e = cc
+nobody_inside (suc count) zero steps slot regs e = cc
+nobody_inside (suc count) (suc cpu) steps slot regs e = nobody_inside count cpu steps slot regs e
+
+pub steps_granted : StepsAreGranted
+steps_granted boot history kernel e =
+    holds_after boot AreGranted (record {
+      first = record {
+        calls = λ slot held is. no_calls boot.threads slot held is;
+        grants = λ cpu slot steps regs is. absurd (nobody_inside boot.cpus cpu steps slot regs is);
+      };
+      onward = λ events k cpu sound. steps_cases boot events k cpu sound;
+    }) history kernel e

@@ -1,0 +1,23 @@
+//! What holds of each kernel that a legal history comes to.
+ghost use Rattle.kernel_model.specs.Sound.{Always, AreAsMany, AreAtWork, OthersStayAway, StepsAreGranted};
+
+/// A processor that is inside for a slot works on its call, and the processor that works on a call is inside for its slot;
+/// a call is suspended for its own client.
+pub fn processors_work_on_their_slots()
+    ensures { Always (λ boot kernel. AreAtWork kernel) }
+{}
+
+/// The events of other processors leave a processor's part and its call as they are, but for the call's mark.
+pub fn others_stay_away()
+    ensures { OthersStayAway }
+{}
+
+/// There are as many slots and processors as the kernel was booted with.
+pub fn slots_are_as_many()
+    ensures { Always AreAsMany }
+{}
+
+/// A call has done at most a million steps for each event so far.
+pub fn steps_are_granted()
+    ensures { StepsAreGranted }
+{}
