@@ -23,3 +23,5 @@ pub mod OwnExits
 pub mod OwnTaken
 pub mod OwnCalls
 pub mod OwnEntries
+pub mod OwnOpens
+pub mod Before

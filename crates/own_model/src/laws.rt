@@ -2,6 +2,7 @@
 ghost use Rattle.own_model.specs.Examples.{Examples};
 ghost use Rattle.own_model.specs.Laws.{FixedKeepTied, InterruptsKeepTied, OtherCallsKeepTied, OtherExitsKeepTied, OtherResumesKeepTied, OwnCallsKeepTied};
 ghost use Rattle.own_model.specs.Laws.{MoreStepsAgree, OwnExitsKeepTied, StaysInOrder};
+ghost use Rattle.own_model.specs.Laws.{OwnOpensTie};
 
 /// A fixed answer leaves a kernel and the machine of each session tied: nothing happens to the machine, but where the
 /// session's client is told that no thread was free.
@@ -28,6 +29,11 @@ pub fn calls_of_others_keep_sessions()
 /// further ahead of the machine's.
 pub fn interrupts_keep_sessions()
     ensures { InterruptsKeepTied }
+{}
+
+/// The open of a session, where its application shares no instance, ties the kernel and the session's machine.
+pub fn opens_tie_sessions()
+    ensures { OwnOpensTie }
 {}
 
 /// And a new call of the session, where its application shares no instance: the machine does the same with its event.

@@ -12,8 +12,9 @@ mod own_reply;
 
 pub use laws::{
     calls_of_others_keep_sessions, exits_of_others_keep_sessions, fixed_answers_keep_sessions,
-    interrupts_keep_sessions, machines_stay_in_order, more_steps_agree, own_calls_keep_sessions,
-    own_exits_keep_sessions, resumes_of_others_keep_sessions, worked_examples,
+    interrupts_keep_sessions, machines_stay_in_order, more_steps_agree, opens_tie_sessions,
+    own_calls_keep_sessions, own_exits_keep_sessions, resumes_of_others_keep_sessions,
+    worked_examples,
 };
 pub use own_event::{BackInput, OwnEvent, OwnInput};
 pub use own_reply::OwnReply;
