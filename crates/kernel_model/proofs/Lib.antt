@@ -12,3 +12,5 @@ pub mod SoundWork
 pub mod SoundResumes
 pub mod SoundExits
 pub mod SoundSteps
+pub mod SoundMaps
+pub mod SoundNumbers

@@ -27,7 +27,7 @@ use Rattle.kernel_model.specs.NewCall.{new_call_of, new_call_with}
 use Rattle.kernel_model.specs.Resume.{call_resumed_by, onward_of, resume_call, resumed_call, suspended_for, takes_call}
 use Rattle.kernel_model.proofs.FixedAnswer.{decides_all}
 use Rattle.kernel_model.proofs.Parts.{AllOf, AllOf-mapped, option_map_some}
-use Rattle.kernel_model.proofs.SoundNewCalls.{NewCases, new_decides}
+use Rattle.kernel_model.proofs.SoundNewCalls.{NewCases, cases_onward, new_decides}
 
 -- the processor of an event
 abbrev pub cpu_of : Event → ℕ
@@ -162,6 +162,18 @@ after_one boot kernel next P (event.Exit cpu regs) cases e =
     (λ (exited : Exited) there onward.
     exits boot kernel cpu P cases next exited (bytes_eq exited.regs regs.a)
     (exited_all boot kernel cpu P cases (slice_get kernel.processors cpu) exited refl there) onward)
+
+-- something that follows holds too
+pub events_onward : (boot : Booted) (kernel : Kernel) (cpu : ℕ) (P Q : Kernel → Type 0) → ((next : Kernel) → P next → Q next) → EventCases boot kernel cpu P
+    → EventCases boot kernel cpu Q
+events_onward boot kernel cpu P Q onward cases = record {
+  answered = λ visit answer inside. onward _ (cases.answered visit answer inside);
+  comes = λ visit slot bytes inside free.
+      cases_onward _ (λ taken. P (after_decision kernel visit (Takes slot taken))) _ (λ taken. onward _) (cases.comes visit slot bytes inside free);
+  resumes = λ visit call given inside there. onward _ (cases.resumes visit call given inside there);
+  told = λ visit answer its fixed. onward _ (cases.told visit answer its fixed);
+  goes = λ visit slot worker call progress its inside there e. onward _ (cases.goes visit slot worker call progress its inside there e);
+}
 
 -- ---- histories
 

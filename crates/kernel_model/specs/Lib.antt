@@ -16,6 +16,7 @@ pub mod Exit
 pub mod History
 pub mod Laws
 pub mod Sound
+pub mod SoundNumbers
 pub mod Worked
 pub mod AnswerExamples
 pub mod ResultExamples

@@ -1,5 +1,6 @@
 //! What holds of each kernel that a legal history comes to.
-ghost use Rattle.kernel_model.specs.Sound.{Always, AreAsMany, AreAtWork, OthersStayAway, StepsAreGranted};
+ghost use Rattle.kernel_model.specs.Sound.{Always, AreAsMany, AreAtWork, OthersStayAway, StepsAreGranted, call_at};
+ghost use Rattle.kernel_model.specs.SoundNumbers.{AreNumbered, NumbersRise};
 
 /// A processor that is inside for a slot works on its call, and the processor that works on a call is inside for its slot;
 /// a call is suspended for its own client.
@@ -20,4 +21,14 @@ pub fn slots_are_as_many()
 /// A call has done at most a million steps for each event so far.
 pub fn steps_are_granted()
     ensures { StepsAreGranted }
+{}
+
+/// The numbers of sessions, instances, calls and waiters were given, and fit 32 bits.
+pub fn numbers_are_given()
+    ensures { Always (λ boot kernel. AreNumbered (call_at kernel.slots) kernel.tables) }
+{}
+
+/// No event lowers the numbers that the next session and the next instance get.
+pub fn numbers_rise()
+    ensures { NumbersRise }
 {}
