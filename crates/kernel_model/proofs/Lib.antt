@@ -14,3 +14,5 @@ pub mod SoundExits
 pub mod SoundSteps
 pub mod SoundMaps
 pub mod SoundNumbers
+pub mod SoundOrder
+pub mod SoundWaiters

@@ -17,6 +17,8 @@ pub mod History
 pub mod Laws
 pub mod Sound
 pub mod SoundNumbers
+pub mod SoundOrder
+pub mod SoundWaiters
 pub mod Worked
 pub mod AnswerExamples
 pub mod ResultExamples

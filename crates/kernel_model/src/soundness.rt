@@ -1,6 +1,8 @@
 //! What holds of each kernel that a legal history comes to.
 ghost use Rattle.kernel_model.specs.Sound.{Always, AreAsMany, AreAtWork, OthersStayAway, StepsAreGranted, call_at};
 ghost use Rattle.kernel_model.specs.SoundNumbers.{AreNumbered, NumbersRise};
+ghost use Rattle.kernel_model.specs.SoundOrder.{AreInOrder};
+ghost use Rattle.kernel_model.specs.SoundWaiters.{AreWaiters};
 
 /// A processor that is inside for a slot works on its call, and the processor that works on a call is inside for its slot;
 /// a call is suspended for its own client.
@@ -31,4 +33,14 @@ pub fn numbers_are_given()
 /// No event lowers the numbers that the next session and the next instance get.
 pub fn numbers_rise()
     ensures { NumbersRise }
+{}
+
+/// The tables are in the order of their numbers, with at most 64 sessions and 64 registered buffers.
+pub fn tables_are_in_order()
+    ensures { Always (λ boot kernel. AreInOrder kernel.tables) }
+{}
+
+/// The waiters are the calls that wait, each once.
+pub fn waiters_are_calls()
+    ensures { Always (λ boot kernel. AreWaiters (call_at kernel.slots) kernel.tables.waiters) }
 {}
