@@ -1,13 +1,12 @@
 -- New calls before the open of a session and with it.
 use Rattle.std.proofs.Common.{◌≡◌, ℕ, ◌+◌, ◌<◌, ◌≤◌, Bool, true, false, List, [], ◌∷◌, Option, Some, None, refl, ap, subst, sym, ◌∙◌, arith}
-use Rattle.std.specs.Prelude.{All, ◌==◌, bytes_eq, find, if◌then◌else◌, slice_get}
+use Rattle.std.specs.Prelude.{All, ◌==◌, bytes_eq, if◌then◌else◌, slice_get}
 use Rattle.std.specs.Option.{option_map_or}
 use Rattle.std.proofs.lemmas.Bool.Decides.{nat_tests}
 use Rattle.std.proofs.lemmas.List.Elements.{All-cons, All-nil}
 use Rattle.std.proofs.lemmas.Slice.Eq.{bytes_eq-Decides}
 use Rattle.base.proofs.MapLemmas.{All-get}
 use Rattle.event_journal.specs.declared.event.Event.TheVariants.{Entry}
-use Rattle.job_model.specs.declared.call_kind.CallKind.{CallKind}
 use Rattle.ns_ram.specs.declared.read.Read.{Read}
 use Rattle.param_copy.specs.Copying.{Copies}
 use Rattle.session_table.specs.declared.session.Session.{Session}
@@ -24,19 +23,21 @@ use Rattle.kernel_model.specs.Entry.{after_decision}
 use Rattle.kernel_model.specs.History.{after_event}
 use Rattle.kernel_model.specs.Instances.{app_of, is_held, is_single}
 use Rattle.kernel_model.specs.Kernel.{Active, Free, InSlot, Inside, Instance, Kernel, PendingCall, Tables, ThreadSlot, Visit}
-use Rattle.kernel_model.specs.NewCall.{NewCall, cancels, closes, invokes, keeps_buffers, named_session, new_call_of, open_waits, opens, opens_or_waits, settles, settles_invoke, settles_open, shared_by}
+use Rattle.kernel_model.specs.NewCall.{NewCall, cancels, keeps_buffers, named_session, new_call_of, open_waits, opens, settles, settles_invoke, settles_open, shared_by}
+use Rattle.kernel_model.specs.Sound.{call_at}
+use Rattle.kernel_model.specs.SoundNumbers.{AreNumbered}
 use Rattle.kernel_model.proofs.Parts.{if-both, map_or-both}
-use Rattle.own_model.proofs.Lookups.{apart_numbers, find-all, same_number}
+use Rattle.own_model.proofs.Lookups.{apart_numbers, find-all}
 use Rattle.own_model.proofs.NewCalls.{OfAllEndings}
 use Rattle.own_model.proofs.NewEntries.{IsTaken, new_call_noted, new_call_taken}
 use Rattle.own_model.proofs.OtherCalls.{named_parts}
 use Rattle.own_model.proofs.OwnOpens.{TakesOpen, begun_by, opened_solo, opens_tied}
-use Rattle.own_model.specs.Before.{AreBelow, IsBelow}
+use Rattle.own_model.proofs.BelowNumbers.{AreBelow, IsBelow, below_numbers}
 use Rattle.own_model.specs.declared.own_event.OwnEvent.{OwnEvent}
 use Rattle.own_model.specs.declared.own_event.OwnEvent.TheVariants.{Open}
 use Rattle.own_model.specs.Laws.{GoesAlong, SharesNone, about_next}
 use Rattle.own_model.specs.Parameters.{params_of}
-use Rattle.own_model.specs.Own.{Notes, event_in, event_noted, event_of, no_notes, numbered}
+use Rattle.own_model.specs.Own.{event_in, event_noted, event_of, no_notes, numbered}
 use Rattle.own_model.specs.Solo.{unopened}
 
 -- ---- what comes in
@@ -150,7 +151,7 @@ endings_early session slots c early = record {
       opened;
   dead = λ named is dead. in_another session slots c named (settles_invoke c target_dead) early is refl refl;
   faulty = λ named is alive. in_another session slots c named (settles_invoke c bad_parameters) early is refl refl;
-  invoked = λ named copies is alive. 
+  invoked = λ named copies is alive.
       if-both (Coming c.boot session slots c.slot c.tables) (is_held named.1) _ _
       (in_another session slots c named _ early is refl refl) (in_another session slots c named _ early is refl refl);
   closed = λ named is.
@@ -173,7 +174,7 @@ early_call boot session kernel next cpu steps slot regs reads now below before i
     inside there e
 
 -- kernel and machine are tied from the open on
-open_along : (app : Application) (most : ℕ) (kernel : Kernel) (visit : Visit) (slot : ℕ) (taken : Taken) (params : CopiedParams) (login : Login)
+pub open_along : (app : Application) (most : ℕ) (kernel : Kernel) (visit : Visit) (slot : ℕ) (taken : Taken) (params : CopiedParams) (login : Login)
     → TakesOpen app kernel.slots slot kernel.tables taken params login
     → GoesAlong (about_next app most kernel) no_notes unopened (after_decision kernel visit (Takes slot taken)) (numbered no_notes slot taken.call (Open params login))
 open_along app most kernel visit slot taken params login takes = record {
@@ -222,14 +223,14 @@ no_more : (n : ℕ) → n ≤ n
 no_more n = omega arith
 
 pub own_open : (boot : Booted) (app : Application) (most : ℕ) (kernel next : Kernel) (cpu steps slot : ℕ) (regs : Regs) (reads : List Read)
-    (now : PendingCall) (came : OwnEvent) → SharesNone boot app → AreBelow kernel.slots kernel.tables → call_of (reg regs.a 0) ≡ WithArg
+    (now : PendingCall) (came : OwnEvent) → SharesNone boot app → AreNumbered (call_at kernel.slots) kernel.tables → call_of (reg regs.a 0) ≡ WithArg
     → slice_get next.processors cpu ≡ Some (Inside regs.a steps (InSlot slot)) → slice_get next.slots slot ≡ Some (Active cpu now)
     → event_of kernel.tables.next_session now ≡ Some came → now.uuid ≡ Some (uuid_of app)
     → after_event boot kernel (Entry cpu regs steps reads) ≡ Some next
     → GoesAlong (about_next app most kernel) no_notes unopened next (event_noted kernel.tables.next_session kernel next no_notes (Entry cpu regs steps reads))
-own_open boot app most kernel next cpu steps slot regs reads now came shares below is inside there noted uuid e =
+own_open boot app most kernel next cpu steps slot regs reads now came shares numbers is inside there noted uuid e =
     let session : ℕ = kernel.tables.next_session in
-    let found = early_call boot session kernel next cpu steps slot regs reads now below (no_more session) is inside there e in
+    let found = early_call boot session kernel next cpu steps slot regs reads now (below_numbers kernel numbers) (no_more session) is inside there e in
     let along = open_comes boot app most kernel next (record { cpu = cpu; regs = regs.a; steps = steps }) slot now came found.taken shares found.holds found.call_is found.gives
     (ap (λ (c : PendingCall). event_of session c) found.call_is ∙ noted) (ap (λ (c : PendingCall). c.uuid) found.call_is ∙ uuid) in
     subst (GoesAlong (about_next app most kernel) no_notes unopened next)

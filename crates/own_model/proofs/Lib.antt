@@ -23,5 +23,11 @@ pub mod OwnExits
 pub mod OwnTaken
 pub mod OwnCalls
 pub mod OwnEntries
+pub mod BelowNumbers
 pub mod OwnOpens
 pub mod Before
+pub mod EventKinds
+pub mod UuidKept
+pub mod EarlyEvents
+pub mod TiedEvents
+pub mod WholeHistories

@@ -28,7 +28,7 @@ use Rattle.own_model.specs.Own.{Entering, Notes, Resuming, call_noted, entry_not
 -- ---- what is decided
 
 -- a free slot is taken for something of which this holds
-abbrev TakesFree : (ℕ → Taken → Type 0) → Kernel → Decision → Type 0
+abbrev pub TakesFree : (ℕ → Taken → Type 0) → Kernel → Decision → Type 0
 TakesFree P kernel (Answers answer) = Unit {0}
 TakesFree P kernel (Takes slot taken) = (slice_get kernel.slots slot ≡ Some Free) × P slot taken
 
@@ -54,7 +54,7 @@ abbrev pub OfAllCalls : (ℕ → Taken → Type 0) → Booted → Kernel → Lis
 OfAllCalls P boot kernel regs = (slot : ℕ) → slice_get kernel.slots slot ≡ Some Free → (bytes : List ℕ) →
     OfAllEndings (P slot) (new_call_of boot kernel.tables regs slot bytes)
 
-call_decides : (P : ℕ → Taken → Type 0) (boot : Booted) (kernel : Kernel) (regs : List ℕ) (free : Option ℕ)
+pub call_decides : (P : ℕ → Taken → Type 0) (boot : Booted) (kernel : Kernel) (regs : List ℕ) (free : Option ℕ)
     → lowest_free kernel.slots ≡ free → OfAllCalls P boot kernel regs
     → AllOf (TakesFree P kernel) (decided_by (new_call_with boot kernel.tables regs free))
 call_decides P boot kernel regs None lowest all = tt

@@ -192,7 +192,7 @@ left_tied about notes kernel visit slot solo progress none tied stays =
     (slot_keeps whose kernel.slots slot held none (left_other whose progress.call leaving stays.other) tied.alone.others)
     (pins_keep whose kernel.tables progress.tables slot held stays.kept) tied
 
-none_noted : (notes : Notes) (slot : ℕ) (found : Option ℕ) (progress : Option Progress) → found ≡ None
+pub none_noted : (notes : Notes) (slot : ℕ) (found : Option ℕ) (progress : Option Progress) → found ≡ None
     → option_map_or (λ (p : Progress). option_map_or (exit_noted notes slot p.call) found notes) progress notes ≡ notes
 none_noted notes slot None None e = refl
 none_noted notes slot None (Some progress) e = refl

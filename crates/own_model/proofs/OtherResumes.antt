@@ -160,7 +160,7 @@ given_other whose (Reply reply) call other = other
 
 -- ---- the entry
 
-suspended_holds : (client : ℕ) (held : Option ThreadSlot) (call : PendingCall) → suspended_for client held ≡ Some call
+pub suspended_holds : (client : ℕ) (held : Option ThreadSlot) (call : PendingCall) → suspended_for client held ≡ Some call
     → option_and_then call_in held ≡ Some call
 suspended_holds client None call e = absurd cc
 suspended_holds client (Some Free) call e = absurd cc
@@ -171,7 +171,7 @@ suspended_holds client (Some (Suspended owner left)) call e = by_owner (owner ==
     by_owner true is = is
     by_owner false is = absurd cc
 
-resumed_noted : (session : ℕ) (r : Resuming) (notes : Notes) (client : ℕ) (call : PendingCall) (held now : Option ThreadSlot)
+pub resumed_noted : (session : ℕ) (r : Resuming) (notes : Notes) (client : ℕ) (call : PendingCall) (held now : Option ThreadSlot)
     → suspended_for client held ≡ Some call → get notes.numbering.in_slots r.slot ≡ None → slot_noted session r notes held now ≡ notes
 resumed_noted session r notes client call None now e none = absurd cc
 resumed_noted session r notes client call (Some Free) now e none = absurd cc
@@ -183,7 +183,7 @@ resumed_noted session r notes client call (Some (Suspended owner left)) (Some (A
 resumed_noted session r notes client call (Some (Suspended owner left)) (Some (Suspended another now)) e none = refl
 
 -- a processor that comes in is there
-visitor_there : (boot : Booted) (kernel next : Kernel) (cpu steps : ℕ) (regs : Regs) (reads : List Read)
+pub visitor_there : (boot : Booted) (kernel next : Kernel) (cpu steps : ℕ) (regs : Regs) (reads : List Read)
     → after_event boot kernel (Entry cpu regs steps reads) ≡ Some next → (processor : Processor) × (slice_get kernel.processors cpu ≡ Some processor)
 visitor_there boot kernel next cpu steps regs reads e =
     option_and_then_some (entry_from boot kernel (record { cpu = cpu; regs = regs.a; steps = steps }) reads) (slice_get kernel.processors cpu) next e

@@ -1,10 +1,10 @@
 -- What the open of a session on an instance of its own takes its slot for, and the machine that begins with it.
-use Rattle.std.proofs.Common.{◌≡◌, ℕ, ◌+◌, ◌<◌, ◌≤◌, Bool, true, false, cond, List, [], ◌∷◌, ◌++◌, Option, Some, None, refl, ap, subst, sym, ◌∙◌, arith}
+use Rattle.std.proofs.Common.{◌≡◌, ℕ, ◌+◌, ◌<◌, ◌≤◌, false, cond, List, [], ◌∷◌, Option, Some, None, refl, ap, subst, sym, ◌∙◌, arith}
 use Rattle.std.specs.Prelude.{All, ◌||◌, ◌&&◌, ◌==◌, bytes_eq, find, if◌then◌else◌, map, slice_get, slice_set}
 use Rattle.std.specs.Option.{option_map, option_map_or}
 use Rattle.std.proofs.lemmas.Bool.Decides.{nat_tests}
 use Rattle.std.proofs.lemmas.List.Elements.{All-head, All-nil, All-tail, All-weaker}
-use Rattle.base.specs.NumberMap.{NumberMap, get, insert}
+use Rattle.base.specs.NumberMap.{NumberMap, get}
 use Rattle.base.proofs.MapLemmas.{All-get, All-insert}
 use Rattle.job_model.specs.Beginning.{OfImage, OfRelation, Program, begun_job}
 use Rattle.job_model.specs.declared.call_kind.CallKind.TheVariants as kind
@@ -23,19 +23,17 @@ use Rattle.kernel_model.specs.Argument.{Opening}
 use Rattle.kernel_model.specs.Begin.{Begun, opens_kept, opens_made, opens_new}
 use Rattle.kernel_model.specs.Decision.{Taken}
 use Rattle.kernel_model.specs.Instances.{destroy_after, fresh_memory, has_flag, held_by, is_single, keeps_alive, made_for}
-use Rattle.kernel_model.specs.Kernel.{Active, Free, Instance, PendingCall, Runs, Tables, ThreadSlot, Waits, cancelled_slots}
-use Rattle.kernel_model.specs.NewCall.{NewCall, about_open, beginner, call_about, opener, opens, runs_in, shared_by, with_session}
-use Rattle.kernel_model.specs.Sessions.{has_opened}
+use Rattle.kernel_model.specs.Kernel.{Active, Free, Instance, PendingCall, Runs, Tables, ThreadSlot, cancelled_slots}
+use Rattle.kernel_model.specs.NewCall.{NewCall, about_open, beginner, opener, opens, runs_in, shared_by, with_session}
 use Rattle.own_model.proofs.Maps.{get-insert-same, get-inserted}
-use Rattle.own_model.proofs.OtherCalls.{less}
 use Rattle.own_model.proofs.OwnSessions.{none_opened}
-use Rattle.own_model.proofs.OwnTaken.{Entrant, calls_taken, others_taken, with_next}
-use Rattle.own_model.specs.Before.{AreBelow, IsBelow}
+use Rattle.own_model.proofs.OwnTaken.{calls_taken, others_taken, with_next}
+use Rattle.own_model.proofs.BelowNumbers.{AreBelow, IsBelow}
 use Rattle.own_model.specs.Own.{no_notes}
 use Rattle.own_model.specs.Parameters.{params_of}
 use Rattle.own_model.specs.Solo.{Solo, Start, OwnSession, counted, fresh_call, job_of, made, points_of, start_with, unopened, begins}
 use Rattle.own_model.specs.Solo as solo
-use Rattle.own_model.specs.Tied.{AreTiedCalls, CallsAlike, FoundAlike, IsOnlySession, IsOther, Tied, Whose, call_at, shown, waiting_for}
+use Rattle.own_model.specs.Tied.{FoundAlike, IsOnlySession, IsOther, Tied, Whose, shown, waiting_for}
 
 -- the session and the instance that an open gets, and no call so far
 abbrev pub whose_next : Tables → Whose

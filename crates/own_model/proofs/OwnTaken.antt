@@ -41,7 +41,7 @@ pub number_stays : (whose : Whose) (slot at number : ℕ) → get whose.numberin
 number_stays whose slot at number none has =
     get-insert-other whose.numbering.in_slots slot whose.numbering.entered at (numbered_apart whose.numbering.in_slots slot at number none has) ∙ has
 
-free_marked : (slots : List ThreadSlot) (cancels : Option Cancel) (slot : ℕ) → slice_get slots slot ≡ Some Free
+pub free_marked : (slots : List ThreadSlot) (cancels : Option Cancel) (slot : ℕ) → slice_get slots slot ≡ Some Free
     → slice_get (cancelled_slots slots cancels) slot ≡ Some Free
 free_marked slots None slot free = free
 free_marked slots (Some cancel) slot free = by_list slots slot free

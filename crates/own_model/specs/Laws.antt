@@ -15,8 +15,9 @@ use Rattle.kernel_model.specs.Leaving.{Interrupted, leaving_of}
 use Rattle.kernel_model.specs.Resume.{call_resumed_by}
 use Rattle.kernel_model.specs.Exit.{progress_in_slot}
 use Rattle.kernel_model.specs.History.{after_event}
+use Rattle.kernel_model.specs.Sound.{call_at}
+use Rattle.kernel_model.specs.SoundNumbers.{AreNumbered}
 use Rattle.kernel_model.specs.Kernel.{Active, Fixed, InSlot, Inside, Kernel, PendingCall, Progress}
-use Rattle.own_model.specs.Before.{AreBelow}
 use Rattle.own_model.specs.Own.{Logged, Notes, event_noted, event_of, events_in, no_notes, replies_in}
 use Rattle.own_model.specs.declared.own_event.OwnEvent.{OwnEvent}
 use Rattle.own_model.specs.declared.own_reply.OwnReply.{OwnReply}
@@ -155,7 +156,7 @@ about_next app most kernel = record {
 -- with the open of a session, which gets the next number: kernel and machine are tied from then on
 abbrev pub OwnOpensTie : Type 0
 OwnOpensTie = (boot : Booted) (app : Application) (most : ℕ) (kernel next : Kernel) (cpu steps slot : ℕ) (regs : Regs)
-    (reads : List Read) (now : PendingCall) (came : OwnEvent) → SharesNone boot app → AreBelow kernel.slots kernel.tables →
+    (reads : List Read) (now : PendingCall) (came : OwnEvent) → SharesNone boot app → AreNumbered (call_at kernel.slots) kernel.tables →
     call_of (reg regs.a 0) ≡ WithArg → slice_get next.processors cpu ≡ Some (Inside regs.a steps (InSlot slot)) →
     slice_get next.slots slot ≡ Some (Active cpu now) → event_of kernel.tables.next_session now ≡ Some came →
     now.uuid ≡ Some (uuid_of app) → after_event boot kernel (Entry cpu regs steps reads) ≡ Some next →

@@ -3,6 +3,6 @@ pub mod Own
 pub mod Solo
 pub mod InOrder
 pub mod Tied
-pub mod Before
 pub mod Laws
+pub mod Isolation
 pub mod Examples
