@@ -295,7 +295,7 @@ if_any_of P None a holds e = absurd cc
 if_any_of P (Some b) a holds e = let same : b ≡ a = cc in subst P same holds
 
 -- the machine after an answer
-abbrev InOrderThen : Answered → Type 0
+abbrev pub InOrderThen : Answered → Type 0
 InOrderThen answered = IsInOrder answered.0
 
 -- ---- calls that come in
@@ -353,7 +353,7 @@ answer_works : (before : CallPhase) (job : Job) (came : RpcAnswer) → IsAtWork 
 answer_works before job came works =
     map_or-both IsAtWork (phase_after before) (advance_on_answer came job) before (λ next. advance_works before next works) works
 
-back_works : (before : CallPhase) (job : Job) (input : BackInput) → IsAtWork before → IsAtWork (phase_back before job input)
+pub back_works : (before : CallPhase) (job : Job) (input : BackInput) → IsAtWork before → IsAtWork (phase_back before job input)
 back_works before job Nothing works = works
 back_works before job Buffer works = works
 back_works before job NoBuffer works = answer_works before job answer.NoBuffer works
@@ -558,7 +558,7 @@ silent_so : (o : Option Solo) → IfAny IsInOrder o → IfAny InOrderThen (optio
 silent_so None order = tt
 silent_so (Some z) order = order
 
-step_so : (most : ℕ) (app : Application) (z : Solo) (came : OwnEvent) → IsInOrder z → IfAny InOrderThen (step most app z came)
+pub step_so : (most : ℕ) (app : Application) (z : Solo) (came : OwnEvent) → IsInOrder z → IfAny InOrderThen (step most app z came)
 step_so most app z (Open params login) order = silent_so (opens_first app z params login) (opens_so app z params login order)
 step_so most app z (Invoke func input) order =
     silent_so (option_and_then (invokes app z func input) (home z)) (if_any_then IsInOrder (invokes app z func input) (home z) (λ at _. invokes_so app z func input at order))

@@ -20,6 +20,10 @@ pub mod OwnEnds
 pub mod OwnWakes
 pub mod OwnProgress
 pub mod OwnExits
+pub mod OwnSeen
+pub mod OwnLine
+pub mod OwnOnward
+pub mod OwnResumes
 pub mod OwnTaken
 pub mod OwnCalls
 pub mod OwnEntries

@@ -318,7 +318,7 @@ same_call : (a b : PendingCall) → Some a ≡ Some b → a ≡ b
 same_call a b e = cc
 
 -- the call of a slot, and the machine's
-found_there : (about : About) (kernel : Kernel) (notes : Notes) (solo : Solo) (slot number : ℕ) (call : PendingCall) → get notes.numbering.in_slots slot ≡ Some number
+pub found_there : (about : About) (kernel : Kernel) (notes : Notes) (solo : Solo) (slot number : ℕ) (call : PendingCall) → get notes.numbering.in_slots slot ≡ Some number
     → call_at kernel.slots slot ≡ Some call → IsInOrder solo → IsRising kernel.tables.sessions → AreTied about kernel notes solo
     → (own : OwnCall) × OwnThere about kernel notes solo slot number call own
 found_there about kernel notes solo slot number call has found order rising tied =

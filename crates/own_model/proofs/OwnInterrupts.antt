@@ -31,7 +31,7 @@ use Rattle.own_model.specs.Tied.{AreTiedCalls, CallsAlike, HasNumber, IsFurther,
 
 -- ---- which calls are interrupted
 
-asks_not : (o : Option RpcBuffer) (request : Request) → option_map_or (λ (place : RpcBuffer). Requests place request) o WantsBuffer ≡ Interrupted → ⊥
+pub asks_not : (o : Option RpcBuffer) (request : Request) → option_map_or (λ (place : RpcBuffer). Requests place request) o WantsBuffer ≡ Interrupted → ⊥
 asks_not None request e = cc
 asks_not (Some place) request e = cc
 
@@ -39,7 +39,7 @@ frees_not : (o : Option RpcBuffer) (other : Leaving) → (other ≡ Interrupted 
 frees_not None other apart e = apart e
 frees_not (Some buffer) other apart e = cc
 
-ends_not : (slot : ℕ) (call : PendingCall) (result : CallResult) (params : CopiedParams) (told : Bool) (wakes : Option ℕ)
+pub ends_not : (slot : ℕ) (call : PendingCall) (result : CallResult) (params : CopiedParams) (told : Bool) (wakes : Option ℕ)
     → leaving_in slot call (Ends result params told wakes) ≡ Interrupted → ⊥
 ends_not slot call result params told (Some woken) e = asks_not call.buffer _ e
 ends_not slot call result params told None e = frees_not call.buffer (Finishes result params) (λ no. cc) e
@@ -160,7 +160,7 @@ own_at whose slots calls slot number held before now has there in_it its alike t
     }
 
 -- its call changes to one that is still the machine's call
-own_slot : (whose : Whose) (slots : List ThreadSlot) (calls : NumberMap OwnCall) (slot number : ℕ) (held before : ThreadSlot) (now : PendingCall)
+pub own_slot : (whose : Whose) (slots : List ThreadSlot) (calls : NumberMap OwnCall) (slot number : ℕ) (held before : ThreadSlot) (now : PendingCall)
     → HasNumber whose slot number → slice_get slots slot ≡ Some before → call_in held ≡ Some now → (its : IsTiedCall whose slots calls slot number)
     → CallsAlike whose.session whose.instance (get whose.numbering.wakes slot) now its.own → AreTiedCalls whose slots calls
     → AreTiedCalls whose (slice_set slots slot held) calls

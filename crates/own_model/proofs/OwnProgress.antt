@@ -52,21 +52,26 @@ pub record Comes (about : About) (kernel : Kernel) (notes : Notes) (solo : Solo)
   pub alike : CallsAlike about.session about.instance (get keeps.wakes slot) progress.call going.call
   pub told : (woken : ℕ) → get keeps.wakes slot ≡ Some woken → WasTold going.call.phase
 
-same_own : (first second : OwnCall) → Some first ≡ Some second → first ≡ second
+pub same_own : (first second : OwnCall) → Some first ≡ Some second → first ≡ second
 same_own first second e = cc
 
--- whom a call wakes isn't kept before its result is told
+-- whom a call wakes is kept where its result was told
+pub kept_told : (about : About) (kernel : Kernel) (notes : Notes) (solo : Solo) (slot number : ℕ) (call : PendingCall) (own : OwnCall)
+    → OwnThere about kernel notes solo slot number call own → (woken : ℕ) → get notes.numbering.wakes slot ≡ Some woken → WasTold own.phase
+kept_told about kernel notes solo slot number call own h woken is =
+    let its = h.tied.kept slot woken is in
+    let numbers : its.number ≡ number = some_number its.number number (sym its.has ∙ h.has) in
+    let same : its.own ≡ own = same_own its.own own (sym its.of_number ∙ ap (λ n. get solo.calls n) numbers ∙ h.of_number) in
+    subst (λ (o : OwnCall). WasTold o.phase) same its.told
+
+-- and not before that
 untold_none : (about : About) (kernel : Kernel) (notes : Notes) (solo : Solo) (slot number : ℕ) (call : PendingCall) (own : OwnCall)
     → OwnThere about kernel notes solo slot number call own → (WasTold own.phase → ⊥) → get notes.numbering.wakes slot ≡ None
 untold_none about kernel notes solo slot number call own h untold = by_kept (get notes.numbering.wakes slot) refl
   where
     by_kept : (kept : Option ℕ) → get notes.numbering.wakes slot ≡ kept → kept ≡ None
     by_kept None is = refl
-    by_kept (Some woken) is =
-        let its = h.tied.kept slot woken is in
-        let numbers : its.number ≡ number = some_number its.number number (sym its.has ∙ h.has) in
-        let same : its.own ≡ own = same_own its.own own (sym its.of_number ∙ ap (λ n. get solo.calls n) numbers ∙ h.of_number) in
-        absurd (untold (subst (λ (o : OwnCall). WasTold o.phase) same its.told))
+    by_kept (Some woken) is = absurd (untold (kept_told about kernel notes solo slot number call own h woken is))
 
 nobody_kept : (kept : Option ℕ) (P : Type 0) → kept ≡ None → (woken : ℕ) → kept ≡ Some woken → P
 nobody_kept kept P none woken is = let no : None ≡ Some woken = sym none ∙ is in absurd cc

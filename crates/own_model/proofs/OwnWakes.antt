@@ -40,7 +40,7 @@ first_alike numbers instance (waiter ∷ waiters) waiting order =
     by_test (number ∷ line) true rest e = cc
     by_test line false rest e = rest e
 
-held_alike : (numbers : NumberMap ℕ) (kept own : Option Instance) → FoundAlike numbers kept own → option_map_or is_held kept false ≡ option_map_or is_held own false
+pub held_alike : (numbers : NumberMap ℕ) (kept own : Option Instance) → FoundAlike numbers kept own → option_map_or is_held kept false ≡ option_map_or is_held own false
 held_alike numbers None None alike = refl
 held_alike numbers (Some kept) (Some own) alike = by_holder kept.holder own.holder alike.holders
   where

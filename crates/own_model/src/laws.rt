@@ -1,7 +1,7 @@
 //! What holds of the definitions themselves.
 ghost use Rattle.own_model.specs.Examples.{Examples};
 ghost use Rattle.own_model.specs.Laws.{FixedKeepTied, InterruptsKeepTied, OtherCallsKeepTied, OtherExitsKeepTied, OtherResumesKeepTied, OwnCallsKeepTied};
-ghost use Rattle.own_model.specs.Laws.{MoreStepsAgree, OwnExitsKeepTied, StaysInOrder};
+ghost use Rattle.own_model.specs.Laws.{MoreStepsAgree, OwnExitsKeepTied, OwnResumesKeepTied, StaysInOrder};
 ghost use Rattle.own_model.specs.Laws.{OwnOpensTie};
 
 /// A fixed answer leaves a kernel and the machine of each session tied: nothing happens to the machine, but where the
@@ -45,6 +45,12 @@ pub fn own_calls_keep_sessions()
 /// call goes out with the same.
 pub fn own_exits_keep_sessions()
     ensures { OwnExitsKeepTied }
+{}
+
+/// And a resume of a call of the session, where its application shares no instance: the machine's call sees that it was
+/// cancelled, and is given the same.
+pub fn own_resumes_keep_sessions()
+    ensures { OwnResumesKeepTied }
 {}
 
 /// A session's machine stays in order, whatever happens to it.

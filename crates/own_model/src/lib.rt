@@ -15,8 +15,8 @@ pub use isolation::{same_events_get_same_replies, sessions_are_answered_as_alone
 pub use laws::{
     calls_of_others_keep_sessions, exits_of_others_keep_sessions, fixed_answers_keep_sessions,
     interrupts_keep_sessions, machines_stay_in_order, more_steps_agree, opens_tie_sessions,
-    own_calls_keep_sessions, own_exits_keep_sessions, resumes_of_others_keep_sessions,
-    worked_examples,
+    own_calls_keep_sessions, own_exits_keep_sessions, own_resumes_keep_sessions,
+    resumes_of_others_keep_sessions, worked_examples,
 };
 pub use own_event::{BackInput, OwnEvent, OwnInput};
 pub use own_reply::OwnReply;
