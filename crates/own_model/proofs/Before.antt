@@ -27,9 +27,10 @@ use Rattle.kernel_model.specs.NewCall.{NewCall, cancels, keeps_buffers, named_se
 use Rattle.kernel_model.specs.Sound.{call_at}
 use Rattle.kernel_model.specs.SoundNumbers.{AreNumbered}
 use Rattle.kernel_model.proofs.Parts.{if-both, map_or-both}
-use Rattle.own_model.proofs.Lookups.{apart_numbers, find-all}
+use Rattle.own_model.proofs.Lookups.{app_named}
 use Rattle.own_model.proofs.NewCalls.{OfAllEndings}
 use Rattle.own_model.proofs.NewEntries.{IsTaken, new_call_noted, new_call_taken}
+use Rattle.own_model.proofs.NotedCalls.{not_both, other_unnoted, same_event, untold_unnoted}
 use Rattle.own_model.proofs.OtherCalls.{named_parts}
 use Rattle.own_model.proofs.OwnOpens.{TakesOpen, begun_by, opened_solo, opens_tied}
 use Rattle.own_model.proofs.BelowNumbers.{AreBelow, IsBelow, below_numbers}
@@ -66,11 +67,6 @@ record Early (session : ℕ) (slots : List ThreadSlot) (c : NewCall) : Type 0 wh
   below : AreBelow slots c.tables
   before : c.tables.next_session ≤ session
 
--- a call of a lower number isn't the session's
-not_its : (session : ℕ) (call : PendingCall) → (call.session ≡ session → ⊥) → event_of session call ≡ None
-not_its session call apart =
-    ap (λ b. if b then event_in call.settled call.kind call.phase else None) (apart_numbers call.session session apart (call.session == session) refl)
-
 lower : (a n m : ℕ) → a < n → n ≤ m → a ≡ m → ⊥
 lower a n m lt le e = grind (arith)
 
@@ -78,7 +74,7 @@ untold : (session : ℕ) (slots : List ThreadSlot) (c : NewCall) (taken : Taken)
     → event_of session taken.call ≡ (if taken.call.session == session then None else None) → taken.tables.next_session ≡ c.tables.next_session
     → Coming c.boot session slots c.slot c.tables taken
 untold session slots c taken early of next =
-    Another (of ∙ if-both (λ (o : Option OwnEvent). o ≡ None) (taken.call.session == session) None None refl refl)
+    Another (untold_unnoted session taken.call of)
     (subst (λ n. n ≤ session) (sym next) early.before)
 
 -- a call in a session that is there
@@ -88,7 +84,7 @@ in_another : (session : ℕ) (slots : List ThreadSlot) (c : NewCall) (named : Se
 in_another session slots c named taken early is of next =
     let there = (named_parts c named is).0 in
     let below = All-get (λ (kept : ℕ × Session). IsBelow c.tables kept.0 kept.1.instance) c.tables.sessions c.head.session named.0 early.below.sessions there in
-    Another (not_its session taken.call (λ e. lower c.head.session c.tables.next_session session below.0 early.before (sym of ∙ e)))
+    Another (other_unnoted session taken.call (λ e. lower c.head.session c.tables.next_session session below.0 early.before (sym of ∙ e)))
     (subst (λ n. n ≤ session) (sym next) early.before)
 
 -- an open
@@ -101,16 +97,6 @@ next_is_less n m le e = grind (arith, nat_tests)
 tied_numbers : (n m : ℕ) → (n == m) ≡ true → n ≡ m
 tied_numbers n m e = grind (arith, nat_tests)
 
-named_by : (boot : Booted) (uuid : List ℕ) (of : Application) → app_of boot uuid ≡ Some of → app_of boot (uuid_of of) ≡ Some of
-named_by boot uuid of is =
-    let passes = find-all (λ (any : Application). Unit {0}) (λ (any : Application). bytes_eq (uuid_of any) uuid) boot.apps of (all_any boot.apps) is in
-    let named : uuid_of of ≡ uuid = (bytes_eq-Decides (uuid_of of) uuid).0 passes.passes in
-    ap (λ u. app_of boot u) named ∙ is
-  where
-    all_any : (xs : List Application) → All (λ (any : Application). Unit {0}) xs
-    all_any [] = All-nil (λ (any : Application). Unit {0})
-    all_any (x ∷ xs) = All-cons (λ (any : Application). Unit {0}) x xs tt (all_any xs)
-
 begins_one : (session : ℕ) (slots : List ThreadSlot) (c : NewCall) (wanted : Opening) (of : Application) (copies : Copies) → Early session slots c
     → app_of c.boot wanted.uuid ≡ Some of → (test : Bool) → (c.tables.next_session == session) ≡ test
     → Coming c.boot session slots c.slot c.tables (opens c wanted of copies)
@@ -121,7 +107,7 @@ begins_one session slots c wanted of copies early is true same =
       login = (begun_by c wanted of copies).job.login;
       is_next = sym (tied_numbers c.tables.next_session session same);
       is_now = next_is_more c.tables.next_session session (tied_numbers c.tables.next_session session same);
-      of_boot = named_by c.boot wanted.uuid of is;
+      of_boot = ap (λ u. app_of c.boot u) (app_named c.boot wanted.uuid of is) ∙ is;
       uuid = refl;
       noted = ap (λ b. if b then Some (Open (params_of (begun_by c wanted of copies).job) (begun_by c wanted of copies).job.login) else None) same;
       tied = λ alone. opens_tied c wanted of copies slots early.free early.below alone;
@@ -197,27 +183,18 @@ open_comes : (boot : Booted) (app : Application) (most : ℕ) (kernel next : Ker
     → SharesNone boot app → Coming boot kernel.tables.next_session kernel.slots slot kernel.tables taken → taken.call ≡ now
     → after_decision kernel visit (Takes slot taken) ≡ next → event_of kernel.tables.next_session taken.call ≡ Some came → taken.call.uuid ≡ Some (uuid_of app)
     → GoesAlong (about_next app most kernel) no_notes unopened next (numbered no_notes slot now came)
-open_comes boot app most kernel next visit slot now came taken shares (Another none lower) is gives noted uuid = absurd (nothing came (sym none ∙ noted))
-  where
-    nothing : (some : OwnEvent) → None ≡ Some some → ⊥
-    nothing some e = cc
-open_comes boot app most kernel next visit slot now came taken shares (Shares none more) is gives noted uuid = absurd (nothing came (sym none ∙ noted))
-  where
-    nothing : (some : OwnEvent) → None ≡ Some some → ⊥
-    nothing some e = cc
+open_comes boot app most kernel next visit slot now came taken shares (Another none lower) is gives noted uuid = not_both came (sym none ∙ noted)
+open_comes boot app most kernel next visit slot now came taken shares (Shares none more) is gives noted uuid = not_both came (sym none ∙ noted)
 open_comes boot app most kernel next visit slot now came taken shares (ItsOpen o) is gives noted uuid =
     let same : o.of ≡ app = same_open boot app o.of shares o.of_boot (sym o.uuid ∙ uuid) in
     let alone : is_single o.of ≡ false = ap is_single same ∙ shares.shares_none in
     let takes : TakesOpen app kernel.slots slot kernel.tables taken o.params o.login =
     subst (λ (a : Application). TakesOpen a kernel.slots slot kernel.tables taken o.params o.login) same (o.tied alone) in
-    let its : Open o.params o.login ≡ came = some_event (Open o.params o.login) came (sym o.noted ∙ noted) in
+    let its : Open o.params o.login ≡ came = same_event (Open o.params o.login) came (sym o.noted ∙ noted) in
     subst (λ (came_in : OwnEvent). GoesAlong (about_next app most kernel) no_notes unopened next (numbered no_notes slot now came_in)) its
     (subst (λ (call : PendingCall). GoesAlong (about_next app most kernel) no_notes unopened next (numbered no_notes slot call (Open o.params o.login))) is
     (subst (λ (k : Kernel). GoesAlong (about_next app most kernel) no_notes unopened k (numbered no_notes slot taken.call (Open o.params o.login))) gives
     (open_along app most kernel visit slot taken o.params o.login takes)))
-  where
-    some_event : (a b : OwnEvent) → Some a ≡ Some b → a ≡ b
-    some_event a b e = cc
 
 no_more : (n : ℕ) → n ≤ n
 no_more n = omega arith

@@ -9,6 +9,7 @@ pub mod WaitersLeft
 pub mod OtherResumes
 pub mod Tests
 pub mod Lookups
+pub mod NotedCalls
 pub mod OtherCalls
 pub mod NewCalls
 pub mod NewEntries

@@ -1,10 +1,13 @@
 -- What a search finds, and what is in the lowest free slot.
 use Rattle.std.proofs.Common.{◌≡◌, ℕ, Bool, true, false, cond, List, [], ◌∷◌, ◌++◌, Option, Some, refl, ap, subst, ◌∙◌, arith}
-use Rattle.std.specs.Prelude.{◌==◌, All, find}
+use Rattle.std.specs.Prelude.{◌==◌, All, bytes_eq, find}
 use Rattle.std.proofs.lemmas.Bool.Decides.{nat_tests}
-use Rattle.std.proofs.lemmas.List.Elements.{All-head, All-tail, filter-append}
+use Rattle.std.proofs.lemmas.List.Elements.{All-cons, All-head, All-nil, All-tail, filter-append}
 use Rattle.std.proofs.lemmas.List.{append-nil}
+use Rattle.std.proofs.lemmas.Slice.Eq.{bytes_eq-Decides}
 use Rattle.session_table.specs.declared.waiters.Waiter.{Waiter}
+use Rattle.kernel_model.specs.Application.{Application, Booted, uuid_of}
+use Rattle.kernel_model.specs.Instances.{app_of}
 use Rattle.own_model.specs.Tied.{waiting_for}
 
 -- an element that passes the test, of which what holds of all holds
@@ -25,6 +28,18 @@ pub find-all : {X : Type 0} (P : X → Type 0) (test : X → Bool) (xs : List X)
 find-all P test [] x all e = absurd cc
 find-all P test (first ∷ xs) x all e =
     found_by P test first (find test xs) x (test first) refl (All-head P first xs all) (find-all P test xs x (All-tail P first xs all)) e
+
+-- ---- applications
+
+all_any : (apps : List Application) → All (λ (any : Application). Unit {0}) apps
+all_any [] = All-nil (λ (any : Application). Unit {0})
+all_any (app ∷ apps) = All-cons (λ (any : Application). Unit {0}) app apps tt (all_any apps)
+
+-- the application of a UUID has it
+pub app_named : (boot : Booted) (uuid : List ℕ) (of : Application) → app_of boot uuid ≡ Some of → uuid_of of ≡ uuid
+app_named boot uuid of is =
+    let passes = find-all (λ (any : Application). Unit {0}) (λ (any : Application). bytes_eq (uuid_of any) uuid) boot.apps of (all_any boot.apps) is in
+    (bytes_eq-Decides (uuid_of of) uuid).0 passes.passes
 
 -- ---- those that wait
 

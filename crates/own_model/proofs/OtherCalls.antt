@@ -24,7 +24,7 @@ use Rattle.kernel_model.specs.Kernel.{Instance, PendingCall, Tables}
 use Rattle.kernel_model.specs.NewCall.{About, NewCall, beginner, cancels, closes, invokes, keeps_buffers, named_session, no_copies, open_waits, opens, opens_or_waits, runs_in, settles, settles_invoke, settles_open, shared_by, waits_in, with_session, opener}
 use Rattle.kernel_model.specs.Sessions.{opened_by}
 use Rattle.kernel_model.proofs.Parts.{if-both, option_map_some}
-use Rattle.own_model.proofs.Lookups.{another_waits, find-all, waiter-all}
+use Rattle.own_model.proofs.Lookups.{another_waits, app_named, find-all, waiter-all}
 use Rattle.own_model.proofs.Maps.{get-insert-other, get-inserted}
 use Rattle.own_model.proofs.NewCalls.{OfAllEndings}
 use Rattle.own_model.proofs.Others.{KeepsTables}
@@ -231,8 +231,7 @@ closes_other app whose c named b is =
 shared_apart : (app : Application) (whose : Whose) (c : NewCall) (uuid : List ℕ) (of : Application) → Beside app whose c
     → app_of c.boot uuid ≡ Some of → is_single of ≡ true → uuid_of of ≡ uuid_of app → ⊥
 shared_apart app whose c uuid of b found shares same =
-    let passes = find-all (λ (any : Application). Unit {0}) (λ (any : Application). bytes_eq (uuid_of any) uuid) c.boot.apps of (all_any c.boot.apps) found in
-    let named : uuid_of of ≡ uuid = (bytes_eq-Decides (uuid_of of) uuid).0 passes.passes in
+    let named : uuid_of of ≡ uuid = app_named c.boot uuid of found in
     let again : app_of c.boot (uuid_of app) ≡ Some of = ap (λ u. app_of c.boot u) (sym same ∙ named) ∙ found in
     let is : app ≡ of = some_app app of (sym b.of_boot ∙ again) in
     let single : is_single app ≡ true = ap is_single is ∙ shares in
@@ -240,10 +239,6 @@ shared_apart app whose c uuid of b found shares same =
   where
     some_app : (x y : Application) → Some x ≡ Some y → x ≡ y
     some_app x y e = cc
-
-    all_any : (xs : List Application) → All (λ (any : Application). Unit {0}) xs
-    all_any [] = All-nil (λ (any : Application). Unit {0})
-    all_any (x ∷ xs) = All-cons (λ (any : Application). Unit {0}) x xs tt (all_any xs)
 
 if_true : {A : Type 0} (test : Bool) (o : Option A) (a : A) → (if test then o else None) ≡ Some a → (test ≡ true) × (o ≡ Some a)
 if_true true o a e = (refl, e)

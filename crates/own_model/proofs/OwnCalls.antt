@@ -30,6 +30,7 @@ use Rattle.kernel_model.proofs.Parts.{if-both, map_or-both}
 use Rattle.own_model.proofs.Lookups.{apart_numbers}
 use Rattle.own_model.proofs.Maps.{get-insert-same}
 use Rattle.own_model.proofs.NewCalls.{OfAllEndings}
+use Rattle.own_model.proofs.NotedCalls.{not_both, noted_is, other_unnoted, same_event, untold_unnoted}
 use Rattle.own_model.proofs.OtherCalls.{less, named_parts}
 use Rattle.own_model.proofs.OwnSessions.{none_without_own}
 use Rattle.own_model.proofs.OwnTaken.{TakesOwn, instance_stays, waiters_grow, waiters_stay, with_next}
@@ -64,30 +65,10 @@ abbrev pub IfNoted : Application → ℕ → Whose → List ThreadSlot → Solo 
 IfNoted app most whose slots z slot before taken =
     (came : OwnEvent) → event_of whose.session taken.call ≡ Some came → ComesIn app most whose slots z slot before taken came
 
--- ---- which events are noted
-
 -- none is noted, so that nothing is to be shown
-pub unnoted : (app : Application) (most : ℕ) (whose : Whose) (slots : List ThreadSlot) (z : Solo) (c : NewCall) (taken : Taken)
+unnoted : (app : Application) (most : ℕ) (whose : Whose) (slots : List ThreadSlot) (z : Solo) (c : NewCall) (taken : Taken)
     → event_of whose.session taken.call ≡ None → IfNoted app most whose slots z c.slot c.tables taken
-unnoted app most whose slots z c taken none = λ came noted. nothing came (sym none ∙ noted)
-  where
-    nothing : (came : OwnEvent) → None ≡ Some came → ComesIn app most whose slots z c.slot c.tables taken came
-    nothing came e = absurd cc
-
--- what is noted is of the session
-pub noted_is : (number session : ℕ) (found : Option OwnEvent) (came : OwnEvent) → (if number == session then found else None) ≡ Some came
-    → (number ≡ session) × (found ≡ Some came)
-noted_is number session found came e = by_test (number == session) refl e
-  where
-    same : (a b : ℕ) → (a == b) ≡ true → a ≡ b
-    same a b is = grind (arith, nat_tests)
-
-    by_test : (test : Bool) → (number == session) ≡ test → (if test then found else None) ≡ Some came → (number ≡ session) × (found ≡ Some came)
-    by_test true is noted = (same number session is, noted)
-    by_test false is noted = absurd cc
-
-same_event : (a b : OwnEvent) → Some a ≡ Some b → a ≡ b
-same_event a b e = cc
+unnoted app most whose slots z c taken none = λ came noted. not_both came (sym none ∙ noted)
 
 -- ---- calls that are settled in the session
 
@@ -468,7 +449,7 @@ closes_own app most whose slots z c named w is =
 untold_own : (app : Application) (most : ℕ) (whose : Whose) (slots : List ThreadSlot) (z : Solo) (c : NewCall) (taken : Taken)
     → event_of whose.session taken.call ≡ (if taken.call.session == whose.session then None else None) → IfNoted app most whose slots z c.slot c.tables taken
 untold_own app most whose slots z c taken of =
-    unnoted app most whose slots z c taken (of ∙ if-both (λ (o : Option OwnEvent). o ≡ None) (taken.call.session == whose.session) None None refl refl)
+    unnoted app most whose slots z c taken (untold_unnoted whose.session taken.call of)
 
 -- an open gets another session's number
 opened_own : (app : Application) (most : ℕ) (whose : Whose) (slots : List ThreadSlot) (z : Solo) (c : NewCall) (taken : Taken) → Within app whose slots z c
@@ -476,9 +457,7 @@ opened_own : (app : Application) (most : ℕ) (whose : Whose) (slots : List Thre
 opened_own app most whose slots z c taken w next =
     let apart : taken.call.session ≡ whose.session → ⊥ =
     λ same. less whose.session c.tables.next_session w.tied.given.session_given (sym next ∙ same) in
-    unnoted app most whose slots z c taken
-    (ap (λ b. if b then event_in taken.call.settled taken.call.kind taken.call.phase else None)
-    (apart_numbers taken.call.session whose.session apart (taken.call.session == whose.session) refl))
+    unnoted app most whose slots z c taken (other_unnoted whose.session taken.call apart)
 
 pub endings_own : (app : Application) (most : ℕ) (whose : Whose) (slots : List ThreadSlot) (z : Solo) (c : NewCall) → Within app whose slots z c
     → OfAllEndings (IfNoted app most whose slots z c.slot c.tables) c

@@ -26,8 +26,8 @@ use Rattle.own_model.proofs.EventKinds.{EntryKind, HasAnswer, IsNewCall, IsResum
 use Rattle.own_model.proofs.Lookups.{apart_numbers}
 use Rattle.own_model.proofs.NewCalls.{OfAllEndings}
 use Rattle.own_model.proofs.NewEntries.{new_call_noted, new_call_taken}
+use Rattle.own_model.proofs.NotedCalls.{not_both, noted_is, other_unnoted, same_event, untold_unnoted}
 use Rattle.own_model.proofs.OtherCalls.{less}
-use Rattle.own_model.proofs.OwnCalls.{noted_is}
 use Rattle.own_model.specs.declared.own_event.OwnEvent.{OwnEvent}
 use Rattle.own_model.specs.Own.{Entering, Notes, Resuming, back_noted, entry_noted, event_in, event_noted, event_of, exit_noted, is_limit, is_of_client, numbered, out_noted, reply_of, resume_noted, seen_noted, slot_noted, uuid_by, with_reply, woken_in}
 
@@ -38,22 +38,15 @@ record KeepsNamed (session : ℕ) (call : PendingCall) : Type 0 where
   keeps : (came : OwnEvent) → event_of session call ≡ Some came → (notes : Notes) → uuid_by came call notes ≡ notes.uuid
 
 nothing_noted : (session : ℕ) (call : PendingCall) → event_of session call ≡ None → KeepsNamed session call
-nothing_noted session call none = record { keeps = λ came noted. absurd (nothing came (sym none ∙ noted)) }
-  where
-    nothing : (some : OwnEvent) → None ≡ Some some → ⊥
-    nothing some e = cc
+nothing_noted session call none = record { keeps = λ came noted. not_both came (sym none ∙ noted) }
 
 untold : (session : ℕ) (call : PendingCall) → event_of session call ≡ (if call.session == session then None else None) → KeepsNamed session call
-untold session call of =
-    nothing_noted session call (of ∙ if-both (λ (o : Option OwnEvent). o ≡ None) (call.session == session) None None refl refl)
+untold session call of = nothing_noted session call (untold_unnoted session call of)
 
 -- an open gets a later number
 another : (session : ℕ) (c : NewCall) (call : PendingCall) → session < c.tables.next_session → call.session ≡ c.tables.next_session → KeepsNamed session call
 another session c call given next =
-    let apart : call.session ≡ session → ⊥ = λ same. less session c.tables.next_session given (sym next ∙ same) in
-    nothing_noted session call
-    (ap (λ b. if b then event_in call.settled call.kind call.phase else None)
-    (apart_numbers call.session session apart (call.session == session) refl))
+    nothing_noted session call (other_unnoted session call (λ same. less session c.tables.next_session given (sym next ∙ same)))
 
 -- an event of another kind
 other_kind : (session : ℕ) (call : PendingCall) (found : OwnEvent) → event_of session call ≡ (if call.session == session then Some found else None)
@@ -61,11 +54,8 @@ other_kind : (session : ℕ) (call : PendingCall) (found : OwnEvent) → event_o
 other_kind session call found of same_uuid = record {
   keeps = λ came noted notes.
       let is = (noted_is call.session session (Some found) came (sym of ∙ noted)).1 in
-      ap (λ (f : OwnEvent). uuid_by f call notes) (same found came is) ∙ same_uuid notes;
+      ap (λ (f : OwnEvent). uuid_by f call notes) (sym (same_event found came is)) ∙ same_uuid notes;
 }
-  where
-    same : (a b : OwnEvent) → Some a ≡ Some b → b ≡ a
-    same a b e = cc
 
 never_opens : (session : ℕ) (c : NewCall) → session < c.tables.next_session → OfAllEndings (λ (taken : Taken). KeepsNamed session taken.call) c
 never_opens session c given = record {

@@ -136,11 +136,12 @@ OwnResumesKeepTied = (boot : Booted) (about : About) (kernel next : Kernel) (cpu
 
 -- with a new call of the session, other than the open, which came before: the machine does the same with its event
 abbrev pub OwnCallsKeepTied : Type 0
-OwnCallsKeepTied = (boot : Booted) (about : About) (kernel next : Kernel) (cpu steps slot : ℕ) (regs : Regs) (reads : List Read)
-    (now : PendingCall) (came : OwnEvent) (notes : Notes) (solo : Solo) → SharesNone boot about.app → call_of (reg regs.a 0) ≡ WithArg →
-    slice_get next.processors cpu ≡ Some (Inside regs.a steps (InSlot slot)) → slice_get next.slots slot ≡ Some (Active cpu now) →
-    event_of about.session now ≡ Some came → IsRising kernel.tables.sessions →
-    GoesAlongWith boot about kernel next (Entry cpu regs steps reads) notes solo
+OwnCallsKeepTied =
+    (boot : Booted) (about : About) (kernel next : Kernel) (cpu steps slot : ℕ) (regs : Regs) (reads : List Read)
+    (now : PendingCall) (came : OwnEvent) (notes : Notes) (solo : Solo) → SharesNone boot about.app →
+    call_of (reg regs.a 0) ≡ WithArg → slice_get next.processors cpu ≡ Some (Inside regs.a steps (InSlot slot)) →
+    slice_get next.slots slot ≡ Some (Active cpu now) → event_of about.session now ≡ Some came →
+    IsRising kernel.tables.sessions → GoesAlongWith boot about kernel next (Entry cpu regs steps reads) notes solo
 
 -- ---- the open of a session
 
@@ -155,9 +156,11 @@ about_next app most kernel = record {
 
 -- with the open of a session, which gets the next number: kernel and machine are tied from then on
 abbrev pub OwnOpensTie : Type 0
-OwnOpensTie = (boot : Booted) (app : Application) (most : ℕ) (kernel next : Kernel) (cpu steps slot : ℕ) (regs : Regs)
-    (reads : List Read) (now : PendingCall) (came : OwnEvent) → SharesNone boot app → AreNumbered (call_at kernel.slots) kernel.tables →
-    call_of (reg regs.a 0) ≡ WithArg → slice_get next.processors cpu ≡ Some (Inside regs.a steps (InSlot slot)) →
+OwnOpensTie =
+    (boot : Booted) (app : Application) (most : ℕ) (kernel next : Kernel) (cpu steps slot : ℕ) (regs : Regs)
+    (reads : List Read) (now : PendingCall) (came : OwnEvent) → SharesNone boot app →
+    AreNumbered (call_at kernel.slots) kernel.tables → call_of (reg regs.a 0) ≡ WithArg →
+    slice_get next.processors cpu ≡ Some (Inside regs.a steps (InSlot slot)) →
     slice_get next.slots slot ≡ Some (Active cpu now) → event_of kernel.tables.next_session now ≡ Some came →
     now.uuid ≡ Some (uuid_of app) → after_event boot kernel (Entry cpu regs steps reads) ≡ Some next →
     GoesAlong (about_next app most kernel) no_notes unopened next
