@@ -1,10 +1,8 @@
 -- New calls before the open of a session and with it.
 use Rattle.std.proofs.Common.{◌≡◌, ℕ, ◌+◌, ◌<◌, ◌≤◌, Bool, true, false, List, [], ◌∷◌, Option, Some, None, refl, ap, subst, sym, ◌∙◌, arith}
-use Rattle.std.specs.Prelude.{All, ◌==◌, bytes_eq, if◌then◌else◌, slice_get}
+use Rattle.std.specs.Prelude.{◌==◌, if◌then◌else◌, slice_get}
 use Rattle.std.specs.Option.{option_map_or}
 use Rattle.std.proofs.lemmas.Bool.Decides.{nat_tests}
-use Rattle.std.proofs.lemmas.List.Elements.{All-cons, All-nil}
-use Rattle.std.proofs.lemmas.Slice.Eq.{bytes_eq-Decides}
 use Rattle.base.proofs.MapLemmas.{All-get}
 use Rattle.event_journal.specs.declared.event.Event.TheVariants.{Entry}
 use Rattle.ns_ram.specs.declared.read.Read.{Read}
@@ -38,7 +36,7 @@ use Rattle.own_model.specs.declared.own_event.OwnEvent.{OwnEvent}
 use Rattle.own_model.specs.declared.own_event.OwnEvent.TheVariants.{Open}
 use Rattle.own_model.specs.Laws.{GoesAlong, SharesNone, about_next}
 use Rattle.own_model.specs.Parameters.{params_of}
-use Rattle.own_model.specs.Own.{event_in, event_noted, event_of, no_notes, numbered}
+use Rattle.own_model.specs.Own.{event_noted, event_of, no_notes, numbered}
 use Rattle.own_model.specs.Solo.{unopened}
 
 -- ---- what comes in

@@ -2,7 +2,6 @@
 use Rattle.std.proofs.Common.{◌≡◌, ℕ, ◌≤◌, Bool, true, false, List, [], ◌∷◌, ◌++◌, Option, Some, None, refl, ap, subst, sym, ◌∙◌, arith}
 use Rattle.std.specs.Prelude.{◌||◌, ◌&&◌, ◌==◌, if◌then◌else◌, is_some, slice_get}
 use Rattle.std.specs.Option.{option_map, option_map_or, option_and_then}
-use Rattle.std.proofs.lemmas.Bool.Decides.{nat_tests}
 use Rattle.base.specs.NumberMap.{NumberMap, IsRising, get, insert, remove}
 use Rattle.base.proofs.MapLemmas.{All-get, All-insert}
 use Rattle.job_model.specs.Beginning.{OfImage, OfRelation, Program, begun_job}
@@ -27,7 +26,6 @@ use Rattle.kernel_model.specs.NewCall.{NewCall, about_session, beginner, call_ab
 use Rattle.kernel_model.specs.NewCall as new
 use Rattle.kernel_model.specs.Sessions.{has_opened}
 use Rattle.kernel_model.proofs.Parts.{if-both, map_or-both}
-use Rattle.own_model.proofs.Lookups.{apart_numbers}
 use Rattle.own_model.proofs.Maps.{get-insert-same}
 use Rattle.own_model.proofs.NewCalls.{OfAllEndings}
 use Rattle.own_model.proofs.NotedCalls.{not_both, noted_is, other_unnoted, same_event, untold_unnoted}
@@ -38,7 +36,7 @@ use Rattle.own_model.specs.declared.own_event.OwnEvent.{OwnEvent}
 use Rattle.own_model.specs.declared.own_event.OwnEvent.TheVariants as event
 use Rattle.own_model.specs.declared.own_event.OwnInput.{OwnInput}
 use Rattle.own_model.specs.declared.own_event.OwnInput.TheVariants.{Copied, Faulty, Unread}
-use Rattle.own_model.specs.Own.{Notes, event_in, event_of, uuid_by}
+use Rattle.own_model.specs.Own.{Notes, event_of, uuid_by}
 use Rattle.own_model.specs.Parameters.{params_of}
 use Rattle.own_model.specs.Solo.{OwnCall, OwnSession, Solo, Start, counted, fresh_call, home, invokes_with, job_of, points_of, settles, silent, start_with, step, waits, begins}
 use Rattle.own_model.specs.Solo as solo

@@ -26,9 +26,10 @@ use Rattle.own_model.proofs.OtherResumes.{other_resume}
 use Rattle.own_model.proofs.OwnEntries.{own_call}
 use Rattle.own_model.proofs.OwnExits.{own_exit}
 use Rattle.own_model.proofs.OwnInterrupts.{own_interrupt}
+use Rattle.own_model.proofs.OwnResumes.{own_resume}
 use Rattle.own_model.specs.declared.own_event.OwnEvent.{OwnEvent}
 use Rattle.own_model.specs.InOrder.{IsInOrder}
-use Rattle.own_model.specs.Laws.{About, AreTied, GoesAlong, OwnResumesKeepTied, SharesNone}
+use Rattle.own_model.specs.Laws.{About, AreTied, GoesAlong, SharesNone}
 use Rattle.own_model.specs.Own.{Notes, event_noted, event_of}
 use Rattle.own_model.specs.Solo.{Solo}
 
@@ -85,24 +86,24 @@ pub record IsReady (about : About) (events : ℕ) (kernel : Kernel) (solo : Solo
 abbrev Along : Booted → About → Kernel → Kernel → Event → Notes → Solo → Type 0
 Along boot about kernel next happened notes solo = GoesAlong about notes solo next (event_noted about.session kernel next notes happened)
 
-entry_along : (resumes : OwnResumesKeepTied) (boot : Booted) (about : About) (events : ℕ) (kernel next : Kernel) (cpu steps : ℕ) (regs : Regs) (reads : List Read)
+entry_along : (boot : Booted) (about : About) (events : ℕ) (kernel next : Kernel) (cpu steps : ℕ) (regs : Regs) (reads : List Read)
     (notes : Notes) (solo : Solo) → SharesNone boot about.app → IsReady about events kernel solo → after_event boot kernel (Entry cpu regs steps reads) ≡ Some next
     → AreTied about kernel notes solo → EntryKind kernel next cpu steps regs → Along boot about kernel next (Entry cpu regs steps reads) notes solo
-entry_along resumes boot about events kernel next cpu steps regs reads notes solo shares ready e tied (HasAnswer answer inside) =
+entry_along boot about events kernel next cpu steps regs reads notes solo shares ready e tied (HasAnswer answer inside) =
     fixed_keep_tied.entry boot about kernel next cpu steps regs reads answer inside notes solo e tied
-entry_along resumes boot about events kernel next cpu steps regs reads notes solo shares ready e tied (IsNewCall slot now is inside there) =
+entry_along boot about events kernel next cpu steps regs reads notes solo shares ready e tied (IsNewCall slot now is inside there) =
     by_event (event_of about.session now) refl
   where
     by_event : (found : Option OwnEvent) → event_of about.session now ≡ found → Along boot about kernel next (Entry cpu regs steps reads) notes solo
     by_event None none = other_call boot about kernel next cpu steps slot regs reads now notes solo shares is inside there none e tied
     by_event (Some came) noted = own_call boot about kernel next cpu steps slot regs reads now came notes solo shares is inside there noted ready.rising e tied
-entry_along resumes boot about events kernel next cpu steps regs reads notes solo shares ready e tied (IsResume call is some inside) =
+entry_along boot about events kernel next cpu steps regs reads notes solo shares ready e tied (IsResume call is some inside) =
     by_number (get notes.numbering.in_slots (thread_in regs.a)) refl
   where
     by_number : (found : Option ℕ) → get notes.numbering.in_slots (thread_in regs.a) ≡ found → Along boot about kernel next (Entry cpu regs steps reads) notes solo
     by_number None none = other_resume boot about kernel next cpu steps regs reads call notes solo is some none e tied
     by_number (Some number) has =
-        resumes boot about kernel next cpu steps number regs reads call notes solo shares is some has ready.rising ready.order e tied
+        own_resume boot about kernel next cpu steps number regs reads call notes solo shares is some has ready.rising ready.order e tied
 
 exit_along : (boot : Booted) (about : About) (events : ℕ) (kernel next : Kernel) (cpu : ℕ) (regs : Regs) (notes : Notes) (solo : Solo)
     → IsReady about events kernel solo → after_event boot kernel (Exit cpu regs) ≡ Some next → AreTied about kernel notes solo → ExitKind kernel cpu
@@ -133,10 +134,10 @@ exit_along boot about events kernel next cpu regs notes solo ready e tied (FromC
     by_number None none = other_exit boot about kernel next cpu steps slot came regs notes solo inside none e tied
     by_number (Some number) has = by_leaving number (leaving_of slot progress.call) has refl
 
-pub event_along : (resumes : OwnResumesKeepTied) (boot : Booted) (about : About) (events : ℕ) (kernel next : Kernel) (happened : Event) (notes : Notes) (solo : Solo)
+pub event_along : (boot : Booted) (about : About) (events : ℕ) (kernel next : Kernel) (happened : Event) (notes : Notes) (solo : Solo)
     → SharesNone boot about.app → IsReady about events kernel solo → after_event boot kernel happened ≡ Some next → AreTied about kernel notes solo
     → GoesAlong about notes solo next (event_noted about.session kernel next notes happened)
-event_along resumes boot about events kernel next (Entry cpu regs steps reads) notes solo shares ready e tied =
-    entry_along resumes boot about events kernel next cpu steps regs reads notes solo shares ready e tied (entry_kind boot kernel next cpu steps regs reads e)
-event_along resumes boot about events kernel next (Exit cpu regs) notes solo shares ready e tied =
+event_along boot about events kernel next (Entry cpu regs steps reads) notes solo shares ready e tied =
+    entry_along boot about events kernel next cpu steps regs reads notes solo shares ready e tied (entry_kind boot kernel next cpu steps regs reads e)
+event_along boot about events kernel next (Exit cpu regs) notes solo shares ready e tied =
     exit_along boot about events kernel next cpu regs notes solo ready e tied (exit_kind boot kernel next cpu regs e)

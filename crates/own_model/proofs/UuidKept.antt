@@ -23,13 +23,12 @@ use Rattle.kernel_model.specs.NewCall as new
 use Rattle.kernel_model.specs.Resume.{suspended_for}
 use Rattle.kernel_model.proofs.Parts.{if-both, map_or-both}
 use Rattle.own_model.proofs.EventKinds.{EntryKind, HasAnswer, IsNewCall, IsResume, entry_kind}
-use Rattle.own_model.proofs.Lookups.{apart_numbers}
 use Rattle.own_model.proofs.NewCalls.{OfAllEndings}
 use Rattle.own_model.proofs.NewEntries.{new_call_noted, new_call_taken}
 use Rattle.own_model.proofs.NotedCalls.{not_both, noted_is, other_unnoted, same_event, untold_unnoted}
 use Rattle.own_model.proofs.OtherCalls.{less}
 use Rattle.own_model.specs.declared.own_event.OwnEvent.{OwnEvent}
-use Rattle.own_model.specs.Own.{Entering, Notes, Resuming, back_noted, entry_noted, event_in, event_noted, event_of, exit_noted, is_limit, is_of_client, numbered, out_noted, reply_of, resume_noted, seen_noted, slot_noted, uuid_by, with_reply, woken_in}
+use Rattle.own_model.specs.Own.{Entering, Notes, Resuming, back_noted, entry_noted, event_noted, event_of, exit_noted, is_limit, is_of_client, numbered, out_noted, reply_of, resume_noted, seen_noted, slot_noted, uuid_by, with_reply, woken_in}
 
 -- ---- new calls
 

@@ -24,7 +24,7 @@ use Rattle.own_model.specs.declared.own_event.OwnEvent.{OwnEvent}
 use Rattle.own_model.specs.declared.own_reply.OwnReply.{OwnReply}
 use Rattle.own_model.specs.InOrder.{IsInOrder}
 use Rattle.own_model.specs.Isolation.{AnsweredAsAlone, IsSessionOf, SameEventsSameReplies, steps_in}
-use Rattle.own_model.specs.Laws.{About, AreTied, OwnResumesKeepTied, SharesNone, about_next}
+use Rattle.own_model.specs.Laws.{About, AreTied, SharesNone, about_next}
 use Rattle.own_model.specs.Own.{Logged, Notes, event_noted, events_in, no_notes, noted, noted_from, own_events, own_replies, replies_in}
 use Rattle.own_model.specs.Solo.{Answered, Solo, and_reply, run, step, unopened}
 
@@ -147,12 +147,12 @@ goes_from : (boot : Booted) (session : ℕ) (kernel next : Kernel) (notes : Note
 goes_from boot session kernel next notes happened events e =
     ap (λ (o : Option Kernel). option_map_or (λ (k : Kernel). noted_from boot session k (event_noted session kernel k notes happened) events) o notes) e
 
-tied_on : (resumes : OwnResumesKeepTied) (boot : Booted) (about : About) (past : List Event) (kernel : Kernel) (notes : Notes) (solo : Solo) (events : List Event)
+tied_on : (boot : Booted) (about : About) (past : List Event) (kernel : Kernel) (notes : Notes) (solo : Solo) (events : List Event)
     → SharesNone boot about.app → IsInOrder solo → AreTied about kernel notes solo → IsAt boot about.most past kernel events
     → RunsAlong about.most about.app notes solo (noted_from boot about.session kernel notes events)
-tied_on resumes boot about past kernel notes solo [] shares order tied at =
+tied_on boot about past kernel notes solo [] shares order tied at =
     record { items = []; logged = sym (append-nil notes.log); then = solo; replies = refl }
-tied_on resumes boot about past kernel notes solo (happened ∷ events) shares order tied at =
+tied_on boot about past kernel notes solo (happened ∷ events) shares order tied at =
     let on = on_from boot about.most past kernel happened events at in
     let ready : IsReady about (length past) kernel solo = record {
       rising = (in_order boot past kernel at.there).sessions.rising;
@@ -161,11 +161,11 @@ tied_on resumes boot about past kernel notes solo (happened ∷ events) shares o
       order = order;
     } in
     let after : Notes = event_noted about.session kernel on.next notes happened in
-    let along = event_along resumes boot about (length past) kernel on.next happened notes solo shares ready on.comes tied in
+    let along = event_along boot about (length past) kernel on.next happened notes solo shares ready on.comes tied in
     let still = stays_in_order.runs about.most about.app solo along.then (events_in along.items) (replies_in along.items) order along.replies in
     subst (RunsAlong about.most about.app notes solo) (sym (goes_from boot about.session kernel on.next notes happened events on.comes))
     (runs_on about.most about.app notes after _ solo along.then along.items along.noted along.replies
-    (tied_on resumes boot about (past ++ happened ∷ []) on.next after along.then events shares still along.tied on.at))
+    (tied_on boot about (past ++ happened ∷ []) on.next after along.then events shares still along.tied on.at))
 
 -- ---- a session whose application shares an instance, or that has none
 
@@ -220,16 +220,16 @@ opened_answered boot most notes of uuid of_boot runs = λ app is alone.
           ∙ ap (λ (log : List Logged). Some (runs.then, replies_in log)) (sym runs.logged),
     )
 
-early_on : (resumes : OwnResumesKeepTied) (boot : Booted) (session most : ℕ) (past : List Event) (kernel : Kernel) (events : List Event)
+early_on : (boot : Booted) (session most : ℕ) (past : List Event) (kernel : Kernel) (events : List Event)
     → kernel.tables.next_session ≤ session → IsAt boot most past kernel events
     → IsAnswered boot most (noted_from boot session kernel no_notes events)
-early_on resumes boot session most past kernel [] before at = nameless_answered boot most no_notes refl
-early_on resumes boot session most past kernel (happened ∷ events) before at =
+early_on boot session most past kernel [] before at = nameless_answered boot most no_notes refl
+early_on boot session most past kernel (happened ∷ events) before at =
     let on = on_from boot most past kernel happened events at in
     let below = below_numbers kernel (numbered boot past kernel at.there) in
     subst (IsAnswered boot most) (sym (goes_from boot session kernel on.next no_notes happened events on.comes))
     (by_next on (event_noted session kernel on.next no_notes happened) (early_next boot session most kernel on.next happened below before on.comes)
-    (λ lower. early_on resumes boot session most (past ++ happened ∷ []) on.next events lower on.at))
+    (λ lower. early_on boot session most (past ++ happened ∷ []) on.next events lower on.at))
   where
     by_next : (on : IsOn boot most past kernel happened events) (now : Notes) → EarlyNext boot session most kernel on.next now
         → (on.next.tables.next_session ≤ session → IsAnswered boot most (noted_from boot session on.next no_notes events))
@@ -247,7 +247,7 @@ early_on resumes boot session most past kernel (happened ∷ events) before at =
         let order = stays_in_order.runs most of unopened along.then (events_in along.items) (replies_in along.items) stays_in_order.first along.replies in
         let rest : RunsAlong most of now along.then (noted_from boot session on.next now events) =
         subst (λ n. RunsAlong most of now along.then (noted_from boot n on.next now events)) (sym is_next)
-        (tied_on resumes boot about (past ++ happened ∷ []) on.next now along.then events
+        (tied_on boot about (past ++ happened ∷ []) on.next now along.then events
         (record { of_boot = of_boot; shares_none = alone }) order along.tied on.at) in
         let higher : session < on.next.tables.next_session = subst (λ n. n < on.next.tables.next_session) (sym is_next) along.tied.given.session_given in
         opened_answered boot most (noted_from boot session on.next now events) of
@@ -260,25 +260,25 @@ none_before : (n : ℕ) → 1000000 * (0 + n) ≤ 1000000 * n
 none_before n = omega arith
 
 -- where the first session has the number 1
-from_boot : (resumes : OwnResumesKeepTied) (boot : Booted) (session most : ℕ) (history : List Event) → IsAt boot most [] (first_kernel boot) history
+from_boot : (boot : Booted) (session most : ℕ) (history : List Event) → IsAt boot most [] (first_kernel boot) history
     → IsAnswered boot most (noted boot history session)
-from_boot resumes boot zero most history at =
+from_boot boot zero most history at =
     nameless_answered boot most (noted boot history zero) (uuid_on boot zero most [] (first_kernel boot) no_notes history (omega arith) at)
-from_boot resumes boot (suc n) most history at = early_on resumes boot (suc n) most [] (first_kernel boot) history (from_one n) at
+from_boot boot (suc n) most history at = early_on boot (suc n) most [] (first_kernel boot) history (from_one n) at
   where
     from_one : (m : ℕ) → 1 ≤ suc m
     from_one m = omega arith
 
-session_answered : (resumes : OwnResumesKeepTied) (boot : Booted) (history : List Event) (session : ℕ) (app : Application) → IsSessionOf boot history session app
+session_answered : (boot : Booted) (history : List Event) (session : ℕ) (app : Application) → IsSessionOf boot history session app
     → (then : Solo) × (run (steps_in history) app unopened (own_events boot history session) ≡ Some (then, own_replies boot history session))
-session_answered resumes boot history session app s =
+session_answered boot history session app s =
     let last = some_of (kernel_after boot history) s.legal.follows in
-    from_boot resumes boot session (steps_in history) history
+    from_boot boot session (steps_in history) history
     (record { last = last.0; there = refl; onward = last.1; bound = none_before (length history) }) app s.of_app s.shares_none
 
-pub answered_with : OwnResumesKeepTied → AnsweredAsAlone
-answered_with resumes boot history session app s =
-    let runs = session_answered resumes boot history session app s in
+pub answered_as_alone : AnsweredAsAlone
+answered_as_alone boot history session app s =
+    let runs = session_answered boot history session app s in
     ap (λ (o : Option Ended). option_map (λ (end : Ended). end.1) o) runs.1
 
 first_more : (a b : ℕ) → a ≤ a + b
@@ -287,10 +287,10 @@ first_more a b = omega arith
 second_more : (a b : ℕ) → b ≤ a + b
 second_more a b = omega arith
 
-pub same_replies_with : OwnResumesKeepTied → SameEventsSameReplies
-same_replies_with resumes boot another history other session number app s t same =
-    let one = session_answered resumes boot history session app s in
-    let two = session_answered resumes another other number app t in
+pub same_replies : SameEventsSameReplies
+same_replies boot another history other session number app s t same =
+    let one = session_answered boot history session app s in
+    let two = session_answered another other number app t in
     let most : ℕ = steps_in history + steps_in other in
     let first = more_steps_agree app (steps_in history) most unopened one.0 (own_events boot history session) (own_replies boot history session)
     (first_more (steps_in history) (steps_in other)) one.1 in

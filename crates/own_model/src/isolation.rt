@@ -1,15 +1,14 @@
 //! Isolation: what a session is answered depends on its own events alone.
 ghost use Rattle.own_model.specs.Isolation.{AnsweredAsAlone, SameEventsSameReplies};
-ghost use Rattle.own_model.specs.Laws.{OwnResumesKeepTied};
 
 /// After each legal history a session of an application whose sessions share no instance was answered as its machine
-/// answers to its events, where the machine goes along with the resumes of the session's calls.
+/// answers to its events.
 pub fn sessions_are_answered_as_alone()
-    ensures { OwnResumesKeepTied → AnsweredAsAlone }
+    ensures { AnsweredAsAlone }
 {}
 
 /// So two such sessions of one application to which the same has happened were answered the same, whatever else
 /// happened, in whichever two boots.
 pub fn same_events_get_same_replies()
-    ensures { OwnResumesKeepTied → SameEventsSameReplies }
+    ensures { SameEventsSameReplies }
 {}
