@@ -3,7 +3,7 @@
 //! The crate is one of definitions. `specs/` reads in the order of its modules: `Own` reads a session's events and
 //! replies off the kernels that a history goes through, `Solo` is the machine of one session, a function from its state
 //! and an event to the next state and a reply, and `Tied` says when a kernel and a machine do the same next. `laws` has
-//! what leaves them tied.
+//! what leaves them tied, and `isolation` what follows of whole histories.
 #![tactic(auto)]
 
 mod isolation;
