@@ -16,3 +16,5 @@ pub mod SoundMaps
 pub mod SoundNumbers
 pub mod SoundOrder
 pub mod SoundWaiters
+pub mod SoundJobs
+pub mod SoundRunning

@@ -19,6 +19,7 @@ pub mod Sound
 pub mod SoundNumbers
 pub mod SoundOrder
 pub mod SoundWaiters
+pub mod SoundJobs
 pub mod Worked
 pub mod AnswerExamples
 pub mod ResultExamples

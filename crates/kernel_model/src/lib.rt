@@ -16,6 +16,6 @@ pub use laws::{
     some_history_is_legal, worked_examples,
 };
 pub use soundness::{
-    numbers_are_given, numbers_rise, others_stay_away, processors_work_on_their_slots,
+    exits_come, numbers_are_given, numbers_rise, others_stay_away, processors_work_on_their_slots,
     slots_are_as_many, steps_are_granted, tables_are_in_order, waiters_are_calls,
 };

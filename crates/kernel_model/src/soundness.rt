@@ -3,6 +3,7 @@ ghost use Rattle.kernel_model.specs.Sound.{Always, AreAsMany, AreAtWork, OthersS
 ghost use Rattle.kernel_model.specs.SoundNumbers.{AreNumbered, NumbersRise};
 ghost use Rattle.kernel_model.specs.SoundOrder.{AreInOrder};
 ghost use Rattle.kernel_model.specs.SoundWaiters.{AreWaiters};
+ghost use Rattle.kernel_model.specs.SoundJobs.{ExitsCome};
 
 /// A processor that is inside for a slot works on its call, and the processor that works on a call is inside for its slot;
 /// a call is suspended for its own client.
@@ -43,4 +44,9 @@ pub fn tables_are_in_order()
 /// The waiters are the calls that wait, each once.
 pub fn waiters_are_calls()
     ensures { Always (λ boot kernel. AreWaiters (call_at kernel.slots) kernel.tables.waiters) }
+{}
+
+/// A processor that is inside has an exit.
+pub fn exits_come()
+    ensures { Always ExitsCome }
 {}
