@@ -60,11 +60,11 @@ fn take_some<S: Source>(
 
 /// Reads the input to its end, in which each turn takes at least one byte.
 pub fn read_input<S: Source>(alloc: Global, input: &mut S) -> Result<Vec<u8>, InputFault>
-    ensures taken { TakesAtMost (LONGEST_INPUT + 1) (S.left input.old) (S.left input.new) }
-    ensures whole { IfOk result (λ bytes. (vec_len bytes ≤ LONGEST_INPUT)
+    ensures taken { TakesAtMost 16777217 (S.left input.old) (S.left input.new) }
+    ensures whole { IfOk result (λ bytes. (vec_len bytes ≤ 16777216)
         × Moves (S.left input.old) (S.left input.new) bytes.items × IsAtEnd (S.left input.new)) }
     ensures failed { result ≡ Err InputFault.Failed → Rose (S.faults input.old) (S.faults input.new) }
-    ensures too_long { result ≡ Err InputFault.TooLong → IfSome (S.left input.old) (λ bytes. LONGEST_INPUT < length bytes) }
+    ensures too_long { result ≡ Err InputFault.TooLong → IfSome (S.left input.old) (λ bytes. 16777216 < length bytes) }
     ensures count { S.faults input.old ≤ S.faults input.new }
 {
     let mut bytes = Vec::new(alloc);

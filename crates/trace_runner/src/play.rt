@@ -10,8 +10,7 @@ use crate::line::ret_line;
 use crate::output::put_text;
 use ports::{Put, Sink};
 use smc_abi::{
-    Answer, CALL_WITH_ARG, Call, ERESUME, Regs, UNKNOWN_FUNCTION, decode_call, encode_answer,
-    fast_answer,
+    Answer, Call, ERESUME, Regs, UNKNOWN_FUNCTION, decode_call, encode_answer, fast_answer,
 };
 use std::alloc::Global;
 use trace_text::{Item, Reg, Trace};
@@ -47,7 +46,7 @@ fn registers(regs: &[Reg; 8]) -> Regs
 
 /// The registers after a call that was made with these.
 fn returned(threads: u8, regs: &Regs) -> Regs
-    requires { slice_index regs.now.a 0 ≢ CALL_WITH_ARG }
+    requires { slice_index regs.now.a 0 ≢ 0x32000004 }
     ensures { result.a ≡ returned regs.now.a (record { threads = threads }) }
 {
     let answer = match decode_call(regs) {
