@@ -14,6 +14,7 @@
 #![tactic(auto)]
 
 use anyhow::{Result, bail};
+use hex::FromHexError;
 use std::alloc::Global;
 use std::env;
 use std::io::{BufRead, BufReader, Read};
@@ -57,6 +58,7 @@ const NATIVE: &str = "3f0c7a11-52b8-4d6e-9a40-0e6b5d2c8f01";
 fn told(alloc: Global, read: Result<Trace, TraceFault>) -> Result<String> {
     match read {
         Ok(trace) => Ok(format!(in alloc; "{trace:?}")?),
+        Err(TraceFault::Memory) => bail!("out of memory"),
         Err(fault) => Ok(format!(in alloc; "{fault}")?),
     }
 }
@@ -69,6 +71,7 @@ fn text_verdict(alloc: Global, natives: &[Uuid], text: &[u8]) -> Result<String> 
     let told = told(alloc, read_trace(alloc, text, natives))?;
     match read_plain(alloc, text) {
         Ok(_) => Ok(format!(in alloc; "plain {told}")?),
+        Err(TraceFault::Memory) => bail!("out of memory"),
         Err(_) => Ok(told),
     }
 }
@@ -86,9 +89,11 @@ fn digits(alloc: Global, text: &str) -> Result<Vec<u8>> {
     let packed = text.replace(alloc, " ", "")?;
     match hex::decode(alloc, packed.as_bytes()) {
         Ok(bytes) => Ok(bytes),
+        Err(FromHexError::OutOfMemory) => bail!("out of memory"),
         Err(_) => bail!("no digits"),
     }
 }
+
 /// The names that stand for texts.
 type Names = Vec<(String, String)>;
 
@@ -106,8 +111,10 @@ fn written(alloc: Global, text: &str) -> Result<Vec<u8>> {
     if text.len() > MOST_BYTES {
         bail!("the text is too long");
     }
-    let Ok(trace) = read_trace(alloc, text.as_bytes(), &[]) else {
-        bail!("no text of a trace");
+    let trace = match read_trace(alloc, text.as_bytes(), &[]) {
+        Ok(trace) => trace,
+        Err(TraceFault::Memory) => bail!("out of memory"),
+        Err(_) => bail!("no text of a trace"),
     };
     if trace.boot.is_none() {
         bail!("a trace without a boot");
