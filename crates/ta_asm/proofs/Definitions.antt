@@ -97,6 +97,18 @@ noted_by find name q d none false e = sym (no_more (find q))
 pub noted : (find : List ℕ → Option Definition) (name q : List ℕ) (d : Definition) → find name ≡ None → cond (bytes_eq name q) (Some d) (find q) ≡ option_or (find q) (cond (bytes_eq name q) (Some d) None)
 noted find name q d none = noted_by find name q d none (bytes_eq name q) (bytes_eq-Decides name q)
 
+stays_by : (find : List ℕ → Option Definition) (name q : List ℕ) (first d : Definition) → find name ≡ Some first → (same : Bool) → Decides same (name ≡ q)
+    → cond same (Some first) (cond same (Some d) (find q)) ≡ option_or (find q) (cond same (Some d) None)
+stays_by find name q first d stands true e =
+    let here : find q ≡ Some first = sym (ap find (e.0 refl)) ∙ stands in
+    rw here refl
+stays_by find name q first d stands false e = sym (no_more (find q))
+
+-- a name that stood already, written over and then put back
+pub stays : (find : List ℕ → Option Definition) (name q : List ℕ) (first d : Definition) → find name ≡ Some first
+    → cond (bytes_eq name q) (Some first) (cond (bytes_eq name q) (Some d) (find q)) ≡ option_or (find q) (cond (bytes_eq name q) (Some d) None)
+stays find name q first d stands = stays_by find name q first d stands (bytes_eq name q) (bytes_eq-Decides name q)
+
 -- ---- one line more
 
 pub one_at_most : (s : Statement) → instructions s ≤ 1

@@ -35,8 +35,9 @@ fn note<'a>(
         ≡ option_or (get_by (λ key. slice_cmp nat_cmp q key.now) map.old) (if bytes_eq name.now q then Some definition else None)) }
     ensures memory { IfErr result (λ fault. fault ≡ AsmFault.Memory) }
 {
-    if map.get(&name).is_none() {
-        map.insert(name, definition)?;
+    // A name that stands twice is rare, and a second search at each name is not.
+    if let Some(first) = map.insert(name, definition)? {
+        map.insert(name, first)?;
     }
     Ok(())
 }
