@@ -1,10 +1,8 @@
-pub mod Cuts
 pub mod Texts
 pub mod Digits
 pub mod Steps
 pub mod Definitions
 pub mod Programs
-pub mod Options
 pub mod WellMade
 pub mod Validity
 pub mod Meanings

@@ -23,7 +23,8 @@ use Rattle.ta_asm.specs.declared.statement.Statement.TheVariants.{Flags, Pages, 
 use Rattle.ta_asm.specs.Canonical.{canonical, code_lines, field_words, immediate_words, instruction_words, is_labelled, label_line, label_name, line_of, operand_words, operation_word, text_of}
 use Rattle.ta_asm.specs.Grammar.{StandsFor}
 use Rattle.ta_asm.specs.RoundTrip.{EveryImage}
-use Rattle.ta_asm.specs.Lines.{◌>>=◌, code_at, code_left, entry_at, entry_left, immediate_at, is_label, number_left, operand_at, operation_at, said_by, statement_of, statements_of}
+use Rattle.text_lines.specs.Steps.{◌>>=◌}
+use Rattle.ta_asm.specs.Lines.{code_at, code_left, entry_at, entry_left, immediate_at, is_label, number_left, operand_at, operation_at, said_by, statement_of, statements_of}
 use Rattle.ta_asm.specs.Words.{is_name}
 use Rattle.ta_asm.proofs.Meanings.{every_text}
 use Rattle.ta_asm.proofs.Texts.{first_statement, no_statement}

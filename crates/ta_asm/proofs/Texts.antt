@@ -1,18 +1,10 @@
 -- The pieces of a text and the words of a line, one after the other.
-use Rattle.std.proofs.Common.{◌≡◌, ℕ, suc, ◌<◌, ◌≤◌, true, false, cond, eqb, List, [], ◌∷◌, length, Some, refl, sym, ap, ◌∙◌, arith}
+use Rattle.std.proofs.Common.{◌≡◌, ℕ, suc, ◌<◌, ◌≤◌, true, false, cond, eqb, List, [], ◌∷◌, length, refl, sym, ap, ◌∙◌, arith}
 use Rattle.std.specs.List.{onto_first}
 use Rattle.std.proofs.lemmas.List.Splits.{slice_split_none, slice_split_at, length-slice_split}
 use Rattle.ta_asm.specs.declared.statement.Statement.TheVariants.{Unread}
-use Rattle.ta_asm.specs.Lines.{pieces_of, statement_of, statements_in, statements_of, unended, words_of, word_at}
-use Rattle.ta_asm.specs.Reading.{Lacks, IsCutAt}
-
--- ---- words
-
-pub word_at-words_of : (line word rest : List ℕ) → IsCutAt 32 line word rest → word_at (words_of line) ≡ Some (word, words_of rest)
-word_at-words_of line word rest cut = ap (λ (bs : List ℕ). word_at (words_of bs)) cut.1 ∙ ap word_at (slice_split_at (λ b. eqb b 32) word 32 rest cut.0 refl)
-
-pub word_at-words_of_last : (line : List ℕ) → Lacks 32 line → word_at (words_of line) ≡ Some (line, [])
-word_at-words_of_last line uncut = ap word_at (slice_split_none (λ b. eqb b 32) line uncut)
+use Rattle.ta_asm.specs.Lines.{pieces_of, statement_of, statements_in, statements_of, unended}
+use Rattle.text_lines.specs.Lines.{Lacks, IsCutAt}
 
 -- ---- pieces
 

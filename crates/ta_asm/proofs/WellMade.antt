@@ -16,8 +16,11 @@ use Rattle.ta_isa.specs.InstructionTable.{follows_row, is_immediate, is_instruct
 use Rattle.ta_asm.specs.declared.statement.Statement.{Statement}
 use Rattle.ta_asm.specs.declared.statement.Statement.TheVariants.{Nothing, Flags, Pages, Entry, Label, Code, Unread}
 use Rattle.ta_asm.specs.Words.{are_digits, at_most, decimal_at, digits_at, has_leading_zero, has_radix_prefix, number_at, register_at}
-use Rattle.ta_asm.specs.Lines.{◌>>=◌, Immediates, code_at, code_left, entry_left, entry_at, immediate_at, is_label, is_skipped, last_word, name_at, number_left, operand_at, operation_at, pieces_of, said_by, said_in, statement_of, statements_in, statements_of, unended, word_at, words_of}
-use Rattle.ta_asm.proofs.Options.{bind_some, guard_some, bar_some, some_is}
+use Rattle.text_lines.specs.Lines.{is_skipped}
+use Rattle.text_lines.specs.Words.{last_word, word_at, words_of}
+use Rattle.text_lines.specs.Steps.{◌>>=◌}
+use Rattle.ta_asm.specs.Lines.{Immediates, code_at, code_left, entry_left, entry_at, immediate_at, is_label, name_at, number_left, operand_at, operation_at, pieces_of, said_by, said_in, statement_of, statements_in, statements_of, unended}
+use Rattle.text_lines.proofs.Options.{bind_some, guard_some, bar_some, some_is}
 
 -- an instruction of an image of any length, once its target has a place in it
 abbrev pub IsWellMade : Statement → Type 0

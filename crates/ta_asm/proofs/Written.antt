@@ -15,8 +15,9 @@ use Rattle.std.proofs.lemmas.List.Splits.{slice_split_none, slice_split_at}
 use Rattle.ta_asm.specs.declared.statement.Statement.{Statement}
 use Rattle.ta_asm.specs.declared.statement.Statement.TheVariants.{Unread}
 use Rattle.ta_asm.specs.Canonical.{label_name, line_of, spaced}
-use Rattle.ta_asm.specs.Lines.{is_label, is_skipped, said_by, said_in, statement_of, statements_of, words_of}
-use Rattle.ta_asm.specs.Reading.{Lacks}
+use Rattle.text_lines.specs.Lines.{is_skipped, Lacks}
+use Rattle.text_lines.specs.Words.{words_of}
+use Rattle.ta_asm.specs.Lines.{is_label, said_by, said_in, statement_of, statements_of}
 use Rattle.ta_asm.specs.Words.{are_digits, decimal_at, digits_at, has_leading_zero, has_radix_prefix, is_name, is_name_byte, number_at, register_at}
 use Rattle.ta_asm.proofs.Texts.{first_statement}
 

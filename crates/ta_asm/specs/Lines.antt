@@ -1,5 +1,5 @@
 -- Lines: what each one says, by its words.
-use Rattle.std.specs.Prelude.{ℕ, ◌-◌, List, [], ◌∷◌, codes, take, length, slice_index, Bool, ◌&&◌, ◌||◌, ◌==◌, if◌then◌else◌, Option, None, Some, option_and_then}
+use Rattle.std.specs.Prelude.{ℕ, ◌-◌, List, [], ◌∷◌, codes, take, length, slice_index, Bool, ◌&&◌, ◌==◌, if◌then◌else◌, Option, None, Some}
 use Rattle.std.specs.List.{slice_split}
 use Rattle.std.specs.Option.{option_map, unwrap_or}
 use Rattle.std.specs.Str.{bytes_eq}
@@ -9,16 +9,14 @@ use Rattle.ta_isa.specs.declared.row.Immediate.{Immediate}
 use Rattle.ta_isa.specs.declared.row.Immediate.TheVariants as immediate
 use Rattle.ta_isa.specs.declared.row.Row.{Row}
 use Rattle.ta_isa.specs.InstructionTable.{row_of}
+use Rattle.text_lines.specs.Lines.{is_skipped}
+use Rattle.text_lines.specs.Steps.{◌>>=◌}
+use Rattle.text_lines.specs.Words.{last_word, word_at, words_of}
 use Rattle.ta_asm.specs.declared.names.EntryPoint.{EntryPoint}
 use Rattle.ta_asm.specs.declared.names.EntryPoint.TheVariants.{Create, Open, Invoke, Close, Destroy}
 use Rattle.ta_asm.specs.declared.statement.Statement.{Statement}
 use Rattle.ta_asm.specs.declared.statement.Statement.TheVariants.{Nothing, Flags, Pages, Entry, Label, Code, Unread}
 use Rattle.ta_asm.specs.Words.{at_most, is_name, number_at, register_at}
-
--- one step after another, where either may read nothing
-infixl 10 ◌>>=◌
-abbrev pub ◌>>=◌ : {A B : Type 0} → Option A → (A → Option B) → Option B
-o >>= f = option_and_then f o
 
 -- ---- names
 
@@ -67,21 +65,6 @@ unfoldable pub entry_at : List ℕ → Option EntryPoint
 entry_at word = found_in entry_table word
 
 -- ---- the words of a line
-
--- what the spaces of a line part; two spaces in a row part an empty word from its neighbours
-abbrev pub words_of : List ℕ → List (List ℕ)
-words_of line = slice_split (λ b. b == 32) line
-
--- the next word and those behind it
-abbrev pub word_at : List (List ℕ) → Option (List ℕ × List (List ℕ))
-word_at [] = None
-word_at (word ∷ words) = Some (word, words)
-
--- the one word that is left
-abbrev pub last_word : List (List ℕ) → Option (List ℕ)
-last_word [] = None
-last_word (word ∷ []) = Some word
-last_word (word ∷ (next ∷ words)) = None
 
 -- the name of a label
 abbrev pub name_at : List ℕ → Option (List ℕ)
@@ -164,10 +147,6 @@ said_in words = do
   said_by first.0 first.1
 
 -- ---- whole lines
-
--- an empty line, or a comment
-unfoldable pub is_skipped : List ℕ → Bool
-is_skipped line = (length line == 0) || (slice_index line 0 == 35)
 
 -- a name and `:`
 unfoldable pub is_label : List ℕ → Bool

@@ -1,5 +1,5 @@
 -- What the private functions of the crate answer, in the words of the grammar.
-use Rattle.std.specs.Prelude.{◌≡◌, ℕ, ◌<◌, List, Option, Some, None, Result, Ok, Err, ◌⊎◌, nat_lt, drop, Bool, ◌==◌, if◌then◌else◌, All, ◌++◌, ◌∷◌, false, true, [], IfOk, IfErr, codes, decimal, length, slice_index_or}
+use Rattle.std.specs.Prelude.{◌≡◌, ℕ, ◌<◌, List, Option, Some, None, Result, Ok, Err, ◌⊎◌, nat_lt, drop, Bool, if◌then◌else◌, ◌++◌, false, true, [], IfOk, IfErr, codes, decimal, length, slice_index_or}
 use Rattle.std.specs.BTreeMap.{BTreeMap, get_by}
 use Rattle.std.specs.Cmp.Lexicographic.{slice_cmp}
 use Rattle.std.specs.List.{list_any}
@@ -13,16 +13,7 @@ use Rattle.ta_asm.specs.declared.labels.Definition.{Definition}
 use Rattle.ta_asm.specs.declared.labels.Labels.{Labels}
 use Rattle.ta_asm.specs.declared.statement.Statement.{Statement}
 use Rattle.ta_asm.specs.Canonical.{is_labelled}
-use Rattle.ta_asm.specs.Lines.{words_of}
 use Rattle.ta_asm.specs.Grammar.{Program, defines, definition, is_instruction_line, is_target_known, first_broken, image_from, targeted, IsFirstFault, StandsFor}
-
--- the byte stands nowhere in these
-abbrev pub Lacks : ℕ → List ℕ → Type 0
-Lacks byte bytes = All (λ b. (b == byte) ≡ false) bytes
-
--- these are cut at the first such byte, into what stands before it and after it
-abbrev pub IsCutAt : ℕ → List ℕ → List ℕ → List ℕ → Type 0
-IsCutAt byte bytes front back = Lacks byte front × (bytes ≡ front ++ byte ∷ back)
 
 -- the label of a line that stands here, where it has this name
 abbrev pub label_in : List ℕ → Definition → Statement → Option Definition
@@ -41,16 +32,6 @@ IsLastIn all front last = (line : ℕ) → list_any (is_instruction_line all) (d
 abbrev pub IsTaken : Result Unit AsmFault → List (AsmFault × Bool) → Program → Program → Type 0
 IsTaken (Ok u) rules wanted after = (first_broken rules ≡ None) × (after ≡ wanted)
 IsTaken (Err fault) rules wanted after = (first_broken rules ≡ Some fault) ⊎ (fault ≡ Memory)
-
--- the words that are left: none behind the last one
-abbrev pub words_left : Option (List ℕ) → List (List ℕ)
-words_left None = []
-words_left (Some line) = words_of line
-
--- no words are left
-abbrev pub is_ended : List (List ℕ) → Bool
-is_ended [] = true
-is_ended (word ∷ words) = false
 
 -- the labels of these lines, and the last instruction
 abbrev pub HasLabels : Labels → List Statement → Type 0

@@ -6,7 +6,6 @@ mod disassembler;
 mod fault;
 mod labels;
 mod laws;
-mod line;
 mod name;
 mod names;
 mod program;

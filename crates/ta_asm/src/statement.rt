@@ -1,14 +1,14 @@
 //! What a line says.
 
-ghost use Rattle.std.specs.Prelude.{◌≡◌, ℕ, ◌-◌, List, length, take, if◌then◌else◌, Some, None};
+ghost use Rattle.std.specs.Prelude.{◌≡◌, ◌-◌, length, take, if◌then◌else◌, Some, None};
 ghost use Rattle.std.specs.Option.{option_map};
-ghost use Rattle.ta_asm.specs.Lines.{code_at, code_left, entry_left, immediate_at, is_label, name_at, number_left, operand_at, said_by, said_in, statement_of, words_of};
+ghost use Rattle.ta_asm.specs.Lines.{code_at, code_left, entry_left, immediate_at, is_label, name_at, number_left, operand_at, said_by, said_in, statement_of};
 
-use crate::line::{Words, is_skipped};
 use crate::name::Name;
 use crate::names::{EntryPoint, entry, operation};
 use crate::word::{is, is_name, number, register};
 use ta_isa::{Immediate, Instr, LAST_SYSTEM_CALL, Operand, Row, row_of};
+use text_lines::{Words, is_skipped};
 
 /// What a line says.
 #[derive(Drop)]

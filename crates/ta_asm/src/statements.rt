@@ -3,9 +3,9 @@
 ghost use Rattle.std.specs.Prelude.{◌≡◌, [], ◌∷◌, MatchOption};
 ghost use Rattle.ta_asm.specs.Lines.{statements_of};
 
-use crate::line::split_line;
 use crate::statement::{Statement, statement_of};
 use std::marker::Model;
+use text_lines::split_line;
 
 /// The lines of a text that are still to be read. A contract sees what each of them says.
 #[derive(Drop)]

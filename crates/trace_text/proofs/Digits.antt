@@ -15,7 +15,7 @@ use Rattle.trace_text.specs.declared.item.Reg.TheVariants.{Num, Last}
 use Rattle.trace_text.specs.Word.{IsDecimal, IsDecimalWithin, IsHexadecimal}
 use Rattle.trace_text.specs.Line.{IsRegister}
 use Rattle.trace_text.specs.Reading.{are_digits, has_leading_zero, decimal_at, hexadecimal_at, within_at, register_at}
-use Rattle.trace_text.proofs.Options.{bind_some, guard_some, some_is}
+use Rattle.text_lines.proofs.Options.{bind_some, guard_some, some_is}
 
 abbrev tests : ℕ → List ℕ → Bool
 tests radix word = list_all (λ c. nat_lt (digit_value c) radix) word

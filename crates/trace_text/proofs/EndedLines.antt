@@ -2,8 +2,9 @@
 use Rattle.std.proofs.Common.{◌≡◌, ℕ, ◌<◌, Bool, true, false, cond, eqb, List, [], ◌∷◌, ◌++◌, length, Option, Some, None, refl, ap, ◌∙◌, append_assoc, arith}
 use Rattle.std.specs.List.{AllByRecursion, flat_map}
 use Rattle.std.proofs.lemmas.Bool.{eqb-true, cond-false}
-use Rattle.trace_text.specs.Reading.{◌>>=◌, before_lines, lines_at}
-use Rattle.trace_text.proofs.Options.{bind_some, some_is}
+use Rattle.text_lines.specs.Steps.{◌>>=◌}
+use Rattle.trace_text.specs.Reading.{before_lines, lines_at}
+use Rattle.text_lines.proofs.Options.{bind_some, some_is}
 
 -- no byte of it is a line feed
 abbrev pub IsUnbroken : List ℕ → Type 0

@@ -9,8 +9,9 @@ use Rattle.trace_text.specs.declared.fault.TraceFault.{TraceFault}
 use Rattle.trace_text.specs.declared.fault.TraceFault.TheVariants.{Bad, Memory}
 use Rattle.trace_text.specs.declared.trace.Trace.{Trace}
 use Rattle.trace_text.specs.Limits.{empty_trace, end_fault, first_broken}
-use Rattle.trace_text.specs.Rules.{line_rules, after_line, is_skipped, is_text_byte, kind_named, rules_of_kind, word}
-use Rattle.trace_text.specs.Reading.{words_of}
+use Rattle.text_lines.specs.Lines.{is_skipped}
+use Rattle.trace_text.specs.Rules.{line_rules, after_line, is_text_byte, kind_named, rules_of_kind, word}
+use Rattle.text_lines.specs.Words.{words_of}
 use Rattle.trace_text.specs.Grammar.{pieces_of, piece_fault, Leads, Spells, IsFirstFault, IsFaultOf, IsPlacedIn, EveryText}
 use Rattle.trace_text.specs.Judging.{IsUnlessMemory, read_pieces, unless}
 use Rattle.trace_text.specs.Sound.{IsSound}

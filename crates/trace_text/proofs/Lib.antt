@@ -1,5 +1,3 @@
-pub mod Options
-pub mod Cuts
 pub mod Digits
 pub mod Uuids
 pub mod Images

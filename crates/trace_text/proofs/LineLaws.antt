@@ -14,8 +14,10 @@ use Rattle.trace_text.specs.declared.item.Item.TheVariants.{Smc, Enter, Leave, W
 use Rattle.trace_text.specs.Word.{IsDecimalWithin}
 use Rattle.smc_abi.specs.declared.call.TheConstants.{CALL_WITH_ARG}
 use Rattle.trace_text.specs.Line.{IsRegister, IsBootLine, IsSmcLine, IsItemLine}
-use Rattle.trace_text.specs.Reading.{◌>>=◌, within_at, register_at, words_of, word_at, named_at, number_at, next_register_at, registers_at, ended, boot_at, begins_call, item_at}
-use Rattle.trace_text.proofs.Options.{bind_some, guard_some, bar_some, some_is}
+use Rattle.text_lines.specs.Words.{words_of, word_at}
+use Rattle.text_lines.specs.Steps.{◌>>=◌}
+use Rattle.trace_text.specs.Reading.{within_at, register_at, named_at, number_at, next_register_at, registers_at, ended, boot_at, begins_call, item_at}
+use Rattle.text_lines.proofs.Options.{bind_some, guard_some, bar_some, some_is}
 use Rattle.trace_text.proofs.Digits.{within_read, within_again, register_read, register_again}
 use Rattle.trace_text.proofs.Splitting.{IsSolid, IsSolid-digits, words_of-join}
 

@@ -10,7 +10,9 @@ use Rattle.trace_text.specs.declared.fault.TraceFault.TheVariants.{Bad, Memory}
 use Rattle.trace_text.specs.declared.trace.Fill.{Fill}
 use Rattle.trace_text.specs.declared.trace.Trace.{Trace}
 use Rattle.trace_text.specs.declared.item.Item.{Item}
-use Rattle.trace_text.specs.Reading.{◌>>=◌, words_of, boot_at, item_at, lines_at, items_at, items_in, script_at, trace_at, Fails}
+use Rattle.text_lines.specs.Words.{words_of}
+use Rattle.text_lines.specs.Steps.{◌>>=◌}
+use Rattle.trace_text.specs.Reading.{boot_at, item_at, lines_at, items_at, items_in, script_at, trace_at, Fails}
 use Rattle.trace_text.proofs.EndedLines.{lines_at-line, lines_at-unended}
 
 -- what was read before, and what is still read

@@ -9,7 +9,8 @@ use Rattle.trace_text.specs.declared.fault.LineFault.TheVariants.{Broken, NoRoom
 use Rattle.trace_text.specs.declared.fault.TraceFault.{TraceFault}
 use Rattle.trace_text.specs.declared.fault.TraceFault.TheVariants.{Bad}
 use Rattle.trace_text.specs.declared.trace.Trace.{Trace}
-use Rattle.trace_text.specs.Reading.{Lacks, IsCutAt, words_of}
+use Rattle.text_lines.specs.Lines.{Lacks, IsCutAt}
+use Rattle.text_lines.specs.Words.{words_of}
 use Rattle.trace_text.specs.Limits.{first_broken}
 use Rattle.trace_text.specs.Rules.{line_rules, after_line, counts}
 use Rattle.trace_text.specs.Grammar.{pieces_of, piece_fault}

@@ -18,8 +18,10 @@ use Rattle.trace_text.specs.Item.{IsNumber, IsFastCall}
 use Rattle.trace_text.specs.Line.{line_of, IsRegister, IsSmcLine, IsItemLine}
 use Rattle.trace_text.specs.Limits.{empty_trace}
 use Rattle.trace_text.specs.Script.{SpellsLines, Spells, IsPlain, IsRefusal}
-use Rattle.trace_text.specs.Reading.{◌>>=◌, words_of, boot_at, item_at, lines_at, items_at, script_at, trace_at, Gives}
-use Rattle.trace_text.proofs.Options.{bind_some, some_is}
+use Rattle.text_lines.specs.Words.{words_of}
+use Rattle.text_lines.specs.Steps.{◌>>=◌}
+use Rattle.trace_text.specs.Reading.{boot_at, item_at, lines_at, items_at, script_at, trace_at, Gives}
+use Rattle.text_lines.proofs.Options.{bind_some, some_is}
 use Rattle.trace_text.proofs.EndedLines.{whole_line, lines_read, lines_again, IsUnbroken}
 use Rattle.trace_text.proofs.Splitting.{join_is_unbroken}
 use Rattle.trace_text.proofs.LineLaws.{boot_read, boot_again, item_read, item_again, IsLine-boot, IsLine-item}

@@ -24,8 +24,9 @@ use Rattle.trace_text.specs.declared.trace.Trace.{Trace}
 use Rattle.trace_text.specs.Forms.{bytes, decimal, hexadecimal, register, uuid}
 use Rattle.trace_text.specs.Limits.{app_limits, boot_limits, cpus_of, empty_trace, end_fault, first_broken, inside_after, is_inside, is_known, moved, outside}
 use Rattle.trace_text.specs.Grammar.{Leads, Spells}
-use Rattle.trace_text.specs.Reading.{words_of}
-use Rattle.trace_text.specs.Rules.{added, added_by_kind, after_line, app_of, boot_of, boot_rules, call_rules, counts, cpu_rules, fill_of, is_skipped, is_text_byte, kind_named, line_rules, mem_rules, rules_behind, rules_of_kind, show_rules, ta_rules, word, words_behind, write_rules}
+use Rattle.text_lines.specs.Words.{words_of}
+use Rattle.text_lines.specs.Lines.{is_skipped}
+use Rattle.trace_text.specs.Rules.{added, added_by_kind, after_line, app_of, boot_of, call_rules, counts, cpu_rules, fill_of, is_text_byte, kind_named, line_rules, mem_rules, rules_behind, rules_of_kind, show_rules, word, words_behind, write_rules}
 use Rattle.trace_text.specs.Sound.{can_come, ComeInTurn, IsSound, IsSoundBoot, IsSoundCall, IsSoundFill, IsSoundItem}
 use Rattle.trace_text.proofs.SoundWords.{fails_at, in_ram, part_of_ram, sound_registers, valid_image, within}
 

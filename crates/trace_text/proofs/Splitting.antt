@@ -1,44 +1,18 @@
 -- Words of a line, cut at its spaces and joined again.
-use Rattle.std.proofs.Common.{◌≡◌, ℕ, ◌<◌, ◌≤◌, Bool, true, false, cond, eqb, not, List, [], ◌∷◌, ◌++◌, Option, Some, None, All, Bor, refl, sym, ap, ◌∙◌, arith}
-use Rattle.std.specs.Option.{is_some, option_copied}
+use Rattle.std.proofs.Common.{◌≡◌, ℕ, ◌<◌, ◌≤◌, false, eqb, List, [], ◌∷◌, ◌++◌, All, refl, ap, ◌∙◌, arith}
 use Rattle.std.specs.Char.{digit_value}
-use Rattle.std.specs.List.{onto_first, join_with_byte, AllByRecursion}
+use Rattle.std.specs.List.{join_with_byte, AllByRecursion}
 use Rattle.std.specs.Str.Parse.{AllDigits}
 use Rattle.std.proofs.lemmas.Bool.{ne_eqb}
 use Rattle.std.proofs.lemmas.Bool.Decides.{nat_tests}
 use Rattle.std.proofs.lemmas.List.Elements.{All-from_recursion}
 use Rattle.std.proofs.lemmas.List.Splits.{slice_split_at, slice_split_none}
-use Rattle.trace_text.specs.Reading.{words_of, words_left, word_at, is_ended}
+use Rattle.text_lines.specs.Words.{words_of}
 use Rattle.trace_text.proofs.EndedLines.{IsUnbroken}
-
-onto_first-is_ended : (b : ℕ) (parts : List (List ℕ)) → is_ended (onto_first b parts) ≡ false
-onto_first-is_ended b [] = refl
-onto_first-is_ended b (part ∷ parts) = refl
-
--- a line has a word
-pub is_ended-words_of : (line : List ℕ) → is_ended (words_of line) ≡ false
-is_ended-words_of [] = refl
-is_ended-words_of (b ∷ line) =
-    elim (eqb b 32) as (λ t. is_ended (cond t ([] ∷ words_of line) (onto_first b (words_of line))) ≡ false) [
-      | true ↦ refl
-      | false ↦ onto_first-is_ended b (words_of line)
-    ]
-
-pub is_ended-words_left : (rest : Option (Bor (List ℕ))) (none : Bool) → is_some rest ≡ not none → none ≡ is_ended (words_left (option_copied rest))
-is_ended-words_left (Some line) true e = absurd cc
-is_ended-words_left (Some line) false e = sym (is_ended-words_of line.now)
-is_ended-words_left None true e = refl
-is_ended-words_left None false e = absurd cc
 
 -- no byte of it is a space
 abbrev IsUncut : List ℕ → Type 0
 IsUncut word = All (λ b. eqb b 32 ≡ false) word
-
-pub word_at-words_of : (line word rest : List ℕ) → IsUncut word → line ≡ word ++ 32 ∷ rest → word_at (words_of line) ≡ Some (word, words_of rest)
-word_at-words_of line word rest uncut e = ap (λ (bs : List ℕ). word_at (words_of bs)) e ∙ ap word_at (slice_split_at (λ b. eqb b 32) word 32 rest uncut refl)
-
-pub word_at-words_of_last : (line : List ℕ) → IsUncut line → word_at (words_of line) ≡ Some (line, [])
-word_at-words_of_last line uncut = ap word_at (slice_split_none (λ b. eqb b 32) line uncut)
 
 -- ---- joined and cut again
 

@@ -9,7 +9,7 @@ use Rattle.trace_text.specs.declared.trace.Trace.{Trace}
 use Rattle.trace_text.specs.Forms.{is_decimal, decimal, is_hexadecimal, hexadecimal, is_register, register, is_uuid, uuid, is_hex, bytes}
 use Rattle.trace_text.specs.Grammar.{Spells, IsFirstFault}
 use Rattle.trace_text.specs.Limits.{empty_trace, inside_after, lies_in_ram, outside}
-use Rattle.trace_text.specs.Rules.{is_skipped}
+use Rattle.text_lines.specs.Lines.{is_skipped}
 use Rattle.trace_text.specs.Sound.{can_come, IsPartOfRam, IsSound, IsSoundBoot, IsSoundItem, IsSoundReg}
 
 -- the text of these lines, each with its line feed

@@ -1,11 +1,13 @@
 -- Reading a script from left to right, on lists. The private functions of the crate compute these; that they
 -- meet what the other modules say of words, lines and scripts is proved of them alone.
-use Rattle.std.specs.Prelude.{◌≡◌, ℕ, zero, suc, List, [], ◌∷◌, length, slice_index, Bool, true, false, ◌&&◌, not, Option, Some, None, Result, Ok, Err, option_and_then, nat_lt, nat_le, ◌==◌, if◌then◌else◌, codes, All, ◌++◌}
-use Rattle.std.specs.List.{slice_split, list_all}
+use Rattle.std.specs.Prelude.{◌≡◌, ℕ, zero, suc, List, [], ◌∷◌, length, slice_index, Bool, false, ◌&&◌, not, Option, Some, None, Result, Ok, Err, nat_lt, nat_le, ◌==◌, if◌then◌else◌, codes}
+use Rattle.std.specs.List.{list_all}
 use Rattle.std.specs.Char.{digit_value}
 use Rattle.std.specs.Str.{bytes_eq}
 use Rattle.std.specs.Str.Parse.{digits_value}
 use Rattle.ta_isa.specs.declared.boot.Boot.{Boot}
+use Rattle.text_lines.specs.Steps.{◌>>=◌}
+use Rattle.text_lines.specs.Words.{is_ended, word_at, words_of}
 use Rattle.trace_text.specs.declared.item.Reg.{Reg}
 use Rattle.trace_text.specs.declared.item.Reg.TheVariants.{Num, Last}
 use Rattle.trace_text.specs.declared.item.Item.{Item}
@@ -15,11 +17,6 @@ use Rattle.trace_text.specs.declared.fault.BadKind.TheVariants.{NotYet}
 use Rattle.trace_text.specs.declared.fault.TraceFault.{TraceFault}
 use Rattle.trace_text.specs.declared.fault.TraceFault.TheVariants.{Bad, Memory}
 use Rattle.trace_text.specs.Limits.{empty_trace}
-
--- one step after another, where either may read nothing
-infixl 10 ◌>>=◌
-abbrev pub ◌>>=◌ : {A B : Type 0} → Option A → (A → Option B) → Option B
-o >>= f = option_and_then f o
 
 -- ---- words
 
@@ -51,31 +48,7 @@ register_at word = do
   n ← hexadecimal_at 8 word
   Some (Num n)
 
--- ---- cuts
-
--- the byte stands nowhere in these
-abbrev pub Lacks : ℕ → List ℕ → Type 0
-Lacks byte bytes = All (λ b. (b == byte) ≡ false) bytes
-
--- these are cut at the first such byte, into what stands before it and after it
-abbrev pub IsCutAt : ℕ → List ℕ → List ℕ → List ℕ → Type 0
-IsCutAt byte bytes front back = Lacks byte front × (bytes ≡ front ++ byte ∷ back)
-
--- ---- words from the front of what is left of a line
-
--- the words of a line, without its line feed
-abbrev pub words_of : List ℕ → List (List ℕ)
-words_of line = slice_split (λ b. b == 32) line
-
--- the words that are left: none behind the last one
-abbrev pub words_left : Option (List ℕ) → List (List ℕ)
-words_left None = []
-words_left (Some line) = words_of line
-
--- the next word and the words behind it, as each reader below gives what it read and the words behind that
-abbrev pub word_at : List (List ℕ) → Option (List ℕ × List (List ℕ))
-word_at [] = None
-word_at (word ∷ words) = Some (word, words)
+-- ---- words from the front of what is left of a line: each reader gives what it read and the words behind that
 
 -- the next word, which is this name
 unfoldable pub named_at : List ℕ → List (List ℕ) → Option (List (List ℕ))
@@ -104,11 +77,6 @@ registers_at (suc n) words = do
   first ← next_register_at words
   others ← registers_at n first.1
   Some (first.0 ∷ others.0, others.1)
-
--- no words are left
-abbrev pub is_ended : List (List ℕ) → Bool
-is_ended [] = true
-is_ended (word ∷ words) = false
 
 -- what was read, where no words are left
 abbrev pub ended : {A : Type 0} → List (List ℕ) → A → Option A

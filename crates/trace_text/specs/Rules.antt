@@ -1,6 +1,6 @@
 -- The rules of a line, in the order in which a fault is looked for, and what a line adds to a trace. Both
 -- look at the line as a whole, and at the trace that the lines before it spell.
-use Rattle.std.specs.Prelude.{ℕ, ◌+◌, List, [], ◌∷◌, ◌++◌, codes, drop, length, map, slice_index_or, slice_index, nat_lt, nat_le, Bool, false, ◌&&◌, ◌||◌, ◌==◌, if◌then◌else◌, Option, None, Some, is_none, is_some}
+use Rattle.std.specs.Prelude.{ℕ, ◌+◌, List, [], ◌∷◌, ◌++◌, codes, drop, length, map, slice_index_or, nat_lt, nat_le, Bool, false, ◌&&◌, ◌==◌, if◌then◌else◌, Option, None, Some, is_none, is_some}
 use Rattle.std.specs.List.{list_all}
 use Rattle.std.specs.Str.{bytes_eq}
 use Rattle.ta_isa.specs.declared.boot.App.{App}
@@ -16,7 +16,8 @@ use Rattle.trace_text.specs.declared.trace.Fill.{Fill}
 use Rattle.trace_text.specs.declared.trace.Trace.{Trace}
 use Rattle.trace_text.specs.Limits.{app_limits, apps_of, boot_limits, call_limits, comes_in, cpu_limits, cpus_of, fill_limits, goes_out, has_no_item, show_limits, with_app, with_item, write_limits}
 use Rattle.trace_text.specs.Forms.{is_decimal, decimal, is_hexadecimal, hexadecimal, is_register, register, is_uuid, uuid, is_hex, bytes}
-use Rattle.trace_text.specs.Reading.{words_of}
+use Rattle.text_lines.specs.Lines.{is_skipped}
+use Rattle.text_lines.specs.Words.{words_of}
 
 -- ---- what a line is told by
 
@@ -129,10 +130,6 @@ rules_of_kind None natives before words = (bad.Item, false) ∷ []
 rules_of_kind (Some kind) natives before words = (bad.Count, counts (words_behind kind) words) ∷ rules_behind kind natives before (drop 1 words)
 
 -- ---- whole lines
-
--- an empty line, or a comment
-unfoldable pub is_skipped : List ℕ → Bool
-is_skipped line = (length line == 0) || (slice_index line 0 == 35)
 
 -- 20 to 7e, hexadecimal
 abbrev pub is_text_byte : ℕ → Bool

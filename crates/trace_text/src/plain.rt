@@ -1,16 +1,18 @@
 ghost use Rattle.std.specs.Prelude.{◌≡◌, ◌<◌, ◌^◌, ◌+◌, ◌⊎◌, length, Ok, Err, IfOk, IfErr, All};
-ghost use Rattle.trace_text.specs.Reading.{Gives, boot_at, item_at, words_of, items_in, trace_at};
+ghost use Rattle.text_lines.specs.Words.{words_of};
+ghost use Rattle.trace_text.specs.Reading.{Gives, boot_at, item_at, items_in, trace_at};
 ghost use Rattle.trace_text.specs.Item.{IsFastCall};
 ghost use Rattle.trace_text.specs.Script.{Spells, IsPlain, IsRefusal};
 
 use crate::fault::{BadKind, TraceFault};
 use crate::item::{Item, Reg};
-use crate::line::{Words, split_line};
+use crate::line::{decimal, expect, registers};
 use crate::trace::Trace;
 use base::Sequence;
 use smc_abi::CALL_WITH_ARG;
 use std::alloc::Global;
 use ta_isa::Boot;
+use text_lines::{Words, split_line};
 
 /// The one refusal so far.
 const NOT_YET: TraceFault = TraceFault::Bad {
@@ -24,10 +26,10 @@ fn boot_of(alloc: Global, line: &[u8]) -> Option<Boot>
     ensures { result ≡ boot_at (words_of line.now) }
 {
     let mut words = Words::of(line);
-    words.expect(b"boot")?;
-    let cpus = words.decimal(1, 1)?;
-    let threads = words.decimal(1, 16)?;
-    let frames = words.decimal(1, 1024)?;
+    expect(&mut words, b"boot")?;
+    let cpus = decimal(&mut words, 1, 1)?;
+    let threads = decimal(&mut words, 1, 16)?;
+    let frames = decimal(&mut words, 1, 1024)?;
     if !words.is_ended() {
         return None;
     }
@@ -45,10 +47,10 @@ fn item_of(line: &[u8]) -> Option<Item>
     ensures { result ≡ item_at (words_of line.now) }
 {
     let mut words = Words::of(line);
-    words.expect(b"smc")?;
-    let cpu = words.decimal(0, 0)?;
-    let steps = words.decimal(1, 1_000_000)?;
-    let regs = words.registers()?;
+    expect(&mut words, b"smc")?;
+    let cpu = decimal(&mut words, 0, 0)?;
+    let steps = decimal(&mut words, 1, 1_000_000)?;
+    let regs = registers(&mut words)?;
     if regs[0] == Reg::Num(CALL_WITH_ARG) || !words.is_ended() {
         return None;
     }

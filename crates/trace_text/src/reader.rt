@@ -11,11 +11,12 @@ ghost use Rattle.trace_text.specs.declared.item.Item.TheVariants as item;
 use crate::builder::Builder;
 use crate::fault::{BadKind, LineFault};
 use crate::item::Item;
-use crate::line::{Words, has_words, is_skipped, is_text};
+use crate::line::{has_words, is_text};
 use crate::line_kind::LineKind;
 use crate::said::{Call, app_of, call_of, cpu_of, fill_of, show_of, size_of, write_of};
 use crate::trace::Trace;
 use std::alloc::Global;
+use text_lines::{Words, is_skipped};
 use uuid::Uuid;
 
 impl Builder {

@@ -6,9 +6,9 @@ ghost use Rattle.trace_text.specs.declared.trace.Trace.{Trace};
 
 use crate::builder::Builder;
 use crate::fault::TraceFault;
-use crate::line::split_line;
 use crate::trace::Trace;
 use std::alloc::Global;
+use text_lines::split_line;
 use uuid::Uuid;
 
 /// Reads the text of a trace, whose format `docs/formats.md` states. `natives` are the UUIDs of the applications that

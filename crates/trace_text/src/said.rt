@@ -12,12 +12,12 @@ use crate::item::{Item, Reg};
 use crate::limits::{
     MAX_APPS, MAX_SHOWN, MAX_STEPS, Size, image_of, is_known, is_there, is_within, lies_in_ram,
 };
-use crate::line::Words;
 use crate::trace::Fill;
 use crate::word::{address, any_register, bytes, number, uuid};
 use base::Sequence;
 use std::alloc::Global;
 use ta_isa::App;
+use text_lines::Words;
 use uuid::Uuid;
 
 /// What a line `smc` or `enter` says.

@@ -10,7 +10,8 @@ use Rattle.ta_asm.specs.declared.statement.Statement.TheVariants.{Flags, Pages, 
 use Rattle.ta_asm.specs.Canonical.{canonical, instruction_words, is_labelled, label_line, operation_word, targets}
 use Rattle.ta_asm.specs.Examples.{header, returning}
 use Rattle.ta_asm.specs.Grammar.{definition, end_rules, line_rules, program_of}
-use Rattle.ta_asm.specs.Lines.{code_at, code_left, entry_at, entry_left, immediate_at, is_label, is_skipped, number_left, operand_at, operation_at, said_by, said_in, statement_of, statements_of}
+use Rattle.text_lines.specs.Lines.{is_skipped}
+use Rattle.ta_asm.specs.Lines.{code_at, code_left, entry_at, entry_left, immediate_at, is_label, number_left, operand_at, operation_at, said_by, said_in, statement_of, statements_of}
 use Rattle.ta_asm.specs.Words.{decimal_at, digits_at, is_name, number_at, register_at}
 use Rattle.ta_asm.proofs.Meanings.{first-fault-read, stands-read}
 use Rattle.ta_asm.proofs.laws.worked_examples.Goals as goal

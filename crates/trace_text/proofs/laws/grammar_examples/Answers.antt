@@ -8,7 +8,8 @@ use Rattle.trace_text.specs.Grammar.{piece_fault}
 use Rattle.trace_text.specs.GrammarExamples.{boot_line, enter_line, small_trace, text_of}
 use Rattle.trace_text.specs.Judging.{read_pieces}
 use Rattle.trace_text.specs.Limits.{empty_trace, inside_after, lies_in_ram}
-use Rattle.trace_text.specs.Rules.{added, after_line, counts, is_skipped, kind_named, line_rules, rules_behind}
+use Rattle.text_lines.specs.Lines.{is_skipped}
+use Rattle.trace_text.specs.Rules.{added, after_line, counts, kind_named, line_rules, rules_behind}
 use Rattle.trace_text.proofs.GrammarLaws.{first_fault_read, spelled_read}
 use Rattle.trace_text.proofs.SoundLaws.{IsSound-spelled}
 use Rattle.trace_text.proofs.laws.grammar_examples.Goals as goal

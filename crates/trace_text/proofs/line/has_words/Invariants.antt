@@ -1,6 +1,6 @@
 use Rattle.std.proofs.Common.{◌≡◌, ◌≤◌, ◌+◌, length, ltb}
 use Rattle.std.specs.List.{list_all}
-use Rattle.trace_text.specs.Reading.{words_of}
+use Rattle.text_lines.specs.Words.{words_of}
 use Rattle.trace_text.proofs.line.has_words.Given as goal
 
 abbrev pub invariant-loop-word : goal.invariant-loop-word

@@ -1,5 +1,5 @@
-use Rattle.trace_text.proofs.Cuts.{Lacks-from_misses, IsCutAt-first}
-use Rattle.trace_text.proofs.line.split_line.Goals as goal
+use Rattle.text_lines.proofs.Cuts.{Lacks-from_misses, IsCutAt-first}
+use Rattle.text_lines.proofs.lines.split_line.Goals as goal
 
 pub returns-in_err-end : goal.returns-in_err-end
 returns-in_err-end c = rw c.from_residual.ensures (Lacks-from_misses 10 c.args.text.now c.in_err-end.ensures)

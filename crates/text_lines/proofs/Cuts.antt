@@ -4,7 +4,7 @@ use Rattle.std.proofs.lemmas.Bool.{eqb-true, ne_eqb, false_from_ne_true}
 use Rattle.std.proofs.lemmas.List.{take-append-drop, take_all, drop_more, take_rest, get_or-take, length-take}
 use Rattle.std.proofs.lemmas.List.Elements.{All-from_get_or, All-more}
 use Rattle.memchr.specs.Find.{NoneBefore}
-use Rattle.ta_asm.specs.Reading.{Lacks, IsCutAt}
+use Rattle.text_lines.specs.Lines.{Lacks, IsCutAt}
 
 -- no place before the end holds the byte
 abbrev Misses : ℕ → List ℕ → ℕ → Type 0

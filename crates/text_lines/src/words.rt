@@ -1,20 +1,11 @@
-//! Lines of a text, and the words of a line.
+//! The words of a line.
 
-ghost use Rattle.std.specs.Prelude.{◌≡◌, ℕ, ◌-◌, List, ◌∷◌, length, take, MatchOption, IfSome, ◌<◌};
+ghost use Rattle.std.specs.Prelude.{◌≡◌, ℕ, ◌<◌, List, ◌∷◌, length, MatchOption};
 ghost use Rattle.std.specs.Option.{option_map, option_copied};
-ghost use Rattle.ta_asm.specs.Lines.{is_skipped, is_label, words_of, word_at, last_word};
-ghost use Rattle.ta_asm.specs.Reading.{Lacks, IsCutAt, words_left, is_ended};
+ghost use Rattle.text_lines.specs.Lines.{Lacks, IsCutAt};
+ghost use Rattle.text_lines.specs.Words.{words_left, words_of, word_at, last_word, is_ended};
 
-use memchr::memchr;
 use std::marker::Model;
-
-/// The first line of a text, without its line feed, and what stands behind it.
-pub fn split_line(text: &[u8]) -> Option<(&[u8], &[u8])>
-    ensures { MatchOption result (Lacks 10 text.now) (λ x. IsCutAt 10 text.now x.0.now x.1.now) }
-{
-    let end = memchr(b'\n', text)?;
-    Some((&text[..end], &text[end + 1..]))
-}
 
 /// The first word of a line that has others, and what stands behind the space after it.
 fn split_word(line: &[u8]) -> Option<(&[u8], &[u8])>
@@ -27,14 +18,6 @@ fn split_word(line: &[u8]) -> Option<(&[u8], &[u8])>
         }
     }
     None
-}
-
-/// Whether a line is empty or a comment.
-#[tactic(auto, unfolding(crate::specs::Lines::is_skipped))]
-pub fn is_skipped(line: &[u8]) -> bool
-    ensures { result ≡ is_skipped line.now }
-{
-    line.is_empty() || line[0] == b'#'
 }
 
 /// The words of a line that are still to be read. Two words are parted by one space, so two spaces in a row part
@@ -75,6 +58,17 @@ impl<'a> Words<'a> {
         }
     }
 
+    /// Takes the next word, where there is one.
+    pub fn word(&mut self) -> &'a [u8]
+        requires { 0 < length self.old }
+        ensures { self.old ≡ result.now ∷ self.new }
+    {
+        match self.next_word() {
+            Some(word) => word,
+            None => unreachable!(),
+        }
+    }
+
     /// Takes the one word that is left.
     pub fn last_word(&mut self) -> Option<&'a [u8]>
         ensures { last_word self.old ≡ option_map (λ word. word.now) result }
@@ -87,9 +81,9 @@ impl<'a> Words<'a> {
     }
 
     /// Whether all words were taken.
-    pub fn is_ended(&mut self) -> bool
-        ensures { result ≡ is_ended self.old }
+    pub fn is_ended(&self) -> bool
+        ensures { result ≡ is_ended self.now }
     {
-        self.next_word().is_none()
+        self.rest.is_none()
     }
 }

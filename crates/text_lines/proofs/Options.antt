@@ -1,6 +1,6 @@
 -- Steps that may read nothing.
 use Rattle.std.proofs.Common.{◌≡◌, Bool, true, false, cond, Option, Some, None, refl}
-use Rattle.trace_text.specs.Reading.{◌>>=◌}
+use Rattle.text_lines.specs.Steps.{◌>>=◌}
 
 -- the value of a step that read something
 pub bind_some : {A B : Type 0} (o : Option A) (f : A → Option B) (y : B) → (o >>= f) ≡ Some y → (x : A) × (o ≡ Some x) × (f x ≡ Some y)

@@ -1,8 +1,0 @@
-use Rattle.ta_asm.proofs.Cuts.{Lacks-from_misses, IsCutAt-first}
-use Rattle.ta_asm.proofs.line.split_line.Goals as goal
-
-pub returns-in_err-end : goal.returns-in_err-end
-returns-in_err-end c = rw c.from_residual.ensures (Lacks-from_misses 10 c.args.text.now c.in_err-end.ensures)
-
-pub returns : goal.returns
-returns c = IsCutAt-first 10 c.args.text.now c.in_ok-end.end c.in_ok-end.ensures.0 c.in_ok-end.ensures.1

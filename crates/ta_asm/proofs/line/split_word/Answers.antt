@@ -1,8 +1,0 @@
-use Rattle.ta_asm.proofs.Cuts.{Lacks-more, Lacks-all}
-use Rattle.ta_asm.proofs.line.split_word.Goals as goal
-
-pub loop-end-preserved : goal.loop-end-preserved
-loop-end-preserved c = Lacks-more 32 c.args.line.now c.loop-end.end c.loop-end-test.true c.if-byte-eq32.false c.loop-end.invariant
-
-pub returns : goal.returns
-returns c = Lacks-all 32 c.args.line.now c.loop-end.end c.loop-end-test.false c.loop-end.invariant

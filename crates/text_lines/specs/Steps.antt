@@ -1,0 +1,7 @@
+-- One step of reading after another.
+use Rattle.std.specs.Prelude.{Option, option_and_then}
+
+-- either may read nothing
+infixl 10 ◌>>=◌
+abbrev pub ◌>>=◌ : {A B : Type 0} → Option A → (A → Option B) → Option B
+o >>= f = option_and_then f o
