@@ -1,9 +1,10 @@
 -- What happens to sessions of small boots and what they are answered, worked out by hand.
-use Rattle.std.specs.Prelude.{◌≡◌, ℕ, List, [], ◌∷◌, ◌++◌, Option, Some, replicate}
+use Rattle.std.specs.Prelude.{◌≡◌, ℕ, false, List, [], ◌∷◌, ◌++◌, Option, Some, replicate}
 use Rattle.std.specs.Option.{option_map, option_and_then}
 use Rattle.event_journal.specs.declared.event.Event.{Event}
 use Rattle.job_model.specs.Point.{no_params}
 use Rattle.kernel_model.specs.Application.{Application, Booted}
+use Rattle.kernel_model.specs.Instances.{is_single}
 use Rattle.kernel_model.specs.RpcExamples.{two_waits}
 use Rattle.kernel_model.specs.Worked.{Move, Comes, Leaves, boot, boot_native, add, panic, wait, wait_unmasked, create_fails, open_fails, open_panics, adds, argument, head, param, invokes, invokes_by, cancels, closes, call, call_of, offer, opens, resume, history_of}
 use Rattle.rpc_msgs.specs.Answer.{nothing_read}
@@ -121,6 +122,9 @@ pub record Examples : Type 0 where
   pub at_once_replies : Agrees (boot 1 1 1 add) at_once 1 sum_replies
   pub stepwise_events : events_of (boot 1 1 1 add) step_by_step 1 ≡ Some sum_events
   pub stepwise_replies : Agrees (boot 1 1 1 add) step_by_step 1 sum_replies
+  -- its application's sessions share no instance, so that isolation is about it
+  pub at_once_alone : option_and_then (λ history. option_map is_single (own_app (boot 1 1 1 add) history 1))
+      (history_of (boot 1 1 1 add) at_once) ≡ Some false
   -- a session that waits for itself
   pub woken_events_are : events_of (boot 2 2 1 wait) woken 1 ≡ Some woken_events
   pub woken_replies_are : Agrees (boot 2 2 1 wait) woken 1 woken_replies

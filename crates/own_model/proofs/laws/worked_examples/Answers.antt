@@ -9,6 +9,7 @@ returns c = record {
   at_once_replies = (refl, refl);
   stepwise_events = refl;
   stepwise_replies = (refl, refl);
+  at_once_alone = refl;
   woken_events_are = refl;
   woken_replies_are = (refl, refl);
   first_events = refl;
