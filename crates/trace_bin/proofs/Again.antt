@@ -21,6 +21,7 @@ use Rattle.trace_text.specs.declared.trace.Fill.{Fill}
 use Rattle.trace_text.specs.declared.trace.Trace.{Trace}
 use Rattle.trace_text.specs.Limits.{empty_trace, first_broken, inside_after, is_image, is_inside, is_known, is_within, lies_in_ram, with_item}
 use Rattle.trace_text.specs.Sound.{can_come, IsPartOfRam, IsSoundFill, IsSoundItem, IsSoundReg}
+use Rattle.trace_bin.specs.declared.record_kind.RecordKind.{RecordKind}
 use Rattle.trace_bin.specs.declared.record_kind.RecordKind.TheVariants as kind
 use Rattle.trace_bin.specs.Record.{is_whole, kind_tagged, number}
 use Rattle.trace_bin.specs.Rules.{added, after_record, app_in, behind_record, boot_rules, entry_rules, fill_in, leave_rules, mem_rules, record_rules, registers_in, rules_of, show_rules, steps_in, ta_rules, write_rules}
@@ -117,10 +118,15 @@ fill_read natives boot fills fill rest sound =
 abbrev ReadsItem : List (List ℕ) → Boot → List Fill → List Item → Item → List ℕ → Type 0
 ReadsItem natives boot fills items i rest = IsRead natives (trace_of boot fills items) (item_record i ++ rest) rest (trace_of boot fills (items ++ i ∷ []))
 
-smc_read : (natives : List (List ℕ)) (boot : Boot) (fills : List Fill) (items : List Item) (cpu steps : ℕ) (r0 r1 r2 r3 r4 r5 r6 r7 : Reg) (rest : List ℕ) → cpu < boot.cpus → 1 ≤ steps → steps ≤ 1000000 → AllByRecursion IsSoundReg (r0 ∷ r1 ∷ r2 ∷ r3 ∷ r4 ∷ r5 ∷ r6 ∷ r7 ∷ [])
-    → not (is_inside items cpu) ≡ true → ReadsItem natives boot fills items (item.Smc cpu steps (r0 ∷ r1 ∷ r2 ∷ r3 ∷ r4 ∷ r5 ∷ r6 ∷ r7 ∷ [])) rest
-unfolding item_record record_rules after_record behind_record kind_tagged is_whole rules_of added
-smc_read natives boot fills items cpu steps r0 r1 r2 r3 r4 r5 r6 r7 rest there some few sound outside =
+-- a call that comes in keeps the rules of its record, of either kind, and adds the item that is made of it
+record IsEntryRead (boot : Boot) (fills : List Fill) (items : List Item) (kind : RecordKind) (body : List ℕ) (make : ℕ → List Reg → Item) (steps : ℕ) (regs : List Reg) : Type 0 where
+  pub kept : first_broken ((bad.Cut, is_whole kind body) ∷ entry_rules (trace_of boot fills items) body) ≡ None
+  pub adds : with_item (trace_of boot fills items) (make (steps_in body) (registers_in body)) ≡ with_item (trace_of boot fills items) (make steps regs)
+
+entry_read : (boot : Boot) (fills : List Fill) (items : List Item) (kind : RecordKind) (make : ℕ → List Reg → Item) (cpu steps : ℕ) (r0 r1 r2 r3 r4 r5 r6 r7 : Reg) (rest : List ℕ) → cpu < boot.cpus → 1 ≤ steps → steps ≤ 1000000 → AllByRecursion IsSoundReg (r0 ∷ r1 ∷ r2 ∷ r3 ∷ r4 ∷ r5 ∷ r6 ∷ r7 ∷ [])
+    → not (is_inside items cpu) ≡ true → (leb 45 (length (call_bytes cpu steps (r0 ∷ r1 ∷ r2 ∷ r3 ∷ r4 ∷ r5 ∷ r6 ∷ r7 ∷ []) ++ rest)) ≡ true → is_whole kind (call_bytes cpu steps (r0 ∷ r1 ∷ r2 ∷ r3 ∷ r4 ∷ r5 ∷ r6 ∷ r7 ∷ []) ++ rest) ≡ true)
+    → IsEntryRead boot fills items kind (call_bytes cpu steps (r0 ∷ r1 ∷ r2 ∷ r3 ∷ r4 ∷ r5 ∷ r6 ∷ r7 ∷ []) ++ rest) make steps (r0 ∷ r1 ∷ r2 ∷ r3 ∷ r4 ∷ r5 ∷ r6 ∷ r7 ∷ [])
+entry_read boot fills items kind make cpu steps r0 r1 r2 r3 r4 r5 r6 r7 rest there some few sound outside is_long =
     let regs : List Reg = r0 ∷ r1 ∷ r2 ∷ r3 ∷ r4 ∷ r5 ∷ r6 ∷ r7 ∷ [] in
     let body : List ℕ = call_bytes cpu steps regs ++ rest in
     let said = entry_body cpu steps r0 r1 r2 r3 r4 r5 r6 r7 rest (omega arith) sound in
@@ -129,29 +135,24 @@ smc_read natives boot fills items cpu steps r0 r1 r2 r3 r4 r5 r6 r7 rest there s
     let before : Trace = trace_of boot fills items in
     record {
       kept =
-          none_broken ((bad.Cut, is_whole kind.Smc body) ∷ entry_rules before body)
-          (and_from _ _ long long, (refl, (said.forms, (said.fit, (granted, (lt-ltb cpu boot.cpus there, (outside, tt)))))));
-      adds = ap (λ (n : ℕ). with_item before (item.Smc cpu n (registers_in body))) said.steps_are ∙ ap (λ (rs : List Reg). with_item before (item.Smc cpu steps rs)) said.regs_are;
-      behind = refl;
+          none_broken ((bad.Cut, is_whole kind body) ∷ entry_rules before body)
+          (is_long long, (refl, (said.forms, (said.fit, (granted, (lt-ltb cpu boot.cpus there, (outside, tt)))))));
+      adds = ap (λ (n : ℕ). with_item before (make n (registers_in body))) said.steps_are ∙ ap (λ (rs : List Reg). with_item before (make steps rs)) said.regs_are;
     }
+
+smc_read : (natives : List (List ℕ)) (boot : Boot) (fills : List Fill) (items : List Item) (cpu steps : ℕ) (r0 r1 r2 r3 r4 r5 r6 r7 : Reg) (rest : List ℕ) → cpu < boot.cpus → 1 ≤ steps → steps ≤ 1000000 → AllByRecursion IsSoundReg (r0 ∷ r1 ∷ r2 ∷ r3 ∷ r4 ∷ r5 ∷ r6 ∷ r7 ∷ [])
+    → not (is_inside items cpu) ≡ true → ReadsItem natives boot fills items (item.Smc cpu steps (r0 ∷ r1 ∷ r2 ∷ r3 ∷ r4 ∷ r5 ∷ r6 ∷ r7 ∷ [])) rest
+unfolding item_record record_rules after_record behind_record kind_tagged is_whole rules_of added
+smc_read natives boot fills items cpu steps r0 r1 r2 r3 r4 r5 r6 r7 rest there some few sound outside =
+    let read = entry_read boot fills items kind.Smc (item.Smc cpu) cpu steps r0 r1 r2 r3 r4 r5 r6 r7 rest there some few sound outside (λ long. and_from _ _ long long) in
+    record { kept = read.kept; adds = read.adds; behind = refl }
 
 enter_read : (natives : List (List ℕ)) (boot : Boot) (fills : List Fill) (items : List Item) (cpu steps : ℕ) (r0 r1 r2 r3 r4 r5 r6 r7 : Reg) (rest : List ℕ) → cpu < boot.cpus → 1 ≤ steps → steps ≤ 1000000 → AllByRecursion IsSoundReg (r0 ∷ r1 ∷ r2 ∷ r3 ∷ r4 ∷ r5 ∷ r6 ∷ r7 ∷ [])
     → not (is_inside items cpu) ≡ true → ReadsItem natives boot fills items (item.Enter cpu steps (r0 ∷ r1 ∷ r2 ∷ r3 ∷ r4 ∷ r5 ∷ r6 ∷ r7 ∷ [])) rest
 unfolding item_record record_rules after_record behind_record kind_tagged is_whole rules_of added
 enter_read natives boot fills items cpu steps r0 r1 r2 r3 r4 r5 r6 r7 rest there some few sound outside =
-    let regs : List Reg = r0 ∷ r1 ∷ r2 ∷ r3 ∷ r4 ∷ r5 ∷ r6 ∷ r7 ∷ [] in
-    let body : List ℕ = call_bytes cpu steps regs ++ rest in
-    let said = entry_body cpu steps r0 r1 r2 r3 r4 r5 r6 r7 rest (omega arith) sound in
-    let long : leb 45 (length body) ≡ true = le-leb 45 (length body) said.long in
-    let granted : is_within 1 1000000 (steps_in body) ≡ true = ap (is_within 1 1000000) said.steps_are ∙ within 1 1000000 steps some few in
-    let before : Trace = trace_of boot fills items in
-    record {
-      kept =
-          none_broken ((bad.Cut, is_whole kind.Enter body) ∷ entry_rules before body)
-          (and_from _ _ long long, (refl, (said.forms, (said.fit, (granted, (lt-ltb cpu boot.cpus there, (outside, tt)))))));
-      adds = ap (λ (n : ℕ). with_item before (item.Enter cpu n (registers_in body))) said.steps_are ∙ ap (λ (rs : List Reg). with_item before (item.Enter cpu steps rs)) said.regs_are;
-      behind = refl;
-    }
+    let read = entry_read boot fills items kind.Enter (item.Enter cpu) cpu steps r0 r1 r2 r3 r4 r5 r6 r7 rest there some few sound outside (λ long. and_from _ _ long long) in
+    record { kept = read.kept; adds = read.adds; behind = refl }
 
 leave_read : (natives : List (List ℕ)) (boot : Boot) (fills : List Fill) (items : List Item) (cpu : ℕ) (rest : List ℕ) → cpu < boot.cpus → is_inside items cpu ≡ true → ReadsItem natives boot fills items (item.Leave cpu) rest
 unfolding item_record record_rules after_record behind_record kind_tagged is_whole rules_of added
