@@ -17,4 +17,10 @@ pub mod SoundNumbers
 pub mod SoundOrder
 pub mod SoundWaiters
 pub mod SoundJobs
+pub mod SoundJoined
 pub mod SoundRunning
+pub mod SoundRising
+pub mod SoundNewJoined
+pub mod SoundResumedJoined
+pub mod SoundEndedJoined
+pub mod SoundCallsJoined

@@ -1,5 +1,5 @@
 -- What holds after an event, by its kind: an answer, a new call, a resume, or the exit from either.
-use Rattle.std.proofs.Common.{◌≡◌, ℕ, suc, ◌+◌, Bool, true, false, List, [], ◌∷◌, Option, Some, None, refl, ap, subst, sym, ◌∙◌, arith}
+use Rattle.std.proofs.Common.{◌≡◌, ℕ, suc, ◌+◌, Bool, true, false, List, [], ◌∷◌, ◌++◌, Option, Some, None, refl, ap, subst, sym, ◌∙◌, arith}
 use Rattle.std.specs.Prelude.{slice_get, if◌then◌else◌, ◌==◌, ◌&&◌, bytes_eq, length}
 use Rattle.std.specs.Option.{option_map, option_map_or, option_and_then}
 use Rattle.std.proofs.lemmas.Bool.Decides.{Decides-eqb}
@@ -27,6 +27,7 @@ use Rattle.kernel_model.specs.NewCall.{new_call_of, new_call_with}
 use Rattle.kernel_model.specs.Resume.{call_resumed_by, onward_of, resume_call, resumed_call, suspended_for, takes_call}
 use Rattle.kernel_model.proofs.FixedAnswer.{decides_all}
 use Rattle.kernel_model.proofs.Parts.{AllOf, AllOf-mapped, option_map_some}
+use Rattle.kernel_model.proofs.Past.{after_events-append}
 use Rattle.kernel_model.proofs.SoundNewCalls.{NewCases, cases_onward, new_decides}
 
 -- the processor of an event
@@ -202,3 +203,26 @@ pub holds_after : (boot : Booted) (I : ℕ → Kernel → Type 0) → Keeps boot
 holds_after boot I keeps history kernel e =
     let none : 0 + length history ≡ length history = omega arith in
     subst (λ (n : ℕ). I n kernel) none (later boot I keeps 0 (first_kernel boot) kernel history keeps.first e)
+
+along : (boot : Booted) (I : Kernel → Type 0)
+    → ((before : List Event) (kernel : Kernel) (cpu : ℕ) → kernel_after boot before ≡ Some kernel → I kernel → EventCases boot kernel cpu I)
+    → (before : List Event) (kernel last : Kernel) (events : List Event) → kernel_after boot before ≡ Some kernel → I kernel
+    → after_events boot kernel events ≡ Some last → I last
+along boot I onward before kernel last [] there holds e =
+    let is : kernel ≡ last = cc in
+    subst I is holds
+along boot I onward before kernel last (happened ∷ events) there holds e =
+    option_and_then_some (λ k. after_events boot k events) (after_event boot kernel happened) last e
+    (λ (next : Kernel) came rest.
+    let once : kernel_after boot (before ++ happened ∷ []) ≡ Some next =
+    after_events-append boot (first_kernel boot) before (happened ∷ [])
+    ∙ ap (λ (o : Option Kernel). option_and_then (λ k. after_events boot k (happened ∷ [])) o) there
+    ∙ ap (λ (o : Option Kernel). option_and_then (λ k. after_events boot k []) o) came in
+    along boot I onward (before ++ happened ∷ []) next last events once
+    (after_one boot kernel next I happened (onward before kernel (cpu_of happened) there holds) came) rest)
+
+-- the same, where what else is known of a kernel that a history comes to helps
+pub holds_along : (boot : Booted) (I : Kernel → Type 0) → I (first_kernel boot)
+    → ((before : List Event) (kernel : Kernel) (cpu : ℕ) → kernel_after boot before ≡ Some kernel → I kernel → EventCases boot kernel cpu I)
+    → (history : List Event) (kernel : Kernel) → kernel_after boot history ≡ Some kernel → I kernel
+holds_along boot I first onward history kernel e = along boot I onward [] (first_kernel boot) kernel history refl first e

@@ -20,6 +20,7 @@ pub mod SoundNumbers
 pub mod SoundOrder
 pub mod SoundWaiters
 pub mod SoundJobs
+pub mod SoundCalls
 pub mod Worked
 pub mod AnswerExamples
 pub mod ResultExamples

@@ -4,6 +4,7 @@ ghost use Rattle.kernel_model.specs.SoundNumbers.{AreNumbered, NumbersRise};
 ghost use Rattle.kernel_model.specs.SoundOrder.{AreInOrder};
 ghost use Rattle.kernel_model.specs.SoundWaiters.{AreWaiters};
 ghost use Rattle.kernel_model.specs.SoundJobs.{ExitsCome};
+ghost use Rattle.kernel_model.specs.SoundCalls.{AreJoined};
 
 /// A processor that is inside for a slot works on its call, and the processor that works on a call is inside for its slot;
 /// a call is suspended for its own client.
@@ -49,4 +50,9 @@ pub fn waiters_are_calls()
 /// A processor that is inside has an exit.
 pub fn exits_come()
     ensures { Always ExitsCome }
+{}
+
+/// Calls, sessions and instances fit together: a call that works holds its instance, and its session is kept.
+pub fn calls_fit_their_tables()
+    ensures { Always (λ boot kernel. AreJoined (call_at kernel.slots) kernel.tables) }
 {}
