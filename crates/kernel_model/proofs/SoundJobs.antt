@@ -9,7 +9,7 @@ use Rattle.base.specs.NumberMap.{NumberMap}
 use Rattle.base.proofs.Overwriting.{length-written}
 use Rattle.job_model.specs.Asking.{Ask, Asking, Bad, Gives, Needs, PendingRequest, ask, comes_to}
 use Rattle.job_model.specs.Job.{Body, Job, Machine, Native, Nothing, body_with_cancel_seen, image_job_at, with_cancel_seen}
-use Rattle.job_model.specs.Steps.{Advance, End, Goes, Grant, JobStop, Left, Stopped, Stops, advance, advance_by, advance_of, advance_on_answer, advance_on_answer_in, advance_on_answers, grant_behind, grant_of, has_destroy, job_after_return, native_end, new_request, on_from, on_to_next, one_later, run_for, still_to_come, stop_at_once, with_bytes, with_machine}
+use Rattle.job_model.specs.Steps.{Advance, End, Goes, Grant, JobStop, Left, Stopped, Stops, advance, advance_by, advance_of, advance_on_answer, advance_on_answer_in, advance_on_answers, ends_instance, grant_behind, grant_of, has_destroy, job_after_return, native_end, new_request, on_from, on_to_next, one_later, run_for, still_to_come, stop_at_once, with_bytes, with_machine}
 use Rattle.job_model.specs.Steps as steps
 use Rattle.job_model.specs.declared.entry_point.EntryPoint.{EntryPoint}
 use Rattle.job_model.specs.declared.entry_point.EntryPoint.TheVariants.{Create, Open, Invoke, Close, Destroy}
@@ -31,10 +31,16 @@ use Rattle.ta_step.specs.declared.stop.Request.{Request}
 use Rattle.ta_step.specs.declared.stop.Request.TheVariants as request
 use Rattle.ta_step.specs.declared.stop.Stop.TheVariants as stop
 use Rattle.tee_storage.specs.declared.handle.Handle.{Handle}
-use Rattle.kernel_model.specs.SoundJobs.{IsLastingBody, IsRunnable}
+use Rattle.kernel_model.specs.SoundJobs.{IsRunnable}
 use Rattle.kernel_model.proofs.Parts.{option_map_some}
 
 -- ---- what stays
+
+-- it ends with no create and no destroy, so that its instance lasts
+abbrev pub IsLastingBody : Body → List EntryPoint → Type 0
+IsLastingBody (Machine image point machine) points = (ends_instance point ≡ false) × (points ≡ [])
+IsLastingBody (Native relation func) points = Unit {0}
+IsLastingBody Nothing points = points ≡ []
 
 -- the same image with as much memory, the same relation, or nothing
 abbrev pub IsSameBody : Body → Body → Type 0

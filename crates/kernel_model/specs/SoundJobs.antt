@@ -1,8 +1,6 @@
 -- What holds of the jobs of calls, in every kernel that a legal history comes to. This project's own.
-use Rattle.std.specs.Prelude.{◌≡◌, ℕ, false, List, [], Some, IsSome, slice_get}
-use Rattle.job_model.specs.Job.{Body, Machine, Native, Nothing, Job}
-use Rattle.job_model.specs.Steps.{ends_instance}
-use Rattle.job_model.specs.declared.entry_point.EntryPoint.{EntryPoint}
+use Rattle.std.specs.Prelude.{◌≡◌, ℕ, List, Some, IsSome, slice_get}
+use Rattle.job_model.specs.Job.{Body, Machine, Native, Nothing}
 use Rattle.ta_isa.specs.Spelling.{IsValid}
 use Rattle.kernel_model.specs.Application.{Booted}
 use Rattle.kernel_model.specs.Exit.{exit}
@@ -13,12 +11,6 @@ abbrev pub IsRunnable : Body → Type 0
 IsRunnable (Machine image point machine) = IsValid image
 IsRunnable (Native relation func) = Unit {0}
 IsRunnable Nothing = Unit {0}
-
--- it ends with no create and no destroy, so that its instance lasts
-abbrev pub IsLastingBody : Body → List EntryPoint → Type 0
-IsLastingBody (Machine image point machine) points = (ends_instance point ≡ false) × (points ≡ [])
-IsLastingBody (Native relation func) points = Unit {0}
-IsLastingBody Nothing points = points ≡ []
 
 -- the exit of a processor that is inside is one
 abbrev pub ExitsCome : Booted → Kernel → Type 0

@@ -6,8 +6,8 @@ ghost use Rattle.kernel_model.specs.SoundWaiters.{AreWaiters};
 ghost use Rattle.kernel_model.specs.SoundJobs.{ExitsCome};
 ghost use Rattle.kernel_model.specs.SoundCalls.{AreJoined};
 
-/// A processor that is inside for a slot works on its call, and the processor that works on a call is inside for its slot;
-/// a call is suspended for its own client.
+/// A processor that is inside for a slot works on its call, and the processor that works on a call is inside for its
+/// slot; a call is suspended for its own client.
 pub fn processors_work_on_their_slots()
     ensures { Always (λ boot kernel. AreAtWork kernel) }
 {}
