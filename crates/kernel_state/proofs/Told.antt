@@ -8,17 +8,15 @@ use Rattle.std.specs.Prelude.{IsSome, not, slice_get, count_by, cond}
 use Rattle.std.specs.List.{AllByRecursion, AllByRecursion-prop}
 use Rattle.std.specs.Option.{option_map, option_map_or}
 use Rattle.std.specs.Global.{Box}
-use Rattle.base.specs.NumberMap.{NumberMap}
 use Rattle.event_journal.specs.Journal.{copied_bytes}
 use Rattle.event_journal.specs.declared.event.Event.{Event}
 use Rattle.event_journal.specs.declared.event.Event.TheVariants.{Entry, Exit}
 use Rattle.kernel_model.specs.Application.{AreNatives, Booted, Native}
 use Rattle.kernel_model.specs.History.{IsLegal, is_outside, kernel_after}
+use Rattle.kernel_model.specs.Instances.{free_pages}
 use Rattle.kernel_model.specs.Kernel.{Kernel}
 use Rattle.kernel_model.specs.Kernel as model
-use Rattle.native_tas.specs.Table.{entries}
 use Rattle.rpc_cont.specs.declared.cont.Cont.{Cont}
-use Rattle.session_table.specs.declared.session.Session.{Session}
 use Rattle.ta_isa.specs.Boots.{IsBoot}
 use Rattle.ta_isa.specs.Spelling.{IsValid}
 use Rattle.ta_isa.specs.declared.boot.Boot.{Boot}
@@ -30,7 +28,9 @@ use Rattle.kernel_state.specs.Meaning.{free_pages_in, free_slots_in, is_inside}
 use Rattle.kernel_state.specs.Processors.{processor_of}
 use Rattle.kernel_state.specs.Reads.{ReadsAgree}
 use Rattle.kernel_state.specs.Replay.{Replays}
-use Rattle.kernel_state.specs.StandsFor.{AreSlots, IsSlot, StandsFor, boot_in, booted_with}
+use Rattle.kernel_state.specs.StandsFor.{AreSlots, IsSlot, StandsFor}
+use Rattle.kernel_state.specs.Setup.{boot_of, booted_with, natives_of}
+use Rattle.kernel_state.specs.Tables.{tables_of}
 use Rattle.kernel_state.specs.declared.cancellation.Cancellation.{Cancellation}
 use Rattle.kernel_state.specs.declared.parts.Parts.{Parts}
 use Rattle.kernel_state.specs.declared.processor.Processor.{Processor}
@@ -49,103 +49,104 @@ natives_prop boot natives = Prim.hlevel props
 follows_prop : (boot : Booted) (events : List Event) → IsProp (IsSome (kernel_after boot events))
 follows_prop boot events = Prim.hlevel props
 
-pub is_legal : {X : Type 0} {g : _} (parts : Parts X g) → ∥ Replays parts ∥₁ → IsLegal (booted_with parts) parts.journal.events
+pub is_legal : (parts : Parts) → ∥ Replays parts ∥₁ → IsLegal (booted_with parts.setup) parts.journal.events
 is_legal parts fact = record {
   boots = record {
-    boot = boot_in parts;
-    natives = entries parts.natives;
-    is_boot = ∥∥₁_elim fact (boot_prop (boot_in parts)) (λ (so : Replays parts). so.is_boot);
-    are_natives = ∥∥₁_elim fact (natives_prop (boot_in parts) (entries parts.natives)) (λ (so : Replays parts). so.are_natives);
+    boot = boot_of parts.setup;
+    natives = natives_of parts.setup;
+    is_boot = ∥∥₁_elim fact (boot_prop (boot_of parts.setup)) (λ (so : Replays parts). so.is_boot);
+    are_natives = ∥∥₁_elim fact (natives_prop (boot_of parts.setup) (natives_of parts.setup)) (λ (so : Replays parts). so.are_natives);
     same = refl;
   };
-  follows = ∥∥₁_elim fact (follows_prop (booted_with parts) parts.journal.events) (λ (so : Replays parts). rw so.comes_to refl);
+  follows = ∥∥₁_elim fact (follows_prop (booted_with parts.setup) parts.journal.events) (λ (so : Replays parts). rw so.comes_to refl);
 }
 
-pub few_bytes : {X : Type 0} {g : _} (parts : Parts X g) → ∥ Replays parts ∥₁ → copied_bytes parts.journal.events ≤ 2 ^ 28
+pub few_bytes : (parts : Parts) → ∥ Replays parts ∥₁ → copied_bytes parts.journal.events ≤ 2 ^ 28
 few_bytes parts fact = ∥∥₁_elim fact (Prim.hlevel props) (λ (so : Replays parts). so.few)
 
 agree_prop : (event : Event) → IsProp (ReadsAgree event)
 agree_prop (Entry cpu regs steps reads) = Prim.hlevel props
 agree_prop (Exit cpu regs) = Prim.hlevel props
 
-pub reads_agree : {X : Type 0} {g : _} (parts : Parts X g) → ∥ Replays parts ∥₁ → AllByRecursion ReadsAgree parts.journal.events
+pub reads_agree : (parts : Parts) → ∥ Replays parts ∥₁ → AllByRecursion ReadsAgree parts.journal.events
 reads_agree parts fact = ∥∥₁_elim fact (AllByRecursion-prop ReadsAgree agree_prop parts.journal.events) (λ (so : Replays parts). so.agree)
 
 -- ---- numbers
 
 -- what is asked of the kernel, where each that the parts stand for answers so
-number_told : {X : Type 0} {g : _} (parts : Parts X g) (ask : Kernel → ℕ) (answer : ℕ) →
+number_told : (parts : Parts) (ask : Kernel → ℕ) (answer : ℕ) →
     ((kernel : Kernel) → StandsFor parts kernel → ask kernel ≡ answer) → ∥ Replays parts ∥₁ →
-    option_map ask (kernel_after (booted_with parts) parts.journal.events) ≡ Some answer
+    option_map ask (kernel_after (booted_with parts.setup) parts.journal.events) ≡ Some answer
 number_told parts ask answer tells fact = ∥∥₁_elim fact (Prim.hlevel props) (λ (so : Replays parts).
     ap (option_map ask) so.comes_to ∙ ap Some (tells so.kernel so.stands))
 
-test_told : {X : Type 0} {g : _} (parts : Parts X g) (ask : Kernel → Bool) (answer : Bool) →
+test_told : (parts : Parts) (ask : Kernel → Bool) (answer : Bool) →
     ((kernel : Kernel) → StandsFor parts kernel → ask kernel ≡ answer) → ∥ Replays parts ∥₁ →
-    option_map ask (kernel_after (booted_with parts) parts.journal.events) ≡ Some answer
+    option_map ask (kernel_after (booted_with parts.setup) parts.journal.events) ≡ Some answer
 test_told parts ask answer tells fact = ∥∥₁_elim fact (Prim.hlevel props) (λ (so : Replays parts).
     ap (option_map ask) so.comes_to ∙ ap Some (tells so.kernel so.stands))
 
 -- ---- slots
 
-one_free : {X : Type 0} {g : _} (sessions : NumberMap Session) (slot : Slot (Box (Cont (List ℕ) X g))) (beside : Cancellation) (held : model.ThreadSlot) →
-    IsSlot sessions slot beside held → model.is_free held ≡ is_free slot
-one_free sessions Free beside model.Free is = refl
-one_free sessions Free beside (model.Active worker call) is = absurd is
-one_free sessions Free beside (model.Suspended owner call) is = absurd is
-one_free sessions (Active cpu) beside model.Free is = absurd is
-one_free sessions (Active cpu) beside (model.Active worker call) is = refl
-one_free sessions (Active cpu) beside (model.Suspended owner call) is = absurd is
-one_free sessions (Suspended client cont) beside model.Free is = absurd is
-one_free sessions (Suspended client cont) beside (model.Active worker call) is = absurd is
-one_free sessions (Suspended client cont) beside (model.Suspended owner call) is = refl
+one_free : (slot : Slot (Box (Cont (List ℕ)))) (beside : Cancellation) (held : model.ThreadSlot) →
+    IsSlot slot beside held → model.is_free held ≡ is_free slot
+one_free Free beside model.Free is = refl
+one_free Free beside (model.Active worker call) is = absurd is
+one_free Free beside (model.Suspended owner call) is = absurd is
+one_free (Active cpu) beside model.Free is = absurd is
+one_free (Active cpu) beside (model.Active worker call) is = refl
+one_free (Active cpu) beside (model.Suspended owner call) is = absurd is
+one_free (Suspended client cont) beside model.Free is = absurd is
+one_free (Suspended client cont) beside (model.Active worker call) is = absurd is
+one_free (Suspended client cont) beside (model.Suspended owner call) is = refl
 
-as_many_free : {X : Type 0} {g : _} (sessions : NumberMap Session) (slots : List (Slot (Box (Cont (List ℕ) X g)))) (beside : List Cancellation) (held : List model.ThreadSlot) →
-    AreSlots sessions slots beside held → count_by model.is_free held ≡ count_by is_free slots
-as_many_free sessions [] [] [] are = refl
-as_many_free sessions [] (b ∷ bs) held are = absurd (are 0)
-as_many_free sessions [] [] (h ∷ hs) are = absurd (are 0)
-as_many_free sessions (s ∷ ss) [] held are = absurd (are 0)
-as_many_free sessions (s ∷ ss) (b ∷ bs) [] are = absurd (are 0)
-as_many_free sessions (s ∷ ss) (b ∷ bs) (h ∷ hs) are =
-    let here : model.is_free h ≡ is_free s = one_free sessions s b h (are 0) in
-    let rest : count_by model.is_free hs ≡ count_by is_free ss = as_many_free sessions ss bs hs (λ slot. are (suc slot)) in
+as_many_free : (slots : List (Slot (Box (Cont (List ℕ))))) (beside : List Cancellation) (held : List model.ThreadSlot) →
+    AreSlots slots beside held → count_by model.is_free held ≡ count_by is_free slots
+as_many_free [] [] [] are = refl
+as_many_free [] (b ∷ bs) held are = absurd (are 0)
+as_many_free [] [] (h ∷ hs) are = absurd (are 0)
+as_many_free (s ∷ ss) [] held are = absurd (are 0)
+as_many_free (s ∷ ss) (b ∷ bs) [] are = absurd (are 0)
+as_many_free (s ∷ ss) (b ∷ bs) (h ∷ hs) are =
+    let here : model.is_free h ≡ is_free s = one_free s b h (are 0) in
+    let rest : count_by model.is_free hs ≡ count_by is_free ss = as_many_free ss bs hs (λ slot. are (suc slot)) in
     sum_by-cons (λ (held : model.ThreadSlot). cond (model.is_free held) 1 0) h hs
     ∙ ap₂ (λ (free : Bool) (n : ℕ). cond free 1 0 + n) here rest
     ∙ sym (sum_by-cons (λ slot. cond (is_free slot) 1 0) s ss)
 
-pub free_slots_told : {X : Type 0} {g : _} (parts : Parts X g) (free : ℕ) → free ≡ count_by is_free parts.slots → ∥ Replays parts ∥₁ →
-    option_map free_slots_in (kernel_after (booted_with parts) parts.journal.events) ≡ Some free
+pub free_slots_told : (parts : Parts) (free : ℕ) → free ≡ count_by is_free parts.slots → ∥ Replays parts ∥₁ →
+    option_map free_slots_in (kernel_after (booted_with parts.setup) parts.journal.events) ≡ Some free
 free_slots_told parts free is = number_told parts free_slots_in free (λ kernel stands.
-    as_many_free kernel.tables.sessions parts.slots parts.cancellations kernel.slots stands.slots ∙ sym is)
+    as_many_free parts.slots parts.cancellations.items kernel.slots stands.slots ∙ sym is)
 
 -- ---- pages
 
-pub free_pages_told : {X : Type 0} {g : _} (parts : Parts X g) (free : ℕ) → free ≡ parts.pool.free → ∥ Replays parts ∥₁ →
-    option_map (free_pages_in (booted_with parts)) (kernel_after (booted_with parts) parts.journal.events) ≡ Some free
-free_pages_told parts free is = number_told parts (free_pages_in (booted_with parts)) free (λ kernel stands. sym stands.pages ∙ sym is)
+pub free_pages_told : (parts : Parts) (free : ℕ) → free ≡ parts.tables.pool.free → ∥ Replays parts ∥₁ →
+    option_map (free_pages_in (booted_with parts.setup)) (kernel_after (booted_with parts.setup) parts.journal.events) ≡ Some free
+free_pages_told parts free is = number_told parts (free_pages_in (booted_with parts.setup)) free (λ kernel stands.
+    sym (ap (λ (tables : model.Tables). free_pages (booted_with parts.setup) tables.instances) stands.tables) ∙ sym stands.pages.free ∙ sym is)
 
 -- ---- processors
 
 -- that of this number is inside, or not, as what is found there
-found_told : {X : Type 0} {g : _} (parts : Parts X g) (cpu : ℕ) (found : Option Processor) (answer : Bool) →
-    slice_get parts.processors cpu ≡ found →
+found_told : (parts : Parts) (cpu : ℕ) (found : Option Processor) (answer : Bool) →
+    slice_get parts.processors.items cpu ≡ found →
     option_map_or (λ (processor : model.Processor). not (is_outside processor)) (option_map processor_of found) false ≡ answer →
     ∥ Replays parts ∥₁ →
-    option_map (is_inside cpu) (kernel_after (booted_with parts) parts.journal.events) ≡ Some answer
+    option_map (is_inside cpu) (kernel_after (booted_with parts.setup) parts.journal.events) ≡ Some answer
 found_told parts cpu found answer is so = test_told parts (is_inside cpu) answer (λ kernel stands.
     ap (λ (processors : List model.Processor). option_map_or (λ (processor : model.Processor). not (is_outside processor)) (slice_get processors cpu) false) (sym stands.processors)
     ∙ ap (λ (one : Option model.Processor). option_map_or (λ (processor : model.Processor). not (is_outside processor)) one false)
-    (slice_get-map processor_of parts.processors cpu ∙ ap (option_map processor_of) is)
+    (slice_get-map processor_of parts.processors.items cpu ∙ ap (option_map processor_of) is)
     ∙ so)
 
-pub inside_told : {X : Type 0} {g : _} (parts : Parts X g) (cpu : ℕ) (processor : Processor) (answer : Bool) →
-    cpu < length parts.processors → processor ≡ get_or parts.processors cpu processor →
+pub inside_told : (parts : Parts) (cpu : ℕ) (processor : Processor) (answer : Bool) →
+    cpu < length parts.processors.items → processor ≡ get_or parts.processors.items cpu processor →
     answer ≡ not (is_outside (processor_of processor)) → ∥ Replays parts ∥₁ →
-    option_map (is_inside cpu) (kernel_after (booted_with parts) parts.journal.events) ≡ Some answer
+    option_map (is_inside cpu) (kernel_after (booted_with parts.setup) parts.journal.events) ≡ Some answer
 inside_told parts cpu processor answer below is so =
-    found_told parts cpu (Some processor) answer (slice_get_read parts.processors (length parts.processors) cpu processor refl below is) (sym so)
+    found_told parts cpu (Some processor) answer (slice_get_read parts.processors.items (length parts.processors.items) cpu processor refl below is) (sym so)
 
-pub absent_told : {X : Type 0} {g : _} (parts : Parts X g) (cpu : ℕ) → length parts.processors ≤ cpu → ∥ Replays parts ∥₁ →
-    option_map (is_inside cpu) (kernel_after (booted_with parts) parts.journal.events) ≡ Some false
-absent_told parts cpu past = found_told parts cpu None false (slice_get_past parts.processors cpu past) refl
+pub absent_told : (parts : Parts) (cpu : ℕ) → length parts.processors.items ≤ cpu → ∥ Replays parts ∥₁ →
+    option_map (is_inside cpu) (kernel_after (booted_with parts.setup) parts.journal.events) ≡ Some false
+absent_told parts cpu past = found_told parts cpu None false (slice_get_past parts.processors.items cpu past) refl

@@ -1,7 +1,6 @@
 -- When a call as data stands for a pending call of the kernel.
-use Rattle.std.specs.Prelude.{◌≡◌, ℕ, Bool, List, Option, Some, None}
+use Rattle.std.specs.Prelude.{◌≡◌, ℕ, Bool, List, Option, Some, None, IsSome}
 use Rattle.std.specs.Option.{option_and_then}
-use Rattle.base.specs.NumberMap.{NumberMap, get}
 use Rattle.job_model.specs.Job.{of_tee}
 use Rattle.kernel_model.specs.Kernel.{CallPhase, Runs, Asks, Waits, Ends, PendingCall}
 use Rattle.rpc_cont.specs.Advancing.{CanAdvance}
@@ -14,7 +13,6 @@ use Rattle.rpc_cont.specs.declared.cont.Cont.{Cont}
 use Rattle.rpc_cont.specs.declared.phase.Phase.TheVariants as phase
 use Rattle.rpc_msgs.specs.declared.rpc.Rpc.{Rpc}
 use Rattle.rpc_msgs.specs.declared.rpc.Rpc.TheVariants as rpc
-use Rattle.session_table.specs.declared.session.Session.{Session}
 use Rattle.ta_params.specs.declared.call_result.CallResult.{CallResult}
 use Rattle.ta_params.specs.declared.copied_params.CopiedParams.{CopiedParams}
 
@@ -24,16 +22,14 @@ bytes_of pages = pages
 
 -- ---- phases
 
--- it waits for its instance with these parameters: it can begin there, with the login and the context of its session
--- where that is still kept
-pub record IsWaiting {X : Type 0} {g : _} (sessions : NumberMap Session) (cont : Cont (List ℕ) X g)
-    (brought : CopiedParams) : Type 0 where
+-- it waits for its instance with these parameters, and keeps its application. When it begins there, it gets login and
+-- context from its session
+pub record IsWaiting (cont : Cont (List ℕ)) (brought : CopiedParams) : Type 0 where
   pub phase : cont.phase ≡ phase.Waits
+  pub app : IsSome cont.app
   pub fresh : IsFresh cont
   pub params : kept_params cont.params ≡ brought
   pub result : cont.result ≡ of_tee 0
-  pub login : (session : Session) → get sessions cont.session ≡ Some session → cont.login ≡ session.login
-  pub context : (session : Session) → get sessions cont.session ≡ Some session → cont.context ≡ session.context
 
 -- the slot that a request wakes
 abbrev pub woken_slot : Rpc → Option ℕ
@@ -41,7 +37,7 @@ woken_slot (rpc.Wake slot) = Some slot
 woken_slot _ = None
 
 -- it has this result: what it may still ask for is to wake a slot
-pub record HasEnded {X : Type 0} {g : _} (cont : Cont (List ℕ) X g) (outcome : CallResult) (left : CopiedParams)
+pub record HasEnded (cont : Cont (List ℕ)) (outcome : CallResult) (left : CopiedParams)
     (was_told : Bool) (woken : Option ℕ) : Type 0 where
   pub phase : cont.phase ≡ phase.Ends
   pub result : cont.result ≡ outcome
@@ -50,24 +46,23 @@ pub record HasEnded {X : Type 0} {g : _} (cont : Cont (List ℕ) X g) (outcome :
   pub wakes : option_and_then (λ asked. woken_slot asked.rpc) cont.request ≡ woken
 
 -- it has come as far as the phase says
-abbrev pub IsInPhase : {X : Type 0} {g : _} → NumberMap Session → Cont (List ℕ) X g → CallPhase → Type 0
-IsInPhase sessions cont (Runs job) = (job ≡ job_of bytes_of cont) × CanAdvance bytes_of cont
-IsInPhase sessions cont (Asks job wanted payload) =
+abbrev pub IsInPhase : Cont (List ℕ) → CallPhase → Type 0
+IsInPhase cont (Runs job) = (job ≡ job_of bytes_of cont) × CanAdvance bytes_of cont
+IsInPhase cont (Asks job wanted payload) =
     (cont.phase ≡ phase.Asks) × HasAsked bytes_of (uuid_of cont.app) cont (job_of bytes_of cont) wanted payload job
     × CanBeAnswered bytes_of cont
-IsInPhase sessions cont (Waits params) = IsWaiting sessions cont params
-IsInPhase sessions cont (Ends result params told wakes) = HasEnded cont result params told wakes
+IsInPhase cont (Waits params) = IsWaiting cont params
+IsInPhase cont (Ends result params told wakes) = HasEnded cont result params told wakes
 
 -- ---- the call
 
 -- its application, where it has come to have one, is that of this UUID
-abbrev pub IsAppOf : {X : Type 0} {g : _} → Option (ContApp X g) → Option (List ℕ) → Type 0
+abbrev pub IsAppOf : Option ContApp → Option (List ℕ) → Type 0
 IsAppOf None uuid = Unit {0}
 IsAppOf (Some app) uuid = uuid ≡ Some (uuid_of (Some app))
 
 -- the call as data is the kernel's, but for what stands beside its slot
-pub record IsCall {X : Type 0} {g : _} (sessions : NumberMap Session) (cont : Cont (List ℕ) X g)
-    (call : PendingCall) : Type 0 where
+pub record IsCall (cont : Cont (List ℕ)) (call : PendingCall) : Type 0 where
   pub client : cont.client ≡ call.client
   pub kind : cont.kind ≡ call.kind
   pub app : IsAppOf cont.app call.uuid
@@ -78,4 +73,4 @@ pub record IsCall {X : Type 0} {g : _} (sessions : NumberMap Session) (cont : Co
   pub seen : cont.cancelled ≡ call.seen
   pub steps : cont.steps ≡ call.steps
   pub buffer : cont.buffer ≡ call.buffer
-  pub phase : IsInPhase sessions cont call.phase
+  pub phase : IsInPhase cont call.phase

@@ -1,7 +1,14 @@
 pub mod Booting
 pub mod Calls
+pub mod Cancelling
+pub mod Carried
+pub mod Entering
+pub mod Leaving
+pub mod Meaning
 pub mod Processors
-pub mod StandsFor
 pub mod Reads
 pub mod Replay
-pub mod Meaning
+pub mod Setup
+pub mod StandsFor
+pub mod Tables
+pub mod Work

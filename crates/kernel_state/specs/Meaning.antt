@@ -6,17 +6,17 @@ use Rattle.kernel_model.specs.Application.{Booted}
 use Rattle.kernel_model.specs.History.{is_outside, kernel_after}
 use Rattle.kernel_model.specs.Instances.{free_pages}
 use Rattle.kernel_model.specs.Kernel.{Kernel, is_free}
-use Rattle.kernel_state.specs.StandsFor.{booted_with}
+use Rattle.kernel_state.specs.Setup.{booted_with}
 use Rattle.kernel_state.specs.declared.kernel_core.Core.{Core}
 
-abbrev pub booted_of : {X : Type 0} {g : _} → Core X g → Booted
-booted_of core = booted_with core.parts
+abbrev pub booted_of : Core → Booted
+booted_of core = booted_with core.parts.setup
 
-abbrev pub events_of : {X : Type 0} {g : _} → Core X g → List Event
+abbrev pub events_of : Core → List Event
 events_of core = core.parts.journal.events
 
 -- there always is one
-abbrev pub kernel_of : {X : Type 0} {g : _} → Core X g → Option Kernel
+abbrev pub kernel_of : Core → Option Kernel
 kernel_of core = kernel_after (booted_of core) (events_of core)
 
 -- ---- what is asked of a kernel

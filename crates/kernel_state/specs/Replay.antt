@@ -5,17 +5,17 @@ use Rattle.event_journal.specs.Journal.{copied_bytes}
 use Rattle.kernel_model.specs.Application.{AreNatives}
 use Rattle.kernel_model.specs.History.{kernel_after}
 use Rattle.kernel_model.specs.Kernel.{Kernel}
-use Rattle.native_tas.specs.Table.{entries}
 use Rattle.ta_isa.specs.Boots.{IsBoot}
 use Rattle.kernel_state.specs.Reads.{ReadsAgree}
-use Rattle.kernel_state.specs.StandsFor.{StandsFor, boot_in, booted_with}
+use Rattle.kernel_state.specs.Setup.{boot_of, booted_with, natives_of}
+use Rattle.kernel_state.specs.StandsFor.{StandsFor}
 use Rattle.kernel_state.specs.declared.parts.Parts.{Parts}
 
-pub record Replays {X : Type 0} {g : _} (parts : Parts X g) : Type 0 where
+pub record Replays (parts : Parts) : Type 0 where
   pub kernel : Kernel
-  pub is_boot : IsBoot (boot_in parts)
-  pub are_natives : AreNatives (boot_in parts) (entries parts.natives)
-  pub comes_to : kernel_after (booted_with parts) parts.journal.events ≡ Some kernel
+  pub is_boot : IsBoot (boot_of parts.setup)
+  pub are_natives : AreNatives (boot_of parts.setup) (natives_of parts.setup)
+  pub comes_to : kernel_after (booted_with parts.setup) parts.journal.events ≡ Some kernel
   pub stands : StandsFor parts kernel
   -- all reads have together at most 2^28 bytes, and those of one entry agree
   pub few : copied_bytes parts.journal.events ≤ 2 ^ 28

@@ -1,8 +1,10 @@
-ghost use Rattle.std.specs.Prelude.{◌≡◌, ◌↔◌, ℕ, List, [], map, false, replicate, Some, IfNone, IfOk, IsErrOf};
+ghost use Rattle.std.specs.Prelude.{◌≡◌, ◌<◌, ◌≤◌, ◌↔◌, ℕ, List, [], map, false, replicate, Some, IfNone, IfOk, IsErrOf};
 ghost use Rattle.kernel_model.specs.Application.{AreNatives, booted};
-ghost use Rattle.kernel_model.specs.Kernel.{first_kernel};
+ghost use Rattle.kernel_model.specs.Kernel.{first_kernel, first_tables};
 ghost use Rattle.kernel_state.specs.Booting.{IsWithinLimits, first_repeated};
-ghost use Rattle.kernel_state.specs.StandsFor.{StandsFor, app_of, boot_in, booted_with};
+ghost use Rattle.kernel_state.specs.Setup.{app_of, boot_of, booted_with, natives_of};
+ghost use Rattle.kernel_state.specs.StandsFor.{StandsFor};
+ghost use Rattle.kernel_state.specs.Tables.{tables_of};
 ghost use Rattle.kernel_state.specs.Meaning.{booted_of, events_of};
 ghost use Rattle.kernel_state.specs.declared.boot_fault.BootFault.TheVariants.{Repeated};
 ghost use Rattle.kernel_state.specs.declared.processor.Processor.TheVariants.{Outside};
@@ -15,7 +17,9 @@ use crate::kernel_core::Core;
 use crate::parts::Parts;
 use crate::processor::Processor;
 use crate::repeats::first_repeated;
+use crate::setup::Setup;
 use crate::shared_app::SharedApp;
+use crate::tables::Tables;
 use base::{NoMemory, Sequence};
 use event_journal::Journal;
 use frame_pool::Pool;
@@ -54,31 +58,48 @@ fn shared_apps(alloc: Global, apps: Sequence<App>) -> Result<Sequence<SharedApp>
 }
 
 /// What stands beside so many free slots.
-fn free_cancellations(alloc: Global, threads: u8) -> Result<Sequence<Cancellation>, NoMemory>
-    ensures { IfOk result (λ cancellations. cancellations ≡ replicate threads (record { session = 0; cancel_id = 0; marked = false })) }
+fn free_cancellations(alloc: Global, threads: u8) -> Result<Vec<Cancellation>, NoMemory>
+    ensures { IfOk result (λ cancellations. cancellations.items ≡ replicate threads (record { session = 0; cancel_id = 0; marked = false })) }
 {
     let none = Cancellation {
         session: 0,
         cancel_id: 0,
         marked: false,
     };
-    Ok(Sequence::of(vec![in alloc; none; usize::from(threads)]?))
+    Ok(vec![in alloc; none; usize::from(threads)]?)
 }
 
 /// So many processors that are outside.
-fn outside_processors(alloc: Global, cpus: u8) -> Result<Sequence<Processor>, NoMemory>
-    ensures { IfOk result (λ processors. processors ≡ replicate cpus Outside) }
+fn outside_processors(alloc: Global, cpus: u8) -> Result<Vec<Processor>, NoMemory>
+    ensures { IfOk result (λ processors. processors.items ≡ replicate cpus Outside) }
 {
-    Ok(Sequence::of(vec![in alloc; Processor::Outside; usize::from(cpus)]?))
+    Ok(vec![in alloc; Processor::Outside; usize::from(cpus)]?)
+}
+
+/// Tables where nothing is kept, and so many free frames.
+fn first_tables(alloc: Global, frames: u16) -> Result<Tables, NoMemory>
+    requires some { 0 < frames }
+    requires few { frames ≤ 1024 }
+    ensures first { IfOk result (λ tables. tables_of tables ≡ first_tables) }
+    ensures free { IfOk result (λ tables. tables.pool ≡ record { frames = frames; free = frames }) }
+{
+    Ok(Tables {
+        sessions: Sessions::new(alloc)?,
+        waiters: Waiters::new(),
+        instances: Instances::new(alloc)?,
+        instances_made: 0,
+        registry: Registry::new(alloc)?,
+        pool: Pool::new(alloc, frames)?,
+    })
 }
 
 /// The parts of a core where nothing has happened.
-fn first_parts(alloc: Global, boot: Boot, natives: Natives) -> Result<Parts, NoMemory>
+fn first_parts(alloc: Global, boot: Boot, natives: &Natives) -> Result<Parts, NoMemory>
     requires { IsWithinLimits boot }
-    ensures boot { IfOk result (λ parts. boot_in parts ≡ boot) }
-    ensures natives { IfOk result (λ parts. entries parts.natives ≡ entries natives) }
+    ensures boot { IfOk result (λ parts. boot_of parts.setup ≡ boot) }
+    ensures natives { IfOk result (λ parts. natives_of parts.setup ≡ entries natives.now) }
     ensures events { IfOk result (λ parts. parts.journal.events ≡ []) }
-    ensures stands { IfOk result (λ parts. StandsFor parts (first_kernel (booted_with parts))) }
+    ensures stands { IfOk result (λ parts. StandsFor parts (first_kernel (booted_with parts.setup))) }
 {
     let Boot {
         cpus,
@@ -87,17 +108,17 @@ fn first_parts(alloc: Global, boot: Boot, natives: Natives) -> Result<Parts, NoM
         apps,
     } = boot;
     Ok(Parts {
-        apps: shared_apps(alloc, apps)?,
-        natives,
+        setup: Setup {
+            cpus,
+            threads,
+            frames,
+            apps: shared_apps(alloc, apps)?,
+            natives: Sequence::of(natives.apps(alloc)?),
+        },
         slots: Slots::new(alloc, threads)?,
         cancellations: free_cancellations(alloc, threads)?,
         processors: outside_processors(alloc, cpus)?,
-        sessions: Sessions::new(alloc)?,
-        waiters: Waiters::new(),
-        instances: Instances::new(alloc)?,
-        instances_made: 0,
-        registry: Registry::new(alloc)?,
-        pool: Pool::new(alloc, frames)?,
+        tables: first_tables(alloc, frames)?,
         journal: Journal::new(alloc),
     })
 }
@@ -106,14 +127,14 @@ impl Core {
     #[tactic(auto, using(crate::proofs::Opened::opened))]
     /// A core where nothing has happened, of a boot within the limits and of applications that are built in. Repeated
     /// exactly where a UUID stands twice, and else Memory where there is too little.
-    pub fn boot(alloc: Global, boot: Boot, natives: Natives) -> Result<Core, BootFault>
+    pub fn boot(alloc: Global, boot: Boot, natives: &Natives) -> Result<Core, BootFault>
         requires { IsWithinLimits boot }
-        ensures booted { IfOk result (λ core. booted_of core ≡ booted boot (entries natives)) }
+        ensures booted { IfOk result (λ core. booted_of core ≡ booted boot (entries natives.now)) }
         ensures events { IfOk result (λ core. events_of core ≡ []) }
         ensures repeated { (uuid : List ℕ) → (IsErrOf result (Repeated uuid)
-            ↔ (first_repeated (map (λ native. native.0) (entries natives)) (map (λ app. app.uuid) boot.apps) ≡ Some uuid)) }
+            ↔ (first_repeated (map (λ native. native.0) (entries natives.now)) (map (λ app. app.uuid) boot.apps) ≡ Some uuid)) }
     {
-        if let Some(uuid) = repeated(&boot, &natives) {
+        if let Some(uuid) = repeated(&boot, natives) {
             return Err(BootFault::Repeated(uuid));
         }
         let Ok(parts) = first_parts(alloc, boot, natives) else {

@@ -8,19 +8,30 @@
 mod boot_fault;
 mod booting;
 mod cancellation;
+mod carried;
+mod enter_refusal;
 mod kernel_core;
 mod parts;
 mod processor;
 mod reading;
 mod repeats;
+mod running;
+mod setup;
 mod shared_app;
+mod tables;
+mod work;
 
 pub use boot_fault::BootFault;
-pub use cancellation::Cancellation;
+pub use cancellation::{Cancellation, mark_calls};
+pub use carried::Carried;
+pub use enter_refusal::EnterRefusal;
 pub use kernel_core::Core;
 pub use parts::Parts;
 pub use processor::{Errand, Processor};
+pub use setup::{Application, Setup};
 pub use shared_app::SharedApp;
+pub use tables::Tables;
+pub use work::{Ran, Work};
 
 #[cfg(test)]
 mod tests;

@@ -1,38 +1,23 @@
 use crate::cancellation::Cancellation;
 use crate::processor::Processor;
-use crate::shared_app::SharedApp;
-use base::Sequence;
+use crate::setup::Setup;
+use crate::tables::Tables;
 use event_journal::Journal;
-use frame_pool::{Pages, Pool};
-use native_tas::Natives;
+use frame_pool::Pages;
 use rpc_cont::Cont;
-use session_table::{Sessions, Waiters};
-use shm_registry::Registry;
-use ta_instances::Instances;
 use thread_slots::Slots;
 
 /// What a core keeps, without the fact that this stands for its kernel.
 #[derive(Drop)]
 pub struct Parts {
-    /// The applications of the boot.
-    pub apps: Sequence<SharedApp>,
-    /// Those that are built in.
-    pub natives: Natives,
+    pub setup: Setup,
     /// The calls that wait to be resumed. An active one is out with its processor.
     pub slots: Slots<Box<Cont<Pages>>>,
     /// One for each slot.
-    pub cancellations: Sequence<Cancellation>,
+    pub cancellations: Vec<Cancellation>,
     /// The processors, by their numbers.
-    pub processors: Sequence<Processor>,
-    pub sessions: Sessions,
-    pub waiters: Waiters,
-    pub instances: Instances,
-    /// How many instances were made. The next gets the number behind it.
-    pub instances_made: u32,
-    /// The registered buffers, and their pins.
-    pub registry: Registry,
-    /// The pages that no instance has.
-    pub pool: Pool,
+    pub processors: Vec<Processor>,
+    pub tables: Tables,
     /// All events, with room for the exits of the processors that are inside.
     pub journal: Journal,
 }

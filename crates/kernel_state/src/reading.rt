@@ -34,7 +34,7 @@ impl Core {
     pub fn free_pages(&self) -> u16
         ensures { option_map (free_pages_in (booted_of self.now)) (kernel_of self.now) ≡ Some result }
     {
-        self.parts.pool.free()
+        self.parts.tables.pool.free()
     }
 
     #[tactic(auto, using(crate::proofs::Told::inside_told, crate::proofs::Told::absent_told))]
@@ -42,7 +42,7 @@ impl Core {
     pub fn inside(&self, cpu: u8) -> bool
         ensures { option_map (is_inside cpu) (kernel_of self.now) ≡ Some result }
     {
-        match self.parts.processors.as_slice().get(usize::from(cpu)) {
+        match self.parts.processors.get(usize::from(cpu)) {
             Some(processor) => processor.is_inside(),
             None => false,
         }

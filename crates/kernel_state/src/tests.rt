@@ -76,13 +76,13 @@ fn five(_command: u32, params: &mut CopiedParams) -> u32
 
 #[test]
 fn cores_boot_at_both_ends_of_the_limits(rt: HostRuntime) -> Result<(), Fail> {
-    let small = Core::boot(rt.alloc(), least(rt.alloc()), Natives::new(rt.alloc()));
+    let small = Core::boot(rt.alloc(), least(rt.alloc()), &Natives::new(rt.alloc()));
     let small = small.ok().ok_or("a small core")?;
     assert_eq!(rt; told(&small), (1, 1, 0));
     let large = Core::boot(
         rt.alloc(),
         most(rt.alloc(), &IMAGE)?,
-        Natives::new(rt.alloc()),
+        &Natives::new(rt.alloc()),
     );
     let large = large.ok().ok_or("a large core")?;
     assert_eq!(rt; told(&large), (16, 1024, 0));
@@ -99,7 +99,7 @@ fn the_uuid_of_a_built_in_application_is_repeated(rt: HostRuntime) -> Result<(),
         call: five,
     };
     assert_eq!(rt; natives.add(native), Ok(()));
-    let refused = Core::boot(rt.alloc(), most(rt.alloc(), &IMAGE)?, natives);
+    let refused = Core::boot(rt.alloc(), most(rt.alloc(), &IMAGE)?, &natives);
     assert_eq!(rt; refused.err(), Some(BootFault::Repeated(uuid_of(3))));
     Ok(())
 }

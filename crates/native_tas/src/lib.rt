@@ -10,6 +10,7 @@ mod digesting;
 mod examples;
 mod laws;
 mod native;
+mod native_app;
 mod natives;
 mod relation;
 #[cfg(test)]
@@ -19,6 +20,7 @@ pub use digesting::digest;
 pub use examples::worked_examples;
 pub use laws::digest_of_a_native;
 pub use native::{Native, NativeFn};
+pub use native_app::NativeApp;
 pub use natives::{AddFault, MAX_NATIVES, Natives};
 pub use relation::Relation;
 pub use ta_params::CopiedParams;

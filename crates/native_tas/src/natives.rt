@@ -1,4 +1,4 @@
-ghost use Rattle.std.specs.Prelude.{◌≡◌, ◌≢◌, ◌≤◌, ◌↔◌, [], ◌∷◌, ◌++◌, length, map, position, false, true, Err, OnOk, OnErr, AllPairs};
+ghost use Rattle.std.specs.Prelude.{◌≡◌, ◌≢◌, ◌≤◌, ◌↔◌, [], ◌∷◌, ◌++◌, length, map, position, false, true, Err, OnOk, OnErr, AllPairs, IfOk};
 ghost use Rattle.std.specs.Option.{option_copied, option_map};
 ghost use Rattle.std.specs.Str.{bytes_eq};
 ghost use Rattle.std.proofs.Props.{props};
@@ -6,8 +6,9 @@ ghost use Rattle.native_tas.specs.Native.{entry_of, find_entry, has};
 ghost use Rattle.native_tas.specs.declared.natives.AddFault.TheVariants.{Full, Repeated};
 
 use crate::native::Native;
+use crate::native_app::NativeApp;
 use arrayvec::ArrayVec;
-use std::alloc::Global;
+use std::alloc::{AllocError, Global};
 use uuid::Uuid;
 
 /// The most native applications that are kept.
@@ -75,6 +76,20 @@ impl Natives {
             uuids.push(native.uuid);
         }
         uuids
+    }
+
+    /// The UUID and the relation of each application, in their order.
+    pub fn apps(&self, alloc: Global) -> Result<Vec<NativeApp>, AllocError>
+        ensures { IfOk result (λ apps. map (λ app. (app.uuid, app.relation)) apps.items ≡ entries self.now) }
+    {
+        let mut apps = Vec::with_capacity(alloc, self.kept.len())?;
+        for native in &self.kept {
+            apps.push_reserved(NativeApp {
+                uuid: native.uuid,
+                relation: native.relation,
+            });
+        }
+        Ok(apps)
     }
 
     /// The application with this UUID.

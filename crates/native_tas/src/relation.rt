@@ -1,3 +1,9 @@
+ghost use Rattle.std.specs.Prelude.{◌≡◌};
+ghost use Rattle.native_tas.specs.Relation.{answer_of};
+
+use crate::digesting::digest;
+use ta_params::CopiedParams;
+
 /// What a native application answers to each command with each parameters. This project's own.
 #[derive(Clone, Copy, Debug, PartialEq, Eq)]
 pub enum Relation {
@@ -5,4 +11,16 @@ pub enum Relation {
     Digest,
     /// This result, to whatever command, and the parameters as they are.
     Fixed(u32),
+}
+
+impl Relation {
+    /// Answers a command with its parameters. Takes no memory.
+    pub fn answer(self, command: u32, params: &mut CopiedParams) -> u32
+        ensures { (result, params.new) ≡ answer_of self command params.old }
+    {
+        match self {
+            Relation::Digest => digest(command, params),
+            Relation::Fixed(code) => code,
+        }
+    }
 }

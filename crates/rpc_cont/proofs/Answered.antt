@@ -44,19 +44,19 @@ use Rattle.tee_storage.specs.declared.step.StorageStep.TheVariants as storage
 -- ---- the image of a call
 
 -- the call's application is this image
-pub record RunsImage {M X : Type 0} {g : _} (bytes : M → List ℕ) (seen : Bool) (application : Option (ContApp X g)) (image : Image) : Type 0 where
+pub record RunsImage {M : Type 0} (bytes : M → List ℕ) (seen : Bool) (application : Option ContApp) (image : Image) : Type 0 where
   pub valid : HasImage application
   pub body : (point : Option EntryPoint) (machine : Option (AnyMachine M)) → body_of bytes application point machine ≡ body_at bytes image point machine
   pub runs : (here : EntryPoint) (m : AnyMachine M) → IsReady seen (state_of bytes m) → IsRunnable bytes seen application (Some here) (Some m)
 
-runs_image : {M X : Type 0} {g : _} (bytes : M → List ℕ) (seen : Bool) (application : Option (ContApp X g)) → HasImage application
+runs_image : {M : Type 0} (bytes : M → List ℕ) (seen : Bool) (application : Option ContApp) → HasImage application
     → (image : Image) × RunsImage bytes seen application image
 runs_image bytes seen None valid = absurd valid
 runs_image bytes seen (Some (app.Image uuid image)) valid = (image.value, record { valid = valid; body = λ point machine. refl; runs = λ here m ready. (valid, ready) })
 runs_image bytes seen (Some (app.Native native)) valid = absurd valid
 runs_image bytes seen (Some (app.Dead uuid)) valid = absurd valid
 
-job_image : {M X : Type 0} {g : _} (bytes : M → List ℕ) (cont : Cont M X g) (image : Image) → RunsImage bytes cont.cancelled cont.app image
+job_image : {M : Type 0} (bytes : M → List ℕ) (cont : Cont M) (image : Image) → RunsImage bytes cont.cancelled cont.app image
     → job_of bytes cont ≡ job_at bytes (uuid_of cont.app) image cont
 job_image bytes cont image runs = ap (λ (b : Body). job_with b (uuid_of cont.app) cont) (runs.body cont.point cont.machine)
 
@@ -70,10 +70,10 @@ GoesOrAsks (Stops (Panics code)) = ⊥
 GoesOrAsks (Stops (Asks wanted payload left)) = Unit {0}
 
 -- the call with its phase
-abbrev pub in_phase : {M X : Type 0} {g : _} → Cont M X g → Phase → Cont M X g
+abbrev pub in_phase : {M : Type 0} → Cont M → Phase → Cont M
 in_phase cont phase = record cont { phase = phase }
 
-runnable : {M X : Type 0} {g : _} (bytes : M → List ℕ) (seen : Bool) (application : Option (ContApp X g)) (image : Image)
+runnable : {M : Type 0} (bytes : M → List ℕ) (seen : Bool) (application : Option ContApp) (image : Image)
     (point : Option EntryPoint) (machine : Option (AnyMachine M)) → RunsImage bytes seen application image → HasReady bytes seen point machine
     → IsRunnable bytes seen application point machine
 runnable bytes seen application image None machine runs ready = absurd ready
@@ -81,7 +81,7 @@ runnable bytes seen application image (Some here) None runs ready = absurd ready
 runnable bytes seen application image (Some here) (Some m) runs ready = runs.runs here m ready
 
 -- a call waits in any phase
-waits-in : {M X : Type 0} {g : _} (bytes : M → List ℕ) (uuid : List ℕ) (cont : Cont M X g) (next : Phase) (plain other job : Job) → plain ≡ other
+waits-in : {M : Type 0} (bytes : M → List ℕ) (uuid : List ℕ) (cont : Cont M) (next : Phase) (plain other job : Job) → plain ≡ other
     → IsWaiting bytes uuid cont plain job → IsWaiting bytes uuid (in_phase cont next) other job
 waits-in {M} bytes uuid cont next plain other job same waits = record {
   memory = waits.memory;
@@ -92,7 +92,7 @@ waits-in {M} bytes uuid cont next plain other job same waits = record {
       (λ asked is awaits. where_there cont.machine _ _ awaits (λ m there here. record { asks = here.asks; come = here.come }));
 }
 
-pub turn-answered : {M X : Type 0} {g : _} (bytes : M → List ℕ) (cont : Cont M X g) (image : Image) (answer : Option ContStop) (next : Phase) (turn : Advance)
+pub turn-answered : {M : Type 0} (bytes : M → List ℕ) (cont : Cont M) (image : Image) (answer : Option ContStop) (next : Phase) (turn : Advance)
     → RunsImage bytes cont.cancelled cont.app image → next ≡ phase_behind answer → GoesOrAsks turn
     → IsTurn bytes (uuid_of cont.app) image cont turn answer → IsAnswered bytes (in_phase cont next) turn
 turn-answered bytes cont image answer next (Goes job) runs is calm (none, same, running) = (
@@ -117,18 +117,18 @@ turn-answered bytes cont image (Some answer) next (Stops (Asks wanted payload le
     ((waiting, pending), is ∙ ap phase_after asks, record { image = runs.valid; pending = waits-pending bytes (uuid_of cont.app) (in_phase cont next) (job_of bytes cont) left _ waiting pending })
 
 -- the same of a call that ran
-pub ran-answered : {M X : Type 0} {g : _} (bytes : M → List ℕ) (old new : Cont M X g) (image : Image) (answer : Option ContStop) (next : Phase) (turn : Advance)
+pub ran-answered : {M : Type 0} (bytes : M → List ℕ) (old new : Cont M) (image : Image) (answer : Option ContStop) (next : Phase) (turn : Advance)
     → new ≡ worked old new → RunsImage bytes old.cancelled old.app image → next ≡ phase_behind answer → GoesOrAsks turn
     → IsTurn bytes (uuid_of old.app) image new turn answer → IsAnswered bytes (in_phase new next) turn
-ran-answered {M} {X} {g} bytes old new image answer next turn stays runs is calm comes =
+ran-answered {M} bytes old new image answer next turn stays runs is calm comes =
     turn-answered bytes new image answer next turn
-    (subst (λ (k : Cont M X g). RunsImage bytes k.cancelled k.app image) (sym stays) runs) is calm
-    (subst (λ (k : Cont M X g). IsTurn bytes (uuid_of k.app) image new turn answer) (sym stays) comes)
+    (subst (λ (k : Cont M). RunsImage bytes k.cancelled k.app image) (sym stays) runs) is calm
+    (subst (λ (k : Cont M). IsTurn bytes (uuid_of k.app) image new turn answer) (sym stays) comes)
 
 -- ---- what a call waits for
 
 -- what stands behind a call that waits for the answer to this
-pub record Waiting {M X : Type 0} {g : _} (bytes : M → List ℕ) (cont : Cont M X g) (job : Job) (m : AnyMachine M) (wanted : Request) : Type 0 where
+pub record Waiting {M : Type 0} (bytes : M → List ℕ) (cont : Cont M) (job : Job) (m : AnyMachine M) (wanted : Request) : Type 0 where
   pub image : Image
   pub here : EntryPoint
   pub asked : PendingRequest
@@ -158,7 +158,7 @@ some_is (Some a) some = (a, refl)
 one_wanted : (asked : Option Request) (one other : Request) → asked ≡ Some one → asked ≡ Some other → one ≡ other
 one_wanted asked one other is is_other = cc
 
-pub waiting : {M X : Type 0} {g : _} (bytes : M → List ℕ) (cont : Cont M X g) (job : Job) (m : AnyMachine M) (wanted : Request)
+pub waiting : {M : Type 0} (bytes : M → List ℕ) (cont : Cont M) (job : Job) (m : AnyMachine M) (wanted : Request)
     → CanBeAnswered bytes cont → IsWaiting bytes (uuid_of cont.app) cont (job_of bytes cont) job → cont.machine ≡ Some m → m.asked ≡ Some wanted
     → Waiting bytes cont job m wanted
 waiting {M} bytes cont job m wanted can waits there wants =
@@ -188,11 +188,11 @@ waiting {M} bytes cont job m wanted can waits there wants =
 -- ---- registers for the application
 
 -- the call when its application has an answer
-abbrev pub answered_by : {M X : Type 0} {g : _} → Cont M X g → Option (AnyMachine M) → Cont M X g
+abbrev pub answered_by : {M : Type 0} → Cont M → Option (AnyMachine M) → Cont M
 answered_by cont machine = record cont { machine = machine; object = None; request = None; phase = phase.Runs }
 
 -- where it has no call on an object, or none any more
-pub answered_plain : {M X : Type 0} {g : _} (old new : Cont M X g) → old.object ≡ None
+pub answered_plain : {M : Type 0} (old new : Cont M) → old.object ≡ None
     → new ≡ record old { machine = new.machine; request = None; phase = phase.Runs } → new ≡ answered_by old new.machine
 answered_plain old new none stays =
     stays ∙ ap (λ (o : Option ObjectState). record old { machine = new.machine; object = o; request = None; phase = phase.Runs }) none
@@ -202,7 +202,7 @@ abbrev pub one_more : PendingRequest → RpcAnswer → PendingRequest
 one_more asked answer = record asked { answers = asked.answers ++ answer ∷ [] }
 
 -- the application gets these registers for an answer
-abbrev pub GivesFor : {M X : Type 0} {g : _} (bytes : M → List ℕ) (cont : Cont M X g) (job : Job) (m : AnyMachine M) (wanted : Request)
+abbrev pub GivesFor : {M : Type 0} (bytes : M → List ℕ) (cont : Cont M) (job : Job) (m : AnyMachine M) (wanted : Request)
     → Waiting bytes cont job m wanted → RpcAnswer → ℕ → ℕ → ℕ → Type 0
 GivesFor bytes cont job m wanted w answer r0 r1 r2 =
     let left = record (job_at bytes (uuid_of cont.app) w.image cont) { asked = Some w.asked } in
@@ -211,15 +211,15 @@ GivesFor bytes cont job m wanted w answer r0 r1 r2 =
     let more = one_more w.asked answer in
     advance_on_answers left w.image point s more ≡ Some (on_from left w.image point s more cont.objects (Gives r0 r1 r2))
 
-pub gives-answered : {M X : Type 0} {g : _} (bytes : M → List ℕ) (old new : Cont M X g) (job : Job) (m : AnyMachine M) (wanted : Request)
+pub gives-answered : {M : Type 0} (bytes : M → List ℕ) (old new : Cont M) (job : Job) (m : AnyMachine M) (wanted : Request)
     (w : Waiting bytes old job m wanted) (answer : RpcAnswer) (r0 r1 r2 : ℕ)
     → old.memory ≡ None → new ≡ answered_by old new.machine
     → IsSomeAnd new.machine (λ n. state_of bytes n ≡ answered wanted r0 r1 r2 (state_of bytes m))
     → GivesFor bytes old job m wanted w answer r0 r1 r2
     → IsSomeAnd (advance_on_answer answer job) (λ next. IsAnswered bytes new next)
-gives-answered {M} {X} {g} bytes old new job m wanted w answer r0 r1 r2 memory stays gives serves =
+gives-answered {M} bytes old new job m wanted w answer r0 r1 r2 memory stays gives serves =
     let s = state_of bytes m in
-    let plain : Cont M X g = record old { object = None } in
+    let plain : Cont M = record old { object = None } in
     let left = job_at bytes (uuid_of old.app) w.image old in
     let next = on_from left w.image w.here s (one_more w.asked answer) old.objects (Gives r0 r1 r2) in
     let turn =
@@ -229,7 +229,7 @@ gives-answered {M} {X} {g} bytes old new job m wanted w answer r0 r1 r2 memory s
     in
     let done = turn-answered bytes (answered_with plain new.machine) w.image None phase.Runs next w.runs refl tt turn in
     subst (λ (o : Option Advance). IsSomeAnd o (λ t. IsAnswered bytes new t)) (sym (w.given answer ∙ serves))
-    (subst (λ (c : Cont M X g). IsAnswered bytes c next) (sym stays) done)
+    (subst (λ (c : Cont M). IsAnswered bytes c next) (sym stays) done)
 
 -- ---- time and wait
 
@@ -252,19 +252,19 @@ plain-answered job image point machine asked wanted objects answer next is comes
     subst (λ (a : PendingRequest). advance_on_answers job image point machine (one_more a answer) ≡ Some (on_from job image point machine (one_more a answer) objects next)) (sym is)
     (plain-served job image point machine (one_more (made_plain wanted objects) answer) objects next comes)
 
-come-time : {M X : Type 0} {g : _} (uuid range : List ℕ) (asked : PendingRequest) (cont : Cont M X g) (pending : Option Asked) (object : Option ObjectState)
+come-time : {M : Type 0} (uuid range : List ℕ) (asked : PendingRequest) (cont : Cont M) (pending : Option Asked) (object : Option ObjectState)
     → HasCome uuid range asked cont request.Time pending object → asked ≡ made_plain request.Time cont.objects
 come-time uuid range asked cont None object come = absurd come
 come-time uuid range asked cont (Some pending) None come = come.0
 come-time uuid range asked cont (Some pending) (Some state) come = absurd come
 
-come-wait : {M X : Type 0} {g : _} (uuid range : List ℕ) (asked : PendingRequest) (cont : Cont M X g) (ms : ℕ) (pending : Option Asked) (object : Option ObjectState)
+come-wait : {M : Type 0} (uuid range : List ℕ) (asked : PendingRequest) (cont : Cont M) (ms : ℕ) (pending : Option Asked) (object : Option ObjectState)
     → HasCome uuid range asked cont (request.Suspend ms) pending object → asked ≡ made_plain (request.Suspend ms) cont.objects
 come-wait uuid range asked cont ms None object come = absurd come
 come-wait uuid range asked cont ms (Some pending) None come = come.0
 come-wait uuid range asked cont ms (Some pending) (Some state) come = absurd come
 
-pub time-gives : {M X : Type 0} {g : _} (bytes : M → List ℕ) (cont : Cont M X g) (job : Job) (m : AnyMachine M)
+pub time-gives : {M : Type 0} (bytes : M → List ℕ) (cont : Cont M) (job : Job) (m : AnyMachine M)
     (w : Waiting bytes cont job m request.Time) (answer : RpcAnswer) (r0 r1 r2 : ℕ)
     → asks_time (answer ∷ []) ≡ Some (Gives r0 r1 r2) → GivesFor bytes cont job m request.Time w answer r0 r1 r2
 time-gives {M} bytes cont job m w answer r0 r1 r2 comes =
@@ -275,7 +275,7 @@ time-gives {M} bytes cont job m w answer r0 r1 r2 comes =
     plain-answered left w.image w.here s w.asked request.Time cont.objects answer (Gives r0 r1 r2)
     (come-time uuid (bytes_at s 0 0) w.asked cont cont.request cont.object w.come) (ap (option_map (ask_unchanged more)) comes)
 
-pub wait-gives : {M X : Type 0} {g : _} (bytes : M → List ℕ) (cont : Cont M X g) (job : Job) (m : AnyMachine M) (ms : ℕ)
+pub wait-gives : {M : Type 0} (bytes : M → List ℕ) (cont : Cont M) (job : Job) (m : AnyMachine M) (ms : ℕ)
     (w : Waiting bytes cont job m (request.Suspend ms)) (answer : RpcAnswer) (r0 : ℕ)
     → r0 ≡ (if is_cancelled (state_of bytes m) then 0xffff0002 else wait_result answer) → GivesFor bytes cont job m (request.Suspend ms) w answer r0 0 0
 wait-gives {M} bytes cont job m ms w answer r0 is =
@@ -288,7 +288,7 @@ wait-gives {M} bytes cont job m ms w answer r0 is =
 
 -- ---- calls on objects
 
-pub come-object : {M X : Type 0} {g : _} (uuid range : List ℕ) (asked : PendingRequest) (cont : Cont M X g) (call : ObjectCall) (pending : Option Asked) (object : Option ObjectState)
+pub come-object : {M : Type 0} (uuid range : List ℕ) (asked : PendingRequest) (cont : Cont M) (call : ObjectCall) (pending : Option Asked) (object : Option ObjectState)
     (state : ObjectState) → object ≡ Some state → HasCome uuid range asked cont (request.Object call) pending object
     → (p : Asked) × StandsFor state call uuid asked.range asked.objects asked.answers (record { step = storage.Ask p.rpc p.payload; range = range; objects = cont.objects })
 come-object uuid range asked cont call None object state is come = absurd come
@@ -298,7 +298,7 @@ come-object uuid range asked cont call (Some pending) (Some other) state is come
     let now : Serving = record { step = storage.Ask pending.rpc pending.payload; range = range; objects = cont.objects } in
     (pending, subst (λ (o : ObjectState). StandsFor o call uuid asked.range asked.objects asked.answers now) same come)
 
-pub object-fails : {M X : Type 0} {g : _} (bytes : M → List ℕ) (cont : Cont M X g) (job : Job) (m : AnyMachine M) (call : ObjectCall)
+pub object-fails : {M : Type 0} (bytes : M → List ℕ) (cont : Cont M) (job : Job) (m : AnyMachine M) (call : ObjectCall)
     (w : Waiting bytes cont job m (request.Object call)) (answer : RpcAnswer) (code : ℕ)
     → (let span = object_span call in
     serving call (uuid_of cont.app) w.asked.range w.asked.objects (w.asked.answers ++ answer ∷ [])
@@ -342,7 +342,7 @@ stored-there old new span a l addr count inside is alike stored =
 
 -- ---- a cancellation that is seen
 
-seen_body : {M X : Type 0} {g : _} (bytes : M → List ℕ) (application : Option (ContApp X g)) (point : Option EntryPoint) (m n : AnyMachine M)
+seen_body : {M : Type 0} (bytes : M → List ℕ) (application : Option ContApp) (point : Option EntryPoint) (m n : AnyMachine M)
     → state_of bytes n ≡ record (state_of bytes m) { cancelled = true }
     → body_with_cancel_seen (body_of bytes application point (Some m)) ≡ body_of bytes application point (Some n)
 seen_body bytes None point m n told = refl
@@ -356,18 +356,18 @@ seen_body bytes (Some (app.Native native)) (Some (entry.Invoke func)) m n told =
 seen_body bytes (Some (app.Native native)) (Some entry.Close) m n told = refl
 seen_body bytes (Some (app.Native native)) (Some entry.Destroy) m n told = refl
 
-pub seen-waiting : {M X : Type 0} {g : _} (bytes : M → List ℕ) (uuid : List ℕ) (old mid : Cont M X g) (m n : AnyMachine M) (job : Job)
+pub seen-waiting : {M : Type 0} (bytes : M → List ℕ) (uuid : List ℕ) (old mid : Cont M) (m n : AnyMachine M) (job : Job)
     → old.machine ≡ Some m → state_of bytes n ≡ record (state_of bytes m) { cancelled = true } → mid ≡ record old { machine = Some n }
     → IsWaiting bytes uuid old (job_of bytes old) job
     → (let new = record mid { cancelled = true } in IsWaiting bytes uuid new (job_of bytes new) (with_cancel_seen job))
-seen-waiting {M} {X} {g} bytes uuid old mid m n job there told is waits =
+seen-waiting {M} bytes uuid old mid m n job there told is waits =
     let s : State = record (state_of bytes m) { cancelled = true } in
-    let now : Cont M X g = record old { machine = Some n } in
-    let new : Cont M X g = record now { cancelled = true } in
+    let now : Cont M = record old { machine = Some n } in
+    let new : Cont M = record now { cancelled = true } in
     let body =
     ap (λ (o : Option (AnyMachine M)). body_with_cancel_seen (body_of bytes old.app old.point o)) there ∙ seen_body bytes old.app old.point m n told
     in
-    subst (λ (c : Cont M X g). let seen_now = record c { cancelled = true } in IsWaiting bytes uuid seen_now (job_of bytes seen_now) (with_cancel_seen job)) (sym is)
+    subst (λ (c : Cont M). let seen_now = record c { cancelled = true } in IsWaiting bytes uuid seen_now (job_of bytes seen_now) (with_cancel_seen job)) (sym is)
     (record {
       memory = waits.memory;
       point = waits.point;
@@ -381,7 +381,7 @@ seen-waiting {M} {X} {g} bytes uuid old mid m n job there told is waits =
     })
 
 -- a call that waits has a machine
-pub waits-there : {M X : Type 0} {g : _} (bytes : M → List ℕ) (uuid : List ℕ) (cont : Cont M X g) (plain job : Job)
+pub waits-there : {M : Type 0} (bytes : M → List ℕ) (uuid : List ℕ) (cont : Cont M) (plain job : Job)
     → cont.machine ≡ None → IsWaiting bytes uuid cont plain job → ⊥
 waits-there bytes uuid cont plain job none waits =
     from_there job.asked _ waits.asked (λ asked is awaits. from_there cont.machine _ awaits (λ m there here. absurd cc))

@@ -61,10 +61,10 @@ body_there {M} bytes image point machine here m at is =
 -- ---- it waits for the normal world
 
 -- the call when it asks for this
-abbrev pub asking_for : {M X : Type 0} {g : _} → Cont M X g → Option ObjectState → Rpc → List ℕ → Cont M X g
+abbrev pub asking_for : {M : Type 0} → Cont M → Option ObjectState → Rpc → List ℕ → Cont M
 asking_for cont object wanted payload = record cont { object = object; request = Some (record { rpc = wanted; payload = payload }) }
 
-pub asks-turn : {M X : Type 0} {g : _} (bytes : M → List ℕ) (uuid : List ℕ) (image : Image) (old : Cont M X g) (here : EntryPoint) (m : AnyMachine M)
+pub asks-turn : {M : Type 0} (bytes : M → List ℕ) (uuid : List ℕ) (image : Image) (old : Cont M) (here : EntryPoint) (m : AnyMachine M)
     (asked : PendingRequest) (object : Option ObjectState) (wanted : Rpc) (payload : List ℕ)
     → old.memory ≡ None → old.point ≡ Some here → old.machine ≡ Some m → HasAskedFor old.cancelled asked.request (state_of bytes m)
     → (let span = span_of asked.request in
@@ -88,25 +88,25 @@ asks-turn {M} bytes uuid image old here m asked object wanted payload memory at 
     )
 
 -- the job of an object call at a step, whose machine is there
-abbrev pub object_turn : {M X : Type 0} {g : _} → (M → List ℕ) → List ℕ → Image → Cont M X g → EntryPoint → AnyMachine M → PendingRequest → StorageStep → Advance
+abbrev pub object_turn : {M : Type 0} → (M → List ℕ) → List ℕ → Image → Cont M → EntryPoint → AnyMachine M → PendingRequest → StorageStep → Advance
 object_turn bytes uuid image cont here m asked step =
     on_from (job_at bytes uuid image cont) image here (state_of bytes m) asked cont.objects (object_asking step)
 
 -- so has an object call come, over the bytes of this machine
-abbrev pub Came : {M X : Type 0} {g : _} → (M → List ℕ) → List ℕ → Cont M X g → AnyMachine M → ObjectCall → PendingRequest → ObjectState → StorageStep → Type 0
+abbrev pub Came : {M : Type 0} → (M → List ℕ) → List ℕ → Cont M → AnyMachine M → ObjectCall → PendingRequest → ObjectState → StorageStep → Type 0
 Came bytes uuid cont m call asked state step =
     let span = object_span call in
     StandsFor state call uuid asked.range asked.objects asked.answers
     (record { step = step; range = bytes_at (state_of bytes m) span.0 span.1; objects = cont.objects })
 
-pub object-asks : {M X : Type 0} {g : _} (bytes : M → List ℕ) (uuid : List ℕ) (image : Image) (old new : Cont M X g) (answer : ContStop)
+pub object-asks : {M : Type 0} (bytes : M → List ℕ) (uuid : List ℕ) (image : Image) (old new : Cont M) (answer : ContStop)
     (here : EntryPoint) (m : AnyMachine M) (call : ObjectCall) (asked : PendingRequest) (state : ObjectState) (step : StorageStep) (wanted : Rpc) (payload : List ℕ)
     → asked.request ≡ request.Object call → step ≡ storage.Ask wanted payload
     → new ≡ asking_for old (Some state) wanted payload → answer ≡ stop.Asks
     → old.memory ≡ None → old.point ≡ Some here → old.machine ≡ Some m → HasAskedFor old.cancelled (request.Object call) (state_of bytes m)
     → Came bytes uuid old m call asked state step
     → IsTurn bytes uuid image new (object_turn bytes uuid image old here m asked step) (Some answer)
-object-asks {M} {X} {g} bytes uuid image old new answer here m call asked state step wanted payload names is stays stops memory at there asks came =
+object-asks {M} bytes uuid image old new answer here m call asked state step wanted payload names is stays stops memory at there asks came =
     let next = asking_for old (Some state) wanted payload in
     let now = state_of bytes m in
     let come = subst (λ (s : StorageStep). Came bytes uuid old m call asked state s) is came in
@@ -117,15 +117,15 @@ object-asks {M} {X} {g} bytes uuid image old new answer here m call asked state 
     in
     subst (λ (s : StorageStep). IsTurn bytes uuid image new (object_turn bytes uuid image old here m asked s) (Some answer)) (sym is)
     (subst (λ (a : ContStop). IsTurn bytes uuid image new (object_turn bytes uuid image old here m asked (storage.Ask wanted payload)) (Some a)) (sym stops)
-    (subst (λ (c : Cont M X g). IsTurn bytes uuid image c (object_turn bytes uuid image old here m asked (storage.Ask wanted payload)) (Some stop.Asks)) (sym stays) turn))
+    (subst (λ (c : Cont M). IsTurn bytes uuid image c (object_turn bytes uuid image old here m asked (storage.Ask wanted payload)) (Some stop.Asks)) (sym stays) turn))
 
 -- ---- its application gets an answer
 
 -- the call when this is its machine, and it has an answer
-abbrev pub answered_with : {M X : Type 0} {g : _} → Cont M X g → Option (AnyMachine M) → Cont M X g
+abbrev pub answered_with : {M : Type 0} → Cont M → Option (AnyMachine M) → Cont M
 answered_with cont machine = record cont { machine = machine; request = None }
 
-pub gives-turn : {M X : Type 0} {g : _} (bytes : M → List ℕ) (uuid : List ℕ) (image : Image) (old : Cont M X g) (here : EntryPoint) (m : AnyMachine M)
+pub gives-turn : {M : Type 0} (bytes : M → List ℕ) (uuid : List ℕ) (image : Image) (old : Cont M) (here : EntryPoint) (m : AnyMachine M)
     (asked : PendingRequest) (r0 r1 r2 : ℕ) (machine : Option (AnyMachine M))
     → old.memory ≡ None → old.object ≡ None → old.point ≡ Some here → HasAskedFor old.cancelled asked.request (state_of bytes m)
     → IsSomeAnd machine (λ n. state_of bytes n ≡ answered asked.request r0 r1 r2 (state_of bytes m))
@@ -147,14 +147,14 @@ gives-turn {M} bytes uuid image old here m asked r0 r1 r2 (Some n) memory object
       },
     )
 
-pub object-gives : {M X : Type 0} {g : _} (bytes : M → List ℕ) (uuid : List ℕ) (image : Image) (old new : Cont M X g)
+pub object-gives : {M : Type 0} (bytes : M → List ℕ) (uuid : List ℕ) (image : Image) (old new : Cont M)
     (here : EntryPoint) (m : AnyMachine M) (call : ObjectCall) (asked : PendingRequest) (step : StorageStep) (result value : ℕ)
     → asked.request ≡ request.Object call → step ≡ storage.Done result value
     → new ≡ answered_with old new.machine
     → old.memory ≡ None → old.object ≡ None → old.point ≡ Some here → HasAskedFor old.cancelled (request.Object call) (state_of bytes m)
     → IsSomeAnd new.machine (λ n. state_of bytes n ≡ answered (request.Object call) result value 0 (state_of bytes m))
     → IsTurn bytes uuid image new (object_turn bytes uuid image old here m asked step) None
-object-gives {M} {X} {g} bytes uuid image old new here m call asked step result value names is stays memory object at asks gives =
+object-gives {M} bytes uuid image old new here m call asked step result value names is stays memory object at asks gives =
     let now = state_of bytes m in
     let turn =
     gives-turn bytes uuid image old here m asked result value 0 new.machine memory object at
@@ -162,7 +162,7 @@ object-gives {M} {X} {g} bytes uuid image old new here m call asked step result 
     (subst (λ (r : Request). IsSomeAnd new.machine (λ n. state_of bytes n ≡ answered r result value 0 now)) (sym names) gives)
     in
     subst (λ (s : StorageStep). IsTurn bytes uuid image new (object_turn bytes uuid image old here m asked s) None) (sym is)
-    (subst (λ (c : Cont M X g). IsTurn bytes uuid image c (object_turn bytes uuid image old here m asked (storage.Done result value)) None) (sym stays) turn)
+    (subst (λ (c : Cont M). IsTurn bytes uuid image c (object_turn bytes uuid image old here m asked (storage.Done result value)) None) (sym stays) turn)
 
 -- ---- an object call that is served
 
@@ -187,7 +187,7 @@ pub unread : (old new : State) (addr count : ℕ) (bytes : List ℕ) → is_rang
 unread old new addr count bytes e stored same = stored ∙ ap (store old addr) same ∙ store-same old addr count e
 
 -- the call with its machine and its open objects as an object call left them
-abbrev pub moved : {M X : Type 0} {g : _} → Cont M X g → AnyMachine M → NumberMap Handle → Cont M X g
+abbrev pub moved : {M : Type 0} → Cont M → AnyMachine M → NumberMap Handle → Cont M
 moved cont machine objects = record cont { machine = Some machine; objects = objects }
 
 -- an object call has come so far, over the bytes of the machine that it left
@@ -199,14 +199,14 @@ came-over s call uuid range left objects held answers state step here came =
     subst (λ (r : List ℕ). StandsFor state call uuid range objects answers (record { step = step; range = r; objects = held })) (sym here) came
 
 -- what it comes to is what its next step does
-pub object-served : {M X : Type 0} {g : _} (bytes : M → List ℕ) (uuid : List ℕ) (image : Image) (old : Cont M X g)
+pub object-served : {M : Type 0} (bytes : M → List ℕ) (uuid : List ℕ) (image : Image) (old : Cont M)
     (here : EntryPoint) (m n : AnyMachine M) (before : Option PendingRequest) (call : ObjectCall) (asked : PendingRequest) (state : ObjectState) (now : Serving) (Q : Advance → Type 0)
     → asked.request ≡ request.Object call
     → state_of bytes n ≡ with_bytes (state_of bytes m) (request.Object call) now.range
     → StandsFor state call uuid asked.range asked.objects asked.answers now
     → Q (object_turn bytes uuid image (moved old n now.objects) here n asked now.step)
     → IsSomeAnd (advance_on_answers (record (job_at bytes uuid image old) { asked = before }) image here (state_of bytes m) asked) Q
-object-served {M} {X} {g} bytes uuid image old here m n before call asked state now Q names stored stands turn =
+object-served {M} bytes uuid image old here m n before call asked state now Q names stored stands turn =
     let job = record (job_at bytes uuid image old) { asked = before } in
     let point = here in
     let left = job_at bytes uuid image (moved old n now.objects) in

@@ -10,7 +10,7 @@ use Rattle.rpc_cont.specs.declared.cont.Cont.{Cont}
 use Rattle.rpc_cont.specs.declared.phase.Phase.TheVariants as phase
 use Rattle.ta_step.specs.declared.machine.Machine.{Machine as AnyMachine}
 
-runnable : {M X : Type 0} {g : _} (bytes : M → List ℕ) (seen : Bool) (application : Option (ContApp X g)) (point : Option EntryPoint) (machine : Option (AnyMachine M))
+runnable : {M : Type 0} (bytes : M → List ℕ) (seen : Bool) (application : Option ContApp) (point : Option EntryPoint) (machine : Option (AnyMachine M))
     → HasImage application → HasReady bytes seen point machine → IsRunnable bytes seen application point machine
 runnable bytes seen None point machine valid ready = absurd valid
 runnable bytes seen (Some (app.Image uuid image)) None machine valid ready = absurd ready
@@ -19,7 +19,7 @@ runnable bytes seen (Some (app.Image uuid image)) (Some point) (Some machine) va
 runnable bytes seen (Some (app.Native native)) point machine valid ready = absurd valid
 runnable bytes seen (Some (app.Dead uuid)) point machine valid ready = absurd valid
 
-pub can_advance : {M X : Type 0} {g : _} (bytes : M → List ℕ) (cont : Cont M X g) → cont.phase ≡ phase.Runs → cont.memory ≡ None → cont.request ≡ None → cont.object ≡ None
+pub can_advance : {M : Type 0} (bytes : M → List ℕ) (cont : Cont M) → cont.phase ≡ phase.Runs → cont.memory ≡ None → cont.request ≡ None → cont.object ≡ None
     → HasImage cont.app → HasReady bytes cont.cancelled cont.point cont.machine → CanAdvance bytes cont
 can_advance bytes cont runs memory request object valid ready =
     let can = runnable bytes cont.cancelled cont.app cont.point cont.machine valid ready in

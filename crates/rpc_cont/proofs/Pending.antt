@@ -27,7 +27,7 @@ use Rattle.tee_storage.specs.declared.state.ObjectState.{ObjectState}
 
 -- ---- a call that waits
 
-pub has_object : {M X : Type 0} {g : _} (uuid : List ℕ) (asked : PendingRequest) (cont : Cont M X g) (machine : State) (wanted : Request) (pending : Option Asked) (object : Option ObjectState)
+pub has_object : {M : Type 0} (uuid : List ℕ) (asked : PendingRequest) (cont : Cont M) (machine : State) (wanted : Request) (pending : Option Asked) (object : Option ObjectState)
     → (let span = span_of wanted in HasCome uuid (bytes_at machine span.0 span.1) asked cont wanted pending object) → HasObject machine wanted object
 has_object uuid asked cont machine request.Time None object come = absurd come
 has_object uuid asked cont machine request.Time (Some pending) None come = refl
@@ -39,7 +39,7 @@ has_object uuid asked cont machine (request.Object call) None object come = absu
 has_object uuid asked cont machine (request.Object call) (Some pending) None come = absurd come
 has_object uuid asked cont machine (request.Object call) (Some pending) (Some state) come = come.ready
 
-pub waits-pending : {M X : Type 0} {g : _} (bytes : M → List ℕ) (uuid : List ℕ) (cont : Cont M X g) (plain job : Job) (pending : Asked)
+pub waits-pending : {M : Type 0} (bytes : M → List ℕ) (uuid : List ℕ) (cont : Cont M) (plain job : Job) (pending : Asked)
     → IsWaiting bytes uuid cont plain job → cont.request ≡ Some pending → IsPending bytes cont
 waits-pending bytes uuid cont plain job pending waits is = record {
   point = waits.point;
@@ -54,29 +54,29 @@ waits-pending bytes uuid cont plain job pending waits is = record {
 
 -- ---- a call that was taken on
 
-stop-pending : {M X : Type 0} {g : _} (bytes : M → List ℕ) (uuid : List ℕ) (cont : Cont M X g) (plain : Job) (why : JobStop) (answer : ContStop)
+stop-pending : {M : Type 0} (bytes : M → List ℕ) (uuid : List ℕ) (cont : Cont M) (plain : Job) (why : JobStop) (answer : ContStop)
     → IsStop bytes uuid cont plain why answer → answer ≡ stop.Asks → IsPending bytes cont
 stop-pending bytes uuid cont plain (Ends end) answer (ended, left, none) asks = absurd cc
 stop-pending bytes uuid cont plain (Panics code) answer (panicked, dead, none) asks = absurd cc
 stop-pending bytes uuid cont plain (Asks wanted payload left) answer (stops, (waits, is)) asks = waits-pending bytes uuid cont plain left _ waits is
 
-grant-pending : {M X : Type 0} {g : _} (bytes : M → List ℕ) (whose : Option (ContApp X g)) (cont : Cont M X g) (before steps : ℕ) (grant : Grant) (answer : ContStop)
+grant-pending : {M : Type 0} (bytes : M → List ℕ) (whose : Option ContApp) (cont : Cont M) (before steps : ℕ) (grant : Grant) (answer : ContStop)
     → IsAdvance bytes whose cont before steps grant answer → answer ≡ stop.Asks → IsPending bytes cont
 grant-pending bytes whose cont before steps (Left job) answer (interrupted, same, can, count) asks = absurd cc
 grant-pending bytes whose cont before steps (Stopped n why) answer (is, count) asks =
     stop-pending bytes (uuid_of whose) cont (job_for bytes whose cont) why answer is asks
 
-pub advance-pending : {M X : Type 0} {g : _} (bytes : M → List ℕ) (whose : Option (ContApp X g)) (cont : Cont M X g) (before steps : ℕ) (o : Option Grant) (answer : ContStop)
+pub advance-pending : {M : Type 0} (bytes : M → List ℕ) (whose : Option ContApp) (cont : Cont M) (before steps : ℕ) (o : Option Grant) (answer : ContStop)
     → IsSomeAnd o (λ grant. IsAdvance bytes whose cont before steps grant answer) → answer ≡ stop.Asks → IsPending bytes cont
 advance-pending bytes whose cont before steps None answer is asks = absurd is
 advance-pending bytes whose cont before steps (Some grant) answer is asks = grant-pending bytes whose cont before steps grant answer is asks
 
 -- only an image asks
-abbrev Advanced : {M X : Type 0} {g : _} → (M → List ℕ) → Option (ContApp X g) → Cont M X g → Cont M X g → ℕ → ContStop → Option EntryPoint → Option (AnyMachine M) → Type 0
+abbrev Advanced : {M : Type 0} → (M → List ℕ) → Option ContApp → Cont M → Cont M → ℕ → ContStop → Option EntryPoint → Option (AnyMachine M) → Type 0
 Advanced bytes whose old new steps answer point machine =
     IsSomeAnd (grant_of steps (job_with (body_of bytes whose point machine) (uuid_of whose) old)) (λ grant. IsAdvance bytes whose new old.steps steps grant answer)
 
-image_at : {M X : Type 0} {g : _} (bytes : M → List ℕ) (whose : Option (ContApp X g)) (old new : Cont M X g) (steps : ℕ) (answer : ContStop) (point : Option EntryPoint) (machine : Option (AnyMachine M))
+image_at : {M : Type 0} (bytes : M → List ℕ) (whose : Option ContApp) (old new : Cont M) (steps : ℕ) (answer : ContStop) (point : Option EntryPoint) (machine : Option (AnyMachine M))
     → IsRunnable bytes old.cancelled whose point machine → Advanced bytes whose old new steps answer point machine → answer ≡ stop.Asks → HasImage whose
 image_at bytes None old new steps answer point machine runs ((ended, left, none), count) asks = absurd cc
 image_at bytes (Some (app.Image uuid image)) old new steps answer None machine runs ((ended, left, none), count) asks = absurd cc
@@ -91,7 +91,7 @@ image_at bytes (Some (app.Native native)) old new steps answer (Some entry.Destr
 image_at bytes (Some (app.Native native)) old new zero answer (Some (entry.Invoke func)) machine runs (interrupted, same, can, count) asks = absurd cc
 image_at bytes (Some (app.Native native)) old new (suc n) answer (Some (entry.Invoke func)) machine runs ((ended, left, none), count) asks = absurd cc
 
-pub advance-image : {M X : Type 0} {g : _} (bytes : M → List ℕ) (whose : Option (ContApp X g)) (old new : Cont M X g) (steps : ℕ) (answer : ContStop)
+pub advance-image : {M : Type 0} (bytes : M → List ℕ) (whose : Option ContApp) (old new : Cont M) (steps : ℕ) (answer : ContStop)
     → CanRun bytes whose old → IsSomeAnd (grant_of steps (job_for bytes whose old)) (λ grant. IsAdvance bytes whose new old.steps steps grant answer)
     → answer ≡ stop.Asks → HasImage whose
 advance-image bytes whose old new steps answer can is asks = image_at bytes whose old new steps answer old.point old.machine can.runs is asks

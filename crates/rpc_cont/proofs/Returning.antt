@@ -20,7 +20,7 @@ followed_next job image here machine (point ∷ points) next e =
     let same : point ≡ next = cc in
     ap (λ (p : EntryPoint). Goes (image_job_at image machine.memory machine.cancelled job p points)) same
 
-pub goes : {M X : Type 0} {g : _} (bytes : M → List ℕ) (uuid : List ℕ) (image : Image) (new : Cont M X g) (turn : Advance)
+pub goes : {M : Type 0} (bytes : M → List ℕ) (uuid : List ℕ) (image : Image) (new : Cont M) (turn : Advance)
     → turn ≡ Goes (job_at bytes uuid image new) → IsRunning bytes new → IsTurn bytes uuid image new turn None
 goes bytes uuid image new turn e running = subst (λ (other : Advance). IsTurn bytes uuid image new other None) (sym e) (refl, refl, running)
 
@@ -32,7 +32,7 @@ at_same image memory other flag seen job next behind coming e f h =
     ∙ ap (image_job_at image other seen job next) h
 
 -- a call whose next entry point, which is this one, has begun
-pub next_begun : {M X : Type 0} {g : _} (bytes : M → List ℕ) (uuid : List ℕ) (image : Image) (here : EntryPoint) (machine : State) (old new : Cont M X g)
+pub next_begun : {M : Type 0} (bytes : M → List ℕ) (uuid : List ℕ) (image : Image) (here : EntryPoint) (machine : State) (old new : Cont M)
     (memory : List ℕ) (next : EntryPoint) (left : List EntryPoint)
     → slice_get old.points.items 0 ≡ Some next → left ≡ remove old.points.items 0
     → machine.memory ≡ memory → machine.cancelled ≡ old.cancelled
@@ -53,7 +53,7 @@ followed_same job image here machine points [] = refl
 followed_same job image here machine points (next ∷ behind) = refl
 
 -- what follows the return of an entry point, after which the call stands for this job
-pub followed_return : {M X : Type 0} {g : _} (uuid : List ℕ) (image : Image) (here : EntryPoint) (machine : State) (job : Job) (left : Cont M X g) (coming : List EntryPoint)
+pub followed_return : {M : Type 0} (uuid : List ℕ) (image : Image) (here : EntryPoint) (machine : State) (job : Job) (left : Cont M) (coming : List EntryPoint)
     → job_with Nothing uuid left ≡ record job { points = coming }
     → on_to_next (job_with Nothing uuid left) image here machine left.points.items ≡ on_to_next job image here machine coming
 followed_return uuid image here machine job left coming is =

@@ -41,7 +41,7 @@ IsInvoke entry.Close = ⊥
 IsInvoke entry.Destroy = ⊥
 
 -- what runs can run: the machine of an image, the function of a built-in application, or nothing
-abbrev pub IsRunnable : {M X : Type 0} {g : _} → (M → List ℕ) → Bool → Option (ContApp X g) → Option EntryPoint → Option (AnyMachine M) → Type 0
+abbrev pub IsRunnable : {M : Type 0} → (M → List ℕ) → Bool → Option ContApp → Option EntryPoint → Option (AnyMachine M) → Type 0
 IsRunnable bytes seen (Some (app.Image uuid image)) (Some point) machine =
     IsValid image.value × IsSomeAnd machine (λ m. IsReady seen (state_of bytes m))
 IsRunnable bytes seen (Some (app.Native native)) (Some point) machine = IsInvoke point × (machine ≡ None)
@@ -50,14 +50,14 @@ IsRunnable bytes seen None (Some point) machine = ⊥
 IsRunnable bytes seen _ None machine = machine ≡ None
 
 -- the call of this application can run, and has asked for nothing
-pub record CanRun {M X : Type 0} {g : _} (bytes : M → List ℕ) (app : Option (ContApp X g)) (cont : Cont M X g) : Type 0 where
+pub record CanRun {M : Type 0} (bytes : M → List ℕ) (app : Option ContApp) (cont : Cont M) : Type 0 where
   pub memory : cont.memory ≡ None
   pub request : cont.request ≡ None
   pub object : cont.object ≡ None
   pub runs : IsRunnable bytes cont.cancelled app cont.point cont.machine
 
 -- the call runs
-pub record CanAdvance {M X : Type 0} {g : _} (bytes : M → List ℕ) (cont : Cont M X g) : Type 0 where
+pub record CanAdvance {M : Type 0} (bytes : M → List ℕ) (cont : Cont M) : Type 0 where
   pub phase : cont.phase ≡ phase.Runs
   pub runs : CanRun bytes cont.app cont
 
@@ -70,7 +70,7 @@ phase_after (stop.Panicked code) = phase.Ends
 
 -- the answer and the call behind it, of this application, are those of a grant of so many steps, where it had done so
 -- many before
-abbrev pub IsAdvance : {M X : Type 0} {g : _} → (M → List ℕ) → Option (ContApp X g) → Cont M X g → ℕ → ℕ → Grant → ContStop → Type 0
+abbrev pub IsAdvance : {M : Type 0} → (M → List ℕ) → Option ContApp → Cont M → ℕ → ℕ → Grant → ContStop → Type 0
 IsAdvance bytes app cont before steps (Left job) answer =
     (answer ≡ stop.Interrupted) × (job ≡ job_for bytes app cont) × CanRun bytes app cont × (cont.steps ≡ before + steps)
 IsAdvance bytes app cont before steps (Stopped used why) answer =

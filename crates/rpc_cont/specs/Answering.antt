@@ -23,7 +23,7 @@ use Rattle.tee_storage.specs.declared.state.ObjectState.{ObjectState}
 -- ---- what can be answered
 
 -- its application is an image, and that is valid
-abbrev pub HasImage : {X : Type 0} {g : _} → Option (ContApp X g) → Type 0
+abbrev pub HasImage : Option ContApp → Type 0
 HasImage None = ⊥
 HasImage (Some (app.Image uuid image)) = IsValid image.value
 HasImage (Some (app.Native native)) = ⊥
@@ -41,14 +41,14 @@ abbrev pub IsUnanswered : Bool → Option ObjectState → State → Type 0
 IsUnanswered seen object machine = IsSomeAnd machine.asked (λ wanted. HasAskedFor seen wanted machine × HasObject machine wanted object)
 
 -- the call has asked for something, and has no answer
-pub record IsPending {M X : Type 0} {g : _} (bytes : M → List ℕ) (cont : Cont M X g) : Type 0 where
+pub record IsPending {M : Type 0} (bytes : M → List ℕ) (cont : Cont M) : Type 0 where
   pub point : IsSome cont.point
   pub memory : cont.memory ≡ None
   pub request : IsSome cont.request
   pub machine : IsSomeAnd cont.machine (λ m. IsUnanswered cont.cancelled cont.object (state_of bytes m))
 
 -- the call has asked for something on behalf of an image, and takes an answer
-pub record CanBeAnswered {M X : Type 0} {g : _} (bytes : M → List ℕ) (cont : Cont M X g) : Type 0 where
+pub record CanBeAnswered {M : Type 0} (bytes : M → List ℕ) (cont : Cont M) : Type 0 where
   pub image : HasImage cont.app
   pub pending : IsPending bytes cont
 
@@ -60,7 +60,7 @@ phase_behind None = phase.Runs
 phase_behind (Some stop) = phase_after stop
 
 -- the call runs on, or has asked for something else
-abbrev pub IsAnswered : {M X : Type 0} {g : _} → (M → List ℕ) → Cont M X g → Advance → Type 0
+abbrev pub IsAnswered : {M : Type 0} → (M → List ℕ) → Cont M → Advance → Type 0
 IsAnswered bytes cont (Goes job) = (job ≡ job_of bytes cont) × CanAdvance bytes cont
 IsAnswered bytes cont (Stops (Ends end)) = ⊥
 IsAnswered bytes cont (Stops (Panics code)) = ⊥

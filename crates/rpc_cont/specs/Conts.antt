@@ -16,7 +16,7 @@ use Rattle.ta_step.specs.Machine.{state_of}
 use Rattle.ta_params.specs.declared.copied_params.CopiedParams.{CopiedParams}
 
 -- the application's UUID
-abbrev pub uuid_of : {X : Type 0} {g : _} → Option (ContApp X g) → List ℕ
+abbrev pub uuid_of : Option ContApp → List ℕ
 uuid_of None = []
 uuid_of (Some (app.Image uuid image)) = uuid
 uuid_of (Some (app.Native native)) = native.uuid
@@ -41,14 +41,14 @@ native_body relation (Some entry.Close) = Nothing
 native_body relation (Some entry.Destroy) = Nothing
 
 -- what runs
-abbrev pub body_of : {M X : Type 0} {g : _} → (M → List ℕ) → Option (ContApp X g) → Option EntryPoint → Option (AnyMachine M) → Body
+abbrev pub body_of : {M : Type 0} → (M → List ℕ) → Option ContApp → Option EntryPoint → Option (AnyMachine M) → Body
 body_of bytes None point machine = Nothing
 body_of bytes (Some (app.Image uuid image)) point machine = body_at bytes image.value point machine
 body_of bytes (Some (app.Native native)) point machine = native_body native.relation point
 body_of bytes (Some (app.Dead uuid)) point machine = Nothing
 
 -- the job of a call, with what runs and its application's UUID
-abbrev pub job_with : {M X : Type 0} {g : _} → Body → List ℕ → Cont M X g → Job
+abbrev pub job_with : {M : Type 0} → Body → List ℕ → Cont M → Job
 job_with body uuid cont = record {
   body = body;
   uuid = uuid;
@@ -62,15 +62,15 @@ job_with body uuid cont = record {
 }
 
 -- the same of an image
-abbrev pub job_at : {M X : Type 0} {g : _} → (M → List ℕ) → List ℕ → Image → Cont M X g → Job
+abbrev pub job_at : {M : Type 0} → (M → List ℕ) → List ℕ → Image → Cont M → Job
 job_at bytes uuid image cont = job_with (body_at bytes image cont.point cont.machine) uuid cont
 
 -- the same of this application
-abbrev pub job_for : {M X : Type 0} {g : _} → (M → List ℕ) → Option (ContApp X g) → Cont M X g → Job
+abbrev pub job_for : {M : Type 0} → (M → List ℕ) → Option ContApp → Cont M → Job
 job_for bytes app cont = job_with (body_of bytes app cont.point cont.machine) (uuid_of app) cont
 
 -- the job that a call stands for
-abbrev pub job_of : {M X : Type 0} {g : _} → (M → List ℕ) → Cont M X g → Job
+abbrev pub job_of : {M : Type 0} → (M → List ℕ) → Cont M → Job
 job_of bytes cont = job_for bytes cont.app cont
 
 -- ---- what is left of a call that has ended
@@ -90,7 +90,7 @@ is_at_its_end (Some (entry.Invoke func)) points = false
 is_at_its_end (Some entry.Close) points = false
 is_at_its_end (Some entry.Destroy) points = true
 
-abbrev pub end_left : {M X : Type 0} {g : _} → (M → List ℕ) → Cont M X g → End
+abbrev pub end_left : {M : Type 0} → (M → List ℕ) → Cont M → End
 end_left bytes cont = record {
   result = cont.result;
   context = cont.context;
@@ -108,5 +108,5 @@ memory_of bytes (Some machine) memory = bytes machine.memory
 memory_of bytes None memory = kept_memory bytes memory
 
 -- how many they are
-abbrev pub memory_size : {M X : Type 0} {g : _} → (M → List ℕ) → Cont M X g → ℕ
+abbrev pub memory_size : {M : Type 0} → (M → List ℕ) → Cont M → ℕ
 memory_size bytes cont = length (memory_of bytes cont.machine cont.memory)

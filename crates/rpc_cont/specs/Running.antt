@@ -34,14 +34,14 @@ abbrev pub HasReady : {M : Type 0} → (M → List ℕ) → Bool → Option Entr
 HasReady bytes cancelled point machine = IsSomeAnd point (λ here. IsSomeAnd machine (λ m. IsReady cancelled (state_of bytes m)))
 
 -- it has no machine and no memory, and has asked for nothing
-pub record IsIdle {M X : Type 0} {g : _} (cont : Cont M X g) : Type 0 where
+pub record IsIdle {M : Type 0} (cont : Cont M) : Type 0 where
   pub machine : cont.machine ≡ None
   pub memory : cont.memory ≡ None
   pub request : cont.request ≡ None
   pub object : cont.object ≡ None
 
 -- a call of an image whose machine can run, and which has asked for nothing
-pub record IsRunning {M X : Type 0} {g : _} (bytes : M → List ℕ) (cont : Cont M X g) : Type 0 where
+pub record IsRunning {M : Type 0} (bytes : M → List ℕ) (cont : Cont M) : Type 0 where
   pub memory : cont.memory ≡ None
   pub request : cont.request ≡ None
   pub object : cont.object ≡ None
@@ -50,7 +50,7 @@ pub record IsRunning {M X : Type 0} {g : _} (bytes : M → List ℕ) (cont : Con
 -- ---- a call that waits for an answer
 
 -- the object call that waits has come so far, with these bytes of memory, for this request
-abbrev pub HasCome : {M X : Type 0} {g : _} → List ℕ → List ℕ → PendingRequest → Cont M X g → Request → Option Asked → Option ObjectState → Type 0
+abbrev pub HasCome : {M : Type 0} → List ℕ → List ℕ → PendingRequest → Cont M → Request → Option Asked → Option ObjectState → Type 0
 HasCome uuid range asked cont (request.Object call) (Some pending) (Some state) =
     let step = storage.Ask pending.rpc pending.payload in
     StandsFor state call uuid asked.range asked.objects asked.answers (record { step = step; range = range; objects = cont.objects })
@@ -69,19 +69,19 @@ pub record HasAskedFor (seen : Bool) (wanted : Request) (machine : State) : Type
   pub in_range : (let span = span_of wanted in is_range machine span.0 span.1 ≡ true)
 
 -- it waits for the answer to this, and the call has come so far with it
-pub record Awaits {M X : Type 0} {g : _} (uuid : List ℕ) (cont : Cont M X g) (asked : PendingRequest) (machine : State) : Type 0 where
+pub record Awaits {M : Type 0} (uuid : List ℕ) (cont : Cont M) (asked : PendingRequest) (machine : State) : Type 0 where
   pub asks : HasAskedFor cont.cancelled asked.request machine
   pub come : (let span = span_of asked.request in HasCome uuid (bytes_at machine span.0 span.1) asked cont asked.request cont.request cont.object)
 
 -- the call, which would be at the job `plain` if it ran, stands for this one, which waits for an answer
-pub record IsWaiting {M X : Type 0} {g : _} (bytes : M → List ℕ) (uuid : List ℕ) (cont : Cont M X g) (plain job : Job) : Type 0 where
+pub record IsWaiting {M : Type 0} (bytes : M → List ℕ) (uuid : List ℕ) (cont : Cont M) (plain job : Job) : Type 0 where
   pub memory : cont.memory ≡ None
   pub point : IsSome cont.point
   pub same : job ≡ record plain { asked = job.asked }
   pub asked : IsSomeAnd job.asked (λ asked. IsSomeAnd cont.machine (λ m. Awaits uuid cont asked (state_of bytes m)))
 
 -- the machine has asked for this and has no answer, and the call hasn't begun on it
-pub record IsAsking {M X : Type 0} {g : _} (bytes : M → List ℕ) (cont : Cont M X g) (wanted : Request) : Type 0 where
+pub record IsAsking {M : Type 0} (bytes : M → List ℕ) (cont : Cont M) (wanted : Request) : Type 0 where
   pub memory : cont.memory ≡ None
   pub object : cont.object ≡ None
   pub machine : IsSomeAnd cont.machine (λ m. HasAskedFor cont.cancelled wanted (state_of bytes m))
@@ -89,18 +89,18 @@ pub record IsAsking {M X : Type 0} {g : _} (bytes : M → List ℕ) (cont : Cont
 -- ---- why it stops
 
 -- it has nothing left to run, and nothing to ask for
-pub record IsOver {M X : Type 0} {g : _} (cont : Cont M X g) : Type 0 where
+pub record IsOver {M : Type 0} (cont : Cont M) : Type 0 where
   pub machine : cont.machine ≡ None
   pub request : cont.request ≡ None
   pub object : cont.object ≡ None
 
 -- it has asked for this
-abbrev pub HasAsked : {M X : Type 0} {g : _} → (M → List ℕ) → List ℕ → Cont M X g → Job → Rpc → List ℕ → Job → Type 0
+abbrev pub HasAsked : {M : Type 0} → (M → List ℕ) → List ℕ → Cont M → Job → Rpc → List ℕ → Job → Type 0
 HasAsked bytes uuid cont plain wanted payload left =
     IsWaiting bytes uuid cont plain left × (cont.request ≡ Some (record { rpc = wanted; payload = payload }))
 
 -- an answer, and the call behind it, are those of a stop
-abbrev pub IsStop : {M X : Type 0} {g : _} → (M → List ℕ) → List ℕ → Cont M X g → Job → JobStop → ContStop → Type 0
+abbrev pub IsStop : {M : Type 0} → (M → List ℕ) → List ℕ → Cont M → Job → JobStop → ContStop → Type 0
 IsStop bytes uuid cont plain (Ends end) answer = (answer ≡ stop.Ended end.result) × (end ≡ end_left bytes cont) × IsOver cont
 IsStop bytes uuid cont plain (Panics code) answer =
     (answer ≡ stop.Panicked code) × (cont.result ≡ of_tee 0xffff3024) × IsOver cont
@@ -110,19 +110,19 @@ IsStop bytes uuid cont plain (Asks wanted payload left) answer =
 -- ---- a call of an image
 
 -- what it comes to: it runs on, or has stopped
-abbrev pub IsTurn : {M X : Type 0} {g : _} → (M → List ℕ) → List ℕ → Image → Cont M X g → Advance → Option ContStop → Type 0
+abbrev pub IsTurn : {M : Type 0} → (M → List ℕ) → List ℕ → Image → Cont M → Advance → Option ContStop → Type 0
 IsTurn bytes uuid image cont (Goes job) answer = (answer ≡ None) × (job ≡ job_at bytes uuid image cont) × IsRunning bytes cont
 IsTurn bytes uuid image cont (Stops why) answer = IsSomeAnd answer (λ a. IsStop bytes uuid cont (job_at bytes uuid image cont) why a)
 
 -- what a grant of so many steps comes to, of a call that had done so many
-abbrev pub IsRun : {M X : Type 0} {g : _} → (M → List ℕ) → List ℕ → Image → Cont M X g → ℕ → ℕ → Grant → ContStop → Type 0
+abbrev pub IsRun : {M : Type 0} → (M → List ℕ) → List ℕ → Image → Cont M → ℕ → ℕ → Grant → ContStop → Type 0
 IsRun bytes uuid image cont before steps (Left job) answer =
     (answer ≡ stop.Interrupted) × (job ≡ job_at bytes uuid image cont) × IsRunning bytes cont × (cont.steps ≡ before + steps)
 IsRun bytes uuid image cont before steps (Stopped used why) answer =
     IsStop bytes uuid cont (job_at bytes uuid image cont) why answer × (cont.steps ≡ before + used)
 
 -- the call with what a run changes of it beside the steps
-abbrev pub worked : {M X : Type 0} {g : _} → Cont M X g → Cont M X g → Cont M X g
+abbrev pub worked : {M : Type 0} → Cont M → Cont M → Cont M
 worked old new = record old {
   context = new.context;
   params = new.params;

@@ -19,7 +19,7 @@ use crate::begin::of_application;
 use crate::cont::Cont;
 use crate::stop::ContStop;
 use job_model::EntryPoint;
-use native_tas::Native;
+use native_tas::NativeApp;
 use ta_isa::Image;
 use ta_step::{Machine, Stop, TaMemory};
 use uuid::Uuid;
@@ -164,7 +164,7 @@ impl<M: TaMemory + Drop> Cont<M> {
     }
 
     /// The same of a built-in application: an invoke of this function is one step.
-    fn run_native(&mut self, native: &Native, func: u32, steps: u32) -> ContStop
+    fn run_native(&mut self, native: &NativeApp, func: u32, steps: u32) -> ContStop
         requires steps { self.old.steps + steps < 2 ^ 128 }
         ensures none { steps ≡ 0 → (result ≡ ContStop.Interrupted) × (self.new ≡ self.old) }
         ensures one { 0 < steps → (let answer = answer_of native.now.relation func (kept_params self.old.params) in
@@ -175,7 +175,7 @@ impl<M: TaMemory + Drop> Cont<M> {
             return ContStop::Interrupted;
         }
         let mut params = self.take_params();
-        let code = native.answer(func, &mut params);
+        let code = native.relation.answer(func, &mut params);
         self.params = Some(params);
         self.result = of_application(code);
         self.steps += 1;

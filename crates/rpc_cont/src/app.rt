@@ -1,4 +1,4 @@
-use native_tas::Native;
+use native_tas::NativeApp;
 use std::alloc::Global;
 use std::sync::Arc;
 use ta_isa::Image;
@@ -13,7 +13,7 @@ pub enum ContApp {
         image: Arc<Image, Global>,
     },
     /// One that is built in.
-    Native(Native),
+    Native(NativeApp),
     /// That of a dead instance, with its UUID: nothing runs.
     Dead {
         uuid: Uuid,

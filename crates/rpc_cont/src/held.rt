@@ -1,4 +1,4 @@
-use native_tas::Native;
+use native_tas::NativeApp;
 use std::alloc::Global;
 use std::sync::Arc;
 use ta_isa::Image;
@@ -15,7 +15,7 @@ pub enum Held<M: TaMemory> {
         memory: M,
     },
     /// One of a built-in application.
-    Native(Native),
+    Native(NativeApp),
     /// A dead one, of the application of this UUID.
     Dead {
         uuid: Uuid,

@@ -9,7 +9,7 @@ ghost use Rattle.ta_isa.specs.Spelling.{IsValid};
 
 use super::*;
 use arrayvec::ArrayVec;
-use native_tas::{Native, Relation, digest};
+use native_tas::{NativeApp, Relation};
 use param_copy::Places;
 use rpc_msgs::{FileName, Payload, Rpc, RpcReply};
 use std::alloc::Global;
@@ -323,7 +323,7 @@ fn an_object_is_read(rt: HostRuntime) -> Result<(), Fail> {
 }
 
 /// An invoke of a built-in application.
-fn built_in_invoke(alloc: Global, native: Native, start: Start) -> Cont<Plain>
+fn built_in_invoke(alloc: Global, native: NativeApp, start: Start) -> Cont<Plain>
     ensures { CanAdvance ⟦<Plain as TaMemory>⟧.bytes result }
 {
     let mut cont = idle(alloc, start, &[]);
@@ -334,10 +334,9 @@ fn built_in_invoke(alloc: Global, native: Native, start: Start) -> Cont<Plain>
 
 #[test]
 fn an_invoke_of_a_built_in_application_is_one_step(rt: HostRuntime) -> Result<(), Fail> {
-    let native = Native {
+    let native = NativeApp {
         uuid: Uuid::NAMESPACE_DNS,
         relation: Relation::Digest,
-        call: digest,
     };
     let mut cont = built_in_invoke(rt.alloc(), native, invoke(1));
     assert_eq!(rt; advance(&mut cont, 0)?, ContStop::Interrupted);

@@ -1,6 +1,6 @@
 use Rattle.std.proofs.Common.{◌≡◌, ◌++◌, map}
 use Rattle.std.specs.Vec.Iter.{into_iter_items}
-use Rattle.kernel_state.specs.StandsFor.{app_of}
+use Rattle.kernel_state.specs.Setup.{app_of}
 use Rattle.kernel_state.proofs.booting.shared_apps.Given as goal
 
 abbrev pub invariant-loop-app : goal.invariant-loop-app

@@ -16,7 +16,7 @@ there : (o : Option RpcAnswer) → IsSome o → (answer : RpcAnswer) × (o ≡ S
 there None is = absurd cc
 there (Some answer) is = (answer, refl)
 
-runs_on : {M X : Type 0} {g : _} (bytes : M → List ℕ) (cont : Cont M X g) (o : Option Advance) → IsSomeAnd o (λ next. IsAnswered bytes cont next)
+runs_on : {M : Type 0} (bytes : M → List ℕ) (cont : Cont M) (o : Option Advance) → IsSomeAnd o (λ next. IsAnswered bytes cont next)
     → cont.phase ≡ phase.Runs → CanAdvance bytes cont
 runs_on bytes cont None is runs = absurd is
 runs_on bytes cont (Some (Goes job)) (same, can) runs = can
@@ -24,7 +24,7 @@ runs_on bytes cont (Some (Stops (Ends end))) is runs = absurd is
 runs_on bytes cont (Some (Stops (Panics code))) is runs = absurd is
 runs_on bytes cont (Some (Stops (Asks wanted payload left))) (has, asks, can) runs = absurd cc
 
-asks_again : {M X : Type 0} {g : _} (bytes : M → List ℕ) (cont : Cont M X g) (o : Option Advance) → IsSomeAnd o (λ next. IsAnswered bytes cont next)
+asks_again : {M : Type 0} (bytes : M → List ℕ) (cont : Cont M) (o : Option Advance) → IsSomeAnd o (λ next. IsAnswered bytes cont next)
     → cont.phase ≡ phase.Asks → CanBeAnswered bytes cont × ((job : Job) × IsWaiting bytes (uuid_of cont.app) cont (job_of bytes cont) job)
 asks_again bytes cont None is asks = absurd is
 asks_again bytes cont (Some (Goes job)) (same, can) asks = let runs = can.phase in absurd cc

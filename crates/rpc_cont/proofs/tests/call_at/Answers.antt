@@ -10,8 +10,8 @@ returns g c =
     let idle = c.idle-cont.ensures in
     let valid : IsValid c.in_ok-image.image.value = search rules in
     can_advance _ _
-    (ap (λ (x : Cont _ _ _). x.phase) stays ∙ idle.phase)
-    (ap (λ (x : Cont _ _ _). x.memory) stays ∙ idle.memory)
-    (ap (λ (x : Cont _ _ _). x.request) stays ∙ idle.request)
-    (ap (λ (x : Cont _ _ _). x.object) stays ∙ idle.object)
+    (ap (λ (x : Cont _). x.phase) stays ∙ idle.phase)
+    (ap (λ (x : Cont _). x.memory) stays ∙ idle.memory)
+    (ap (λ (x : Cont _). x.request) stays ∙ idle.request)
+    (ap (λ (x : Cont _). x.object) stays ∙ idle.object)
     valid c.begin.ensures.ready

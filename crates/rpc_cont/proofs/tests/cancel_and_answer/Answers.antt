@@ -5,7 +5,7 @@ use Rattle.rpc_cont.specs.Running.{IsWaiting}
 use Rattle.rpc_cont.specs.declared.cont.Cont.{Cont}
 use Rattle.rpc_cont.proofs.tests.cancel_and_answer.Goals as goal
 
-waits_as : {M X : Type 0} {g : _} (bytes : M → List ℕ) (cont : Cont M X g) (job : Job) (one other : List ℕ) → one ≡ other
+waits_as : {M : Type 0} (bytes : M → List ℕ) (cont : Cont M) (job : Job) (one other : List ℕ) → one ≡ other
     → IsWaiting bytes one cont (job_of bytes cont) job → IsWaiting bytes other cont (job_of bytes cont) job
 waits_as bytes cont job one other same waits = subst (λ (uuid : List ℕ). IsWaiting bytes uuid cont (job_of bytes cont) job) same waits
 

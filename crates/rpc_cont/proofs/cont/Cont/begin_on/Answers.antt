@@ -18,5 +18,5 @@ returns-in-Image-clause-begins g c =
     c.deref.ensures (c.begin.ensures.begins uuid)
     in
     let left = job_at bytes uuid c.in-Image.image.value c.begin.new.self in
-    subst (λ (h : Held _ _ _). left ≡ begun_job (beginning_on bytes h old.cancelled) (record (job_with Nothing (held_uuid h) old) { objects = c.args.objects }) (c.args.first ∷ c.args.behind.items))
+    subst (λ (h : Held _). left ≡ begun_job (beginning_on bytes h old.cancelled) (record (job_with Nothing (held_uuid h) old) { objects = c.args.objects }) (c.args.first ∷ c.args.behind.items))
     (sym c.in-Image.is) begins

@@ -1,0 +1,74 @@
+-- What an entry makes of a core: one event more, whose reads have the lane's bytes, and the work of its processor. Or it
+-- is refused, and the core is as it was.
+use Rattle.std.specs.Prelude.{◌≡◌, ℕ, ◌+◌, ◌<◌, ◌≤◌, ◌^◌, List, [], ◌∷◌, ◌++◌, length, Option, Some, Result, Ok, Err, IsSomeAnd, slice_get}
+use Rattle.std.specs.Option.{option_and_then, option_map}
+use Rattle.event_journal.specs.Journal.{copied_bytes}
+use Rattle.event_journal.specs.declared.event.Event.TheVariants.{Entry}
+use Rattle.kernel_model.specs.Application.{Booted}
+use Rattle.kernel_model.specs.Entry.{entry}
+use Rattle.kernel_model.specs.Kernel.{Kernel, Outside, Visit}
+use Rattle.ns_ram.specs.Reader.{over_lane}
+use Rattle.ns_ram.specs.Reads.{HoldsReads, total_bytes}
+use Rattle.ns_ram.specs.declared.read.Read.{Read}
+use Rattle.smc_abi.specs.declared.regs.Regs.{Regs}
+use Rattle.kernel_state.specs.Meaning.{booted_of, events_of, kernel_of}
+use Rattle.kernel_state.specs.Work.{IsWorkOf}
+use Rattle.kernel_state.specs.declared.enter_refusal.EnterRefusal.{EnterRefusal}
+use Rattle.kernel_state.specs.declared.enter_refusal.EnterRefusal.TheVariants.{Full, Memory}
+use Rattle.kernel_state.specs.declared.kernel_core.Core.{Core}
+use Rattle.kernel_state.specs.declared.work.Work.{Work}
+
+-- a processor that comes in: its number, its registers, and the steps that it is granted
+pub record Coming : Type 0 where
+  pub cpu : ℕ
+  pub regs : Regs
+  pub steps : ℕ
+
+abbrev pub visit_of : Coming → Visit
+visit_of coming = record { cpu = coming.cpu; regs = coming.regs.a; steps = coming.steps }
+
+-- it can come in: it is outside, and is granted 1 to 1,000,000 steps
+pub record CanEnter (core : Core) (coming : Coming) : Type 0 where
+  pub outside : IsSomeAnd (kernel_of core) (λ kernel. slice_get kernel.processors coming.cpu ≡ Some Outside)
+  pub some_steps : 1 ≤ coming.steps
+  pub few_steps : coming.steps ≤ 1000000
+
+-- the core is as it was
+pub record IsAsBefore (old new : Core) : Type 0 where
+  pub boot : booted_of new ≡ booted_of old
+  pub events : events_of new ≡ events_of old
+
+-- ---- an entry
+
+-- it has come in, and this is its work
+pub record HasEntered (old new : Core) (coming : Coming) (lane : List ℕ) (work : Work) : Type 0 where
+  pub boot : booted_of new ≡ booted_of old
+  -- what it has read, each once
+  pub reads : List Read
+  pub from_lane : HoldsReads lane reads
+  pub events : events_of new ≡ events_of old ++ Entry coming.cpu coming.regs coming.steps reads ∷ []
+  -- its work is that of its entry, which stands at the end
+  pub cpu : work.cpu ≡ coming.cpu
+  pub entry_at : work.entry_at ≡ length (events_of old)
+  pub fits : IsSomeAnd (kernel_of new) (λ kernel. IsWorkOf kernel work)
+
+-- ---- a refusal
+
+-- how many bytes an entry reads of a lane
+abbrev pub bytes_read : Booted → List ℕ → Visit → Kernel → Option ℕ
+bytes_read boot lane visit kernel = option_map (λ end. total_bytes end.1) (over_lane (entry boot kernel visit) lane [])
+
+-- with the bytes that it would read there are more than 2^28
+pub record IsTooMuch (core : Core) (coming : Coming) (lane : List ℕ) (copied more : ℕ) : Type 0 where
+  pub so_far : copied ≡ copied_bytes (events_of core)
+  pub of_entry : option_and_then (bytes_read (booted_of core) lane (visit_of coming)) (kernel_of core) ≡ Some more
+  pub above : 2 ^ 28 < copied + more
+
+-- ---- both
+
+-- what the answer says of the core before and after. That an entry whose bytes are too many never comes in is a fact of
+-- each core, whose reads have at most 2^28 bytes
+abbrev pub Enters : Core → Core → Coming → List ℕ → Result Work EnterRefusal → Type 0
+Enters old new coming lane (Ok work) = HasEntered old new coming lane work
+Enters old new coming lane (Err (Full copied more)) = IsAsBefore old new × IsTooMuch old coming lane copied more
+Enters old new coming lane (Err Memory) = IsAsBefore old new
