@@ -24,3 +24,4 @@ pub mod SoundNewJoined
 pub mod SoundResumedJoined
 pub mod SoundEndedJoined
 pub mod SoundCallsJoined
+pub mod SoundLine

@@ -18,5 +18,5 @@ pub use laws::{
 pub use soundness::{
     calls_fit_their_tables, exits_come, numbers_are_given, numbers_rise, others_stay_away,
     processors_work_on_their_slots, slots_are_as_many, steps_are_granted, tables_are_in_order,
-    waiters_are_calls,
+    waiters_are_a_line, waiters_are_calls,
 };

@@ -5,6 +5,7 @@ ghost use Rattle.kernel_model.specs.SoundOrder.{AreInOrder};
 ghost use Rattle.kernel_model.specs.SoundWaiters.{AreWaiters};
 ghost use Rattle.kernel_model.specs.SoundJobs.{ExitsCome};
 ghost use Rattle.kernel_model.specs.SoundCalls.{AreJoined};
+ghost use Rattle.session_table.specs.Waiters.{IsLine};
 
 /// A processor that is inside for a slot works on its call, and the processor that works on a call is inside for its
 /// slot; a call is suspended for its own client.
@@ -55,4 +56,9 @@ pub fn exits_come()
 /// Calls, sessions and instances fit together: a call that works holds its instance, and its session is kept.
 pub fn calls_fit_their_tables()
     ensures { Always (λ boot kernel. AreJoined (call_at kernel.slots) kernel.tables) }
+{}
+
+/// Each call waits in a slot of its own, and so at most sixteen do.
+pub fn waiters_are_a_line()
+    ensures { Always (λ boot kernel. IsLine kernel.tables.waiters) }
 {}
