@@ -108,6 +108,13 @@ impl Registry {
         Ok(self.buffers.remove(cookie))
     }
 
+    /// The lowest slot that uses the buffer of the cookie, if one does.
+    pub fn pinned_by(&self, cookie: u64) -> Option<u8>
+        ensures { result ≡ lowest_slot self.now.pins cookie }
+    {
+        lowest_slot(self.pins.as_slice(), cookie)
+    }
+
     /// The slot uses the buffer of the cookie. A pin that is there isn't added again.
     pub fn pin(&mut self, cookie: u64, slot: u8)
         requires kept { IsSome (get self.old.buffers cookie) }
