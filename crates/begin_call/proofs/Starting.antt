@@ -1,0 +1,80 @@
+-- A call that starts on what it finds runs its job.
+use Rattle.std.proofs.Common.{◌≡◌, ℕ, ◌*◌, ◌≤◌, Bool, List, [], ◌∷◌, length, Option, Some, None, refl, sym, ap, ap₂, ◌∙◌, subst, arith}
+use Rattle.std.specs.Option.{option_map_or}
+use Rattle.base.specs.NumberMap.{NumberMap}
+use Rattle.job_model.specs.Beginning.{Beginning, OfImage, OfRelation, Program, begun_job, job_starting_at}
+use Rattle.job_model.specs.Job.{Job, Nothing, idle_job, of_tee}
+use Rattle.job_model.specs.declared.entry_point.EntryPoint.{EntryPoint}
+use Rattle.job_model.specs.declared.entry_point.EntryPoint.TheVariants.{Create, Open, Invoke, Close, Destroy}
+use Rattle.native_tas.specs.declared.relation.Relation.{Relation}
+use Rattle.tee_storage.specs.declared.handle.Handle.{Handle}
+use Rattle.kernel_model.specs.Application.{pages_in}
+use Rattle.kernel_model.specs.Kernel.{Runs}
+use Rattle.rpc_cont.specs.Advancing.{CanAdvance}
+use Rattle.rpc_cont.specs.Beginning.{beginning_on, held_uuid}
+use Rattle.rpc_cont.specs.Conts.{job_of, job_with, kept_memory, kept_params, uuid_of}
+use Rattle.rpc_cont.specs.declared.app.ContApp.{ContApp}
+use Rattle.rpc_cont.specs.declared.cont.Cont.{Cont}
+use Rattle.rpc_cont.specs.declared.held.Held.{Held}
+use Rattle.kernel_state.specs.Calls.{IsAppOf, IsInPhase, bytes_of}
+use Rattle.kernel_state.specs.Setup.{application_of}
+use Rattle.kernel_state.specs.declared.setup.Application.{Application}
+use Rattle.kernel_state.specs.declared.setup.Application.TheVariants as app
+use Rattle.begin_call.specs.Begins.{CanBegin, IsValidApp}
+use Rattle.begin_call.specs.Found.{CanStart}
+use Rattle.kernel_model.specs.Application.{uuid_of as uuid_in}
+
+-- ---- its job
+
+-- a call that has done nothing is idle
+pub idle : (cont : Cont (List ℕ)) (uuid : List ℕ) (objects : NumberMap Handle) → CanBegin cont →
+    record (job_with Nothing uuid cont) { objects = objects } ≡ idle_job uuid cont.login cont.context objects (kept_params cont.params)
+idle cont uuid objects can = rw (can.result, can.fresh.points) refl
+
+-- a job keeps its UUID
+uuid_at : (from : Beginning) (program : Option Program) (job : Job) (first : EntryPoint) (behind : List EntryPoint) →
+    (job_starting_at from program job first behind).uuid ≡ job.uuid
+uuid_at from None job first behind = refl
+uuid_at from (Some (OfImage image)) job first behind = refl
+uuid_at from (Some (OfRelation relation)) job Create behind = refl
+uuid_at from (Some (OfRelation relation)) job Open behind = refl
+uuid_at from (Some (OfRelation relation)) job (Invoke func) behind = refl
+uuid_at from (Some (OfRelation relation)) job Close behind = refl
+uuid_at from (Some (OfRelation relation)) job Destroy behind = refl
+
+pub begun_uuid : (from : Beginning) (job : Job) (points : List EntryPoint) → (begun_job from job points).uuid ≡ job.uuid
+begun_uuid from job [] = refl
+begun_uuid from job (first ∷ behind) = uuid_at from from.program job first behind
+
+app_with : (app : Option (ContApp)) (uuid : List ℕ) → uuid_of app ≡ uuid → IsAppOf app (Some uuid)
+app_with None uuid is = tt
+app_with (Some app) uuid is = ap (λ (u : List ℕ). Some u) (sym is)
+
+pub app_begun : (cont : Cont (List ℕ)) (from : Beginning) (job : Job) (points : List EntryPoint) →
+    job_of bytes_of cont ≡ begun_job from job points → IsAppOf cont.app (Some job.uuid)
+app_begun cont from job points begun =
+    app_with cont.app job.uuid (ap (λ (job : Job). job.uuid) begun ∙ begun_uuid from job points)
+
+-- the job of a call that begins on what it holds is the one on what it finds
+pub job_starts : (cont new : Cont (List ℕ)) (held : Held (List ℕ)) (from : Beginning) (uuid : List ℕ) (objects : NumberMap Handle) (points : List EntryPoint) →
+    CanBegin cont → held_uuid held ≡ uuid → ((job : Job) → begun_job (beginning_on bytes_of held cont.cancelled) job points ≡ begun_job from job points) →
+    job_of bytes_of new ≡ begun_job (beginning_on bytes_of held cont.cancelled) (record (job_with Nothing (held_uuid held) cont) { objects = objects }) points →
+    begun_job from (idle_job uuid cont.login cont.context objects (kept_params cont.params)) points ≡ job_of bytes_of new
+job_starts cont new held from uuid objects points can same fits begun =
+    let plain = idle cont (held_uuid held) objects can in
+    let named = ap (λ (uuid : List ℕ). idle_job uuid cont.login cont.context objects (kept_params cont.params)) same in
+    sym (begun ∙ fits (record (job_with Nothing (held_uuid held) cont) { objects = objects }) ∙ ap (λ (job : Job). begun_job from job points) (plain ∙ named))
+
+-- ---- when it can start
+
+no_pages : (pages : ℕ) → 1 ≤ pages → length {A = ℕ} [] ≡ 4096 * pages → ⊥
+no_pages pages some is = omega (arith, is)
+
+-- a valid application, on all its pages
+pub can_start : (app : Application) (memory : Option (List ℕ)) (uuid bytes : List ℕ) → IsValidApp (application_of app) →
+    uuid ≡ uuid_in (application_of app) → kept_memory bytes_of memory ≡ bytes → length bytes ≡ 4096 * pages_in (application_of app) →
+    CanStart (Some app) memory uuid
+can_start (app.OfImage shared) None uuid bytes valid same kept all =
+    absurd (no_pages shared.image.value.pages valid.some_page (ap (λ (bytes : List ℕ). length bytes) kept ∙ all))
+can_start (app.OfImage shared) (Some memory) uuid bytes valid same kept all = valid
+can_start (app.BuiltIn native) memory uuid bytes valid same kept all = sym same
