@@ -1,0 +1,4 @@
+mod Commands
+mod Naming
+mod Params
+mod Steps

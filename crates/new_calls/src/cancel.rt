@@ -1,0 +1,22 @@
+ghost use Rattle.std.specs.Prelude.{ℕ, List};
+ghost use Rattle.kernel_model.specs.NewCall.{cancel_calls};
+ghost use Rattle.new_calls.specs.Deciding.{Decides};
+ghost use Rattle.ns_ram.specs.declared.read.Read.{Read as AnyRead};
+
+use crate::halt::{Halt, Settled};
+use crate::new_call::NewCall;
+use crate::plan::Plan;
+use ta_params::codes::TEE_ERROR_BAD_PARAMETERS;
+
+impl NewCall<'_> {
+    /// The pending calls of the named session that have the call's number are cancelled, and the cancel succeeds, also
+    /// where there are none. Its parameters are ignored.
+    pub fn cancel_calls(&self) -> Result<Plan, Halt>
+        ensures { (lane : List ℕ) (reads : List AnyRead) → Decides self.now cancel_calls lane reads reads result }
+    {
+        if self.named_session().is_none() {
+            return Err(Halt::Settled(Settled::Call(TEE_ERROR_BAD_PARAMETERS)));
+        }
+        Ok(Plan::Cancels)
+    }
+}

@@ -1,0 +1,97 @@
+ghost use Rattle.std.specs.Prelude.{◌≡◌, ◌<◌, ◌≤◌, IfOk, Some};
+ghost use Rattle.kernel_model.specs.Decision.{Taken as AnyTaken};
+ghost use Rattle.kernel_model.specs.NewCall.{listed_pages, offset_in, pages_touched, register_memory};
+ghost use Rattle.new_calls.specs.Deciding.{Decides, pages_or};
+ghost use Rattle.ns_ram.specs.Attempt.{faultless};
+ghost use Rattle.ns_ram.specs.Reader.{over_lane};
+
+use crate::argument::registering;
+use crate::halt::{Halt, Settled};
+use crate::new_call::NewCall;
+use crate::plan::Plan;
+use base::{NoMemory, Sequence};
+use msg_args::MsgParam;
+use ns_ram::{Lane, PAGE_BYTES, Reads, WalkFault, take_pages};
+use shm_registry::{PageBuffer, REGISTRY_LIMIT};
+use std::alloc::Global;
+use ta_params::codes::{TEE_ERROR_BAD_PARAMETERS, TEE_ERROR_OUT_OF_MEMORY};
+
+/// The most pages that a registered buffer touches.
+const MAX_PAGES: u128 = 1024;
+
+/// Where the buffer begins in its first page: the low twelve bits of p. The rest is the address of the first page list.
+fn offset_in(param: &MsgParam) -> u64
+    ensures value { result ≡ offset_in param.now }
+    ensures page { result < 4096 }
+{
+    param.p % PAGE_BYTES
+}
+
+/// How many pages the buffer touches.
+fn pages_touched(param: &MsgParam) -> u128
+    ensures { result ≡ pages_touched param.now }
+{
+    if param.q == 0 {
+        return 0;
+    }
+    (u128::from(offset_in(param)) + u128::from(param.q) + 4095) / 4096
+}
+
+impl NewCall<'_> {
+    /// The tests of a register, and what it changes.
+    pub fn register_memory(
+        &self,
+        alloc: Global,
+        lane: &Lane,
+        reads: &mut Reads,
+    ) -> Result<Plan, Halt>
+        ensures { Decides self.now register_memory lane.now reads.old reads.new result }
+    {
+        let params = self.parameters(alloc, lane, reads)?;
+        let Some(param) = registering(params.as_slice()) else {
+            return Err(Halt::Settled(Settled::Call(TEE_ERROR_BAD_PARAMETERS)));
+        };
+        if self.tables.registry.contains(param.s) {
+            return Err(Halt::Settled(Settled::Call(TEE_ERROR_BAD_PARAMETERS)));
+        }
+        if param.q == 0 {
+            return Err(Halt::Settled(Settled::Call(TEE_ERROR_BAD_PARAMETERS)));
+        }
+        if pages_touched(&param) > MAX_PAGES {
+            return Err(Halt::Settled(Settled::Call(TEE_ERROR_BAD_PARAMETERS)));
+        }
+        if self.tables.registry.len() >= REGISTRY_LIMIT {
+            return Err(Halt::Settled(Settled::Call(TEE_ERROR_OUT_OF_MEMORY)));
+        }
+        let Some(pages) = self.listed_pages(alloc, lane, &param, reads)? else {
+            return Err(Halt::Settled(Settled::Call(TEE_ERROR_BAD_PARAMETERS)));
+        };
+        let buffer = PageBuffer {
+            pages: Sequence::of(pages),
+            offset: offset_in(&param) as u32,
+            size: param.q,
+        };
+        Ok(Plan::KeepsBuffer(param.s, buffer))
+    }
+
+    /// Its pages, by the lists of their addresses. None where one is no page of RAM.
+    fn listed_pages(
+        &self,
+        alloc: Global,
+        lane: &Lane,
+        param: &MsgParam,
+        reads: &mut Reads,
+    ) -> Result<Option<Vec<u64>>, NoMemory>
+        requires { pages_touched param.now ≤ 1024 }
+        ensures { IfOk result (λ pages. (faulty : AnyTaken) →
+            over_lane (faultless (listed_pages param.now) faulty) lane.now reads.old ≡ Some (pages_or faulty pages, reads.new)) }
+    {
+        let first_list = param.p - offset_in(param);
+        let count = pages_touched(param) as u32;
+        match take_pages(alloc, lane, first_list, count, reads) {
+            Ok(pages) => Ok(Some(pages)),
+            Err(WalkFault::BadPage(_)) => Ok(None),
+            Err(WalkFault::Memory) => Err(NoMemory),
+        }
+    }
+}

@@ -1,0 +1,34 @@
+ghost use Rattle.kernel_model.specs.NewCall.{unregister_memory};
+ghost use Rattle.new_calls.specs.Deciding.{Decides};
+
+use crate::argument::unregistering;
+use crate::halt::{Halt, Settled};
+use crate::new_call::NewCall;
+use crate::plan::Plan;
+use ns_ram::{Lane, Reads};
+use std::alloc::Global;
+use ta_params::codes::{TEE_ERROR_BAD_PARAMETERS, TEE_ERROR_BUSY};
+
+impl NewCall<'_> {
+    /// The tests of an unregister, and what it changes.
+    pub fn unregister_memory(
+        &self,
+        alloc: Global,
+        lane: &Lane,
+        reads: &mut Reads,
+    ) -> Result<Plan, Halt>
+        ensures { Decides self.now unregister_memory lane.now reads.old reads.new result }
+    {
+        let params = self.parameters(alloc, lane, reads)?;
+        let Some(param) = unregistering(params.as_slice()) else {
+            return Err(Halt::Settled(Settled::Call(TEE_ERROR_BAD_PARAMETERS)));
+        };
+        if !self.tables.registry.contains(param.s) {
+            return Err(Halt::Settled(Settled::Call(TEE_ERROR_BAD_PARAMETERS)));
+        }
+        if self.tables.registry.pinned_by(param.s).is_some() {
+            return Err(Halt::Settled(Settled::Call(TEE_ERROR_BUSY)));
+        }
+        Ok(Plan::DropsBuffer(param.s))
+    }
+}
