@@ -1,0 +1,4 @@
+pub mod ComesTo
+pub mod GivenBack
+pub mod Maps
+pub mod Seen

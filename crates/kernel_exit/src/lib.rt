@@ -1,0 +1,13 @@
+//! What a processor takes out of the core: what its call has come to, with what that makes of sessions and instances,
+//! and what is told of it.
+//!
+//! Each function is named as the definition of the kernel that it computes. Nothing here reads the lane or takes memory.
+#![tactic(auto)]
+
+mod instances;
+mod progress;
+mod sessions;
+mod tables_after;
+
+pub use progress::{after_grant, after_rest};
+pub use tables_after::{tables_after_end, tables_after_panic, tables_unrun};
