@@ -33,21 +33,21 @@ asks_again bytes cont (Some (Stops (Panics code))) is asks = absurd is
 asks_again bytes cont (Some (Stops (Asks wanted payload left))) ((waits, request), is, can) asks = (can, (left, waits))
 
 pub returns-clause-runs : goal.returns-clause-runs
-returns-clause-runs g c runs =
+returns-clause-runs c runs =
     let asks : c.args.cont.now.phase ≡ phase.Asks = search rules in
     let given = there _ c.answer_of.ensures in
     let waits = c.requires.waits asks in
     runs_on _ _ _ (c.resume_with.ensures.asks given.0 waits.0 asks given.1 waits.1) runs
 
 pub returns-clause-asks : goal.returns-clause-asks
-returns-clause-asks g c again =
+returns-clause-asks c again =
     let asks : c.args.cont.now.phase ≡ phase.Asks = search rules in
     let given = there _ c.answer_of.ensures in
     let waits = c.requires.waits asks in
     (asks_again _ _ _ (c.resume_with.ensures.asks given.0 waits.0 asks given.1 waits.1) again).0
 
 pub returns-clause-waits : goal.returns-clause-waits
-returns-clause-waits g c again =
+returns-clause-waits c again =
     let asks : c.args.cont.now.phase ≡ phase.Asks = search rules in
     let given = there _ c.answer_of.ensures in
     let waits = c.requires.waits asks in

@@ -1,7 +1,7 @@
 use Rattle.rpc_cont.proofs.tests.built_in_invoke.Goals as goal
 
 pub returns : goal.returns
-returns g c =
+returns c =
     let idle = c.idle-cont.ensures in
     record {
       phase = idle.phase;

@@ -5,7 +5,7 @@ use Rattle.rpc_cont.proofs.Beginning.{can_advance}
 use Rattle.rpc_cont.proofs.tests.call_at.Goals as goal
 
 pub returns : goal.returns
-returns g c =
+returns c =
     let stays = c.begin.ensures.stays in
     let idle = c.idle-cont.ensures in
     let valid : IsValid c.in_ok-image.image.value = search rules in

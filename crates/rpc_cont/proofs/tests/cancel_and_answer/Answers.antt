@@ -10,7 +10,7 @@ waits_as : {M : Type 0} (bytes : M → List ℕ) (cont : Cont M) (job : Job) (on
 waits_as bytes cont job one other same waits = subst (λ (uuid : List ℕ). IsWaiting bytes uuid cont (job_of bytes cont) job) same waits
 
 pub answer-requires-clause-waits : goal.answer-requires-clause-waits
-answer-requires-clause-waits g c phase =
+answer-requires-clause-waits c phase =
     let stays = c.see_cancel.ensures.stays in
     let found = c.requires.waits (sym (ap (λ x. x.phase) stays) ∙ phase) in
     (with_cancel_seen found.0, waits_as _ _ _ _ _ (sym (ap (λ x. uuid_of x.app) stays)) (c.see_cancel.ensures.waits _ found.0 found.1))
