@@ -1,11 +1,10 @@
 -- Applications by their UUIDs.
-use Rattle.std.proofs.Common.{◌≡◌, ℕ, ◌≤◌, Bool, true, false, cond, List, [], ◌∷◌, ◌++◌, map, Option, Some, None, refl, sym, ap, subst, ◌∙◌, arith, lit≤}
+use Rattle.std.proofs.Common.{◌≡◌, ℕ, ◌≤◌, Bool, true, false, cond, List, [], ◌∷◌, ◌++◌, map, Option, Some, refl, ap, subst, arith, lit≤}
 use Rattle.std.specs.List.{All, find}
 use Rattle.std.specs.Option.{option_map_or}
 use Rattle.std.specs.Str.{bytes_eq}
 use Rattle.std.proofs.lemmas.List.Elements.{All-head, All-tail}
 use Rattle.std.proofs.lemmas.Slice.Eq.{bytes_eq-Decides}
-use Rattle.native_tas.specs.declared.relation.Relation.{Relation}
 use Rattle.ta_isa.specs.Boots.{IsBoot}
 use Rattle.ta_isa.specs.Spelling.{IsValid}
 use Rattle.ta_isa.specs.declared.boot.App.{App}

@@ -1,9 +1,9 @@
 -- Whether destroy follows, by how many sessions are opened.
-use Rattle.std.proofs.Common.{◌≡◌, ℕ, ◌+◌, ◌<◌, Bool, true, false, not, ◌&&◌, ◌||◌, cond, List, [], ◌∷◌, Option, Some, None, refl, sym, ap, ap₂, ◌∙◌, arith}
+use Rattle.std.proofs.Common.{◌≡◌, ℕ, ◌+◌, ◌<◌, Bool, true, false, not, ◌&&◌, ◌||◌, List, [], ◌∷◌, Some, refl, sym, ap, ◌∙◌, arith}
 use Rattle.std.specs.Prelude.{if◌then◌else◌, ◌==◌, nat_eq}
 use Rattle.std.proofs.lemmas.Bool.Decides.{nat_tests}
 use mir.Val.{bool_byte}
-use Rattle.std.specs.List.{count_by, list_any}
+use Rattle.std.specs.List.{count_by}
 use Rattle.base.specs.NumberMap.{NumberMap, IsRising, get, remove}
 use Rattle.job_model.specs.declared.entry_point.EntryPoint.{EntryPoint}
 use Rattle.job_model.specs.declared.entry_point.EntryPoint.TheVariants.{Destroy}
@@ -11,7 +11,7 @@ use Rattle.kernel_model.specs.Application.{Application, Booted}
 use Rattle.kernel_model.specs.Instances.{app_of, destroy_after, destroy_of, keeps_alive}
 use Rattle.kernel_model.specs.Sessions.{has_opened}
 use Rattle.rpc_cont.specs.Beginning.{destroy_where}
-use Rattle.session_table.specs.Session.{is_of, is_opened_of}
+use Rattle.session_table.specs.Session.{is_opened_of}
 use Rattle.session_table.specs.declared.session.Session.{Session}
 use Rattle.begin_call.proofs.Maps.{count_without, none_counted, one_if, some_counted}
 

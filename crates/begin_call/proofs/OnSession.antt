@@ -1,17 +1,17 @@
 -- A call that begins on the instance of its session.
-use Rattle.std.proofs.Common.{◌≡◌, ℕ, ◌*◌, Bool, true, false, List, [], ◌∷◌, length, Option, Some, None, refl, sym, ap, ap₂, ◌∙◌, subst}
+use Rattle.std.proofs.Common.{◌≡◌, ℕ, ◌*◌, Bool, true, false, List, length, Option, Some, None, refl, sym, ap, ap₂, ◌∙◌, subst}
 use Rattle.std.specs.Prelude.{if◌then◌else◌}
 use Rattle.std.specs.Option.{IsSomeAnd, option_map}
 use Rattle.base.specs.NumberMap.{NumberMap, get}
 use Rattle.job_model.specs.Beginning.{Beginning, Program, begun_job}
-use Rattle.job_model.specs.Job.{Job, idle_job}
+use Rattle.job_model.specs.Job.{idle_job}
 use Rattle.job_model.specs.declared.entry_point.EntryPoint.{EntryPoint}
 use Rattle.kernel_model.specs.Application.{Booted, pages_in, program_of, uuid_of}
 use Rattle.kernel_model.specs.Application as model
 use Rattle.kernel_model.specs.Begin.{begins_on, session_job, with_instance}
 use Rattle.kernel_model.specs.Instances.{app_of, held_by, program_on}
 use Rattle.kernel_model.specs.Kernel.{Instance, Runs}
-use Rattle.rpc_cont.specs.Conts.{job_of, kept_memory, kept_params}
+use Rattle.rpc_cont.specs.Conts.{kept_memory, kept_params}
 use Rattle.rpc_cont.specs.declared.cont.Cont.{Cont}
 use Rattle.session_table.specs.declared.session.Session.{Session}
 use Rattle.ta_instances.specs.declared.instance.Instance.{Instance as CodeInstance}

@@ -1,5 +1,5 @@
 -- An open on a new instance is one of the number that the instance gets.
-use Rattle.std.proofs.Common.{◌≡◌, ℕ, ◌+◌, List, Option, Some, None, refl, sym, ap, ap₂, ◌∙◌, subst}
+use Rattle.std.proofs.Common.{◌≡◌, ℕ, ◌+◌, List, Option, Some, None, refl, ap, ap₂, ◌∙◌, subst}
 use Rattle.std.specs.Option.{option_map_or}
 use Rattle.kernel_model.specs.Application.{Booted, uuid_of}
 use Rattle.kernel_model.specs.Begin.{Beginner, Begun, Opener, awaited_number, opens_made, opens_new}

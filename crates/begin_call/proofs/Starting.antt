@@ -1,22 +1,18 @@
 -- A call that starts on what it finds runs its job.
-use Rattle.std.proofs.Common.{◌≡◌, ℕ, ◌*◌, ◌≤◌, Bool, List, [], ◌∷◌, length, Option, Some, None, refl, sym, ap, ap₂, ◌∙◌, subst, arith}
-use Rattle.std.specs.Option.{option_map_or}
+use Rattle.std.proofs.Common.{◌≡◌, ℕ, ◌*◌, ◌≤◌, List, [], ◌∷◌, length, Option, Some, None, refl, sym, ap, ◌∙◌, arith}
 use Rattle.base.specs.NumberMap.{NumberMap}
 use Rattle.job_model.specs.Beginning.{Beginning, OfImage, OfRelation, Program, begun_job, job_starting_at}
-use Rattle.job_model.specs.Job.{Job, Nothing, idle_job, of_tee}
+use Rattle.job_model.specs.Job.{Job, Nothing, idle_job}
 use Rattle.job_model.specs.declared.entry_point.EntryPoint.{EntryPoint}
 use Rattle.job_model.specs.declared.entry_point.EntryPoint.TheVariants.{Create, Open, Invoke, Close, Destroy}
-use Rattle.native_tas.specs.declared.relation.Relation.{Relation}
 use Rattle.tee_storage.specs.declared.handle.Handle.{Handle}
 use Rattle.kernel_model.specs.Application.{pages_in}
-use Rattle.kernel_model.specs.Kernel.{Runs}
-use Rattle.rpc_cont.specs.Advancing.{CanAdvance}
 use Rattle.rpc_cont.specs.Beginning.{beginning_on, held_uuid}
 use Rattle.rpc_cont.specs.Conts.{job_of, job_with, kept_memory, kept_params, uuid_of}
 use Rattle.rpc_cont.specs.declared.app.ContApp.{ContApp}
 use Rattle.rpc_cont.specs.declared.cont.Cont.{Cont}
 use Rattle.rpc_cont.specs.declared.held.Held.{Held}
-use Rattle.kernel_state.specs.Calls.{IsAppOf, IsInPhase, bytes_of}
+use Rattle.kernel_state.specs.Calls.{IsAppOf, bytes_of}
 use Rattle.kernel_state.specs.Setup.{application_of}
 use Rattle.kernel_state.specs.declared.setup.Application.{Application}
 use Rattle.kernel_state.specs.declared.setup.Application.TheVariants as app

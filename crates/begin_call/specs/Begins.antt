@@ -1,5 +1,5 @@
 -- When a call can begin, and what becomes of it and of the tables.
-use Rattle.std.specs.Prelude.{◌≡◌, ℕ, ◌+◌, ◌*◌, false, List, length, Option, Some, None}
+use Rattle.std.specs.Prelude.{◌≡◌, ℕ, ◌+◌, ◌*◌, false, List, length, Some, None}
 use Rattle.std.specs.Option.{option_map_or}
 use Rattle.job_model.specs.Job.{of_tee}
 use Rattle.kernel_model.specs.Application.{Application, Booted, OfImage, BuiltIn, pages_in, uuid_of}

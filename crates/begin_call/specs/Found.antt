@@ -1,5 +1,5 @@
 -- What a call finds on the instance that it begins on.
-use Rattle.std.specs.Prelude.{◌≡◌, ℕ, Bool, true, false, List, Option, Some, None}
+use Rattle.std.specs.Prelude.{◌≡◌, ℕ, Bool, List, Option, Some, None}
 use Rattle.std.specs.Option.{option_map}
 use Rattle.job_model.specs.Beginning.{Beginning, begun_job}
 use Rattle.job_model.specs.Job.{Job, idle_job}

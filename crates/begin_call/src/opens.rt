@@ -100,7 +100,7 @@ pub fn opens_made(tables: &mut Tables, cont: &mut Cont<Pages>, call: OpenCall)
     opens_new(tables, cont, call, number);
 }
 
-/// The number of a new instance of the application: the one for which calls still wait, and else the next, which is given.
+/// The number of a new instance of the application: the one for which calls wait, and else the next, which is given.
 fn number_for(tables: &mut Tables, app: &Application) -> u32
     requires { (tables_of tables.old).next_instance < 4294967296 }
     ensures number { result ≡ new_number (tables_of tables.old) (application_of app.now) }
