@@ -25,3 +25,5 @@ pub mod SoundResumedJoined
 pub mod SoundEndedJoined
 pub mod SoundCallsJoined
 pub mod SoundLine
+pub mod SoundSums
+pub mod SoundMemory

@@ -32,6 +32,7 @@ use Rattle.ta_step.specs.declared.stop.Request.TheVariants as request
 use Rattle.ta_step.specs.declared.stop.Stop.TheVariants as stop
 use Rattle.tee_storage.specs.declared.handle.Handle.{Handle}
 use Rattle.kernel_model.specs.SoundJobs.{IsRunnable}
+use Rattle.kernel_model.specs.SoundMemory.{memory_in}
 use Rattle.kernel_model.proofs.Parts.{option_map_some}
 
 -- ---- what stays
@@ -54,19 +55,13 @@ IsSameBody Nothing (Machine image point machine) = ⊥
 IsSameBody Nothing (Native relation func) = ⊥
 IsSameBody Nothing Nothing = Unit {0}
 
--- how much memory it leaves at its end
-abbrev pub size : Body → ℕ
-size (Machine image point machine) = length machine.memory
-size (Native relation func) = 0
-size Nothing = 0
-
 -- a later job of the same call
 pub record IsOnward (body : Body) (points : List EntryPoint) (later : Job) : Type 0 where
   pub same : IsSameBody body later.body
   pub lasting : IsLastingBody body points → IsLastingBody later.body later.points
 
 pub record IsEndOf (body : Body) (points : List EntryPoint) (end : End) : Type 0 where
-  pub memory : length end.memory ≡ size body
+  pub memory : length end.memory ≡ memory_in body
   pub lasting : IsLastingBody body points → end.is_last ≡ false
 
 abbrev pub IsStopOf : Body → List EntryPoint → JobStop → Type 0
@@ -102,16 +97,16 @@ same_both Nothing (Machine image point machine) third one two = absurd one
 same_both Nothing (Native relation func) third one two = absurd one
 same_both Nothing Nothing third one two = two
 
-same_size : (first second : Body) → IsSameBody first second → size second ≡ size first
-same_size (Machine image point machine) (Machine other at later) one = one.1
-same_size (Machine image point machine) (Native relation func) one = absurd one
-same_size (Machine image point machine) Nothing one = absurd one
-same_size (Native relation func) (Machine image point machine) one = absurd one
-same_size (Native relation func) (Native other f) one = refl
-same_size (Native relation func) Nothing one = absurd one
-same_size Nothing (Machine image point machine) one = absurd one
-same_size Nothing (Native relation func) one = absurd one
-same_size Nothing Nothing one = refl
+pub same_memory : (first second : Body) → IsSameBody first second → memory_in second ≡ memory_in first
+same_memory (Machine image point machine) (Machine other at later) one = one.1
+same_memory (Machine image point machine) (Native relation func) one = absurd one
+same_memory (Machine image point machine) Nothing one = absurd one
+same_memory (Native relation func) (Machine image point machine) one = absurd one
+same_memory (Native relation func) (Native other f) one = refl
+same_memory (Native relation func) Nothing one = absurd one
+same_memory Nothing (Machine image point machine) one = absurd one
+same_memory Nothing (Native relation func) one = absurd one
+same_memory Nothing Nothing one = refl
 
 pub itself : (job : Job) → IsOnward job.body job.points job
 itself job = record { same = same_itself job.body; lasting = λ lasting. lasting }
@@ -124,7 +119,7 @@ onward_both body points next later one two =
 stop_onward : (body : Body) (points : List EntryPoint) (next : Job) (why : JobStop) → IsOnward body points next → IsStopOf next.body next.points why
     → IsStopOf body points why
 stop_onward body points next (steps.Ends end) one two =
-    record { memory = two.memory ∙ same_size body next.body one.same; lasting = λ lasting. two.lasting (one.lasting lasting) }
+    record { memory = two.memory ∙ same_memory body next.body one.same; lasting = λ lasting. two.lasting (one.lasting lasting) }
 stop_onward body points next (steps.Panics code) one two = tt
 stop_onward body points next (steps.Asks wanted payload left) one two = onward_both body points next left one two
 

@@ -141,7 +141,7 @@ module _ (before : Calls) (c : NewCall) (sound : Before before c.tables) (free :
   }
 
   -- the instance that is shared
-  shared_there : (app : Application) (kept : ℕ × Instance) → shared_by c app ≡ Some kept
+  pub shared_there : (app : Application) (kept : ℕ × Instance) → shared_by c app ≡ Some kept
       → (get c.tables.instances kept.0 ≡ Some kept.1) × (kept.1.uuid ≡ uuid_of app)
   shared_there app kept shared =
       let found = found_there c.tables.instances (λ (k : ℕ × Instance). bytes_eq k.1.uuid (uuid_of app)) kept sound.rising
@@ -189,7 +189,7 @@ module _ (before : Calls) (c : NewCall) (sound : Before before c.tables) (free :
       (opened_others now reserved sessions)
       (λ other is. subst (StandsApart before c.slot) (some_same call other is) (opened_apart call session uuids))
 
-  awaited_uuids : (app : Application) (number : ℕ) → awaited_number c.tables app ≡ Some number
+  pub awaited_uuids : (app : Application) (number : ℕ) → awaited_number c.tables app ≡ Some number
       → (waiter : PendingCall) × (slot : ℕ) × (before slot ≡ Some waiter) × (waiter.instance ≡ number) × (waiter.uuid ≡ Some (uuid_of app)) × (is_single app ≡ true)
       × (is_over waiter.phase ≡ false)
   awaited_uuids app number e =
@@ -207,7 +207,7 @@ module _ (before : Calls) (c : NewCall) (sound : Before before c.tables) (free :
       )
 
   -- an awaited instance is gone, where its application shares one and none is kept
-  gone : (app : Application) (number : ℕ) (waiter : PendingCall) (slot : ℕ) → before slot ≡ Some waiter → waiter.instance ≡ number
+  pub gone : (app : Application) (number : ℕ) (waiter : PendingCall) (slot : ℕ) → before slot ≡ Some waiter → waiter.instance ≡ number
       → waiter.uuid ≡ Some (uuid_of app) → is_single app ≡ true → is_on_instance waiter.kind ≡ true → shared_by c app ≡ None
       → (instance : Instance) → get c.tables.instances number ≡ Some instance → ⊥
   gone app number waiter slot is of_number uuid single on none instance kept =
@@ -220,7 +220,7 @@ module _ (before : Calls) (c : NewCall) (sound : Before before c.tables) (free :
       found_none : is_single app ≡ true → shared_by c app ≡ None → find (λ (k : ℕ × Instance). bytes_eq k.1.uuid (uuid_of app)) c.tables.instances ≡ None
       found_none single e = sym (ap (λ (b : Bool). if b then find (λ (k : ℕ × Instance). bytes_eq k.1.uuid (uuid_of app)) c.tables.instances else None) single) ∙ e
 
-  new_instance : (number : ℕ) → c.tables.next_instance ≡ number → get c.tables.instances number ≡ None
+  pub new_instance : (number : ℕ) → c.tables.next_instance ≡ number → get c.tables.instances number ≡ None
   new_instance number same =
       none_above c.tables.instances number
       (subst (λ (n : ℕ). All (λ (kept : ℕ × Instance). kept.0 < n) c.tables.instances) same

@@ -142,7 +142,7 @@ module _ (before : Calls) (r : Resumed) (joined : AreJoined before r.tables) (wa
   fits_session = subst (λ (n : ℕ). FitsSession (get r.tables.sessions n) r.call) (sym on.session)
       (session_goes_on (get r.tables.sessions was.session) was r.call on (joined.each r.slot was there).session)
 
-  fits_instance : FitsInstance (get r.tables.instances r.call.instance) r.slot r.call
+  pub fits_instance : FitsInstance (get r.tables.instances r.call.instance) r.slot r.call
   fits_instance = subst (λ (n : ℕ). FitsInstance (get r.tables.instances n) r.slot r.call) (sym on.instance)
       (instance_goes_on (get r.tables.instances was.instance) r.slot was r.call on (joined.each r.slot was there).instance)
 
@@ -208,12 +208,12 @@ module _ (before : Calls) (r : Resumed) (joined : AreJoined before r.tables) (wa
             is_opened = was_kept.is_opened;
           }
 
-  session_instance : (found : Session) → get r.tables.sessions r.call.session ≡ Some found → is_in_session r.call.kind ≡ true → found.instance ≡ r.call.instance
+  pub session_instance : (found : Session) → get r.tables.sessions r.call.session ≡ Some found → is_in_session r.call.kind ≡ true → found.instance ≡ r.call.instance
   session_instance found kept in_session =
       let has = fits_session.still found in_session kept in
       ap (λ (s : Session). s.instance) (some_same found has.session (sym kept ∙ has.kept)) ∙ has.instance
 
-  named_app : (app : Application) → app_of_call r ≡ Some app → r.call.uuid ≡ Some (uuid_of app)
+  pub named_app : (app : Application) → app_of_call r ≡ Some app → r.call.uuid ≡ Some (uuid_of app)
   named_app app e = by_uuid r.call.uuid e
     where
       by_uuid : (uuid : Option (List ℕ)) → option_and_then (app_of r.boot) uuid ≡ Some app → uuid ≡ Some (uuid_of app)

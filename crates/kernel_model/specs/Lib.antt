@@ -21,6 +21,7 @@ pub mod SoundOrder
 pub mod SoundWaiters
 pub mod SoundJobs
 pub mod SoundCalls
+pub mod SoundMemory
 pub mod Worked
 pub mod AnswerExamples
 pub mod ResultExamples

@@ -16,7 +16,7 @@ pub use laws::{
     some_history_is_legal, worked_examples,
 };
 pub use soundness::{
-    calls_fit_their_tables, exits_come, numbers_are_given, numbers_rise, others_stay_away,
-    processors_work_on_their_slots, slots_are_as_many, steps_are_granted, tables_are_in_order,
-    waiters_are_a_line, waiters_are_calls,
+    calls_fit_their_tables, exits_come, memory_is_kept, numbers_are_given, numbers_rise,
+    others_stay_away, processors_work_on_their_slots, slots_are_as_many, steps_are_granted,
+    tables_are_in_order, waiters_are_a_line, waiters_are_calls,
 };

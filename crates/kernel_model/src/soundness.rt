@@ -5,6 +5,7 @@ ghost use Rattle.kernel_model.specs.SoundOrder.{AreInOrder};
 ghost use Rattle.kernel_model.specs.SoundWaiters.{AreWaiters};
 ghost use Rattle.kernel_model.specs.SoundJobs.{ExitsCome};
 ghost use Rattle.kernel_model.specs.SoundCalls.{AreJoined};
+ghost use Rattle.kernel_model.specs.SoundMemory.{AreInMemory};
 ghost use Rattle.session_table.specs.Waiters.{IsLine};
 
 /// A processor that is inside for a slot works on its call, and the processor that works on a call is inside for its
@@ -61,4 +62,9 @@ pub fn calls_fit_their_tables()
 /// Each call waits in a slot of its own, and so at most sixteen do.
 pub fn waiters_are_a_line()
     ensures { Always (λ boot kernel. IsLine kernel.tables.waiters) }
+{}
+
+/// A call that works has its instance's memory, an instance that nobody holds has it itself, and the frames suffice.
+pub fn memory_is_kept()
+    ensures { Always (λ boot kernel. AreInMemory boot (call_at kernel.slots) kernel.tables) }
 {}
