@@ -102,7 +102,7 @@ impl<M: TaMemory> Machine<M> {
     fn go_on_if(&mut self, found: bool) -> Result<(), Stop>
         requires { (state_of M.bytes self.old).place + 1 < 2 ^ 32 }
         ensures { let old = state_of M.bytes self.old in
-            Leads old (if found then goes_on old else Panics BAD_CALL) result (state_of M.bytes self.new) }
+            Leads old (if found then goes_on old else Panics 5) result (state_of M.bytes self.new) }
     {
         if !found {
             return Err(Stop::Panicked(BAD_CALL));
