@@ -11,6 +11,7 @@ use Rattle.job_model.specs.Job.{of_tee}
 use Rattle.job_model.specs.Point.{no_params}
 use Rattle.job_model.specs.Steps.{JobStop, End, Grant, Left, Stopped, grant_of}
 use Rattle.job_model.specs.Steps as steps
+use Rattle.msg_args.specs.Layout.{session_at, ret_at, origin_at}
 use Rattle.ns_ram.specs.Writes.{Write}
 use Rattle.param_copy.specs.WritingBack.{writes_back}
 use Rattle.rpc_msgs.specs.Request.{request_writes}
@@ -140,7 +141,7 @@ output_writes call result params = if result.origin == 4 then writes_back call.a
 
 -- an open that succeeds tells the number of its session
 abbrev pub session_writes : PendingCall → CallKind → CallResult → List Write
-session_writes call Open result = if result.result == success then word32 (call.arg + 8) call.session ∷ [] else []
+session_writes call Open result = if result.result == success then word32 (session_at call.arg) call.session ∷ [] else []
 session_writes call (Invoke func) result = []
 session_writes call Close result = []
 session_writes call Settled result = []
@@ -149,7 +150,7 @@ session_writes call Settled result = []
 abbrev pub result_writes : PendingCall → CallResult → CopiedParams → List Write
 result_writes call result params =
     output_writes call result params ++ session_writes call call.kind result
-    ++ word32 (call.arg + 20) result.result ∷ word32 (call.arg + 24) result.origin ∷ []
+    ++ word32 (ret_at call.arg) result.result ∷ word32 (origin_at call.arg) result.origin ∷ []
 
 -- what is written, in this order, each over those before it
 abbrev pub writes_of : PendingCall → Leaving → List Write

@@ -1,6 +1,6 @@
 -- A new call, OPTEE_SMC_CALL_WITH_ARG: its tests in their order, of which the first that fails decides. Tests 1
 -- to 3 answer without a slot; 4 to 9 settle the call in its slot, with a result of TEE_ORIGIN_TEE; by 10 it waits.
-use Rattle.std.specs.Prelude.{ℕ, ◌+◌, ◌-◌, ◌*◌, ◌%◌, ◌==◌, nat_le, nat_lt, Bool, false, not, ◌&&◌, ◌||◌, if◌then◌else◌, List, [], ◌∷◌, ◌++◌, length, fold, find, Option, Some, None, is_some, is_none}
+use Rattle.std.specs.Prelude.{ℕ, ◌+◌, ◌-◌, ◌%◌, ◌==◌, nat_le, nat_lt, Bool, false, not, ◌&&◌, ◌||◌, if◌then◌else◌, List, [], ◌∷◌, ◌++◌, length, fold, find, Option, Some, None, is_some, is_none}
 use Rattle.std.specs.Option.{option_map, option_map_or, option_and_then}
 use Rattle.base.specs.NumberMap.{NumberMap, get, insert, remove}
 use Rattle.job_model.specs.declared.call_kind.CallKind.{CallKind}
@@ -11,6 +11,7 @@ use Rattle.job_model.specs.declared.entry_point.EntryPoint.TheVariants.{Invoke}
 use Rattle.job_model.specs.Point.{no_params}
 use Rattle.msg_args.specs.declared.head.MsgHead.{MsgHead}
 use Rattle.msg_args.specs.declared.param.MsgParam.{MsgParam}
+use Rattle.msg_args.specs.Layout.{argument_len, params_at, params_len}
 use Rattle.msg_args.specs.Reading.{head_at}
 use Rattle.ns_ram.specs.Attempt.{Attempt, passes, ◌>>=◌, ◌>>◌, need, known, read, faultless}
 use Rattle.ns_ram.specs.Lane.{is_in_ram}
@@ -143,7 +144,7 @@ waits_in c tables about copies =
 -- the parameters, of which each has to have a valid attribute
 abbrev pub parameters : NewCall → Tested (List MsgParam)
 parameters c = do
-  bytes ← read (take_bytes (c.arg + 32) (32 * c.head.count))
+  bytes ← read (take_bytes (params_at c.arg) (params_len c.head.count))
   known (params_in c.head.count bytes) (settles c bad_parameters)
 
 -- those of an open or invoke copied, of which the first has this number in the argument; or else the slot is taken so
@@ -375,7 +376,7 @@ is_head_address arg = (arg % 8 == 0) && is_in_ram arg 32
 
 -- the head counts at most six parameters, and they lie in RAM behind it
 abbrev pub has_argument : ℕ → MsgHead → Bool
-has_argument arg head = nat_le head.count 6 && is_in_ram arg (32 + 32 * head.count)
+has_argument arg head = nat_le head.count 6 && is_in_ram arg (argument_len head.count)
 
 -- a new call in a slot, with its head
 abbrev pub new_call_of : Booted → Tables → List ℕ → ℕ → List ℕ → NewCall

@@ -4,6 +4,7 @@ use Rattle.std.proofs.lemmas.List.{length-take}
 use Rattle.std.proofs.Math.Seq.{drop-cons, drop-length}
 use Rattle.std.specs.Prelude.{slice_get}
 use Rattle.std.specs.List.{AllByRecursion}
+use Rattle.msg_args.specs.Layout.{param_place, q_at}
 use Rattle.ns_ram.specs.Lane.{IsInRam}
 use Rattle.ns_ram.specs.Writes.{IsWriteOfRam, lane_after}
 use Rattle.ns_ram.proofs.WriteList.{AllInRam-append, lane_after-append}
@@ -14,7 +15,7 @@ use Rattle.ta_params.specs.declared.copied_params.GpParam.{GpParam}
 use Rattle.ta_params.specs.declared.copied_params.GpParam.TheVariants.{Empty, Value, Memref}
 use Rattle.param_copy.specs.declared.copied.Place.{Place}
 use Rattle.param_copy.specs.Places.{IsWritable}
-use Rattle.param_copy.specs.WritingBack.{bytes_to, memory_to, param_addr, param_writes, values_to, word_to, writes_of}
+use Rattle.param_copy.specs.WritingBack.{bytes_to, memory_to, param_writes, values_to, word_to, writes_of}
 
 -- ---- bytes into pieces
 
@@ -81,26 +82,29 @@ bytes_to-in_ram (piece ∷ pieces) (byte ∷ bytes) h =
 word-in_ram : (addr offset number : ℕ) → IsInRam addr 32 → offset ≤ 24 → IsWriteOfRam (word_to (addr + offset) number)
 word-in_ram addr offset number h few = (omega (arith, h.0), omega (arith, h.1))
 
-values-in_ram : (addr a b : ℕ) → IsInRam addr 32 → AllByRecursion IsWriteOfRam (values_to addr a b)
-values-in_ram addr a b h = (word-in_ram addr 8 a h (omega arith), (word-in_ram addr 16 b h (omega arith), tt))
+values-in_ram : (arg : ℕ) (place : Place) (a b : ℕ) → IsWritable arg place → AllByRecursion IsWriteOfRam (values_to arg place a b)
+values-in_ram arg place a b w =
+    let addr : ℕ = param_place arg place.number in
+    (word-in_ram addr 8 a w.argument (omega arith), (word-in_ram addr 16 b w.argument (omega arith), tt))
 
 bytes-in_ram : (b : Bool) (pieces : List Piece) (bytes : List ℕ) → AllByRecursion IsPieceOfRam pieces → AllByRecursion IsWriteOfRam (cond b (bytes_to pieces bytes) [])
 bytes-in_ram true pieces bytes h = bytes_to-in_ram pieces bytes h
 bytes-in_ram false pieces bytes h = tt
 
-memory-in_ram : (addr : ℕ) (pieces : List Piece) (bytes : List ℕ) (size : ℕ) → IsInRam addr 32 → AllByRecursion IsPieceOfRam pieces →
-    AllByRecursion IsWriteOfRam (memory_to addr pieces bytes size)
-memory-in_ram addr pieces bytes size h in_ram =
-    (word-in_ram addr 16 size h (omega arith), bytes-in_ram (nat_le size (length bytes)) pieces (take size bytes) in_ram)
+memory-in_ram : (arg : ℕ) (place : Place) (bytes : List ℕ) (size : ℕ) → IsWritable arg place →
+    AllByRecursion IsWriteOfRam (memory_to (q_at arg place.number) place.pieces bytes size)
+memory-in_ram arg place bytes size w =
+    (word-in_ram (param_place arg place.number) 16 size w.argument (omega arith),
+     bytes-in_ram (nat_le size (length bytes)) place.pieces (take size bytes) w.pieces)
 
 param-in_ram : (arg : ℕ) (place : Place) (param : GpParam) → IsWritable arg place → AllByRecursion IsWriteOfRam (param_writes arg place param)
 param-in_ram arg place Empty w = tt
 param-in_ram arg place (Value In a b) w = tt
-param-in_ram arg place (Value Out a b) w = values-in_ram (param_addr arg place) a b w.argument
-param-in_ram arg place (Value Inout a b) w = values-in_ram (param_addr arg place) a b w.argument
+param-in_ram arg place (Value Out a b) w = values-in_ram arg place a b w
+param-in_ram arg place (Value Inout a b) w = values-in_ram arg place a b w
 param-in_ram arg place (Memref In bytes size) w = tt
-param-in_ram arg place (Memref Out bytes size) w = memory-in_ram (param_addr arg place) place.pieces bytes size w.argument w.pieces
-param-in_ram arg place (Memref Inout bytes size) w = memory-in_ram (param_addr arg place) place.pieces bytes size w.argument w.pieces
+param-in_ram arg place (Memref Out bytes size) w = memory-in_ram arg place bytes size w
+param-in_ram arg place (Memref Inout bytes size) w = memory-in_ram arg place bytes size w
 
 pub writes_of-in_ram : (arg : ℕ) (places : List Place) (params : List GpParam) → AllByRecursion (IsWritable arg) places →
     AllByRecursion IsWriteOfRam (writes_of arg places params)

@@ -1,13 +1,13 @@
 -- Where the parameters of a call came from: what holds of their places.
 use Rattle.std.specs.Prelude.{◌≡◌, ℕ, suc, ◌≤◌, List, [], ◌∷◌, length}
 use Rattle.std.specs.List.{AllByRecursion}
+use Rattle.msg_args.specs.Layout.{param_place}
 use Rattle.ns_ram.specs.Lane.{IsInRam}
 use Rattle.shm_registry.specs.Pieces.{IsPieceOfRam}
 use Rattle.ta_params.specs.declared.copied_params.GpParam.{GpParam}
 use Rattle.ta_params.specs.declared.copied_params.GpParam.TheVariants.{Empty, Value, Memref}
 use Rattle.param_copy.specs.declared.copied.Place.{Place}
 use Rattle.param_copy.specs.Memory.{bytes_in}
-use Rattle.param_copy.specs.WritingBack.{param_addr}
 
 -- the pieces have as many bytes as the parameter's memory
 abbrev pub HasRoom : Place → GpParam → Type 0
@@ -28,7 +28,7 @@ AreInPlace (place ∷ places) (param ∷ params) = IsInPlace place param × AreI
 
 -- what is written there lies in RAM: the parameter's own 32 bytes of the argument at an address, and its pieces
 pub record IsWritable (arg : ℕ) (place : Place) : Type 0 where
-  pub argument : IsInRam (param_addr arg place) 32
+  pub argument : IsInRam (param_place arg place.number) 32
   pub pieces : AllByRecursion IsPieceOfRam place.pieces
 
 -- a parameter's memory is within the limit

@@ -6,9 +6,10 @@ ghost use Rattle.ns_ram.specs.Lane.{IsInRam};
 ghost use Rattle.ns_ram.specs.Writes.{lane_after};
 ghost use Rattle.shm_registry.specs.Pieces.{IsPieceOfRam};
 ghost use Rattle.param_copy.specs.Places.{IsWritable};
-ghost use Rattle.param_copy.specs.WritingBack.{bytes_to, memory_to, param_addr, param_writes, params_of, values_to, word_to, writes_back};
+ghost use Rattle.param_copy.specs.WritingBack.{bytes_to, memory_to, param_writes, params_of, word_to, writes_back};
 
 use crate::copied::{Place, Places};
+use msg_args::{HEAD_LEN, PARAM_LEN};
 use ns_ram::Lane;
 use shm_registry::Piece;
 use ta_params::{CopiedParams, GpParam, Way};
@@ -42,38 +43,33 @@ fn put_param(lane: &mut Lane, arg: u64, place: &Place, param: &GpParam)
     requires { IsWritable arg place.now }
     ensures { lane.new ≡ lane_after lane.old (param_writes arg place.now param.now) }
 {
-    let addr = arg + 32 + 32 * u64::from(place.number);
+    let addr = arg + HEAD_LEN + PARAM_LEN * u64::from(place.number);
+    let (p, q) = (addr + 8, addr + 16);
     match param {
         GpParam::Value {
             way: Way::Out | Way::Inout,
             a,
             b,
-        } => put_values(lane, addr, *a, *b),
+        } => {
+            put_word(lane, p, *a);
+            put_word(lane, q, *b);
+        }
         GpParam::Memref {
             way: Way::Out | Way::Inout,
             buf,
             size,
-        } => put_memory(lane, addr, place.pieces.as_slice(), buf.bytes(), *size),
+        } => put_memory(lane, q, place.pieces.as_slice(), buf.bytes(), *size),
         _ => {}
     }
 }
 
-/// Writes two numbers to the parameter at the address.
-fn put_values(lane: &mut Lane, addr: u64, a: u32, b: u32)
-    requires { IsInRam addr 32 }
-    ensures { lane.new ≡ lane_after lane.old (values_to addr a b) }
-{
-    put_word(lane, addr + 8, a);
-    put_word(lane, addr + 16, b);
-}
-
-/// Writes a size to the parameter at the address, and as many bytes to its pieces, where there are so many.
-fn put_memory(lane: &mut Lane, addr: u64, pieces: &[Piece], bytes: &[u8], size: u32)
-    requires argument { IsInRam addr 32 }
+/// Writes a size to its place, and as many bytes to the pieces, where there are so many.
+fn put_memory(lane: &mut Lane, size_place: u64, pieces: &[Piece], bytes: &[u8], size: u32)
+    requires size { IsInRam size_place 8 }
     requires pieces { AllByRecursion IsPieceOfRam pieces.now }
-    ensures { lane.new ≡ lane_after lane.old (memory_to addr pieces.now bytes.now size) }
+    ensures { lane.new ≡ lane_after lane.old (memory_to size_place pieces.now bytes.now size) }
 {
-    put_word(lane, addr + 16, size);
+    put_word(lane, size_place, size);
     if size as usize <= bytes.len() {
         put_bytes(lane, pieces, &bytes[..size as usize]);
     }
