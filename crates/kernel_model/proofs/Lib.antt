@@ -5,6 +5,7 @@ pub mod Told
 pub mod EntryLaws
 pub mod Suspended
 pub mod Answered
+pub mod Tests
 pub mod SoundNewCalls
 pub mod SoundEvents
 pub mod SoundSlots

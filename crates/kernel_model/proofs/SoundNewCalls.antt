@@ -1,7 +1,7 @@
 -- What a new call takes its slot for: each of its forms, with what its tests have shown.
-use Rattle.std.proofs.Common.{◌≡◌, ℕ, Bool, true, false, List, [], ◌∷◌, Option, Some, None, Result, Ok, Err, refl, ap, subst, sym, ◌∙◌}
-use Rattle.std.specs.Prelude.{All, ◌+◌, ◌*◌, ◌==◌, ◌||◌, find, if◌then◌else◌, is_none, is_some, length, nat_le, nat_lt, not}
-use Rattle.std.specs.Option.{option_map, option_map_or, option_and_then}
+use Rattle.std.proofs.Common.{◌≡◌, ℕ, Bool, true, false, List, [], ◌∷◌, Option, Some, None, Ok, Err, refl, subst}
+use Rattle.std.specs.Prelude.{All, ◌+◌, ◌*◌, ◌==◌, find, if◌then◌else◌, is_none, is_some, length, nat_le, nat_lt, not}
+use Rattle.std.specs.Option.{option_map_or}
 use Rattle.std.proofs.lemmas.List.Elements.{All-from_recursion, All-head, All-tail}
 use Rattle.base.specs.NumberMap.{get}
 use Rattle.job_model.specs.declared.call_kind.CallKind.{CallKind}
@@ -10,68 +10,27 @@ use Rattle.job_model.specs.declared.entry_point.EntryPoint.{EntryPoint}
 use Rattle.job_model.specs.declared.entry_point.EntryPoint.TheVariants.{Invoke}
 use Rattle.msg_args.specs.Reading.{head_at}
 use Rattle.msg_args.specs.declared.param.MsgParam.{MsgParam}
-use Rattle.ns_ram.specs.Attempt.{Attempt, faultless, known, need, passes, read, ◌>>=◌}
-use Rattle.ns_ram.specs.Reader.{Reader, done, take_bytes, want_bytes, want_words}
+use Rattle.ns_ram.specs.Attempt.{Attempt, faultless, need, passes, ◌>>=◌}
+use Rattle.ns_ram.specs.Reader.{done, take_bytes, want_bytes, want_words}
 use Rattle.param_copy.specs.Copying.{Copies, copying}
 use Rattle.session_table.specs.declared.session.Session.{Session}
 use Rattle.shm_registry.specs.Registered.{lowest_slot}
 use Rattle.smc_abi.specs.declared.answer.Answer.{Answer}
 use Rattle.kernel_model.specs.Application.{Application, Booted}
 use Rattle.kernel_model.specs.Argument.{Opening, argument_at, invocation, opening, params_in, registering, unregistering}
-use Rattle.kernel_model.specs.Begin.{Begun, awaited_number, begins_on, closing_points, has_pages_for, opens_kept, opens_made, opens_new}
+use Rattle.kernel_model.specs.Begin.{Begun, awaited_number, begins_on, closing_points, opens_kept, opens_made, opens_new}
 use Rattle.kernel_model.specs.Codes.{bad_parameters, busy, ebadaddr, ebadcmd, item_not_found, out_of_memory, target_dead}
-use Rattle.kernel_model.specs.Decision.{Decision, Answers, Takes, Taken, Tested, decided_by, taken_by, taken_in}
+use Rattle.kernel_model.specs.Decision.{Decision, Answers, Takes, Taken, Tested, decided_by}
 use Rattle.kernel_model.specs.Instances.{app_of, is_held}
-use Rattle.kernel_model.specs.Kernel.{Instance, Kernel, Tables, lowest_free}
-use Rattle.kernel_model.specs.NewCall.{NewCall, about_open, about_session, beginner, cancel_calls, cancels, close_session, closes, command_of, commands, copied_params, drops_buffer, has_argument, has_pages, has_session_room, invoke_command, invokes, is_head_address, is_taken, keeps_buffer, listed_pages, named_session, new_call_in, new_call_of, new_call_with, no_copies, open_session, open_waits, opener, opens, opens_or_waits, pages_touched, parameters, register_memory, runs_in, settles, settles_invoke, settles_open, shared_by, shares_one, unregister_memory, waits_in, with_session}
-use Rattle.kernel_model.proofs.Parts.{AllOf, AllOf-onward, option_map_some}
+use Rattle.kernel_model.specs.Kernel.{Instance, Tables}
+use Rattle.kernel_model.specs.NewCall.{NewCall, about_open, about_session, beginner, cancel_calls, cancels, close_session, closes, command_of, commands, copied_params, drops_buffer, has_argument, has_pages, has_session_room, invoke_command, invokes, is_head_address, is_taken, keeps_buffer, listed_pages, named_session, new_call_in, new_call_of, new_call_with, no_copies, open_session, open_waits, opener, opens_or_waits, pages_touched, parameters, register_memory, runs_in, settles, settles_invoke, settles_open, shared_by, shares_one, unregister_memory, waits_in, with_session}
+use Rattle.kernel_model.proofs.Parts.{AllOf, option_map_some}
+use Rattle.kernel_model.proofs.Tests.{Ends, Fails, TakenIn, answer_known, answer_need, answer_read, faultless-fails, known-fails, known-then, need-by, reads-fails, taken_ends, test-then}
 
--- ---- the tests, one after the other
-
--- it holds of what the slot is taken for, by each test that fails and at the end
-abbrev Ends : (Taken → Type 0) → Tested Taken → Type 0
-Ends P tested = AllOf (λ (result : Result Taken Taken). P (taken_in result)) tested
-
--- it holds of what the slot is taken for by a test that fails
-abbrev FailsIn : {F A : Type 0} → (F → Type 0) → Result A F → Type 0
-FailsIn P (Ok value) = Unit {0}
-FailsIn P (Err refusal) = P refusal
-
-abbrev Fails : {A : Type 0} → (Taken → Type 0) → Tested A → Type 0
-Fails {A} P tested = AllOf (λ (result : Result A Taken). FailsIn P result) tested
-
-test-then : {A : Type 0} (P : Taken → Type 0) (first : Tested A) (onward : A → Tested Taken)
-    → Fails P first → ((value : A) → Ends P (onward value)) → Ends P (first >>= onward)
-test-then P (done (Ok value)) onward fails rest = rest value
-test-then P (done (Err refusal)) onward fails rest = fails
-test-then P (want_bytes addr len next) onward fails rest = λ got. test-then P (next got) onward (fails got) rest
-test-then P (want_words addr most test next) onward fails rest = λ got. test-then P (next got) onward (fails got) rest
-
-known-then : {A : Type 0} (P : Taken → Type 0) (found : Option A) (refusal : Taken) (onward : A → Tested Taken)
-    → P refusal → ((value : A) → found ≡ Some value → Ends P (onward value)) → Ends P (known found refusal >>= onward)
-known-then P None refusal onward fails rest = fails
-known-then P (Some value) refusal onward fails rest = rest value refl
-
+-- a test, where its refusal needs nothing of it
 need-then : (P : Taken → Type 0) (test : Bool) (refusal : Taken) (onward : Unit {0} → Tested Taken)
     → P refusal → (test ≡ true → Ends P (onward tt)) → Ends P (need test refusal >>= onward)
-need-then P true refusal onward fails rest = rest refl
-need-then P false refusal onward fails rest = fails
-
-known-fails : {A : Type 0} (P : Taken → Type 0) (found : Option A) (refusal : Taken) → P refusal → Fails P (known found refusal)
-known-fails P None refusal fails = fails
-known-fails P (Some value) refusal fails = tt
-
-reads-fails : {A B : Type 0} (P : Taken → Type 0) (reader : Reader A) (onward : A → Tested B)
-    → ((value : A) → Fails P (onward value)) → Fails P (read reader >>= onward)
-reads-fails P (done value) onward rest = rest value
-reads-fails P (want_bytes addr len next) onward rest = λ got. reads-fails P (next got) onward rest
-reads-fails P (want_words addr most test next) onward rest = λ got. reads-fails P (next got) onward rest
-
-faultless-fails : {E A : Type 0} (P : Taken → Type 0) (attempt : Attempt E A) (refusal : Taken) → P refusal → Fails P (faultless attempt refusal)
-faultless-fails P (done (Ok value)) refusal fails = tt
-faultless-fails P (done (Err fault)) refusal fails = fails
-faultless-fails P (want_bytes addr len next) refusal fails = λ got. faultless-fails P (next got) refusal fails
-faultless-fails P (want_words addr most test next) refusal fails = λ got. faultless-fails P (next got) refusal fails
+need-then P test refusal onward fails rest = need-by P test refusal onward (λ failed. fails) rest
 
 -- ---- the forms
 
@@ -288,33 +247,7 @@ module _ (c : NewCall) (P : Taken → Type 0) (cases : NewCases c P) where
       All-from_recursion EndsSo commands (open_ends, (invoke_ends, (close_ends, (cancel_ends, (register_ends, (unregister_ends, tt)))))) in
       subst (λ (f : NewCall → Tested Taken). Ends P (f c)) row.2 (row_ends commands row.0 cmd all row.1)
 
--- ---- the tests of each call
-
--- it holds of what a slot is taken for, if one is
-abbrev TakenIn : (Taken → Type 0) → Result Taken Answer → Type 0
-TakenIn P (Ok taken) = P taken
-TakenIn P (Err answer) = Unit {0}
-
-answer_need : (P : Taken → Type 0) (test : Bool) (refusal : Answer) (onward : Unit {0} → Attempt Answer Taken)
-    → AllOf (TakenIn P) (onward tt) → AllOf (TakenIn P) (need test refusal >>= onward)
-answer_need P true refusal onward rest = rest
-answer_need P false refusal onward rest = tt
-
-answer_known : {A : Type 0} (P : Taken → Type 0) (found : Option A) (refusal : Answer) (onward : A → Attempt Answer Taken)
-    → ((value : A) → found ≡ Some value → AllOf (TakenIn P) (onward value)) → AllOf (TakenIn P) (known found refusal >>= onward)
-answer_known P None refusal onward rest = tt
-answer_known P (Some value) refusal onward rest = rest value refl
-
-answer_read : {A : Type 0} (P : Taken → Type 0) (reader : Reader A) (onward : A → Attempt Answer Taken)
-    → ((value : A) → AllOf (TakenIn P) (onward value)) → AllOf (TakenIn P) (read reader >>= onward)
-answer_read P (done value) onward rest = rest value
-answer_read P (want_bytes addr len next) onward rest = λ got. answer_read P (next got) onward rest
-answer_read P (want_words addr most test next) onward rest = λ got. answer_read P (next got) onward rest
-
-taken_ends : (P : Taken → Type 0) (tested : Tested Taken) → Ends P tested → AllOf (TakenIn P) (read (taken_by tested))
-taken_ends P (done result) ends = ends
-taken_ends P (want_bytes addr len next) ends = λ got. taken_ends P (next got) (ends got)
-taken_ends P (want_words addr most test next) ends = λ got. taken_ends P (next got) (ends got)
+-- ---- a whole call
 
 call_ends : (boot : Booted) (tables : Tables) (regs : List ℕ) (slot : ℕ) (P : Taken → Type 0)
     → ((bytes : List ℕ) → NewCases (new_call_of boot tables regs slot bytes) P) → AllOf (TakenIn P) (new_call_in boot tables regs slot)

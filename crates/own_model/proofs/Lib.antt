@@ -7,7 +7,6 @@ pub mod OtherSessions
 pub mod OtherExits
 pub mod WaitersLeft
 pub mod OtherResumes
-pub mod Tests
 pub mod Lookups
 pub mod NotedCalls
 pub mod OtherCalls

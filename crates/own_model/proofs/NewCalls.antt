@@ -1,26 +1,25 @@
 -- What holds of each way in which a new call can end, where it holds of each of what its commands decide.
-use Rattle.std.proofs.Common.{◌≡◌, ℕ, Bool, true, false, List, Option, Some, None, Result, Ok, Err, refl, subst}
+use Rattle.std.proofs.Common.{◌≡◌, ℕ, Bool, true, false, List, Some, refl, subst}
 use Rattle.std.specs.Prelude.{All, find, is_none, is_some, length, nat_le, nat_lt, not, ◌*◌, ◌+◌, ◌==◌}
 use Rattle.std.proofs.lemmas.List.Elements.{All-from_recursion}
 use Rattle.base.specs.NumberMap.{NumberMap, get}
 use Rattle.msg_args.specs.Reading.{head_at}
-use Rattle.ns_ram.specs.Attempt.{Attempt, faultless, known, need, read, ◌>>=◌}
-use Rattle.ns_ram.specs.Reader.{Reader, done, take_bytes, want_bytes, want_words}
+use Rattle.ns_ram.specs.Attempt.{faultless}
+use Rattle.ns_ram.specs.Reader.{take_bytes}
 use Rattle.param_copy.specs.Copying.{Copies, copying}
 use Rattle.session_table.specs.declared.session.Session.{Session}
 use Rattle.shm_registry.specs.declared.page_buffer.PageBuffer.{PageBuffer}
 use Rattle.shm_registry.specs.Registered.{lowest_slot}
-use Rattle.smc_abi.specs.declared.answer.Answer.{Answer}
 use Rattle.kernel_model.specs.Application.{Application, Booted}
 use Rattle.kernel_model.specs.Argument.{Opening, argument_at, invocation, opening, params_in, registering, unregistering}
 use Rattle.kernel_model.specs.Codes.{bad_parameters, busy, ebadaddr, ebadcmd, item_not_found, out_of_memory, target_dead}
-use Rattle.kernel_model.specs.Decision.{Taken, Tested, taken_by}
+use Rattle.kernel_model.specs.Decision.{Taken, Tested}
 use Rattle.kernel_model.specs.Instances.{app_of}
 use Rattle.kernel_model.specs.Kernel.{Instance, Tables}
 use Rattle.kernel_model.specs.NewCall.{NewCall, cancel_calls, cancels, close_session, closes, command_of, commands, copied_params, has_argument, has_pages, has_session_room, invoke_command, invokes, is_head_address, is_taken, keeps_buffers, listed_pages, named_session, new_call_in, new_call_of, open_session, opens_or_waits, pages_touched, parameters, register_memory, settles, settles_invoke, settles_open, shares_one, unregister_memory}
 use Rattle.kernel_model.proofs.Parts.{AllOf, option_map_some}
+use Rattle.kernel_model.proofs.Tests.{Ends, Fails, TakenIn, answer_known, answer_need, answer_read, faultless-fails, known-fails, known-then, need-by, need-then, reads-fails, taken_ends, test-then}
 use Rattle.own_model.proofs.Lookups.{find-all}
-use Rattle.own_model.proofs.Tests.{Ends, Fails, faultless-fails, known-fails, known-then, need-by, need-then, reads-fails, test-then}
 
 -- ---- commands
 
@@ -117,32 +116,6 @@ command_ends P cmd command is c all =
     subst (λ (f : NewCall → Tested Taken). Ends P (f c)) row.2 (found.holds c all)
 
 -- ---- the tests of each call
-
--- it holds of what a slot is taken for, if one is
-abbrev pub TakenIn : (Taken → Type 0) → Result Taken Answer → Type 0
-TakenIn P (Ok taken) = P taken
-TakenIn P (Err answer) = Unit {0}
-
-answer_need : (P : Taken → Type 0) (test : Bool) (refusal : Answer) (onward : Unit {0} → Attempt Answer Taken)
-    → AllOf (TakenIn P) (onward tt) → AllOf (TakenIn P) (need test refusal >>= onward)
-answer_need P true refusal onward rest = rest
-answer_need P false refusal onward rest = tt
-
-answer_known : {A : Type 0} (P : Taken → Type 0) (found : Option A) (refusal : Answer) (onward : A → Attempt Answer Taken)
-    → ((value : A) → found ≡ Some value → AllOf (TakenIn P) (onward value)) → AllOf (TakenIn P) (known found refusal >>= onward)
-answer_known P None refusal onward rest = tt
-answer_known P (Some value) refusal onward rest = rest value refl
-
-answer_read : {A : Type 0} (P : Taken → Type 0) (reader : Reader A) (onward : A → Attempt Answer Taken)
-    → ((value : A) → AllOf (TakenIn P) (onward value)) → AllOf (TakenIn P) (read reader >>= onward)
-answer_read P (done value) onward rest = rest value
-answer_read P (want_bytes addr len next) onward rest = λ got. answer_read P (next got) onward rest
-answer_read P (want_words addr most test next) onward rest = λ got. answer_read P (next got) onward rest
-
-taken_ends : (P : Taken → Type 0) (tested : Tested Taken) → Ends P tested → AllOf (TakenIn P) (read (taken_by tested))
-taken_ends P (done result) ends = ends
-taken_ends P (want_bytes addr len next) ends = λ got. taken_ends P (next got) (ends got)
-taken_ends P (want_words addr most test next) ends = λ got. taken_ends P (next got) (ends got)
 
 -- what an entry's call takes its slot for, where the tables are these
 pub call_ends : (boot : Booted) (tables : Tables) (regs : List ℕ) (slot : ℕ) (P : Taken → Type 0)

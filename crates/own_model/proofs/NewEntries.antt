@@ -21,8 +21,9 @@ use Rattle.kernel_model.specs.Kernel.{Active, Free, InSlot, Inside, Kernel, Pend
 use Rattle.kernel_model.specs.NewCall.{new_call_in, new_call_of, new_call_with}
 use Rattle.kernel_model.proofs.FixedAnswer.{decided_errand, decides_all, errand_of}
 use Rattle.kernel_model.proofs.Parts.{AllOf, set_then_read}
+use Rattle.kernel_model.proofs.Tests.{TakenIn}
 use Rattle.own_model.proofs.FixedAnswers.{entered}
-use Rattle.own_model.proofs.NewCalls.{OfAllEndings, TakenIn, call_ends}
+use Rattle.own_model.proofs.NewCalls.{OfAllEndings, call_ends}
 use Rattle.own_model.specs.Own.{Entering, Notes, Resuming, call_noted, entry_noted, event_noted, slot_noted}
 
 -- ---- what is decided

@@ -2,7 +2,8 @@
 use Rattle.std.proofs.Common.{◌≡◌, Bool, true, false, Option, Some, None, Result, Ok, Err, refl}
 use Rattle.ns_ram.specs.Attempt.{Attempt, faultless, known, need, read, ◌>>=◌}
 use Rattle.ns_ram.specs.Reader.{Reader, done, want_bytes, want_words}
-use Rattle.kernel_model.specs.Decision.{Taken, Tested, taken_in}
+use Rattle.smc_abi.specs.declared.answer.Answer.{Answer}
+use Rattle.kernel_model.specs.Decision.{Taken, Tested, taken_by, taken_in}
 use Rattle.kernel_model.proofs.Parts.{AllOf}
 
 -- it holds of what the slot is taken for, by each test that fails and at the end
@@ -55,3 +56,31 @@ faultless-fails P (done (Ok value)) refusal fails = tt
 faultless-fails P (done (Err fault)) refusal fails = fails
 faultless-fails P (want_bytes addr len next) refusal fails = λ got. faultless-fails P (next got) refusal fails
 faultless-fails P (want_words addr most test next) refusal fails = λ got. faultless-fails P (next got) refusal fails
+
+-- ---- the tests of each call
+
+-- it holds of what a slot is taken for, if one is
+abbrev pub TakenIn : (Taken → Type 0) → Result Taken Answer → Type 0
+TakenIn P (Ok taken) = P taken
+TakenIn P (Err answer) = Unit {0}
+
+pub answer_need : (P : Taken → Type 0) (test : Bool) (refusal : Answer) (onward : Unit {0} → Attempt Answer Taken)
+    → AllOf (TakenIn P) (onward tt) → AllOf (TakenIn P) (need test refusal >>= onward)
+answer_need P true refusal onward rest = rest
+answer_need P false refusal onward rest = tt
+
+pub answer_known : {A : Type 0} (P : Taken → Type 0) (found : Option A) (refusal : Answer) (onward : A → Attempt Answer Taken)
+    → ((value : A) → found ≡ Some value → AllOf (TakenIn P) (onward value)) → AllOf (TakenIn P) (known found refusal >>= onward)
+answer_known P None refusal onward rest = tt
+answer_known P (Some value) refusal onward rest = rest value refl
+
+pub answer_read : {A : Type 0} (P : Taken → Type 0) (reader : Reader A) (onward : A → Attempt Answer Taken)
+    → ((value : A) → AllOf (TakenIn P) (onward value)) → AllOf (TakenIn P) (read reader >>= onward)
+answer_read P (done value) onward rest = rest value
+answer_read P (want_bytes addr len next) onward rest = λ got. answer_read P (next got) onward rest
+answer_read P (want_words addr most test next) onward rest = λ got. answer_read P (next got) onward rest
+
+pub taken_ends : (P : Taken → Type 0) (tested : Tested Taken) → Ends P tested → AllOf (TakenIn P) (read (taken_by tested))
+taken_ends P (done result) ends = ends
+taken_ends P (want_bytes addr len next) ends = λ got. taken_ends P (next got) (ends got)
+taken_ends P (want_words addr most test next) ends = λ got. taken_ends P (next got) (ends got)
