@@ -1,5 +1,5 @@
 -- Maps whose numbers rise: what a search finds is what the map has at its number.
-use Rattle.std.proofs.Common.{◌≡◌, ℕ, Bool, true, false, cond, List, [], ◌∷◌, Option, Some, None, refl, ap, sym, ◌∙◌, arith}
+use Rattle.std.proofs.Common.{◌≡◌, ℕ, Bool, true, false, cond, List, [], ◌∷◌, Some, None, refl, ap, sym, ◌∙◌, arith}
 use Rattle.std.specs.Prelude.{All, ◌&&◌, find}
 use Rattle.std.specs.Ordering.{nat_cmp, eq_by_cmp, is_lt}
 use Rattle.std.specs.FinMap.Entries as Entries
@@ -9,7 +9,7 @@ use Rattle.base.specs.NumberMap.{NumberMap, IsRising, get}
 use Rattle.base.proofs.MapLemmas.{All-get}
 use Rattle.kernel_model.proofs.SoundMaps.{find-all}
 
-both_parts : (a b : Bool) → (a && b) ≡ true → (a ≡ true) × (b ≡ true)
+pub both_parts : (a b : Bool) → (a && b) ≡ true → (a ≡ true) × (b ≡ true)
 both_parts true true e = (refl, refl)
 both_parts true false e = absurd cc
 both_parts false b e = absurd cc
@@ -17,14 +17,14 @@ both_parts false b e = absurd cc
 differs : (a b : ℕ) → is_lt (nat_cmp a b) ≡ true → eq_by_cmp nat_cmp a b ≡ false
 differs a b e = grind (arith, nat_tests)
 
-tied_number : (a b : ℕ) → eq_by_cmp nat_cmp a b ≡ true → a ≡ b
+pub tied_number : (a b : ℕ) → eq_by_cmp nat_cmp a b ≡ true → a ≡ b
 tied_number a b e = grind (arith, nat_tests)
 
-tied_self : (a : ℕ) → eq_by_cmp nat_cmp a a ≡ true
+pub tied_self : (a : ℕ) → eq_by_cmp nat_cmp a a ≡ true
 tied_self a = grind (arith, nat_tests)
 
 -- what is below all numbers of a map has nothing
-below_none : {X : Type 0} (k : ℕ) (m : NumberMap X) → Entries.below_all nat_cmp k m ≡ true → get m k ≡ None
+pub below_none : {X : Type 0} (k : ℕ) (m : NumberMap X) → Entries.below_all nat_cmp k m ≡ true → get m k ≡ None
 below_none k [] below = refl
 below_none {X} k (e ∷ es) below =
     let parts = both_parts (is_lt (nat_cmp k e.0)) (Entries.below_all nat_cmp k es) below in

@@ -1,60 +1,21 @@
 -- Whether one of an instance's sessions is opened, where it has one session alone.
 use Rattle.std.proofs.Common.{◌≡◌, ℕ, Bool, true, false, cond, not, [], ◌∷◌, Some, None, refl, ap, sym, ◌∙◌, arith}
 use Rattle.std.specs.Prelude.{All, ◌==◌, ◌&&◌, ◌||◌}
-use Rattle.std.specs.Ordering.{nat_cmp, eq_by_cmp, is_lt}
+use Rattle.std.specs.Ordering.{nat_cmp, eq_by_cmp}
 use Rattle.std.specs.Option.{option_map_or}
 use Rattle.std.specs.FinMap.Entries as Entries
 use Rattle.std.proofs.lemmas.Bool.Decides.{nat_tests}
-use Rattle.std.proofs.lemmas.List.Elements.{All-cons, All-head, All-nil, All-tail}
+use Rattle.std.proofs.lemmas.List.Elements.{All-head, All-tail}
 use Rattle.base.specs.NumberMap.{NumberMap, IsRising, get, get-remove, remove}
 use Rattle.base.proofs.MapLemmas.{All-remove}
 use Rattle.session_table.specs.declared.session.Session.{Session}
 use Rattle.kernel_model.specs.Sessions.{has_opened}
+use Rattle.kernel_model.proofs.SoundRising.{all_got, below_none, both_parts, tied_number, tied_self}
 use Rattle.own_model.proofs.Lookups.{apart_numbers, same_number}
 use Rattle.own_model.specs.Tied.{IsOnlySession, Whose}
 
--- ---- maps whose numbers rise
-
-both_parts : (a b : Bool) → (a && b) ≡ true → (a ≡ true) × (b ≡ true)
-both_parts true true e = (refl, refl)
-both_parts true false e = absurd cc
-both_parts false b e = absurd cc
-
-differs : (a b : ℕ) → is_lt (nat_cmp a b) ≡ true → eq_by_cmp nat_cmp a b ≡ false
-differs a b e = grind (arith, nat_tests)
-
-tied_number : (a b : ℕ) → eq_by_cmp nat_cmp a b ≡ true → a ≡ b
-tied_number a b e = grind (arith, nat_tests)
-
 tied_apart : (a b : ℕ) → eq_by_cmp nat_cmp a b ≡ false → b ≡ a → ⊥
 tied_apart a b e same = grind (arith, nat_tests)
-
-tied_self : (a : ℕ) → eq_by_cmp nat_cmp a a ≡ true
-tied_self a = grind (arith, nat_tests)
-
--- what is below all numbers of a map has nothing
-below_none : {X : Type 0} (k : ℕ) (m : NumberMap X) → Entries.below_all nat_cmp k m ≡ true → get m k ≡ None
-below_none k [] below = refl
-below_none {X} k (e ∷ es) below =
-    let parts = both_parts (is_lt (nat_cmp k e.0)) (Entries.below_all nat_cmp k es) below in
-    ap (λ b. cond b (Some e.1) (get es k)) (differs k e.0 parts.0) ∙ below_none k es parts.1
-
-first_apart : {X : Type 0} (e : ℕ × X) (es : NumberMap X) (k : ℕ) (v : X) → Entries.below_all nat_cmp e.0 es ≡ true → get es k ≡ Some v
-    → get (e ∷ es) k ≡ Some v
-first_apart {X} e es k v below found = by_test (eq_by_cmp nat_cmp k e.0) refl
-  where
-    by_test : (b : Bool) → eq_by_cmp nat_cmp k e.0 ≡ b → cond b (Some e.1) (get es k) ≡ Some v
-    by_test true same =
-        let no : None ≡ Some v = sym (below_none e.0 es below) ∙ ap (λ n. get es n) (sym (tied_number k e.0 same)) ∙ found in absurd cc
-    by_test false other = found
-
--- what holds of all that the map has at its numbers holds of each entry
-pub all_got : {X : Type 0} (P : ℕ × X → Type 0) (m : NumberMap X) → IsRising m → ((k : ℕ) (v : X) → get m k ≡ Some v → P (k, v)) → All P m
-all_got P [] rising all = All-nil P
-all_got {X} P (e ∷ es) rising all =
-    let parts = both_parts (Entries.below_all nat_cmp e.0 es) (Entries.is_sorted nat_cmp es) rising in
-    All-cons P e es (all e.0 e.1 (ap (λ b. cond b (Some e.1) (get es e.0)) (tied_self e.0)))
-    (all_got P es parts.1 (λ k v found. all k v (first_apart e es k v parts.0 found)))
 
 -- ---- the session that has the instance alone
 
