@@ -1,13 +1,8 @@
 -- What giving an instance back makes of the tables and of the pool, over the tables as the kernel's.
-use Rattle.std.proofs.Common.{◌≡◌, ℕ, ◌+◌, ◌-◌, ◌*◌, ◌/◌, ◌≤◌, ◌<◌, Bool, true, false, not, cond, ◌&&◌, ◌||◌, List, [], ◌∷◌, length, Option, Some, None, IsSome, sum_by, refl, sym, ap, ap₂, subst, ◌∙◌, arith}
+use Rattle.std.proofs.Common.{◌≡◌, ℕ, ◌+◌, ◌-◌, ◌*◌, ◌/◌, ◌≤◌, Bool, true, false, not, cond, ◌&&◌, ◌||◌, List, length, Option, Some, None, IsSome, refl, sym, ap, subst, ◌∙◌, arith}
 use Rattle.std.proofs.Math.Nat.{mul-div_cancel_left}
 use Rattle.std.specs.Prelude.{IsSomeAnd, is_some}
-use Rattle.std.specs.Option.{option_map, option_map_or}
-use Rattle.std.specs.Ordering.{nat_cmp, eq_by_cmp}
-use Rattle.std.specs.declared.cmp.Ordering.{Ordering}
-use Rattle.std.specs.declared.cmp.Ordering.TheVariants.{Less, Equal, Greater}
-use Rattle.std.specs.FinMap.Entries as Entries
-use Rattle.std.proofs.lemmas.Bool.Decides.{nat_tests}
+use Rattle.std.specs.Option.{option_map_or}
 use Rattle.base.specs.NumberMap.{NumberMap, get, insert, remove, IsRising, IsRising-insert}
 use Rattle.frame_pool.specs.Pages.{page_count}
 use Rattle.kernel_model.specs.Application.{Booted}
@@ -15,9 +10,11 @@ use Rattle.kernel_model.specs.Exit.{gives_back}
 use Rattle.kernel_model.specs.Instances.{free_pages, given_back, instances_after, killed, pages_of}
 use Rattle.kernel_model.specs.Kernel.{Instance, PendingCall, Tables}
 use Rattle.kernel_model.specs.Sessions.{has_opened}
+use Rattle.kernel_model.specs.SoundMemory.{pages_used}
+use Rattle.kernel_model.proofs.SoundSums.{sum_insert, sum_remove}
 use Rattle.tee_storage.specs.declared.handle.Handle.{Handle}
-use Rattle.kernel_exit.specs.Ending.{CanBeGivenBack, CanBeRemoved, IsFreeWith, IsHeldWith, is_dead, pages_held, pages_used, with_changed, without_instance}
-use Rattle.kernel_exit.proofs.Maps.{get_inserted, remove_insert, sum_insert, sum_remove}
+use Rattle.kernel_exit.specs.Ending.{CanBeGivenBack, CanBeRemoved, IsFreeWith, IsHeldWith, is_dead, pages_held, with_changed, without_instance}
+use Rattle.kernel_exit.proofs.Maps.{get_inserted, remove_insert}
 
 -- ---- pages
 

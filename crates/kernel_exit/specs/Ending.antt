@@ -1,5 +1,5 @@
 -- What the end of a call finds, and what it makes of the call and the tables.
-use Rattle.std.specs.Prelude.{◌≡◌, ℕ, ◌*◌, ◌≤◌, Bool, false, if◌then◌else◌, List, length, sum_by, IsSome, IsSomeAnd, None}
+use Rattle.std.specs.Prelude.{◌≡◌, ℕ, ◌*◌, ◌≤◌, Bool, false, if◌then◌else◌, List, length, IsSome, IsSomeAnd, None}
 use Rattle.std.specs.Option.{option_map_or}
 use Rattle.base.specs.NumberMap.{NumberMap, IsRising, get, insert, remove}
 use Rattle.job_model.specs.Job.{Job}
@@ -10,6 +10,7 @@ use Rattle.kernel_model.specs.Application.{Booted}
 use Rattle.kernel_model.specs.Exit.{after_grant, progress_in}
 use Rattle.kernel_model.specs.Instances.{pages_of}
 use Rattle.kernel_model.specs.Kernel.{CallPhase, Runs, Asks, Waits, Ends, Instance, PendingCall, Progress, Tables}
+use Rattle.kernel_model.specs.SoundMemory.{pages_used}
 use Rattle.kernel_state.specs.Calls.{IsCall, bytes_of}
 use Rattle.kernel_state.specs.Tables.{tables_of}
 use Rattle.kernel_state.specs.Work.{HasRun}
@@ -31,10 +32,6 @@ HasItsSession Settled sessions number = Unit {0}
 -- the pages that an instance has, itself or through the call that holds it; a dead one has none
 abbrev pub pages_held : Booted → Instance → ℕ
 pages_held boot instance = if instance.dead then 0 else pages_of boot instance.uuid
-
--- those of all instances
-abbrev pub pages_used : Booted → NumberMap Instance → ℕ
-pages_used boot instances = sum_by (λ kept. pages_held boot kept.1) instances
 
 -- a call has the instance, and so many bytes are all of its pages
 abbrev pub IsHeldWith : Booted → ℕ → Instance → Type 0
