@@ -1,9 +1,9 @@
 -- What a call has come to at an exit: each of its forms; and what its slot is left with.
-use Rattle.std.proofs.Common.{◌≡◌, ℕ, Bool, true, false, List, Option, Some, None, refl, ap, subst, sym, ◌∙◌}
-use Rattle.std.specs.Option.{option_map, option_map_or}
+use Rattle.std.proofs.Common.{◌≡◌, ℕ, Bool, true, false, List, Option, Some, None, refl, subst}
+use Rattle.std.specs.Option.{option_map_or}
 use Rattle.job_model.specs.Job.{Job, of_tee}
 use Rattle.job_model.specs.Point.{no_params}
-use Rattle.job_model.specs.Steps.{End, Grant, JobStop, Left, Stopped, grant_of}
+use Rattle.job_model.specs.Steps.{End, Grant, Left, Stopped, grant_of}
 use Rattle.job_model.specs.Steps as steps
 use Rattle.rpc_msgs.specs.declared.rpc.Rpc.{Rpc}
 use Rattle.rpc_msgs.specs.declared.rpc.Rpc.TheVariants as rpc
@@ -11,9 +11,9 @@ use Rattle.rpc_msgs.specs.declared.rpc_buffer.RpcBuffer.{RpcBuffer}
 use Rattle.ta_params.specs.declared.call_result.CallResult.{CallResult}
 use Rattle.ta_params.specs.declared.copied_params.CopiedParams.{CopiedParams}
 use Rattle.kernel_model.specs.Codes.{target_dead}
-use Rattle.kernel_model.specs.Exit.{after_grant, after_stop, further, progress_in, progress_of, shows_result, slot_left, tables_after_end, tables_after_panic, tables_unrun}
-use Rattle.kernel_model.specs.Kernel.{Asks, CallPhase, Ends, Free, PendingCall, Progress, Runs, Suspended, Tables, ThreadSlot, Waits}
-use Rattle.kernel_model.specs.Leaving.{Finishes, FreesBuffer, Leaving, Request, Requests, WantsBuffer, asks_for, leaving_in, leaving_of, plain_request}
+use Rattle.kernel_model.specs.Exit.{after_grant, further, progress_in, progress_of, shows_result, slot_left, tables_after_end, tables_after_panic, tables_unrun}
+use Rattle.kernel_model.specs.Kernel.{Active, Asks, CallPhase, Ends, Free, PendingCall, Progress, Runs, Suspended, Tables, ThreadSlot, Waits}
+use Rattle.kernel_model.specs.Leaving.{Finishes, FreesBuffer, Request, Requests, WantsBuffer, leaving_in, leaving_of, plain_request}
 use Rattle.kernel_model.proofs.Parts.{option_map_some}
 
 -- it holds of each form
@@ -90,3 +90,15 @@ pub left_all : (slot : ℕ) (call : PendingCall) (Q : ThreadSlot → Type 0) →
     → ((result : CallResult) (params : CopiedParams) (told : Bool) → call.phase ≡ Ends result params told None → Q Free)
     → Q (slot_left call (leaving_of slot call))
 left_all slot call Q still freed finished = phase_left slot call Q still freed finished call.phase refl
+
+-- what a slot is left with: nothing, or a call for its own client
+abbrev pub IsLeft : ThreadSlot → Type 0
+IsLeft Free = Unit {0}
+IsLeft (Active cpu call) = ⊥
+IsLeft (Suspended client call) = client ≡ call.client
+
+pub left_so : (slot : ℕ) (call : PendingCall) → IsLeft (slot_left call (leaving_of slot call))
+left_so slot call = left_all slot call IsLeft refl refl (λ result params told is. tt)
+
+pub left_for : (held : ThreadSlot) (client : ℕ) (call : PendingCall) → held ≡ Suspended client call → IsLeft held → client ≡ call.client
+left_for held client call e is = subst IsLeft e is

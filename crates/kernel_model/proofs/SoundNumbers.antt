@@ -1,33 +1,28 @@
 -- The numbers of sessions and instances after each event of a legal history.
 use Rattle.std.proofs.Common.{◌≡◌, ℕ, ◌+◌, ◌<◌, ◌≤◌, Bool, true, false, not, List, [], ◌∷◌, ◌++◌, Option, Some, None, refl, ap, subst, sym, ◌∙◌, arith}
-use Rattle.std.specs.Prelude.{All, ◌==◌, ◌&&◌, ◌||◌, ◌^◌, find, length, nat_lt, bytes_eq, slice_get, slice_set, if◌then◌else◌}
-use Rattle.std.specs.Option.{option_map, option_map_or, option_and_then}
+use Rattle.std.specs.Prelude.{All, ◌==◌, ◌&&◌, length, nat_lt, slice_get, slice_set}
+use Rattle.std.specs.Option.{option_map_or, option_and_then}
 use Rattle.std.proofs.lemmas.Bool.Decides.{nat_tests}
 use Rattle.std.proofs.lemmas.List.Elements.{All-filter, All-nil, All-push, All-weaker}
 use Rattle.base.specs.NumberMap.{NumberMap, get, insert, remove}
 use Rattle.base.proofs.MapLemmas.{All-get, All-insert, All-remove}
 use Rattle.event_journal.specs.declared.event.Event.{Event}
-use Rattle.job_model.specs.Job.{Job}
-use Rattle.job_model.specs.Steps.{End}
-use Rattle.job_model.specs.declared.call_kind.CallKind.{CallKind}
 use Rattle.job_model.specs.declared.call_kind.CallKind.TheVariants as kind
-use Rattle.job_model.specs.declared.entry_point.EntryPoint.{EntryPoint}
-use Rattle.param_copy.specs.Copying.{Copies}
 use Rattle.session_table.specs.declared.session.Session.{Session}
 use Rattle.session_table.specs.declared.waiters.Waiter.{Waiter}
 use Rattle.session_table.specs.Session.{opened_with}
 use Rattle.session_table.specs.Waiters.{without}
 use Rattle.shm_registry.specs.Registered.{Registered}
-use Rattle.kernel_model.specs.Application.{Application, Booted, IsBooted, uuid_of}
-use Rattle.kernel_model.specs.Argument.{Opening, client_in, thread_in}
-use Rattle.kernel_model.specs.Begin.{Begun, awaited_number, opens_kept, opens_new}
+use Rattle.kernel_model.specs.Application.{Booted}
+use Rattle.kernel_model.specs.Argument.{client_in, thread_in}
+use Rattle.kernel_model.specs.Begin.{opens_kept, opens_new}
 use Rattle.kernel_model.specs.Decision.{Taken, Takes}
 use Rattle.kernel_model.specs.Entry.{after_decision}
-use Rattle.kernel_model.specs.Exit.{further, gives_back, progress_of, slot_left, tables_left, tables_unrun}
+use Rattle.kernel_model.specs.Exit.{progress_of, slot_left, tables_left}
 use Rattle.kernel_model.specs.Given.{Buffer, Given, NoBuffer, Nothing, Reply, call_given}
-use Rattle.kernel_model.specs.History.{after_event, kernel_after}
+use Rattle.kernel_model.specs.History.{kernel_after}
 use Rattle.kernel_model.specs.Instances.{given_back, instances_after, is_single, killed}
-use Rattle.kernel_model.specs.Kernel.{Active, Fixed, Free, Instance, Kernel, PendingCall, Progress, Suspended, Tables, ThreadSlot, Visit, first_kernel, with_visitor, without_visitor}
+use Rattle.kernel_model.specs.Kernel.{Active, Free, Instance, Kernel, PendingCall, Progress, Suspended, Tables, ThreadSlot, Visit, first_kernel}
 use Rattle.kernel_model.specs.Leaving.{leaving_of}
 use Rattle.kernel_model.specs.NewCall.{NewCall, has_session_room, named_session, new_call_of}
 use Rattle.kernel_model.specs.Resume.{Resumed, onward_of, resumed_call, sees}
@@ -38,8 +33,8 @@ use Rattle.kernel_model.proofs.Parts.{if-both, option_map_some}
 use Rattle.kernel_model.proofs.SoundEvents.{EventCases, after_one, cpu_of, events_onward, holds_after, resumed_taken}
 use Rattle.kernel_model.proofs.SoundExits.{exits_all, left_all, unbuffered}
 use Rattle.kernel_model.proofs.SoundMaps.{after_all, find-all, if_some, named_is, panic_all, shared_all, unrun_all}
-use Rattle.kernel_model.proofs.SoundNewCalls.{IsOpen, NewCases, cases_onward}
-use Rattle.kernel_model.proofs.SoundResumes.{IsAwake, resumes_all}
+use Rattle.kernel_model.proofs.SoundNewCalls.{NewCases, cases_onward}
+use Rattle.kernel_model.proofs.SoundResumes.{resumes_all}
 use Rattle.kernel_model.proofs.SoundSlots.{Changes, by_number, free_there, leaves_slot, none_at_first, takes_slot}
 
 -- ---- the tables alone
@@ -74,6 +69,21 @@ no_lower n = omega arith
 
 stay : (tables : Tables) → AreIn tables → Onward tables tables
 stay tables numbers = record { session = no_lower tables.next_session; instance = no_lower tables.next_instance; numbers = numbers }
+
+-- with the registered buffers, which have no numbers, as they then are
+registered_too : (before now : Tables) (registered : Registered) → Onward before now → Onward before (record now { registered = registered })
+registered_too before now registered on = record {
+  session = on.session;
+  instance = on.instance;
+  numbers = record {
+    from_one = on.numbers.from_one;
+    few = on.numbers.few;
+    fewer = on.numbers.fewer;
+    sessions = on.numbers.sessions;
+    instances = on.numbers.instances;
+    waiters = on.numbers.waiters;
+  };
+}
 
 given_later : (next later number : ℕ) → next ≤ later → IsGiven next number → IsGiven later number
 given_later next later number le given = (given.0, let below = given.1 in omega arith)
@@ -289,21 +299,6 @@ module _ (c : NewCall) (numbers : AreIn c.tables) where
     };
   }
 
-  -- with the registered buffers, which have no numbers, as they then are
-  registered_too : (now : Tables) (registered : Registered) → Onward c.tables now → Onward c.tables (record now { registered = registered })
-  registered_too now registered on = record {
-    session = on.session;
-    instance = on.instance;
-    numbers = record {
-      from_one = on.numbers.from_one;
-      few = on.numbers.few;
-      fewer = on.numbers.fewer;
-      sessions = on.numbers.sessions;
-      instances = on.numbers.instances;
-      waiters = on.numbers.waiters;
-    };
-  }
-
   begins_in_session : (named : Session × Instance) (held : Instance) (registered : Registered) (call : PendingCall) → named_session c ≡ Some named
       → call.session ≡ c.head.session → call.instance ≡ named.0.instance
       → NewNumbers c (record {
@@ -312,7 +307,7 @@ module _ (c : NewCall) (numbers : AreIn c.tables) where
         cancels = None;
       })
   begins_in_session named held registered call is session instance =
-      let on = registered_too _ registered (holds_named named held is) in
+      let on = registered_too c.tables _ registered (holds_named named held is) in
       record { on = on; call = named_call _ call named is on session instance }
 
   waits_in_session : (named : Session × Instance) (waiter : Waiter) (registered : Registered) (call : PendingCall) → named_session c ≡ Some named
@@ -323,7 +318,7 @@ module _ (c : NewCall) (numbers : AreIn c.tables) where
         cancels = None;
       })
   waits_in_session named waiter registered call is of session instance =
-      let on = registered_too _ registered (waits_named named waiter is of) in
+      let on = registered_too c.tables _ registered (waits_named named waiter is of) in
       record { on = on; call = named_call _ call named is on session instance }
 
   new_numbers : NewCases c (NewNumbers c)
@@ -625,26 +620,12 @@ number_cases boot kernel cpu sound = record {
           rise = rises kernel.tables progress.tables after.on;
         })
         (λ result params told is.
-        let on = freed_on progress after.on in
+        let on : Onward kernel.tables (tables_left progress.tables slot Free) = registered_too kernel.tables progress.tables _ after.on in
         record {
           numbers = numbers_change (call_at kernel.slots) _ kernel.tables _ slot None
               (leaves_slot kernel.slots slot (Active worker call) Free there) sound on (λ other no. absurd cc);
           rise = rises kernel.tables _ on;
         })
-      where
-        freed_on : (progress : Progress) → Onward kernel.tables progress.tables → Onward kernel.tables (tables_left progress.tables slot Free)
-        freed_on progress on = record {
-          session = on.session;
-          instance = on.instance;
-          numbers = record {
-            from_one = on.numbers.from_one;
-            few = on.numbers.few;
-            fewer = on.numbers.fewer;
-            sessions = on.numbers.sessions;
-            instances = on.numbers.instances;
-            waiters = on.numbers.waiters;
-          };
-        }
 
 first_numbers : (boot : Booted) → AreNumbered (call_at (first_kernel boot).slots) (first_kernel boot).tables
 first_numbers boot = record {

@@ -1,6 +1,6 @@
 -- Processors and slots fit together in each kernel of a legal history; and the events of other processors leave a
 -- processor's part and its call as they are.
-use Rattle.std.proofs.Common.{◌≡◌, ℕ, zero, suc, ◌+◌, Bool, true, false, List, [], ◌∷◌, Option, Some, None, refl, ap, subst, sym, ◌∙◌}
+use Rattle.std.proofs.Common.{◌≡◌, ℕ, zero, suc, Bool, true, false, List, [], ◌∷◌, Option, Some, None, refl, ap, subst, sym, ◌∙◌}
 use Rattle.std.specs.Prelude.{map, slice_get, slice_set, replicate, ◌||◌}
 use Rattle.std.specs.List.{AllByRecursion}
 use Rattle.std.specs.Option.{option_map}
@@ -8,20 +8,20 @@ use Rattle.std.proofs.lemmas.Option.{option_and_then_some}
 use Rattle.event_journal.specs.declared.event.Event.{Event}
 use Rattle.event_journal.specs.declared.event.Event.TheVariants as event
 use Rattle.smc_abi.specs.declared.answer.Answer.{Answer}
-use Rattle.kernel_model.specs.Application.{Booted, IsBooted}
+use Rattle.kernel_model.specs.Application.{Booted}
 use Rattle.kernel_model.specs.Argument.{client_in, thread_in}
-use Rattle.kernel_model.specs.Decision.{Taken, Takes, works_on}
+use Rattle.kernel_model.specs.Decision.{Taken, Takes}
 use Rattle.kernel_model.specs.Entry.{after_decision}
 use Rattle.kernel_model.specs.Exit.{goes_out_from, slot_left}
 use Rattle.kernel_model.specs.History.{IsLater, after_event, after_events, kernel_after}
-use Rattle.kernel_model.specs.Kernel.{Active, Cancel, Errand, Fixed, Free, InSlot, Inside, Kernel, Outside, PendingCall, Processor, Progress, Suspended, ThreadSlot, Visit, cancelled_call, cancelled_slot, cancelled_slots, first_kernel, is_meant, with_visitor, without_visitor}
+use Rattle.kernel_model.specs.Kernel.{Active, Cancel, Fixed, Free, InSlot, Inside, Kernel, Outside, PendingCall, Processor, Progress, Suspended, ThreadSlot, Visit, cancelled_call, cancelled_slot, cancelled_slots, first_kernel, is_meant}
 use Rattle.kernel_model.specs.Laws.{IsOfOther}
-use Rattle.kernel_model.specs.Leaving.{Leaving, FreesBuffer, Finishes, Interrupted, Requests, WantsBuffer, leaving_of}
-use Rattle.kernel_model.specs.NewCall.{NewCall, new_call_of}
-use Rattle.kernel_model.specs.Sound.{Always, AreAtWork, IsWorkedOn, OthersStayAway, StaysInside, WorksOn, unmarked}
+use Rattle.kernel_model.specs.Leaving.{leaving_of}
+use Rattle.kernel_model.specs.Sound.{Always, AreAtWork, IsWorkedOn, OthersStayAway, StaysInside, unmarked}
 use Rattle.kernel_model.proofs.Parts.{set_found, set_other, set_then_read}
-use Rattle.kernel_model.proofs.SoundEvents.{ComesIn, EventCases, Keeps, after_one, cpu_of, holds_after, resumed_taken}
-use Rattle.kernel_model.proofs.SoundNewCalls.{NewCases, all_cases}
+use Rattle.kernel_model.proofs.SoundEvents.{ComesIn, EventCases, after_one, cpu_of, holds_after, resumed_taken}
+use Rattle.kernel_model.proofs.SoundExits.{IsLeft, left_for, left_so}
+use Rattle.kernel_model.proofs.SoundNewCalls.{all_cases}
 use Rattle.kernel_model.proofs.SoundSlots.{by_number, free_there, plain, still_held, was_held}
 
 -- ---- what an entry takes
@@ -196,19 +196,6 @@ other_work kernel cpu was now there before after sound = record {
     some_same : (one other : Processor) → Some one ≡ Some other → one ≡ other
     some_same one other e = cc
 
--- what an exit leaves
-abbrev IsLeft : ThreadSlot → Type 0
-IsLeft Free = Unit {0}
-IsLeft (Active cpu call) = ⊥
-IsLeft (Suspended client call) = client ≡ call.client
-
-left_so : (call : PendingCall) (leaving : Leaving) → IsLeft (slot_left call leaving)
-left_so call Interrupted = refl
-left_so call WantsBuffer = refl
-left_so call (Requests place request) = refl
-left_so call (FreesBuffer buffer) = refl
-left_so call (Finishes result params) = tt
-
 gone_work : (kernel : Kernel) (visit : Visit) (slot worker : ℕ) (call : PendingCall) (left : ThreadSlot) → AreAtWork kernel
     → slice_get kernel.processors visit.cpu ≡ Some (Inside visit.regs visit.steps (InSlot slot)) → slice_get kernel.slots slot ≡ Some (Active worker call)
     → IsLeft left
@@ -234,8 +221,8 @@ gone_work kernel visit slot worker call left sound inside there is_left = record
       record { regs = works.regs; steps = works.steps; inside = set_other kernel.processors visit.cpu cpu Outside elsewhere ∙ works.inside });
   clients = λ at client now is.
       by_number slot at
-      (λ same. own left client now is_left (set_then_read kernel.slots slot left (Suspended client now)
-      (subst (λ (n : ℕ). slice_get (slice_set kernel.slots slot left) n ≡ Some (Suspended client now)) (sym same) is)))
+      (λ same. left_for left client now (set_then_read kernel.slots slot left (Suspended client now)
+      (subst (λ (n : ℕ). slice_get (slice_set kernel.slots slot left) n ≡ Some (Suspended client now)) (sym same) is)) is_left)
       (λ apart. sound.clients at client now (sym (set_other kernel.slots slot at left apart) ∙ is));
 }
   where
@@ -253,9 +240,6 @@ gone_work kernel visit slot worker call left sound inside there is_left = record
     never_active (Active other one) cpu now is e = is
     never_active (Suspended client one) cpu now is e = cc
 
-    own : (held : ThreadSlot) (client : ℕ) (now : PendingCall) → IsLeft held → held ≡ Suspended client now → client ≡ now.client
-    own held client now is e = subst IsLeft e is
-
 work_cases : (boot : Booted) (kernel : Kernel) (cpu : ℕ) → AreAtWork kernel → EventCases boot kernel cpu AreAtWork
 work_cases boot kernel cpu sound = record {
   answered = λ visit answer inside.
@@ -270,7 +254,7 @@ work_cases boot kernel cpu sound = record {
       (λ regs steps slot e. cc) (λ regs steps slot e. cc) sound;
   goes = λ visit slot worker call progress its inside there e.
       let gone = gone_work kernel visit slot worker call (slot_left progress.call (leaving_of slot progress.call)) sound inside there
-      (left_so progress.call (leaving_of slot progress.call)) in
+      (left_so slot progress.call) in
       record { work = gone.work; worked = gone.worked; clients = gone.clients };
 }
 

@@ -21,12 +21,13 @@ use Rattle.kernel_model.specs.Exit.{Exited, goes_out, goes_out_from, exit, exit_
 use Rattle.kernel_model.specs.History.{after_event, after_events, entry_from, exit_to, goes_out_of, can_be_granted, is_outside, kernel_after, left_by_exits, IsEntryOf, Resumes, ResumesCall, slot_of_processor}
 use Rattle.kernel_model.specs.Kernel.{PendingCall, Progress, Cancel, cancelled_call, cancelled_slot, cancelled_slots, is_meant, ThreadSlot, Free, Active, Suspended, Fixed, InSlot, Processor, Outside, Inside, Kernel, Visit, first_kernel}
 use Rattle.kernel_model.specs.Laws.{ResumesContinue}
-use Rattle.kernel_model.specs.Leaving.{Leaving, Interrupted, WantsBuffer, Requests, FreesBuffer, Finishes, leaving_of}
+use Rattle.kernel_model.specs.Leaving.{leaving_of}
 use Rattle.kernel_model.specs.Resume.{call_resumed_by, suspended_for}
 use Rattle.kernel_model.proofs.EntryLaws.{resumes_call, tells, told_resume}
 use Rattle.kernel_model.proofs.FixedAnswer.{decided_errand, decides}
 use Rattle.kernel_model.proofs.Parts.{option_map_some, set_then_read, set_other}
 use Rattle.kernel_model.proofs.Past.{after_events-append}
+use Rattle.kernel_model.proofs.SoundExits.{IsLeft, left_for, left_so}
 
 -- what exits left is the call, but that it may be cancelled since, for the client of the call
 record Since (left : Option ThreadSlot) (client : ℕ) (call : PendingCall) : Type 0 where
@@ -111,37 +112,21 @@ allowed_kept boot slot kernel next visit reads left false kept e = absurd cc
 
 -- ---- exits
 
--- what an exit leaves in its slot: nothing, or a call for its own client
-abbrev Own : ThreadSlot → Type 0
-Own Free = Unit {0}
-Own (Active cpu call) = ⊥
-Own (Suspended client call) = client ≡ call.client
-
-own_left : (call : PendingCall) (leaving : Leaving) → Own (slot_left call leaving)
-own_left call Interrupted = refl
-own_left call WantsBuffer = refl
-own_left call (Requests place request) = refl
-own_left call (FreesBuffer buffer) = refl
-own_left call (Finishes result params) = tt
-
 record LeftIn (slots : List ThreadSlot) (slot : ℕ) (exited : Exited) : Type 0 where
   held : ThreadSlot
-  own : Own held
+  own : IsLeft held
   after : exited.kernel.slots ≡ slice_set slots slot held
 
 progress_left : (kernel : Kernel) (visit : Visit) (slot : ℕ) (progress : Progress) → LeftIn kernel.slots slot (goes_out_from kernel visit slot progress)
 progress_left kernel visit slot progress =
     let leaving = leaving_of slot progress.call in
-    record { held = slot_left progress.call leaving; own = own_left progress.call leaving; after = refl }
+    record { held = slot_left progress.call leaving; own = left_so slot progress.call; after = refl }
 
 slot_in : (kernel : Kernel) (visit : Visit) (slot : ℕ) (exited : Exited)
     → option_map (goes_out_from kernel visit slot) (progress_in_slot kernel visit.steps slot) ≡ Some exited → LeftIn kernel.slots slot exited
 slot_in kernel visit slot exited e =
     let came = option_map_some (goes_out_from kernel visit slot) (progress_in_slot kernel visit.steps slot) exited e in
     subst (λ (x : Exited). LeftIn kernel.slots slot x) came.2 (progress_left kernel visit slot came.0)
-
-own_client : (held : ThreadSlot) (client : ℕ) (call : PendingCall) → held ≡ Suspended client call → Own held → client ≡ call.client
-own_client held client call e own = subst Own e own
 
 -- what the last exit left, once one more has gone out from a slot
 abbrev now_left : ℕ → ℕ → Kernel → Option ThreadSlot → Bool → Option ThreadSlot
@@ -153,7 +138,7 @@ slot_kept slot from kernel left exited true e kept gone client call h =
     let at = (Decides-eqb from slot).0 e in
     let here = ap (λ (xs : List ThreadSlot). slice_get xs slot) (sym gone.after) ∙ h in
     let there = subst (λ (i : ℕ). slice_get (slice_set kernel.slots from gone.held) i ≡ Some (Suspended client call)) (sym at) here in
-    let own = own_client gone.held client call (set_then_read kernel.slots from gone.held (Suspended client call) there) gone.own in
+    let own = left_for gone.held client call (set_then_read kernel.slots from gone.held (Suspended client call) there) gone.own in
     record { was = call.marked; same = h; stays = λ e. e; own = own }
 slot_kept slot from kernel left exited false e kept gone client call h =
     let apart : from ≡ slot → ⊥ = λ at. let yes = (Decides-eqb from slot).1 at in absurd cc in
