@@ -1,11 +1,14 @@
 -- What a new call of another session decides leaves what is the session's.
-use Rattle.std.proofs.Common.{◌≡◌, ℕ, ◌+◌, Bool, true, false, List, Option, Some, None, refl, ap, subst, sym, ◌∙◌, arith}
+use Rattle.std.proofs.Common.{◌≡◌, ℕ, ◌+◌, Bool, true, false, List, [], ◌∷◌, Option, Some, None, refl, ap, sym, ◌∙◌, arith}
 use Rattle.std.specs.Prelude.{All, ◌&&◌, if◌then◌else◌, ◌==◌, ◌<◌, ◌≤◌, bytes_eq, find}
 use Rattle.std.specs.Option.{option_map, option_map_or}
 use Rattle.std.proofs.lemmas.Bool.Decides.{nat_tests}
 use Rattle.std.proofs.lemmas.Option.{option_and_then_some}
 use Rattle.std.proofs.lemmas.Slice.Eq.{bytes_eq-Decides}
 use Rattle.base.specs.NumberMap.{NumberMap, get}
+use Rattle.job_model.specs.declared.call_kind.CallKind.{CallKind}
+use Rattle.job_model.specs.declared.entry_point.EntryPoint.{EntryPoint}
+use Rattle.job_model.specs.declared.entry_point.EntryPoint.TheVariants as point
 use Rattle.job_model.specs.Job.{Job}
 use Rattle.param_copy.specs.Copying.{Copies}
 use Rattle.session_table.specs.declared.session.Session.{Session}
@@ -15,18 +18,18 @@ use Rattle.shm_registry.specs.declared.page_buffer.PageBuffer.{PageBuffer}
 use Rattle.session_table.specs.Waiters.{instance_with}
 use Rattle.kernel_model.specs.Application.{Application, uuid_of}
 use Rattle.kernel_model.specs.Argument.{Opening}
-use Rattle.kernel_model.specs.Begin.{Begun, Opener, awaited_number, opens_kept, opens_made, opens_new, with_instance}
+use Rattle.kernel_model.specs.Begin.{Begun, Opener, awaited_number, closing_points, opens_kept, opens_made, opens_new, with_instance}
 use Rattle.kernel_model.specs.Codes.{bad_parameters, target_dead}
 use Rattle.kernel_model.specs.Decision.{Taken}
 use Rattle.kernel_model.specs.Instances.{app_of, is_held, is_single}
-use Rattle.kernel_model.specs.Kernel.{Instance, PendingCall, Tables}
-use Rattle.kernel_model.specs.NewCall.{About, NewCall, beginner, cancels, closes, invokes, keeps_buffers, named_session, no_copies, open_waits, opens, opens_or_waits, runs_in, settles, settles_invoke, settles_open, shared_by, waits_in, with_session, opener}
+use Rattle.kernel_model.specs.Kernel.{Instance, PendingCall, Runs, Tables, Waits}
+use Rattle.kernel_model.specs.NewCall.{About, NewCall, about_session, beginner, call_about, cancels, closes, invokes, keeps_buffers, named_session, no_copies, open_waits, opens, opens_or_waits, runs_in, settles, settles_invoke, settles_open, shared_by, waits_in, with_session, opener, works_or_waits}
 use Rattle.kernel_model.specs.Sessions.{opened_by}
 use Rattle.kernel_model.proofs.Parts.{if-both, option_map_some}
 use Rattle.own_model.proofs.Lookups.{another_waits, app_named, find-all, waiter-all}
 use Rattle.own_model.proofs.Maps.{get-insert-other, get-inserted}
 use Rattle.own_model.proofs.NewCalls.{OfAllEndings}
-use Rattle.own_model.proofs.Others.{KeepsTables}
+use Rattle.own_model.proofs.Others.{KeepsTables, given_as}
 use Rattle.own_model.proofs.OtherSessions.{AreOnly, other_put}
 use Rattle.own_model.specs.Own.{event_of}
 use Rattle.own_model.specs.declared.own_event.OwnEvent.{OwnEvent}
@@ -59,15 +62,6 @@ less m n lt e = grind (arith)
 
 after_next : (m n : ℕ) → m < n → m < n + 1
 after_next m n lt = grind (arith)
-
-pub given_as : (whose : Whose) (before after : Tables) → after.next_session ≡ before.next_session → after.next_instance ≡ before.next_instance
-    → AreGiven whose before → AreGiven whose after
-given_as whose before after sessions instances given = record {
-  session_from_one = given.session_from_one;
-  instance_from_one = given.instance_from_one;
-  session_given = subst (λ (n : ℕ). whose.session < n) (sym sessions) given.session_given;
-  instance_given = subst (λ (n : ℕ). whose.instance < n) (sym instances) given.instance_given;
-}
 
 -- ---- calls that are settled
 
@@ -198,31 +192,35 @@ elsewhere : (app : Application) (whose : Whose) (c : NewCall) (session : Session
     → (c.head.session ≡ whose.session → ⊥) → session.instance ≡ whose.instance → ⊥
 elsewhere app whose c session b there apart e = apart ((b.only c.head.session session there).1 e)
 
-invokes_other : (app : Application) (whose : Whose) (c : NewCall) (named : Session × Instance) (copies : Copies) → Beside app whose c
-    → named_session c ≡ Some named → IfUnnoted whose c (invokes c named copies)
-invokes_other app whose c named copies b is =
+-- where such a call isn't noted, it is in another session
+abbrev IsElsewhere : Whose → NewCall → PendingCall → Type 0
+IsElsewhere whose c call = event_of whose.session call ≡ None → c.head.session ≡ whose.session → ⊥
+
+-- a call in the session that it names waits, or begins
+works_other : (app : Application) (whose : Whose) (c : NewCall) (named : Session × Instance) (call_kind : CallKind) (copies : Copies) (points : List EntryPoint)
+    → Beside app whose c → named_session c ≡ Some named
+    → IsElsewhere whose c (call_about c (about_session c call_kind named.0 named.1 copies) (Waits copies.params))
+    → ((job : Job) → IsElsewhere whose c (call_about c (about_session c call_kind named.0 named.1 copies) (Runs job)))
+    → IfUnnoted whose c (works_or_waits c call_kind named.0 named.1 copies points)
+works_other app whose c named call_kind copies points b is waits runs =
     let there = (named_parts c named is).0 in
     if-both (IfUnnoted whose c) (is_held named.1) (waits_in c c.tables _ copies) (runs_in c _ _ copies.cookies _)
     (λ none.
-    let apart = not_noted whose.session c.head.session _ none in
-    waits_other app whose c c.tables _ copies (nothing_changed app whose c b) apart (elsewhere app whose c named.0 b there apart))
+    waits_other app whose c c.tables _ copies (nothing_changed app whose c b) (waits none)
+    (elsewhere app whose c named.0 b there (waits none)))
     (λ none.
-    let apart = not_noted whose.session c.head.session _ none in
-    let other = elsewhere app whose c named.0 b there apart in
-    runs_other app whose c _ _ copies.cookies _ (holds_other app whose c named.0.instance _ b other) apart other)
+    let other = elsewhere app whose c named.0 b there (runs _ none) in
+    runs_other app whose c _ _ copies.cookies _ (holds_other app whose c named.0.instance _ b other) (runs _ none) other)
+
+invokes_other : (app : Application) (whose : Whose) (c : NewCall) (named : Session × Instance) (copies : Copies) → Beside app whose c
+    → named_session c ≡ Some named → IfUnnoted whose c (invokes c named copies)
+invokes_other app whose c named copies b is =
+    works_other app whose c named _ copies (point.Invoke c.head.func ∷ []) b is (not_noted whose.session c.head.session _) (λ job. not_noted whose.session c.head.session _)
 
 closes_other : (app : Application) (whose : Whose) (c : NewCall) (named : Session × Instance) → Beside app whose c
     → named_session c ≡ Some named → IfUnnoted whose c (closes c named)
 closes_other app whose c named b is =
-    let there = (named_parts c named is).0 in
-    if-both (IfUnnoted whose c) (is_held named.1) (waits_in c c.tables _ no_copies) (runs_in c _ _ no_copies.cookies _)
-    (λ none.
-    let apart = not_noted whose.session c.head.session _ none in
-    waits_other app whose c c.tables _ no_copies (nothing_changed app whose c b) apart (elsewhere app whose c named.0 b there apart))
-    (λ none.
-    let apart = not_noted whose.session c.head.session _ none in
-    let other = elsewhere app whose c named.0 b there apart in
-    runs_other app whose c _ _ no_copies.cookies _ (holds_other app whose c named.0.instance _ b other) apart other)
+    works_other app whose c named _ no_copies (closing_points (beginner c) c.head.session named.0 named.1) b is (not_noted whose.session c.head.session _) (λ job. not_noted whose.session c.head.session _)
 
 -- ---- open
 

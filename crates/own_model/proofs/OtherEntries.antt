@@ -19,7 +19,8 @@ use Rattle.own_model.proofs.FixedAnswers.{goes_silently}
 use Rattle.own_model.proofs.NewEntries.{new_call_noted, new_call_taken}
 use Rattle.own_model.proofs.OtherCalls.{Beside, TakesOther, endings_other}
 use Rattle.own_model.proofs.OtherExits.{held_other, slot_keeps}
-use Rattle.own_model.proofs.Others.{KeepsSlots, stays_tied, there_but_marked, unmarked}
+use Rattle.kernel_model.specs.Sound.{unmarked}
+use Rattle.own_model.proofs.Others.{KeepsSlots, stays_tied, there_but_marked}
 use Rattle.own_model.specs.declared.own_event.OwnEvent.{OwnEvent}
 use Rattle.own_model.specs.Laws.{About, AreTied, GoesAlong, SharesNone, whose_of}
 use Rattle.own_model.specs.Own.{Notes, event_noted, event_of, numbered}

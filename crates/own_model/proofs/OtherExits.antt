@@ -17,7 +17,8 @@ use Rattle.kernel_model.specs.Leaving.{FreesBuffer, Finishes, Interrupted, Leavi
 use Rattle.kernel_model.proofs.Parts.{option_map_some, set_other}
 use Rattle.own_model.proofs.FixedAnswers.{goes_silently, left}
 use Rattle.own_model.proofs.Maps.{set_either}
-use Rattle.own_model.proofs.Others.{KeepsSlots, KeepsTables, stays_tied, unmarked}
+use Rattle.kernel_model.specs.Sound.{unmarked}
+use Rattle.own_model.proofs.Others.{KeepsSlots, KeepsTables, given_as, stays_tied}
 use Rattle.own_model.proofs.OtherSessions.{AreOnly, after_keeps, gives_back_keeps, panic_keeps, unrun_keeps}
 use Rattle.own_model.specs.Laws.{About, AreTied, GoesAlong, whose_of}
 use Rattle.own_model.specs.Own.{Notes, event_noted, exit_noted, out_noted}
@@ -93,12 +94,7 @@ progress_other whose tables call granted (Ends result params false wakes) progre
         instance = refl;
         of_app = λ uuid all. all;
         waiting = refl;
-        given = record {
-          session_from_one = given.session_from_one;
-          instance_from_one = given.instance_from_one;
-          session_given = given.session_given;
-          instance_given = given.instance_given;
-        };
+        given = given_as whose tables _ refl refl given;
       };
     })
 
@@ -147,12 +143,7 @@ pins_keep whose before tables slot Free kept = record {
   instance = kept.instance;
   of_app = kept.of_app;
   waiting = kept.waiting;
-  given = record {
-    session_from_one = kept.given.session_from_one;
-    instance_from_one = kept.given.instance_from_one;
-    session_given = kept.given.session_given;
-    instance_given = kept.given.instance_given;
-  };
+  given = given_as whose tables _ refl refl kept.given;
 }
 pins_keep whose before tables slot (Active cpu call) kept = kept
 pins_keep whose before tables slot (Suspended client call) kept = kept

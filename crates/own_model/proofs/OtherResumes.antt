@@ -1,6 +1,6 @@
 -- A resume of a call that isn't the session's leaves kernel and machine tied.
 use Rattle.std.proofs.Common.{◌≡◌, ℕ, Bool, true, false, List, [], ◌∷◌, Option, Some, None, refl, ap, subst, sym, ◌∙◌}
-use Rattle.std.specs.Prelude.{slice_get, slice_set, if◌then◌else◌, ◌==◌, ◌<◌}
+use Rattle.std.specs.Prelude.{slice_get, slice_set, if◌then◌else◌, ◌==◌}
 use Rattle.std.specs.Option.{option_map_or, option_and_then}
 use Rattle.std.proofs.lemmas.Option.{option_and_then_some}
 use Rattle.base.specs.NumberMap.{get}
@@ -28,7 +28,7 @@ use Rattle.kernel_model.proofs.EntryLaws.{resumes_call}
 use Rattle.kernel_model.proofs.Parts.{anything, if-both, map_or-both, reading-all, set_found}
 use Rattle.own_model.proofs.FixedAnswers.{entered, goes_silently}
 use Rattle.own_model.proofs.OtherSessions.{other_put}
-use Rattle.own_model.proofs.Others.{stays_tied}
+use Rattle.own_model.proofs.Others.{given_as, stays_tied}
 use Rattle.own_model.proofs.OtherExits.{StaysOther, held_other, slot_keeps}
 use Rattle.own_model.proofs.WaitersLeft.{others_leave}
 use Rattle.own_model.specs.Laws.{About, AreTied, GoesAlong, whose_of}
@@ -44,16 +44,6 @@ record ResumesOther (whose : Whose) (r : Resumed) : Type 0 where
   only : (number : ℕ) (session : Session) → get r.tables.sessions number ≡ Some session → IsOnlySession whose number session
   leaves : waiting_for whose.instance (without r.tables.waiters r.slot) ≡ waiting_for whose.instance r.tables.waiters
   given : AreGiven whose r.tables
-
--- numbers that were given are, where the next ones are the same
-given_as : (whose : Whose) (before after : Tables) → after.next_session ≡ before.next_session → after.next_instance ≡ before.next_instance
-    → AreGiven whose before → AreGiven whose after
-given_as whose before after sessions instances given = record {
-  session_from_one = given.session_from_one;
-  instance_from_one = given.instance_from_one;
-  session_given = subst (λ (n : ℕ). whose.session < n) (sym sessions) given.session_given;
-  instance_given = subst (λ (n : ℕ). whose.instance < n) (sym instances) given.instance_given;
-}
 
 -- what such a call comes to
 abbrev Stays : Whose → Resumed → Progress → Type 0

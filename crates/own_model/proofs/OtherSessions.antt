@@ -16,7 +16,7 @@ use Rattle.kernel_model.specs.Sessions.{has_opened, sessions_after, sessions_aft
 use Rattle.kernel_model.proofs.Parts.{if-both}
 use Rattle.base.proofs.MapLemmas.{All-insert, All-remove}
 use Rattle.own_model.proofs.Maps.{get-insert-other, get-inserted, get-remove-other, get-removed}
-use Rattle.own_model.proofs.Others.{KeepsTables}
+use Rattle.own_model.proofs.Others.{KeepsTables, given_as}
 use Rattle.own_model.specs.Tied.{AreGiven, AreOf, IsOnlySession, IsOther, Whose}
 
 -- ---- sessions
@@ -134,10 +134,5 @@ gives_back_keeps whose tables call sessions is_last change other kept given =
       instance = back.instance;
       of_app = back.of_app;
       waiting = refl;
-      given = record {
-        session_from_one = given.session_from_one;
-        instance_from_one = given.instance_from_one;
-        session_given = given.session_given;
-        instance_given = given.instance_given;
-      };
+      given = given_as whose tables _ refl refl given;
     }

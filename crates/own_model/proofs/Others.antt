@@ -1,5 +1,5 @@
 -- What leaves a kernel and a machine tied: slots and tables may change where they aren't the session's.
-use Rattle.std.proofs.Common.{◌≡◌, ℕ, false, List, Option, Some, None, refl, ap, subst, sym, ◌∙◌}
+use Rattle.std.proofs.Common.{◌≡◌, ℕ, ◌<◌, List, Option, Some, None, refl, ap, subst, sym, ◌∙◌}
 use Rattle.std.specs.Prelude.{All, map}
 use Rattle.std.specs.Option.{option_map}
 use Rattle.base.specs.NumberMap.{NumberMap, get}
@@ -7,6 +7,8 @@ use Rattle.session_table.specs.declared.session.Session.{Session}
 use Rattle.session_table.specs.declared.waiters.Waiter.{Waiter}
 use Rattle.kernel_model.specs.Application.{Application, uuid_of}
 use Rattle.kernel_model.specs.Kernel.{PendingCall, ThreadSlot, Instance, Tables}
+use Rattle.kernel_model.specs.Sound.{unmarked}
+use Rattle.own_model.specs.Own.{Numbering}
 use Rattle.own_model.specs.Solo.{OwnCall, Solo}
 use Rattle.own_model.specs.Tied.{AreGiven, AreOf, CallsAlike, FoundAlike, HasNumber, IsOnlySession, IsOther, IsTiedCall, Tied, Whose, call_at, shown, waiting_for}
 
@@ -21,16 +23,32 @@ pub record KeepsTables (whose : Whose) (before after : Tables) : Type 0 where
   pub waiting : waiting_for whose.instance after.waiters ≡ waiting_for whose.instance before.waiters
   pub given : AreGiven whose after
 
--- a call but for its mark
-abbrev pub unmarked : PendingCall → PendingCall
-unmarked call = record call { marked = false }
-
 -- the session's calls are as they were, but for their marks, and all others are neither of the session nor on its instance
 pub record KeepsSlots (whose : Whose) (before after : List ThreadSlot) : Type 0 where
   pub calls : (slot number : ℕ) → HasNumber whose slot number →
       option_map unmarked (call_at after slot) ≡ option_map unmarked (call_at before slot)
   pub others : (slot : ℕ) (call : PendingCall) → call_at after slot ≡ Some call → get whose.numbering.in_slots slot ≡ None →
       IsOther whose call
+
+-- numbers that were given are, where the next ones are the same
+pub given_as : (whose : Whose) (before after : Tables) → after.next_session ≡ before.next_session → after.next_instance ≡ before.next_instance
+    → AreGiven whose before → AreGiven whose after
+given_as whose before after sessions instances given = record {
+  session_from_one = given.session_from_one;
+  instance_from_one = given.instance_from_one;
+  session_given = subst (λ (n : ℕ). whose.session < n) (sym sessions) given.session_given;
+  instance_given = subst (λ (n : ℕ). whose.instance < n) (sym instances) given.instance_given;
+}
+
+-- whatever the numbers of the calls are
+pub given_still : (whose : Whose) (numbering : Numbering) (tables : Tables) → AreGiven whose tables
+    → AreGiven (record whose { numbering = numbering }) tables
+given_still whose numbering tables given = record {
+  session_from_one = given.session_from_one;
+  instance_from_one = given.instance_from_one;
+  session_given = given.session_given;
+  instance_given = given.instance_given;
+}
 
 -- ---- which stay tied
 

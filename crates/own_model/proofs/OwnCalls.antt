@@ -21,7 +21,7 @@ use Rattle.kernel_model.specs.Begin.{Begun, begins_on, closing_points, session_j
 use Rattle.kernel_model.specs.Codes.{bad_parameters, success, target_dead}
 use Rattle.kernel_model.specs.Decision.{Taken}
 use Rattle.kernel_model.specs.Instances.{app_of, destroy_after, destroy_of, has_flag, held_by, is_held, is_single, keeps_alive, program_on}
-use Rattle.kernel_model.specs.Kernel.{Cancel, Ends, Free, Instance, PendingCall, Runs, SettledCall, Tables, ThreadSlot, Waits}
+use Rattle.kernel_model.specs.Kernel.{CallPhase, Cancel, Ends, Free, Instance, PendingCall, Runs, SettledCall, Tables, ThreadSlot, Waits}
 use Rattle.kernel_model.specs.NewCall.{NewCall, about_session, beginner, call_about, cancels, closes, invokes, keeps_buffers, named_session, no_copies, open_waits, opens, runs_in, settled_call, settles_invoke, settles_open, shared_by, waits_in}
 use Rattle.kernel_model.specs.NewCall as new
 use Rattle.kernel_model.specs.Sessions.{has_opened}
@@ -31,16 +31,16 @@ use Rattle.own_model.proofs.NewCalls.{OfAllEndings}
 use Rattle.own_model.proofs.NotedCalls.{not_both, noted_is, other_unnoted, same_event, untold_unnoted}
 use Rattle.own_model.proofs.OtherCalls.{less, named_parts}
 use Rattle.own_model.proofs.OwnSessions.{none_without_own}
-use Rattle.own_model.proofs.OwnTaken.{TakesOwn, instance_stays, waiters_grow, waiters_stay, with_next}
+use Rattle.own_model.proofs.OwnTaken.{Entrant, TakesOwn, instance_stays, waiters_grow, waiters_stay, with_next}
 use Rattle.own_model.specs.declared.own_event.OwnEvent.{OwnEvent}
 use Rattle.own_model.specs.declared.own_event.OwnEvent.TheVariants as event
 use Rattle.own_model.specs.declared.own_event.OwnInput.{OwnInput}
 use Rattle.own_model.specs.declared.own_event.OwnInput.TheVariants.{Copied, Faulty, Unread}
 use Rattle.own_model.specs.Own.{Notes, event_of, uuid_by}
 use Rattle.own_model.specs.Parameters.{params_of}
-use Rattle.own_model.specs.Solo.{OwnCall, OwnSession, Solo, Start, counted, fresh_call, home, invokes_with, job_of, points_of, settles, silent, start_with, step, waits, begins}
+use Rattle.own_model.specs.Solo.{OwnSession, Solo, Start, counted, fresh_call, home, invokes_with, job_of, points_of, settles, silent, start_with, step, waits, begins}
 use Rattle.own_model.specs.Solo as solo
-use Rattle.own_model.specs.Tied.{AreTiedWaiters, FoundAlike, HoldersAlike, InstancesAlike, IsOn, Tied, Whose, shown}
+use Rattle.own_model.specs.Tied.{AreTiedWaiters, FoundAlike, HoldersAlike, InstancesAlike, IsOn, PhasesAlike, Tied, Whose, shown}
 
 -- a new call where a session of this application is tied: what is known of the kernel. It has a free slot
 pub record Within (app : Application) (whose : Whose) (slots : List ThreadSlot) (z : Solo) (c : NewCall) : Type 0 where
@@ -211,6 +211,25 @@ is_on instance call kind.Settled here = tt
 no_more : 0 ≤ 0
 no_more = omega arith
 
+-- it takes its slot, in the phase that the machine's is in
+enters_so : (app : Application) (whose : Whose) (slots : List ThreadSlot) (z : Solo) (c : NewCall) (named : Session × Instance) (call_kind : CallKind) (copies : Copies)
+    (phase own_phase : CallPhase) → Within app whose slots z c → AtHome whose z c named → c.head.session ≡ whose.session
+    → ((kept : Option ℕ) → PhasesAlike kept 0 0 phase own_phase)
+    → Entrant whose slots c.slot (call_about c (about_session c call_kind named.0 named.1 copies) phase) (fresh_call call_kind own_phase)
+enters_so app whose slots z c named call_kind copies phase own_phase w h session phases = record {
+  free = w.free;
+  none = w.none;
+  alike = λ kept. record {
+    of_session = session;
+    on_instance = is_on whose.instance (call_about c (about_session c call_kind named.0 named.1 copies) phase) call_kind h.number;
+    kinds = refl;
+    seen = refl;
+    buffers = refl;
+    phases = phases kept;
+    flagged = λ no. absurd cc;
+  };
+}
+
 -- it waits
 waits_takes : (app : Application) (whose : Whose) (slots : List ThreadSlot) (z : Solo) (c : NewCall) (named : Session × Instance) (call_kind : CallKind) (copies : Copies)
     → Within app whose slots z c → AtHome whose z c named → c.head.session ≡ whose.session
@@ -219,19 +238,7 @@ waits_takes app whose slots z c named call_kind copies w h session =
     let last : Waiter = record { instance = named.0.instance; uuid = named.1.uuid; slot = c.slot } in
     record {
       own = fresh_call call_kind (Waits copies.params);
-      enters = record {
-        free = w.free;
-        none = w.none;
-        alike = λ kept. record {
-          of_session = session;
-          on_instance = is_on whose.instance (call_about c (about_session c call_kind named.0 named.1 copies) (Waits copies.params)) call_kind h.number;
-          kinds = refl;
-          seen = refl;
-          buffers = refl;
-          phases = (refl, refl);
-          flagged = λ no. absurd cc;
-        };
-      };
+      enters = enters_so app whose slots z c named call_kind copies (Waits copies.params) (Waits copies.params) w h session (λ kept. (refl, refl));
       sessions = refl;
       next_session = refl;
       next_instance = refl;
@@ -258,22 +265,10 @@ runs_takes app whose slots z c named call_kind copies points w h session same =
     let begun : Begun = begins_on (beginner c) named.0 named.1 copies.params points in
     record {
       own = fresh_call call_kind (Runs (job_of app call_kind start));
-      enters = record {
-        free = w.free;
-        none = w.none;
-        alike = λ kept. record {
-          of_session = session;
-          on_instance = is_on whose.instance (call_about c (about_session c call_kind named.0 named.1 copies) (Runs begun.job)) call_kind h.number;
-          kinds = refl;
-          seen = refl;
-          buffers = refl;
-          phases = record {
-            more = no_more;
-            after = ap (λ (j : Job). Some j) (sym (same_job app whose slots z c named call_kind copies.params points w h same));
-          };
-          flagged = λ no. absurd cc;
-        };
-      };
+      enters = enters_so app whose slots z c named call_kind copies (Runs begun.job) (Runs (job_of app call_kind start)) w h session (λ kept. record {
+        more = no_more;
+        after = ap (λ (j : Job). Some j) (sym (same_job app whose slots z c named call_kind copies.params points w h same));
+      });
       sessions = refl;
       next_session = refl;
       next_instance = refl;

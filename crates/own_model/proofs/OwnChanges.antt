@@ -12,6 +12,7 @@ use Rattle.kernel_model.specs.Kernel.{Free, Instance, PendingCall, Tables, Threa
 use Rattle.kernel_model.proofs.Parts.{set_found, set_other}
 use Rattle.own_model.proofs.InOrder.{by_numbers}
 use Rattle.own_model.proofs.Maps.{get-insert-other, get-insert-same, get-inserted, get-remove-other, get-remove-same, get-removed}
+use Rattle.own_model.proofs.Others.{given_as, given_still}
 use Rattle.own_model.proofs.OwnInterrupts.{others_stay}
 use Rattle.own_model.specs.Solo.{OwnCall, OwnSession, Solo, with_call}
 use Rattle.own_model.specs.Tied.{AreGiven, AreKeptTold, AreOf, AreTiedCalls, AreTiedWaiters, CallsAlike, FoundAlike, HasNumber, HasToldCall, HoldersAlike, IsOnlySession, IsOther, IsTiedCall, Tied, WasTold, Whose, call_at, call_in, shown, waiting_for}
@@ -146,12 +147,7 @@ call_changes app whose slots tables solo slot number wakes held now own in_it c 
   kept = kept_changes whose slots solo.calls slot number wakes now own c tied.calls tied.kept;
   alone = record { only = tied.alone.only; others = λ at call found none. other_still at call (others_stay whose slots slot number held c.has tied.alone.others at call found none) };
   entered = tied.entered;
-  given = record {
-    session_from_one = tied.given.session_from_one;
-    instance_from_one = tied.given.instance_from_one;
-    session_given = tied.given.session_given;
-    instance_given = tied.given.instance_given;
-  };
+  given = given_still whose (with_wakes whose wakes).numbering tables tied.given;
 }
   where
     other_still : (at : ℕ) (call : PendingCall) → IsOther whose call → IsOther (with_wakes whose wakes) call
@@ -278,12 +274,7 @@ call_goes app whose slots tables solo slot number before has there idle tied = r
       };
   alone = record { only = tied.alone.only; others = others_then };
   entered = tied.entered;
-  given = record {
-    session_from_one = tied.given.session_from_one;
-    instance_from_one = tied.given.instance_from_one;
-    session_given = tied.given.session_given;
-    instance_given = tied.given.instance_given;
-  };
+  given = given_still whose (without_slot whose slot).numbering (tables_left tables slot Free) (given_as whose tables _ refl refl tied.given);
 }
   where
     others_then : (at : ℕ) (call : PendingCall) → call_at (slice_set slots slot Free) at ≡ Some call → get (remove whose.numbering.in_slots slot) at ≡ None

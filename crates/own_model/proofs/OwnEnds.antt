@@ -17,6 +17,7 @@ use Rattle.kernel_model.specs.Instances.{given_back, instances_after, killed}
 use Rattle.kernel_model.specs.Kernel.{Instance, PendingCall, Tables}
 use Rattle.kernel_model.specs.Sessions.{has_opened, sessions_after, sessions_after_panic, sessions_unrun}
 use Rattle.own_model.proofs.Maps.{get-insert-same, get-inserted, get-remove-same, get-removed}
+use Rattle.own_model.proofs.Others.{given_as}
 use Rattle.own_model.proofs.OwnChanges.{TablesAlike}
 use Rattle.own_model.proofs.OwnSessions.{has_opened_own}
 use Rattle.own_model.specs.Solo.{OwnSession, instance_back, is_opened, session_ended, session_panicked, session_unrun}
@@ -196,12 +197,7 @@ back_tables app whose tables call session after instance waiting sessions is_las
       of_app = subst (λ n. AreOf whose.instance (uuid_of app) (backs n)) (sym on_instance) back.of_app;
       waiters = alike.waiters;
       only = go.only;
-      given = record {
-        session_from_one = alike.given.session_from_one;
-        instance_from_one = alike.given.instance_from_one;
-        session_given = alike.given.session_given;
-        instance_given = alike.given.instance_given;
-      };
+      given = given_as whose tables _ refl refl alike.given;
     }
 
 go_from : (app : Application) (whose : Whose) (tables : Tables) (session : Option OwnSession) (instance : Option Instance) (waiting : List ℕ)
@@ -252,10 +248,5 @@ unrun_tables app whose tables call call_kind session instance waiting of_session
       of_app = alike.of_app;
       waiters = alike.waiters;
       only = went.only;
-      given = record {
-        session_from_one = alike.given.session_from_one;
-        instance_from_one = alike.given.instance_from_one;
-        session_given = alike.given.session_given;
-        instance_given = alike.given.instance_given;
-      };
+      given = given_as whose tables _ refl refl alike.given;
     }

@@ -30,6 +30,7 @@ use Rattle.kernel_model.specs.Kernel.{Asks, CallPhase, Ends, Instance, Kernel, P
 use Rattle.kernel_model.specs.Resume.{Resumed, begins, begins_in, ends_with, goes_on, is_close, is_without_buffer, onward_in, onward_of, phase_after, phase_seen, phase_when_given, resumed_call, resumes_waiting, sees, sleeps_on, still_wakes, tested_again, who_resumes, without_waiter}
 use Rattle.own_model.proofs.InOrder.{back_works}
 use Rattle.own_model.proofs.Maps.{get-insert-same}
+use Rattle.own_model.proofs.Others.{given_as}
 use Rattle.own_model.proofs.OwnChanges.{TablesAlike, tables_tied}
 use Rattle.own_model.proofs.OwnLine.{leaves_line, line_without}
 use Rattle.own_model.proofs.OwnProgress.{OwnThere}
@@ -39,7 +40,7 @@ use Rattle.own_model.proofs.OwnWakes.{held_alike}
 use Rattle.own_model.specs.InOrder.{Fits, IsAtWork}
 use Rattle.own_model.specs.Laws.{About, SharesNone, whose_of}
 use Rattle.own_model.specs.Own.{Notes, input_of}
-use Rattle.own_model.specs.Solo.{OwnCall, OwnSession, Solo, Start, Waiting, comes_back, comes_back_in, home, is_buffer, is_no_buffer, job_of, phase_back, points_of, retests, tests_again, waits_on, wakes_back}
+use Rattle.own_model.specs.Solo.{OwnCall, OwnSession, Solo, Start, Waiting, comes_back, comes_back_in, is_buffer, is_no_buffer, job_of, phase_back, points_of, retests, tests_again, waits_on, wakes_back}
 use Rattle.own_model.specs.Solo as machine
 use Rattle.own_model.specs.Tied.{CallsAlike, FoundAlike, InstancesAlike, IsFurther, IsOn, PhasesAlike, WakesAlike, WasTold, shown}
 
@@ -222,12 +223,7 @@ module _ (boot : Booted) (about : About) (kernel : Kernel) (notes : Notes) (solo
       of_app = alike.of_app;
       waiters = leaves_line (whose_of about.session about.instance notes) slot number h.has h.tied.calls.apart about.app tables.waiters solo.waiting alike.waiters;
       only = alike.only;
-      given = record {
-        session_from_one = alike.given.session_from_one;
-        instance_from_one = alike.given.instance_from_one;
-        session_given = alike.given.session_given;
-        instance_given = alike.given.instance_given;
-      };
+      given = given_as (whose_of about.session about.instance notes) tables _ refl refl alike.given;
     }
 
     gives_up_so : (code : ℕ) → Back (ends_with resumed code) (machine.gives_up then_machine number own_now code)
@@ -314,12 +310,7 @@ module _ (boot : Booted) (about : About) (kernel : Kernel) (notes : Notes) (solo
             (held_by slot kept) h.tied.of_app (λ _. of_app);
         waiters = same_tables.waiters;
         only = same_tables.only;
-        given = record {
-          session_from_one = h.tied.given.session_from_one;
-          instance_from_one = h.tied.given.instance_from_one;
-          session_given = h.tied.given.session_given;
-          instance_given = h.tied.given.instance_given;
-        };
+        given = given_as (whose_of about.session about.instance notes) kernel.tables _ refl refl h.tied.given;
       }
 
       further_alike : (job other : Job) → job ≡ other → PhasesAlike (get notes.numbering.wakes slot) resumed.call.steps own_now.steps (Runs job) (Runs other)

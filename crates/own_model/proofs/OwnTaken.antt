@@ -14,9 +14,10 @@ use Rattle.kernel_model.specs.Kernel.{Active, Cancel, Free, Instance, Kernel, Pe
 use Rattle.kernel_model.proofs.Parts.{set_found, set_other}
 use Rattle.own_model.proofs.Lookups.{same_number}
 use Rattle.own_model.proofs.Maps.{get-insert-other, get-insert-same, get-inserted}
-use Rattle.own_model.proofs.OtherCalls.{given_as, less}
+use Rattle.own_model.proofs.OtherCalls.{less}
 use Rattle.own_model.proofs.OtherEntries.{cancels_keep, cancels_mark}
-use Rattle.own_model.proofs.Others.{call_tied, unmarked}
+use Rattle.kernel_model.specs.Sound.{unmarked}
+use Rattle.own_model.proofs.Others.{call_tied, given_as, given_still}
 use Rattle.own_model.specs.declared.own_event.OwnEvent.{OwnEvent}
 use Rattle.own_model.specs.declared.own_reply.OwnReply.{OwnReply}
 use Rattle.own_model.specs.Laws.{About, AreTied, GoesAlong, whose_of}
@@ -267,7 +268,6 @@ pub own_taken : (about : About) (kernel : Kernel) (visit : Visit) (notes : Notes
 own_taken about kernel visit notes solo then slot taken came tied steps takes =
     let whose : Whose = whose_of about.session about.instance notes in
     let slots : List ThreadSlot = slice_set (cancelled_slots kernel.slots taken.cancels) slot (Active visit.cpu taken.call) in
-    let given = given_as whose kernel.tables taken.tables takes.next_session takes.next_instance tied.given in
     let calls : AreTiedCalls (with_next whose slot) slots (insert solo.calls notes.numbering.entered takes.own) =
     calls_taken whose kernel.slots taken.cancels slot visit.cpu solo.calls taken.call takes.own takes.enters tied.calls in
     record {
@@ -289,11 +289,7 @@ own_taken about kernel visit notes solo then slot taken came tied steps takes =
           others = others_taken whose kernel.slots taken.cancels slot (Active visit.cpu taken.call) tied.alone.others;
         };
         entered = ap (λ n. n + 1) tied.entered ∙ sym takes.entered;
-        given = record {
-          session_from_one = given.session_from_one;
-          instance_from_one = given.instance_from_one;
-          session_given = given.session_given;
-          instance_given = given.instance_given;
-        };
+        given = given_still whose (next_in whose.numbering slot) taken.tables
+            (given_as whose kernel.tables taken.tables takes.next_session takes.next_instance tied.given);
       };
     }
