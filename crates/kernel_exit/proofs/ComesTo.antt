@@ -1,12 +1,12 @@
 -- What a call comes to is what the kernel's comes to.
-use Rattle.std.proofs.Common.{◌≡◌, ℕ, ◌+◌, Bool, true, false, List, [], Option, Some, None, refl, sym, ap, ap₂, subst, ◌∙◌}
+use Rattle.std.proofs.Common.{◌≡◌, ℕ, ◌+◌, true, List, [], Option, Some, None, refl, sym, ap, subst, ◌∙◌}
 use Rattle.std.specs.Prelude.{IsSomeAnd}
 use Rattle.std.specs.Option.{option_and_then}
 use Rattle.job_model.specs.Job.{Job, of_tee}
 use Rattle.job_model.specs.Steps.{End, Grant, Left, Stopped, grant_of}
 use Rattle.job_model.specs.Steps as job
-use Rattle.kernel_model.specs.Exit.{after_grant, after_stop, progress_in, tables_after_end, tables_after_panic, tables_unrun, woken_by}
-use Rattle.kernel_model.specs.Kernel.{CallPhase, Runs, Asks, Waits, Ends, PendingCall, Progress, Tables}
+use Rattle.kernel_model.specs.Exit.{after_grant, tables_after_end, tables_after_panic, woken_by}
+use Rattle.kernel_model.specs.Kernel.{CallPhase, Runs, Asks, Ends, PendingCall, Tables}
 use Rattle.kernel_state.specs.Calls.{IsAppOf, IsCall, IsInPhase, bytes_of, woken_slot}
 use Rattle.kernel_state.specs.Tables.{tables_of}
 use Rattle.kernel_state.specs.Work.{HasRun}
@@ -24,7 +24,7 @@ use Rattle.ta_params.specs.declared.copied_params.CopiedParams.{CopiedParams}
 use Rattle.base.specs.NumberMap.{NumberMap}
 use Rattle.tee_storage.specs.declared.handle.Handle.{Handle}
 use Rattle.job_model.specs.Point.{no_params}
-use Rattle.kernel_exit.specs.Ending.{ComesOfGrant, ComesOfRest, HasComeTo, IsAtRest, IsOf}
+use Rattle.kernel_exit.specs.Ending.{ComesOfGrant, HasComeTo, IsOf}
 
 -- what is said of a call stays
 pub record Keeps (before after : Cont (List ℕ)) : Type 0 where
@@ -105,40 +105,75 @@ granted before call its steps P is at so =
     let here : IsInPhase before (Runs its) = subst (λ (phase : CallPhase). IsInPhase before phase) at is.phase in
     subst (λ (j : Job). IsSomeAnd (grant_of steps j) P) (sym here.0) so
 
+-- what comes of each grant that the call's job can have had is what comes of the grant
+by_grant : (tables : Tables) (ran shown : Cont (List ℕ)) (new : CoreTables) (why : ContStop) →
+    ((before : Cont (List ℕ)) (call : PendingCall) (steps : ℕ) → IsCall before call → HasRun steps before ran why → (grant : Grant) →
+    IsAdvance bytes_of ran.app ran before.steps steps grant why → HasComeTo (after_grant tables call steps grant) shown new) →
+    ComesOfGrant tables ran why shown new
+by_grant tables ran shown new why comes before call its steps is at run =
+    granted before call its steps (λ grant. HasComeTo (after_grant tables call steps grant) shown new) is at
+    (some_weaker (grant_of steps (job_of bytes_of before)) _ (λ grant. HasComeTo (after_grant tables call steps grant) shown new)
+    (comes before call steps is run) run.advances)
+
 -- ---- by why it stopped
 
 -- its steps are used
 pub left_so : (tables : CoreTables) (ran : Cont (List ℕ)) → ComesOfGrant (tables_of tables) ran stop.Interrupted ran tables
-left_so tables ran before call its steps is at run =
-    granted before call its steps (λ grant. HasComeTo (after_grant (tables_of tables) call steps grant) ran tables) is at
-    (some_weaker (grant_of steps (job_of bytes_of before)) _ (λ grant. HasComeTo (after_grant (tables_of tables) call steps grant) ran tables) by run.advances)
+left_so tables ran = by_grant (tables_of tables) ran ran tables stop.Interrupted by
   where
-    by : (grant : Grant) → IsAdvance bytes_of ran.app ran before.steps steps grant stop.Interrupted →
+    by : (before : Cont (List ℕ)) (call : PendingCall) (steps : ℕ) → IsCall before call → HasRun steps before ran stop.Interrupted →
+        (grant : Grant) → IsAdvance bytes_of ran.app ran before.steps steps grant stop.Interrupted →
         HasComeTo (after_grant (tables_of tables) call steps grant) ran tables
-    by (Left left) so = record {
+    by before call steps is run (Left left) so = record {
       call = still before ran call (call.steps + steps) (Runs left) (kept_by_run steps before ran stop.Interrupted run) is
           (so.3 ∙ ap (λ n. n + steps) is.steps) (so.1, record { phase = run.phase; runs = so.2 });
       with = refl;
     }
-    by (Stopped used (job.Ends end)) so = absurd (cc (so.0.0))
-    by (Stopped used (job.Panics code)) so = absurd (cc (so.0.0))
-    by (Stopped used (job.Asks wanted payload left)) so = absurd (cc (so.0.0))
+    by before call steps is run (Stopped used (job.Ends end)) so = absurd (cc (so.0.0))
+    by before call steps is run (Stopped used (job.Panics code)) so = absurd (cc (so.0.0))
+    by before call steps is run (Stopped used (job.Asks wanted payload left)) so = absurd (cc (so.0.0))
 
 -- it asks for something
 pub asks_so : (tables : CoreTables) (ran : Cont (List ℕ)) → ComesOfGrant (tables_of tables) ran stop.Asks ran tables
-asks_so tables ran before call its steps is at run =
-    granted before call its steps (λ grant. HasComeTo (after_grant (tables_of tables) call steps grant) ran tables) is at
-    (some_weaker (grant_of steps (job_of bytes_of before)) _ (λ grant. HasComeTo (after_grant (tables_of tables) call steps grant) ran tables) by run.advances)
+asks_so tables ran = by_grant (tables_of tables) ran ran tables stop.Asks by
   where
-    by : (grant : Grant) → IsAdvance bytes_of ran.app ran before.steps steps grant stop.Asks →
+    by : (before : Cont (List ℕ)) (call : PendingCall) (steps : ℕ) → IsCall before call → HasRun steps before ran stop.Asks →
+        (grant : Grant) → IsAdvance bytes_of ran.app ran before.steps steps grant stop.Asks →
         HasComeTo (after_grant (tables_of tables) call steps grant) ran tables
-    by (Left left) so = absurd (cc (so.0))
-    by (Stopped used (job.Ends end)) so = absurd (cc (so.0.0))
-    by (Stopped used (job.Panics code)) so = absurd (cc (so.0.0))
-    by (Stopped used (job.Asks wanted payload left)) so = record {
+    by before call steps is run (Left left) so = absurd (cc (so.0))
+    by before call steps is run (Stopped used (job.Ends end)) so = absurd (cc (so.0.0))
+    by before call steps is run (Stopped used (job.Panics code)) so = absurd (cc (so.0.0))
+    by before call steps is run (Stopped used (job.Asks wanted payload left)) so = record {
       call = still before ran call (call.steps + used) (Asks left wanted payload) (kept_by_run steps before ran stop.Asks run) is
           (so.1 ∙ ap (λ n. n + used) is.steps) (run.phase, so.0.1, run.asks refl);
       with = refl;
+    }
+
+-- it shows this result, with these tables
+result_so : (before ran shown : Cont (List ℕ)) (call : PendingCall) (steps used : ℕ) (why : ContStop) (new : CoreTables) (its : Tables)
+    (result : CallResult) (params : CopiedParams) → IsCall before call → HasRun steps before ran why → ran.steps ≡ before.steps + used →
+    tables_of new ≡ its → Shows ran shown (tables_of new) → phase_after why ≡ phase.Ends → ran.result ≡ result →
+    kept_params shown.params ≡ params →
+    HasComeTo (record {
+      call = record call { steps = call.steps + used; phase = Ends result params true (woken_by its call call.kind) };
+      tables = its;
+    }) shown new
+result_so before ran shown call steps used why new its result params is run did with shows at answer left =
+    let keeps = kept_by_run steps before ran why run in
+    let wakes : option_and_then (λ (asked : Asked). woken_slot asked.rpc) shown.request ≡ woken_by its call call.kind =
+    shows.wakes call (is_of before ran call keeps is) ∙ ap (λ (t : Tables). woken_by t call call.kind) with in
+    record {
+      call = still before shown call (call.steps + used) (Ends result params true (woken_by its call call.kind))
+          (both before ran shown keeps shows.keeps) is
+          (shows.steps ∙ did ∙ ap (λ n. n + used) is.steps)
+          (record {
+            phase = shows.phase ∙ run.phase ∙ at;
+            result = shows.result ∙ answer;
+            params = left;
+            told = shows.told;
+            wakes = wakes;
+          });
+      with = with;
     }
 
 -- it has ended
@@ -146,68 +181,37 @@ pub ended_so : (tables : Tables) (ran shown : Cont (List ℕ)) (new : CoreTables
     why ≡ stop.Ended result → shown.params ≡ ran.params →
     ((call : PendingCall) → IsOf ran call → tables_of new ≡ tables_after_end tables call (end_left bytes_of ran)) →
     Shows ran shown (tables_of new) → ComesOfGrant tables ran why shown new
-ended_so tables ran shown new why result is_end params after shows before call its steps is at run =
-    granted before call its steps (λ grant. HasComeTo (after_grant tables call steps grant) shown new) is at
-    (some_weaker (grant_of steps (job_of bytes_of before)) _ (λ grant. HasComeTo (after_grant tables call steps grant) shown new) by run.advances)
+ended_so tables ran shown new why result is_end params after shows = by_grant tables ran shown new why by
   where
-    by : (grant : Grant) → IsAdvance bytes_of ran.app ran before.steps steps grant why →
+    by : (before : Cont (List ℕ)) (call : PendingCall) (steps : ℕ) → IsCall before call → HasRun steps before ran why →
+        (grant : Grant) → IsAdvance bytes_of ran.app ran before.steps steps grant why →
         HasComeTo (after_grant tables call steps grant) shown new
-    by (Left left) so = let other = so.0 in absurd (cc)
-    by (Stopped used (job.Panics code)) so = let other = so.0.0 in absurd (cc)
-    by (Stopped used (job.Asks wanted payload left)) so = let other = so.0.0 in absurd (cc)
-    by (Stopped used (job.Ends end)) so =
-        let keeps = kept_by_run steps before ran why run in
-        let of = is_of before ran call keeps is in
-        let with : tables_of new ≡ tables_after_end tables call end = after call of ∙ ap (λ (e : End). tables_after_end tables call e) (sym so.0.1) in
-        let wakes : option_and_then (λ (asked : Asked). woken_slot asked.rpc) shown.request ≡ woken_by (tables_after_end tables call end) call call.kind =
-        shows.wakes call of ∙ ap (λ (t : Tables). woken_by t call call.kind) with in
-        record {
-          call = still before shown call (call.steps + used) (Ends end.result end.params true (woken_by (tables_after_end tables call end) call call.kind))
-              (both before ran shown keeps shows.keeps) is
-              (shows.steps ∙ so.1 ∙ ap (λ n. n + used) is.steps)
-              (record {
-                phase = shows.phase ∙ run.phase ∙ ap phase_after is_end;
-                result = shows.result ∙ sym (ap (λ (e : End). e.result) so.0.1);
-                params = ap kept_params params ∙ sym (ap (λ (e : End). e.params) so.0.1);
-                told = shows.told;
-                wakes = wakes;
-              });
-          with = with;
-        }
+    by before call steps is run (Left left) so = let other = so.0 in absurd (cc)
+    by before call steps is run (Stopped used (job.Panics code)) so = let other = so.0.0 in absurd (cc)
+    by before call steps is run (Stopped used (job.Asks wanted payload left)) so = let other = so.0.0 in absurd (cc)
+    by before call steps is run (Stopped used (job.Ends end)) so =
+        let of = is_of before ran call (kept_by_run steps before ran why run) is in
+        result_so before ran shown call steps used why new (tables_after_end tables call end) end.result end.params is run so.1
+        (after call of ∙ ap (λ (e : End). tables_after_end tables call e) (sym so.0.1)) shows (ap phase_after is_end)
+        (sym (ap (λ (e : End). e.result) so.0.1)) (ap kept_params params ∙ sym (ap (λ (e : End). e.params) so.0.1))
 
 -- it has panicked
 pub panicked_so : (tables : Tables) (ran shown : Cont (List ℕ)) (new : CoreTables) (why : ContStop) (code : ℕ) →
     why ≡ stop.Panicked code → shown.params ≡ None →
     ((call : PendingCall) → IsOf ran call → tables_of new ≡ tables_after_panic tables call) →
     Shows ran shown (tables_of new) → ComesOfGrant tables ran why shown new
-panicked_so tables ran shown new why code is_panic params after shows before call its steps is at run =
-    granted before call its steps (λ grant. HasComeTo (after_grant tables call steps grant) shown new) is at
-    (some_weaker (grant_of steps (job_of bytes_of before)) _ (λ grant. HasComeTo (after_grant tables call steps grant) shown new) by run.advances)
+panicked_so tables ran shown new why code is_panic params after shows = by_grant tables ran shown new why by
   where
-    by : (grant : Grant) → IsAdvance bytes_of ran.app ran before.steps steps grant why →
+    by : (before : Cont (List ℕ)) (call : PendingCall) (steps : ℕ) → IsCall before call → HasRun steps before ran why →
+        (grant : Grant) → IsAdvance bytes_of ran.app ran before.steps steps grant why →
         HasComeTo (after_grant tables call steps grant) shown new
-    by (Left left) so = let other = so.0 in absurd (cc)
-    by (Stopped used (job.Ends end)) so = let other = so.0.0 in absurd (cc)
-    by (Stopped used (job.Asks wanted payload left)) so = let other = so.0.0 in absurd (cc)
-    by (Stopped used (job.Panics by_code)) so =
-        let keeps = kept_by_run steps before ran why run in
-        let of = is_of before ran call keeps is in
-        let with : tables_of new ≡ tables_after_panic tables call = after call of in
-        let wakes : option_and_then (λ (asked : Asked). woken_slot asked.rpc) shown.request ≡ woken_by (tables_after_panic tables call) call call.kind =
-        shows.wakes call of ∙ ap (λ (t : Tables). woken_by t call call.kind) with in
-        record {
-          call = still before shown call (call.steps + used) (Ends (of_tee 0xffff3024) no_params true (woken_by (tables_after_panic tables call) call call.kind))
-              (both before ran shown keeps shows.keeps) is
-              (shows.steps ∙ so.1 ∙ ap (λ n. n + used) is.steps)
-              (record {
-                phase = shows.phase ∙ run.phase ∙ ap phase_after is_panic;
-                result = shows.result ∙ so.0.1;
-                params = ap kept_params params;
-                told = shows.told;
-                wakes = wakes;
-              });
-          with = with;
-        }
+    by before call steps is run (Left left) so = let other = so.0 in absurd (cc)
+    by before call steps is run (Stopped used (job.Ends end)) so = let other = so.0.0 in absurd (cc)
+    by before call steps is run (Stopped used (job.Asks wanted payload left)) so = let other = so.0.0 in absurd (cc)
+    by before call steps is run (Stopped used (job.Panics by_code)) so =
+        result_so before ran shown call steps used why new (tables_after_panic tables call) (of_tee 0xffff3024) no_params is run so.1
+        (after call (is_of before ran call (kept_by_run steps before ran why run) is)) shows (ap phase_after is_panic) so.0.1
+        (ap kept_params params)
 
 -- ---- what is shown
 
