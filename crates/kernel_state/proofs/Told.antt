@@ -30,7 +30,6 @@ use Rattle.kernel_state.specs.Reads.{ReadsAgree}
 use Rattle.kernel_state.specs.Replay.{Replays}
 use Rattle.kernel_state.specs.StandsFor.{AreSlots, IsSlot, StandsFor}
 use Rattle.kernel_state.specs.Setup.{boot_of, booted_with, natives_of}
-use Rattle.kernel_state.specs.Tables.{tables_of}
 use Rattle.kernel_state.specs.declared.cancellation.Cancellation.{Cancellation}
 use Rattle.kernel_state.specs.declared.parts.Parts.{Parts}
 use Rattle.kernel_state.specs.declared.processor.Processor.{Processor}
@@ -71,19 +70,13 @@ agree_prop (Exit cpu regs) = Prim.hlevel props
 pub reads_agree : (parts : Parts) → ∥ Replays parts ∥₁ → AllByRecursion ReadsAgree parts.journal.events
 reads_agree parts fact = ∥∥₁_elim fact (AllByRecursion-prop ReadsAgree agree_prop parts.journal.events) (λ (so : Replays parts). so.agree)
 
--- ---- numbers
+-- ---- what is asked of the kernel
 
 -- what is asked of the kernel, where each that the parts stand for answers so
-number_told : (parts : Parts) (ask : Kernel → ℕ) (answer : ℕ) →
+answer_told : {A : Type 0} → IsSet A → (parts : Parts) (ask : Kernel → A) (answer : A) →
     ((kernel : Kernel) → StandsFor parts kernel → ask kernel ≡ answer) → ∥ Replays parts ∥₁ →
     option_map ask (kernel_after (booted_with parts.setup) parts.journal.events) ≡ Some answer
-number_told parts ask answer tells fact = ∥∥₁_elim fact (Prim.hlevel props) (λ (so : Replays parts).
-    ap (option_map ask) so.comes_to ∙ ap Some (tells so.kernel so.stands))
-
-test_told : (parts : Parts) (ask : Kernel → Bool) (answer : Bool) →
-    ((kernel : Kernel) → StandsFor parts kernel → ask kernel ≡ answer) → ∥ Replays parts ∥₁ →
-    option_map ask (kernel_after (booted_with parts.setup) parts.journal.events) ≡ Some answer
-test_told parts ask answer tells fact = ∥∥₁_elim fact (Prim.hlevel props) (λ (so : Replays parts).
+answer_told is_set parts ask answer tells fact = ∥∥₁_elim fact (Prim.hlevel (props, is_set)) (λ (so : Replays parts).
     ap (option_map ask) so.comes_to ∙ ap Some (tells so.kernel so.stands))
 
 -- ---- slots
@@ -116,14 +109,14 @@ as_many_free (s ∷ ss) (b ∷ bs) (h ∷ hs) are =
 
 pub free_slots_told : (parts : Parts) (free : ℕ) → free ≡ count_by is_free parts.slots → ∥ Replays parts ∥₁ →
     option_map free_slots_in (kernel_after (booted_with parts.setup) parts.journal.events) ≡ Some free
-free_slots_told parts free is = number_told parts free_slots_in free (λ kernel stands.
+free_slots_told parts free is = answer_told (Prim.hlevel props) parts free_slots_in free (λ kernel stands.
     as_many_free parts.slots parts.cancellations.items kernel.slots stands.slots ∙ sym is)
 
 -- ---- pages
 
 pub free_pages_told : (parts : Parts) (free : ℕ) → free ≡ parts.tables.pool.free → ∥ Replays parts ∥₁ →
     option_map (free_pages_in (booted_with parts.setup)) (kernel_after (booted_with parts.setup) parts.journal.events) ≡ Some free
-free_pages_told parts free is = number_told parts (free_pages_in (booted_with parts.setup)) free (λ kernel stands.
+free_pages_told parts free is = answer_told (Prim.hlevel props) parts (free_pages_in (booted_with parts.setup)) free (λ kernel stands.
     sym (ap (λ (tables : model.Tables). free_pages (booted_with parts.setup) tables.instances) stands.tables) ∙ sym stands.pages.free ∙ sym is)
 
 -- ---- processors
@@ -134,7 +127,7 @@ found_told : (parts : Parts) (cpu : ℕ) (found : Option Processor) (answer : Bo
     option_map_or (λ (processor : model.Processor). not (is_outside processor)) (option_map processor_of found) false ≡ answer →
     ∥ Replays parts ∥₁ →
     option_map (is_inside cpu) (kernel_after (booted_with parts.setup) parts.journal.events) ≡ Some answer
-found_told parts cpu found answer is so = test_told parts (is_inside cpu) answer (λ kernel stands.
+found_told parts cpu found answer is so = answer_told (Prim.hlevel props) parts (is_inside cpu) answer (λ kernel stands.
     ap (λ (processors : List model.Processor). option_map_or (λ (processor : model.Processor). not (is_outside processor)) (slice_get processors cpu) false) (sym stands.processors)
     ∙ ap (λ (one : Option model.Processor). option_map_or (λ (processor : model.Processor). not (is_outside processor)) one false)
     (slice_get-map processor_of parts.processors.items cpu ∙ ap (option_map processor_of) is)
