@@ -6,3 +6,4 @@ pub mod Advancing
 pub mod Answering
 pub mod Resuming
 pub mod Examples
+pub mod Shapes

@@ -8,6 +8,7 @@ ghost use Rattle.rpc_cont.specs.Advancing.{CanAdvance, CanRun, IsAdvance, phase_
 ghost use Rattle.rpc_cont.specs.Answering.{CanBeAnswered};
 ghost use Rattle.rpc_cont.specs.Conts.{job_at, job_for, job_of, job_with, kept_params, memory_size};
 ghost use Rattle.rpc_cont.specs.Running.{IsIdle, IsRun, IsRunning, IsTurn, worked};
+ghost use Rattle.rpc_cont.specs.Shapes.{IsShaped};
 ghost use Rattle.ta_isa.specs.Spelling.{IsValid};
 ghost use Rattle.ta_step.specs.Machine.{state_of};
 ghost use Rattle.ta_step.specs.Requests.{NamesRange};
@@ -48,6 +49,7 @@ impl<M: TaMemory + Drop> Cont<M> {
             (λ grant. IsAdvance M.bytes self.new.app self.new self.old.steps steps grant result) }
         ensures asks { result ≡ ContStop.Asks → CanBeAnswered M.bytes self.new }
         ensures phase { self.new.phase ≡ phase_after result }
+        ensures shape { IsShaped M.bytes self.new }
         ensures size { memory_size M.bytes self.new ≡ memory_size M.bytes self.old }
         ensures stays { self.new ≡ record (worked self.old self.new) { steps = self.new.steps; phase = self.new.phase } }
     {

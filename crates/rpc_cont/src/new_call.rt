@@ -9,6 +9,7 @@ ghost use Rattle.rpc_cont.specs.Advancing.{CanAdvance, IsInvoke};
 ghost use Rattle.rpc_cont.specs.Beginning.{HasValidImage, IsEntered, IsFresh, beginning_on, destroy_where, held_uuid, opening_points};
 ghost use Rattle.tee_storage.specs.declared.handle.Handle.{Handle as AnyHandle};
 ghost use Rattle.rpc_cont.specs.Conts.{job_of, job_with, kept_params, memory_size, native_body};
+ghost use Rattle.rpc_cont.specs.Shapes.{IsShaped};
 
 use crate::app::ContApp;
 use crate::call_entry::CallEntry;
@@ -63,6 +64,7 @@ impl<M: TaMemory + Drop> Cont<M> {
         ensures params { result.params ≡ entered.params }
         ensures outcome { result.result ≡ outcome }
         ensures phase { result.phase ≡ Phase.Ends }
+        ensures shape { IsShaped M.bytes result }
     {
         Cont::fresh(entered, outcome, Phase::Ends)
     }
@@ -76,6 +78,7 @@ impl<M: TaMemory + Drop> Cont<M> {
         ensures job { (uuid : List ℕ) (objects : NumberMap AnyHandle) → record (job_with Nothing uuid result) { objects = objects }
             ≡ idle_job uuid entered.login entered.context objects (kept_params entered.params) }
         ensures phase { result.phase ≡ Phase.Waits }
+        ensures shape { IsShaped M.bytes result }
     {
         let success = CallResult {
             result: TEE_SUCCESS,
@@ -128,6 +131,7 @@ impl<M: TaMemory + Drop> Cont<M> {
             (idle_job (held_uuid held) entered.login entered.context objects (kept_params entered.params))
             (opening_points around.makes around.unmakes) }
         ensures runs { CanAdvance M.bytes result }
+        ensures shape { IsShaped M.bytes result }
         ensures entered { IsEntered entered result }
     {
         Cont::begun(entered, held, objects, opening_points(around))
@@ -140,6 +144,7 @@ impl<M: TaMemory + Drop> Cont<M> {
             (idle_job (held_uuid held) entered.login entered.context objects (kept_params entered.params))
             (EntryPoint.Invoke func ∷ []) }
         ensures runs { CanAdvance M.bytes result }
+        ensures shape { IsShaped M.bytes result }
         ensures entered { IsEntered entered result }
     {
         Cont::begun(
@@ -157,6 +162,7 @@ impl<M: TaMemory + Drop> Cont<M> {
             (idle_job (held_uuid held) entered.login entered.context objects (kept_params entered.params))
             (EntryPoint.Close ∷ destroy_where unmakes) }
         ensures runs { CanAdvance M.bytes result }
+        ensures shape { IsShaped M.bytes result }
         ensures entered { IsEntered entered result }
     {
         Cont::begun(
@@ -179,6 +185,7 @@ impl<M: TaMemory + Drop> Cont<M> {
             (idle_job (held_uuid held) entered.login entered.context objects (kept_params entered.params))
             (points.0 ∷ points.1.items) }
         ensures runs { CanAdvance M.bytes result }
+        ensures shape { IsShaped M.bytes result }
         ensures entered { IsEntered entered result }
     {
         let mut cont = Cont::waiting(entered);
@@ -200,6 +207,7 @@ impl<M: TaMemory + Drop> Cont<M> {
         ensures begins { job_of M.bytes self.new ≡ begun_job (beginning_on M.bytes held self.old.cancelled)
             (record (job_with Nothing (held_uuid held) self.old) { objects = objects }) (first ∷ behind.items) }
         ensures runs { CanAdvance M.bytes self.new }
+        ensures shape { IsShaped M.bytes self.new }
         ensures size { memory_size M.bytes self.new ≡ length (beginning_on M.bytes held self.old.cancelled).memory }
         ensures stays { self.new ≡ record self.old {
           app = self.new.app;

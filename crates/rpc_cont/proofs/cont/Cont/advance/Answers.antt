@@ -1,6 +1,7 @@
 use Rattle.std.proofs.Common.{Option, subst, sym}
 use Rattle.rpc_cont.specs.Advancing.{CanRun}
 use Rattle.rpc_cont.proofs.Pending.{advance-image, advance-pending}
+use Rattle.rpc_cont.proofs.Shaped.{shaped-after}
 use Rattle.rpc_cont.proofs.cont.Cont.advance.Goals as goal
 
 pub returns-clause-asks : goal.returns-clause-asks
@@ -18,3 +19,8 @@ returns-clause-asks g c asks =
       image = advance-image bytes app before new c.args.steps answer can_before c.advance_as-stop.ensures.advances asks;
       pending = record { point = waits.point; memory = waits.memory; request = waits.request; machine = waits.machine };
     }
+
+pub returns-clause-shape : goal.returns-clause-shape
+returns-clause-shape g c =
+    shaped-after g.M.TaMemory.bytes c.take-app.result c.advance_as-stop.new.self c.args.self.now.steps c.args.steps _
+    c.advance_as-stop.result _ c.phase-self.ensures c.advance_as-stop.ensures.advances (returns-clause-asks g c)
