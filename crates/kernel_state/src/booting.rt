@@ -10,6 +10,7 @@ ghost use Rattle.kernel_state.specs.declared.boot_fault.BootFault.TheVariants.{R
 ghost use Rattle.kernel_state.specs.declared.processor.Processor.TheVariants.{Outside};
 ghost use Rattle.native_tas.specs.Table.{entries};
 ghost use Rattle.ta_isa.specs.Boots.{IsBoot};
+ghost use Rattle.thread_slots.specs.declared.slot.Slot.TheVariants.{Free};
 
 use crate::boot_fault::BootFault;
 use crate::cancellation::Cancellation;
@@ -22,8 +23,9 @@ use crate::shared_app::SharedApp;
 use crate::tables::Tables;
 use base::{NoMemory, Sequence};
 use event_journal::Journal;
-use frame_pool::Pool;
+use frame_pool::{Pages, Pool};
 use native_tas::Natives;
+use rpc_cont::Cont;
 use session_table::{Sessions, Waiters};
 use shm_registry::Registry;
 use std::alloc::Global;
@@ -55,6 +57,15 @@ fn shared_apps(alloc: Global, apps: Sequence<App>) -> Result<Sequence<SharedApp>
         shared.push(SharedApp { uuid, image })?;
     }
     Ok(Sequence::of(shared))
+}
+
+/// So many free slots.
+fn free_slots(alloc: Global, threads: u8) -> Result<Slots<Box<Cont<Pages>>>, NoMemory>
+    requires some { 0 < threads }
+    requires few { threads ≤ 16 }
+    ensures { IfOk result (λ slots. slots ≡ replicate threads Free) }
+{
+    Slots::new(alloc, threads)
 }
 
 /// What stands beside so many free slots.
@@ -115,7 +126,7 @@ fn first_parts(alloc: Global, boot: Boot, natives: &Natives) -> Result<Parts, No
             apps: shared_apps(alloc, apps)?,
             natives: Sequence::of(natives.apps(alloc)?),
         },
-        slots: Slots::new(alloc, threads)?,
+        slots: free_slots(alloc, threads)?,
         cancellations: free_cancellations(alloc, threads)?,
         processors: outside_processors(alloc, cpus)?,
         tables: first_tables(alloc, frames)?,
