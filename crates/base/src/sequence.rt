@@ -31,12 +31,14 @@ impl<T> Sequence<T> {
         elements
     }
 
+    /// The elements, lent to read.
     pub fn as_slice(&self) -> &[T]
         ensures { result.now ≡ self.now }
     {
         self.elements.as_slice()
     }
 
+    /// How many elements there are.
     pub fn len(&self) -> usize
         ensures { result ≡ length self.now }
     {

@@ -49,12 +49,14 @@ impl<T: Logged> Turn<T> {
     ghost use Rattle.std.specs.Borrow.{sem};
     ghost use Rattle.core_lock.specs.Lending.{LendsValue};
 
+    /// The value, lent to read.
     pub fn value(&self) -> &T
         ensures { result.now ≡ self.now.value }
     {
         &self.value
     }
 
+    /// The value, lent to change: what is put there is the value afterwards.
     pub fn value_mut(&mut self) -> &mut T
         ensures* writes_back { sem 𝓛 (LendsValue T.row T.Entry.row T.Basis.row self.entry result) }
         ensures value { result.now ≡ self.old.value }

@@ -47,6 +47,7 @@ impl Journal {
         self.events.len() as u64
     }
 
+    /// No event has come yet.
     pub fn is_empty(&self) -> bool
         ensures { IsTrue result ↔ (self.now.events ≡ []) }
     {

@@ -16,6 +16,7 @@ pub enum Errand {
 /// A processor.
 #[derive(Clone, Copy, Debug, PartialEq, Eq)]
 pub enum Processor {
+    /// It runs the normal world.
     Outside,
     /// It came in with these registers, and is granted so many steps.
     Inside {
@@ -26,6 +27,7 @@ pub enum Processor {
 }
 
 impl Processor {
+    /// It has come in, and has not gone out since.
     pub fn is_inside(&self) -> bool
         ensures { result ≡ not (is_outside (processor_of self.now)) }
     {

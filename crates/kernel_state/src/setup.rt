@@ -63,6 +63,7 @@ impl Setup {
 }
 
 impl Application {
+    /// The UUID that opens name it by.
     pub fn uuid(&self) -> Uuid
         ensures { result ≡ uuid_of (application_of self.now) }
     {

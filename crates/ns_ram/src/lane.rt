@@ -7,8 +7,8 @@ use base::NoMemory;
 use std::alloc::Global;
 use std::marker::Model;
 
-/// The RAM that one processor sees, which contracts see as the list of its RAM_BYTES bytes. Addresses are
-/// physical ones: the first byte stands at RAM_START.
+/// The RAM that one processor sees, and that processor alone: each has a lane of its own. Contracts see the list of its
+/// RAM_BYTES bytes. Addresses are physical ones: the first byte stands at RAM_START.
 #[derive(Drop)]
 pub struct Lane {
     bytes: Vec<u8>,

@@ -49,6 +49,7 @@ impl Reads {
         list
     }
 
+    /// The reads in their order, lent to read.
     pub fn as_slice(&self) -> &[Read]
         ensures { result.now ≡ self.now }
     {
@@ -62,6 +63,7 @@ impl Reads {
         self.list.len()
     }
 
+    /// No read is listed.
     pub fn is_empty(&self) -> bool
         ensures { IsTrue result ↔ (self.now ≡ []) }
     {

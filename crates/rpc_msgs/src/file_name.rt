@@ -48,6 +48,7 @@ impl FileName {
         Ok(FileName { bytes: name })
     }
 
+    /// Its bytes: at most 161, each of ASCII.
     pub fn bytes(&self) -> &[u8]
         ensures bytes { result.now ≡ self.now }
         ensures name { IsFileName self.now }

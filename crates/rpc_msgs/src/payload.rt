@@ -45,6 +45,7 @@ impl Payload {
         }
     }
 
+    /// Its bytes: at most 3584.
     pub fn bytes(&self) -> &[u8]
         ensures bytes { result.now ≡ self.now }
         ensures few { length result.now ≤ 3584 }

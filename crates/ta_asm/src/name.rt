@@ -15,12 +15,14 @@ impl<'a> Model for Name<'a> {
 }
 
 impl<'a> Name<'a> {
+    /// The name of these bytes.
     pub fn of(bytes: &'a [u8]) -> Name<'a>
         ensures { result ≡ bytes.now }
     {
         Name { bytes }
     }
 
+    /// Its bytes.
     pub fn bytes(&self) -> &'a [u8]
         ensures { result.now ≡ self.now }
     {

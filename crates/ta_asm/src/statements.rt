@@ -24,6 +24,7 @@ impl<'a> Model for Statements<'a> {
 }
 
 impl<'a> Statements<'a> {
+    /// All lines of the text.
     pub fn of(text: &'a [u8]) -> Statements<'a>
         ensures { result ≡ statements_of text.now }
     {

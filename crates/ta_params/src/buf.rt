@@ -27,6 +27,7 @@ impl Buf {
         Buf { bytes }
     }
 
+    /// Its bytes, lent to read.
     pub fn bytes(&self) -> &[u8]
         ensures { result.now ≡ self.now }
     {

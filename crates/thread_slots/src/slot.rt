@@ -16,6 +16,7 @@ pub enum Slot<T> {
 }
 
 impl<T> Slot<T> {
+    /// It holds no call.
     pub fn is_free(&self) -> bool
         ensures { result ≡ is_free self.now }
     {

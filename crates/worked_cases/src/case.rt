@@ -33,6 +33,7 @@ pub struct Case {
 }
 
 impl Case {
+    /// A case of this name, with no words, no bytes and no call that fails.
     pub fn new(alloc: Global, name: &str) -> Result<Case, AllocError> {
         Ok(Case {
             name: String::from_str(alloc, name)?,
@@ -45,6 +46,7 @@ impl Case {
         })
     }
 
+    /// Adds the words of a line to the command line.
     pub fn push_words(&mut self, alloc: Global, words: &str) -> Result<(), AllocError> {
         for word in words.split_whitespace() {
             self.words.push(String::from_str(alloc, word)?)?;
@@ -52,18 +54,21 @@ impl Case {
         Ok(())
     }
 
+    /// The bytes to come are of the input.
     pub fn begin_input(&mut self)
         ensures { self.new.part ≡ Part.Input }
     {
         self.part = Part::Input;
     }
 
+    /// The bytes to come are of the output.
     pub fn begin_output(&mut self)
         ensures { self.new.part ≡ Part.Output }
     {
         self.part = Part::Output;
     }
 
+    /// Adds bytes to the part that was begun.
     pub fn push_bytes(&mut self, bytes: &[u8]) -> Result<(), AllocError>
         ensures input { self.old.part ≡ Part.Input
             → OnOk result (self.new.input.items ≡ self.old.input.items ++ bytes.now) }
@@ -84,6 +89,7 @@ impl Case {
         self.push_bytes(b"\n")
     }
 
+    /// The source's call of this number, counted from 0, fails.
     pub fn fail_take(&mut self, call: u32) -> Result<(), AllocError>
         ensures { OnOk result (self.new.failing_takes.items ≡ self.old.failing_takes.items ++ call ∷ []) }
     {
@@ -91,6 +97,7 @@ impl Case {
         Ok(())
     }
 
+    /// The sink's call of this number, counted from 0, fails.
     pub fn fail_put(&mut self, call: u32) -> Result<(), AllocError>
         ensures { OnOk result (self.new.failing_puts.items ≡ self.old.failing_puts.items ++ call ∷ []) }
     {
