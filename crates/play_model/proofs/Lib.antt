@@ -1,0 +1,6 @@
+pub mod Returns
+pub mod Adds
+pub mod Entries
+pub mod LinesStay
+pub mod Items
+pub mod LaneReads

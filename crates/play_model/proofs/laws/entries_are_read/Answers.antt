@@ -1,0 +1,5 @@
+use Rattle.play_model.proofs.LaneReads.{entries_are_read as law}
+use Rattle.play_model.proofs.laws.entries_are_read.Goals as goal
+
+pub returns : goal.returns
+returns c = law

@@ -1,0 +1,6 @@
+pub mod Line
+pub mod Play
+pub mod Text
+pub mod Order
+pub mod Laws
+pub mod Examples

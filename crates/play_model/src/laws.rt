@@ -1,0 +1,33 @@
+//! What holds of the definitions themselves.
+ghost use Rattle.play_model.specs.Examples.{Examples};
+ghost use Rattle.play_model.specs.Laws.{EntriesAreRead, FixedAnswersPass, PlaysGoOn, TracesArePlayed};
+
+/// The history of each play is legal and holds the items of each processor in their order. In it a return from RPC
+/// resumes exactly the call that is suspended in its slot for its client, or answers ERESUME and changes nothing;
+/// ETHREAD_LIMIT comes exactly where a new call finds no slot free; and each session whose application shares no
+/// instance was answered as its own machine answers to its events.
+pub fn traces_are_played()
+    ensures { TracesArePlayed }
+{}
+
+/// An entry that can follow on the kernel, with reads that each have the bytes of its processor's RAM, is the one that
+/// comes in the play.
+pub fn entries_are_read()
+    ensures { EntriesAreRead }
+{}
+
+/// A processor that goes out with a fixed answer, as ERESUME is, changes nothing of a play but its own part of the
+/// kernel, the history and what is printed.
+pub fn fixed_answers_pass()
+    ensures { FixedAnswersPass }
+{}
+
+/// A play goes on from where its first items end, and what they have printed stays at the front of its lines.
+pub fn plays_go_on()
+    ensures { PlaysGoOn }
+{}
+
+/// Examples of the definitions, and plays of written scripts with what they print.
+pub fn worked_examples()
+    ensures { Examples }
+{}

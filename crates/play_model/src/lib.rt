@@ -1,0 +1,12 @@
+//! What the play of a trace is: its items one after the other, on one kernel, with RAM for each processor.
+//!
+//! The crate is one of definitions. `specs/` reads in the order of its modules: `Line` has the lines that are printed,
+//! `Play` what has been played so far and one function for each kind of item, `Text` the bytes that a trace prints,
+//! `Order` which histories hold the items in their order, and `Laws` what holds of each play.
+#![tactic(auto)]
+
+mod laws;
+
+pub use laws::{
+    entries_are_read, fixed_answers_pass, plays_go_on, traces_are_played, worked_examples,
+};
