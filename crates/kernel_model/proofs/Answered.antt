@@ -87,7 +87,8 @@ event_stays boot kernel next cpu (event.Exit went regs) apart e =
     (λ (exited : Exited) there onward.
     exit_stays exited next kernel went cpu (bytes_eq exited.regs regs.a) apart (processor_out kernel went (slice_get kernel.processors went) exited there) onward)
 
-events_stay : (boot : Booted) (kernel last : Kernel) (cpu : ℕ) (events : List Event) → AllByRecursion (IsOfOther cpu) events
+-- the events of others leave a processor as it is
+pub events_stay : (boot : Booted) (kernel last : Kernel) (cpu : ℕ) (events : List Event) → AllByRecursion (IsOfOther cpu) events
     → after_events boot kernel events ≡ Some last → Stays cpu kernel last
 events_stay boot kernel last cpu [] all e =
     let is : kernel ≡ last = cc in
@@ -167,9 +168,10 @@ same_registers exited regs last false is e = absurd cc
 
 -- ---- from an entry to the exit
 
-outside_of : (processor : Processor) (granted : Bool) (o : Option Kernel) (next : Kernel)
-    → (if is_outside processor && granted then o else None) ≡ Some next → (processor ≡ Outside) × (o ≡ Some next)
-outside_of Outside true o next e = (refl, e)
+-- a processor that comes in was outside, and is granted steps
+pub outside_of : (processor : Processor) (granted : Bool) (o : Option Kernel) (next : Kernel)
+    → (if is_outside processor && granted then o else None) ≡ Some next → (processor ≡ Outside) × (granted ≡ true) × (o ≡ Some next)
+outside_of Outside true o next e = (refl, refl, e)
 outside_of Outside false o next e = absurd cc
 outside_of (Inside regs count errand) granted o next e = absurd cc
 
@@ -183,7 +185,7 @@ told_after boot kernel first later last cpu count regs told reads between others
     (λ (processor : Processor) there onward.
     let allowed = outside_of processor (can_be_granted count) (after_entry boot kernel visit reads) first onward in
     let outside : IsOutside kernel visit = there ∙ ap (λ (p : Processor). Some p) allowed.0 in
-    let found = tells boot kernel first visit reads allowed.1 in
+    let found = tells boot kernel first visit reads allowed.2 in
     let inside = inside_after kernel first visit found.value outside found.gives in
     let still = events_stay boot first later cpu between others went ∙ inside in
     option_and_then_some (exit_to told.a) (exit later cpu) last out

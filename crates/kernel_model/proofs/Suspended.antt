@@ -18,7 +18,7 @@ use Rattle.kernel_model.specs.Codes.{eresume}
 use Rattle.kernel_model.specs.Decision.{Decision, Answers, Takes, works_on}
 use Rattle.kernel_model.specs.Entry.{after_decision, after_entry}
 use Rattle.kernel_model.specs.Exit.{Exited, goes_out, goes_out_from, exit, exit_of, progress_in_slot, slot_left}
-use Rattle.kernel_model.specs.History.{after_event, after_events, entry_from, exit_to, goes_out_of, can_be_granted, is_outside, kernel_after, left_by_exits, IsEntryOf, Resumes, ResumesCall, slot_of_processor}
+use Rattle.kernel_model.specs.History.{after_event, after_events, entry_from, exit_to, goes_out_of, can_be_granted, is_outside, kernel_after, left_by_exits, IsEntryOf, IsLater, Resumes, ResumesCall, slot_of_processor}
 use Rattle.kernel_model.specs.Kernel.{PendingCall, Progress, Cancel, cancelled_call, cancelled_slot, cancelled_slots, is_meant, ThreadSlot, Free, Active, Suspended, Fixed, InSlot, Processor, Outside, Inside, Kernel, Visit, first_kernel}
 use Rattle.kernel_model.specs.Laws.{ResumesContinue}
 use Rattle.kernel_model.specs.Leaving.{leaving_of}
@@ -276,7 +276,7 @@ allowed_let_in boot kernel next visit reads slot true is e inside =
     resume_let_in boot kernel next visit reads slot (call_resumed_by kernel.slots visit.regs) refl is e inside
 allowed_let_in boot kernel next visit reads slot false is e inside = absurd cc
 
-only_one : (o : Option Kernel) (next : Kernel) → option_and_then (λ k. Some k) o ≡ Some next → o ≡ Some next
+pub only_one : (o : Option Kernel) (next : Kernel) → option_and_then (λ k. Some k) o ≡ Some next → o ≡ Some next
 only_one None next e = absurd cc
 only_one (Some kernel) next e = e
 
@@ -295,19 +295,28 @@ at_seam : (before : List Event) (last : Event) → slice_get (before ++ last ∷
 at_seam [] last = refl
 at_seam (first ∷ before) last = at_seam before last
 
+-- the event at this place is a resume of this call, as the last exit from its slot left it
+pub record Continued (boot : Booted) (history : List Event) (at slot : ℕ) (call : PendingCall) : Type 0 where
+  pub left : PendingCall
+  pub later : IsLater left call
+  pub resumes : Resumes boot history at slot left
+
 let_in_resumes : (boot : Booted) (before : List Event) (kernel next : Kernel) (cpu count slot : ℕ) (regs : Regs) (reads : List Read)
     → kernel_after boot before ≡ Some kernel → kernel_after boot (before ++ event.Entry cpu regs count reads ∷ []) ≡ Some next
-    → LetIn boot kernel next (visit_of cpu regs count) reads slot
-    → (call : PendingCall) × Resumes boot (before ++ event.Entry cpu regs count reads ∷ []) (length before) slot call
+    → (came : LetIn boot kernel next (visit_of cpu regs count) reads slot)
+    → Continued boot (before ++ event.Entry cpu regs count reads ∷ []) (length before) slot came.call
 let_in_resumes boot before kernel next cpu count slot regs reads there e came =
     let last : Event = event.Entry cpu regs count reads in
     let held = subst (λ (i : ℕ). slice_get kernel.slots i ≡ Some (Suspended came.found.owner came.call)) came.at came.found.held in
     let kept = events_kept boot slot (first_kernel boot) kernel None before (first_kept boot slot) there came.found.owner came.call held in
     let left_call : PendingCall = record came.call { marked = kept.was } in
     let cut = take-append_seam before (last ∷ []) in
-    let whole = take-append-add before (last ∷ []) 1 in (
-      left_call,
-      record {
+    let whole = take-append-add before (last ∷ []) 1 in
+    let since : IsLater left_call came.call = record { same = refl; stays = kept.stays } in
+    record {
+      left = left_call;
+      later = since;
+      resumes = record {
         visit = visit_of cpu regs count;
         reads = reads;
         comes_in = subst (IsEntryOf (visit_of cpu regs count) reads) (sym (at_seam before last)) (refl, refl);
@@ -321,10 +330,30 @@ let_in_resumes boot before kernel next cpu count slot regs reads there e came =
         before = ap (λ (events : List Event). kernel_after boot events) cut ∙ there;
         after = ap (λ (events : List Event). kernel_after boot events) whole ∙ e;
         now = came.call;
-        later = record { same = refl; stays = kept.stays };
+        later = since;
         resumes = came.resumes;
-      },
-    )
+      };
+    }
+
+-- a call for which a resume is, is suspended in the slot that the registers name for the client that they name
+pub suspended_there : (kernel : Kernel) (regs : List ℕ) (call : PendingCall) → call_resumed_by kernel.slots regs ≡ Some call
+    → slice_get kernel.slots (thread_in regs) ≡ Some (Suspended (client_in regs) call)
+suspended_there kernel regs call some =
+    let found = held_found kernel regs call (slice_get kernel.slots (thread_in regs)) refl some in
+    found.held ∙ ap (λ (client : ℕ). Some (Suspended client call)) found.is_client
+
+-- and its resume continues what the last exit left of it
+pub call_continued : (boot : Booted) (before : List Event) (kernel next : Kernel) (cpu count : ℕ) (regs : Regs) (reads : List Read) (call : PendingCall)
+    → kernel_after boot before ≡ Some kernel → kernel_after boot (before ++ event.Entry cpu regs count reads ∷ []) ≡ Some next
+    → call_resumed_by kernel.slots regs.a ≡ Some call → ResumesCall boot kernel (visit_of cpu regs count) reads call next
+    → Continued boot (before ++ event.Entry cpu regs count reads ∷ []) (length before) (thread_in regs.a) call
+call_continued boot before kernel next cpu count regs reads call there e some resumes =
+    let_in_resumes boot before kernel next cpu count (thread_in regs.a) regs reads there e (record {
+      call = call;
+      found = held_found kernel regs.a call (slice_get kernel.slots (thread_in regs.a)) refl some;
+      at = refl;
+      resumes = resumes;
+    })
 
 pub resumes_continue : ResumesContinue
 resumes_continue boot before cpu count slot regs reads next e is inside =
@@ -333,4 +362,5 @@ resumes_continue boot before cpu count slot regs reads next e is inside =
     option_and_then_some (λ k. after_events boot k (last ∷ [])) (kernel_after boot before) next (sym cut ∙ e)
     (λ (kernel : Kernel) there onward.
     let came = event_let_in boot kernel next cpu count slot regs reads is (only_one (after_event boot kernel last) next onward) inside in
-    let_in_resumes boot before kernel next cpu count slot regs reads there e came)
+    let continued = let_in_resumes boot before kernel next cpu count slot regs reads there e came in
+    (continued.left, continued.resumes))
