@@ -1,10 +1,10 @@
 -- A cancel marks the calls of the kernel that are meant, active and suspended ones alike.
-use Rattle.std.proofs.Common.{◌≡◌, ℕ, List, Option, Some, None, refl, ap, ap₂}
+use Rattle.std.proofs.Common.{ℕ, List, Option, Some, None, refl}
 use Rattle.std.proofs.lemmas.Option.{slice_get-map}
-use Rattle.std.specs.Prelude.{map, slice_get, ◌==◌, ◌&&◌, ◌||◌, Bool}
+use Rattle.std.specs.Prelude.{map, slice_get, ◌||◌, Bool}
 use Rattle.std.specs.Option.{option_map}
 use Rattle.std.specs.Global.{Box}
-use Rattle.kernel_model.specs.Kernel.{Cancel, PendingCall, ThreadSlot, cancelled_call, cancelled_slot, cancelled_slots}
+use Rattle.kernel_model.specs.Kernel.{Cancel, PendingCall, ThreadSlot, cancelled_call, cancelled_slot, cancelled_slots, is_meant}
 use Rattle.kernel_model.specs.Kernel as model
 use Rattle.rpc_cont.specs.declared.cont.Cont.{Cont}
 use Rattle.thread_slots.specs.declared.slot.Slot.{Slot}
@@ -23,9 +23,9 @@ is_beside_marked cancel beside call is = record {
 }
 
 -- a mark is no part of the call as data
-pub is_call_marked : (cancel : Cancel) (cont : Cont (List ℕ)) (call : PendingCall) → IsCall cont call →
-    IsCall cont (cancelled_call cancel call)
-is_call_marked cancel cont call is = record {
+pub is_call_with_mark : (marked : Bool) (cont : Cont (List ℕ)) (call : PendingCall) → IsCall cont call →
+    IsCall cont (record call { marked = marked })
+is_call_with_mark marked cont call is = record {
   client = is.client;
   kind = is.kind;
   app = is.app;
@@ -38,6 +38,10 @@ is_call_marked cancel cont call is = record {
   buffer = is.buffer;
   phase = is.phase;
 }
+
+pub is_call_marked : (cancel : Cancel) (cont : Cont (List ℕ)) (call : PendingCall) → IsCall cont call →
+    IsCall cont (cancelled_call cancel call)
+is_call_marked cancel cont call is = is_call_with_mark (is_meant cancel call || call.marked) cont call is
 
 is_slot_marked : (cancel : Cancel) (slot : Slot (Box (Cont (List ℕ)))) (beside : Cancellation) (held : ThreadSlot) →
     IsSlot slot beside held → IsSlot slot (marked_by cancel beside) (cancelled_slot cancel held)

@@ -3,6 +3,7 @@ pub mod Calls
 pub mod Cancelling
 pub mod Carried
 pub mod Entering
+pub mod Laws
 pub mod Leaving
 pub mod Meaning
 pub mod Processors

@@ -11,6 +11,7 @@ mod cancellation;
 mod carried;
 mod enter_refusal;
 mod kernel_core;
+mod laws;
 mod parts;
 mod processor;
 mod reading;
@@ -26,6 +27,10 @@ pub use cancellation::{Cancellation, mark_calls};
 pub use carried::Carried;
 pub use enter_refusal::EnterRefusal;
 pub use kernel_core::Core;
+pub use laws::{
+    answers_come_exactly, fixed_answers_pass, journals_stay_legal, returns_continue,
+    work_can_leave, work_stays,
+};
 pub use parts::Parts;
 pub use processor::{Errand, Processor};
 pub use setup::{Application, Setup};
