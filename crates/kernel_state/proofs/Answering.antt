@@ -1,6 +1,8 @@
 -- What is answered at once, over cores: a fixed answer changes its processor's part alone, and ETHREAD_LIMIT and ERESUME
 -- come exactly where a call finds no slot, or no call. And what a resume continues.
 use Rattle.std.proofs.Common.{◌≡◌, ℕ, List, [], ◌∷◌, ◌++◌, length, Option, Some, None, refl, ap, sym, subst, ◌∙◌}
+use Rattle.std.proofs.Math.Logic.{∥∥₁_elim, ∥∥₁_map}
+use Rattle.std.proofs.Props.{props}
 use Rattle.std.proofs.lemmas.List.{append-nil}
 use Rattle.std.specs.Prelude.{IsSomeAnd, slice_get}
 use Rattle.event_journal.specs.declared.event.Event.{Event}
@@ -26,7 +28,8 @@ use Rattle.kernel_state.specs.Entering.{IsAsBefore, visit_of}
 use Rattle.kernel_state.specs.Laws.{AnswersComeExactly, ChangedByOthers, ComesBackTo, CoreEntry, CoreExit, FixedAnswersPass, FixesAnswer, HasGoneWith, ReturnsContinue, regs_of}
 use Rattle.kernel_state.specs.Meaning.{booted_of, events_of, kernel_of}
 use Rattle.kernel_state.specs.Work.{IsWorkIn, IsWorkOf}
-use Rattle.kernel_state.specs.declared.carried.Carried.TheVariants.{Nothing}
+use Rattle.kernel_state.specs.declared.carried.Carried.{Carried}
+use Rattle.kernel_state.specs.declared.carried.Carried.TheVariants.{Nothing, Resting, Running}
 use Rattle.kernel_state.specs.declared.kernel_core.Core.{Core}
 use Rattle.kernel_state.proofs.CoreEvents.{entry_came_in, events_onward, exits, left_so}
 
@@ -38,15 +41,25 @@ fixed_entry entry answer fixed =
     fixed_answers.entry (booted_of entry.old) entry.kernel entry.next (visit_of entry.coming) entry.has_entered.reads answer
     (entry_came_in entry).entered fixed
 
-nothing_carried : (entry : CoreEntry) (answer : Answer) → FixesAnswer entry answer → entry.work.call ≡ Nothing
-nothing_carried entry answer fixed =
+is_nothing : (carried : Carried) → ∥ carried ≡ Nothing ∥₁ → carried ≡ Nothing
+is_nothing Nothing is = refl
+is_nothing (Resting cont) is = absurd (∥∥₁_elim is (Prim.hlevel props) (λ (e : Resting cont ≡ Nothing). cc))
+is_nothing (Running cont) is = absurd (∥∥₁_elim is (Prim.hlevel props) (λ (e : Running cont ≡ Nothing). cc))
+
+fits_nothing : (entry : CoreEntry) (answer : Answer) → FixesAnswer entry answer →
+    IsSomeAnd (kernel_of entry.new) (λ kernel. IsWorkOf kernel entry.work) → entry.work.call ≡ Nothing
+fits_nothing entry answer fixed has =
     let work = entry.work in
-    let fits : IsWorkOf entry.next work =
-    subst (λ (o : Option Kernel). IsSomeAnd o (λ kernel. IsWorkOf kernel work)) entry.after entry.has_entered.fits in
+    let fits : IsWorkOf entry.next work = subst (λ (o : Option Kernel). IsSomeAnd o (λ kernel. IsWorkOf kernel work)) entry.after has in
     let inside = ap (λ (cpu : ℕ). slice_get entry.next.processors cpu) entry.has_entered.cpu ∙ fixed in
     let here : IsWorkIn entry.next work (Some (Inside (regs_of entry) entry.coming.steps (Fixed answer))) =
     subst (IsWorkIn entry.next work) inside fits in
     here.1
+
+nothing_carried : (entry : CoreEntry) (answer : Answer) → FixesAnswer entry answer → entry.work.call ≡ Nothing
+nothing_carried entry answer fixed =
+    is_nothing entry.work.call (∥∥₁_map entry.has_entered.fits (λ (has : IsSomeAnd (kernel_of entry.new) (λ kernel. IsWorkOf kernel entry.work)).
+    fits_nothing entry answer fixed has))
 
 -- while others come and go, it stays fixed
 still_fixed : (entry : CoreEntry) (later : Core) (kernel : Kernel) (answer : Answer) → FixesAnswer entry answer →

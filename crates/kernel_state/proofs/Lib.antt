@@ -1,7 +1,7 @@
 pub mod Answering
 pub mod Apart
 pub mod Applications
-mod Cancelling
+pub mod Cancelling
 pub mod CoreEvents
 pub mod Granting
 pub mod Opened

@@ -1,5 +1,6 @@
 -- What other processors do leaves a processor's work its own, and its run can leave.
 use Rattle.std.proofs.Common.{◌≡◌, ℕ, List, [], ◌∷◌, ◌++◌, Option, Some, None, Bool, refl, ap, sym, subst, ◌∙◌, append_assoc}
+use Rattle.std.proofs.Math.Logic.{∥∥₁_map}
 use Rattle.std.specs.Prelude.{IsSomeAnd, slice_get}
 use Rattle.std.specs.List.{AllByRecursion}
 use Rattle.event_journal.specs.declared.event.Event.{Event}
@@ -10,8 +11,9 @@ use Rattle.kernel_model.specs.Kernel.{Active, Asks, CallPhase, Ends, Fixed, Free
 use Rattle.kernel_model.specs.Laws.{IsOfOther}
 use Rattle.kernel_model.proofs.Answered.{events_stay}
 use Rattle.kernel_model.proofs.SoundWork.{others_stay_away}
+use Rattle.kernel_state.specs.Entering.{HasWork}
 use Rattle.kernel_state.specs.Leaving.{CanLeave}
-use Rattle.kernel_state.specs.Laws.{ChangedByOthers, HasWork, WorkCanLeave, WorkStays}
+use Rattle.kernel_state.specs.Laws.{ChangedByOthers, WorkCanLeave, WorkStays}
 use Rattle.kernel_state.specs.Meaning.{booted_of, events_of, kernel_of}
 use Rattle.kernel_state.specs.Work.{IsCarriedAs, IsCarriedFor, IsRanFor, IsRanOf, IsWorkIn, IsWorkOf}
 use Rattle.kernel_state.specs.declared.carried.Carried.{Carried}
@@ -76,31 +78,65 @@ module _ (boot : Booted) (before between : List Event) (kernel last : Kernel) (w
 
 -- ---- cores
 
+-- the kernel of a core, to which its work fits
+record Fitting (core : Core) (work : Work) : Type 0 where
+  kernel : Kernel
+  comes_to : kernel_of core ≡ Some kernel
+  fits : IsWorkOf kernel work
+
+fitting : (core : Core) (work : Work) → IsSomeAnd (kernel_of core) (λ kernel. IsWorkOf kernel work) → Fitting core work
+fitting core work has =
+    let found = some_kernel core in
+    record {
+      kernel = found.0;
+      comes_to = found.1;
+      fits = subst (λ (o : Option Kernel). IsSomeAnd o (λ kernel. IsWorkOf kernel work)) found.1 has;
+    }
+
+fitting_later : (old new : Core) (work : Work) → ChangedByOthers old new work.cpu → Fitting old work → Fitting new work
+fitting_later old new work changed was =
+    let now = some_kernel new in
+    let onward = events_onward (booted_of old) (booted_of new) (events_of old) changed.between (events_of new) was.kernel now.0
+    changed.boot changed.events was.comes_to now.1 in
+    record {
+      kernel = now.0;
+      comes_to = now.1;
+      fits = work_of_later (booted_of old) (events_of old) changed.between was.kernel now.0 work was.comes_to changed.others onward was.fits;
+    }
+
+has_work : (core : Core) (work : Work) → Fitting core work → IsSomeAnd (kernel_of core) (λ kernel. IsWorkOf kernel work)
+has_work core work fitting =
+    subst (λ (o : Option Kernel). IsSomeAnd o (λ kernel. IsWorkOf kernel work)) (sym fitting.comes_to) fitting.fits
+
 pub work_kept : (old new : Core) (work : Work) → ChangedByOthers old new work.cpu → HasWork old work → HasWork new work
 work_kept old new work changed has =
-    let was = some_kernel old in
-    let now = some_kernel new in
-    let fits : IsWorkOf was.0 work = subst (λ (o : Option Kernel). IsSomeAnd o (λ kernel. IsWorkOf kernel work)) was.1 has in
-    let onward = events_onward (booted_of old) (booted_of new) (events_of old) changed.between (events_of new) was.0 now.0
-    changed.boot changed.events was.1 now.1 in
-    subst (λ (o : Option Kernel). IsSomeAnd o (λ kernel. IsWorkOf kernel work)) (sym now.1)
-    (work_of_later (booted_of old) (events_of old) changed.between was.0 now.0 work was.1 changed.others onward fits)
+    ∥∥₁_map has (λ (is : IsSomeAnd (kernel_of old) (λ kernel. IsWorkOf kernel work)).
+    has_work new work (fitting_later old new work changed (fitting old work is)))
 
 -- a work with its granted steps done can leave
+can_leave_of : (core : Core) (work : Work) (ran : Ran) → IsRanOf work ran → Fitting core work →
+    IsSomeAnd (kernel_of core) (λ kernel. IsRanFor kernel ran)
+can_leave_of core work ran run fitting =
+    subst (λ (o : Option Kernel). IsSomeAnd o (λ kernel. IsRanFor kernel ran)) (sym fitting.comes_to)
+    (record { work = work; fits = fitting.fits; has_run = run })
+
 can_leave : (core : Core) (work : Work) (ran : Ran) → HasWork core work → IsRanOf work ran → CanLeave core ran
-can_leave core work ran has run = in_kernel (kernel_of core) has
-  where
-    in_kernel : (o : Option Kernel) → IsSomeAnd o (λ kernel. IsWorkOf kernel work) → IsSomeAnd o (λ kernel. IsRanFor kernel ran)
-    in_kernel None has = absurd has
-    in_kernel (Some kernel) has = record { work = work; fits = has; has_run = run }
+can_leave core work ran has run =
+    ∥∥₁_map has (λ (is : IsSomeAnd (kernel_of core) (λ kernel. IsWorkOf kernel work)).
+    can_leave_of core work ran run (fitting core work is))
+
+ran_later : (old new : Core) (ran : Ran) → ChangedByOthers old new ran.cpu → IsSomeAnd (kernel_of old) (λ kernel. IsRanFor kernel ran) →
+    IsSomeAnd (kernel_of new) (λ kernel. IsRanFor kernel ran)
+ran_later old new ran changed can =
+    let was = some_kernel old in
+    let its : IsRanFor was.0 ran = subst (λ (o : Option Kernel). IsSomeAnd o (λ kernel. IsRanFor kernel ran)) was.1 can in
+    can_leave_of new its.work ran its.has_run
+    (fitting_later old new its.work (subst (ChangedByOthers old new) its.has_run.cpu changed)
+    (record { kernel = was.0; comes_to = was.1; fits = its.fits }))
 
 ran_kept : (old new : Core) (ran : Ran) → ChangedByOthers old new ran.cpu → CanLeave old ran → CanLeave new ran
 ran_kept old new ran changed can =
-    let was = some_kernel old in
-    let fits : IsRanFor was.0 ran = subst (λ (o : Option Kernel). IsSomeAnd o (λ kernel. IsRanFor kernel ran)) was.1 can in
-    let has : HasWork old fits.work = subst (λ (o : Option Kernel). IsSomeAnd o (λ kernel. IsWorkOf kernel fits.work)) (sym was.1) fits.fits in
-    can_leave new fits.work ran
-    (work_kept old new fits.work (subst (ChangedByOthers old new) fits.has_run.cpu changed) has) fits.has_run
+    ∥∥₁_map can (λ (is : IsSomeAnd (kernel_of old) (λ kernel. IsRanFor kernel ran)). ran_later old new ran changed is)
 
 all_append : (cpu : ℕ) (events more : List Event) → AllByRecursion (IsOfOther cpu) events → AllByRecursion (IsOfOther cpu) more →
     AllByRecursion (IsOfOther cpu) (events ++ more)

@@ -40,6 +40,10 @@ pub record IsAsBefore (old new : Core) : Type 0 where
 
 -- ---- an entry
 
+-- the work is that of its processor's open entry: a bare fact, as the one that a core keeps
+abbrev pub HasWork : Core → Work → Type 0
+HasWork core work = ∥ IsSomeAnd (kernel_of core) (λ kernel. IsWorkOf kernel work) ∥₁
+
 -- it has come in, and this is its work
 pub record HasEntered (old new : Core) (coming : Coming) (lane : List ℕ) (work : Work) : Type 0 where
   pub boot : booted_of new ≡ booted_of old
@@ -50,7 +54,7 @@ pub record HasEntered (old new : Core) (coming : Coming) (lane : List ℕ) (work
   -- its work is that of its entry, which stands at the end
   pub cpu : work.cpu ≡ coming.cpu
   pub entry_at : work.entry_at ≡ length (events_of old)
-  pub fits : IsSomeAnd (kernel_of new) (λ kernel. IsWorkOf kernel work)
+  pub fits : HasWork new work
 
 -- ---- a refusal
 

@@ -1,5 +1,5 @@
 -- What the contracts of an entry and an exit say, over all cores.
-use Rattle.std.specs.Prelude.{◌≡◌, ◌≢◌, ◌↔◌, ℕ, List, ◌++◌, length, Option, Some, None, IsSomeAnd, slice_get}
+use Rattle.std.specs.Prelude.{◌≡◌, ◌≢◌, ◌↔◌, ℕ, List, ◌++◌, length, Option, Some, None, slice_get}
 use Rattle.std.specs.List.{AllByRecursion}
 use Rattle.event_journal.specs.declared.event.Event.{Event}
 use Rattle.kernel_model.specs.Argument.{client_in, reg, thread_in}
@@ -15,10 +15,10 @@ use Rattle.smc_abi.specs.Call.{call_of}
 use Rattle.smc_abi.specs.declared.answer.Answer.{Answer}
 use Rattle.smc_abi.specs.declared.call.Call.TheVariants.{Resume}
 use Rattle.smc_abi.specs.declared.regs.Regs.{Regs}
-use Rattle.kernel_state.specs.Entering.{CanEnter, Coming, HasEntered, IsAsBefore, visit_of}
+use Rattle.kernel_state.specs.Entering.{CanEnter, Coming, HasEntered, HasWork, IsAsBefore, visit_of}
 use Rattle.kernel_state.specs.Leaving.{CanLeave, HasLeft}
 use Rattle.kernel_state.specs.Meaning.{booted_of, events_of, kernel_of}
-use Rattle.kernel_state.specs.Work.{IsRanOf, IsWorkOf}
+use Rattle.kernel_state.specs.Work.{IsRanOf}
 use Rattle.kernel_state.specs.declared.carried.Carried.TheVariants.{Nothing}
 use Rattle.kernel_state.specs.declared.kernel_core.Core.{Core}
 use Rattle.kernel_state.specs.declared.work.Ran.{Ran}
@@ -76,10 +76,6 @@ pub record ChangedByOthers (old new : Core) (cpu : ℕ) : Type 0 where
   pub between : List Event
   pub others : AllByRecursion (IsOfOther cpu) between
   pub events : events_of new ≡ events_of old ++ between
-
--- the work is that of its processor's open entry
-abbrev pub HasWork : Core → Work → Type 0
-HasWork core work = IsSomeAnd (kernel_of core) (λ kernel. IsWorkOf kernel work)
 
 -- what other processors do leaves a processor's work its own
 pub record WorkStays : Type 0 where

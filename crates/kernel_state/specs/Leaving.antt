@@ -12,7 +12,7 @@ use Rattle.kernel_state.specs.declared.work.Ran.{Ran}
 
 -- its processor is inside, and this is the work of its open entry with the granted steps done
 abbrev pub CanLeave : Core → Ran → Type 0
-CanLeave core ran = IsSomeAnd (kernel_of core) (λ kernel. IsRanFor kernel ran)
+CanLeave core ran = ∥ IsSomeAnd (kernel_of core) (λ kernel. IsRanFor kernel ran) ∥₁
 
 -- it has gone out with these registers. The lane's bytes decide nothing of it
 pub record HasLeft (old new : Core) (ran : Ran) (lane now : List ℕ) (told : Regs) : Type 0 where
