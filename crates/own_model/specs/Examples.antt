@@ -159,6 +159,10 @@ pub record Examples : Type 0 where
   -- a call that finds no thread, and goes out when its session is gone
   pub limited : Agrees (boot 2 1 1 add) (opens ++ Comes 0 (call_of 0) 9 (closes 1) ∷ Comes 1 (call_of 0) 9 [] ∷ Leaves 0 ∷ Leaves 1 ∷ []) 1
       (ended 0 4 ∷ ended 0 3 ∷ reply.Limited ∷ [])
+  -- one of another client that finds none
+  pub limit_of_another : events_of (boot 2 1 1 add)
+      (opens ++ Comes 0 (call_of 0) 9 (closes 1) ∷ Comes 1 (call_of 6) 9 [] ∷ Leaves 1 ∷ Leaves 0 ∷ []) 1
+      ≡ Some (opened ∷ Out 0 ∷ Close ∷ Out 1 ∷ [])
   -- who is to be woken has gone on by itself, and another call is in its slot when the wake is asked for
   pub woken_before : Agrees (boot 3 3 1 add)
       (adds_inside ++ call 1 9 (adds 1 2) ++ Leaves 0 ∷ back_to 1 ++ call 1 1 (adds 3 4) ++ offer 0 9 0 0x40010000 0x77 ++ back_to 0 ++ back_to 0 ++ back_to 1) 1

@@ -23,6 +23,7 @@ returns c = record {
   dead = (refl, refl);
   sleepless = (refl, refl);
   limited = (refl, refl);
+  limit_of_another = refl;
   woken_before = (refl, refl);
   open_failed = (refl, refl);
   create_failed = (refl, refl);
