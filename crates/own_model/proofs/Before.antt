@@ -1,5 +1,6 @@
 -- New calls before the open of a session and with it.
-use Rattle.std.proofs.Common.{◌≡◌, ℕ, ◌+◌, ◌<◌, ◌≤◌, Bool, true, false, List, [], ◌∷◌, Option, Some, None, refl, ap, subst, sym, ◌∙◌, arith}
+use Rattle.std.proofs.Common.{◌≡◌, ℕ, ◌+◌, ◌<◌, ◌≤◌, Bool, true, false, List, [], ◌∷◌, Option, Some, None, refl, ap}
+use Rattle.std.proofs.Common.{subst, sym, ◌∙◌, arith}
 use Rattle.std.specs.Prelude.{◌==◌, if◌then◌else◌, slice_get}
 use Rattle.std.specs.Option.{option_map_or}
 use Rattle.std.proofs.lemmas.Bool.Decides.{nat_tests}
@@ -20,8 +21,10 @@ use Rattle.kernel_model.specs.Decision.{Taken, Takes}
 use Rattle.kernel_model.specs.Entry.{after_decision}
 use Rattle.kernel_model.specs.History.{after_event}
 use Rattle.kernel_model.specs.Instances.{app_of, is_held, is_single}
-use Rattle.kernel_model.specs.Kernel.{Active, Free, InSlot, Inside, Instance, Kernel, PendingCall, Tables, ThreadSlot, Visit}
-use Rattle.kernel_model.specs.NewCall.{NewCall, cancels, keeps_buffers, named_session, new_call_of, open_waits, opens, settles, settles_invoke, settles_open, shared_by}
+use Rattle.kernel_model.specs.Kernel.{Active, Free, InSlot, Inside, Instance, Kernel, PendingCall, Tables, ThreadSlot}
+use Rattle.kernel_model.specs.Kernel.{Visit}
+use Rattle.kernel_model.specs.NewCall.{NewCall, cancels, keeps_buffers, named_session, new_call_of, open_waits, opens}
+use Rattle.kernel_model.specs.NewCall.{settles, settles_invoke, settles_open, shared_by}
 use Rattle.kernel_model.specs.Sound.{call_at}
 use Rattle.kernel_model.specs.SoundNumbers.{AreNumbered}
 use Rattle.kernel_model.proofs.Parts.{if-both, map_or-both}
@@ -42,7 +45,8 @@ use Rattle.own_model.specs.Solo.{unopened}
 -- ---- what comes in
 
 -- the open of the session, of this application
-pub record OpensIt (boot : Booted) (session : ℕ) (slots : List ThreadSlot) (slot : ℕ) (before : Tables) (taken : Taken) : Type 0 where
+pub record OpensIt (boot : Booted) (session : ℕ) (slots : List ThreadSlot) (slot : ℕ) (before : Tables)
+    (taken : Taken) : Type 0 where
   pub of : Application
   pub params : CopiedParams
   pub login : Login
@@ -54,10 +58,13 @@ pub record OpensIt (boot : Booted) (session : ℕ) (slots : List ThreadSlot) (sl
   pub tied : is_single of ≡ false → TakesOpen of slots slot before taken params login
 
 -- before the open of a session, a new call isn't of it, or is its open, or has it wait for an instance that it shares
-pub data Coming (boot : Booted) (session : ℕ) (slots : List ThreadSlot) (slot : ℕ) (before : Tables) (taken : Taken) : Type 0 where
-  Another : event_of session taken.call ≡ None → taken.tables.next_session ≤ session → Coming boot session slots slot before taken
+pub data Coming (boot : Booted) (session : ℕ) (slots : List ThreadSlot) (slot : ℕ) (before : Tables)
+    (taken : Taken) : Type 0 where
+  Another : event_of session taken.call ≡ None → taken.tables.next_session ≤ session
+      → Coming boot session slots slot before taken
   ItsOpen : OpensIt boot session slots slot before taken → Coming boot session slots slot before taken
-  Shares : event_of session taken.call ≡ None → session < taken.tables.next_session → Coming boot session slots slot before taken
+  Shares : event_of session taken.call ≡ None → session < taken.tables.next_session
+      → Coming boot session slots slot before taken
 
 -- a new call there: what is known of it
 record Early (session : ℕ) (slots : List ThreadSlot) (c : NewCall) : Type 0 where
@@ -69,20 +76,25 @@ lower : (a n m : ℕ) → a < n → n ≤ m → a ≡ m → ⊥
 lower a n m lt le e = grind (arith)
 
 untold : (session : ℕ) (slots : List ThreadSlot) (c : NewCall) (taken : Taken) → Early session slots c
-    → event_of session taken.call ≡ (if taken.call.session == session then None else None) → taken.tables.next_session ≡ c.tables.next_session
+    → event_of session taken.call ≡ (if taken.call.session == session then None else None)
+    → taken.tables.next_session ≡ c.tables.next_session
     → Coming c.boot session slots c.slot c.tables taken
 untold session slots c taken early of next =
     Another (untold_unnoted session taken.call of)
     (subst (λ n. n ≤ session) (sym next) early.before)
 
 -- a call in a session that is there
-in_another : (session : ℕ) (slots : List ThreadSlot) (c : NewCall) (named : Session × Instance) (taken : Taken) → Early session slots c
-    → named_session c ≡ Some named → taken.call.session ≡ c.head.session → taken.tables.next_session ≡ c.tables.next_session
+in_another : (session : ℕ) (slots : List ThreadSlot) (c : NewCall) (named : Session × Instance) (taken : Taken)
+    → Early session slots c
+    → named_session c ≡ Some named → taken.call.session ≡ c.head.session
+    → taken.tables.next_session ≡ c.tables.next_session
     → Coming c.boot session slots c.slot c.tables taken
 in_another session slots c named taken early is of next =
     let there = (named_parts c named is).0 in
-    let below = All-get (λ (kept : ℕ × Session). IsBelow c.tables kept.0 kept.1.instance) c.tables.sessions c.head.session named.0 early.below.sessions there in
-    Another (other_unnoted session taken.call (λ e. lower c.head.session c.tables.next_session session below.0 early.before (sym of ∙ e)))
+    let below = All-get (λ (kept : ℕ × Session). IsBelow c.tables kept.0 kept.1.instance) c.tables.sessions
+    c.head.session named.0 early.below.sessions there in
+    Another (other_unnoted session taken.call (λ e.
+    lower c.head.session c.tables.next_session session below.0 early.before (sym of ∙ e)))
     (subst (λ n. n ≤ session) (sym next) early.before)
 
 -- an open
@@ -95,7 +107,8 @@ next_is_less n m le e = grind (arith, nat_tests)
 tied_numbers : (n m : ℕ) → (n == m) ≡ true → n ≡ m
 tied_numbers n m e = grind (arith, nat_tests)
 
-begins_one : (session : ℕ) (slots : List ThreadSlot) (c : NewCall) (wanted : Opening) (of : Application) (copies : Copies) → Early session slots c
+begins_one : (session : ℕ) (slots : List ThreadSlot) (c : NewCall) (wanted : Opening) (of : Application)
+    (copies : Copies) → Early session slots c
     → app_of c.boot wanted.uuid ≡ Some of → (test : Bool) → (c.tables.next_session == session) ≡ test
     → Coming c.boot session slots c.slot c.tables (opens c wanted of copies)
 begins_one session slots c wanted of copies early is true same =
@@ -107,17 +120,22 @@ begins_one session slots c wanted of copies early is true same =
       is_now = next_is_more c.tables.next_session session (tied_numbers c.tables.next_session session same);
       of_boot = ap (λ u. app_of c.boot u) (app_named c.boot wanted.uuid of is) ∙ is;
       uuid = refl;
-      noted = ap (λ b. if b then Some (Open (params_of (begun_by c wanted of copies).job) (begun_by c wanted of copies).job.login) else None) same;
+      noted = ap (λ b. if b then Some (Open (params_of (begun_by c wanted of copies).job)
+          (begun_by c wanted of copies).job.login) else None) same;
       tied = λ alone. opens_tied c wanted of copies slots early.free early.below alone;
     })
 begins_one session slots c wanted of copies early is false other =
-    Another (ap (λ b. if b then Some (Open (params_of (begun_by c wanted of copies).job) (begun_by c wanted of copies).job.login) else None) other)
+    Another (ap (λ b. if b then Some (Open (params_of (begun_by c wanted of copies).job)
+    (begun_by c wanted of copies).job.login) else None) other)
     (next_is_less c.tables.next_session session early.before other)
 
-waits_one : (session : ℕ) (slots : List ThreadSlot) (c : NewCall) (wanted : Opening) (of : Application) (copies : Copies) (kept : ℕ × Instance) → Early session slots c
-    → (test : Bool) → (c.tables.next_session == session) ≡ test → Coming c.boot session slots c.slot c.tables (open_waits c wanted of copies kept)
+waits_one : (session : ℕ) (slots : List ThreadSlot) (c : NewCall) (wanted : Opening) (of : Application)
+    (copies : Copies) (kept : ℕ × Instance) → Early session slots c
+    → (test : Bool) → (c.tables.next_session == session) ≡ test
+    → Coming c.boot session slots c.slot c.tables (open_waits c wanted of copies kept)
 waits_one session slots c wanted of copies kept early true same =
-    Shares (ap (λ b. if b then None else None) same) (next_is_more c.tables.next_session session (tied_numbers c.tables.next_session session same))
+    Shares (ap (λ b. if b then None else None) same)
+    (next_is_more c.tables.next_session session (tied_numbers c.tables.next_session session same))
 waits_one session slots c wanted of copies kept early false other =
     Another (ap (λ b. if b then None else None) other) (next_is_less c.tables.next_session session early.before other)
 
@@ -130,7 +148,8 @@ endings_early session slots c early = record {
   opened = λ wanted of copies is.
       let opened = begins_one session slots c wanted of copies early is (c.tables.next_session == session) refl in
       map_or-both (Coming c.boot session slots c.slot c.tables) _ (shared_by c of) (opens c wanted of copies)
-      (λ kept. if-both (Coming c.boot session slots c.slot c.tables) (is_held kept.1) (open_waits c wanted of copies kept) (opens c wanted of copies)
+      (λ kept. if-both (Coming c.boot session slots c.slot c.tables) (is_held kept.1)
+      (open_waits c wanted of copies kept) (opens c wanted of copies)
       (waits_one session slots c wanted of copies kept early (c.tables.next_session == session) refl) opened)
       opened;
   dead = λ named is dead. in_another session slots c named (settles_invoke c target_dead) early is refl refl;
@@ -147,20 +166,27 @@ endings_early session slots c early = record {
 
 -- ---- the entry
 
-pub early_call : (boot : Booted) (session : ℕ) (kernel next : Kernel) (cpu steps slot : ℕ) (regs : Regs) (reads : List Read) (now : PendingCall)
+pub early_call : (boot : Booted) (session : ℕ) (kernel next : Kernel) (cpu steps slot : ℕ) (regs : Regs)
+    (reads : List Read) (now : PendingCall)
     → AreBelow kernel.slots kernel.tables → kernel.tables.next_session ≤ session → call_of (reg regs.a 0) ≡ WithArg
-    → slice_get next.processors cpu ≡ Some (Inside regs.a steps (InSlot slot)) → slice_get next.slots slot ≡ Some (Active cpu now)
+    → slice_get next.processors cpu ≡ Some (Inside regs.a steps (InSlot slot))
+    → slice_get next.slots slot ≡ Some (Active cpu now)
     → after_event boot kernel (Entry cpu regs steps reads) ≡ Some next
-    → IsTaken (λ at taken. Coming boot session kernel.slots at kernel.tables taken) kernel next (record { cpu = cpu; regs = regs.a; steps = steps }) slot now
+    → IsTaken (λ at taken. Coming boot session kernel.slots at kernel.tables taken) kernel next
+    (record { cpu = cpu; regs = regs.a; steps = steps }) slot now
 early_call boot session kernel next cpu steps slot regs reads now below before is inside there e =
-    new_call_taken (λ at taken. Coming boot session kernel.slots at kernel.tables taken) boot kernel next cpu steps slot regs reads now is
-    (λ at free bytes. endings_early session kernel.slots (new_call_of boot kernel.tables regs.a at bytes) (record { free = free; below = below; before = before }))
+    new_call_taken (λ at taken. Coming boot session kernel.slots at kernel.tables taken) boot kernel next cpu steps slot
+    regs reads now is
+    (λ at free bytes. endings_early session kernel.slots (new_call_of boot kernel.tables regs.a at bytes)
+    (record { free = free; below = below; before = before }))
     inside there e
 
 -- kernel and machine are tied from the open on
-pub open_along : (app : Application) (most : ℕ) (kernel : Kernel) (visit : Visit) (slot : ℕ) (taken : Taken) (params : CopiedParams) (login : Login)
+pub open_along : (app : Application) (most : ℕ) (kernel : Kernel) (visit : Visit) (slot : ℕ) (taken : Taken)
+    (params : CopiedParams) (login : Login)
     → TakesOpen app kernel.slots slot kernel.tables taken params login
-    → GoesAlong (about_next app most kernel) no_notes unopened (after_decision kernel visit (Takes slot taken)) (numbered no_notes slot taken.call (Open params login))
+    → GoesAlong (about_next app most kernel) no_notes unopened (after_decision kernel visit (Takes slot taken))
+    (numbered no_notes slot taken.call (Open params login))
 open_along app most kernel visit slot taken params login takes = record {
   items = (Open params login, None) ∷ [];
   noted = refl;
@@ -169,7 +195,8 @@ open_along app most kernel visit slot taken params login takes = record {
   tied = takes.tied visit.cpu;
 }
 
-same_open : (boot : Booted) (app of : Application) → SharesNone boot app → app_of boot (uuid_of of) ≡ Some of → Some (uuid_of of) ≡ Some (uuid_of app) → of ≡ app
+same_open : (boot : Booted) (app of : Application) → SharesNone boot app → app_of boot (uuid_of of) ≡ Some of
+    → Some (uuid_of of) ≡ Some (uuid_of app) → of ≡ app
 same_open boot app of shares of_boot same =
     let uuids : uuid_of of ≡ uuid_of app = cc in
     some_same of app (sym of_boot ∙ ap (λ u. app_of boot u) uuids ∙ shares.of_boot)
@@ -177,37 +204,53 @@ same_open boot app of shares of_boot same =
     some_same : (a b : Application) → Some a ≡ Some b → a ≡ b
     some_same a b e = cc
 
-open_comes : (boot : Booted) (app : Application) (most : ℕ) (kernel next : Kernel) (visit : Visit) (slot : ℕ) (now : PendingCall) (came : OwnEvent) (taken : Taken)
-    → SharesNone boot app → Coming boot kernel.tables.next_session kernel.slots slot kernel.tables taken → taken.call ≡ now
-    → after_decision kernel visit (Takes slot taken) ≡ next → event_of kernel.tables.next_session taken.call ≡ Some came → taken.call.uuid ≡ Some (uuid_of app)
+open_comes : (boot : Booted) (app : Application) (most : ℕ) (kernel next : Kernel) (visit : Visit) (slot : ℕ)
+    (now : PendingCall) (came : OwnEvent) (taken : Taken)
+    → SharesNone boot app → Coming boot kernel.tables.next_session kernel.slots slot kernel.tables taken
+    → taken.call ≡ now
+    → after_decision kernel visit (Takes slot taken) ≡ next → event_of kernel.tables.next_session taken.call ≡ Some came
+    → taken.call.uuid ≡ Some (uuid_of app)
     → GoesAlong (about_next app most kernel) no_notes unopened next (numbered no_notes slot now came)
-open_comes boot app most kernel next visit slot now came taken shares (Another none lower) is gives noted uuid = not_both came (sym none ∙ noted)
-open_comes boot app most kernel next visit slot now came taken shares (Shares none more) is gives noted uuid = not_both came (sym none ∙ noted)
+open_comes boot app most kernel next visit slot now came taken shares (Another none lower) is gives noted uuid =
+    not_both came (sym none ∙ noted)
+open_comes boot app most kernel next visit slot now came taken shares (Shares none more) is gives noted uuid =
+    not_both came (sym none ∙ noted)
 open_comes boot app most kernel next visit slot now came taken shares (ItsOpen o) is gives noted uuid =
     let same : o.of ≡ app = same_open boot app o.of shares o.of_boot (sym o.uuid ∙ uuid) in
     let alone : is_single o.of ≡ false = ap is_single same ∙ shares.shares_none in
     let takes : TakesOpen app kernel.slots slot kernel.tables taken o.params o.login =
-    subst (λ (a : Application). TakesOpen a kernel.slots slot kernel.tables taken o.params o.login) same (o.tied alone) in
+    subst (λ (a : Application). TakesOpen a kernel.slots slot kernel.tables taken o.params o.login) same
+    (o.tied alone) in
     let its : Open o.params o.login ≡ came = same_event (Open o.params o.login) came (sym o.noted ∙ noted) in
-    subst (λ (came_in : OwnEvent). GoesAlong (about_next app most kernel) no_notes unopened next (numbered no_notes slot now came_in)) its
-    (subst (λ (call : PendingCall). GoesAlong (about_next app most kernel) no_notes unopened next (numbered no_notes slot call (Open o.params o.login))) is
-    (subst (λ (k : Kernel). GoesAlong (about_next app most kernel) no_notes unopened k (numbered no_notes slot taken.call (Open o.params o.login))) gives
+    subst (λ (came_in : OwnEvent). GoesAlong (about_next app most kernel) no_notes unopened next
+    (numbered no_notes slot now came_in)) its
+    (subst (λ (call : PendingCall). GoesAlong (about_next app most kernel) no_notes unopened next
+    (numbered no_notes slot call (Open o.params o.login))) is
+    (subst (λ (k : Kernel). GoesAlong (about_next app most kernel) no_notes unopened k
+    (numbered no_notes slot taken.call (Open o.params o.login))) gives
     (open_along app most kernel visit slot taken o.params o.login takes)))
 
 no_more : (n : ℕ) → n ≤ n
 no_more n = omega arith
 
-pub own_open : (boot : Booted) (app : Application) (most : ℕ) (kernel next : Kernel) (cpu steps slot : ℕ) (regs : Regs) (reads : List Read)
-    (now : PendingCall) (came : OwnEvent) → SharesNone boot app → AreNumbered (call_at kernel.slots) kernel.tables → call_of (reg regs.a 0) ≡ WithArg
-    → slice_get next.processors cpu ≡ Some (Inside regs.a steps (InSlot slot)) → slice_get next.slots slot ≡ Some (Active cpu now)
+pub own_open : (boot : Booted) (app : Application) (most : ℕ) (kernel next : Kernel) (cpu steps slot : ℕ) (regs : Regs)
+    (reads : List Read)
+    (now : PendingCall) (came : OwnEvent) → SharesNone boot app → AreNumbered (call_at kernel.slots) kernel.tables
+    → call_of (reg regs.a 0) ≡ WithArg
+    → slice_get next.processors cpu ≡ Some (Inside regs.a steps (InSlot slot))
+    → slice_get next.slots slot ≡ Some (Active cpu now)
     → event_of kernel.tables.next_session now ≡ Some came → now.uuid ≡ Some (uuid_of app)
     → after_event boot kernel (Entry cpu regs steps reads) ≡ Some next
-    → GoesAlong (about_next app most kernel) no_notes unopened next (event_noted kernel.tables.next_session kernel next no_notes (Entry cpu regs steps reads))
+    → GoesAlong (about_next app most kernel) no_notes unopened next
+    (event_noted kernel.tables.next_session kernel next no_notes (Entry cpu regs steps reads))
 own_open boot app most kernel next cpu steps slot regs reads now came shares numbers is inside there noted uuid e =
     let session : ℕ = kernel.tables.next_session in
-    let found = early_call boot session kernel next cpu steps slot regs reads now (below_numbers kernel numbers) (no_more session) is inside there e in
-    let along = open_comes boot app most kernel next (record { cpu = cpu; regs = regs.a; steps = steps }) slot now came found.taken shares found.holds found.call_is found.gives
-    (ap (λ (c : PendingCall). event_of session c) found.call_is ∙ noted) (ap (λ (c : PendingCall). c.uuid) found.call_is ∙ uuid) in
+    let found = early_call boot session kernel next cpu steps slot regs reads now (below_numbers kernel numbers)
+    (no_more session) is inside there e in
+    let along = open_comes boot app most kernel next (record { cpu = cpu; regs = regs.a; steps = steps }) slot now came
+    found.taken shares found.holds found.call_is found.gives
+    (ap (λ (c : PendingCall). event_of session c) found.call_is ∙ noted)
+    (ap (λ (c : PendingCall). c.uuid) found.call_is ∙ uuid) in
     subst (GoesAlong (about_next app most kernel) no_notes unopened next)
     (sym (new_call_noted session kernel next cpu steps slot regs reads now no_notes inside found.free there
     ∙ ap (λ (o : Option OwnEvent). option_map_or (numbered no_notes slot now) o no_notes) noted)) along

@@ -22,32 +22,42 @@ pub record AreBelow (slots : List ThreadSlot) (tables : Tables) : Type 0 where
   pub sessions : All (λ (kept : ℕ × Session). IsBelow tables kept.0 kept.1.instance) tables.sessions
   pub instances : All (λ (kept : ℕ × Instance). kept.0 < tables.next_instance) tables.instances
   pub waiters : All (λ (waiter : Waiter). waiter.instance < tables.next_instance) tables.waiters
-  pub calls : (slot : ℕ) (call : PendingCall) → call_at slots slot ≡ Some call → IsBelow tables call.session call.instance
+  pub calls : (slot : ℕ) (call : PendingCall) → call_at slots slot ≡ Some call
+      → IsBelow tables call.session call.instance
 
 -- the numbers that were given lie below the next ones
-pub below_numbers : (kernel : Kernel) → AreNumbered (sound.call_at kernel.slots) kernel.tables → AreBelow kernel.slots kernel.tables
+pub below_numbers : (kernel : Kernel) → AreNumbered (sound.call_at kernel.slots) kernel.tables
+    → AreBelow kernel.slots kernel.tables
 below_numbers kernel numbers = record {
   session_from_one = at_least kernel.tables.next_instance kernel.tables.next_session numbers.from_one numbers.fewer;
   instance_from_one = numbers.from_one;
-  sessions = All-weaker (IsNumberedSession kernel.tables) (λ (kept : ℕ × Session). IsBelow kernel.tables kept.0 kept.1.instance)
+  sessions = All-weaker (IsNumberedSession kernel.tables)
+      (λ (kept : ℕ × Session). IsBelow kernel.tables kept.0 kept.1.instance)
       (λ kept given. (given.0.1, given.1.1)) kernel.tables.sessions numbers.sessions;
-  instances = All-weaker (λ (kept : ℕ × Instance). IsGiven kernel.tables.next_instance kept.0) (λ (kept : ℕ × Instance). kept.0 < kernel.tables.next_instance)
+  instances = All-weaker (λ (kept : ℕ × Instance). IsGiven kernel.tables.next_instance kept.0)
+      (λ (kept : ℕ × Instance). kept.0 < kernel.tables.next_instance)
       (λ kept given. given.1) kernel.tables.instances numbers.instances;
-  waiters = All-weaker (λ (waiter : Waiter). IsGiven kernel.tables.next_instance waiter.instance) (λ (waiter : Waiter). waiter.instance < kernel.tables.next_instance)
+  waiters = All-weaker (λ (waiter : Waiter). IsGiven kernel.tables.next_instance waiter.instance)
+      (λ (waiter : Waiter). waiter.instance < kernel.tables.next_instance)
       (λ waiter given. given.1) kernel.tables.waiters numbers.waiters;
   calls = λ slot call found.
-      let given = numbers.given slot (sound.unmarked call) (unmarked_there kernel slot call found) in (given.session, given.instance);
+      let given = numbers.given slot (sound.unmarked call) (unmarked_there kernel slot call found) in
+      (given.session, given.instance);
 }
   where
     at_least : (a b : ℕ) → 1 ≤ a → a ≤ b → 1 ≤ b
     at_least a b one le = omega arith
 
-    held : (slot : ThreadSlot) (call : PendingCall) → call_in slot ≡ Some call → sound.call_in slot ≡ Some (sound.unmarked call)
+    held : (slot : ThreadSlot) (call : PendingCall) → call_in slot ≡ Some call
+        → sound.call_in slot ≡ Some (sound.unmarked call)
     held Free call e = absurd cc
-    held (Active cpu other) call e = let same : other ≡ call = cc in ap (λ (c : PendingCall). Some (sound.unmarked c)) same
-    held (Suspended client other) call e = let same : other ≡ call = cc in ap (λ (c : PendingCall). Some (sound.unmarked c)) same
+    held (Active cpu other) call e = let same : other ≡ call = cc in
+        ap (λ (c : PendingCall). Some (sound.unmarked c)) same
+    held (Suspended client other) call e = let same : other ≡ call = cc in
+        ap (λ (c : PendingCall). Some (sound.unmarked c)) same
 
-    unmarked_there : (k : Kernel) (slot : ℕ) (call : PendingCall) → call_at k.slots slot ≡ Some call → sound.call_at k.slots slot ≡ Some (sound.unmarked call)
+    unmarked_there : (k : Kernel) (slot : ℕ) (call : PendingCall) → call_at k.slots slot ≡ Some call
+        → sound.call_at k.slots slot ≡ Some (sound.unmarked call)
     unmarked_there k slot call found =
         option_and_then_some call_in (slice_get k.slots slot) call found
         (λ there is onward. ap (λ (o : Option ThreadSlot). option_and_then sound.call_in o) is ∙ held there call onward)

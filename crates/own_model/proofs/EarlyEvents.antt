@@ -1,5 +1,6 @@
 -- Before the open of a session an event notes nothing of it, but for its open.
-use Rattle.std.proofs.Common.{◌≡◌, ℕ, ◌≤◌, ◌<◌, Bool, true, false, List, [], ◌∷◌, Option, Some, None, refl, ap, subst, sym, ◌∙◌, arith}
+use Rattle.std.proofs.Common.{◌≡◌, ℕ, ◌≤◌, ◌<◌, Bool, true, false, List, [], ◌∷◌, Option, Some, None, refl, ap, subst}
+use Rattle.std.proofs.Common.{sym, ◌∙◌, arith}
 use Rattle.std.specs.Prelude.{◌&&◌, ◌==◌, if◌then◌else◌, slice_get}
 use Rattle.std.specs.Option.{option_map, option_map_or, option_and_then}
 use Rattle.std.proofs.lemmas.Option.{option_and_then_some}
@@ -17,7 +18,8 @@ use Rattle.kernel_model.specs.Exit.{Exited, exit, exit_of, goes_out_from, progre
 use Rattle.kernel_model.specs.Given.{Given, given_to}
 use Rattle.kernel_model.specs.History.{after_event}
 use Rattle.kernel_model.specs.Instances.{app_of, is_single}
-use Rattle.kernel_model.specs.Kernel.{Active, Free, Kernel, PendingCall, Processor, Progress, Suspended, Tables, ThreadSlot, Visit}
+use Rattle.kernel_model.specs.Kernel.{Active, Free, Kernel, PendingCall, Processor, Progress, Suspended, Tables}
+use Rattle.kernel_model.specs.Kernel.{ThreadSlot, Visit}
 use Rattle.kernel_model.specs.Resume.{onward_of, resumed_call}
 use Rattle.kernel_model.proofs.EntryLaws.{resumes_call}
 use Rattle.kernel_model.proofs.FixedAnswer.{fixed_answers}
@@ -25,7 +27,8 @@ use Rattle.kernel_model.proofs.Parts.{anything, reading-all}
 use Rattle.kernel_model.proofs.SoundExits.{exits_all}
 use Rattle.kernel_model.proofs.SoundResumes.{resumes_all}
 use Rattle.own_model.proofs.Before.{Another, Coming, ItsOpen, OpensIt, Shares, early_call, open_along}
-use Rattle.own_model.proofs.EventKinds.{EntryKind, ExitKind, FromCall, HasAnswer, IsNewCall, IsResume, WithAnswer, entry_kind, exit_kind}
+use Rattle.own_model.proofs.EventKinds.{EntryKind, ExitKind, FromCall, HasAnswer, IsNewCall, IsResume, WithAnswer}
+use Rattle.own_model.proofs.EventKinds.{entry_kind, exit_kind}
 use Rattle.own_model.proofs.FixedAnswers.{entered, left}
 use Rattle.own_model.proofs.NewEntries.{IsTaken, new_call_noted}
 use Rattle.own_model.proofs.OtherExits.{none_noted}
@@ -34,7 +37,8 @@ use Rattle.own_model.proofs.BelowNumbers.{AreBelow, IsBelow}
 use Rattle.own_model.specs.declared.own_event.OwnEvent.{OwnEvent}
 use Rattle.own_model.specs.declared.own_event.OwnEvent.TheVariants.{Open}
 use Rattle.own_model.specs.Laws.{GoesAlong, about_next}
-use Rattle.own_model.specs.Own.{Entering, Notes, entry_noted, event_noted, event_of, fixed_noted, is_limit, no_notes, numbered, out_noted}
+use Rattle.own_model.specs.Own.{Entering, Notes, entry_noted, event_noted, event_of, fixed_noted, is_limit, no_notes}
+use Rattle.own_model.specs.Own.{numbered, out_noted}
 use Rattle.own_model.specs.Solo.{unopened}
 
 -- ---- what comes next
@@ -43,16 +47,20 @@ use Rattle.own_model.specs.Solo.{unopened}
 -- waits, for an instance that is shared
 pub data EarlyNext (boot : Booted) (session most : ℕ) (kernel next : Kernel) (now : Notes) : Type 0 where
   StillEarly : now ≡ no_notes → next.tables.next_session ≤ session → EarlyNext boot session most kernel next now
-  NowOpen : (of : Application) → session ≡ kernel.tables.next_session → app_of boot (uuid_of of) ≡ Some of → now.uuid ≡ Some (uuid_of of) →
-      is_single of ≡ false → GoesAlong (about_next of most kernel) no_notes unopened next now → EarlyNext boot session most kernel next now
-  NowShared : (of : Application) → session < next.tables.next_session → app_of boot (uuid_of of) ≡ Some of → now.uuid ≡ Some (uuid_of of) →
+  NowOpen : (of : Application) → session ≡ kernel.tables.next_session → app_of boot (uuid_of of) ≡ Some of
+      → now.uuid ≡ Some (uuid_of of) →
+      is_single of ≡ false → GoesAlong (about_next of most kernel) no_notes unopened next now
+      → EarlyNext boot session most kernel next now
+  NowShared : (of : Application) → session < next.tables.next_session → app_of boot (uuid_of of) ≡ Some of
+      → now.uuid ≡ Some (uuid_of of) →
       is_single of ≡ true → EarlyNext boot session most kernel next now
   NowNameless : session < next.tables.next_session → now ≡ no_notes → EarlyNext boot session most kernel next now
 
 -- ---- next numbers
 
 -- an exit leaves the next number of a session
-exit_numbers : (tables : Tables) (granted : ℕ) (progress : Progress) (held : ThreadSlot) → progress_held tables granted held ≡ Some progress
+exit_numbers : (tables : Tables) (granted : ℕ) (progress : Progress) (held : ThreadSlot)
+    → progress_held tables granted held ≡ Some progress
     → progress.tables.next_session ≡ tables.next_session
 exit_numbers tables granted progress Free e = absurd cc
 exit_numbers tables granted progress (Suspended client other) e = absurd cc
@@ -68,7 +76,8 @@ exit_numbers tables granted progress (Active worker working) e =
       tells = λ result params wakes is. refl;
     }) e
 
-left_numbers : (tables : Tables) (slot : ℕ) (held : ThreadSlot) → (tables_left tables slot held).next_session ≡ tables.next_session
+left_numbers : (tables : Tables) (slot : ℕ) (held : ThreadSlot)
+    → (tables_left tables slot held).next_session ≡ tables.next_session
 left_numbers tables slot Free = refl
 left_numbers tables slot (Active cpu call) = refl
 left_numbers tables slot (Suspended client call) = refl
@@ -77,7 +86,8 @@ left_numbers tables slot (Suspended client call) = refl
 onward_numbers : (boot : Booted) (tables : Tables) (slot : ℕ) (call : PendingCall) (given : Given)
     → (onward_of (resumed_call boot tables slot call given)).tables.next_session ≡ tables.next_session
 onward_numbers boot tables slot call given =
-    resumes_all (resumed_call boot tables slot call given) (λ (p : Progress). p.tables.next_session ≡ tables.next_session) (record {
+    resumes_all (resumed_call boot tables slot call given)
+    (λ (p : Progress). p.tables.next_session ≡ tables.next_session) (record {
       runs = λ job is. refl;
       asks_still = λ job wanted payload is. refl;
       answered = λ job wanted payload answer advance is takes. refl;
@@ -93,11 +103,13 @@ onward_numbers boot tables slot call given =
 -- ---- kinds of events
 
 -- nobody has the session's number
-nobody : (session : ℕ) (kernel : Kernel) (found : Option Session) → AreBelow kernel.slots kernel.tables → kernel.tables.next_session ≤ session
+nobody : (session : ℕ) (kernel : Kernel) (found : Option Session) → AreBelow kernel.slots kernel.tables
+    → kernel.tables.next_session ≤ session
     → get kernel.tables.sessions session ≡ found → found ≡ None
 nobody session kernel None below before is = refl
 nobody session kernel (Some kept) below before is =
-    let given = All-get (λ (k : ℕ × Session). IsBelow kernel.tables k.0 k.1.instance) kernel.tables.sessions session kept below.sessions is in
+    let given = All-get (λ (k : ℕ × Session). IsBelow kernel.tables k.0 k.1.instance) kernel.tables.sessions session
+    kept below.sessions is in
     absurd (too_low session kernel.tables.next_session given.0 before)
   where
     too_low : (a n : ℕ) → a < n → n ≤ a → ⊥
@@ -107,29 +119,37 @@ and_false : (b : Bool) → (b && false) ≡ false
 and_false true = refl
 and_false false = refl
 
-fixed_early : (session : ℕ) (kernel : Kernel) (visit : Visit) (answer : Answer) → AreBelow kernel.slots kernel.tables → kernel.tables.next_session ≤ session
+fixed_early : (session : ℕ) (kernel : Kernel) (visit : Visit) (answer : Answer) → AreBelow kernel.slots kernel.tables
+    → kernel.tables.next_session ≤ session
     → fixed_noted session kernel visit no_notes answer ≡ no_notes
 fixed_early session kernel visit answer below before =
-    ap (λ (o : Option Session). if is_limit answer && option_map_or (λ (kept : Session). kept.client == client_in visit.regs) o false
+    ap (λ (o : Option Session). if is_limit answer
+    && option_map_or (λ (kept : Session). kept.client == client_in visit.regs) o false
     then record no_notes { turned_away = visit.cpu ∷ [] } else no_notes)
     (nobody session kernel (get kernel.tables.sessions session) below before refl)
     ∙ ap (λ b. if b then record no_notes { turned_away = visit.cpu ∷ [] } else no_notes) (and_false (is_limit answer))
 
-opens_next : (boot : Booted) (session most : ℕ) (kernel next : Kernel) (visit : Visit) (slot : ℕ) (now : PendingCall) (notes : Notes)
+opens_next : (boot : Booted) (session most : ℕ) (kernel next : Kernel) (visit : Visit) (slot : ℕ)
+    (now : PendingCall) (notes : Notes)
     → (found : IsTaken (λ at taken. Coming boot session kernel.slots at kernel.tables taken) kernel next visit slot now)
-    → (o : OpensIt boot session kernel.slots slot kernel.tables found.taken) → notes ≡ numbered no_notes slot now (Open o.params o.login)
+    → (o : OpensIt boot session kernel.slots slot kernel.tables found.taken)
+    → notes ≡ numbered no_notes slot now (Open o.params o.login)
     → (single : Bool) → is_single o.of ≡ single → EarlyNext boot session most kernel next notes
 opens_next boot session most kernel next visit slot now notes found o is true shares =
     NowShared o.of (subst (λ (k : Kernel). session < k.tables.next_session) found.gives o.is_now) o.of_boot
     (ap (λ (n : Notes). n.uuid) is ∙ ap (λ (c : PendingCall). c.uuid) (sym found.call_is) ∙ o.uuid) shares
 opens_next boot session most kernel next visit slot now notes found o is false alone =
-    NowOpen o.of o.is_next o.of_boot (ap (λ (n : Notes). n.uuid) is ∙ ap (λ (c : PendingCall). c.uuid) (sym found.call_is) ∙ o.uuid) alone
+    NowOpen o.of o.is_next o.of_boot (ap (λ (n : Notes). n.uuid) is ∙ ap (λ (c : PendingCall). c.uuid)
+    (sym found.call_is) ∙ o.uuid) alone
     (subst (GoesAlong (about_next o.of most kernel) no_notes unopened next) (sym is)
-    (subst (λ (call : PendingCall). GoesAlong (about_next o.of most kernel) no_notes unopened next (numbered no_notes slot call (Open o.params o.login))) found.call_is
-    (subst (λ (k : Kernel). GoesAlong (about_next o.of most kernel) no_notes unopened k (numbered no_notes slot found.taken.call (Open o.params o.login))) found.gives
+    (subst (λ (call : PendingCall). GoesAlong (about_next o.of most kernel) no_notes unopened next
+    (numbered no_notes slot call (Open o.params o.login))) found.call_is
+    (subst (λ (k : Kernel). GoesAlong (about_next o.of most kernel) no_notes unopened k
+    (numbered no_notes slot found.taken.call (Open o.params o.login))) found.gives
     (open_along o.of most kernel visit slot found.taken o.params o.login (o.tied alone)))))
 
-call_next : (boot : Booted) (session most : ℕ) (kernel next : Kernel) (visit : Visit) (slot : ℕ) (now : PendingCall) (notes : Notes)
+call_next : (boot : Booted) (session most : ℕ) (kernel next : Kernel) (visit : Visit) (slot : ℕ)
+    (now : PendingCall) (notes : Notes)
     → (found : IsTaken (λ at taken. Coming boot session kernel.slots at kernel.tables taken) kernel next visit slot now)
     → notes ≡ option_map_or (numbered no_notes slot now) (event_of session now) no_notes
     → Coming boot session kernel.slots slot kernel.tables found.taken → EarlyNext boot session most kernel next notes
@@ -148,14 +168,17 @@ call_next boot session most kernel next visit slot now notes found is (ItsOpen o
     (is_single o.of) refl
 
 entry_next : (boot : Booted) (session most : ℕ) (kernel next : Kernel) (cpu steps : ℕ) (regs : Regs) (reads : List Read)
-    → AreBelow kernel.slots kernel.tables → kernel.tables.next_session ≤ session → after_event boot kernel (Entry cpu regs steps reads) ≡ Some next
+    → AreBelow kernel.slots kernel.tables → kernel.tables.next_session ≤ session
+    → after_event boot kernel (Entry cpu regs steps reads) ≡ Some next
     → EntryKind kernel next cpu steps regs
     → EarlyNext boot session most kernel next (event_noted session kernel next no_notes (Entry cpu regs steps reads))
 entry_next boot session most kernel next cpu steps regs reads below before e (HasAnswer answer inside) =
     let visit : Visit = record { cpu = cpu; regs = regs.a; steps = steps } in
     let at : Entering = record { kernel = kernel; next = next; visit = visit; reads = reads } in
-    let comes = fixed_answers.entry boot kernel next visit reads answer (entered boot kernel next cpu steps regs reads e) inside in
-    StillEarly (ap (λ (p : Option Processor). entry_noted session at no_notes p) inside ∙ fixed_early session kernel visit answer below before)
+    let comes = fixed_answers.entry boot kernel next visit reads answer
+    (entered boot kernel next cpu steps regs reads e) inside in
+    StillEarly (ap (λ (p : Option Processor). entry_noted session at no_notes p) inside
+    ∙ fixed_early session kernel visit answer below before)
     (subst (λ (k : Kernel). k.tables.next_session ≤ session) (sym comes) before)
 entry_next boot session most kernel next cpu steps regs reads below before e (IsNewCall slot now is inside there) =
     let found = early_call boot session kernel next cpu steps slot regs reads now below before is inside there e in
@@ -165,11 +188,14 @@ entry_next boot session most kernel next cpu steps regs reads below before e (Is
     let visit : Visit = record { cpu = cpu; regs = regs.a; steps = steps } in
     let at : Entering = record { kernel = kernel; next = next; visit = visit; reads = reads } in
     let slot : ℕ = thread_in regs.a in
-    let resumes = resumes_call boot kernel next visit reads call is some (entered boot kernel next cpu steps regs reads e) in
-    let found = reading-all (given_to regs.a slot call) (λ given. onward_of (resumed_call boot kernel.tables slot call given)) (λ given. Unit {0})
+    let resumes = resumes_call boot kernel next visit reads call is some
+    (entered boot kernel next cpu steps regs reads e) in
+    let found = reading-all (given_to regs.a slot call)
+    (λ given. onward_of (resumed_call boot kernel.tables slot call given)) (λ given. Unit {0})
     (anything (given_to regs.a slot call)) reads resumes.progress resumes.comes_to in
     let same : resumes.progress.tables.next_session ≡ kernel.tables.next_session =
-    ap (λ (p : Progress). p.tables.next_session) (sym found.gives) ∙ onward_numbers boot kernel.tables slot call found.value in
+    ap (λ (p : Progress). p.tables.next_session) (sym found.gives)
+    ∙ onward_numbers boot kernel.tables slot call found.value in
     StillEarly (ap (λ (p : Option Processor). entry_noted session at no_notes p) inside
     ∙ resumed_noted session (record { regs = regs.a; reads = reads; slot = slot }) no_notes (client_in regs.a) call
     (slice_get kernel.slots slot) (slice_get next.slots slot) some refl)
@@ -184,7 +210,8 @@ exit_next boot session most kernel next cpu regs before e (WithAnswer came steps
     let goes = fixed_answers.exit kernel visit answer inside in
     let same : out.0.kernel.tables ≡ kernel.tables = same_tables _ out.0 (sym goes ∙ out.1) in
     StillEarly (ap (λ (p : Option Processor). out_noted kernel no_notes cpu p) inside)
-    (subst (λ (k : Kernel). k.tables.next_session ≤ session) out.2 (subst (λ (t : Tables). t.next_session ≤ session) (sym same) before))
+    (subst (λ (k : Kernel). k.tables.next_session ≤ session) out.2
+    (subst (λ (t : Tables). t.next_session ≤ session) (sym same) before))
   where
     same_tables : (one exited : Exited) → Some one ≡ Some exited → exited.kernel.tables ≡ one.kernel.tables
     same_tables one exited is = let same : one ≡ exited = cc in ap (λ (x : Exited). x.kernel.tables) (sym same)
@@ -203,15 +230,18 @@ exit_next boot session most kernel next cpu regs before e (FromCall came steps s
     StillEarly (ap (λ (p : Option Processor). out_noted kernel no_notes cpu p) inside
     ∙ none_noted no_notes slot None (progress_in_slot kernel steps slot) refl)
     (subst (λ (k : Kernel). k.tables.next_session ≤ session) out.2
-    (subst (λ (x : Exited). x.kernel.tables.next_session ≤ session) (sym same) (subst (λ n. n ≤ session) (sym after) before)))
+    (subst (λ (x : Exited). x.kernel.tables.next_session ≤ session) (sym same)
+    (subst (λ n. n ≤ session) (sym after) before)))
   where
     same_exit : (a b : Exited) → Some a ≡ Some b → a ≡ b
     same_exit a b is = cc
 
 pub early_next : (boot : Booted) (session most : ℕ) (kernel next : Kernel) (happened : Event)
-    → AreBelow kernel.slots kernel.tables → kernel.tables.next_session ≤ session → after_event boot kernel happened ≡ Some next
+    → AreBelow kernel.slots kernel.tables → kernel.tables.next_session ≤ session
+    → after_event boot kernel happened ≡ Some next
     → EarlyNext boot session most kernel next (event_noted session kernel next no_notes happened)
 early_next boot session most kernel next (Entry cpu regs steps reads) below before e =
-    entry_next boot session most kernel next cpu steps regs reads below before e (entry_kind boot kernel next cpu steps regs reads e)
+    entry_next boot session most kernel next cpu steps regs reads below before e
+    (entry_kind boot kernel next cpu steps regs reads e)
 early_next boot session most kernel next (Exit cpu regs) below before e =
     exit_next boot session most kernel next cpu regs before e (exit_kind boot kernel next cpu regs e)

@@ -17,7 +17,8 @@ use Rattle.kernel_model.specs.Decision.{Answers, Decision, Taken, Takes, works_o
 use Rattle.kernel_model.specs.Entry.{after_decision, decision_of}
 use Rattle.kernel_model.specs.Exit.{Exited, exit_of, goes_out_from, progress_in_slot}
 use Rattle.kernel_model.specs.History.{after_event}
-use Rattle.kernel_model.specs.Kernel.{Active, Fixed, Free, InSlot, Inside, Kernel, Outside, PendingCall, Processor, Progress, Visit, cancelled_slots, lowest_free}
+use Rattle.kernel_model.specs.Kernel.{Active, Fixed, Free, InSlot, Inside, Kernel, Outside, PendingCall, Processor}
+use Rattle.kernel_model.specs.Kernel.{Progress, Visit, cancelled_slots, lowest_free}
 use Rattle.kernel_model.specs.Resume.{call_resumed_by, resume_call, takes_call}
 use Rattle.kernel_model.proofs.FixedAnswer.{decides_all, inside_for, processors_after}
 use Rattle.kernel_model.proofs.Parts.{AllOf, AllOf-mapped, AllOf-onward, option_map_some, set_found}
@@ -30,17 +31,21 @@ use Rattle.own_model.proofs.OwnTaken.{free_marked}
 
 -- it has a fixed answer, is a new call in a slot, or resumes the call of one
 pub data EntryKind (kernel next : Kernel) (cpu steps : ℕ) (regs : Regs) : Type 0 where
-  HasAnswer : (answer : Answer) → slice_get next.processors cpu ≡ Some (Inside regs.a steps (Fixed answer)) → EntryKind kernel next cpu steps regs
+  HasAnswer : (answer : Answer) → slice_get next.processors cpu ≡ Some (Inside regs.a steps (Fixed answer))
+      → EntryKind kernel next cpu steps regs
   IsNewCall : (slot : ℕ) (now : PendingCall) → call_of (reg regs.a 0) ≡ WithArg →
-      slice_get next.processors cpu ≡ Some (Inside regs.a steps (InSlot slot)) → slice_get next.slots slot ≡ Some (Active cpu now) →
+      slice_get next.processors cpu ≡ Some (Inside regs.a steps (InSlot slot))
+      → slice_get next.slots slot ≡ Some (Active cpu now) →
       EntryKind kernel next cpu steps regs
   IsResume : (call : PendingCall) → call_of (reg regs.a 0) ≡ Resume → call_resumed_by kernel.slots regs.a ≡ Some call →
-      slice_get next.processors cpu ≡ Some (Inside regs.a steps (InSlot (thread_in regs.a))) → EntryKind kernel next cpu steps regs
+      slice_get next.processors cpu ≡ Some (Inside regs.a steps (InSlot (thread_in regs.a)))
+      → EntryKind kernel next cpu steps regs
 
 -- why a slot is taken
 data WhyTaken (kernel : Kernel) (regs : List ℕ) (slot : ℕ) : Type 0 where
   ForNew : call_of (reg regs 0) ≡ WithArg → slice_get kernel.slots slot ≡ Some Free → WhyTaken kernel regs slot
-  ForResumed : (call : PendingCall) → call_of (reg regs 0) ≡ Resume → call_resumed_by kernel.slots regs ≡ Some call → slot ≡ thread_in regs →
+  ForResumed : (call : PendingCall) → call_of (reg regs 0) ≡ Resume → call_resumed_by kernel.slots regs ≡ Some call
+      → slot ≡ thread_in regs →
       WhyTaken kernel regs slot
 
 abbrev IsTakenFor : Kernel → List ℕ → Decision → Type 0
@@ -50,17 +55,20 @@ IsTakenFor kernel regs (Takes slot taken) = WhyTaken kernel regs slot
 abbrev Anything : ℕ → Taken → Type 0
 Anything slot taken = Unit {0}
 
-for_new : (kernel : Kernel) (regs : List ℕ) → call_of (reg regs 0) ≡ WithArg → (decision : Decision) → TakesFree Anything kernel decision
+for_new : (kernel : Kernel) (regs : List ℕ) → call_of (reg regs 0) ≡ WithArg → (decision : Decision)
+    → TakesFree Anything kernel decision
     → IsTakenFor kernel regs decision
 for_new kernel regs is (Answers answer) takes = tt
 for_new kernel regs is (Takes slot taken) takes = ForNew is takes.0
 
-resumes_for : (boot : Booted) (kernel : Kernel) (regs : List ℕ) (found : Option PendingCall) → call_of (reg regs 0) ≡ Resume
+resumes_for : (boot : Booted) (kernel : Kernel) (regs : List ℕ) (found : Option PendingCall)
+    → call_of (reg regs 0) ≡ Resume
     → call_resumed_by kernel.slots regs ≡ found
     → AllOf (IsTakenFor kernel regs) (option_map_or (takes_call boot kernel.tables regs) found (done (Answers eresume)))
 resumes_for boot kernel regs None is none = tt
 resumes_for boot kernel regs (Some call) is some =
-    AllOf-mapped (resume_call boot kernel.tables regs call) (λ progress. Takes (thread_in regs) (works_on progress)) (IsTakenFor kernel regs)
+    AllOf-mapped (resume_call boot kernel.tables regs call) (λ progress. Takes (thread_in regs) (works_on progress))
+    (IsTakenFor kernel regs)
     (λ progress. ForResumed call is some refl)
 
 decision_for : (boot : Booted) (kernel : Kernel) (regs : List ℕ) (call : Call) → call_of (reg regs 0) ≡ call
@@ -69,7 +77,8 @@ decision_for boot kernel regs (Fast call) is = tt
 decision_for boot kernel regs Unknown is = tt
 decision_for boot kernel regs Resume is = resumes_for boot kernel regs (call_resumed_by kernel.slots regs) is refl
 decision_for boot kernel regs WithArg is =
-    AllOf-onward (decision_of boot kernel regs WithArg) (TakesFree Anything kernel) (IsTakenFor kernel regs) (for_new kernel regs is)
+    AllOf-onward (decision_of boot kernel regs WithArg) (TakesFree Anything kernel) (IsTakenFor kernel regs)
+    (for_new kernel regs is)
     (call_decides Anything boot kernel regs (lowest_free kernel.slots) refl (λ slot free bytes. record {
       settled = λ code. tt;
       settled_open = λ of code. tt;
@@ -82,7 +91,8 @@ decision_for boot kernel regs WithArg is =
       registered = λ buffers. tt;
     }))
 
-entry_by : (kernel next : Kernel) (cpu steps : ℕ) (regs : Regs) (decision : Decision) → IsTakenFor kernel regs.a decision
+entry_by : (kernel next : Kernel) (cpu steps : ℕ) (regs : Regs) (decision : Decision)
+    → IsTakenFor kernel regs.a decision
     → after_decision kernel (record { cpu = cpu; regs = regs.a; steps = steps }) decision ≡ next
     → slice_get next.processors cpu ≡ Some (inside_for (record { cpu = cpu; regs = regs.a; steps = steps }) decision)
     → EntryKind kernel next cpu steps regs
@@ -90,7 +100,8 @@ entry_by kernel next cpu steps regs (Answers answer) why gives inside = HasAnswe
 entry_by kernel next cpu steps regs (Takes slot taken) (ForNew is free) gives inside =
     IsNewCall slot taken.call is inside
     (ap (λ (k : Kernel). slice_get k.slots slot) (sym gives)
-    ∙ set_found (cancelled_slots kernel.slots taken.cancels) slot (Active cpu taken.call) Free (free_marked kernel.slots taken.cancels slot free))
+    ∙ set_found (cancelled_slots kernel.slots taken.cancels) slot (Active cpu taken.call) Free
+    (free_marked kernel.slots taken.cancels slot free))
 entry_by kernel next cpu steps regs (Takes slot taken) (ForResumed call is some same) gives inside =
     IsResume call is some (inside ∙ ap (λ n. Some (Inside regs.a steps (InSlot n))) same)
 
@@ -110,20 +121,25 @@ entry_kind boot kernel next cpu steps regs reads e =
 
 -- with a fixed answer, or from what a call has come to
 pub data ExitKind (kernel : Kernel) (cpu : ℕ) : Type 0 where
-  WithAnswer : (came : List ℕ) (steps : ℕ) (answer : Answer) → slice_get kernel.processors cpu ≡ Some (Inside came steps (Fixed answer)) → ExitKind kernel cpu
-  FromCall : (came : List ℕ) (steps slot : ℕ) (progress : Progress) → slice_get kernel.processors cpu ≡ Some (Inside came steps (InSlot slot)) →
+  WithAnswer : (came : List ℕ) (steps : ℕ) (answer : Answer)
+      → slice_get kernel.processors cpu ≡ Some (Inside came steps (Fixed answer)) → ExitKind kernel cpu
+  FromCall : (came : List ℕ) (steps slot : ℕ) (progress : Progress)
+      → slice_get kernel.processors cpu ≡ Some (Inside came steps (InSlot slot)) →
       progress_in_slot kernel steps slot ≡ Some progress → ExitKind kernel cpu
 
-exit_by : (kernel : Kernel) (cpu : ℕ) (processor : Option Processor) (exited : Exited) → slice_get kernel.processors cpu ≡ processor
+exit_by : (kernel : Kernel) (cpu : ℕ) (processor : Option Processor) (exited : Exited)
+    → slice_get kernel.processors cpu ≡ processor
     → option_and_then (exit_of kernel cpu) processor ≡ Some exited → ExitKind kernel cpu
 exit_by kernel cpu None exited there e = absurd cc
 exit_by kernel cpu (Some Outside) exited there e = absurd cc
 exit_by kernel cpu (Some (Inside came steps (Fixed answer))) exited there e = WithAnswer came steps answer there
 exit_by kernel cpu (Some (Inside came steps (InSlot slot))) exited there e =
-    let found = option_map_some (goes_out_from kernel (record { cpu = cpu; regs = came; steps = steps }) slot) (progress_in_slot kernel steps slot) exited e in
+    let found = option_map_some (goes_out_from kernel (record { cpu = cpu; regs = came; steps = steps }) slot)
+    (progress_in_slot kernel steps slot) exited e in
     FromCall came steps slot found.0 there found.1
 
-pub exit_kind : (boot : Booted) (kernel next : Kernel) (cpu : ℕ) (regs : Regs) → after_event boot kernel (Exit cpu regs) ≡ Some next → ExitKind kernel cpu
+pub exit_kind : (boot : Booted) (kernel next : Kernel) (cpu : ℕ) (regs : Regs)
+    → after_event boot kernel (Exit cpu regs) ≡ Some next → ExitKind kernel cpu
 exit_kind boot kernel next cpu regs e =
     let out = left boot kernel next cpu regs e in
     exit_by kernel cpu (slice_get kernel.processors cpu) out.0 refl out.1

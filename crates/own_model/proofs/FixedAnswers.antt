@@ -1,5 +1,6 @@
 -- Fixed answers leave a kernel and a machine tied.
-use Rattle.std.proofs.Common.{◌≡◌, ℕ, Bool, true, false, List, [], ◌∷◌, ◌++◌, Option, Some, None, refl, ap, subst, sym, ◌∙◌}
+use Rattle.std.proofs.Common.{◌≡◌, ℕ, Bool, true, false, List, [], ◌∷◌, ◌++◌, Option, Some, None, refl, ap, subst, sym}
+use Rattle.std.proofs.Common.{◌∙◌}
 use Rattle.std.specs.Prelude.{slice_get, if◌then◌else◌, ◌&&◌, ◌==◌, not, filter}
 use Rattle.std.specs.List.{list_any}
 use Rattle.std.proofs.lemmas.Option.{option_and_then_some}
@@ -65,7 +66,8 @@ goes_silently about before after solo next same tied = record {
 
 -- ---- fixed answers
 
-fixed_entry : (boot : Booted) (about : About) (kernel next : Kernel) (cpu steps : ℕ) (regs : Regs) (reads : List Read) (answer : Answer)
+fixed_entry : (boot : Booted) (about : About) (kernel next : Kernel) (cpu steps : ℕ) (regs : Regs) (reads : List Read)
+    (answer : Answer)
     → slice_get next.processors cpu ≡ Some (Inside regs.a steps (Fixed answer))
     → KeepsTied boot about kernel next (Entry cpu regs steps reads)
 fixed_entry boot about kernel next cpu steps regs reads answer inside notes solo e tied =
@@ -74,23 +76,29 @@ fixed_entry boot about kernel next cpu steps regs reads answer inside notes solo
     let comes : next ≡ with_visitor kernel visit (Fixed answer) =
     fixed_answers.entry boot kernel next visit reads answer (entered boot kernel next cpu steps regs reads e) inside in
     let still : Tied about.app (whose_of about.session about.instance notes) next.slots next.tables solo =
-    subst (λ (k : Kernel). Tied about.app (whose_of about.session about.instance notes) k.slots k.tables solo) (sym comes) tied in
-    let noted = if-both (GoesAlong about notes solo next) (is_limit answer && is_of_client kernel about.session visit.regs)
+    subst (λ (k : Kernel). Tied about.app (whose_of about.session about.instance notes) k.slots k.tables solo)
+    (sym comes) tied in
+    let noted = if-both (GoesAlong about notes solo next)
+    (is_limit answer && is_of_client kernel about.session visit.regs)
     (record notes { turned_away = cpu ∷ notes.turned_away }) notes
     (goes_silently about notes _ solo next refl still) (goes_silently about notes notes solo next refl still) in
-    subst (λ (p : Option Processor). GoesAlong about notes solo next (entry_noted about.session at notes p)) (sym inside) noted
+    subst (λ (p : Option Processor). GoesAlong about notes solo next (entry_noted about.session at notes p))
+    (sym inside) noted
 
-fixed_exit : (boot : Booted) (about : About) (kernel next : Kernel) (cpu steps : ℕ) (came : List ℕ) (regs : Regs) (answer : Answer)
+fixed_exit : (boot : Booted) (about : About) (kernel next : Kernel) (cpu steps : ℕ) (came : List ℕ) (regs : Regs)
+    (answer : Answer)
     → slice_get kernel.processors cpu ≡ Some (Inside came steps (Fixed answer))
     → KeepsTied boot about kernel next (Exit cpu regs)
 fixed_exit boot about kernel next cpu steps came regs answer inside notes solo e tied =
     let visit : Visit = record { cpu = cpu; regs = came; steps = steps } in
     let out = left boot kernel next cpu regs e in
-    let goes : exit kernel cpu ≡ Some (goes_out kernel visit answer []) = fixed_answers.exit kernel visit answer inside in
+    let goes : exit kernel cpu ≡ Some (goes_out kernel visit answer []) =
+    fixed_answers.exit kernel visit answer inside in
     let is : out.0 ≡ goes_out kernel visit answer [] = some_same _ _ (sym out.1 ∙ goes) in
     let comes : next ≡ without_visitor kernel visit = sym out.2 ∙ ap (λ (x : Exited). x.kernel) is in
     let still : Tied about.app (whose_of about.session about.instance notes) next.slots next.tables solo =
-    subst (λ (k : Kernel). Tied about.app (whose_of about.session about.instance notes) k.slots k.tables solo) (sym comes) tied in
+    subst (λ (k : Kernel). Tied about.app (whose_of about.session about.instance notes) k.slots k.tables solo)
+    (sym comes) tied in
     let noted = if-both (GoesAlong about notes solo next) (list_any (λ away. away == cpu) notes.turned_away)
     (record notes {
       turned_away = filter (λ away. not (away == cpu)) notes.turned_away;

@@ -1,5 +1,6 @@
 -- What a search finds, and what is in the lowest free slot.
-use Rattle.std.proofs.Common.{◌≡◌, ℕ, Bool, true, false, cond, List, [], ◌∷◌, ◌++◌, Option, Some, refl, ap, subst, ◌∙◌, arith}
+use Rattle.std.proofs.Common.{◌≡◌, ℕ, Bool, true, false, cond, List, [], ◌∷◌, ◌++◌, Option, Some, refl, ap, subst, ◌∙◌}
+use Rattle.std.proofs.Common.{arith}
 use Rattle.std.specs.Prelude.{◌==◌, All, bytes_eq, find}
 use Rattle.std.proofs.lemmas.Bool.Decides.{nat_tests}
 use Rattle.std.proofs.lemmas.List.Elements.{All-cons, All-head, All-nil, All-tail, filter-append}
@@ -18,16 +19,19 @@ pub record Passes {X : Type 0} (P : X → Type 0) (test : X → Bool) (x : X) : 
 some_same : {X : Type 0} (a b : X) → Some a ≡ Some b → a ≡ b
 some_same a b e = cc
 
-found_by : {X : Type 0} (P : X → Type 0) (test : X → Bool) (first : X) (later : Option X) (x : X) (here : Bool) → test first ≡ here → P first
+found_by : {X : Type 0} (P : X → Type 0) (test : X → Bool) (first : X) (later : Option X) (x : X) (here : Bool)
+    → test first ≡ here → P first
     → (later ≡ Some x → Passes P test x) → cond here (Some first) later ≡ Some x → Passes P test x
 found_by P test first later x true is holds rest e =
     subst (Passes P test) (some_same first x e) (record { holds = holds; passes = is })
 found_by P test first later x false is holds rest e = rest e
 
-pub find-all : {X : Type 0} (P : X → Type 0) (test : X → Bool) (xs : List X) (x : X) → All P xs → find test xs ≡ Some x → Passes P test x
+pub find-all : {X : Type 0} (P : X → Type 0) (test : X → Bool) (xs : List X) (x : X) → All P xs → find test xs ≡ Some x
+    → Passes P test x
 find-all P test [] x all e = absurd cc
 find-all P test (first ∷ xs) x all e =
-    found_by P test first (find test xs) x (test first) refl (All-head P first xs all) (find-all P test xs x (All-tail P first xs all)) e
+    found_by P test first (find test xs) x (test first) refl (All-head P first xs all)
+    (find-all P test xs x (All-tail P first xs all)) e
 
 -- ---- applications
 
@@ -38,7 +42,8 @@ all_any (app ∷ apps) = All-cons (λ (any : Application). Unit {0}) app apps tt
 -- the application of a UUID has it
 pub app_named : (boot : Booted) (uuid : List ℕ) (of : Application) → app_of boot uuid ≡ Some of → uuid_of of ≡ uuid
 app_named boot uuid of is =
-    let passes = find-all (λ (any : Application). Unit {0}) (λ (any : Application). bytes_eq (uuid_of any) uuid) boot.apps of (all_any boot.apps) is in
+    let passes = find-all (λ (any : Application). Unit {0}) (λ (any : Application). bytes_eq (uuid_of any) uuid)
+    boot.apps of (all_any boot.apps) is in
     (bytes_eq-Decides (uuid_of of) uuid).0 passes.passes
 
 -- ---- those that wait
@@ -53,7 +58,8 @@ apart_numbers a b apart true e = absurd (apart (same a b e))
     same c d is = grind (arith, nat_tests)
 apart_numbers a b apart false e = refl
 
-tail_holds : (P : Waiter → Type 0) (first : Waiter) (rest : List Waiter) (here : Bool) → All P (cond here (first ∷ rest) rest) → All P rest
+tail_holds : (P : Waiter → Type 0) (first : Waiter) (rest : List Waiter) (here : Bool)
+    → All P (cond here (first ∷ rest) rest) → All P rest
 tail_holds P first rest true all = All-tail P first rest all
 tail_holds P first rest false all = all
 
@@ -62,13 +68,15 @@ pub waiter-all : (P : Waiter → Type 0) (test : Waiter → Bool) (instance : �
     → All P (waiting_for instance waiters) → x.instance ≡ instance → find test waiters ≡ Some x → Passes P test x
 waiter-all P test instance [] x all here e = absurd cc
 waiter-all P test instance (first ∷ waiters) x all here e =
-    by_test (test first) refl (waiter-all P test instance waiters x (tail_holds P first (waiting_for instance waiters) (first.instance == instance) all) here) e
+    by_test (test first) refl (waiter-all P test instance waiters x
+    (tail_holds P first (waiting_for instance waiters) (first.instance == instance) all) here) e
   where
     by_test : (passes : Bool) → test first ≡ passes → (find test waiters ≡ Some x → Passes P test x)
         → cond passes (Some first) (find test waiters) ≡ Some x → Passes P test x
     by_test true is rest found =
         let same : first ≡ x = some_same first x found in
-        let waits : (first.instance == instance) ≡ true = same_number first.instance instance (ap (λ (w : Waiter). w.instance) same ∙ here) in
+        let waits : (first.instance == instance) ≡ true =
+        same_number first.instance instance (ap (λ (w : Waiter). w.instance) same ∙ here) in
         let first_holds : P first =
         All-head P first (waiting_for instance waiters)
         (subst (λ b. All P (cond b (first ∷ waiting_for instance waiters) (waiting_for instance waiters))) waits all) in
@@ -80,5 +88,6 @@ pub another_waits : (instance : ℕ) (waiters : List Waiter) (last : Waiter) →
     → waiting_for instance (waiters ++ last ∷ []) ≡ waiting_for instance waiters
 another_waits instance waiters last apart =
     filter-append (λ (w : Waiter). w.instance == instance) waiters (last ∷ [])
-    ∙ ap (λ b. waiting_for instance waiters ++ cond b (last ∷ []) []) (apart_numbers last.instance instance apart (last.instance == instance) refl)
+    ∙ ap (λ b. waiting_for instance waiters ++ cond b (last ∷ []) [])
+    (apart_numbers last.instance instance apart (last.instance == instance) refl)
     ∙ append-nil (waiting_for instance waiters)

@@ -1,5 +1,6 @@
 -- What a map has at a number after a change at another number.
-use Rattle.std.proofs.Common.{◌≡◌, ℕ, zero, suc, Bool, true, false, not, cond, List, [], ◌∷◌, Option, Some, None, refl, ap, sym, ◌∙◌, arith}
+use Rattle.std.proofs.Common.{◌≡◌, ℕ, zero, suc, Bool, true, false, not, cond, List, [], ◌∷◌, Option, Some, None, refl}
+use Rattle.std.proofs.Common.{ap, sym, ◌∙◌, arith}
 use Rattle.std.specs.Prelude.{slice_get, slice_set}
 use Rattle.std.specs.Ordering.{nat_cmp, eq_by_cmp}
 use Rattle.std.specs.declared.cmp.Ordering.TheVariants.{Less, Equal, Greater}
@@ -7,7 +8,8 @@ use Rattle.std.specs.FinMap.Entries as Entries
 use Rattle.std.proofs.lemmas.Bool.Decides.{nat_tests}
 use Rattle.base.specs.NumberMap.{NumberMap, get, insert, remove, get-insert, get-remove}
 
-pub get-insert-other : {X : Type 0} (m : NumberMap X) (k : ℕ) (v : X) (q : ℕ) → (k ≡ q → ⊥) → get (insert m k v) q ≡ get m q
+pub get-insert-other : {X : Type 0} (m : NumberMap X) (k : ℕ) (v : X) (q : ℕ) → (k ≡ q → ⊥)
+    → get (insert m k v) q ≡ get m q
 get-insert-other m k v q apart =
     let differ : eq_by_cmp nat_cmp q k ≡ false = by_test (eq_by_cmp nat_cmp q k) refl in
     get-insert m k v q ∙ ap (λ b. cond b (Some v) (get m q)) differ
@@ -40,9 +42,11 @@ get-removed m k q v found = by_test (eq_by_cmp nat_cmp k q) (sym (get-remove m k
     by_test false here = here
 
 -- what is there after an insertion is what was inserted, or was there
-pub get-inserted : {X : Type 0} {P : Type 0} (m : NumberMap X) (k : ℕ) (v : X) (q : ℕ) (x : X) → get (insert m k v) q ≡ Some x
+pub get-inserted : {X : Type 0} {P : Type 0} (m : NumberMap X) (k : ℕ) (v : X) (q : ℕ) (x : X)
+    → get (insert m k v) q ≡ Some x
     → (q ≡ k → v ≡ x → P) → (get m q ≡ Some x → P) → P
-get-inserted {X} {P} m k v q x found here there = by_test (eq_by_cmp nat_cmp q k) refl (sym (get-insert m k v q) ∙ found)
+get-inserted {X} {P} m k v q x found here there =
+    by_test (eq_by_cmp nat_cmp q k) refl (sym (get-insert m k v q) ∙ found)
   where
     same : (a b : ℕ) → eq_by_cmp nat_cmp a b ≡ true → a ≡ b
     same a b equal = grind (arith, nat_tests)
@@ -71,15 +75,20 @@ self_compared : (k : ℕ) → nat_cmp k k ≡ Equal
 self_compared k = grind (arith, nat_tests)
 
 pub insert-again : {X : Type 0} (m : NumberMap X) (k : ℕ) (v w : X) → insert (insert m k v) k w ≡ insert m k w
-insert-again {X} [] k v w = ap (λ r. Entries.by_order r ((k, w) ∷ (k, v) ∷ []) ((k, w) ∷ []) ((k, v) ∷ insert [] k w)) (self_compared k)
+insert-again {X} [] k v w =
+    ap (λ r. Entries.by_order r ((k, w) ∷ (k, v) ∷ []) ((k, w) ∷ []) ((k, v) ∷ insert [] k w)) (self_compared k)
 insert-again {X} (e ∷ es) k v w =
     elim (nat_cmp k e.0) as (λ r. nat_cmp k e.0 ≡ r →
     insert (Entries.by_order r ((k, v) ∷ e ∷ es) ((e.0, v) ∷ es) (e ∷ insert es k v)) k w
     ≡ Entries.by_order r ((k, w) ∷ e ∷ es) ((e.0, w) ∷ es) (e ∷ insert es k w)) [
-      | Less ↦ λ _. ap (λ r. Entries.by_order r ((k, w) ∷ (k, v) ∷ e ∷ es) ((k, w) ∷ e ∷ es) ((k, v) ∷ insert (e ∷ es) k w)) (self_compared k)
-      | Equal ↦ λ equal. ap (λ r. Entries.by_order r ((k, w) ∷ (e.0, v) ∷ es) ((e.0, w) ∷ es) ((e.0, v) ∷ insert es k w)) equal
+      | Less ↦ λ _.
+          ap (λ r. Entries.by_order r ((k, w) ∷ (k, v) ∷ e ∷ es) ((k, w) ∷ e ∷ es) ((k, v) ∷ insert (e ∷ es) k w))
+          (self_compared k)
+      | Equal ↦ λ equal.
+          ap (λ r. Entries.by_order r ((k, w) ∷ (e.0, v) ∷ es) ((e.0, w) ∷ es) ((e.0, v) ∷ insert es k w)) equal
       | Greater ↦ λ greater.
-          ap (λ r. Entries.by_order r ((k, w) ∷ e ∷ insert es k v) ((e.0, w) ∷ insert es k v) (e ∷ insert (insert es k v) k w)) greater
+          ap (λ r. Entries.by_order r ((k, w) ∷ e ∷ insert es k v) ((e.0, w) ∷ insert es k v)
+          (e ∷ insert (insert es k v) k w)) greater
           ∙ ap (λ rest. e ∷ rest) (insert-again es k v w)
     ] refl
 
@@ -98,7 +107,8 @@ remove-inserted {X} (e ∷ es) k v =
     tied_by a b equal = grind (arith, nat_tests)
 
 -- an element of a list after one was set is that, or was there
-pub set_either : {X : Type 0} {P : Type 0} (xs : List X) (i j : ℕ) (x : X) (y : Option X) → slice_get (slice_set xs i x) j ≡ y
+pub set_either : {X : Type 0} {P : Type 0} (xs : List X) (i j : ℕ) (x : X) (y : Option X)
+    → slice_get (slice_set xs i x) j ≡ y
     → (Some x ≡ y → P) → (slice_get xs j ≡ y → P) → P
 set_either [] i j x y e here there = there e
 set_either (first ∷ xs) zero zero x y e here there = here e

@@ -11,14 +11,22 @@ use Rattle.session_table.specs.declared.session.Session.{Session}
 use Rattle.shm_registry.specs.declared.page_buffer.PageBuffer.{PageBuffer}
 use Rattle.shm_registry.specs.Registered.{lowest_slot}
 use Rattle.kernel_model.specs.Application.{Application, Booted}
-use Rattle.kernel_model.specs.Argument.{Opening, argument_at, invocation, opening, params_in, registering, unregistering}
-use Rattle.kernel_model.specs.Codes.{bad_parameters, busy, ebadaddr, ebadcmd, item_not_found, out_of_memory, target_dead}
+use Rattle.kernel_model.specs.Argument.{Opening, argument_at, invocation, opening, params_in, registering}
+use Rattle.kernel_model.specs.Argument.{unregistering}
+use Rattle.kernel_model.specs.Codes.{bad_parameters, busy, ebadaddr, ebadcmd, item_not_found, out_of_memory}
+use Rattle.kernel_model.specs.Codes.{target_dead}
 use Rattle.kernel_model.specs.Decision.{Taken, Tested}
 use Rattle.kernel_model.specs.Instances.{app_of}
 use Rattle.kernel_model.specs.Kernel.{Instance, Tables}
-use Rattle.kernel_model.specs.NewCall.{NewCall, cancel_calls, cancels, close_session, closes, command_of, commands, copied_params, has_argument, has_pages, has_session_room, invoke_command, invokes, is_head_address, is_taken, keeps_buffers, listed_pages, named_session, new_call_in, new_call_of, open_session, opens_or_waits, pages_touched, parameters, register_memory, settles, settles_invoke, settles_open, shares_one, unregister_memory}
+use Rattle.kernel_model.specs.NewCall.{NewCall, cancel_calls, cancels, close_session, closes, command_of, commands}
+use Rattle.kernel_model.specs.NewCall.{copied_params, has_argument, has_pages, has_session_room, invoke_command}
+use Rattle.kernel_model.specs.NewCall.{invokes, is_head_address, is_taken, keeps_buffers, listed_pages, named_session}
+use Rattle.kernel_model.specs.NewCall.{new_call_in, new_call_of, open_session, opens_or_waits, pages_touched}
+use Rattle.kernel_model.specs.NewCall.{parameters, register_memory, settles, settles_invoke, settles_open, shares_one}
+use Rattle.kernel_model.specs.NewCall.{unregister_memory}
 use Rattle.kernel_model.proofs.Parts.{AllOf, option_map_some}
-use Rattle.kernel_model.proofs.Tests.{Ends, Fails, TakenIn, answer_known, answer_need, answer_read, faultless-fails, known-fails, known-then, need-by, need-then, reads-fails, taken_ends, test-then}
+use Rattle.kernel_model.proofs.Tests.{Ends, Fails, TakenIn, answer_known, answer_need, answer_read, faultless-fails}
+use Rattle.kernel_model.proofs.Tests.{known-fails, known-then, need-by, need-then, reads-fails, taken_ends, test-then}
 use Rattle.own_model.proofs.Lookups.{find-all}
 
 -- ---- commands
@@ -27,10 +35,14 @@ use Rattle.own_model.proofs.Lookups.{find-all}
 pub record OfAllEndings (P : Taken → Type 0) (c : NewCall) : Type 0 where
   pub settled : (code : ℕ) → P (settles c code)
   pub settled_open : (of : Application) (code : ℕ) → P (settles_open c of code)
-  pub opened : (wanted : Opening) (of : Application) (copies : Copies) → app_of c.boot wanted.uuid ≡ Some of → P (opens_or_waits c wanted of copies)
-  pub dead : (named : Session × Instance) → named_session c ≡ Some named → named.1.dead ≡ true → P (settles_invoke c target_dead)
-  pub faulty : (named : Session × Instance) → named_session c ≡ Some named → named.1.dead ≡ false → P (settles_invoke c bad_parameters)
-  pub invoked : (named : Session × Instance) (copies : Copies) → named_session c ≡ Some named → named.1.dead ≡ false → P (invokes c named copies)
+  pub opened : (wanted : Opening) (of : Application) (copies : Copies) → app_of c.boot wanted.uuid ≡ Some of
+      → P (opens_or_waits c wanted of copies)
+  pub dead : (named : Session × Instance) → named_session c ≡ Some named → named.1.dead ≡ true
+      → P (settles_invoke c target_dead)
+  pub faulty : (named : Session × Instance) → named_session c ≡ Some named → named.1.dead ≡ false
+      → P (settles_invoke c bad_parameters)
+  pub invoked : (named : Session × Instance) (copies : Copies) → named_session c ≡ Some named → named.1.dead ≡ false
+      → P (invokes c named copies)
   pub closed : (named : Session × Instance) → named_session c ≡ Some named → P (closes c named)
   pub cancelled : (named : Session × Instance) → named_session c ≡ Some named → P (cancels c)
   pub registered : (buffers : NumberMap PageBuffer) → P (keeps_buffers c buffers)
@@ -45,12 +57,14 @@ open_ends P c all =
     test-then P (parameters c) _ (parameters_fails P c all) (λ params.
     known-then P (opening params) (settles c bad_parameters) _ (all.settled bad_parameters) (λ wanted shape.
     known-then P (app_of c.boot wanted.uuid) (settles c item_not_found) _ (all.settled item_not_found) (λ of is.
-    need-then P (not (shares_one c of (λ kept. kept.1.dead))) (settles_open c of target_dead) _ (all.settled_open of target_dead) (
+    need-then P (not (shares_one c of (λ kept. kept.1.dead))) (settles_open c of target_dead) _
+    (all.settled_open of target_dead) (
     need-then P (not (is_taken c of)) (settles_open c of busy) _ (all.settled_open of busy) (
     need-then P (has_session_room c) (settles_open c of out_of_memory) _ (all.settled_open of out_of_memory) (
     need-then P (has_pages c of) (settles_open c of out_of_memory) _ (all.settled_open of out_of_memory) (
     test-then P (copied_params c wanted.params 2 (settles_open c of bad_parameters)) _
-    (faultless-fails P (copying c.tables.registered.buffers wanted.params 2) (settles_open c of bad_parameters) (all.settled_open of bad_parameters))
+    (faultless-fails P (copying c.tables.registered.buffers wanted.params 2) (settles_open c of bad_parameters)
+    (all.settled_open of bad_parameters))
     (λ copies. all.opened wanted of copies is))))))))
 
 is_dead : (dead : Bool) → not dead ≡ false → dead ≡ true
@@ -66,27 +80,33 @@ invoke_ends P c all =
     test-then P (parameters c) _ (parameters_fails P c all) (λ params.
     known-then P (invocation params) (settles c bad_parameters) _ (all.settled bad_parameters) (λ invoked shape.
     known-then P (named_session c) (settles c bad_parameters) _ (all.settled bad_parameters) (λ named is.
-    need-by P (not named.1.dead) (settles_invoke c target_dead) _ (λ dead. all.dead named is (is_dead named.1.dead dead)) (λ alive.
+    need-by P (not named.1.dead) (settles_invoke c target_dead) _
+    (λ dead. all.dead named is (is_dead named.1.dead dead)) (λ alive.
     test-then P (copied_params c invoked 0 (settles_invoke c bad_parameters)) _
-    (faultless-fails P (copying c.tables.registered.buffers invoked 0) (settles_invoke c bad_parameters) (all.faulty named is (is_alive named.1.dead alive)))
+    (faultless-fails P (copying c.tables.registered.buffers invoked 0) (settles_invoke c bad_parameters)
+    (all.faulty named is (is_alive named.1.dead alive)))
     (λ copies. all.invoked named copies is (is_alive named.1.dead alive))))))
 
 close_ends : (P : Taken → Type 0) (c : NewCall) → OfAllEndings P c → Ends P (close_session c)
 close_ends P c all =
-    known-then P (named_session c) (settles c bad_parameters) _ (all.settled bad_parameters) (λ named is. all.closed named is)
+    known-then P (named_session c) (settles c bad_parameters) _ (all.settled bad_parameters)
+    (λ named is. all.closed named is)
 
 cancel_ends : (P : Taken → Type 0) (c : NewCall) → OfAllEndings P c → Ends P (cancel_calls c)
 cancel_ends P c all =
-    known-then P (named_session c) (settles c bad_parameters) _ (all.settled bad_parameters) (λ named is. all.cancelled named is)
+    known-then P (named_session c) (settles c bad_parameters) _ (all.settled bad_parameters)
+    (λ named is. all.cancelled named is)
 
 register_ends : (P : Taken → Type 0) (c : NewCall) → OfAllEndings P c → Ends P (register_memory c)
 register_ends P c all =
     test-then P (parameters c) _ (parameters_fails P c all) (λ params.
     known-then P (registering params) (settles c bad_parameters) _ (all.settled bad_parameters) (λ param shape.
-    need-then P (is_none (get c.tables.registered.buffers param.s)) (settles c bad_parameters) _ (all.settled bad_parameters) (
+    need-then P (is_none (get c.tables.registered.buffers param.s)) (settles c bad_parameters) _
+    (all.settled bad_parameters) (
     need-then P (nat_lt 0 param.q) (settles c bad_parameters) _ (all.settled bad_parameters) (
     need-then P (nat_le (pages_touched param) 1024) (settles c bad_parameters) _ (all.settled bad_parameters) (
-    need-then P (nat_lt (length c.tables.registered.buffers) 64) (settles c out_of_memory) _ (all.settled out_of_memory) (
+    need-then P (nat_lt (length c.tables.registered.buffers) 64) (settles c out_of_memory) _
+    (all.settled out_of_memory) (
     test-then P (faultless (listed_pages param) (settles c bad_parameters)) _
     (faultless-fails P (listed_pages param) (settles c bad_parameters) (all.settled bad_parameters))
     (λ pages. all.registered _)))))))
@@ -95,7 +115,8 @@ unregister_ends : (P : Taken → Type 0) (c : NewCall) → OfAllEndings P c → 
 unregister_ends P c all =
     test-then P (parameters c) _ (parameters_fails P c all) (λ params.
     known-then P (unregistering params) (settles c bad_parameters) _ (all.settled bad_parameters) (λ param shape.
-    need-then P (is_some (get c.tables.registered.buffers param.s)) (settles c bad_parameters) _ (all.settled bad_parameters) (
+    need-then P (is_some (get c.tables.registered.buffers param.s)) (settles c bad_parameters) _
+    (all.settled bad_parameters) (
     need-then P (is_none (lowest_slot c.tables.registered.pins param.s)) (settles c busy) _ (all.settled busy)
     (all.registered _))))
 
@@ -111,8 +132,10 @@ all_end P =
 command_ends : (P : Taken → Type 0) (cmd : ℕ) (command : NewCall → Tested Taken) → command_of cmd ≡ Some command
     → (c : NewCall) → OfAllEndings P c → Ends P (command c)
 command_ends P cmd command is c all =
-    let row = option_map_some (λ (r : ℕ × (NewCall → Tested Taken)). r.1) (find (λ (r : ℕ × (NewCall → Tested Taken)). r.0 == cmd) commands) command is in
-    let found = find-all (EndsSo P) (λ (r : ℕ × (NewCall → Tested Taken)). r.0 == cmd) commands row.0 (all_end P) row.1 in
+    let row = option_map_some (λ (r : ℕ × (NewCall → Tested Taken)). r.1)
+    (find (λ (r : ℕ × (NewCall → Tested Taken)). r.0 == cmd) commands) command is in
+    let found = find-all (EndsSo P) (λ (r : ℕ × (NewCall → Tested Taken)). r.0 == cmd) commands row.0
+    (all_end P) row.1 in
     subst (λ (f : NewCall → Tested Taken). Ends P (f c)) row.2 (found.holds c all)
 
 -- ---- the tests of each call

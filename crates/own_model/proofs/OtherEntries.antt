@@ -13,7 +13,8 @@ use Rattle.kernel_model.specs.Argument.{reg}
 use Rattle.kernel_model.specs.Decision.{Taken, Takes}
 use Rattle.kernel_model.specs.Entry.{after_decision}
 use Rattle.kernel_model.specs.History.{after_event}
-use Rattle.kernel_model.specs.Kernel.{Active, Cancel, Free, InSlot, Inside, Kernel, PendingCall, Suspended, ThreadSlot, Visit, cancelled_slot, cancelled_slots}
+use Rattle.kernel_model.specs.Kernel.{Active, Cancel, Free, InSlot, Inside, Kernel, PendingCall, Suspended, ThreadSlot}
+use Rattle.kernel_model.specs.Kernel.{Visit, cancelled_slot, cancelled_slots}
 use Rattle.kernel_model.specs.NewCall.{new_call_of}
 use Rattle.own_model.proofs.FixedAnswers.{goes_silently}
 use Rattle.own_model.proofs.NewEntries.{new_call_noted, new_call_taken}
@@ -27,7 +28,8 @@ use Rattle.own_model.specs.Own.{Notes, event_noted, event_of, numbered}
 use Rattle.own_model.specs.Solo.{Solo}
 use Rattle.own_model.specs.Tied.{IsOther, Whose, call_at, call_in}
 
-beside : (boot : Booted) (about : About) (kernel : Kernel) (notes : Notes) (solo : Solo) (regs : List ℕ) (slot : ℕ) → SharesNone boot about.app
+beside : (boot : Booted) (about : About) (kernel : Kernel) (notes : Notes) (solo : Solo) (regs : List ℕ) (slot : ℕ)
+    → SharesNone boot about.app
     → AreTied about kernel notes solo → (bytes : List ℕ)
     → Beside about.app (whose_of about.session about.instance notes) (new_call_of boot kernel.tables regs slot bytes)
 beside boot about kernel notes solo regs slot shares tied bytes = record {
@@ -40,7 +42,8 @@ beside boot about kernel notes solo regs slot shares tied bytes = record {
 }
 
 -- a free slot has no number
-pub no_number : (about : About) (kernel : Kernel) (notes : Notes) (solo : Solo) (slot : ℕ) (found : Option ℕ) → get notes.numbering.in_slots slot ≡ found
+pub no_number : (about : About) (kernel : Kernel) (notes : Notes) (solo : Solo) (slot : ℕ) (found : Option ℕ)
+    → get notes.numbering.in_slots slot ≡ found
     → slice_get kernel.slots slot ≡ Some Free → AreTied about kernel notes solo → found ≡ None
 no_number about kernel notes solo slot None is free tied = refl
 no_number about kernel notes solo slot (Some number) is free tied =
@@ -50,7 +53,8 @@ no_number about kernel notes solo slot (Some number) is free tied =
 
 -- ---- cancelled calls
 
-marked_in : (cancel : Cancel) (held : ThreadSlot) → option_map unmarked (call_in (cancelled_slot cancel held)) ≡ option_map unmarked (call_in held)
+marked_in : (cancel : Cancel) (held : ThreadSlot)
+    → option_map unmarked (call_in (cancelled_slot cancel held)) ≡ option_map unmarked (call_in held)
 marked_in cancel Free = refl
 marked_in cancel (Active cpu call) = refl
 marked_in cancel (Suspended client call) = refl
@@ -66,7 +70,8 @@ pub cancels_mark : (slots : List ThreadSlot) (cancels : Option Cancel) (at : ℕ
 cancels_mark slots None at = refl
 cancels_mark slots (Some cancel) at = marked_at cancel slots at
 
-other_marked : (whose : Whose) (call now : PendingCall) → unmarked call ≡ unmarked now → IsOther whose call → IsOther whose now
+other_marked : (whose : Whose) (call now : PendingCall) → unmarked call ≡ unmarked now → IsOther whose call
+    → IsOther whose now
 other_marked whose call now same other =
     let plain : IsOther whose (unmarked call) =
     record { session_of_another = other.session_of_another; instance_of_another = other.instance_of_another } in
@@ -74,10 +79,13 @@ other_marked whose call now same other =
     record { session_of_another = there.session_of_another; instance_of_another = there.instance_of_another }
 
 pub cancels_keep : (whose : Whose) (slots : List ThreadSlot) (cancels : Option Cancel)
-    → ((at : ℕ) (call : PendingCall) → call_at slots at ≡ Some call → get whose.numbering.in_slots at ≡ None → IsOther whose call)
-    → (at : ℕ) (now : PendingCall) → call_at (cancelled_slots slots cancels) at ≡ Some now → get whose.numbering.in_slots at ≡ None → IsOther whose now
+    → ((at : ℕ) (call : PendingCall) → call_at slots at ≡ Some call → get whose.numbering.in_slots at ≡ None
+    → IsOther whose call)
+    → (at : ℕ) (now : PendingCall) → call_at (cancelled_slots slots cancels) at ≡ Some now
+    → get whose.numbering.in_slots at ≡ None → IsOther whose now
 cancels_keep whose slots cancels others at now found none =
-    let was = there_but_marked (call_at slots at) now (sym (cancels_mark slots cancels at) ∙ ap (λ (o : Option PendingCall). option_map unmarked o) found) in
+    let was = there_but_marked (call_at slots at) now
+    (sym (cancels_mark slots cancels at) ∙ ap (λ (o : Option PendingCall). option_map unmarked o) found) in
     other_marked whose was.0 now was.2 (others at was.0 was.1 none)
 
 -- ---- the entry
@@ -96,25 +104,32 @@ taken_tied about kernel visit notes solo slot taken none tied takes =
       calls = λ at number has. set.calls at number has ∙ cancels_mark kernel.slots taken.cancels at;
       others = set.others;
     } in
-    stays_tied about.app whose kernel.slots (slice_set marked slot held) kernel.tables taken.tables solo slots takes.kept tied
+    stays_tied about.app whose kernel.slots (slice_set marked slot held) kernel.tables taken.tables solo
+    slots takes.kept tied
 
-pub other_call : (boot : Booted) (about : About) (kernel next : Kernel) (cpu steps slot : ℕ) (regs : Regs) (reads : List Read) (now : PendingCall)
+pub other_call : (boot : Booted) (about : About) (kernel next : Kernel) (cpu steps slot : ℕ) (regs : Regs)
+    (reads : List Read) (now : PendingCall)
     (notes : Notes) (solo : Solo) → SharesNone boot about.app → call_of (reg regs.a 0) ≡ WithArg
-    → slice_get next.processors cpu ≡ Some (Inside regs.a steps (InSlot slot)) → slice_get next.slots slot ≡ Some (Active cpu now)
+    → slice_get next.processors cpu ≡ Some (Inside regs.a steps (InSlot slot))
+    → slice_get next.slots slot ≡ Some (Active cpu now)
     → event_of about.session now ≡ None
     → after_event boot kernel (Entry cpu regs steps reads) ≡ Some next → AreTied about kernel notes solo
     → GoesAlong about notes solo next (event_noted about.session kernel next notes (Entry cpu regs steps reads))
 other_call boot about kernel next cpu steps slot regs reads now notes solo shares is inside there none e tied =
     let whose : Whose = whose_of about.session about.instance notes in
-    let found = new_call_taken (λ at (taken : Taken). event_of about.session taken.call ≡ None → TakesOther whose kernel.tables taken)
+    let found =
+    new_call_taken (λ at (taken : Taken). event_of about.session taken.call ≡ None
+    → TakesOther whose kernel.tables taken)
     boot kernel next cpu steps slot regs reads now is
-    (λ at free bytes. endings_other about.app whose (new_call_of boot kernel.tables regs.a at bytes) (beside boot about kernel notes solo regs.a at shares tied bytes))
+    (λ at free bytes. endings_other about.app whose (new_call_of boot kernel.tables regs.a at bytes)
+    (beside boot about kernel notes solo regs.a at shares tied bytes))
     inside there e in
     let takes = found.holds (ap (λ (c : PendingCall). event_of about.session c) found.call_is ∙ none) in
     let unnumbered = no_number about kernel notes solo slot (get notes.numbering.in_slots slot) refl found.free tied in
     let visit : Visit = record { cpu = cpu; regs = regs.a; steps = steps } in
     let still : AreTied about next notes solo =
-    subst (λ (k : Kernel). AreTied about k notes solo) found.gives (taken_tied about kernel visit notes solo slot found.taken unnumbered tied takes) in
+    subst (λ (k : Kernel). AreTied about k notes solo) found.gives
+    (taken_tied about kernel visit notes solo slot found.taken unnumbered tied takes) in
     let same : event_noted about.session kernel next notes (Entry cpu regs steps reads) ≡ notes =
     new_call_noted about.session kernel next cpu steps slot regs reads now notes inside found.free there
     ∙ ap (λ (o : Option OwnEvent). option_map_or (numbered notes slot now) o notes) none in

@@ -28,19 +28,23 @@ pub record KeepsSessions (whose : Whose) (before after : NumberMap Session) : Ty
 
 -- no other session has the instance
 abbrev pub AreOnly : Whose → NumberMap Session → Type 0
-AreOnly whose sessions = (number : ℕ) (session : Session) → get sessions number ≡ Some session → IsOnlySession whose number session
+AreOnly whose sessions = (number : ℕ) (session : Session) → get sessions number ≡ Some session
+    → IsOnlySession whose number session
 
-unchanged : (whose : Whose) (sessions : NumberMap Session) → AreOnly whose sessions → KeepsSessions whose sessions sessions
+unchanged : (whose : Whose) (sessions : NumberMap Session) → AreOnly whose sessions
+    → KeepsSessions whose sessions sessions
 unchanged whose sessions only = record { session = refl; only = only }
 
-removed : (whose : Whose) (sessions : NumberMap Session) (number : ℕ) → (number ≡ whose.session → ⊥) → AreOnly whose sessions
+removed : (whose : Whose) (sessions : NumberMap Session) (number : ℕ) → (number ≡ whose.session → ⊥)
+    → AreOnly whose sessions
     → KeepsSessions whose sessions (remove sessions number)
 removed whose sessions number apart only = record {
   session = get-remove-other sessions number whose.session apart;
   only = λ other session found. only other session (get-removed sessions number other session found);
 }
 
-opened : (whose : Whose) (sessions : NumberMap Session) (number context : ℕ) (before : Session) → (number ≡ whose.session → ⊥)
+opened : (whose : Whose) (sessions : NumberMap Session) (number context : ℕ) (before : Session)
+    → (number ≡ whose.session → ⊥)
     → get sessions number ≡ Some before → AreOnly whose sessions
     → KeepsSessions whose sessions (insert sessions number (opened_with before context))
 opened whose sessions number context before apart there only = record {
@@ -52,17 +56,21 @@ opened whose sessions number context before apart there only = record {
       (λ was. only other session was);
 }
 
-settled_keeps : (whose : Whose) (sessions : NumberMap Session) (number context : ℕ) (found : Option Session) → (number ≡ whose.session → ⊥)
+settled_keeps : (whose : Whose) (sessions : NumberMap Session) (number context : ℕ) (found : Option Session)
+    → (number ≡ whose.session → ⊥)
     → get sessions number ≡ found → AreOnly whose sessions
-    → KeepsSessions whose sessions (option_map_or (λ session. insert sessions number (opened_with session context)) found sessions)
+    → KeepsSessions whose sessions (option_map_or
+    (λ session. insert sessions number (opened_with session context)) found sessions)
 settled_keeps whose sessions number context None apart there only = unchanged whose sessions only
-settled_keeps whose sessions number context (Some before) apart there only = opened whose sessions number context before apart there only
+settled_keeps whose sessions number context (Some before) apart there only =
+    opened whose sessions number context before apart there only
 
 pub after_keeps : (whose : Whose) (kind : CallKind) (sessions : NumberMap Session) (number result context : ℕ)
     → (number ≡ whose.session → ⊥) → AreOnly whose sessions
     → KeepsSessions whose sessions (sessions_after kind sessions number result context)
 after_keeps whose Open sessions number result context apart only =
-    if-both (KeepsSessions whose sessions) (result == success) (settled sessions number context) (remove sessions number)
+    if-both (KeepsSessions whose sessions) (result == success) (settled sessions number context)
+    (remove sessions number)
     (settled_keeps whose sessions number context (get sessions number) apart refl only)
     (removed whose sessions number apart only)
 after_keeps whose (Invoke func) sessions number result context apart only = unchanged whose sessions only
@@ -93,41 +101,52 @@ pub record KeepsInstance (whose : Whose) (before after : NumberMap Instance) : T
   pub of_app : (uuid : List ℕ) → AreOf whose.instance uuid before → AreOf whose.instance uuid after
 
 -- after another is put there, or removed
-pub other_put : (whose : Whose) (instances : NumberMap Instance) (number : ℕ) (instance : Instance) → (number ≡ whose.instance → ⊥)
+pub other_put : (whose : Whose) (instances : NumberMap Instance) (number : ℕ) (instance : Instance)
+    → (number ≡ whose.instance → ⊥)
     → KeepsInstance whose instances (insert instances number instance)
 other_put whose instances number instance apart = record {
   instance = get-insert-other instances number instance whose.instance apart;
   of_app = λ uuid all.
-      All-insert (λ (kept : ℕ × Instance). kept.0 ≡ whose.instance → kept.1.uuid ≡ uuid) instances number instance all (λ same. absurd (apart same));
+      All-insert (λ (kept : ℕ × Instance). kept.0 ≡ whose.instance → kept.1.uuid ≡ uuid) instances number instance all
+      (λ same. absurd (apart same));
 }
 
 other_removed : (whose : Whose) (instances : NumberMap Instance) (number : ℕ) → (number ≡ whose.instance → ⊥)
     → KeepsInstance whose instances (remove instances number)
 other_removed whose instances number apart = record {
   instance = get-remove-other instances number whose.instance apart;
-  of_app = λ uuid all. All-remove (λ (kept : ℕ × Instance). kept.0 ≡ whose.instance → kept.1.uuid ≡ uuid) instances number all;
+  of_app = λ uuid all.
+      All-remove (λ (kept : ℕ × Instance). kept.0 ≡ whose.instance → kept.1.uuid ≡ uuid) instances number all;
 }
 
-back_keeps : (whose : Whose) (sessions : NumberMap Session) (instances : NumberMap Instance) (number : ℕ) (is_last : Bool) (instance : Instance)
-    → (number ≡ whose.instance → ⊥) → KeepsInstance whose instances (instances_after sessions instances number is_last instance)
+back_keeps : (whose : Whose) (sessions : NumberMap Session) (instances : NumberMap Instance) (number : ℕ)
+    (is_last : Bool) (instance : Instance)
+    → (number ≡ whose.instance → ⊥)
+    → KeepsInstance whose instances (instances_after sessions instances number is_last instance)
 back_keeps whose sessions instances number is_last instance apart =
     if-both (KeepsInstance whose instances) (is_last || (instance.dead && not (has_opened sessions number)))
     (remove instances number) (insert instances number instance)
     (other_removed whose instances number apart) (other_put whose instances number instance apart)
 
-found_keeps : (whose : Whose) (sessions : NumberMap Session) (instances : NumberMap Instance) (number : ℕ) (is_last : Bool)
+found_keeps : (whose : Whose) (sessions : NumberMap Session) (instances : NumberMap Instance) (number : ℕ)
+    (is_last : Bool)
     (change : Instance → Instance) (found : Option Instance) → (number ≡ whose.instance → ⊥)
     → KeepsInstance whose instances
-    (option_map_or (λ (instance : Instance). instances_after sessions instances number is_last (change instance)) found instances)
-found_keeps whose sessions instances number is_last change None apart = record { instance = refl; of_app = λ uuid all. all }
+    (option_map_or (λ (instance : Instance). instances_after sessions instances number is_last (change instance))
+    found instances)
+found_keeps whose sessions instances number is_last change None apart =
+    record { instance = refl; of_app = λ uuid all. all }
 found_keeps whose sessions instances number is_last change (Some instance) apart =
     back_keeps whose sessions instances number is_last (change instance) apart
 
-pub gives_back_keeps : (whose : Whose) (tables : Tables) (call : PendingCall) (sessions : NumberMap Session) (is_last : Bool)
-    (change : Instance → Instance) → IsOther whose call → KeepsSessions whose tables.sessions sessions → AreGiven whose tables
+pub gives_back_keeps : (whose : Whose) (tables : Tables) (call : PendingCall) (sessions : NumberMap Session)
+    (is_last : Bool)
+    (change : Instance → Instance) → IsOther whose call → KeepsSessions whose tables.sessions sessions
+    → AreGiven whose tables
     → KeepsTables whose tables (gives_back tables call sessions is_last change)
 gives_back_keeps whose tables call sessions is_last change other kept given =
-    let back = found_keeps whose sessions tables.instances call.instance is_last change (get tables.instances call.instance) other.instance_of_another in
+    let back = found_keeps whose sessions tables.instances call.instance is_last change
+    (get tables.instances call.instance) other.instance_of_another in
     record {
       session = kept.session;
       only = kept.only;

@@ -11,25 +11,31 @@ use Rattle.kernel_model.specs.Exit.{tables_left}
 use Rattle.kernel_model.specs.Kernel.{Free, Instance, PendingCall, Tables, ThreadSlot}
 use Rattle.kernel_model.proofs.Parts.{set_found, set_other}
 use Rattle.own_model.proofs.InOrder.{by_numbers}
-use Rattle.own_model.proofs.Maps.{get-insert-other, get-insert-same, get-inserted, get-remove-other, get-remove-same, get-removed}
+use Rattle.own_model.proofs.Maps.{get-insert-other, get-insert-same, get-inserted, get-remove-other, get-remove-same}
+use Rattle.own_model.proofs.Maps.{get-removed}
 use Rattle.own_model.proofs.Others.{given_as, given_still}
 use Rattle.own_model.proofs.OwnInterrupts.{others_stay}
 use Rattle.own_model.specs.Solo.{OwnCall, OwnSession, Solo, with_call}
-use Rattle.own_model.specs.Tied.{AreGiven, AreKeptTold, AreOf, AreTiedCalls, AreTiedWaiters, CallsAlike, FoundAlike, HasNumber, HasToldCall, HoldersAlike, IsOnlySession, IsOther, IsTiedCall, Tied, WasTold, Whose, call_at, call_in, shown, waiting_for}
+use Rattle.own_model.specs.Tied.{AreGiven, AreKeptTold, AreOf, AreTiedCalls, AreTiedWaiters, CallsAlike, FoundAlike}
+use Rattle.own_model.specs.Tied.{HasNumber, HasToldCall, HoldersAlike, IsOnlySession, IsOther, IsTiedCall, Tied}
+use Rattle.own_model.specs.Tied.{WasTold, Whose, call_at, call_in, shown, waiting_for}
 
 -- ---- the tables
 
 -- the tables have the session and its instance as the machine has them, and nobody else has that
-pub record TablesAlike (app : Application) (whose : Whose) (tables : Tables) (session : Option OwnSession) (instance : Option Instance)
+pub record TablesAlike (app : Application) (whose : Whose) (tables : Tables) (session : Option OwnSession)
+    (instance : Option Instance)
     (waiting : List ℕ) : Type 0 where
   pub session_alike : option_map shown (get tables.sessions whose.session) ≡ session
   pub instance_alike : FoundAlike whose.numbering.in_slots (get tables.instances whose.instance) instance
   pub of_app : AreOf whose.instance (uuid_of app) tables.instances
   pub waiters : AreTiedWaiters app whose tables.waiters waiting
-  pub only : (number : ℕ) (session : Session) → get tables.sessions number ≡ Some session → IsOnlySession whose number session
+  pub only : (number : ℕ) (session : Session) → get tables.sessions number ≡ Some session
+      → IsOnlySession whose number session
   pub given : AreGiven whose tables
 
-pub tables_tied : (app : Application) (whose : Whose) (slots : List ThreadSlot) (tables : Tables) (solo : Solo) → Tied app whose slots tables solo
+pub tables_tied : (app : Application) (whose : Whose) (slots : List ThreadSlot) (tables : Tables) (solo : Solo)
+    → Tied app whose slots tables solo
     → TablesAlike app whose tables solo.session solo.instance solo.waiting
 tables_tied app whose slots tables solo tied = record {
   session_alike = tied.session_alike;
@@ -41,8 +47,10 @@ tables_tied app whose slots tables solo tied = record {
 }
 
 -- other tables, and the machine with what they have
-pub tied_with : (app : Application) (whose : Whose) (slots : List ThreadSlot) (before tables : Tables) (solo : Solo) (session : Option OwnSession)
-    (instance : Option Instance) (waiting : List ℕ) → Tied app whose slots before solo → TablesAlike app whose tables session instance waiting
+pub tied_with : (app : Application) (whose : Whose) (slots : List ThreadSlot) (before tables : Tables) (solo : Solo)
+    (session : Option OwnSession)
+    (instance : Option Instance) (waiting : List ℕ) → Tied app whose slots before solo
+    → TablesAlike app whose tables session instance waiting
     → Tied app whose slots tables (record solo { session = session; instance = instance; waiting = waiting })
 tied_with app whose slots before tables solo session instance waiting tied alike = record {
   session_alike = alike.session_alike;
@@ -63,7 +71,8 @@ abbrev pub with_wakes : Whose → NumberMap ℕ → Whose
 with_wakes whose wakes = record whose { numbering = record whose.numbering { wakes = wakes } }
 
 -- the call of a slot, and the machine's, change to these; only who that call wakes may be kept now
-pub record ChangesTo (whose : Whose) (slots : List ThreadSlot) (slot number : ℕ) (wakes : NumberMap ℕ) (now : PendingCall) (own : OwnCall) : Type 0 where
+pub record ChangesTo (whose : Whose) (slots : List ThreadSlot) (slot number : ℕ) (wakes : NumberMap ℕ)
+    (now : PendingCall) (own : OwnCall) : Type 0 where
   pub has : HasNumber whose slot number
   pub before : ThreadSlot
   pub there : slice_get slots slot ≡ Some before
@@ -74,12 +83,14 @@ pub record ChangesTo (whose : Whose) (slots : List ThreadSlot) (slot number : �
 pub some_number : (a b : ℕ) → Some a ≡ Some b → a ≡ b
 some_number a b e = cc
 
-calls_change : (whose : Whose) (slots : List ThreadSlot) (calls : NumberMap OwnCall) (slot number : ℕ) (wakes : NumberMap ℕ) (held : ThreadSlot) (now : PendingCall) (own : OwnCall)
+calls_change : (whose : Whose) (slots : List ThreadSlot) (calls : NumberMap OwnCall) (slot number : ℕ)
+    (wakes : NumberMap ℕ) (held : ThreadSlot) (now : PendingCall) (own : OwnCall)
     → call_in held ≡ Some now → ChangesTo whose slots slot number wakes now own → AreTiedCalls whose slots calls
     → AreTiedCalls (with_wakes whose wakes) (slice_set slots slot held) (insert calls number own)
 calls_change whose slots calls slot number wakes held now own in_it c tied = record {
   own = λ at other has. by_numbers slot at
-      (λ same. subst (λ n. IsTiedCall (with_wakes whose wakes) (slice_set slots slot held) (insert calls number own) n other) same
+      (λ same. subst (λ n. IsTiedCall (with_wakes whose wakes) (slice_set slots slot held)
+      (insert calls number own) n other) same
       (subst (λ n. IsTiedCall (with_wakes whose wakes) (slice_set slots slot held) (insert calls number own) slot n)
       (some_number number other (sym c.has ∙ ap (λ n. get whose.numbering.in_slots n) same ∙ has)) here))
       (λ apart. still at other apart has (tied.own at other has));
@@ -92,7 +103,8 @@ calls_change whose slots calls slot number wakes held now own in_it c tied = rec
     here = record {
       call = now;
       own = own;
-      in_slot = ap (λ (o : Option ThreadSlot). option_and_then call_in o) (set_found slots slot held c.before c.there) ∙ in_it;
+      in_slot = ap (λ (o : Option ThreadSlot). option_and_then call_in o)
+          (set_found slots slot held c.before c.there) ∙ in_it;
       of_number = get-insert-same calls number own;
       given = (tied.own slot number c.has).given;
       alike = c.alike;
@@ -103,13 +115,17 @@ calls_change whose slots calls slot number wakes held now own in_it c tied = rec
     still at other apart has was = record {
       call = was.call;
       own = was.own;
-      in_slot = ap (λ (o : Option ThreadSlot). option_and_then call_in o) (set_other slots slot at held apart) ∙ was.in_slot;
-      of_number = get-insert-other calls number own other (λ same. apart (tied.apart slot at other (c.has ∙ ap (λ n. Some n) same) has)) ∙ was.of_number;
+      in_slot = ap (λ (o : Option ThreadSlot). option_and_then call_in o)
+          (set_other slots slot at held apart) ∙ was.in_slot;
+      of_number = get-insert-other calls number own other
+          (λ same. apart (tied.apart slot at other (c.has ∙ ap (λ n. Some n) same) has)) ∙ was.of_number;
       given = was.given;
-      alike = subst (λ (o : Option ℕ). CallsAlike whose.session whose.instance o was.call was.own) (sym (c.others at apart)) was.alike;
+      alike = subst (λ (o : Option ℕ). CallsAlike whose.session whose.instance o was.call was.own)
+          (sym (c.others at apart)) was.alike;
     }
 
-kept_changes : (whose : Whose) (slots : List ThreadSlot) (calls : NumberMap OwnCall) (slot number : ℕ) (wakes : NumberMap ℕ) (now : PendingCall) (own : OwnCall)
+kept_changes : (whose : Whose) (slots : List ThreadSlot) (calls : NumberMap OwnCall) (slot number : ℕ)
+    (wakes : NumberMap ℕ) (now : PendingCall) (own : OwnCall)
     → ChangesTo whose slots slot number wakes now own → AreTiedCalls whose slots calls → AreKeptTold whose calls
     → AreKeptTold (with_wakes whose wakes) (insert calls number own)
 kept_changes whose slots calls slot number wakes now own c tied kept at woken found = by_numbers slot at here there
@@ -135,9 +151,12 @@ kept_changes whose slots calls slot number wakes now own c tied kept at woken fo
           told = was.told;
         }
 
-pub call_changes : (app : Application) (whose : Whose) (slots : List ThreadSlot) (tables : Tables) (solo : Solo) (slot number : ℕ) (wakes : NumberMap ℕ)
-    (held : ThreadSlot) (now : PendingCall) (own : OwnCall) → call_in held ≡ Some now → ChangesTo whose slots slot number wakes now own
-    → Tied app whose slots tables solo → Tied app (with_wakes whose wakes) (slice_set slots slot held) tables (with_call solo number own)
+pub call_changes : (app : Application) (whose : Whose) (slots : List ThreadSlot) (tables : Tables) (solo : Solo)
+    (slot number : ℕ) (wakes : NumberMap ℕ)
+    (held : ThreadSlot) (now : PendingCall) (own : OwnCall) → call_in held ≡ Some now
+    → ChangesTo whose slots slot number wakes now own
+    → Tied app whose slots tables solo
+    → Tied app (with_wakes whose wakes) (slice_set slots slot held) tables (with_call solo number own)
 call_changes app whose slots tables solo slot number wakes held now own in_it c tied = record {
   session_alike = tied.session_alike;
   instance_alike = tied.instance_alike;
@@ -145,7 +164,11 @@ call_changes app whose slots tables solo slot number wakes held now own in_it c 
   calls = calls_change whose slots solo.calls slot number wakes held now own in_it c tied.calls;
   waiters = record { order = tied.waiters.order; uuids = tied.waiters.uuids };
   kept = kept_changes whose slots solo.calls slot number wakes now own c tied.calls tied.kept;
-  alone = record { only = tied.alone.only; others = λ at call found none. other_still at call (others_stay whose slots slot number held c.has tied.alone.others at call found none) };
+  alone = record {
+    only = tied.alone.only;
+    others = λ at call found none.
+        other_still at call (others_stay whose slots slot number held c.has tied.alone.others at call found none);
+  };
   entered = tied.entered;
   given = given_still whose (with_wakes whose wakes).numbering tables tied.given;
 }
@@ -159,7 +182,11 @@ call_changes app whose slots tables solo slot number wakes held now own in_it c 
 -- the numbers without those of a slot
 abbrev pub without_slot : Whose → ℕ → Whose
 without_slot whose slot = record whose {
-  numbering = record whose.numbering { in_slots = remove whose.numbering.in_slots slot; wakes = remove whose.numbering.wakes slot };
+  numbering =
+      record whose.numbering {
+        in_slots = remove whose.numbering.in_slots slot;
+        wakes = remove whose.numbering.wakes slot;
+      };
 }
 
 -- its slot is neither that of the holder nor of one that waits
@@ -168,22 +195,27 @@ pub record IsIdle (whose : Whose) (slot number : ℕ) (tables : Tables) (waiting
   pub unlined : All (λ other. other ≡ number → ⊥) waiting
 
 -- another slot than this has its number still
-still_numbered : (numbers : NumberMap ℕ) (slot at other : ℕ) → (slot ≡ at → ⊥) → get numbers at ≡ Some other → get (remove numbers slot) at ≡ Some other
+still_numbered : (numbers : NumberMap ℕ) (slot at other : ℕ) → (slot ≡ at → ⊥) → get numbers at ≡ Some other
+    → get (remove numbers slot) at ≡ Some other
 still_numbered numbers slot at other apart has = get-remove-other numbers slot at apart ∙ has
 
 -- what has a number still is another slot
 is_another : (numbers : NumberMap ℕ) (slot at other : ℕ) → get (remove numbers slot) at ≡ Some other → slot ≡ at → ⊥
 is_another numbers slot at other has same =
-    let no : None ≡ Some other = sym (get-remove-same numbers slot) ∙ ap (λ n. get (remove numbers slot) n) same ∙ has in absurd cc
+    let no : None ≡ Some other = sym (get-remove-same numbers slot) ∙ ap (λ n. get (remove numbers slot) n) same
+    ∙ has in absurd cc
 
-holders_stay : (numbers : NumberMap ℕ) (slot : ℕ) (kept own : Option ℕ) → (kept ≡ Some slot → ⊥) → HoldersAlike numbers kept own
+holders_stay : (numbers : NumberMap ℕ) (slot : ℕ) (kept own : Option ℕ) → (kept ≡ Some slot → ⊥)
+    → HoldersAlike numbers kept own
     → HoldersAlike (remove numbers slot) kept own
 holders_stay numbers slot None None apart alike = tt
-holders_stay numbers slot (Some at) (Some number) apart alike = still_numbered numbers slot at number (λ same. apart (ap (λ n. Some n) (sym same))) alike
+holders_stay numbers slot (Some at) (Some number) apart alike =
+    still_numbered numbers slot at number (λ same. apart (ap (λ n. Some n) (sym same))) alike
 holders_stay numbers slot None (Some number) apart alike = absurd alike
 holders_stay numbers slot (Some at) None apart alike = absurd alike
 
-found_stays : (numbers : NumberMap ℕ) (slot : ℕ) (kept own : Option Instance) → ((instance : Instance) → kept ≡ Some instance → instance.holder ≡ Some slot → ⊥)
+found_stays : (numbers : NumberMap ℕ) (slot : ℕ) (kept own : Option Instance)
+    → ((instance : Instance) → kept ≡ Some instance → instance.holder ≡ Some slot → ⊥)
     → FoundAlike numbers kept own → FoundAlike (remove numbers slot) kept own
 found_stays numbers slot None None apart alike = tt
 found_stays numbers slot (Some kept) (Some own) apart alike = record {
@@ -196,8 +228,10 @@ found_stays numbers slot (Some kept) (Some own) apart alike = record {
 found_stays numbers slot None (Some own) apart alike = absurd alike
 found_stays numbers slot (Some kept) None apart alike = absurd alike
 
-order_stays : (numbers : NumberMap ℕ) (slot number : ℕ) (waiters : List Waiter) (waiting : List ℕ) → get numbers slot ≡ Some number
-    → All (λ other. other ≡ number → ⊥) waiting → map (λ (waiter : Waiter). get numbers waiter.slot) waiters ≡ map (λ n. Some n) waiting
+order_stays : (numbers : NumberMap ℕ) (slot number : ℕ) (waiters : List Waiter) (waiting : List ℕ)
+    → get numbers slot ≡ Some number
+    → All (λ other. other ≡ number → ⊥) waiting
+    → map (λ (waiter : Waiter). get numbers waiter.slot) waiters ≡ map (λ n. Some n) waiting
     → map (λ (waiter : Waiter). get (remove numbers slot) waiter.slot) waiters ≡ map (λ n. Some n) waiting
 order_stays numbers slot number [] [] has unlined order = refl
 order_stays numbers slot number [] (other ∷ waiting) has unlined order = absurd cc
@@ -208,13 +242,18 @@ order_stays numbers slot number (waiter ∷ waiters) (other ∷ waiting) has unl
     let apart : slot ≡ waiter.slot → ⊥ = λ same.
     All-head (λ n. n ≡ number → ⊥) other waiting unlined
     (some_number other number (sym here ∙ ap (λ n. get numbers n) (sym same) ∙ has)) in
-    ap (λ o. o ∷ map (λ (w : Waiter). get (remove numbers slot) w.slot) waiters) (still_numbered numbers slot waiter.slot other apart here)
-    ∙ ap (λ os. Some other ∷ os) (order_stays numbers slot number waiters waiting has (All-tail (λ n. n ≡ number → ⊥) other waiting unlined) behind)
+    ap (λ o. o ∷ map (λ (w : Waiter). get (remove numbers slot) w.slot) waiters)
+    (still_numbered numbers slot waiter.slot other apart here)
+    ∙ ap (λ os. Some other ∷ os) (order_stays numbers slot number waiters waiting has
+    (All-tail (λ n. n ≡ number → ⊥) other waiting unlined) behind)
 
-calls_without : (whose : Whose) (slots : List ThreadSlot) (calls : NumberMap OwnCall) (slot number : ℕ) (before : ThreadSlot) → HasNumber whose slot number
-    → AreTiedCalls whose slots calls → AreTiedCalls (without_slot whose slot) (slice_set slots slot Free) (remove calls number)
+calls_without : (whose : Whose) (slots : List ThreadSlot) (calls : NumberMap OwnCall) (slot number : ℕ)
+    (before : ThreadSlot) → HasNumber whose slot number
+    → AreTiedCalls whose slots calls
+    → AreTiedCalls (without_slot whose slot) (slice_set slots slot Free) (remove calls number)
 calls_without whose slots calls slot number before has tied = record {
-  own = λ at other found. still at other found (is_another whose.numbering.in_slots slot at other found) (was at other found);
+  own = λ at other found.
+      still at other found (is_another whose.numbering.in_slots slot at other found) (was at other found);
   apart = λ first second other one two. tied.apart first second other (was first other one) (was second other two);
   all = λ other own there.
       let at = tied.all other own (get-removed calls number other own there) in
@@ -236,29 +275,39 @@ calls_without whose slots calls slot number before has tied = record {
         record {
           call = its.call;
           own = its.own;
-          in_slot = ap (λ (o : Option ThreadSlot). option_and_then call_in o) (set_other slots slot at Free apart) ∙ its.in_slot;
-          of_number = get-remove-other calls number other (λ same. apart (tied.apart slot at other (has ∙ ap (λ n. Some n) same) had)) ∙ its.of_number;
+          in_slot = ap (λ (o : Option ThreadSlot). option_and_then call_in o)
+              (set_other slots slot at Free apart) ∙ its.in_slot;
+          of_number = get-remove-other calls number other
+              (λ same. apart (tied.apart slot at other (has ∙ ap (λ n. Some n) same) had)) ∙ its.of_number;
           given = its.given;
           alike = subst (λ (o : Option ℕ). CallsAlike whose.session whose.instance o its.call its.own)
               (sym (get-remove-other whose.numbering.wakes slot at apart)) its.alike;
         }
 
 -- a slot is free then
-free_then : (slots : List ThreadSlot) (slot : ℕ) (call : PendingCall) (before : ThreadSlot) → slice_get slots slot ≡ Some before
+free_then : (slots : List ThreadSlot) (slot : ℕ) (call : PendingCall) (before : ThreadSlot)
+    → slice_get slots slot ≡ Some before
     → call_at (slice_set slots slot Free) slot ≡ Some call → ⊥
 free_then slots slot call before there found =
-    let no : None ≡ Some call = sym (ap (λ (o : Option ThreadSlot). option_and_then call_in o) (set_found slots slot Free before there)) ∙ found in absurd cc
+    let no : None ≡ Some call =
+    sym (ap (λ (o : Option ThreadSlot). option_and_then call_in o) (set_found slots slot Free before there))
+    ∙ found in absurd cc
 
-pub call_goes : (app : Application) (whose : Whose) (slots : List ThreadSlot) (tables : Tables) (solo : Solo) (slot number : ℕ) (before : ThreadSlot)
-    → HasNumber whose slot number → slice_get slots slot ≡ Some before → IsIdle whose slot number tables solo.waiting → Tied app whose slots tables solo
-    → Tied app (without_slot whose slot) (slice_set slots slot Free) (tables_left tables slot Free) (record solo { calls = remove solo.calls number })
+pub call_goes : (app : Application) (whose : Whose) (slots : List ThreadSlot) (tables : Tables) (solo : Solo)
+    (slot number : ℕ) (before : ThreadSlot)
+    → HasNumber whose slot number → slice_get slots slot ≡ Some before → IsIdle whose slot number tables solo.waiting
+    → Tied app whose slots tables solo
+    → Tied app (without_slot whose slot) (slice_set slots slot Free) (tables_left tables slot Free)
+    (record solo { calls = remove solo.calls number })
 call_goes app whose slots tables solo slot number before has there idle tied = record {
   session_alike = tied.session_alike;
-  instance_alike = found_stays whose.numbering.in_slots slot (get tables.instances whose.instance) solo.instance idle.holder tied.instance_alike;
+  instance_alike = found_stays whose.numbering.in_slots slot (get tables.instances whose.instance) solo.instance
+      idle.holder tied.instance_alike;
   of_app = tied.of_app;
   calls = calls_without whose slots solo.calls slot number before has tied.calls;
   waiters = record {
-    order = order_stays whose.numbering.in_slots slot number (waiting_for whose.instance tables.waiters) solo.waiting has idle.unlined tied.waiters.order;
+    order = order_stays whose.numbering.in_slots slot number (waiting_for whose.instance tables.waiters) solo.waiting
+        has idle.unlined tied.waiters.order;
     uuids = tied.waiters.uuids;
   };
   kept = λ at woken found.
@@ -268,20 +317,24 @@ call_goes app whose slots tables solo slot number before has there idle tied = r
         number = was.number;
         has = still_numbered whose.numbering.in_slots slot at was.number apart was.has;
         own = was.own;
-        of_number = get-remove-other solo.calls number was.number (λ same. apart (tied.calls.apart slot at was.number (has ∙ ap (λ n. Some n) same) was.has))
+        of_number = get-remove-other solo.calls number was.number
+            (λ same. apart (tied.calls.apart slot at was.number (has ∙ ap (λ n. Some n) same) was.has))
             ∙ was.of_number;
         told = was.told;
       };
   alone = record { only = tied.alone.only; others = others_then };
   entered = tied.entered;
-  given = given_still whose (without_slot whose slot).numbering (tables_left tables slot Free) (given_as whose tables _ refl refl tied.given);
+  given = given_still whose (without_slot whose slot).numbering (tables_left tables slot Free)
+      (given_as whose tables _ refl refl tied.given);
 }
   where
-    others_then : (at : ℕ) (call : PendingCall) → call_at (slice_set slots slot Free) at ≡ Some call → get (remove whose.numbering.in_slots slot) at ≡ None
+    others_then : (at : ℕ) (call : PendingCall) → call_at (slice_set slots slot Free) at ≡ Some call
+        → get (remove whose.numbering.in_slots slot) at ≡ None
         → IsOther (without_slot whose slot) call
     others_then at call found none =
         by_numbers slot at
-        (λ same. absurd (free_then slots slot call before there (ap (λ n. call_at (slice_set slots slot Free) n) same ∙ found)))
+        (λ same. absurd (free_then slots slot call before there
+        (ap (λ n. call_at (slice_set slots slot Free) n) same ∙ found)))
         (λ apart.
         let other = tied.alone.others at call
         (sym (ap (λ (o : Option ThreadSlot). option_and_then call_in o) (set_other slots slot at Free apart)) ∙ found)

@@ -23,9 +23,12 @@ use Rattle.own_model.specs.Own.{Notes, event_noted, event_of, numbered}
 use Rattle.own_model.specs.Solo.{Solo}
 use Rattle.own_model.specs.Tied.{Whose}
 
-within : (boot : Booted) (about : About) (kernel : Kernel) (notes : Notes) (solo : Solo) (regs : List ℕ) (slot : ℕ) → SharesNone boot about.app
-    → IsRising kernel.tables.sessions → AreTied about kernel notes solo → slice_get kernel.slots slot ≡ Some Free → (bytes : List ℕ)
-    → Within about.app (whose_of about.session about.instance notes) kernel.slots solo (new_call_of boot kernel.tables regs slot bytes)
+within : (boot : Booted) (about : About) (kernel : Kernel) (notes : Notes) (solo : Solo) (regs : List ℕ) (slot : ℕ)
+    → SharesNone boot about.app
+    → IsRising kernel.tables.sessions → AreTied about kernel notes solo → slice_get kernel.slots slot ≡ Some Free
+    → (bytes : List ℕ)
+    → Within about.app (whose_of about.session about.instance notes) kernel.slots solo
+    (new_call_of boot kernel.tables regs slot bytes)
 within boot about kernel notes solo regs slot shares rising tied free bytes = record {
   of_boot = shares.of_boot;
   shares_none = shares.shares_none;
@@ -35,18 +38,22 @@ within boot about kernel notes solo regs slot shares rising tied free bytes = re
   tied = tied;
 }
 
-pub own_call : (boot : Booted) (about : About) (kernel next : Kernel) (cpu steps slot : ℕ) (regs : Regs) (reads : List Read) (now : PendingCall)
+pub own_call : (boot : Booted) (about : About) (kernel next : Kernel) (cpu steps slot : ℕ) (regs : Regs)
+    (reads : List Read) (now : PendingCall)
     (came : OwnEvent) (notes : Notes) (solo : Solo) → SharesNone boot about.app → call_of (reg regs.a 0) ≡ WithArg
-    → slice_get next.processors cpu ≡ Some (Inside regs.a steps (InSlot slot)) → slice_get next.slots slot ≡ Some (Active cpu now)
+    → slice_get next.processors cpu ≡ Some (Inside regs.a steps (InSlot slot))
+    → slice_get next.slots slot ≡ Some (Active cpu now)
     → event_of about.session now ≡ Some came → IsRising kernel.tables.sessions
     → after_event boot kernel (Entry cpu regs steps reads) ≡ Some next → AreTied about kernel notes solo
     → GoesAlong about notes solo next (event_noted about.session kernel next notes (Entry cpu regs steps reads))
-own_call boot about kernel next cpu steps slot regs reads now came notes solo shares is inside there noted rising e tied =
+own_call boot about kernel next cpu steps slot regs reads now came notes solo shares is inside there
+    noted rising e tied =
     let whose : Whose = whose_of about.session about.instance notes in
     let visit : Visit = record { cpu = cpu; regs = regs.a; steps = steps } in
     let found = new_call_taken (λ at taken. IfNoted about.app about.most whose kernel.slots solo at kernel.tables taken)
     boot kernel next cpu steps slot regs reads now is
-    (λ at free bytes. endings_own about.app about.most whose kernel.slots solo (new_call_of boot kernel.tables regs.a at bytes)
+    (λ at free bytes. endings_own about.app about.most whose kernel.slots solo
+    (new_call_of boot kernel.tables regs.a at bytes)
     (within boot about kernel notes solo regs.a at shares rising tied free bytes))
     inside there e in
     let comes = found.holds came (ap (λ (c : PendingCall). event_of about.session c) found.call_is ∙ noted) in

@@ -1,4 +1,5 @@
--- An exit from a call of the session that isn't an interrupt leaves kernel and machine tied: the machine's call goes out.
+-- An exit from a call of the session that isn't an interrupt leaves kernel and machine tied: the machine's call goes
+-- out.
 use Rattle.std.proofs.Common.{◌≡◌, ℕ, ◌≤◌, Bool, false, List, [], ◌∷◌, Option, Some, None, refl, ap, subst, sym, ◌∙◌}
 use Rattle.std.specs.Prelude.{All, if◌then◌else◌, is_some, slice_get, slice_set}
 use Rattle.std.specs.Option.{option_map, option_map_or, option_and_then}
@@ -12,10 +13,13 @@ use Rattle.smc_abi.specs.declared.regs.Regs.{Regs}
 use Rattle.ta_params.specs.declared.call_result.CallResult.{CallResult}
 use Rattle.ta_params.specs.declared.copied_params.CopiedParams.{CopiedParams}
 use Rattle.kernel_model.specs.Application.{Booted}
-use Rattle.kernel_model.specs.Exit.{Exited, exit, exit_of, goes_out_from, progress_held, progress_in_slot, slot_left, tables_left}
+use Rattle.kernel_model.specs.Exit.{Exited, exit, exit_of, goes_out_from, progress_held, progress_in_slot, slot_left}
+use Rattle.kernel_model.specs.Exit.{tables_left}
 use Rattle.kernel_model.specs.History.{after_event}
-use Rattle.kernel_model.specs.Kernel.{Active, Asks, CallPhase, Ends, Free, InSlot, Inside, Instance, Kernel, PendingCall, Processor, Progress, Runs, Suspended, ThreadSlot, Visit, Waits}
-use Rattle.kernel_model.specs.Leaving.{FreesBuffer, Finishes, Interrupted, Leaving, Request, Requests, WantsBuffer, leaving_in, leaving_of, plain_request}
+use Rattle.kernel_model.specs.Kernel.{Active, Asks, CallPhase, Ends, Free, InSlot, Inside, Instance, Kernel}
+use Rattle.kernel_model.specs.Kernel.{PendingCall, Processor, Progress, Runs, Suspended, ThreadSlot, Visit, Waits}
+use Rattle.kernel_model.specs.Leaving.{FreesBuffer, Finishes, Interrupted, Leaving, Request, Requests, WantsBuffer}
+use Rattle.kernel_model.specs.Leaving.{leaving_in, leaving_of, plain_request}
 use Rattle.own_model.proofs.FixedAnswers.{left}
 use Rattle.own_model.proofs.InOrder.{InOrderGoing, going_so, if_any_of, is_in_phase}
 use Rattle.own_model.proofs.Maps.{get-insert-same}
@@ -25,9 +29,11 @@ use Rattle.own_model.proofs.OwnTaken.{one_step}
 use Rattle.own_model.proofs.OwnWakes.{woken_of}
 use Rattle.own_model.specs.InOrder.{IsAtWork, IsIn, IsInOrder, IsWaiting, holder_of}
 use Rattle.own_model.specs.Laws.{About, AreTied, GoesAlong, whose_of}
-use Rattle.own_model.specs.Own.{Notes, Numbering, ended, event_noted, exit_noted, out_noted, reply_of, request_reply, slot_kept, with_reply, with_wake, woken_in}
+use Rattle.own_model.specs.Own.{Notes, Numbering, ended, event_noted, exit_noted, out_noted, reply_of, request_reply}
+use Rattle.own_model.specs.Own.{slot_kept, with_reply, with_wake, woken_in}
 use Rattle.own_model.specs.Solo.{Answered, Going, OwnCall, Solo, asks, going_in, goes_out, goes_out_in, with_call}
-use Rattle.own_model.specs.Tied.{CallsAlike, FoundAlike, HoldersAlike, PhasesAlike, Tied, WasTold, Whose, call_at, call_in}
+use Rattle.own_model.specs.Tied.{CallsAlike, FoundAlike, HoldersAlike, PhasesAlike, Tied, WasTold, Whose, call_at}
+use Rattle.own_model.specs.Tied.{call_in}
 use Rattle.own_model.specs.declared.own_event.OwnEvent.TheVariants.{Out}
 use Rattle.own_model.specs.declared.own_reply.OwnReply.{OwnReply}
 use Rattle.own_model.specs.declared.own_reply.OwnReply.TheVariants as reply
@@ -44,21 +50,25 @@ noted_by notes slot number leaving woken told =
     record noted { numbering = slot_kept (with_wake notes.numbering slot woken) slot leaving }
 
 -- what a call goes out with, what is told of it, and the machine then
-record GoesOut (about : About) (kernel : Kernel) (notes : Notes) (solo : Solo) (slot number : ℕ) (own : OwnCall) (progress : Progress) : Type 0 where
+record GoesOut (about : About) (kernel : Kernel) (notes : Notes) (solo : Solo) (slot number : ℕ) (own : OwnCall)
+    (progress : Progress) : Type 0 where
   leaving : Leaving
   leaves_so : leaving_of slot progress.call ≡ leaving
   told : OwnReply
   tells : reply_of (woken_in notes.numbering slot progress.call.phase) progress.call.phase leaving ≡ Some told
   numbering : Numbering
-  numbers : slot_kept (with_wake notes.numbering slot (woken_in notes.numbering slot progress.call.phase)) slot leaving ≡ numbering
+  numbers : slot_kept (with_wake notes.numbering slot (woken_in notes.numbering slot progress.call.phase)) slot leaving
+      ≡ numbering
   final : Solo
   goes : goes_out about.most solo number own ≡ Some (final, Some told)
   tied : Tied about.app (numbered_so about numbering) (slice_set kernel.slots slot (slot_left progress.call leaving))
       (tables_left progress.tables slot (slot_left progress.call leaving)) final
 
-goes_along : (about : About) (kernel : Kernel) (visit : Visit) (notes : Notes) (solo : Solo) (slot number : ℕ) (own : OwnCall) (progress : Progress)
+goes_along : (about : About) (kernel : Kernel) (visit : Visit) (notes : Notes) (solo : Solo) (slot number : ℕ)
+    (own : OwnCall) (progress : Progress)
     → get solo.calls number ≡ Some own → GoesOut about kernel notes solo slot number own progress
-    → GoesAlong about notes solo (goes_out_from kernel visit slot progress).kernel (exit_noted notes slot progress.call number)
+    → GoesAlong about notes solo (goes_out_from kernel visit slot progress).kernel
+    (exit_noted notes slot progress.call number)
 goes_along about kernel visit notes solo slot number own progress there g =
     subst (GoesAlong about notes solo (goes_out_from kernel visit slot progress).kernel) (sym same) (record {
       items = (Out number, Some g.told) ∷ [];
@@ -66,46 +76,58 @@ goes_along about kernel visit notes solo slot number own progress there g =
       then = g.final;
       replies = one_step about.most about.app solo g.final (Out number) (Some g.told)
           (ap (λ (o : Option OwnCall). option_and_then (goes_out about.most solo number) o) there ∙ g.goes);
-      tied = subst (λ (leaving : Leaving). Tied about.app (numbered_so about (slot_kept (with_wake notes.numbering slot woken) slot g.leaving))
-          (slice_set kernel.slots slot (slot_left progress.call leaving)) (tables_left progress.tables slot (slot_left progress.call leaving)) g.final)
+      tied = subst (λ (leaving : Leaving). Tied about.app
+          (numbered_so about (slot_kept (with_wake notes.numbering slot woken) slot g.leaving))
+          (slice_set kernel.slots slot (slot_left progress.call leaving))
+          (tables_left progress.tables slot (slot_left progress.call leaving)) g.final)
           (sym g.leaves_so)
-          (subst (λ (n : Numbering). Tied about.app (numbered_so about n) (slice_set kernel.slots slot (slot_left progress.call g.leaving))
+          (subst (λ (n : Numbering). Tied about.app (numbered_so about n)
+          (slice_set kernel.slots slot (slot_left progress.call g.leaving))
           (tables_left progress.tables slot (slot_left progress.call g.leaving)) g.final) (sym g.numbers) g.tied);
     })
   where
     woken : Option ℕ
     woken = woken_in notes.numbering slot progress.call.phase
 
-    same : exit_noted notes slot progress.call number ≡ noted_by notes slot number g.leaving (woken_in notes.numbering slot progress.call.phase) (Some g.told)
-    same = ap (λ (leaving : Leaving). noted_by notes slot number leaving woken (reply_of woken progress.call.phase leaving)) g.leaves_so
+    same : exit_noted notes slot progress.call number
+        ≡ noted_by notes slot number g.leaving (woken_in notes.numbering slot progress.call.phase) (Some g.told)
+    same = ap (λ (leaving : Leaving). noted_by notes slot number leaving woken
+        (reply_of woken progress.call.phase leaving)) g.leaves_so
         ∙ ap (λ (o : Option OwnReply). noted_by notes slot number g.leaving woken o) g.tells
 
 -- ---- what the machine says
 
 -- the call comes to this, and the machine's to one that is in order
-record Coming (about : About) (kernel : Kernel) (notes : Notes) (solo : Solo) (slot number : ℕ) (own : OwnCall) (progress : Progress) : Type 0 where
+record Coming (about : About) (kernel : Kernel) (notes : Notes) (solo : Solo) (slot number : ℕ) (own : OwnCall)
+    (progress : Progress) : Type 0 where
   comes : Comes about kernel notes solo slot own progress
   order : IsInOrder (with_call comes.going.solo number comes.going.call)
   has : get notes.numbering.in_slots slot ≡ Some number
   before : ThreadSlot
   there : slice_get kernel.slots slot ≡ Some before
 
-out_of : (about : About) (kernel : Kernel) (notes : Notes) (solo : Solo) (slot number : ℕ) (own : OwnCall) (progress : Progress) (phase : CallPhase) (answered : Answered)
+out_of : (about : About) (kernel : Kernel) (notes : Notes) (solo : Solo) (slot number : ℕ) (own : OwnCall)
+    (progress : Progress) (phase : CallPhase) (answered : Answered)
     → (c : Coming about kernel notes solo slot number own progress) → c.comes.going.call.phase ≡ phase
-    → goes_out_in c.comes.going.solo number c.comes.going.call phase ≡ Some answered → goes_out about.most solo number own ≡ Some answered
+    → goes_out_in c.comes.going.solo number c.comes.going.call phase ≡ Some answered
+    → goes_out about.most solo number own ≡ Some answered
 out_of about kernel notes solo slot number own progress phase answered c is goes =
-    ap (λ (o : Option Going). option_and_then (λ (g : Going). goes_out_in g.solo number g.call g.call.phase) o) c.comes.goes
+    ap (λ (o : Option Going). option_and_then (λ (g : Going). goes_out_in g.solo number g.call g.call.phase) o)
+    c.comes.goes
     ∙ ap (λ (p : CallPhase). goes_out_in c.comes.going.solo number c.comes.going.call p) is ∙ goes
 
 -- the call, and the machine's, change to these once more and stay in their slot
-stays_in : (about : About) (kernel : Kernel) (notes : Notes) (solo : Solo) (slot number : ℕ) (own : OwnCall) (progress : Progress) (now : PendingCall) (then_own : OwnCall)
+stays_in : (about : About) (kernel : Kernel) (notes : Notes) (solo : Solo) (slot number : ℕ) (own : OwnCall)
+    (progress : Progress) (now : PendingCall) (then_own : OwnCall)
     → (c : Coming about kernel notes solo slot number own progress)
     → CallsAlike about.session about.instance (get c.comes.keeps.wakes slot) now then_own
     → (WasTold c.comes.going.call.phase → WasTold then_own.phase)
-    → Tied about.app (numbered_so about (record notes.numbering { wakes = c.comes.keeps.wakes })) (slice_set kernel.slots slot (Suspended now.client now))
+    → Tied about.app (numbered_so about (record notes.numbering { wakes = c.comes.keeps.wakes }))
+    (slice_set kernel.slots slot (Suspended now.client now))
     progress.tables (with_call c.comes.going.solo number then_own)
 stays_in about kernel notes solo slot number own progress now then_own c alike told =
-    call_changes about.app (whose_of about.session about.instance notes) kernel.slots progress.tables c.comes.going.solo slot number c.comes.keeps.wakes
+    call_changes about.app (whose_of about.session about.instance notes) kernel.slots progress.tables c.comes.going.solo
+    slot number c.comes.keeps.wakes
     (Suspended now.client now) now then_own refl
     (record {
       has = c.has;
@@ -119,58 +141,82 @@ stays_in about kernel notes solo slot number own progress now then_own c alike t
 
 -- ---- a request
 
-buffer_is : (call : PendingCall) (own : OwnCall) (buffer : Option RpcBuffer) → is_some call.buffer ≡ own.buffer → call.buffer ≡ buffer → own.buffer ≡ is_some buffer
+buffer_is : (call : PendingCall) (own : OwnCall) (buffer : Option RpcBuffer) → is_some call.buffer ≡ own.buffer
+    → call.buffer ≡ buffer → own.buffer ≡ is_some buffer
 buffer_is call own buffer alike is = sym alike ∙ ap (λ (o : Option RpcBuffer). is_some o) is
 
-request_so : (about : About) (kernel : Kernel) (notes : Notes) (solo : Solo) (slot number : ℕ) (own : OwnCall) (progress : Progress) (request : Request) (told : OwnReply)
+request_so : (about : About) (kernel : Kernel) (notes : Notes) (solo : Solo) (slot number : ℕ) (own : OwnCall)
+    (progress : Progress) (request : Request) (told : OwnReply)
     (phase : CallPhase) (buffer : Option RpcBuffer) → (c : Coming about kernel notes solo slot number own progress)
-    → leaving_of slot progress.call ≡ option_map_or (λ (place : RpcBuffer). Requests place request) progress.call.buffer WantsBuffer
+    → leaving_of slot progress.call
+    ≡ option_map_or (λ (place : RpcBuffer). Requests place request) progress.call.buffer WantsBuffer
     → request_reply (woken_in notes.numbering slot progress.call.phase) progress.call.phase ≡ Some told
-    → c.comes.going.call.phase ≡ phase → goes_out_in c.comes.going.solo number c.comes.going.call phase ≡ Some (asks c.comes.going.solo number c.comes.going.call told)
+    → c.comes.going.call.phase ≡ phase
+    → goes_out_in c.comes.going.solo number c.comes.going.call phase
+    ≡ Some (asks c.comes.going.solo number c.comes.going.call told)
     → progress.call.buffer ≡ buffer → GoesOut about kernel notes solo slot number own progress
-request_so about kernel notes solo slot number own progress request told phase None c leaving tells is goes has_none = record {
-  leaving = WantsBuffer;
-  leaves_so = leaving ∙ ap (λ (o : Option RpcBuffer). option_map_or (λ (place : RpcBuffer). Requests place request) o WantsBuffer) has_none;
-  told = reply.Alloc;
-  tells = refl;
-  numbering = record notes.numbering { wakes = c.comes.keeps.wakes };
-  numbers = c.comes.keeps.is;
-  final = with_call c.comes.going.solo number c.comes.going.call;
-  goes = out_of about kernel notes solo slot number own progress phase _ c is
-      (goes ∙ ap (λ b. Some (with_call c.comes.going.solo number c.comes.going.call, Some (if b then told else reply.Alloc)))
-      (buffer_is progress.call c.comes.going.call None c.comes.alike.buffers has_none));
-  tied = stays_in about kernel notes solo slot number own progress progress.call c.comes.going.call c c.comes.alike (λ was. was);
-}
-request_so about kernel notes solo slot number own progress request told phase (Some place) c leaving tells is goes has_one = record {
-  leaving = Requests place request;
-  leaves_so = leaving ∙ ap (λ (o : Option RpcBuffer). option_map_or (λ (at : RpcBuffer). Requests at request) o WantsBuffer) has_one;
-  told = told;
-  tells = tells;
-  numbering = record notes.numbering { wakes = c.comes.keeps.wakes };
-  numbers = c.comes.keeps.is;
-  final = with_call c.comes.going.solo number c.comes.going.call;
-  goes = out_of about kernel notes solo slot number own progress phase _ c is
-      (goes ∙ ap (λ b. Some (with_call c.comes.going.solo number c.comes.going.call, Some (if b then told else reply.Alloc)))
-      (buffer_is progress.call c.comes.going.call (Some place) c.comes.alike.buffers has_one));
-  tied = stays_in about kernel notes solo slot number own progress progress.call c.comes.going.call c c.comes.alike (λ was. was);
-}
+request_so about kernel notes solo slot number own progress request told phase None c leaving tells is goes has_none =
+    record {
+      leaving = WantsBuffer;
+      leaves_so = leaving
+          ∙ ap (λ (o : Option RpcBuffer). option_map_or (λ (place : RpcBuffer). Requests place request) o WantsBuffer)
+          has_none;
+      told = reply.Alloc;
+      tells = refl;
+      numbering = record notes.numbering { wakes = c.comes.keeps.wakes };
+      numbers = c.comes.keeps.is;
+      final = with_call c.comes.going.solo number c.comes.going.call;
+      goes = out_of about kernel notes solo slot number own progress phase _ c is
+          (goes ∙ ap (λ b. Some (
+            with_call c.comes.going.solo number c.comes.going.call,
+            Some (if b then told else reply.Alloc),
+          ))
+          (buffer_is progress.call c.comes.going.call None c.comes.alike.buffers has_none));
+      tied = stays_in about kernel notes solo slot number own progress progress.call c.comes.going.call c
+          c.comes.alike (λ was. was);
+    }
+request_so about kernel notes solo slot number own progress request told phase
+    (Some place) c leaving tells is goes has_one = record {
+      leaving = Requests place request;
+      leaves_so = leaving
+          ∙ ap (λ (o : Option RpcBuffer). option_map_or (λ (at : RpcBuffer). Requests at request) o WantsBuffer)
+          has_one;
+      told = told;
+      tells = tells;
+      numbering = record notes.numbering { wakes = c.comes.keeps.wakes };
+      numbers = c.comes.keeps.is;
+      final = with_call c.comes.going.solo number c.comes.going.call;
+      goes = out_of about kernel notes solo slot number own progress phase _ c is
+          (goes ∙ ap (λ b. Some (
+            with_call c.comes.going.solo number c.comes.going.call,
+            Some (if b then told else reply.Alloc),
+          ))
+          (buffer_is progress.call c.comes.going.call (Some place) c.comes.alike.buffers has_one));
+      tied = stays_in about kernel notes solo slot number own progress progress.call c.comes.going.call c
+          c.comes.alike (λ was. was);
+    }
 
 -- ---- the end
 
 -- a call that has ended and wakes nobody, and the machine's
-record HasEnded (about : About) (kernel : Kernel) (notes : Notes) (solo : Solo) (slot number : ℕ) (own : OwnCall) (progress : Progress)
-    (c : Coming about kernel notes solo slot number own progress) (result : CallResult) (params : CopiedParams) : Type 0 where
+record HasEnded (about : About) (kernel : Kernel) (notes : Notes) (solo : Solo) (slot number : ℕ) (own : OwnCall)
+    (progress : Progress)
+    (c : Coming about kernel notes solo slot number own progress) (result : CallResult)
+    (params : CopiedParams) : Type 0 where
   told : Bool
   is : progress.call.phase ≡ Ends result params told None
   own_is : c.comes.going.call.phase ≡ Ends result params told None
 
 -- neither the holder nor in the line
-idle : (about : About) (kernel : Kernel) (notes : Notes) (solo : Solo) (slot number : ℕ) (own : OwnCall) (progress : Progress)
-    (c : Coming about kernel notes solo slot number own progress) → (IsAtWork c.comes.going.call.phase → ⊥) → (IsWaiting c.comes.going.call.phase → ⊥)
+idle : (about : About) (kernel : Kernel) (notes : Notes) (solo : Solo) (slot number : ℕ) (own : OwnCall)
+    (progress : Progress)
+    (c : Coming about kernel notes solo slot number own progress) → (IsAtWork c.comes.going.call.phase → ⊥)
+    → (IsWaiting c.comes.going.call.phase → ⊥)
     → IsIdle (whose_of about.session about.instance notes) slot number progress.tables c.comes.going.solo.waiting
 idle about kernel notes solo slot number own progress c at_rest unlined = record {
   holder = λ kept found held. no_holder kept c.comes.going.solo.instance
-      (subst (λ (o : Option Instance). FoundAlike notes.numbering.in_slots o c.comes.going.solo.instance) found c.comes.tied.instance_alike) held refl;
+      (subst (λ (o : Option Instance). FoundAlike notes.numbering.in_slots o c.comes.going.solo.instance) found
+      c.comes.tied.instance_alike) held refl;
   unlined = unlined_in c.comes.going.solo.waiting c.order.waiting;
 }
   where
@@ -179,9 +225,11 @@ idle about kernel notes solo slot number own progress c at_rest unlined = record
 
     not_holder : holder_of c.comes.going.solo.instance ≡ Some number → ⊥
     not_holder holds =
-        at_rest (is_in_phase IsAtWork (insert c.comes.going.solo.calls number c.comes.going.call) number c.comes.going.call (c.order.holder number holds) own_there)
+        at_rest (is_in_phase IsAtWork (insert c.comes.going.solo.calls number c.comes.going.call) number
+        c.comes.going.call (c.order.holder number holds) own_there)
 
-    by_holder : (kept own_holder : Option ℕ) → HoldersAlike notes.numbering.in_slots kept own_holder → kept ≡ Some slot → own_holder ≡ Some number
+    by_holder : (kept own_holder : Option ℕ) → HoldersAlike notes.numbering.in_slots kept own_holder → kept ≡ Some slot
+        → own_holder ≡ Some number
     by_holder None None alike held = absurd cc
     by_holder (Some at) (Some other) alike held =
         let same : at ≡ slot = some_number at slot held in
@@ -189,24 +237,33 @@ idle about kernel notes solo slot number own progress c at_rest unlined = record
     by_holder None (Some other) alike held = absurd alike
     by_holder (Some at) None alike held = absurd alike
 
-    no_holder : (kept : Instance) (found : Option Instance) → FoundAlike notes.numbering.in_slots (Some kept) found → kept.holder ≡ Some slot
+    no_holder : (kept : Instance) (found : Option Instance) → FoundAlike notes.numbering.in_slots (Some kept) found
+        → kept.holder ≡ Some slot
         → found ≡ c.comes.going.solo.instance → ⊥
     no_holder kept None alike held is = absurd alike
     no_holder kept (Some instance) alike held is =
-        not_holder (ap (λ (o : Option Instance). holder_of o) (sym is) ∙ by_holder kept.holder instance.holder alike.holders held)
+        not_holder (ap (λ (o : Option Instance). holder_of o) (sym is)
+        ∙ by_holder kept.holder instance.holder alike.holders held)
 
-    unlined_in : (line : List ℕ) → All (λ n. IsIn IsWaiting (insert c.comes.going.solo.calls number c.comes.going.call) n) line → All (λ n. n ≡ number → ⊥) line
+    unlined_in : (line : List ℕ)
+        → All (λ n. IsIn IsWaiting (insert c.comes.going.solo.calls number c.comes.going.call) n) line
+        → All (λ n. n ≡ number → ⊥) line
     unlined_in [] all = All-nil (λ n. n ≡ number → ⊥)
     unlined_in (first ∷ rest) all =
         All-cons (λ n. n ≡ number → ⊥) first rest
-        (λ same. unlined (is_in_phase IsWaiting (insert c.comes.going.solo.calls number c.comes.going.call) number c.comes.going.call
+        (λ same. unlined (is_in_phase IsWaiting (insert c.comes.going.solo.calls number c.comes.going.call) number
+        c.comes.going.call
         (subst (λ n. IsIn IsWaiting (insert c.comes.going.solo.calls number c.comes.going.call) n) same
-        (All-head (λ n. IsIn IsWaiting (insert c.comes.going.solo.calls number c.comes.going.call) n) first rest all)) own_there))
-        (unlined_in rest (All-tail (λ n. IsIn IsWaiting (insert c.comes.going.solo.calls number c.comes.going.call) n) first rest all))
+        (All-head (λ n. IsIn IsWaiting (insert c.comes.going.solo.calls number c.comes.going.call) n) first rest all))
+        own_there))
+        (unlined_in rest (All-tail (λ n. IsIn IsWaiting (insert c.comes.going.solo.calls number c.comes.going.call) n)
+        first rest all))
 
 -- it gives its buffer back
-frees_so : (about : About) (kernel : Kernel) (notes : Notes) (solo : Solo) (slot number : ℕ) (own : OwnCall) (progress : Progress) (result : CallResult) (params : CopiedParams)
-    (buffer : RpcBuffer) → (c : Coming about kernel notes solo slot number own progress) → HasEnded about kernel notes solo slot number own progress c result params
+frees_so : (about : About) (kernel : Kernel) (notes : Notes) (solo : Solo) (slot number : ℕ) (own : OwnCall)
+    (progress : Progress) (result : CallResult) (params : CopiedParams)
+    (buffer : RpcBuffer) → (c : Coming about kernel notes solo slot number own progress)
+    → HasEnded about kernel notes solo slot number own progress c result params
     → progress.call.buffer ≡ Some buffer → GoesOut about kernel notes solo slot number own progress
 frees_so about kernel notes solo slot number own progress result params buffer c e has_one =
     let z : Solo = c.comes.going.solo in
@@ -224,7 +281,8 @@ frees_so about kernel notes solo slot number own progress result params buffer c
           (ap (λ b. Some (if b then (with_call z number (record last { buffer = false }), Some reply.Free)
           else (record z { calls = remove z.calls number }, Some (ended result params))))
           (buffer_is progress.call last (Some buffer) c.comes.alike.buffers has_one));
-      tied = stays_in about kernel notes solo slot number own progress (record progress.call { buffer = None }) (record last { buffer = false }) c
+      tied = stays_in about kernel notes solo slot number own progress (record progress.call { buffer = None })
+          (record last { buffer = false }) c
           (record {
             of_session = c.comes.alike.of_session;
             on_instance = c.comes.alike.on_instance;
@@ -238,8 +296,10 @@ frees_so about kernel notes solo slot number own progress result params buffer c
     }
 
 -- it is told its result
-finishes_so : (about : About) (kernel : Kernel) (notes : Notes) (solo : Solo) (slot number : ℕ) (own : OwnCall) (progress : Progress) (result : CallResult) (params : CopiedParams)
-    → (c : Coming about kernel notes solo slot number own progress) → HasEnded about kernel notes solo slot number own progress c result params
+finishes_so : (about : About) (kernel : Kernel) (notes : Notes) (solo : Solo) (slot number : ℕ) (own : OwnCall)
+    (progress : Progress) (result : CallResult) (params : CopiedParams)
+    → (c : Coming about kernel notes solo slot number own progress)
+    → HasEnded about kernel notes solo slot number own progress c result params
     → progress.call.buffer ≡ None → GoesOut about kernel notes solo slot number own progress
 finishes_so about kernel notes solo slot number own progress result params c e has_none =
     let z : Solo = c.comes.going.solo in
@@ -251,19 +311,25 @@ finishes_so about kernel notes solo slot number own progress result params c e h
       told = ended result params;
       tells = refl;
       numbering = slot_kept notes.numbering slot (Finishes result params);
-      numbers = ap (λ (p : CallPhase). slot_kept (with_wake notes.numbering slot (woken_in notes.numbering slot p)) slot (Finishes result params)) e.is;
+      numbers =
+          ap (λ (p : CallPhase). slot_kept (with_wake notes.numbering slot (woken_in notes.numbering slot p)) slot
+          (Finishes result params)) e.is;
       final = record z { calls = remove z.calls number };
       goes = out_of about kernel notes solo slot number own progress (Ends result params e.told None) _ c e.own_is
           (ap (λ b. Some (if b then (with_call z number (record last { buffer = false }), Some reply.Free)
           else (record z { calls = remove z.calls number }, Some (ended result params))))
           (buffer_is progress.call last None c.comes.alike.buffers has_none));
-      tied = call_goes about.app (whose_of about.session about.instance notes) kernel.slots progress.tables z slot number c.before c.has c.there
-          (idle about kernel notes solo slot number own progress c (λ works. subst IsAtWork e.own_is works) (λ waits. subst IsWaiting e.own_is waits))
+      tied = call_goes about.app (whose_of about.session about.instance notes) kernel.slots progress.tables z slot
+          number c.before c.has c.there
+          (idle about kernel notes solo slot number own progress c (λ works. subst IsAtWork e.own_is works)
+          (λ waits. subst IsWaiting e.own_is waits))
           c.comes.tied;
     }
 
-ended_so : (about : About) (kernel : Kernel) (notes : Notes) (solo : Solo) (slot number : ℕ) (own : OwnCall) (progress : Progress) (result : CallResult) (params : CopiedParams)
-    (buffer : Option RpcBuffer) → (c : Coming about kernel notes solo slot number own progress) → HasEnded about kernel notes solo slot number own progress c result params
+ended_so : (about : About) (kernel : Kernel) (notes : Notes) (solo : Solo) (slot number : ℕ) (own : OwnCall)
+    (progress : Progress) (result : CallResult) (params : CopiedParams)
+    (buffer : Option RpcBuffer) → (c : Coming about kernel notes solo slot number own progress)
+    → HasEnded about kernel notes solo slot number own progress c result params
     → progress.call.buffer ≡ buffer → GoesOut about kernel notes solo slot number own progress
 ended_so about kernel notes solo slot number own progress result params None c e has_none =
     finishes_so about kernel notes solo slot number own progress result params c e has_none
@@ -272,45 +338,72 @@ ended_so about kernel notes solo slot number own progress result params (Some bu
 
 -- ---- by its phase
 
-same_end : (result answer : CallResult) (params remains : CopiedParams) (told shown : Bool) → result ≡ answer → params ≡ remains → told ≡ shown
+same_end : (result answer : CallResult) (params remains : CopiedParams) (told shown : Bool) → result ≡ answer
+    → params ≡ remains → told ≡ shown
     → CallPhase.Ends answer remains shown None ≡ Ends result params told None
 same_end result answer params remains told shown results remain tolds =
-    ap (λ (r : CallResult). Ends r remains shown None) (sym results) ∙ ap (λ (p : CopiedParams). Ends result p shown None) (sym remain)
+    ap (λ (r : CallResult). Ends r remains shown None) (sym results)
+    ∙ ap (λ (p : CopiedParams). Ends result p shown None) (sym remain)
     ∙ ap (λ b. Ends result params b None) (sym tolds)
 
-by_phase : (about : About) (kernel : Kernel) (notes : Notes) (solo : Solo) (slot number : ℕ) (own : OwnCall) (progress : Progress) (phase own_phase : CallPhase)
-    → (c : Coming about kernel notes solo slot number own progress) → progress.call.phase ≡ phase → c.comes.going.call.phase ≡ own_phase
+by_phase : (about : About) (kernel : Kernel) (notes : Notes) (solo : Solo) (slot number : ℕ) (own : OwnCall)
+    (progress : Progress) (phase own_phase : CallPhase)
+    → (c : Coming about kernel notes solo slot number own progress) → progress.call.phase ≡ phase
+    → c.comes.going.call.phase ≡ own_phase
     → PhasesAlike (get c.comes.keeps.wakes slot) progress.call.steps c.comes.going.call.steps phase own_phase
     → (leaving_of slot progress.call ≡ Interrupted → ⊥) → GoesOut about kernel notes solo slot number own progress
 by_phase about kernel notes solo slot number own progress (Runs job) own_phase c is own_is alike out =
     absurd (out (ap (λ (p : CallPhase). leaving_in slot progress.call p) is))
-by_phase about kernel notes solo slot number own progress (Asks job wanted payload) (Asks from asked bytes) c is own_is alike out =
-    request_so about kernel notes solo slot number own progress (record { wanted = wanted; payload = payload }) (reply.Ask asked bytes) (Asks from asked bytes)
+by_phase about kernel notes solo slot number own progress (Asks job wanted payload)
+    (Asks from asked bytes) c is own_is alike out =
+    request_so about kernel notes solo slot number own progress (record { wanted = wanted; payload = payload })
+    (reply.Ask asked bytes) (Asks from asked bytes)
     progress.call.buffer c (ap (λ (p : CallPhase). leaving_in slot progress.call p) is)
-    (ap (λ (p : CallPhase). request_reply (woken_in notes.numbering slot progress.call.phase) p) (is ∙ alike.1)) own_is refl refl
+    (ap (λ (p : CallPhase). request_reply (woken_in notes.numbering slot progress.call.phase) p) (is ∙ alike.1))
+    own_is refl refl
 by_phase about kernel notes solo slot number own progress (Waits params) (Waits copied) c is own_is alike out =
-    request_so about kernel notes solo slot number own progress (plain_request (rpc.Sleep slot)) reply.Sleep (Waits copied)
+    request_so about kernel notes solo slot number own progress (plain_request (rpc.Sleep slot))
+    reply.Sleep (Waits copied)
     progress.call.buffer c (ap (λ (p : CallPhase). leaving_in slot progress.call p) is)
     (ap (λ (p : CallPhase). request_reply (woken_in notes.numbering slot progress.call.phase) p) is) own_is refl refl
-by_phase about kernel notes solo slot number own progress (Ends result params told (Some woken)) (Ends answer remains shown (Some other)) c is own_is alike out =
-    request_so about kernel notes solo slot number own progress (plain_request (rpc.Wake woken)) (reply.Wake other) (Ends answer remains shown (Some other))
+by_phase about kernel notes solo slot number own progress (Ends result params told (Some woken))
+    (Ends answer remains shown (Some other)) c is own_is alike out =
+    request_so about kernel notes solo slot number own progress (plain_request (rpc.Wake woken)) (reply.Wake other)
+    (Ends answer remains shown (Some other))
     progress.call.buffer c (ap (λ (p : CallPhase). leaving_in slot progress.call p) is)
     (ap (λ (p : CallPhase). request_reply (woken_in notes.numbering slot progress.call.phase) p) is
-    ∙ ap (λ (o : Option ℕ). option_map (λ number. reply.Wake number) o) (c.comes.keeps.number ∙ ap (λ (p : CallPhase). woken_of p) own_is)) own_is refl refl
-by_phase about kernel notes solo slot number own progress (Ends result params told None) (Ends answer remains shown None) c is own_is alike out =
+    ∙ ap (λ (o : Option ℕ). option_map (λ number. reply.Wake number) o)
+    (c.comes.keeps.number ∙ ap (λ (p : CallPhase). woken_of p) own_is)) own_is refl refl
+by_phase about kernel notes solo slot number own progress (Ends result params told None)
+    (Ends answer remains shown None) c is own_is alike out =
     ended_so about kernel notes solo slot number own progress result params progress.call.buffer c
-    (record { told = told; is = is; own_is = own_is ∙ same_end result answer params remains told shown alike.0 alike.1 alike.2 }) refl
-by_phase about kernel notes solo slot number own progress (Ends result params told None) (Ends answer remains shown (Some other)) c is own_is alike out = absurd alike.3
-by_phase about kernel notes solo slot number own progress (Ends result params told (Some woken)) (Ends answer remains shown None) c is own_is alike out = absurd alike.3
-by_phase about kernel notes solo slot number own progress (Asks job wanted payload) (Runs from) c is own_is alike out = absurd alike
-by_phase about kernel notes solo slot number own progress (Asks job wanted payload) (Waits copied) c is own_is alike out = absurd alike
-by_phase about kernel notes solo slot number own progress (Asks job wanted payload) (Ends answer remains shown woken) c is own_is alike out = absurd alike
-by_phase about kernel notes solo slot number own progress (Waits params) (Runs from) c is own_is alike out = absurd alike
-by_phase about kernel notes solo slot number own progress (Waits params) (Asks from asked bytes) c is own_is alike out = absurd alike
-by_phase about kernel notes solo slot number own progress (Waits params) (Ends answer remains shown woken) c is own_is alike out = absurd alike
-by_phase about kernel notes solo slot number own progress (Ends result params told wakes) (Runs from) c is own_is alike out = absurd alike
-by_phase about kernel notes solo slot number own progress (Ends result params told wakes) (Asks from asked bytes) c is own_is alike out = absurd alike
-by_phase about kernel notes solo slot number own progress (Ends result params told wakes) (Waits copied) c is own_is alike out = absurd alike
+    (record {
+      told = told;
+      is = is;
+      own_is = own_is ∙ same_end result answer params remains told shown alike.0 alike.1 alike.2;
+    }) refl
+by_phase about kernel notes solo slot number own progress (Ends result params told None)
+    (Ends answer remains shown (Some other)) c is own_is alike out = absurd alike.3
+by_phase about kernel notes solo slot number own progress (Ends result params told (Some woken))
+    (Ends answer remains shown None) c is own_is alike out = absurd alike.3
+by_phase about kernel notes solo slot number own progress (Asks job wanted payload)
+    (Runs from) c is own_is alike out = absurd alike
+by_phase about kernel notes solo slot number own progress (Asks job wanted payload)
+    (Waits copied) c is own_is alike out = absurd alike
+by_phase about kernel notes solo slot number own progress (Asks job wanted payload)
+    (Ends answer remains shown woken) c is own_is alike out = absurd alike
+by_phase about kernel notes solo slot number own progress (Waits params)
+    (Runs from) c is own_is alike out = absurd alike
+by_phase about kernel notes solo slot number own progress (Waits params)
+    (Asks from asked bytes) c is own_is alike out = absurd alike
+by_phase about kernel notes solo slot number own progress (Waits params)
+    (Ends answer remains shown woken) c is own_is alike out = absurd alike
+by_phase about kernel notes solo slot number own progress (Ends result params told wakes)
+    (Runs from) c is own_is alike out = absurd alike
+by_phase about kernel notes solo slot number own progress (Ends result params told wakes)
+    (Asks from asked bytes) c is own_is alike out = absurd alike
+by_phase about kernel notes solo slot number own progress (Ends result params told wakes)
+    (Waits copied) c is own_is alike out = absurd alike
 
 -- ---- the exit
 
@@ -318,8 +411,10 @@ same_call : (a b : PendingCall) → Some a ≡ Some b → a ≡ b
 same_call a b e = cc
 
 -- the call of a slot, and the machine's
-pub found_there : (about : About) (kernel : Kernel) (notes : Notes) (solo : Solo) (slot number : ℕ) (call : PendingCall) → get notes.numbering.in_slots slot ≡ Some number
-    → call_at kernel.slots slot ≡ Some call → IsInOrder solo → IsRising kernel.tables.sessions → AreTied about kernel notes solo
+pub found_there : (about : About) (kernel : Kernel) (notes : Notes) (solo : Solo) (slot number : ℕ) (call : PendingCall)
+    → get notes.numbering.in_slots slot ≡ Some number
+    → call_at kernel.slots slot ≡ Some call → IsInOrder solo → IsRising kernel.tables.sessions
+    → AreTied about kernel notes solo
     → (own : OwnCall) × OwnThere about kernel notes solo slot number call own
 found_there about kernel notes solo slot number call has found order rising tied =
     let its = tied.calls.own slot number has in
@@ -328,20 +423,27 @@ found_there about kernel notes solo slot number call has found order rising tied
       record {
         has = has;
         of_number = its.of_number;
-        alike = subst (λ (c : PendingCall). CallsAlike about.session about.instance (get notes.numbering.wakes slot) c its.own) same its.alike;
+        alike = subst (λ (c : PendingCall). CallsAlike about.session about.instance
+            (get notes.numbering.wakes slot) c its.own) same its.alike;
         tied = tied;
         order = order;
         rising = rising;
       },
     )
 
-out_from : (about : About) (kernel : Kernel) (visit : Visit) (notes : Notes) (solo : Solo) (slot number : ℕ) (held : ThreadSlot) (progress : Progress)
-    → get notes.numbering.in_slots slot ≡ Some number → slice_get kernel.slots slot ≡ Some held → progress_held kernel.tables visit.steps held ≡ Some progress
-    → (leaving_of slot progress.call ≡ Interrupted → ⊥) → progress.call.steps ≤ about.most → IsInOrder solo → IsRising kernel.tables.sessions → AreTied about kernel notes solo
-    → GoesAlong about notes solo (goes_out_from kernel visit slot progress).kernel (exit_noted notes slot progress.call number)
+out_from : (about : About) (kernel : Kernel) (visit : Visit) (notes : Notes) (solo : Solo) (slot number : ℕ)
+    (held : ThreadSlot) (progress : Progress)
+    → get notes.numbering.in_slots slot ≡ Some number → slice_get kernel.slots slot ≡ Some held
+    → progress_held kernel.tables visit.steps held ≡ Some progress
+    → (leaving_of slot progress.call ≡ Interrupted → ⊥) → progress.call.steps ≤ about.most → IsInOrder solo
+    → IsRising kernel.tables.sessions → AreTied about kernel notes solo
+    → GoesAlong about notes solo (goes_out_from kernel visit slot progress).kernel
+    (exit_noted notes slot progress.call number)
 out_from about kernel visit notes solo slot number Free progress has there e out bound order rising tied = absurd cc
-out_from about kernel visit notes solo slot number (Suspended client call) progress has there e out bound order rising tied = absurd cc
-out_from about kernel visit notes solo slot number (Active worker call) progress has there e out bound order rising tied =
+out_from about kernel visit notes solo slot number (Suspended client call) progress has there e out bound order rising
+    tied = absurd cc
+out_from about kernel visit notes solo slot number (Active worker call) progress has there e out bound
+    order rising tied =
     let found = found_there about kernel notes solo slot number call has
     (ap (λ (o : Option ThreadSlot). option_and_then call_in o) there) order rising tied in
     let comes = comes_to about kernel notes solo slot number visit.steps call found.0 progress found.1 e out bound in
@@ -354,27 +456,36 @@ out_from about kernel visit notes solo slot number (Active worker call) progress
       there = there;
     } in
     goes_along about kernel visit notes solo slot number found.0 progress found.1.of_number
-    (by_phase about kernel notes solo slot number found.0 progress progress.call.phase comes.going.call.phase coming refl refl comes.alike.phases out)
+    (by_phase about kernel notes solo slot number found.0 progress progress.call.phase comes.going.call.phase coming
+    refl refl comes.alike.phases out)
 
-pub own_exit : (boot : Booted) (about : About) (kernel next : Kernel) (cpu granted slot number : ℕ) (came : List ℕ) (regs : Regs)
-    (progress : Progress) (notes : Notes) (solo : Solo) → slice_get kernel.processors cpu ≡ Some (Inside came granted (InSlot slot))
+pub own_exit : (boot : Booted) (about : About) (kernel next : Kernel) (cpu granted slot number : ℕ)
+    (came : List ℕ) (regs : Regs)
+    (progress : Progress) (notes : Notes) (solo : Solo)
+    → slice_get kernel.processors cpu ≡ Some (Inside came granted (InSlot slot))
     → get notes.numbering.in_slots slot ≡ Some number → progress_in_slot kernel granted slot ≡ Some progress
-    → (leaving_of slot progress.call ≡ Interrupted → ⊥) → IsRising kernel.tables.sessions → IsInOrder solo → progress.call.steps ≤ about.most
+    → (leaving_of slot progress.call ≡ Interrupted → ⊥) → IsRising kernel.tables.sessions → IsInOrder solo
+    → progress.call.steps ≤ about.most
     → after_event boot kernel (Exit cpu regs) ≡ Some next → AreTied about kernel notes solo
     → GoesAlong about notes solo next (event_noted about.session kernel next notes (Exit cpu regs))
-own_exit boot about kernel next cpu granted slot number came regs progress notes solo inside has comes out rising order bound e tied =
+own_exit boot about kernel next cpu granted slot number came regs progress notes solo inside has comes out rising
+    order bound e tied =
     let visit : Visit = record { cpu = cpu; regs = came; steps = granted } in
     let went = left boot kernel next cpu regs e in
     let goes : exit kernel cpu ≡ Some (goes_out_from kernel visit slot progress) =
     ap (λ (p : Option Processor). option_and_then (exit_of kernel cpu) p) inside
     ∙ ap (λ (p : Option Progress). option_map (goes_out_from kernel visit slot) p) comes in
     let gone : (goes_out_from kernel visit slot progress).kernel ≡ next =
-    ap (λ (x : Exited). x.kernel) (same_exit (goes_out_from kernel visit slot progress) went.0 (sym goes ∙ went.1)) ∙ went.2 in
+    ap (λ (x : Exited). x.kernel) (same_exit (goes_out_from kernel visit slot progress) went.0 (sym goes ∙ went.1))
+    ∙ went.2 in
     let along = option_and_then_some (progress_held kernel.tables granted) (slice_get kernel.slots slot) progress comes
-    (λ held there onward. out_from about kernel visit notes solo slot number held progress has there onward out bound order rising tied) in
-    let same : out_noted kernel notes cpu (slice_get kernel.processors cpu) ≡ exit_noted notes slot progress.call number =
+    (λ held there onward. out_from about kernel visit notes solo slot number held progress has there onward out bound
+    order rising tied) in
+    let same : out_noted kernel notes cpu (slice_get kernel.processors cpu)
+    ≡ exit_noted notes slot progress.call number =
     ap (λ (p : Option Processor). out_noted kernel notes cpu p) inside
-    ∙ ap (λ (p : Option Progress). option_map_or (λ (q : Progress). option_map_or (exit_noted notes slot q.call) (get notes.numbering.in_slots slot) notes) p notes) comes
+    ∙ ap (λ (p : Option Progress). option_map_or (λ (q : Progress). option_map_or (exit_noted notes slot q.call)
+    (get notes.numbering.in_slots slot) notes) p notes) comes
     ∙ ap (λ (o : Option ℕ). option_map_or (exit_noted notes slot progress.call) o notes) has in
     subst (λ (n : Notes). GoesAlong about notes solo next n) (sym same)
     (subst (λ (k : Kernel). GoesAlong about notes solo k (exit_noted notes slot progress.call number)) gone along)

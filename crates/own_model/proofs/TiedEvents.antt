@@ -14,11 +14,13 @@ use Rattle.kernel_model.specs.Application.{Booted}
 use Rattle.kernel_model.specs.Argument.{thread_in}
 use Rattle.kernel_model.specs.Exit.{progress_held}
 use Rattle.kernel_model.specs.History.{after_event}
-use Rattle.kernel_model.specs.Kernel.{Active, Free, InSlot, Inside, Kernel, PendingCall, Progress, Suspended, Tables, ThreadSlot}
+use Rattle.kernel_model.specs.Kernel.{Active, Free, InSlot, Inside, Kernel, PendingCall, Progress, Suspended, Tables}
+use Rattle.kernel_model.specs.Kernel.{ThreadSlot}
 use Rattle.kernel_model.specs.Leaving.{FreesBuffer, Finishes, Interrupted, Leaving, Requests, WantsBuffer, leaving_of}
 use Rattle.kernel_model.specs.Sound.{AreGranted}
 use Rattle.kernel_model.proofs.SoundExits.{exits_all}
-use Rattle.own_model.proofs.EventKinds.{EntryKind, ExitKind, FromCall, HasAnswer, IsNewCall, IsResume, WithAnswer, entry_kind, exit_kind}
+use Rattle.own_model.proofs.EventKinds.{EntryKind, ExitKind, FromCall, HasAnswer, IsNewCall, IsResume, WithAnswer}
+use Rattle.own_model.proofs.EventKinds.{entry_kind, exit_kind}
 use Rattle.own_model.proofs.FixedAnswers.{fixed_keep_tied}
 use Rattle.own_model.proofs.OtherEntries.{other_call}
 use Rattle.own_model.proofs.OtherExits.{other_exit}
@@ -59,17 +61,23 @@ used_steps tables call granted progress e =
       tells = λ result params wakes is. none_more call.steps granted;
     }) e
   where
-    within : (job : Job) (used : ℕ) (why : JobStop) → grant_of granted job ≡ Some (Stopped used why) → call.steps + used ≤ call.steps + granted
-    within job used why grant = one_more call.steps used granted (granted-IsGrant job granted (Stopped used why) grant).0
+    within : (job : Job) (used : ℕ) (why : JobStop) → grant_of granted job ≡ Some (Stopped used why)
+        → call.steps + used ≤ call.steps + granted
+    within job used why grant =
+        one_more call.steps used granted (granted-IsGrant job granted (Stopped used why) grant).0
 
-at_most : (a b granted events most : ℕ) → a ≤ b + granted → granted ≤ 1000000 → b + 1000000 ≤ 1000000 * events → 1000000 * events ≤ most → a ≤ most
+at_most : (a b granted events most : ℕ) → a ≤ b + granted → granted ≤ 1000000 → b + 1000000 ≤ 1000000 * events
+    → 1000000 * events ≤ most → a ≤ most
 at_most a b granted events most used few counted bound = omega arith
 
-steps_bound : (kernel : Kernel) (events most cpu granted slot : ℕ) (came : List ℕ) (held : ThreadSlot) (progress : Progress) → AreGranted events kernel
-    → 1000000 * events ≤ most → slice_get kernel.processors cpu ≡ Some (Inside came granted (InSlot slot)) → slice_get kernel.slots slot ≡ Some held
+steps_bound : (kernel : Kernel) (events most cpu granted slot : ℕ) (came : List ℕ) (held : ThreadSlot)
+    (progress : Progress) → AreGranted events kernel
+    → 1000000 * events ≤ most → slice_get kernel.processors cpu ≡ Some (Inside came granted (InSlot slot))
+    → slice_get kernel.slots slot ≡ Some held
     → progress_held kernel.tables granted held ≡ Some progress → progress.call.steps ≤ most
 steps_bound kernel events most cpu granted slot came Free progress steps bound inside there e = absurd cc
-steps_bound kernel events most cpu granted slot came (Suspended client call) progress steps bound inside there e = absurd cc
+steps_bound kernel events most cpu granted slot came (Suspended client call) progress steps bound inside there e =
+    absurd cc
 steps_bound kernel events most cpu granted slot came (Active worker call) progress steps bound inside there e =
     at_most progress.call.steps call.steps granted events most (used_steps kernel.tables call granted progress e)
     (steps.grants cpu slot granted came inside) (steps.calls slot (Active worker call) there) bound
@@ -84,60 +92,91 @@ pub record IsReady (about : About) (events : ℕ) (kernel : Kernel) (solo : Solo
   pub order : IsInOrder solo
 
 abbrev Along : Booted → About → Kernel → Kernel → Event → Notes → Solo → Type 0
-Along boot about kernel next happened notes solo = GoesAlong about notes solo next (event_noted about.session kernel next notes happened)
+Along boot about kernel next happened notes solo =
+    GoesAlong about notes solo next (event_noted about.session kernel next notes happened)
 
-entry_along : (boot : Booted) (about : About) (events : ℕ) (kernel next : Kernel) (cpu steps : ℕ) (regs : Regs) (reads : List Read)
-    (notes : Notes) (solo : Solo) → SharesNone boot about.app → IsReady about events kernel solo → after_event boot kernel (Entry cpu regs steps reads) ≡ Some next
-    → AreTied about kernel notes solo → EntryKind kernel next cpu steps regs → Along boot about kernel next (Entry cpu regs steps reads) notes solo
-entry_along boot about events kernel next cpu steps regs reads notes solo shares ready e tied (HasAnswer answer inside) =
+entry_along : (boot : Booted) (about : About) (events : ℕ) (kernel next : Kernel) (cpu steps : ℕ) (regs : Regs)
+    (reads : List Read)
+    (notes : Notes) (solo : Solo) → SharesNone boot about.app → IsReady about events kernel solo
+    → after_event boot kernel (Entry cpu regs steps reads) ≡ Some next
+    → AreTied about kernel notes solo → EntryKind kernel next cpu steps regs
+    → Along boot about kernel next (Entry cpu regs steps reads) notes solo
+entry_along boot about events kernel next cpu steps regs reads notes solo shares ready e tied
+    (HasAnswer answer inside) =
     fixed_keep_tied.entry boot about kernel next cpu steps regs reads answer inside notes solo e tied
-entry_along boot about events kernel next cpu steps regs reads notes solo shares ready e tied (IsNewCall slot now is inside there) =
+entry_along boot about events kernel next cpu steps regs reads notes solo shares ready e tied
+    (IsNewCall slot now is inside there) =
     by_event (event_of about.session now) refl
   where
-    by_event : (found : Option OwnEvent) → event_of about.session now ≡ found → Along boot about kernel next (Entry cpu regs steps reads) notes solo
-    by_event None none = other_call boot about kernel next cpu steps slot regs reads now notes solo shares is inside there none e tied
-    by_event (Some came) noted = own_call boot about kernel next cpu steps slot regs reads now came notes solo shares is inside there noted ready.rising e tied
-entry_along boot about events kernel next cpu steps regs reads notes solo shares ready e tied (IsResume call is some inside) =
+    by_event : (found : Option OwnEvent) → event_of about.session now ≡ found
+        → Along boot about kernel next (Entry cpu regs steps reads) notes solo
+    by_event None none =
+        other_call boot about kernel next cpu steps slot regs reads now notes solo shares is inside there none e tied
+    by_event (Some came) noted =
+        own_call boot about kernel next cpu steps slot regs reads now came notes solo shares is inside there noted
+        ready.rising e tied
+entry_along boot about events kernel next cpu steps regs reads notes solo shares ready e tied
+    (IsResume call is some inside) =
     by_number (get notes.numbering.in_slots (thread_in regs.a)) refl
   where
-    by_number : (found : Option ℕ) → get notes.numbering.in_slots (thread_in regs.a) ≡ found → Along boot about kernel next (Entry cpu regs steps reads) notes solo
+    by_number : (found : Option ℕ) → get notes.numbering.in_slots (thread_in regs.a) ≡ found
+        → Along boot about kernel next (Entry cpu regs steps reads) notes solo
     by_number None none = other_resume boot about kernel next cpu steps regs reads call notes solo is some none e tied
     by_number (Some number) has =
-        own_resume boot about kernel next cpu steps number regs reads call notes solo shares is some has ready.rising ready.order e tied
+        own_resume boot about kernel next cpu steps number regs reads call notes solo shares is some has ready.rising
+        ready.order e tied
 
-exit_along : (boot : Booted) (about : About) (events : ℕ) (kernel next : Kernel) (cpu : ℕ) (regs : Regs) (notes : Notes) (solo : Solo)
-    → IsReady about events kernel solo → after_event boot kernel (Exit cpu regs) ≡ Some next → AreTied about kernel notes solo → ExitKind kernel cpu
+exit_along : (boot : Booted) (about : About) (events : ℕ) (kernel next : Kernel) (cpu : ℕ) (regs : Regs)
+    (notes : Notes) (solo : Solo)
+    → IsReady about events kernel solo → after_event boot kernel (Exit cpu regs) ≡ Some next
+    → AreTied about kernel notes solo → ExitKind kernel cpu
     → Along boot about kernel next (Exit cpu regs) notes solo
 exit_along boot about events kernel next cpu regs notes solo ready e tied (WithAnswer came steps answer inside) =
     fixed_keep_tied.exit boot about kernel next cpu steps came regs answer inside notes solo e tied
-exit_along boot about events kernel next cpu regs notes solo ready e tied (FromCall came steps slot progress inside comes) =
+exit_along boot about events kernel next cpu regs notes solo ready e tied
+    (FromCall came steps slot progress inside comes) =
     by_number (get notes.numbering.in_slots slot) refl
   where
     few : progress.call.steps ≤ about.most
     few =
         option_and_then_some (progress_held kernel.tables steps) (slice_get kernel.slots slot) progress comes
-        (λ held there onward. steps_bound kernel events about.most cpu steps slot came held progress ready.steps ready.most inside there onward)
+        (λ held there onward. steps_bound kernel events about.most cpu steps slot came held progress ready.steps
+        ready.most inside there onward)
 
-    goes : (number : ℕ) → get notes.numbering.in_slots slot ≡ Some number → (leaving_of slot progress.call ≡ Interrupted → ⊥)
+    goes : (number : ℕ) → get notes.numbering.in_slots slot ≡ Some number
+        → (leaving_of slot progress.call ≡ Interrupted → ⊥)
         → Along boot about kernel next (Exit cpu regs) notes solo
-    goes number has stays = own_exit boot about kernel next cpu steps slot number came regs progress notes solo inside has comes stays ready.rising ready.order few e tied
+    goes number has stays =
+        own_exit boot about kernel next cpu steps slot number came regs progress notes solo inside has comes stays
+        ready.rising ready.order few e tied
 
-    by_leaving : (number : ℕ) (leaving : Leaving) → get notes.numbering.in_slots slot ≡ Some number → leaving_of slot progress.call ≡ leaving
+    by_leaving : (number : ℕ) (leaving : Leaving) → get notes.numbering.in_slots slot ≡ Some number
+        → leaving_of slot progress.call ≡ leaving
         → Along boot about kernel next (Exit cpu regs) notes solo
-    by_leaving number Interrupted has is = own_interrupt boot about kernel next cpu steps slot number came regs progress notes solo inside has comes is e tied
-    by_leaving number WantsBuffer has is = goes number has (λ no. let other : WantsBuffer ≡ Interrupted = sym is ∙ no in absurd cc)
-    by_leaving number (Requests place request) has is = goes number has (λ no. let other : Requests place request ≡ Interrupted = sym is ∙ no in absurd cc)
-    by_leaving number (FreesBuffer buffer) has is = goes number has (λ no. let other : FreesBuffer buffer ≡ Interrupted = sym is ∙ no in absurd cc)
-    by_leaving number (Finishes result params) has is = goes number has (λ no. let other : Finishes result params ≡ Interrupted = sym is ∙ no in absurd cc)
+    by_leaving number Interrupted has is =
+        own_interrupt boot about kernel next cpu steps slot number came regs progress notes solo inside
+        has comes is e tied
+    by_leaving number WantsBuffer has is =
+        goes number has (λ no. let other : WantsBuffer ≡ Interrupted = sym is ∙ no in absurd cc)
+    by_leaving number (Requests place request) has is =
+        goes number has (λ no. let other : Requests place request ≡ Interrupted = sym is ∙ no in absurd cc)
+    by_leaving number (FreesBuffer buffer) has is =
+        goes number has (λ no. let other : FreesBuffer buffer ≡ Interrupted = sym is ∙ no in absurd cc)
+    by_leaving number (Finishes result params) has is =
+        goes number has (λ no. let other : Finishes result params ≡ Interrupted = sym is ∙ no in absurd cc)
 
-    by_number : (found : Option ℕ) → get notes.numbering.in_slots slot ≡ found → Along boot about kernel next (Exit cpu regs) notes solo
+    by_number : (found : Option ℕ) → get notes.numbering.in_slots slot ≡ found
+        → Along boot about kernel next (Exit cpu regs) notes solo
     by_number None none = other_exit boot about kernel next cpu steps slot came regs notes solo inside none e tied
     by_number (Some number) has = by_leaving number (leaving_of slot progress.call) has refl
 
-pub event_along : (boot : Booted) (about : About) (events : ℕ) (kernel next : Kernel) (happened : Event) (notes : Notes) (solo : Solo)
-    → SharesNone boot about.app → IsReady about events kernel solo → after_event boot kernel happened ≡ Some next → AreTied about kernel notes solo
+pub event_along : (boot : Booted) (about : About) (events : ℕ) (kernel next : Kernel) (happened : Event)
+    (notes : Notes) (solo : Solo)
+    → SharesNone boot about.app → IsReady about events kernel solo → after_event boot kernel happened ≡ Some next
+    → AreTied about kernel notes solo
     → GoesAlong about notes solo next (event_noted about.session kernel next notes happened)
 event_along boot about events kernel next (Entry cpu regs steps reads) notes solo shares ready e tied =
-    entry_along boot about events kernel next cpu steps regs reads notes solo shares ready e tied (entry_kind boot kernel next cpu steps regs reads e)
+    entry_along boot about events kernel next cpu steps regs reads notes solo shares ready e tied
+    (entry_kind boot kernel next cpu steps regs reads e)
 event_along boot about events kernel next (Exit cpu regs) notes solo shares ready e tied =
     exit_along boot about events kernel next cpu regs notes solo ready e tied (exit_kind boot kernel next cpu regs e)

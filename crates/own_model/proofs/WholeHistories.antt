@@ -1,5 +1,6 @@
 -- Isolation: the machine of a session goes along with a whole history.
-use Rattle.std.proofs.Common.{◌≡◌, ℕ, zero, suc, ◌+◌, ◌*◌, ◌<◌, ◌≤◌, true, false, List, [], ◌∷◌, ◌++◌, length, Option, Some, None, refl, ap, subst, sym, ◌∙◌, arith}
+use Rattle.std.proofs.Common.{◌≡◌, ℕ, zero, suc, ◌+◌, ◌*◌, ◌<◌, ◌≤◌, true, false, List, [], ◌∷◌, ◌++◌, length, Option}
+use Rattle.std.proofs.Common.{Some, None, refl, ap, subst, sym, ◌∙◌, arith}
 use Rattle.std.specs.Option.{option_and_then, option_map, option_map_or}
 use Rattle.std.proofs.lemmas.List.{append_assoc, append-nil, length-append, map-append}
 use Rattle.std.proofs.lemmas.List.Elements.{filter_map-append}
@@ -25,7 +26,8 @@ use Rattle.own_model.specs.declared.own_reply.OwnReply.{OwnReply}
 use Rattle.own_model.specs.InOrder.{IsInOrder}
 use Rattle.own_model.specs.Isolation.{AnsweredAsAlone, IsSessionOf, SameEventsSameReplies, steps_in}
 use Rattle.own_model.specs.Laws.{About, AreTied, SharesNone, about_next}
-use Rattle.own_model.specs.Own.{Logged, Notes, event_noted, events_in, no_notes, noted, noted_from, own_events, own_replies, replies_in}
+use Rattle.own_model.specs.Own.{Logged, Notes, event_noted, events_in, no_notes, noted, noted_from, own_events}
+use Rattle.own_model.specs.Own.{own_replies, replies_in}
 use Rattle.own_model.specs.Solo.{Answered, Solo, and_reply, run, step, unopened}
 
 -- ---- the machine at events in a row
@@ -52,8 +54,10 @@ abbrev goes_on : ℕ → Application → List OwnEvent → Answered → Option E
 goes_on most app events answered = option_map (and_told answered.1) (run most app answered.0 events)
 
 -- a first event, where the others behind it go on so
-stepped : (most : ℕ) (app : Application) (answered : Answered) (then last : Solo) (events more : List OwnEvent) (replies others : List OwnReply) (end : Option Ended)
-    → (end_now : (rest : Ended) → end ≡ Some rest → rest.0 ≡ then → run most app answered.0 (events ++ more) ≡ Some (last, rest.1 ++ others))
+stepped : (most : ℕ) (app : Application) (answered : Answered) (then last : Solo) (events more : List OwnEvent)
+    (replies others : List OwnReply) (end : Option Ended)
+    → (end_now : (rest : Ended) → end ≡ Some rest → rest.0 ≡ then → run most app answered.0 (events ++ more)
+    ≡ Some (last, rest.1 ++ others))
     → option_map (and_told answered.1) end ≡ Some (then, replies)
     → goes_on most app (events ++ more) answered ≡ Some (last, replies ++ others)
 stepped most app answered then last events more replies others None onward e = absurd cc
@@ -63,7 +67,8 @@ stepped most app answered then last events more replies others (Some rest) onwar
     ∙ ap (λ (x : Ended). Some x) (and_more answered.1 rest.1 (last, others))
     ∙ ap (λ (rs : List OwnReply). Some (last, rs ++ others)) (ap (λ (x : Ended). x.1) same)
 
-run-append : (most : ℕ) (app : Application) (solo then last : Solo) (events more : List OwnEvent) (replies others : List OwnReply)
+run-append : (most : ℕ) (app : Application) (solo then last : Solo) (events more : List OwnEvent)
+    (replies others : List OwnReply)
     → run most app solo events ≡ Some (then, replies) → run most app then more ≡ Some (last, others)
     → run most app solo (events ++ more) ≡ Some (last, replies ++ others)
 run-append most app solo then last [] more replies others e behind =
@@ -75,12 +80,14 @@ run-append most app solo then last (came ∷ events) more replies others e behin
     (λ answered there onward.
     ap (λ (o : Option Answered). option_and_then (goes_on most app (events ++ more)) o) there
     ∙ stepped most app answered then last events more replies others (run most app answered.0 events)
-    (λ rest is same. run-append most app answered.0 rest.0 last events more rest.1 others is (ap (λ (z : Solo). run most app z more) same ∙ behind)) onward)
+    (λ rest is same. run-append most app answered.0 rest.0 last events more rest.1 others is
+    (ap (λ (z : Solo). run most app z more) same ∙ behind)) onward)
 
 -- ---- what holds of the kernels
 
 -- the kernel after one event more
-one_more : (boot : Booted) (past : List Event) (kernel next : Kernel) (happened : Event) → kernel_after boot past ≡ Some kernel
+one_more : (boot : Booted) (past : List Event) (kernel next : Kernel) (happened : Event)
+    → kernel_after boot past ≡ Some kernel
     → after_event boot kernel happened ≡ Some next → kernel_after boot (past ++ happened ∷ []) ≡ Some next
 one_more boot past kernel next happened there e =
     after_events-append boot (first_kernel boot) past (happened ∷ [])
@@ -95,7 +102,8 @@ record IsAt (boot : Booted) (most : ℕ) (past : List Event) (kernel : Kernel) (
   bound : 1000000 * (length past + length events) ≤ most
 
 -- after its first event
-record IsOn (boot : Booted) (most : ℕ) (past : List Event) (kernel : Kernel) (happened : Event) (events : List Event) : Type 0 where
+record IsOn (boot : Booted) (most : ℕ) (past : List Event) (kernel : Kernel) (happened : Event)
+    (events : List Event) : Type 0 where
   next : Kernel
   comes : after_event boot kernel happened ≡ Some next
   at : IsAt boot most (past ++ happened ∷ []) next events
@@ -103,7 +111,8 @@ record IsOn (boot : Booted) (most : ℕ) (past : List Event) (kernel : Kernel) (
 on_from : (boot : Booted) (most : ℕ) (past : List Event) (kernel : Kernel) (happened : Event) (events : List Event)
     → IsAt boot most past kernel (happened ∷ events) → IsOn boot most past kernel happened events
 on_from boot most past kernel happened events at =
-    option_and_then_some (λ (next : Kernel). after_events boot next events) (after_event boot kernel happened) at.last at.onward
+    option_and_then_some (λ (next : Kernel). after_events boot next events)
+    (after_event boot kernel happened) at.last at.onward
     (λ next comes onward. record {
       next = next;
       comes = comes;
@@ -111,7 +120,8 @@ on_from boot most past kernel happened events at =
         last = at.last;
         there = one_more boot past kernel next happened at.there comes;
         onward = onward;
-        bound = subst (λ n. 1000000 * n ≤ most) (sym (ap (λ n. n + length events) (length-append past (happened ∷ [])) ∙ moved (length past) (length events))) at.bound;
+        bound = subst (λ n. 1000000 * n ≤ most) (sym (ap (λ n. n + length events) (length-append past (happened ∷ []))
+            ∙ moved (length past) (length events))) at.bound;
       };
     })
   where
@@ -130,25 +140,36 @@ record RunsAlong (most : ℕ) (app : Application) (before : Notes) (solo : Solo)
   then : Solo
   replies : run most app solo (events_in items) ≡ Some (then, replies_in items)
 
-runs_on : (most : ℕ) (app : Application) (before between after : Notes) (solo then : Solo) (items : List Logged) → between.log ≡ before.log ++ items
+runs_on : (most : ℕ) (app : Application) (before between after : Notes) (solo then : Solo) (items : List Logged)
+    → between.log ≡ before.log ++ items
     → run most app solo (events_in items) ≡ Some (then, replies_in items) → RunsAlong most app between then after
     → RunsAlong most app before solo after
 runs_on most app before between after solo then items logged replies rest = record {
   items = items ++ rest.items;
-  logged = rest.logged ∙ ap (λ (log : List Logged). log ++ rest.items) logged ∙ append_assoc before.log items rest.items;
+  logged = rest.logged ∙ ap (λ (log : List Logged). log ++ rest.items) logged
+      ∙ append_assoc before.log items rest.items;
   then = rest.then;
-  replies = ap (λ (es : List OwnEvent). run most app solo es) (map-append (λ (logged : Logged). logged.0) items rest.items)
-      ∙ run-append most app solo then rest.then (events_in items) (events_in rest.items) (replies_in items) (replies_in rest.items) replies rest.replies
-      ∙ ap (λ (rs : List OwnReply). Some (rest.then, rs)) (sym (filter_map-append (λ (logged : Logged). logged.1) items rest.items));
+  replies = ap (λ (es : List OwnEvent). run most app solo es)
+      (map-append (λ (logged : Logged). logged.0) items rest.items)
+      ∙ run-append most app solo
+      then rest.then (events_in items) (events_in rest.items) (replies_in items)
+      (replies_in rest.items) replies rest.replies
+      ∙ ap (λ (rs : List OwnReply). Some (rest.then, rs))
+      (sym (filter_map-append (λ (logged : Logged). logged.1) items rest.items));
 }
 
-goes_from : (boot : Booted) (session : ℕ) (kernel next : Kernel) (notes : Notes) (happened : Event) (events : List Event) → after_event boot kernel happened ≡ Some next
-    → noted_from boot session kernel notes (happened ∷ events) ≡ noted_from boot session next (event_noted session kernel next notes happened) events
+goes_from : (boot : Booted) (session : ℕ) (kernel next : Kernel) (notes : Notes) (happened : Event)
+    (events : List Event) → after_event boot kernel happened ≡ Some next
+    → noted_from boot session kernel notes (happened ∷ events)
+    ≡ noted_from boot session next (event_noted session kernel next notes happened) events
 goes_from boot session kernel next notes happened events e =
-    ap (λ (o : Option Kernel). option_map_or (λ (k : Kernel). noted_from boot session k (event_noted session kernel k notes happened) events) o notes) e
+    ap (λ (o : Option Kernel). option_map_or (λ (k : Kernel). noted_from boot session k
+    (event_noted session kernel k notes happened) events) o notes) e
 
-tied_on : (boot : Booted) (about : About) (past : List Event) (kernel : Kernel) (notes : Notes) (solo : Solo) (events : List Event)
-    → SharesNone boot about.app → IsInOrder solo → AreTied about kernel notes solo → IsAt boot about.most past kernel events
+tied_on : (boot : Booted) (about : About) (past : List Event) (kernel : Kernel) (notes : Notes) (solo : Solo)
+    (events : List Event)
+    → SharesNone boot about.app → IsInOrder solo → AreTied about kernel notes solo
+    → IsAt boot about.most past kernel events
     → RunsAlong about.most about.app notes solo (noted_from boot about.session kernel notes events)
 tied_on boot about past kernel notes solo [] shares order tied at =
     record { items = []; logged = sym (append-nil notes.log); then = solo; replies = refl }
@@ -162,22 +183,27 @@ tied_on boot about past kernel notes solo (happened ∷ events) shares order tie
     } in
     let after : Notes = event_noted about.session kernel on.next notes happened in
     let along = event_along boot about (length past) kernel on.next happened notes solo shares ready on.comes tied in
-    let still = stays_in_order.runs about.most about.app solo along.then (events_in along.items) (replies_in along.items) order along.replies in
-    subst (RunsAlong about.most about.app notes solo) (sym (goes_from boot about.session kernel on.next notes happened events on.comes))
+    let still = stays_in_order.runs about.most about.app solo along.then (events_in along.items)
+    (replies_in along.items) order along.replies in
+    subst (RunsAlong about.most about.app notes solo)
+    (sym (goes_from boot about.session kernel on.next notes happened events on.comes))
     (runs_on about.most about.app notes after _ solo along.then along.items along.noted along.replies
     (tied_on boot about (past ++ happened ∷ []) on.next after along.then events shares still along.tied on.at))
 
 -- ---- a session whose application shares an instance, or that has none
 
 uuid_on : (boot : Booted) (session most : ℕ) (past : List Event) (kernel : Kernel) (notes : Notes) (events : List Event)
-    → session < kernel.tables.next_session → IsAt boot most past kernel events → (noted_from boot session kernel notes events).uuid ≡ notes.uuid
+    → session < kernel.tables.next_session → IsAt boot most past kernel events
+    → (noted_from boot session kernel notes events).uuid ≡ notes.uuid
 uuid_on boot session most past kernel notes [] given at = refl
 uuid_on boot session most past kernel notes (happened ∷ events) given at =
     let on = on_from boot most past kernel happened events at in
     let later : session < on.next.tables.next_session =
-    no_lower session kernel.tables.next_session on.next.tables.next_session given (numbers_rise boot past kernel on.next happened at.there on.comes).session in
+    no_lower session kernel.tables.next_session on.next.tables.next_session given
+    (numbers_rise boot past kernel on.next happened at.there on.comes).session in
     ap (λ (n : Notes). n.uuid) (goes_from boot session kernel on.next notes happened events on.comes)
-    ∙ uuid_on boot session most (past ++ happened ∷ []) on.next (event_noted session kernel on.next notes happened) events later on.at
+    ∙ uuid_on boot session most (past ++ happened ∷ []) on.next (event_noted session kernel on.next notes happened)
+    events later on.at
     ∙ uuid_stays boot session kernel on.next happened notes given on.comes
   where
     no_lower : (a n m : ℕ) → a < n → n ≤ m → a < m
@@ -187,19 +213,22 @@ uuid_on boot session most past kernel notes (happened ∷ events) given at =
 
 -- where it is of this application, whose sessions share no instance, it is answered as the machine answers
 abbrev IsAnswered : Booted → ℕ → Notes → Type 0
-IsAnswered boot most notes = (app : Application) → option_and_then (app_of boot) notes.uuid ≡ Some app → is_single app ≡ false →
+IsAnswered boot most notes = (app : Application) → option_and_then (app_of boot) notes.uuid ≡ Some app
+    → is_single app ≡ false →
     (then : Solo) × (run most app unopened (events_in notes.log) ≡ Some (then, replies_in notes.log))
 
 some_same : (a b : Application) → Some a ≡ Some b → a ≡ b
 some_same a b e = cc
 
 -- the application of the UUID that was noted
-named_app : (boot : Booted) (notes : Notes) (of app : Application) → notes.uuid ≡ Some (uuid_of of) → app_of boot (uuid_of of) ≡ Some of
+named_app : (boot : Booted) (notes : Notes) (of app : Application) → notes.uuid ≡ Some (uuid_of of)
+    → app_of boot (uuid_of of) ≡ Some of
     → option_and_then (app_of boot) notes.uuid ≡ Some app → of ≡ app
 named_app boot notes of app uuid of_boot is =
     some_same of app (sym of_boot ∙ sym (ap (λ (o : Option (List ℕ)). option_and_then (app_of boot) o) uuid) ∙ is)
 
-shared_answered : (boot : Booted) (most : ℕ) (notes : Notes) (of : Application) → notes.uuid ≡ Some (uuid_of of) → app_of boot (uuid_of of) ≡ Some of
+shared_answered : (boot : Booted) (most : ℕ) (notes : Notes) (of : Application) → notes.uuid ≡ Some (uuid_of of)
+    → app_of boot (uuid_of of) ≡ Some of
     → is_single of ≡ true → IsAnswered boot most notes
 shared_answered boot most notes of uuid of_boot shares = λ app is alone.
     let same = named_app boot notes of app uuid of_boot is in
@@ -207,9 +236,11 @@ shared_answered boot most notes of uuid of_boot shares = λ app is alone.
 
 nameless_answered : (boot : Booted) (most : ℕ) (notes : Notes) → notes.uuid ≡ None → IsAnswered boot most notes
 nameless_answered boot most notes none = λ app is alone.
-    let no : None ≡ Some app = sym (ap (λ (o : Option (List ℕ)). option_and_then (app_of boot) o) none) ∙ is in absurd cc
+    let no : None ≡ Some app = sym (ap (λ (o : Option (List ℕ)). option_and_then (app_of boot) o) none)
+    ∙ is in absurd cc
 
-opened_answered : (boot : Booted) (most : ℕ) (notes : Notes) (of : Application) → notes.uuid ≡ Some (uuid_of of) → app_of boot (uuid_of of) ≡ Some of
+opened_answered : (boot : Booted) (most : ℕ) (notes : Notes) (of : Application) → notes.uuid ≡ Some (uuid_of of)
+    → app_of boot (uuid_of of) ≡ Some of
     → RunsAlong most of no_notes unopened notes → IsAnswered boot most notes
 opened_answered boot most notes of uuid of_boot runs = λ app is alone.
     let same = named_app boot notes of app uuid of_boot is in (
@@ -228,31 +259,38 @@ early_on boot session most past kernel (happened ∷ events) before at =
     let on = on_from boot most past kernel happened events at in
     let below = below_numbers kernel (numbered boot past kernel at.there) in
     subst (IsAnswered boot most) (sym (goes_from boot session kernel on.next no_notes happened events on.comes))
-    (by_next on (event_noted session kernel on.next no_notes happened) (early_next boot session most kernel on.next happened below before on.comes)
+    (by_next on (event_noted session kernel on.next no_notes happened)
+    (early_next boot session most kernel on.next happened below before on.comes)
     (λ lower. early_on boot session most (past ++ happened ∷ []) on.next events lower on.at))
   where
-    by_next : (on : IsOn boot most past kernel happened events) (now : Notes) → EarlyNext boot session most kernel on.next now
-        → (on.next.tables.next_session ≤ session → IsAnswered boot most (noted_from boot session on.next no_notes events))
+    by_next : (on : IsOn boot most past kernel happened events) (now : Notes)
+        → EarlyNext boot session most kernel on.next now
+        → (on.next.tables.next_session ≤ session → IsAnswered boot most
+        (noted_from boot session on.next no_notes events))
         → IsAnswered boot most (noted_from boot session on.next now events)
     by_next on now (StillEarly same lower) later =
         subst (λ (n : Notes). IsAnswered boot most (noted_from boot session on.next n events)) (sym same) (later lower)
     by_next on now (NowNameless higher same) later =
         nameless_answered boot most (noted_from boot session on.next now events)
-        (uuid_on boot session most (past ++ happened ∷ []) on.next now events higher on.at ∙ ap (λ (n : Notes). n.uuid) same)
+        (uuid_on boot session most (past ++ happened ∷ []) on.next now events higher on.at
+        ∙ ap (λ (n : Notes). n.uuid) same)
     by_next on now (NowShared of higher of_boot uuid shares) later =
         shared_answered boot most (noted_from boot session on.next now events) of
         (uuid_on boot session most (past ++ happened ∷ []) on.next now events higher on.at ∙ uuid) of_boot shares
     by_next on now (NowOpen of is_next of_boot uuid alone along) later =
         let about : About = about_next of most kernel in
-        let order = stays_in_order.runs most of unopened along.then (events_in along.items) (replies_in along.items) stays_in_order.first along.replies in
+        let order = stays_in_order.runs most of unopened along.then (events_in along.items)
+        (replies_in along.items) stays_in_order.first along.replies in
         let rest : RunsAlong most of now along.then (noted_from boot session on.next now events) =
         subst (λ n. RunsAlong most of now along.then (noted_from boot n on.next now events)) (sym is_next)
         (tied_on boot about (past ++ happened ∷ []) on.next now along.then events
         (record { of_boot = of_boot; shares_none = alone }) order along.tied on.at) in
-        let higher : session < on.next.tables.next_session = subst (λ n. n < on.next.tables.next_session) (sym is_next) along.tied.given.session_given in
+        let higher : session < on.next.tables.next_session =
+        subst (λ n. n < on.next.tables.next_session) (sym is_next) along.tied.given.session_given in
         opened_answered boot most (noted_from boot session on.next now events) of
         (uuid_on boot session most (past ++ happened ∷ []) on.next now events higher on.at ∙ uuid) of_boot
-        (runs_on most of no_notes now (noted_from boot session on.next now events) unopened along.then along.items along.noted along.replies rest)
+        (runs_on most of no_notes now (noted_from boot session on.next now events) unopened along.then along.items
+        along.noted along.replies rest)
 
 -- ---- the laws
 
@@ -263,18 +301,22 @@ none_before n = omega arith
 from_boot : (boot : Booted) (session most : ℕ) (history : List Event) → IsAt boot most [] (first_kernel boot) history
     → IsAnswered boot most (noted boot history session)
 from_boot boot zero most history at =
-    nameless_answered boot most (noted boot history zero) (uuid_on boot zero most [] (first_kernel boot) no_notes history (omega arith) at)
+    nameless_answered boot most (noted boot history zero)
+    (uuid_on boot zero most [] (first_kernel boot) no_notes history (omega arith) at)
 from_boot boot (suc n) most history at = early_on boot (suc n) most [] (first_kernel boot) history (from_one n) at
   where
     from_one : (m : ℕ) → 1 ≤ suc m
     from_one m = omega arith
 
-session_answered : (boot : Booted) (history : List Event) (session : ℕ) (app : Application) → IsSessionOf boot history session app
-    → (then : Solo) × (run (steps_in history) app unopened (own_events boot history session) ≡ Some (then, own_replies boot history session))
+session_answered : (boot : Booted) (history : List Event) (session : ℕ) (app : Application)
+    → IsSessionOf boot history session app
+    → (then : Solo) × (run (steps_in history) app unopened (own_events boot history session)
+    ≡ Some (then, own_replies boot history session))
 session_answered boot history session app s =
     let last = some_of (kernel_after boot history) s.legal.follows in
     from_boot boot session (steps_in history) history
-    (record { last = last.0; there = refl; onward = last.1; bound = none_before (length history) }) app s.of_app s.shares_none
+    (record { last = last.0; there = refl; onward = last.1; bound = none_before (length history) }) app
+    s.of_app s.shares_none
 
 pub answered_as_alone : AnsweredAsAlone
 answered_as_alone boot history session app s =
@@ -292,9 +334,11 @@ same_replies boot another history other session number app s t same =
     let one = session_answered boot history session app s in
     let two = session_answered another other number app t in
     let most : ℕ = steps_in history + steps_in other in
-    let first = more_steps_agree app (steps_in history) most unopened one.0 (own_events boot history session) (own_replies boot history session)
+    let first = more_steps_agree app (steps_in history) most unopened one.0 (own_events boot history session)
+    (own_replies boot history session)
     (first_more (steps_in history) (steps_in other)) one.1 in
-    let second = more_steps_agree app (steps_in other) most unopened two.0 (own_events another other number) (own_replies another other number)
+    let second = more_steps_agree app (steps_in other) most unopened two.0 (own_events another other number)
+    (own_replies another other number)
     (second_more (steps_in history) (steps_in other)) two.1 in
     ap (λ (end : Ended). end.1)
     (some_end (one.0, own_replies boot history session) (two.0, own_replies another other number)

@@ -6,7 +6,9 @@ use Rattle.job_model.specs.Point.{no_params}
 use Rattle.kernel_model.specs.Application.{Application, Booted}
 use Rattle.kernel_model.specs.Instances.{is_single}
 use Rattle.kernel_model.specs.RpcExamples.{two_waits}
-use Rattle.kernel_model.specs.Worked.{Move, Comes, Leaves, boot, boot_native, add, panic, wait, wait_unmasked, create_fails, open_fails, open_panics, adds, argument, head, param, invokes, invokes_by, cancels, closes, call, call_of, offer, opens, resume, history_of}
+use Rattle.kernel_model.specs.Worked.{Move, Comes, Leaves, boot, boot_native, add, panic, wait, wait_unmasked}
+use Rattle.kernel_model.specs.Worked.{create_fails, open_fails, open_panics, adds, argument, head, param, invokes}
+use Rattle.kernel_model.specs.Worked.{invokes_by, cancels, closes, call, call_of, offer, opens, resume, history_of}
 use Rattle.rpc_msgs.specs.Answer.{nothing_read}
 use Rattle.rpc_msgs.specs.declared.rpc.Rpc.TheVariants.{Suspend}
 use Rattle.ta_params.specs.declared.copied_params.CopiedParams.{CopiedParams}
@@ -137,27 +139,35 @@ pub record Examples : Type 0 where
       ≡ Some (opened ∷ Out 0 ∷ Invoke 0 (Copied no_params) ∷ Out 1 ∷ Close ∷ Out 2 ∷ [])
   pub second_replies : Agrees (boot 1 1 2 panic) one_panics 2 (ended 0 4 ∷ ended 0 4 ∷ ended 0 3 ∷ [])
   -- a cancel is seen at the next resume, also by a call that waits, and by one that has one step at a time
-  pub seen_events : events_of (boot 2 2 1 wait_unmasked) (opens ++ call 0 1 (invokes_by 1 250 9) ++ call 1 9 (cancels 1 9) ++ resume 0 9 0) 1
+  pub seen_events : events_of (boot 2 2 1 wait_unmasked)
+      (opens ++ call 0 1 (invokes_by 1 250 9) ++ call 1 9 (cancels 1 9) ++ resume 0 9 0) 1
       ≡ Some (opened ∷ Out 0 ∷ Invoke 250 (Copied no_params) ∷ Cancel ∷ Out 2 ∷ Seen 1 1 ∷ Out 1 ∷ [])
   pub seen : Agrees (boot 2 2 1 wait_unmasked)
-      (opens ++ call 0 1 (invokes_by 1 250 9) ++ call 1 9 (cancels 1 9) ++ resume 0 1 0 ++ resume 0 1 0 ++ resume 0 1 0 ++ resume 0 1 0) 1
+      (opens ++ call 0 1 (invokes_by 1 250 9) ++ call 1 9 (cancels 1 9) ++ resume 0 1 0 ++ resume 0 1 0 ++ resume 0 1 0
+      ++ resume 0 1 0) 1
       (ended 0 4 ∷ ended 0 3 ∷ ended 0xffff0002 4 ∷ [])
   pub seen_waiting : Agrees (boot 3 3 1 wait_unmasked)
-      (opens ++ call 0 9 (invokes 1 250) ++ call 1 9 (invokes_by 1 250 9) ++ call 2 9 (cancels 1 9) ++ back_to 0 ++ resume 1 1 1 ++ resume 1 1 1 ++ resume 1 9 1) 1
+      (opens ++ call 0 9 (invokes 1 250) ++ call 1 9 (invokes_by 1 250 9) ++ call 2 9 (cancels 1 9) ++ back_to 0
+      ++ resume 1 1 1 ++ resume 1 1 1 ++ resume 1 9 1) 1
       (ended 0 4 ∷ reply.Alloc ∷ reply.Alloc ∷ ended 0 3 ∷ reply.Alloc ∷ ended 0xffff0002 4 ∷ [])
   -- a close that is woken goes on, and a call that waited longer has no session then
   pub session_gone : Agrees (boot 3 3 1 add)
-      (adds_inside ++ call 1 9 (closes 1) ++ call 2 9 (adds 1 2) ++ Leaves 0 ∷ offer 0 9 0 0x40010000 0x77 ++ back_to 1 ++ back_to 2
+      (adds_inside ++ call 1 9 (closes 1) ++ call 2 9 (adds 1 2) ++ Leaves 0 ∷ offer 0 9 0 0x40010000 0x77
+      ++ back_to 1 ++ back_to 2
       ++ back_to 0 ++ back_to 0 ++ back_to 1) 1
-      (ended 0 4 ∷ reply.Alloc ∷ reply.Alloc ∷ reply.Alloc ∷ reply.Wake 2 ∷ reply.Alloc ∷ ended 0xffff0006 3 ∷ reply.Free ∷ sum 12 ∷ ended 0 3 ∷ [])
+      (ended 0 4 ∷ reply.Alloc ∷ reply.Alloc ∷ reply.Alloc ∷ reply.Wake 2 ∷ reply.Alloc ∷ ended 0xffff0006 3
+      ∷ reply.Free ∷ sum 12 ∷ ended 0 3 ∷ [])
   -- calls that waited for a dead instance
   pub dead : Agrees (boot 3 3 1 panic) (dies_awaited ++ back_to 2 ++ back_to 0 ++ back_to 2 ++ back_to 1) 1
-      (ended 0 4 ∷ reply.Alloc ∷ reply.Alloc ∷ reply.Alloc ∷ reply.Alloc ∷ ended 0xffff3024 3 ∷ ended 0xffff3024 3 ∷ ended 0 3 ∷ [])
+      (ended 0 4 ∷ reply.Alloc ∷ reply.Alloc ∷ reply.Alloc ∷ reply.Alloc ∷ ended 0xffff3024 3 ∷ ended 0xffff3024 3
+      ∷ ended 0 3 ∷ [])
   -- a close that got no buffer to sleep keeps its session
-  pub sleepless : Agrees (boot 2 2 1 add) (adds_inside ++ call 1 9 (closes 1) ++ back_to 1 ++ Leaves 0 ∷ call 1 9 (adds 1 2)) 1
+  pub sleepless : Agrees (boot 2 2 1 add) (adds_inside ++ call 1 9 (closes 1) ++ back_to 1 ++ Leaves 0
+      ∷ call 1 9 (adds 1 2)) 1
       (ended 0 4 ∷ reply.Alloc ∷ ended 0xffff000c 3 ∷ sum 12 ∷ sum 3 ∷ [])
   -- a call that finds no thread, and goes out when its session is gone
-  pub limited : Agrees (boot 2 1 1 add) (opens ++ Comes 0 (call_of 0) 9 (closes 1) ∷ Comes 1 (call_of 0) 9 [] ∷ Leaves 0 ∷ Leaves 1 ∷ []) 1
+  pub limited : Agrees (boot 2 1 1 add) (opens ++ Comes 0 (call_of 0) 9 (closes 1) ∷ Comes 1 (call_of 0) 9 [] ∷ Leaves 0
+      ∷ Leaves 1 ∷ []) 1
       (ended 0 4 ∷ ended 0 3 ∷ reply.Limited ∷ [])
   -- one of another client that finds none
   pub limit_of_another : events_of (boot 2 1 1 add)
@@ -165,13 +175,15 @@ pub record Examples : Type 0 where
       ≡ Some (opened ∷ Out 0 ∷ Close ∷ Out 1 ∷ [])
   -- who is to be woken has gone on by itself, and another call is in its slot when the wake is asked for
   pub woken_before : Agrees (boot 3 3 1 add)
-      (adds_inside ++ call 1 9 (adds 1 2) ++ Leaves 0 ∷ back_to 1 ++ call 1 1 (adds 3 4) ++ offer 0 9 0 0x40010000 0x77 ++ back_to 0 ++ back_to 0 ++ back_to 1) 1
+      (adds_inside ++ call 1 9 (adds 1 2) ++ Leaves 0 ∷ back_to 1 ++ call 1 1 (adds 3 4) ++ offer 0 9 0 0x40010000 0x77
+      ++ back_to 0 ++ back_to 0 ++ back_to 1) 1
       (ended 0 4 ∷ reply.Alloc ∷ reply.Alloc ∷ sum 3 ∷ reply.Wake 2 ∷ reply.Free ∷ sum 12 ∷ sum 7 ∷ [])
   -- opens that fail, and an application that is built in
   pub open_failed : Agrees (boot 1 1 1 open_fails) (opens ++ opens) 2 (ended 7 4 ∷ [])
   pub create_failed : Agrees (boot 1 1 1 create_fails) opens 1 (ended 7 4 ∷ [])
   pub open_panicked : Agrees (boot 1 1 1 open_panics) opens 1 (ended 0xffff3024 3 ∷ [])
-  pub built_in : Agrees (boot_native 1 1 1 7) (opens ++ opens ++ call 0 1 (invokes 1 5) ++ call 0 1 (closes 1) ++ call 0 1 (invokes 2 5)) 1
+  pub built_in : Agrees (boot_native 1 1 1 7) (opens ++ opens ++ call 0 1 (invokes 1 5) ++ call 0 1 (closes 1)
+      ++ call 0 1 (invokes 2 5)) 1
       (ended 0 3 ∷ ended 7 4 ∷ ended 0 3 ∷ [])
   -- a fault of copying
   pub faulty : events_of (boot 1 1 1 add) (opens ++ call 0 9 (argument (head 1 0 1 1) (param 9 0x40002000 65537 0))) 1

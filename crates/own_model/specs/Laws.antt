@@ -56,27 +56,32 @@ GoesAlongWith boot about kernel next event notes solo =
     GoesAlong about notes solo next (event_noted about.session kernel next notes event)
 
 abbrev pub KeepsTied : Booted → About → Kernel → Kernel → Event → Type 0
-KeepsTied boot about kernel next event = (notes : Notes) (solo : Solo) → GoesAlongWith boot about kernel next event notes solo
+KeepsTied boot about kernel next event = (notes : Notes) (solo : Solo) →
+    GoesAlongWith boot about kernel next event notes solo
 
 -- with the entry and the exit of a fixed answer: nothing happens to the machine, but where its client is told that no
 -- thread was free
 pub record FixedKeepTied : Type 0 where
-  pub entry : (boot : Booted) (about : About) (kernel next : Kernel) (cpu steps : ℕ) (regs : Regs) (reads : List Read) (answer : Answer) →
+  pub entry : (boot : Booted) (about : About) (kernel next : Kernel) (cpu steps : ℕ) (regs : Regs) (reads : List Read)
+      (answer : Answer) →
       slice_get next.processors cpu ≡ Some (Inside regs.a steps (Fixed answer)) →
       KeepsTied boot about kernel next (Entry cpu regs steps reads)
-  pub exit : (boot : Booted) (about : About) (kernel next : Kernel) (cpu steps : ℕ) (came : List ℕ) (regs : Regs) (answer : Answer) →
+  pub exit : (boot : Booted) (about : About) (kernel next : Kernel) (cpu steps : ℕ) (came : List ℕ) (regs : Regs)
+      (answer : Answer) →
       slice_get kernel.processors cpu ≡ Some (Inside came steps (Fixed answer)) →
       KeepsTied boot about kernel next (Exit cpu regs)
 
 -- with the exit from a call that isn't the session's: nothing happens to the machine
 abbrev pub OtherExitsKeepTied : Type 0
-OtherExitsKeepTied = (boot : Booted) (about : About) (kernel next : Kernel) (cpu steps slot : ℕ) (came : List ℕ) (regs : Regs)
+OtherExitsKeepTied =
+    (boot : Booted) (about : About) (kernel next : Kernel) (cpu steps slot : ℕ) (came : List ℕ) (regs : Regs)
     (notes : Notes) (solo : Solo) → slice_get kernel.processors cpu ≡ Some (Inside came steps (InSlot slot)) →
     get notes.numbering.in_slots slot ≡ None → GoesAlongWith boot about kernel next (Exit cpu regs) notes solo
 
 -- with a resume of a call that isn't the session's: nothing happens to the machine
 abbrev pub OtherResumesKeepTied : Type 0
-OtherResumesKeepTied = (boot : Booted) (about : About) (kernel next : Kernel) (cpu steps : ℕ) (regs : Regs) (reads : List Read)
+OtherResumesKeepTied =
+    (boot : Booted) (about : About) (kernel next : Kernel) (cpu steps : ℕ) (regs : Regs) (reads : List Read)
     (call : PendingCall) (notes : Notes) (solo : Solo) → call_of (reg regs.a 0) ≡ Resume →
     call_resumed_by kernel.slots regs.a ≡ Some call → get notes.numbering.in_slots (thread_in regs.a) ≡ None →
     GoesAlongWith boot about kernel next (Entry cpu regs steps reads) notes solo
@@ -88,16 +93,20 @@ pub record SharesNone (boot : Booted) (app : Application) : Type 0 where
 
 -- with a new call that isn't the session's: nothing happens to the machine
 abbrev pub OtherCallsKeepTied : Type 0
-OtherCallsKeepTied = (boot : Booted) (about : About) (kernel next : Kernel) (cpu steps slot : ℕ) (regs : Regs) (reads : List Read)
+OtherCallsKeepTied =
+    (boot : Booted) (about : About) (kernel next : Kernel) (cpu steps slot : ℕ) (regs : Regs) (reads : List Read)
     (now : PendingCall) (notes : Notes) (solo : Solo) → SharesNone boot about.app → call_of (reg regs.a 0) ≡ WithArg →
-    slice_get next.processors cpu ≡ Some (Inside regs.a steps (InSlot slot)) → slice_get next.slots slot ≡ Some (Active cpu now) →
+    slice_get next.processors cpu ≡ Some (Inside regs.a steps (InSlot slot)) →
+    slice_get next.slots slot ≡ Some (Active cpu now) →
     event_of about.session now ≡ None → GoesAlongWith boot about kernel next (Entry cpu regs steps reads) notes solo
 
 -- with an exit from a call of the session that is an interrupt: nothing happens to the machine, and the call's job is
 -- further ahead of the machine's
 abbrev pub InterruptsKeepTied : Type 0
-InterruptsKeepTied = (boot : Booted) (about : About) (kernel next : Kernel) (cpu steps slot number : ℕ) (came : List ℕ) (regs : Regs)
-    (progress : Progress) (notes : Notes) (solo : Solo) → slice_get kernel.processors cpu ≡ Some (Inside came steps (InSlot slot)) →
+InterruptsKeepTied =
+    (boot : Booted) (about : About) (kernel next : Kernel) (cpu steps slot number : ℕ) (came : List ℕ) (regs : Regs)
+    (progress : Progress) (notes : Notes) (solo : Solo) →
+    slice_get kernel.processors cpu ≡ Some (Inside came steps (InSlot slot)) →
     get notes.numbering.in_slots slot ≡ Some number → progress_in_slot kernel steps slot ≡ Some progress →
     leaving_of slot progress.call ≡ Interrupted → GoesAlongWith boot about kernel next (Exit cpu regs) notes solo
 
@@ -111,7 +120,8 @@ pub record StaysInOrder : Type 0 where
 
 -- given more steps to a job's stop than it takes, it answers the same
 abbrev pub MoreStepsAgree : Type 0
-MoreStepsAgree = (app : Application) (most more : ℕ) (solo then : Solo) (events : List OwnEvent) (replies : List OwnReply) →
+MoreStepsAgree = (app : Application) (most more : ℕ) (solo then : Solo) (events : List OwnEvent)
+    (replies : List OwnReply) →
     most ≤ more → run most app solo events ≡ Some (then, replies) → run more app solo events ≡ Some (then, replies)
 
 -- ---- calls of the session that go out and come back
@@ -119,18 +129,22 @@ MoreStepsAgree = (app : Application) (most more : ℕ) (solo then : Solo) (event
 -- with an exit from a call of the session that isn't an interrupt: the machine's call goes out with the same, where no
 -- job takes more steps than the machine gives it
 abbrev pub OwnExitsKeepTied : Type 0
-OwnExitsKeepTied = (boot : Booted) (about : About) (kernel next : Kernel) (cpu steps slot number : ℕ) (came : List ℕ) (regs : Regs)
-    (progress : Progress) (notes : Notes) (solo : Solo) → slice_get kernel.processors cpu ≡ Some (Inside came steps (InSlot slot)) →
+OwnExitsKeepTied = (boot : Booted) (about : About) (kernel next : Kernel) (cpu steps slot number : ℕ)
+    (came : List ℕ) (regs : Regs)
+    (progress : Progress) (notes : Notes) (solo : Solo) →
+    slice_get kernel.processors cpu ≡ Some (Inside came steps (InSlot slot)) →
     get notes.numbering.in_slots slot ≡ Some number → progress_in_slot kernel steps slot ≡ Some progress →
     (leaving_of slot progress.call ≡ Interrupted → ⊥) → IsRising kernel.tables.sessions → IsInOrder solo →
     progress.call.steps ≤ about.most → GoesAlongWith boot about kernel next (Exit cpu regs) notes solo
 
 -- with a resume of a call of the session: the machine's call sees that it was cancelled, and is given the same
 abbrev pub OwnResumesKeepTied : Type 0
-OwnResumesKeepTied = (boot : Booted) (about : About) (kernel next : Kernel) (cpu steps number : ℕ) (regs : Regs) (reads : List Read)
+OwnResumesKeepTied =
+    (boot : Booted) (about : About) (kernel next : Kernel) (cpu steps number : ℕ) (regs : Regs) (reads : List Read)
     (call : PendingCall) (notes : Notes) (solo : Solo) → SharesNone boot about.app → call_of (reg regs.a 0) ≡ Resume →
     call_resumed_by kernel.slots regs.a ≡ Some call → get notes.numbering.in_slots (thread_in regs.a) ≡ Some number →
-    IsRising kernel.tables.sessions → IsInOrder solo → GoesAlongWith boot about kernel next (Entry cpu regs steps reads) notes solo
+    IsRising kernel.tables.sessions → IsInOrder solo →
+    GoesAlongWith boot about kernel next (Entry cpu regs steps reads) notes solo
 
 -- ---- calls of the session that come in
 

@@ -1,7 +1,8 @@
 -- What happens to one session in a history and what it is answered, read off the kernels that the history goes
 -- through: which call a slot holds after an entry, what its resume gave it, and what an exit has it go out with. This
 -- project's own.
-use Rattle.std.specs.Prelude.{ℕ, ◌+◌, ◌==◌, ◌&&◌, not, Bool, false, List, [], ◌∷◌, ◌++◌, Option, Some, None, slice_get, map, filter, filter_map, if◌then◌else◌}
+use Rattle.std.specs.Prelude.{ℕ, ◌+◌, ◌==◌, ◌&&◌, not, Bool, false, List, [], ◌∷◌, ◌++◌, Option, Some, None, slice_get}
+use Rattle.std.specs.Prelude.{map, filter, filter_map, if◌then◌else◌}
 use Rattle.std.specs.List.{list_any}
 use Rattle.std.specs.Option.{option_map, option_map_or, option_and_then, option_or}
 use Rattle.base.specs.NumberMap.{NumberMap, get, insert, remove}
@@ -24,12 +25,15 @@ use Rattle.kernel_model.specs.Given.{Given, given_to}
 use Rattle.kernel_model.specs.Given as given
 use Rattle.kernel_model.specs.History.{after_event}
 use Rattle.kernel_model.specs.Instances.{app_of}
-use Rattle.kernel_model.specs.Kernel.{CallPhase, Runs, Asks, Waits, Ends, SettledCall, Untold, AnOpen, AnInvoke, ACancel, PendingCall, Progress, ThreadSlot, Free, Active, Suspended, Errand, Fixed, InSlot, Processor, Inside, Kernel, Visit, first_kernel}
+use Rattle.kernel_model.specs.Kernel.{CallPhase, Runs, Asks, Waits, Ends, SettledCall, Untold, AnOpen, AnInvoke}
+use Rattle.kernel_model.specs.Kernel.{ACancel, PendingCall, Progress, ThreadSlot, Free, Active, Suspended, Errand}
+use Rattle.kernel_model.specs.Kernel.{Fixed, InSlot, Processor, Inside, Kernel, Visit, first_kernel}
 use Rattle.kernel_model.specs.Leaving.{Leaving, Interrupted, WantsBuffer, Requests, FreesBuffer, Finishes, leaving_of}
 use Rattle.own_model.specs.declared.own_event.BackInput.{BackInput}
 use Rattle.own_model.specs.declared.own_event.BackInput.TheVariants as back
 use Rattle.own_model.specs.declared.own_event.OwnEvent.{OwnEvent}
-use Rattle.own_model.specs.declared.own_event.OwnEvent.TheVariants.{Open, Invoke, Close, Cancel, Seen, Back, Out, Limited}
+use Rattle.own_model.specs.declared.own_event.OwnEvent.TheVariants.{Open, Invoke, Close, Cancel, Seen, Back, Out}
+use Rattle.own_model.specs.declared.own_event.OwnEvent.TheVariants.{Limited}
 use Rattle.own_model.specs.declared.own_event.OwnInput.{OwnInput}
 use Rattle.own_model.specs.declared.own_event.OwnInput.TheVariants.{Copied, Faulty, Unread}
 use Rattle.own_model.specs.declared.own_reply.OwnReply.{OwnReply}
@@ -144,7 +148,8 @@ pub record Resuming : Type 0 where
 abbrev pub resume_noted : Resuming → PendingCall → PendingCall → Notes → ℕ → Notes
 resume_noted r before now notes number =
     let seen = seen_noted notes number before now in
-    option_map_or (back_noted seen number (leaving_of r.slot before)) (reading (given_to r.regs r.slot before) r.reads) seen
+    option_map_or (back_noted seen number (leaving_of r.slot before))
+    (reading (given_to r.regs r.slot before) r.reads) seen
 
 -- ---- entries
 
@@ -253,7 +258,8 @@ limit_noted notes cpu =
 abbrev pub out_noted : Kernel → Notes → ℕ → Option Processor → Notes
 out_noted kernel notes cpu (Some (Inside regs steps (Fixed answer))) = limit_noted notes cpu
 out_noted kernel notes cpu (Some (Inside regs steps (InSlot slot))) =
-    let with_progress = λ (progress : Progress). option_map_or (exit_noted notes slot progress.call) (get notes.numbering.in_slots slot) notes in
+    let with_progress = λ (progress : Progress).
+    option_map_or (exit_noted notes slot progress.call) (get notes.numbering.in_slots slot) notes in
     option_map_or with_progress (progress_in_slot kernel steps slot) notes
 out_noted kernel notes cpu _ = notes
 
@@ -272,7 +278,8 @@ event_noted session kernel next notes (event.Exit cpu regs) =
 abbrev pub noted_from : Booted → ℕ → Kernel → Notes → List Event → Notes
 noted_from boot session kernel notes [] = notes
 noted_from boot session kernel notes (event ∷ events) =
-    let goes_on = λ (next : Kernel). noted_from boot session next (event_noted session kernel next notes event) events in
+    let goes_on = λ (next : Kernel).
+    noted_from boot session next (event_noted session kernel next notes event) events in
     option_map_or goes_on (after_event boot kernel event) notes
 
 -- and by a history

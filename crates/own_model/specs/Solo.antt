@@ -1,6 +1,7 @@
 -- The machine of one session: what an application does when nobody else is there. It is made from the application
 -- alone, has one session, one instance and no limits, and is fed with the session's own events. This project's own.
-use Rattle.std.specs.Prelude.{ℕ, ◌+◌, ◌-◌, ◌==◌, ◌&&◌, ◌||◌, not, Bool, true, false, List, [], ◌∷◌, ◌++◌, Option, Some, None, slice_get, filter, if◌then◌else◌}
+use Rattle.std.specs.Prelude.{ℕ, ◌+◌, ◌-◌, ◌==◌, ◌&&◌, ◌||◌, not, Bool, true, false, List, [], ◌∷◌, ◌++◌, Option, Some}
+use Rattle.std.specs.Prelude.{None, slice_get, filter, if◌then◌else◌}
 use Rattle.std.specs.Option.{option_map, option_map_or, option_and_then}
 use Rattle.base.specs.NumberMap.{NumberMap, get, insert, remove}
 use Rattle.job_model.specs.Beginning.{begun_job}
@@ -24,7 +25,8 @@ use Rattle.kernel_model.specs.Resume.{is_close, phase_seen, phase_on_answer}
 use Rattle.own_model.specs.declared.own_event.BackInput.{BackInput}
 use Rattle.own_model.specs.declared.own_event.BackInput.TheVariants.{Nothing, Buffer, NoBuffer, Reply}
 use Rattle.own_model.specs.declared.own_event.OwnEvent.{OwnEvent}
-use Rattle.own_model.specs.declared.own_event.OwnEvent.TheVariants.{Open, Invoke, Close, Cancel, Seen, Back, Out, Limited}
+use Rattle.own_model.specs.declared.own_event.OwnEvent.TheVariants.{Open, Invoke, Close, Cancel, Seen, Back, Out}
+use Rattle.own_model.specs.declared.own_event.OwnEvent.TheVariants.{Limited}
 use Rattle.own_model.specs.declared.own_event.OwnInput.{OwnInput}
 use Rattle.own_model.specs.declared.own_event.OwnInput.TheVariants.{Copied, Faulty, Unread}
 use Rattle.own_model.specs.declared.own_reply.OwnReply.{OwnReply}
@@ -96,7 +98,8 @@ abbrev pub job_of : Application → CallKind → Start → Job
 job_of app call_kind start =
     let program = if start.instance.dead then None else Some (program_of app) in
     let idle = idle_job (uuid_of app) start.session.login start.session.context start.instance.objects start.params in
-    begun_job (record { program = program; memory = start.instance.memory; seen = start.seen }) idle (points_of call_kind)
+    begun_job (record { program = program; memory = start.instance.memory; seen = start.seen }) idle
+    (points_of call_kind)
 
 -- the call of this number holds the instance and runs
 abbrev pub begins : Application → Solo → ℕ → OwnCall → Start → Solo
@@ -388,7 +391,8 @@ abbrev pub run : ℕ → Application → Solo → List OwnEvent → Option (Solo
 run most app z [] = Some (z, [])
 run most app z (event ∷ events) =
     let goes_on_from = λ (answered : Answered).
-    option_map (λ (rest : Solo × List OwnReply). (rest.0, and_reply answered.1 rest.1)) (run most app answered.0 events) in
+    option_map (λ (rest : Solo × List OwnReply). (rest.0, and_reply answered.1 rest.1))
+    (run most app answered.0 events) in
     option_and_then goes_on_from (step most app z event)
 
 -- what it replies to them from the start on

@@ -1,6 +1,7 @@
 -- When a kernel and the machine of one of its sessions are tied: what either does next at an event of the session is
 -- the same, and no other event unties them. This project's own.
-use Rattle.std.specs.Prelude.{◌≡◌, ◌↔◌, ℕ, ◌-◌, ◌<◌, ◌≤◌, ◌==◌, true, List, Option, Some, None, is_some, map, filter, slice_get, All}
+use Rattle.std.specs.Prelude.{◌≡◌, ◌↔◌, ℕ, ◌-◌, ◌<◌, ◌≤◌, ◌==◌, true, List, Option, Some, None, is_some, map, filter}
+use Rattle.std.specs.Prelude.{slice_get, All}
 use Rattle.std.specs.Option.{option_map, option_and_then}
 use Rattle.base.specs.NumberMap.{NumberMap, get}
 use Rattle.job_model.specs.declared.call_kind.CallKind.{CallKind}
@@ -10,7 +11,8 @@ use Rattle.job_model.specs.Steps.{After}
 use Rattle.session_table.specs.declared.session.Session.{Session}
 use Rattle.session_table.specs.declared.waiters.Waiter.{Waiter}
 use Rattle.kernel_model.specs.Application.{Application, uuid_of}
-use Rattle.kernel_model.specs.Kernel.{CallPhase, Runs, Asks, Waits, Ends, PendingCall, ThreadSlot, Free, Active, Suspended, Instance, Tables}
+use Rattle.kernel_model.specs.Kernel.{CallPhase, Runs, Asks, Waits, Ends, PendingCall, ThreadSlot, Free, Active}
+use Rattle.kernel_model.specs.Kernel.{Suspended, Instance, Tables}
 use Rattle.kernel_model.specs.Resume.{phase_seen}
 use Rattle.own_model.specs.Own.{Numbering}
 use Rattle.own_model.specs.Solo.{OwnSession, OwnCall, Solo}
@@ -66,8 +68,8 @@ WakesAlike kept (Some woken) (Some number) = kept ≡ Some number
 WakesAlike kept None (Some number) = ⊥
 WakesAlike kept (Some woken) None = ⊥
 
--- the phases of a call with so many steps done and of the machine's: a job that runs may be ahead of the machine's, which
--- is taken on only where that shows. `kept` is whom the call was kept to wake
+-- the phases of a call with so many steps done and of the machine's: a job that runs may be ahead of the machine's,
+-- which is taken on only where that shows. `kept` is whom the call was kept to wake
 abbrev pub PhasesAlike : (kept : Option ℕ) → (done_by_now done_by_then : ℕ) → CallPhase → CallPhase → Type 0
 PhasesAlike kept now then (Runs job) (Runs from) = IsFurther now then job from
 PhasesAlike kept now then (Asks job wanted payload) (Asks from asked bytes) =
@@ -100,7 +102,8 @@ pub record Whose : Type 0 where
   pub numbering : Numbering
 
 -- the call of a slot that has a number, and the machine's call of that number
-pub record IsTiedCall (whose : Whose) (slots : List ThreadSlot) (calls : NumberMap OwnCall) (slot number : ℕ) : Type 0 where
+pub record IsTiedCall (whose : Whose) (slots : List ThreadSlot) (calls : NumberMap OwnCall)
+    (slot number : ℕ) : Type 0 where
   pub call : PendingCall
   pub own : OwnCall
   pub in_slot : call_at slots slot ≡ Some call
@@ -132,7 +135,8 @@ pub record IsOther (whose : Whose) (call : PendingCall) : Type 0 where
 -- the instance is the session's alone: no other session and no call of another session has it
 pub record IsAlone (whose : Whose) (slots : List ThreadSlot) (sessions : NumberMap Session) : Type 0 where
   pub only : (number : ℕ) (session : Session) → get sessions number ≡ Some session → IsOnlySession whose number session
-  pub others : (slot : ℕ) (call : PendingCall) → call_at slots slot ≡ Some call → get whose.numbering.in_slots slot ≡ None →
+  pub others : (slot : ℕ) (call : PendingCall) → call_at slots slot ≡ Some call →
+      get whose.numbering.in_slots slot ≡ None →
       IsOther whose call
 
 -- ---- those that wait
@@ -182,7 +186,8 @@ pub record AreGiven (whose : Whose) (tables : Tables) : Type 0 where
   pub instance_given : whose.instance < tables.next_instance
 
 -- the slots and the tables of a kernel and the machine of a session of this application are tied
-pub record Tied (app : Application) (whose : Whose) (slots : List ThreadSlot) (tables : Tables) (solo : Solo) : Type 0 where
+pub record Tied (app : Application) (whose : Whose) (slots : List ThreadSlot) (tables : Tables)
+    (solo : Solo) : Type 0 where
   -- 1. the session is there exactly where the machine has it, with the same login and context, opened or not
   pub session_alike : option_map shown (get tables.sessions whose.session) ≡ solo.session
   -- 2 and 3. its instance is, dead exactly where the machine's is, with the same memory and objects
@@ -190,8 +195,8 @@ pub record Tied (app : Application) (whose : Whose) (slots : List ThreadSlot) (t
   pub of_app : AreOf whose.instance (uuid_of app) tables.instances
   -- 4 and 5. its calls in the slots are the machine's, which may be behind in steps
   pub calls : AreTiedCalls whose slots solo.calls
-  -- 6. so are those that wait. The holder and the wakes stand above, by the numbers of their calls; whom a call wakes is
-  -- kept from the first telling of its result on
+  -- 6. so are those that wait. The holder and the wakes stand above, by the numbers of their calls; whom a call wakes
+  -- is kept from the first telling of its result on
   pub waiters : AreTiedWaiters app whose tables.waiters solo.waiting
   pub kept : AreKeptTold whose solo.calls
   -- 7. nobody else has the instance

@@ -1,6 +1,7 @@
 //! What holds of the definitions themselves.
 ghost use Rattle.own_model.specs.Examples.{Examples};
-ghost use Rattle.own_model.specs.Laws.{FixedKeepTied, InterruptsKeepTied, OtherCallsKeepTied, OtherExitsKeepTied, OtherResumesKeepTied, OwnCallsKeepTied};
+ghost use Rattle.own_model.specs.Laws.{FixedKeepTied, InterruptsKeepTied, OtherCallsKeepTied, OtherExitsKeepTied};
+ghost use Rattle.own_model.specs.Laws.{OtherResumesKeepTied, OwnCallsKeepTied};
 ghost use Rattle.own_model.specs.Laws.{MoreStepsAgree, OwnExitsKeepTied, OwnResumesKeepTied, StaysInOrder};
 ghost use Rattle.own_model.specs.Laws.{OwnOpensTie};
 
@@ -41,8 +42,8 @@ pub fn own_calls_keep_sessions()
     ensures { OwnCallsKeepTied }
 {}
 
-/// And any other exit from a call of the session, where no job takes more steps than the machine gives it: the machine's
-/// call goes out with the same.
+/// And any other exit from a call of the session, where no job takes more steps than the machine gives it: the
+/// machine's call goes out with the same.
 pub fn own_exits_keep_sessions()
     ensures { OwnExitsKeepTied }
 {}
