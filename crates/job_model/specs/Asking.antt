@@ -1,6 +1,7 @@
 -- What an application's request comes to: what it asks the normal world for, or what the application gets. By the
 -- TEE Internal Core API, "Wait Function" and "Time Functions"; its numbers are this project's own.
-use Rattle.std.specs.Prelude.{ℕ, ◌/◌, ◌%◌, ◌^◌, ◌==◌, Bool, if◌then◌else◌, List, [], ◌∷◌, Option, Some, None, take, drop}
+use Rattle.std.specs.Prelude.{ℕ, ◌/◌, ◌%◌, ◌^◌, ◌==◌, Bool, if◌then◌else◌, List, [], ◌∷◌, Option, Some, None, take}
+use Rattle.std.specs.Prelude.{drop}
 use Rattle.std.specs.Option.{option_map}
 use Rattle.base.specs.NumberMap.{NumberMap}
 use Rattle.rpc_msgs.specs.Answer.{RpcAnswer, Replied, NoBuffer}
@@ -94,7 +95,8 @@ ask_unchanged asked next = record { next = next; range = asked.range; objects = 
 -- none where there are answers behind the last one that it asks for
 abbrev pub comes_to : List ℕ → Bool → PendingRequest → Request → Option Ask
 comes_to uuid cancelled asked request.Time = option_map (ask_unchanged asked) (asks_time asked.answers)
-comes_to uuid cancelled asked (request.Suspend ms) = option_map (ask_unchanged asked) (asks_wait ms cancelled asked.answers)
+comes_to uuid cancelled asked (request.Suspend ms) =
+    option_map (ask_unchanged asked) (asks_wait ms cancelled asked.answers)
 comes_to uuid cancelled asked (request.Object call) =
     option_map object_ask (serving call uuid asked.range asked.objects asked.answers)
 

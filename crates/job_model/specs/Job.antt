@@ -51,7 +51,17 @@ of_application code = record { result = code; origin = 4 }
 -- a job that has nothing to run: TEE_SUCCESS
 abbrev pub idle_job : List ℕ → Login → ℕ → NumberMap Handle → CopiedParams → Job
 idle_job uuid login context objects params =
-    record { body = Nothing; uuid = uuid; login = login; context = context; objects = objects; asked = None; params = params; result = of_tee 0; points = [] }
+    record {
+      body = Nothing;
+      uuid = uuid;
+      login = login;
+      context = context;
+      objects = objects;
+      asked = None;
+      params = params;
+      result = of_tee 0;
+      points = [];
+    }
 
 -- the machine at the start of an entry point: masked, with the cancellation flag as the call has seen it
 abbrev pub machine_at : Image → EntryPoint → List ℕ → Bool → Job → State
@@ -63,7 +73,11 @@ machine_at image point memory seen job =
 -- the job at the start of this entry point, with these behind it
 abbrev pub image_job_at : Image → List ℕ → Bool → Job → EntryPoint → List EntryPoint → Job
 image_job_at image memory seen job point behind =
-    record job { body = Machine image point (machine_at image point memory seen job); params = params_beside point job.params; points = behind }
+    record job {
+      body = Machine image point (machine_at image point memory seen job);
+      params = params_beside point job.params;
+      points = behind;
+    }
 
 -- the same job, whose call has seen that it was cancelled
 abbrev pub body_with_cancel_seen : Body → Body

@@ -1,5 +1,6 @@
 -- What so many steps make of a job, and its stop. This project's own.
-use Rattle.std.specs.Prelude.{◌≡◌, ℕ, zero, suc, ◌+◌, ◌≤◌, ◌==◌, Bool, true, false, if◌then◌else◌, List, [], ◌∷◌, ◌++◌, Option, Some, None}
+use Rattle.std.specs.Prelude.{◌≡◌, ℕ, zero, suc, ◌+◌, ◌≤◌, ◌==◌, Bool, true, false, if◌then◌else◌, List, [], ◌∷◌, ◌++◌}
+use Rattle.std.specs.Prelude.{Option, Some, None}
 use Rattle.std.specs.Option.{option_map, option_or, option_and_then}
 use Rattle.base.specs.NumberMap.{NumberMap}
 use Rattle.ta_isa.specs.declared.image.Image.{Image}
@@ -78,12 +79,20 @@ ends_instance Destroy = true
 -- what an ended job leaves, with this memory
 abbrev pub end_of : Job → List ℕ → Bool → End
 end_of job memory is_last =
-    record { result = job.result; context = job.context; memory = memory; objects = job.objects; params = job.params; is_last = is_last }
+    record {
+      result = job.result;
+      context = job.context;
+      memory = memory;
+      objects = job.objects;
+      params = job.params;
+      is_last = is_last;
+    }
 
 -- on to the first of the entry points that come, with memory and flag as they are; to the end where none does
 abbrev pub on_to_next : Job → Image → EntryPoint → State → List EntryPoint → Advance
 on_to_next job image point machine [] = Stops (Ends (end_of job machine.memory (ends_instance point)))
-on_to_next job image point machine (next ∷ behind) = Goes (image_job_at image machine.memory machine.cancelled job next behind)
+on_to_next job image point machine (next ∷ behind) =
+    Goes (image_job_at image machine.memory machine.cancelled job next behind)
 
 -- ---- requests
 
@@ -107,7 +116,8 @@ with_bytes machine request bytes = let span = span_of request in store machine s
 -- on with a machine that has asked, by the answers so far
 abbrev pub advance_on_answers : Job → Image → EntryPoint → State → PendingRequest → Option Advance
 advance_on_answers job image point machine asked =
-    let on = λ (came : Ask). on_from job image point (with_bytes machine asked.request came.range) asked came.objects came.next in
+    let on = λ (came : Ask).
+    on_from job image point (with_bytes machine asked.request came.range) asked came.objects came.next in
     option_map on (ask job.uuid (is_cancelled machine) asked)
 
 -- a request as the machine makes it
@@ -132,7 +142,8 @@ advance_on_answer answer job = advance_on_answer_in job answer job.body job.aske
 abbrev pub advance_by : Job → Image → EntryPoint → State → Outcome → Option Advance
 advance_by job image point machine (outcome.Goes next) = Some (Goes (record job { body = Machine image point next }))
 advance_by job image point machine (outcome.Returns r0 r1) =
-    Some (on_to_next (job_after_return job point machine.params r0 r1) image point machine (still_to_come point r0 job.points))
+    Some (on_to_next (job_after_return job point machine.params r0 r1) image point machine
+    (still_to_come point r0 job.points))
 advance_by job image point machine (outcome.Panics code) = Some (Stops (Panics code))
 advance_by job image point machine (outcome.Asks request) =
     advance_on_answers job image point (asking request machine) (new_request job machine request)
@@ -143,7 +154,8 @@ native_end job answer = Ends (end_of (record job { result = of_application answe
 
 -- what the next step of what runs comes to; nothing has none
 abbrev pub advance_of : Job → Body → Option Advance
-advance_of job (Machine image point machine) = option_and_then (advance_by job image point machine) (step image.code machine)
+advance_of job (Machine image point machine) =
+    option_and_then (advance_by job image point machine) (step image.code machine)
 advance_of job (Native relation func) = Some (Stops (native_end job (answer_of relation func job.params)))
 advance_of job Nothing = None
 
@@ -227,9 +239,11 @@ IsGrant job n (Stopped m why) = (m ≤ n) × Stop job m why
 -- the job after a run of its machine, or why it has stopped by the end of that
 abbrev pub after_run : Job → Image → EntryPoint → State → MachineStop → Option Advance
 after_run job image point machine (stop.Ended r0 r1) =
-    Some (on_to_next (job_after_return job point machine.params r0 r1) image point machine (still_to_come point r0 job.points))
+    Some (on_to_next (job_after_return job point machine.params r0 r1) image point machine
+    (still_to_come point r0 job.points))
 after_run job image point machine (stop.Panicked code) = Some (Stops (Panics code))
-after_run job image point machine (stop.Asks request) = advance_on_answers job image point machine (new_request job machine request)
+after_run job image point machine (stop.Asks request) =
+    advance_on_answers job image point machine (new_request job machine request)
 after_run job image point machine stop.Interrupted = Some (Goes (record job { body = Machine image point machine }))
 
 -- the same grant with so many steps before it

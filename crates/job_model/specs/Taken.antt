@@ -43,6 +43,7 @@ IsTaken (Some (Stops (Asks wanted payload left))) = WaitsForAnswer left
 -- a job that stops with a request waits for its answer, also once it has seen that its call was cancelled, and takes
 -- each answer
 pub record AnswersAreTaken : Type 0 where
-  pub stops : (job left : Job) (n : ℕ) (wanted : Rpc) (payload : List ℕ) → Stop job n (Asks wanted payload left) → WaitsForAnswer left
+  pub stops : (job left : Job) (n : ℕ) (wanted : Rpc) (payload : List ℕ) → Stop job n (Asks wanted payload left) →
+      WaitsForAnswer left
   pub sees : (job : Job) → WaitsForAnswer job → WaitsForAnswer (with_cancel_seen job)
   pub takes : (job : Job) (answer : RpcAnswer) → WaitsForAnswer job → IsTaken (advance_on_answer answer job)

@@ -2,7 +2,8 @@
 use Rattle.std.specs.Prelude.{◌≡◌, ℕ, [], ◌∷◌, ◌++◌, Some, None, List, replicate}
 use Rattle.ns_ram.specs.Examples.{read_of}
 use Rattle.ns_ram.specs.declared.read.Read.{Read}
-use Rattle.kernel_model.specs.Worked.{add, boot, adds, head, Comes, Leaves, Return, call_of, both, call, resume, opens, returns_of, returns_after, interrupt, refused}
+use Rattle.kernel_model.specs.Worked.{add, boot, adds, head, Comes, Leaves, Return, call_of, both, call, resume, opens}
+use Rattle.kernel_model.specs.Worked.{returns_of, returns_after, interrupt, refused}
 
 -- a call alone with these registers
 abbrev pub Answers : List ℕ → Return → Type 0
@@ -30,7 +31,8 @@ pub record AnswerExamples : Type 0 where
   -- a resume: of no slot, of a free one, of an active one
   pub absent_slot : returns_of (boot 1 1 1 add) (resume 0 1 1) ≡ Some (refused 3 ∷ [])
   pub free_slot : returns_of (boot 1 1 1 add) (resume 0 1 0) ≡ Some (refused 3 ∷ [])
-  pub active_slot : returns_after (boot 2 1 1 add) (opens ++ Comes 0 (call_of 0) 1 (adds 5 7) ∷ []) (resume 1 1 0) ≡ Some (refused 3 ∷ [])
+  pub active_slot : returns_after (boot 2 1 1 add) (opens ++ Comes 0 (call_of 0) 1 (adds 5 7) ∷ []) (resume 1 1 0)
+      ≡ Some (refused 3 ∷ [])
   -- an address that is no multiple of 8, and one whose head doesn't lie in RAM, above it or below
   pub unaligned : AnswersAt 0x40000004 [] (refused 4)
   pub past_ram : AnswersAt 0x403fffe8 [] (refused 4)
@@ -46,11 +48,13 @@ pub record AnswerExamples : Type 0 where
   -- five of the six steps of an invoke
   pub interrupted : returns_after (boot 1 1 1 add) opens (call 0 5 (adds 5 7)) ≡ Some (interrupt 0 ∷ [])
   -- a processor that is inside doesn't come in, and one that is outside doesn't go out
-  pub comes_twice : returns_of (boot 1 1 1 add) (Comes 0 (fast 0xbf00ff01 0) 1 [] ∷ Comes 0 (fast 0xbf00ff01 0) 1 [] ∷ []) ≡ None
+  pub comes_twice : returns_of (boot 1 1 1 add)
+      (Comes 0 (fast 0xbf00ff01 0) 1 [] ∷ Comes 0 (fast 0xbf00ff01 0) 1 [] ∷ []) ≡ None
   pub leaves_twice : returns_of (boot 1 1 1 add) (both 0 1 (fast 0xbf00ff01 0) [] ++ Leaves 0 ∷ []) ≡ None
   pub no_processor : returns_of (boot 1 1 1 add) (both 1 1 (fast 0xbf00ff01 0) []) ≡ None
   pub no_steps : returns_of (boot 1 1 1 add) (both 0 0 (fast 0xbf00ff01 0) []) ≡ None
   pub many_steps : returns_of (boot 1 1 1 add) (both 0 1000001 (fast 0xbf00ff01 0) []) ≡ None
   -- a history whose reads aren't those that the call asks for
-  pub reads_too_many : returns_of (boot 1 1 1 add) (both 0 1 (fast 0xbf00ff01 0) (read_of 0x40000000 (head 0 0 0 0) ∷ [])) ≡ None
+  pub reads_too_many : returns_of (boot 1 1 1 add)
+      (both 0 1 (fast 0xbf00ff01 0) (read_of 0x40000000 (head 0 0 0 0) ∷ [])) ≡ None
   pub reads_too_few : returns_of (boot 1 1 1 add) (call 0 1 (read_of 0x40000000 (head 0 0 0 2) ∷ [])) ≡ None

@@ -13,7 +13,8 @@ use Rattle.ta_params.specs.declared.copied_params.CopiedParams.{CopiedParams}
 use Rattle.ta_params.specs.declared.login.Login.{Login}
 use Rattle.tee_storage.specs.declared.handle.Handle.{Handle}
 use Rattle.kernel_model.specs.Application.{Application, Booted, uuid_of, pages_in, program_of}
-use Rattle.kernel_model.specs.Instances.{free_pages, fresh_memory, made_for, held_by, is_single, program_on, destroy_after, destroy_of}
+use Rattle.kernel_model.specs.Instances.{free_pages, fresh_memory, made_for, held_by, is_single, program_on}
+use Rattle.kernel_model.specs.Instances.{destroy_after, destroy_of}
 use Rattle.kernel_model.specs.Kernel.{Instance, Tables}
 
 -- who begins: the tables that it finds, its slot, and whether it has seen that it was cancelled

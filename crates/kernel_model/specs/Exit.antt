@@ -1,7 +1,8 @@
 -- An exit: what a processor goes out with, what is written, and what the kernel is after it. It depends on the
 -- kernel alone, and has two halves: what the call comes to, and then, from that call alone, what is told of it. By
 -- optee_smc.h and optee_msg.h.
-use Rattle.std.specs.Prelude.{ℕ, ◌+◌, ◌==◌, Bool, true, false, if◌then◌else◌, List, [], ◌∷◌, ◌++◌, Option, Some, None, slice_get, slice_set}
+use Rattle.std.specs.Prelude.{ℕ, ◌+◌, ◌==◌, Bool, true, false, if◌then◌else◌, List, [], ◌∷◌, ◌++◌, Option, Some, None}
+use Rattle.std.specs.Prelude.{slice_get, slice_set}
 use Rattle.std.specs.Int.{w32, to_le_bytes}
 use Rattle.std.specs.Option.{option_map, option_map_or, option_and_then}
 use Rattle.base.specs.NumberMap.{NumberMap, get}
@@ -26,7 +27,9 @@ use Rattle.ta_params.specs.declared.call_result.CallResult.{CallResult}
 use Rattle.ta_params.specs.declared.copied_params.CopiedParams.{CopiedParams}
 use Rattle.kernel_model.specs.Codes.{ok, success, target_dead}
 use Rattle.kernel_model.specs.Instances.{given_back, instances_after, is_held, killed}
-use Rattle.kernel_model.specs.Kernel.{CallPhase, Runs, Asks, Waits, Ends, PendingCall, Progress, ThreadSlot, Free, Active, Suspended, Instance, Errand, Fixed, InSlot, Processor, Outside, Inside, Kernel, Tables, Visit, without_visitor}
+use Rattle.kernel_model.specs.Kernel.{CallPhase, Runs, Asks, Waits, Ends, PendingCall, Progress, ThreadSlot, Free}
+use Rattle.kernel_model.specs.Kernel.{Active, Suspended, Instance, Errand, Fixed, InSlot, Processor, Outside, Inside}
+use Rattle.kernel_model.specs.Kernel.{Kernel, Tables, Visit, without_visitor}
 use Rattle.kernel_model.specs.Leaving.{Leaving, Interrupted, WantsBuffer, Requests, FreesBuffer, Finishes, leaving_of}
 use Rattle.kernel_model.specs.Sessions.{sessions_after, sessions_after_panic, sessions_unrun}
 
@@ -141,7 +144,8 @@ output_writes call result params = if result.origin == 4 then writes_back call.a
 
 -- an open that succeeds tells the number of its session
 abbrev pub session_writes : PendingCall → CallKind → CallResult → List Write
-session_writes call Open result = if result.result == success then word32 (session_at call.arg) call.session ∷ [] else []
+session_writes call Open result =
+    if result.result == success then word32 (session_at call.arg) call.session ∷ [] else []
 session_writes call (Invoke func) result = []
 session_writes call Close result = []
 session_writes call Settled result = []

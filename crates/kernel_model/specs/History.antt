@@ -1,6 +1,7 @@
 -- Which histories are legal: each event follows from the kernel that those before it give. And what a resume
 -- continues. This project's own.
-use Rattle.std.specs.Prelude.{◌≡◌, ℕ, ◌+◌, nat_le, Bool, true, false, ◌==◌, ◌&&◌, if◌then◌else◌, List, [], ◌∷◌, take, Option, Some, None, IsSome, slice_get, bytes_eq}
+use Rattle.std.specs.Prelude.{◌≡◌, ℕ, ◌+◌, nat_le, Bool, true, false, ◌==◌, ◌&&◌, if◌then◌else◌, List, [], ◌∷◌, take}
+use Rattle.std.specs.Prelude.{Option, Some, None, IsSome, slice_get, bytes_eq}
 use Rattle.std.specs.Option.{option_and_then, option_map_or}
 use Rattle.event_journal.specs.declared.event.Event.{Event}
 use Rattle.event_journal.specs.declared.event.Event.TheVariants.{Entry, Exit}
@@ -10,7 +11,8 @@ use Rattle.kernel_model.specs.Argument.{client_in, thread_in}
 use Rattle.kernel_model.specs.Entry.{after_decision, after_entry}
 use Rattle.kernel_model.specs.Decision.{Takes, works_on}
 use Rattle.kernel_model.specs.Exit.{Exited, exit}
-use Rattle.kernel_model.specs.Kernel.{PendingCall, Progress, ThreadSlot, Suspended, Errand, Fixed, InSlot, Processor, Outside, Inside, Kernel, Visit, first_kernel}
+use Rattle.kernel_model.specs.Kernel.{PendingCall, Progress, ThreadSlot, Suspended, Errand, Fixed, InSlot, Processor}
+use Rattle.kernel_model.specs.Kernel.{Outside, Inside, Kernel, Visit, first_kernel}
 use Rattle.kernel_model.specs.Resume.{after_resume}
 
 -- ---- legal histories

@@ -1,6 +1,7 @@
 -- Instances of applications: their pages, who holds one, and the job that a call begins on one. By the instance
 -- properties of the TEE Internal Core API; pages and numbers are own.
-use Rattle.std.specs.Prelude.{ℕ, ◌-◌, ◌*◌, ◌==◌, Bool, true, false, not, ◌||◌, ◌&&◌, if◌then◌else◌, List, [], ◌∷◌, Option, Some, None, find, sum_by, bytes_eq, is_some}
+use Rattle.std.specs.Prelude.{ℕ, ◌-◌, ◌*◌, ◌==◌, Bool, true, false, not, ◌||◌, ◌&&◌, if◌then◌else◌, List, [], ◌∷◌}
+use Rattle.std.specs.Prelude.{Option, Some, None, find, sum_by, bytes_eq, is_some}
 use Rattle.std.specs.Int.{bit_at}
 use Rattle.std.specs.Option.{option_map, option_map_or}
 use Rattle.base.specs.NumberMap.{NumberMap, insert, remove}

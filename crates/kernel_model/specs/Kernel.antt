@@ -1,5 +1,6 @@
 -- The kernel: all that an entry and an exit change, as one record of finite maps. This project's own.
-use Rattle.std.specs.Prelude.{ℕ, ◌==◌, ◌&&◌, ◌||◌, Bool, true, false, List, [], Option, Some, None, map, position, replicate, slice_set}
+use Rattle.std.specs.Prelude.{ℕ, ◌==◌, ◌&&◌, ◌||◌, Bool, true, false, List, [], Option, Some, None, map, position}
+use Rattle.std.specs.Prelude.{replicate, slice_set}
 use Rattle.base.specs.NumberMap.{NumberMap}
 use Rattle.job_model.specs.declared.call_kind.CallKind.{CallKind}
 use Rattle.rpc_msgs.specs.declared.rpc_buffer.RpcBuffer.{RpcBuffer}

@@ -15,7 +15,8 @@ use Rattle.kernel_model.specs.Codes.{eresume, ethread_limit}
 use Rattle.kernel_model.specs.Entry.{after_entry}
 use Rattle.kernel_model.specs.Exit.{exit, goes_out}
 use Rattle.kernel_model.specs.History.{IsLegal, Resumes, ResumesCall, exit_after, kernel_after}
-use Rattle.kernel_model.specs.Kernel.{Fixed, InSlot, Inside, Kernel, Outside, PendingCall, Visit, lowest_free, with_visitor, without_visitor}
+use Rattle.kernel_model.specs.Kernel.{Fixed, InSlot, Inside, Kernel, Outside, PendingCall, Visit, lowest_free}
+use Rattle.kernel_model.specs.Kernel.{with_visitor, without_visitor}
 use Rattle.kernel_model.specs.Resume.{call_resumed_by}
 
 -- the visitor's processor is outside

@@ -1,6 +1,7 @@
 -- A new call, OPTEE_SMC_CALL_WITH_ARG: its tests in their order, of which the first that fails decides. Tests 1
 -- to 3 answer without a slot; 4 to 9 settle the call in its slot, with a result of TEE_ORIGIN_TEE; by 10 it waits.
-use Rattle.std.specs.Prelude.{ℕ, ◌+◌, ◌-◌, ◌%◌, ◌==◌, nat_le, nat_lt, Bool, false, not, ◌&&◌, ◌||◌, if◌then◌else◌, List, [], ◌∷◌, ◌++◌, length, fold, find, Option, Some, None, is_some, is_none}
+use Rattle.std.specs.Prelude.{ℕ, ◌+◌, ◌-◌, ◌%◌, ◌==◌, nat_le, nat_lt, Bool, false, not, ◌&&◌, ◌||◌, if◌then◌else◌, List}
+use Rattle.std.specs.Prelude.{[], ◌∷◌, ◌++◌, length, fold, find, Option, Some, None, is_some, is_none}
 use Rattle.std.specs.Option.{option_map, option_map_or, option_and_then}
 use Rattle.base.specs.NumberMap.{NumberMap, get, insert, remove}
 use Rattle.job_model.specs.declared.call_kind.CallKind.{CallKind}
@@ -29,11 +30,14 @@ use Rattle.shm_registry.specs.Registered.{with_pin, lowest_slot}
 use Rattle.smc_abi.specs.declared.answer.Answer.{Answer}
 use Rattle.kernel_model.specs.Application.{Application, Booted, uuid_of}
 use Rattle.kernel_model.specs.Begin.{Beginner, Opener, has_pages_for, opens_kept, opens_made, begins_on, closing_points}
-use Rattle.kernel_model.specs.Argument.{argument_at, client_in, params_in, Opening, opening, invocation, registering, unregistering}
-use Rattle.kernel_model.specs.Codes.{ethread_limit, ebadaddr, ebadcmd, success, bad_parameters, item_not_found, out_of_memory, busy, target_dead}
+use Rattle.kernel_model.specs.Argument.{argument_at, client_in, params_in, Opening, opening, invocation, registering}
+use Rattle.kernel_model.specs.Argument.{unregistering}
+use Rattle.kernel_model.specs.Codes.{ethread_limit, ebadaddr, ebadcmd, success, bad_parameters, item_not_found}
+use Rattle.kernel_model.specs.Codes.{out_of_memory, busy, target_dead}
 use Rattle.kernel_model.specs.Decision.{Decision, Taken, Tested, taken_by, decided_by}
 use Rattle.kernel_model.specs.Instances.{app_of, is_held, shared_instance, is_multi_session}
-use Rattle.kernel_model.specs.Kernel.{CallPhase, Runs, Waits, Ends, PendingCall, Untold, AnOpen, AnInvoke, ACancel, Cancel, Instance, Kernel, Tables, lowest_free}
+use Rattle.kernel_model.specs.Kernel.{CallPhase, Runs, Waits, Ends, PendingCall, Untold, AnOpen, AnInvoke, ACancel}
+use Rattle.kernel_model.specs.Kernel.{Cancel, Instance, Kernel, Tables, lowest_free}
 use Rattle.kernel_model.specs.Sessions.{opened_by, has_session}
 
 -- a call that has passed tests 1 to 3: the tables that it found, its slot, its client, and its argument's address and

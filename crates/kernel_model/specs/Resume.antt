@@ -1,5 +1,6 @@
 -- A resume, OPTEE_SMC_CALL_RETURN_FROM_RPC: it goes on with the call that its slot was left with, whichever that is.
-use Rattle.std.specs.Prelude.{ℕ, ◌==◌, ◌&&◌, not, Bool, true, false, if◌then◌else◌, List, [], ◌∷◌, Option, Some, None, slice_get}
+use Rattle.std.specs.Prelude.{ℕ, ◌==◌, ◌&&◌, not, Bool, true, false, if◌then◌else◌, List, [], ◌∷◌, Option, Some, None}
+use Rattle.std.specs.Prelude.{slice_get}
 use Rattle.std.specs.Option.{option_map_or, option_and_then}
 use Rattle.base.specs.NumberMap.{get}
 use Rattle.job_model.specs.declared.call_kind.CallKind.{CallKind}
@@ -18,12 +19,14 @@ use Rattle.session_table.specs.Waiters.{without}
 use Rattle.ta_params.specs.declared.copied_params.CopiedParams.{CopiedParams}
 use Rattle.kernel_model.specs.Application.{Application, Booted}
 use Rattle.kernel_model.specs.Argument.{client_in, thread_in}
-use Rattle.kernel_model.specs.Begin.{Beginner, Begun, Opener, has_pages_for, opens_kept, opens_new, begins_on, closing_points}
+use Rattle.kernel_model.specs.Begin.{Beginner, Begun, Opener, has_pages_for, opens_kept, opens_new, begins_on}
+use Rattle.kernel_model.specs.Begin.{closing_points}
 use Rattle.kernel_model.specs.Codes.{eresume, bad_parameters, out_of_memory, target_dead}
 use Rattle.kernel_model.specs.Decision.{Decision, Answers, Takes, works_on}
 use Rattle.kernel_model.specs.Given.{Given, Nothing, Buffer, NoBuffer, Reply, call_given, given_to}
 use Rattle.kernel_model.specs.Instances.{app_of, is_held}
-use Rattle.kernel_model.specs.Kernel.{CallPhase, Runs, Asks, Waits, Ends, PendingCall, Progress, ThreadSlot, Free, Active, Suspended, Instance, Kernel, Tables}
+use Rattle.kernel_model.specs.Kernel.{CallPhase, Runs, Asks, Waits, Ends, PendingCall, Progress, ThreadSlot, Free}
+use Rattle.kernel_model.specs.Kernel.{Active, Suspended, Instance, Kernel, Tables}
 
 -- a call that its client resumes: what it is given, and the call, which by then has a buffer that it was given and has
 -- seen whether it was cancelled

@@ -6,7 +6,8 @@ use Rattle.std.specs.Option.{option_and_then}
 use Rattle.event_journal.specs.declared.event.Event.{Event}
 use Rattle.kernel_model.specs.Application.{Booted, IsBooted}
 use Rattle.kernel_model.specs.History.{IsLater, after_events, kernel_after}
-use Rattle.kernel_model.specs.Kernel.{PendingCall, ThreadSlot, Free, Active, Suspended, InSlot, Processor, Inside, Kernel}
+use Rattle.kernel_model.specs.Kernel.{PendingCall, ThreadSlot, Free, Active, Suspended, InSlot, Processor, Inside}
+use Rattle.kernel_model.specs.Kernel.{Kernel}
 use Rattle.kernel_model.specs.Laws.{IsOfOther}
 
 -- ---- calls

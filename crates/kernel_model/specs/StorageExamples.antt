@@ -3,18 +3,21 @@ use Rattle.std.specs.Prelude.{◌≡◌, ℕ, List, [], ◌∷◌, ◌++◌, len
 use Rattle.ns_ram.specs.Examples.{read_of}
 use Rattle.ns_ram.specs.declared.read.Read.{Read}
 use Rattle.ns_ram.specs.Writes.{Write}
-use Rattle.kernel_model.specs.Worked.{store, load, boot, half, word, used_head, param, invokes, resume_of, both, call, resume, offer, opens, Move, Return, returns_after, ok, wants_buffer, gives_back, writes_at}
+use Rattle.kernel_model.specs.Worked.{store, load, boot, half, word, used_head, param, invokes, resume_of, both, call}
+use Rattle.kernel_model.specs.Worked.{resume, offer, opens, Move, Return, returns_after, ok, wants_buffer, gives_back}
+use Rattle.kernel_model.specs.Worked.{writes_at}
 
 -- 11111111222233334444555555555555/41
 abbrev pub file : List ℕ
-file = replicate 8 0x31 ++ replicate 4 0x32 ++ replicate 4 0x33 ++ replicate 4 0x34 ++ replicate 12 0x35 ++ 0x2f ∷ 0x34 ∷ 0x31 ∷ []
+file = replicate 8 0x31 ++ replicate 4 0x32 ++ replicate 4 0x33 ++ replicate 4 0x34 ++ replicate 12 0x35
+    ++ 0x2f ∷ 0x34 ∷ 0x31 ∷ []
 
 abbrev pub writes_payload : List ℕ → List Write
 writes_payload [] = []
 writes_payload (byte ∷ bytes) = writes_at 0x40010200 (byte ∷ bytes) ∷ []
 
--- a request in the buffer at 40010000 with the cookie 77, which the caller gave in a5 or not: how many parameters, these,
--- and the payload
+-- a request in the buffer at 40010000 with the cookie 77, which the caller gave in a5 or not: how many parameters,
+-- these, and the payload
 abbrev pub file_request : ℕ → ℕ → List ℕ → List ℕ → Return
 file_request a5 count params payload = (
   0xffff0005 ∷ 0 ∷ 0x77 ∷ 0 ∷ 0 ∷ a5 ∷ 0 ∷ 0 ∷ [],
@@ -67,12 +70,14 @@ pub record StorageExamples : Type 0 where
       ≡ Some (wants_buffer 0 ∷ ok 0xffff000c 4 ∷ [])
   -- an object of four bytes is opened and read
   pub reads : returns_after (boot 1 1 1 load) opens
-      (call 0 20 (invokes 1 0) ++ offers ++ replies (opened_file 0 3) ++ replies (read_file (header 4)) ++ replies (read_file (0x61 ∷ 0x62 ∷ 0x63 ∷ 0x64 ∷ []))
+      (call 0 20 (invokes 1 0) ++ offers ++ replies (opened_file 0 3) ++ replies (read_file (header 4))
+      ++ replies (read_file (0x61 ∷ 0x62 ∷ 0x63 ∷ 0x64 ∷ []))
       ++ resume 0 20 0)
       ≡ Some (wants_buffer 0 ∷ names_file 0 ∷ reads_file 3 0 8 ∷ reads_file 3 8 4 ∷ gives_back 0 0x77 ∷ ok 0 4 ∷ [])
   -- its header is a byte too short
   pub header_cut : returns_after (boot 1 1 1 load) opens
-      (call 0 20 (invokes 1 0) ++ offers ++ replies (opened_file 0 3) ++ replies (read_file (0x4f ∷ 0x54 ∷ 0x4f ∷ 0x31 ∷ 4 ∷ 0 ∷ 0 ∷ [])) ++ resume 0 20 0)
+      (call 0 20 (invokes 1 0) ++ offers ++ replies (opened_file 0 3)
+      ++ replies (read_file (0x4f ∷ 0x54 ∷ 0x4f ∷ 0x31 ∷ 4 ∷ 0 ∷ 0 ∷ [])) ++ resume 0 20 0)
       ≡ Some (wants_buffer 0 ∷ names_file 0 ∷ reads_file 3 0 8 ∷ gives_back 0 0x77 ∷ ok 0xf0100001 4 ∷ [])
   -- nothing is there
   pub nothing_there : returns_after (boot 1 1 1 load) opens

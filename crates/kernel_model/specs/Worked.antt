@@ -321,7 +321,8 @@ gives_back thread cookie = (0xffff0002 ∷ 0 ∷ cookie ∷ thread ∷ replicate
 
 -- a thread has written a request of one value to its buffer, whose cookie the caller gave in a5 or not
 abbrev pub requests : ℕ → ℕ → ℕ → ℕ → List ℕ → Return
-requests thread addr cookie a5 bytes = (0xffff0005 ∷ 0 ∷ cookie ∷ thread ∷ 0 ∷ a5 ∷ 0 ∷ 0 ∷ [], writes_at addr bytes ∷ [])
+requests thread addr cookie a5 bytes =
+    (0xffff0005 ∷ 0 ∷ cookie ∷ thread ∷ 0 ∷ a5 ∷ 0 ∷ 0 ∷ [], writes_at addr bytes ∷ [])
 
 -- such a request: its command, and what the value has; or none of it is told
 abbrev pub tells : ℕ → ℕ → ℕ → List ℕ

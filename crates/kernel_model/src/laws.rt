@@ -1,6 +1,7 @@
 //! What holds of the definitions themselves.
 ghost use Rattle.kernel_model.specs.Examples.{Examples, LegalHistory};
-ghost use Rattle.kernel_model.specs.Laws.{AnswersExactly, ExitsFollow, FixedAnswers, LimitExactly, ResumesContinue, ResumesExactly};
+ghost use Rattle.kernel_model.specs.Laws.{AnswersExactly, ExitsFollow, FixedAnswers, LimitExactly, ResumesContinue};
+ghost use Rattle.kernel_model.specs.Laws.{ResumesExactly};
 
 /// A fixed answer's entry and its exit change nothing but that processor's part, which is outside again.
 pub fn fixed_answers_change_one_processor()
