@@ -20,6 +20,7 @@ use Rattle.play_model.specs.Order.{Comes, Follow, Leaves, Move, moves_of}
 use Rattle.play_model.specs.Play.{Play, after_item, after_items, enters, first_play, lane_of, leaves, unless_refused, visit_of, with_line, with_writes}
 use Rattle.play_model.proofs.Adds.{Adds, Ended, GoesOn, Onward, adds_more, adds_nothing, goes_on}
 use Rattle.play_model.proofs.Entries.{CameIn, Entered, IsWithin, WasRefused, came_adds, came_within, entered, event_made, left, left_adds, left_going, left_within, refused_within, within_same}
+use Rattle.play_model.proofs.ExitsTold.{items_told}
 use Rattle.play_model.proofs.Returns.{alone_in, no_call_in, no_slot_in, returns_in}
 
 -- ---- one item
@@ -185,6 +186,7 @@ traces_are_played ram natives boot trace play boots e =
         follows = subst (λ (h : List Event). Follow [] (flat_map moves_of ran.taken) h) (sym history) ran.adds.follows;
         all = ran.all;
       };
+      told = items_told on trace.items first play refl e;
       few_bytes = ran.within.few;
       too_many = ran.within.many;
       returns = returns_in on play.history legal;

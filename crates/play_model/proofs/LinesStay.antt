@@ -26,7 +26,7 @@ use Rattle.play_model.proofs.Entries.{CameIn, Entered, Left, WasRefused, entered
 abbrev Prints : Play → Play → Type 0
 Prints before after = (lines : List Line) × (after.lines ≡ before.lines ++ lines)
 
-some_is : (one other : Play) → Some one ≡ Some other → one ≡ other
+pub some_is : (one other : Play) → Some one ≡ Some other → one ≡ other
 some_is one other e = cc
 
 none_printed : (before after : Play) → after.lines ≡ before.lines → Prints before after
@@ -36,7 +36,7 @@ printed_more : (before between after : Play) → Prints before between → Print
 printed_more before between after first second =
     (first.0 ++ second.0, second.1 ∙ ap (λ (ls : List Line). ls ++ second.0) first.1 ∙ append_assoc before.lines first.0 second.0)
 
-event_prints : (boot : Booted) (event : Event) (before after : Play) → with_event boot event before ≡ Some after → after.lines ≡ before.lines
+pub event_prints : (boot : Booted) (event : Event) (before after : Play) → with_event boot event before ≡ Some after → after.lines ≡ before.lines
 event_prints boot event before after e =
     let came = option_map_some (λ (next : Kernel). record before { kernel = next; history = before.history ++ event ∷ [] })
     (after_event boot before.kernel event) after e in

@@ -1,10 +1,9 @@
--- Plays of written scripts, and what they print. RAM is shorter here: none of the scripts looks behind its first 256
--- bytes.
+-- Plays of written scripts, and what they print. RAM is shorter here: none of the scripts looks behind its first bytes.
 use Rattle.std.specs.Prelude.{◌≡◌, ℕ, List, [], ◌∷◌, ◌++◌, Option, Some, None, codes, map, replicate}
 use Rattle.std.specs.List.{flat_map}
 use Rattle.std.specs.Option.{option_map}
 use Rattle.kernel_model.specs.Application.{booted}
-use Rattle.kernel_model.specs.Worked.{add, app_with, boot_with, call_of, half, head, names, param, resume_of}
+use Rattle.kernel_model.specs.Worked.{add, app_with, boot_with, call_of, half, head, names, offer_of, param, resume_of, wait}
 use Rattle.ta_isa.specs.declared.boot.Boot.{Boot}
 use Rattle.trace_text.specs.declared.item.Item.{Item}
 use Rattle.trace_text.specs.declared.item.Item.TheVariants.{Smc, Enter, Leave, Write, Show}
@@ -38,6 +37,18 @@ calls cpu = smc cpu 1000 (call_of 0)
 abbrev pub open_fill : List Fill
 open_fill = record { addr = 0x40000000; bytes = head 0 0 0 2 ++ names } ∷ []
 
+-- a core whose application asks to be suspended
+abbrev pub waiting : ℕ → ℕ → ℕ → Boot
+waiting cpus threads frames = boot_with cpus threads frames (app_with wait ∷ [])
+
+-- an invoke of its function 250 is written for a processor
+abbrev pub wait_written : ℕ → Item
+wait_written cpu = Write cpu 0x40000000 (head 1 250 1 0)
+
+-- and is called
+abbrev pub waits : ℕ → Item
+waits cpu = smc cpu 9 (call_of 0)
+
 -- an invoke of the adder with 5 and 7 is written there
 abbrev pub invoke_written : Item
 invoke_written = write 0x40000000 (head 1 0 1 1 ++ param 3 5 7 0)
@@ -52,13 +63,17 @@ tells_back cpu = Smc cpu 1 (Num 0x99 ∷ Num 0 ∷ Num 0 ∷ Num 0 ∷ Last 0 �
 
 -- ---- what they print
 
--- the play of these fills and items, over 256 bytes of RAM
-abbrev pub play_of : Boot → List Fill → List Item → Option Play
-play_of boot fills items =
-    played_over (replicate 256 0) [] boot (record { boot = Some boot; fills = fills; items = items })
+-- the play of these fills and items, over so many bytes of RAM
+abbrev pub play_of : ℕ → Boot → List Fill → List Item → Option Play
+play_of bytes boot fills items =
+    played_over (replicate bytes 0) [] boot (record { boot = Some boot; fills = fills; items = items })
+
+-- what it prints, over 256 bytes or as many as a script needs
+abbrev pub prints_over : ℕ → Boot → List Fill → List Item → Option (List ℕ)
+prints_over bytes boot fills items = option_map text_of_play (play_of bytes boot fills items)
 
 abbrev pub prints : Boot → List Fill → List Item → Option (List ℕ)
-prints boot fills items = option_map text_of_play (play_of boot fills items)
+prints boot fills items = prints_over 256 boot fills items
 
 -- these lines, each ended by a line feed
 abbrev pub lines : List (List ℕ) → Option (List ℕ)
@@ -158,6 +173,73 @@ pub record Examples : Type 0 where
       ∷ codes "mem 1 40000008 02000000"
       ∷ codes "mem 2 40000008 03000000"
       ∷ [])
+  -- a call that is suspended in a buffer of its caller
+  pub suspended : prints_over 0x10040 (waiting 1 1 1) open_fill (
+      calls 0
+      ∷ wait_written 0
+      ∷ waits 0
+      ∷ smc 0 9 (offer_of 0 0x40010000 0x77)
+      ∷ Show 0 0x40010000 4
+      ∷ Show 0 0x40010028 8
+      ∷ smc 0 9 (resume_of 0 0)
+      ∷ smc 0 9 (resume_of 0 0)
+      ∷ Show 0 0x40000014 8
+      ∷ [])
+      ≡ lines (
+      codes "ret 0 00000000 00000000 00000000 00000000 00000000 00000000 00000000 00000000"
+      ∷ codes "ret 0 ffff0000 00001000 00000000 00000000 00000000 00000000 00000000 00000000"
+      ∷ codes "ret 0 ffff0005 00000000 00000077 00000000 00000000 00000077 00000000 00000000"
+      ∷ codes "mem 0 40010000 05000000"
+      ∷ codes "mem 0 40010028 fa00000000000000"
+      ∷ codes "ret 0 ffff0002 00000000 00000077 00000000 00000000 00000000 00000000 00000000"
+      ∷ codes "ret 0 00000000 00000000 00000000 00000000 00000000 00000000 00000000 00000000"
+      ∷ codes "mem 0 40000014 0000000004000000"
+      ∷ [])
+  -- two processors, each with RAM of its own: the call of the second waits for the first, which wakes it
+  pub woken : prints_over 0x20040 (waiting 2 2 1) open_fill (
+      calls 0
+      ∷ wait_written 0
+      ∷ wait_written 1
+      ∷ waits 0
+      ∷ waits 1
+      ∷ smc 1 9 (offer_of 1 0x40020000 0x88)
+      ∷ Show 1 0x40020000 4
+      ∷ Show 1 0x40020028 16
+      ∷ smc 1 9 (resume_of 1 0)
+      ∷ smc 0 9 (resume_of 0 0)
+      ∷ smc 0 9 (offer_of 0 0x40010000 0x77)
+      ∷ Show 0 0x40010000 4
+      ∷ Show 0 0x40010028 16
+      ∷ smc 1 9 (resume_of 1 0)
+      ∷ Show 1 0x40020000 4
+      ∷ smc 0 9 (resume_of 0 0)
+      ∷ smc 0 9 (resume_of 0 0)
+      ∷ Show 0 0x40000014 8
+      ∷ smc 1 9 (resume_of 1 0)
+      ∷ smc 1 9 (resume_of 1 0)
+      ∷ Show 1 0x40000014 8
+      ∷ [])
+      ≡ lines (
+      codes "ret 0 00000000 00000000 00000000 00000000 00000000 00000000 00000000 00000000"
+      ∷ codes "ret 0 ffff0000 00001000 00000000 00000000 00000000 00000000 00000000 00000000"
+      ∷ codes "ret 1 ffff0000 00001000 00000000 00000001 00000000 00000000 00000000 00000000"
+      ∷ codes "ret 1 ffff0005 00000000 00000088 00000001 00000000 00000088 00000000 00000000"
+      ∷ codes "mem 1 40020000 04000000"
+      ∷ codes "mem 1 40020028 00000000000000000100000000000000"
+      ∷ codes "ret 1 ffff0005 00000000 00000088 00000001 00000000 00000000 00000000 00000000"
+      ∷ codes "ret 0 ffff0000 00001000 00000000 00000000 00000000 00000000 00000000 00000000"
+      ∷ codes "ret 0 ffff0005 00000000 00000077 00000000 00000000 00000077 00000000 00000000"
+      ∷ codes "mem 0 40010000 04000000"
+      ∷ codes "mem 0 40010028 01000000000000000100000000000000"
+      ∷ codes "ret 1 ffff0005 00000000 00000088 00000001 00000000 00000000 00000000 00000000"
+      ∷ codes "mem 1 40020000 05000000"
+      ∷ codes "ret 0 ffff0002 00000000 00000077 00000000 00000000 00000000 00000000 00000000"
+      ∷ codes "ret 0 00000000 00000000 00000000 00000000 00000000 00000000 00000000 00000000"
+      ∷ codes "mem 0 40000014 0c00ffff04000000"
+      ∷ codes "ret 1 ffff0002 00000000 00000088 00000001 00000000 00000000 00000000 00000000"
+      ∷ codes "ret 1 00000000 00000000 00000000 00000000 00000000 00000000 00000000 00000000"
+      ∷ codes "mem 1 40000014 0000000004000000"
+      ∷ [])
   -- registers of the last answer of the same processor, and of one that has had none
   pub last_answers : prints (boot_with 2 1 1 []) [] (smc 0 1 uid ∷ tells_back 1 ∷ tells_back 0 ∷ [])
       ≡ lines (
@@ -168,5 +250,5 @@ pub record Examples : Type 0 where
   -- nothing comes behind a refused entry
   pub ends : after_items (booted (adding 1 1 1) []) (smc 0 1 uid ∷ Show 0 0x40000000 1 ∷ []) ended ≡ Some ended
   -- a processor that is outside can't leave, and one that is inside can't enter
-  pub none_outside : play_of (adding 1 1 1) [] (Leave 0 ∷ []) ≡ None
-  pub none_inside : play_of (adding 1 1 1) [] (enter 0 1 uid ∷ smc 0 1 uid ∷ []) ≡ None
+  pub none_outside : play_of 256 (adding 1 1 1) [] (Leave 0 ∷ []) ≡ None
+  pub none_inside : play_of 256 (adding 1 1 1) [] (enter 0 1 uid ∷ smc 0 1 uid ∷ []) ≡ None

@@ -4,7 +4,7 @@ use Rattle.std.specs.List.{AllByRecursion}
 use Rattle.std.specs.Option.{option_and_then}
 use Rattle.event_journal.specs.Journal.{copied_bytes}
 use Rattle.event_journal.specs.declared.event.Event.{Event}
-use Rattle.event_journal.specs.declared.event.Event.TheVariants.{Entry, Exit}
+use Rattle.event_journal.specs.declared.event.Event.TheVariants.{Exit}
 use Rattle.kernel_model.specs.Application.{Application, Booted, IsBooted, Native, booted}
 use Rattle.kernel_model.specs.Argument.{reg, thread_in}
 use Rattle.kernel_model.specs.Codes.{eresume}
@@ -27,14 +27,14 @@ use Rattle.ta_isa.specs.declared.boot.Boot.{Boot}
 use Rattle.trace_text.specs.declared.item.Item.{Item}
 use Rattle.trace_text.specs.declared.trace.Trace.{Trace}
 use Rattle.play_model.specs.Line.{Line, Ret}
-use Rattle.play_model.specs.Order.{HoldsInOrder}
-use Rattle.play_model.specs.Play.{Play, after_items, enters, enters_with, lane_of, leaves, played_over}
+use Rattle.play_model.specs.Order.{HoldsInOrder, TellsExits}
+use Rattle.play_model.specs.Play.{Play, after_items, enters, enters_with, entry_event, lane_of, leaves, played_over}
 
 -- ---- returns from RPC
 
 -- a visitor's entry behind these events
 abbrev pub entered : List Event → Visit → List Read → List Event
-entered before visit reads = before ++ Entry visit.cpu (record { a = visit.regs }) visit.steps reads ∷ []
+entered before visit reads = before ++ entry_event visit reads ∷ []
 
 -- such an entry resumes this call, which the last exit from its slot left there, but that it may be cancelled since
 pub record Continues (boot : Booted) (before : List Event) (visit : Visit) (reads : List Read) (kernel : Kernel)
@@ -85,6 +85,8 @@ pub record IsPlay (boot : Booted) (items : List Item) (play : Play) : Type 0 whe
   pub legal : IsLegal boot play.history
   pub kernel : kernel_after boot play.history ≡ Some play.kernel
   pub in_order : HoldsInOrder items play
+  -- each return that was printed is an exit of it
+  pub told : TellsExits play
   -- its entries have read at most 2^28 bytes, and one that was refused would have brought them above that
   pub few_bytes : copied_bytes play.history ≤ 2 ^ 28
   pub too_many : (more : ℕ) → play.refused ≡ Some more → 2 ^ 28 < copied_bytes play.history + more
@@ -107,7 +109,7 @@ TracesArePlayed = (ram : List ℕ) (natives : List Native) (boot : Boot) (trace 
 
 -- the entry of a visitor that reads just this: it can follow, and the RAM of its processor has these bytes
 pub record IsReadBy (boot : Booted) (play : Play) (visit : Visit) (reads : List Read) : Type 0 where
-  pub follows : IsSome (after_event boot play.kernel (Entry visit.cpu (record { a = visit.regs }) visit.steps reads))
+  pub follows : IsSome (after_event boot play.kernel (entry_event visit reads))
   pub holds : HoldsReads (lane_of play visit.cpu) reads
 
 -- there is one list of reads, and an entry comes with it

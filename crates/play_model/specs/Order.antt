@@ -1,11 +1,12 @@
--- What items let their processors do, and which histories hold that in its order.
-use Rattle.std.specs.Prelude.{◌≡◌, ℕ, List, [], ◌∷◌, ◌++◌, None}
+-- What items let their processors do, which histories hold that in its order, and which exits lines tell of.
+use Rattle.std.specs.Prelude.{◌≡◌, ℕ, List, [], ◌∷◌, ◌++◌, Option, Some, None, filter_map}
 use Rattle.std.specs.List.{flat_map}
 use Rattle.event_journal.specs.declared.event.Event.{Event}
 use Rattle.event_journal.specs.declared.event.Event.TheVariants.{Entry, Exit}
 use Rattle.trace_text.specs.declared.item.Item.{Item}
 use Rattle.trace_text.specs.declared.item.Item.TheVariants as item
 use Rattle.trace_text.specs.declared.item.Reg.{Reg}
+use Rattle.play_model.specs.Line.{Line, Ret, Mem}
 use Rattle.play_model.specs.Play.{Play, visit_of}
 
 -- what an item lets a processor do
@@ -45,3 +46,19 @@ pub record HoldsInOrder (items : List Item) (play : Play) : Type 0 where
   pub cut : items ≡ taken ++ rest
   pub follows : Follow [] (flat_map moves_of taken) play.history
   pub all : play.refused ≡ None → rest ≡ []
+
+-- ---- lines and exits
+
+-- the line of an exit
+abbrev pub line_of_event : Event → Option Line
+line_of_event (Entry cpu given steps reads) = None
+line_of_event (Exit cpu told) = Some (Ret cpu told.a)
+
+-- a line that tells of an exit
+abbrev pub told_by_line : Line → Option Line
+told_by_line (Ret cpu regs) = Some (Ret cpu regs)
+told_by_line (Mem cpu addr bytes) = None
+
+-- the lines tell of the exits of the history, of each once, in their order
+abbrev pub TellsExits : Play → Type 0
+TellsExits play = filter_map told_by_line play.lines ≡ filter_map line_of_event play.history

@@ -95,6 +95,10 @@ abbrev pub visit_of : List Event → ℕ → ℕ → List Reg → Visit
 visit_of history cpu steps regs =
     record { cpu = cpu; regs = map (number_in (last_answer history cpu)) regs; steps = steps }
 
+-- the event of its entry, with these reads
+abbrev pub entry_event : Visit → List Read → Event
+entry_event visit reads = Entry visit.cpu (record { a = visit.regs }) visit.steps reads
+
 -- what its entry reads of its RAM
 abbrev pub reads_of : Booted → Play → Visit → Option (List Read)
 reads_of boot play visit =
@@ -105,7 +109,7 @@ abbrev pub enters_with : Booted → Play → Visit → List Read → Option Play
 enters_with boot play visit reads =
     if nat_lt (2 ^ 28) (copied_bytes play.history + total_bytes reads)
     then Some (record play { refused = Some (total_bytes reads) })
-    else with_event boot (Entry visit.cpu (record { a = visit.regs }) visit.steps reads) play
+    else with_event boot (entry_event visit reads) play
 
 -- an entry
 abbrev pub enters : Booted → Play → Visit → Option Play
