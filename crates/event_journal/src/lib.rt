@@ -6,8 +6,6 @@
 mod event;
 mod examples;
 mod journal;
-#[cfg(test)]
-mod tests;
 
 pub use base::NoMemory;
 pub use event::Event;

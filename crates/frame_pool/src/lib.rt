@@ -10,8 +10,6 @@ mod laws;
 mod pages;
 mod pool;
 mod short;
-#[cfg(test)]
-mod tests;
 
 pub use base::NoMemory;
 pub use examples::worked_examples;

@@ -35,5 +35,3 @@ pub use laws::{one_spelling, worked_examples};
 pub use layout::{HEAD_LEN, PARAM_LEN, origin_at, p_at, param_place, q_at, ret_at, session_at};
 pub use param::MsgParam;
 
-#[cfg(test)]
-mod tests;

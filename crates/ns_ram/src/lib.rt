@@ -15,10 +15,6 @@ mod pages;
 mod ram;
 mod read;
 mod reads;
-#[cfg(test)]
-mod tests;
-#[cfg(test)]
-mod worked_reader;
 
 pub use base::NoMemory;
 pub use lane::Lane;

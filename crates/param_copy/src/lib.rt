@@ -15,8 +15,6 @@ mod laws;
 mod memory;
 mod take;
 mod taken;
-#[cfg(test)]
-mod tests;
 mod write_back;
 
 pub use copied::{Copied, MAX_MEMREF_BYTES, Place, Places, copy_in};

@@ -22,8 +22,6 @@ mod reply;
 mod request;
 mod rpc;
 mod rpc_buffer;
-#[cfg(test)]
-mod tests;
 
 pub use examples::worked_examples;
 pub use fault::FileNameFault;

@@ -7,8 +7,6 @@
 mod examples;
 mod session;
 mod sessions;
-#[cfg(test)]
-mod tests;
 mod waiters;
 
 pub use base::NoMemory;

@@ -12,8 +12,6 @@ mod page_buffer;
 mod piece;
 mod pin;
 mod registry;
-#[cfg(test)]
-mod tests;
 
 pub use base::NoMemory;
 pub use fault::{RegisterFault, ResolveFault, UnregisterFault};

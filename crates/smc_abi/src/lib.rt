@@ -11,8 +11,6 @@ mod capabilities;
 mod examples;
 mod fast;
 mod regs;
-#[cfg(test)]
-mod tests;
 
 pub use answer::{
     Answer, EBADADDR, EBADCMD, ENOTAVAIL, ERESUME, ETHREAD_LIMIT, OK, RPC_ALLOC, RPC_CMD, RPC_FREE,

@@ -8,8 +8,6 @@
 mod examples;
 mod instance;
 mod instances;
-#[cfg(test)]
-mod tests;
 
 pub use base::NoMemory;
 pub use examples::worked_examples;

@@ -8,8 +8,6 @@ mod bad_resume;
 mod examples;
 mod slot;
 mod slots;
-#[cfg(test)]
-mod tests;
 
 pub use bad_resume::BadResume;
 pub use base::NoMemory;

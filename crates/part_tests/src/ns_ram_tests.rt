@@ -1,6 +1,6 @@
-use super::*;
 use crate::worked_reader::counted_bytes_and_reads;
 use base::Sequence;
+use ns_ram::{Lane, RAM_START, Read, Reads, in_ram};
 use std::test::Fail;
 
 #[test]

@@ -1,4 +1,4 @@
-use super::*;
+use session_table::{Login, Session, Sessions, Users, Uuid, Waiters};
 use std::test::Fail;
 
 const PUBLIC: Login = Login {

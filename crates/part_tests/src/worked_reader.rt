@@ -8,7 +8,7 @@ ghost use Rattle.ns_ram.specs.Lane.{IsInRam};
 ghost use Rattle.ns_ram.specs.Reader.{over_lane, reading};
 ghost use Rattle.ns_ram.specs.Reads.{HoldsReads};
 
-use crate::{Lane, NoMemory, Reads};
+use ns_ram::{Lane, NoMemory, Reads};
 use std::alloc::Global;
 
 /// The bytes behind the one at `addr` that counts them. It lists two reads, or one where the count is 0.

@@ -1,8 +1,8 @@
-use super::*;
-use crate::image_fault::ImageFault::BadEntry;
 use bitflags::Flags;
 use std::alloc::Global;
 use std::test::*;
+use ta_isa::ImageFault::BadEntry;
+use ta_isa::{InstanceFlags, Instr, decode_image, encode_image};
 
 /// The header of an image of one page with these entry points, without its count of instructions.
 const FRONT: [u8; 12] = [0x4f, 0x54, 0x54, 0x41, 0, 0, 0, 0, 1, 0, 0, 0];

@@ -1,8 +1,9 @@
-use super::*;
 use frame_pool::Pool;
 use std::test::Fail;
+use ta_instances::Instances;
 use ta_step::TaMemory;
 use tee_storage::{FileName, Handle};
+use uuid::Uuid;
 
 const ONE: Uuid = Uuid::NAMESPACE_DNS;
 

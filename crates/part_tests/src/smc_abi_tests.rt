@@ -1,4 +1,6 @@
-use super::*;
+use smc_abi::{
+    Answer, Call, FastCall, Regs, UNKNOWN_FUNCTION, decode_call, encode_answer, fast_answer,
+};
 
 const CALLER: Regs = Regs {
     a: [0, 1, 2, 3, 4, 5, 6, 7],

@@ -1,7 +1,7 @@
 ghost use Rattle.std.specs.Prelude.{◌≡◌, IfOk};
 ghost use Rattle.ns_ram.specs.Reads.{total_bytes};
 
-use super::*;
+use event_journal::{Event, Journal, NoMemory, Reads, Regs};
 use std::alloc::Global;
 use std::test::Fail;
 

@@ -1,9 +1,11 @@
 ghost use Rattle.std.specs.Prelude.{IfOk};
 ghost use Rattle.shm_registry.specs.Pieces.{IsBuffer};
 
-use super::*;
 use base::Sequence;
 use ns_ram::RAM_START;
+use shm_registry::{
+    NoMemory, PageBuffer, Piece, RegisterFault, Registry, ResolveFault, UnregisterFault,
+};
 use std::alloc::Global;
 use std::test::Fail;
 

@@ -1,4 +1,4 @@
-use super::*;
+use frame_pool::{Pool, Short};
 use std::test::Fail;
 use ta_step::TaMemory;
 

@@ -2,10 +2,10 @@ ghost use Rattle.std.specs.Prelude.{IfOk};
 ghost use Rattle.shm_registry.specs.Pieces.{IsBuffer, IsPieceOfRam};
 ghost use Rattle.param_copy.specs.Places.{IsWritable};
 
-use super::*;
 use base::{NoMemory, Sequence};
 use msg_args::{MsgParam, ParamKind};
 use ns_ram::Lane;
+use param_copy::{CopyFault, Place, Places, Reads, copy_in, copy_out, take_params};
 use shm_registry::{PageBuffer, Piece, Registry};
 use std::alloc::Global;
 use std::test::Fail;

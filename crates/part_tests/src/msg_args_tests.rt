@@ -1,5 +1,5 @@
-use super::*;
 use arrayvec::ArrayVec;
+use msg_args::{Misshapen, MsgArg, MsgHead, MsgParam, ParamKind, read_arg, read_head, write_arg};
 use std::test::Fail;
 
 /// Each number is another one, and the parameter has every part of an attribute.

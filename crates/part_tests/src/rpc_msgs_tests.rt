@@ -1,5 +1,5 @@
-use super::*;
 use ns_ram::{Lane, Reads};
+use rpc_msgs::{FileName, Rpc, put_request, read_reply, take_reply};
 use std::test::Fail;
 
 const BUFFER: u64 = 0x40010000;

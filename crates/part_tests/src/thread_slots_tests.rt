@@ -1,5 +1,5 @@
-use super::*;
 use std::test::Fail;
+use thread_slots::{BadResume, Slot, Slots};
 
 /// A value that is moved alone.
 #[derive(Debug, PartialEq, Eq, Drop)]
