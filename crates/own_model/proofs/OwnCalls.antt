@@ -41,7 +41,7 @@ use Rattle.own_model.specs.declared.own_event.OwnEvent.{OwnEvent}
 use Rattle.own_model.specs.declared.own_event.OwnEvent.TheVariants as event
 use Rattle.own_model.specs.declared.own_event.OwnInput.{OwnInput}
 use Rattle.own_model.specs.declared.own_event.OwnInput.TheVariants.{Copied, Faulty, Unread}
-use Rattle.own_model.specs.Own.{Notes, event_of, uuid_by}
+use Rattle.own_model.specs.Own.{Notes, event_of, input_settled, uuid_by}
 use Rattle.own_model.specs.Parameters.{params_of}
 use Rattle.own_model.specs.Solo.{OwnSession, Solo, Start, counted, fresh_call, home, invokes_with, job_of, points_of}
 use Rattle.own_model.specs.Solo.{settles, silent, start_with, step, waits, begins}
@@ -394,41 +394,41 @@ living_step app most z func input at is alive =
     invoke_step app most z func input at is
     ∙ ap (λ b. option_map silent (if b then Some (settles z target_dead) else invokes_with app z func input at)) alive
 
+-- an invoke that is settled in the named session
+settled_own : (app : Application) (most : ℕ) (whose : Whose) (slots : List ThreadSlot) (z : Solo) (c : NewCall)
+    (named : Session × Instance) (code : ℕ) → Within app whose slots z c → named_session c ≡ Some named
+    → ((h : AtHome whose z c named)
+    → step most app z (event.Invoke c.head.func (input_settled (of_tee code))) ≡ Some (silent (settles z code)))
+    → IfNoted app most whose slots z c.slot c.tables (settles_invoke c code)
+settled_own app most whose slots z c named code w is steps =
+    if_home app most whose slots z c named (settles_invoke c code)
+    (Some (event.Invoke c.head.func (input_settled (of_tee code)))) w is refl
+    (λ came session noted h.
+    let at : ComesIn app most whose slots z c.slot c.tables (settles_invoke c code)
+    (event.Invoke c.head.func (input_settled (of_tee code))) = record {
+      machine = settles z code;
+      steps = steps h;
+      takes = settled_takes app whose slots z c _ _ code w session;
+      keeps_uuid = λ notes. refl;
+    } in
+    subst (ComesIn app most whose slots z c.slot c.tables (settles_invoke c code)) (same_event _ came noted) at)
+
 dead_own : (app : Application) (most : ℕ) (whose : Whose) (slots : List ThreadSlot) (z : Solo) (c : NewCall)
     (named : Session × Instance) → Within app whose slots z c
     → named_session c ≡ Some named → named.1.dead ≡ true
     → IfNoted app most whose slots z c.slot c.tables (settles_invoke c target_dead)
 dead_own app most whose slots z c named w is dead =
-    if_home app most whose slots z c named (settles_invoke c target_dead)
-    (Some (event.Invoke c.head.func Unread)) w is refl
-    (λ came session noted h.
-    let at : ComesIn app most whose slots z c.slot c.tables (settles_invoke c target_dead)
-    (event.Invoke c.head.func Unread) = record {
-      machine = settles z target_dead;
-      steps = invoke_step app most z c.head.func Unread (shown named.0, h.own) h.home_is
-          ∙ ap (λ b. option_map silent (if b then Some (settles z target_dead) else None)) (sym h.alike.dead ∙ dead);
-      takes = settled_takes app whose slots z c _ _ target_dead w session;
-      keeps_uuid = λ notes. refl;
-    } in
-    subst (ComesIn app most whose slots z c.slot c.tables (settles_invoke c target_dead)) (same_event _ came noted) at)
+    settled_own app most whose slots z c named target_dead w is
+    (λ h. invoke_step app most z c.head.func Unread (shown named.0, h.own) h.home_is
+    ∙ ap (λ b. option_map silent (if b then Some (settles z target_dead) else None)) (sym h.alike.dead ∙ dead))
 
 faulty_own : (app : Application) (most : ℕ) (whose : Whose) (slots : List ThreadSlot) (z : Solo) (c : NewCall)
     (named : Session × Instance) → Within app whose slots z c
     → named_session c ≡ Some named → named.1.dead ≡ false
     → IfNoted app most whose slots z c.slot c.tables (settles_invoke c bad_parameters)
 faulty_own app most whose slots z c named w is alive =
-    if_home app most whose slots z c named (settles_invoke c bad_parameters)
-    (Some (event.Invoke c.head.func Faulty)) w is refl
-    (λ came session noted h.
-    let at : ComesIn app most whose slots z c.slot c.tables (settles_invoke c bad_parameters)
-    (event.Invoke c.head.func Faulty) = record {
-      machine = settles z bad_parameters;
-      steps = living_step app most z c.head.func Faulty (shown named.0, h.own) h.home_is (sym h.alike.dead ∙ alive);
-      takes = settled_takes app whose slots z c _ _ bad_parameters w session;
-      keeps_uuid = λ notes. refl;
-    } in
-    subst (ComesIn app most whose slots z c.slot c.tables (settles_invoke c bad_parameters))
-    (same_event _ came noted) at)
+    settled_own app most whose slots z c named bad_parameters w is
+    (λ h. living_step app most z c.head.func Faulty (shown named.0, h.own) h.home_is (sym h.alike.dead ∙ alive))
 
 invokes_own : (app : Application) (most : ℕ) (whose : Whose) (slots : List ThreadSlot) (z : Solo) (c : NewCall)
     (named : Session × Instance) (copies : Copies)

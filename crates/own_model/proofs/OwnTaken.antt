@@ -111,15 +111,7 @@ earlier_there whose slots cancels slot cpu at number calls call own e has was =
       of_number = get-insert-other calls whose.numbering.entered own number
           (less number whose.numbering.entered still.given) ∙ still.of_number;
       given = less_on number whose.numbering.entered still.given;
-      alike = record {
-        of_session = still.alike.of_session;
-        on_instance = still.alike.on_instance;
-        kinds = still.alike.kinds;
-        seen = still.alike.seen;
-        buffers = still.alike.buffers;
-        phases = still.alike.phases;
-        flagged = still.alike.flagged;
-      };
+      alike = still.alike;
     }
 
 pub calls_taken : (whose : Whose) (slots : List ThreadSlot) (cancels : Option Cancel) (slot cpu : ℕ)
