@@ -1,5 +1,5 @@
 -- What the tests of a command come to, by the first that fails.
-use Rattle.std.proofs.Common.{◌≡◌, ℕ, ◌+◌, ◌*◌, ◌-◌, Bool, true, false, not, nat_le, nat_lt, List, length, Option, Some, None, Result, Ok, Err, refl, ◌∙◌}
+use Rattle.std.proofs.Common.{◌≡◌, ℕ, ◌+◌, ◌*◌, true, false, nat_le, nat_lt, List, length, Option, Some, None, Result, Ok, Err, refl, ◌∙◌}
 use Rattle.std.specs.Prelude.{is_none, is_some}
 use Rattle.base.specs.NumberMap.{get}
 use Rattle.kernel_model.specs.Argument.{Opening, invocation, opening, params_in, registering, unregistering}
@@ -8,14 +8,12 @@ use Rattle.kernel_model.specs.Codes.{bad_parameters, busy, item_not_found, out_o
 use Rattle.kernel_model.specs.Decision.{Taken, Tested}
 use Rattle.kernel_model.specs.Instances.{app_of}
 use Rattle.kernel_model.specs.Kernel.{Instance}
-use Rattle.kernel_model.specs.NewCall.{NewCall, cancel_calls, cancels, close_session, closes, copied_params, drops_buffer, has_pages, has_session_room, invoke_command, invokes, is_taken, keeps_buffer, listed_pages, named_session, open_session, opens_or_waits, pages_touched, parameters, register_memory, settles, settles_invoke, settles_open, shares_one, unregister_memory}
+use Rattle.kernel_model.specs.NewCall.{NewCall, copied_params, drops_buffer, has_pages, has_session_room, invoke_command, invokes, is_taken, keeps_buffer, listed_pages, named_session, open_session, opens_or_waits, pages_touched, parameters, register_memory, settles, settles_invoke, settles_open, shares_one, unregister_memory}
 use Rattle.msg_args.specs.declared.param.MsgParam.{MsgParam}
 use Rattle.ns_ram.specs.Attempt.{faultless, known}
 use Rattle.ns_ram.specs.declared.read.Read.{Read}
-use Rattle.ns_ram.specs.Pages.{walk}
 use Rattle.ns_ram.specs.Reader.{over_lane, take_bytes}
-use Rattle.param_copy.specs.Copying.{Copies, copying}
-use Rattle.param_copy.specs.declared.fault.CopyFault.{CopyFault}
+use Rattle.param_copy.specs.Copying.{Copies}
 use Rattle.session_table.specs.declared.session.Session.{Session}
 use Rattle.shm_registry.specs.Registered.{lowest_slot}
 use Rattle.new_calls.proofs.Steps.{passed_on, refused_at, read_on}

@@ -1,4 +1,6 @@
+mod Buffers
 mod Commands
+mod Cookies
 mod Naming
 mod Params
 mod Steps

@@ -1,5 +1,5 @@
 -- Tests one after the other, over a lane.
-use Rattle.std.proofs.Common.{◌≡◌, ℕ, List, Option, Some, Ok, Err, Result, refl, ◌∙◌}
+use Rattle.std.proofs.Common.{◌≡◌, ℕ, List, Some, Ok, Err}
 use Rattle.ns_ram.specs.declared.read.Read.{Read}
 use Rattle.ns_ram.specs.Attempt.{Attempt, passes, after_pass, faultless, read, unless_faulty, ◌>>=◌}
 use Rattle.ns_ram.specs.Reader.{Reader, over_lane}

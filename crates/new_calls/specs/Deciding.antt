@@ -18,14 +18,13 @@ use Rattle.param_copy.specs.Copying.{Copies}
 use Rattle.param_copy.specs.Outcome.{copies_in}
 use Rattle.param_copy.specs.declared.taken.TakenParams.{TakenParams}
 use Rattle.session_table.specs.declared.session.Session.{Session}
-use Rattle.shm_registry.specs.declared.page_buffer.PageBuffer.{PageBuffer}
 use Rattle.ta_params.specs.declared.login.Login.{Login}
 use Rattle.new_calls.specs.declared.entered.Entered.{Entered}
 use Rattle.new_calls.specs.declared.halt.Halt.{Halt}
 use Rattle.new_calls.specs.declared.halt.Halt.TheVariants as halt
 use Rattle.new_calls.specs.declared.halt.Settled.{Settled}
 use Rattle.new_calls.specs.declared.halt.Settled.TheVariants as settled
-use Rattle.new_calls.specs.declared.new_call.NewCall.{NewCall}
+use Rattle.new_calls.specs.declared.call.NewCall.{NewCall}
 use Rattle.new_calls.specs.declared.plan.Plan.{Plan}
 use Rattle.new_calls.specs.declared.plan.Plan.TheVariants as plan
 
@@ -66,10 +65,11 @@ taken_in_session c session begins =
 -- what its slot is taken for
 abbrev pub taken_of : model.NewCall → Plan → Taken
 taken_of c (plan.Settles settled) = settled_of c settled
-taken_of c (plan.Opens login app copies) =
+taken_of c (plan.Opens app login copies) =
     opens_or_waits c (asked_by (application_of app) login) (application_of app) (copies_in copies)
-taken_of c (plan.Invokes session copies) = taken_in_session c session (λ named. invokes c named (copies_in copies))
-taken_of c (plan.Closes session) = taken_in_session c session (λ named. closes c named)
+taken_of c (plan.Invokes session app copies) =
+    taken_in_session c session (λ named. invokes c named (copies_in copies))
+taken_of c (plan.Closes session app) = taken_in_session c session (λ named. closes c named)
 taken_of c plan.Cancels = cancels c
 taken_of c (plan.KeepsBuffer cookie buffer) = keeps_buffers c (insert c.tables.registered.buffers cookie buffer)
 taken_of c (plan.DropsBuffer cookie) = keeps_buffers c (remove c.tables.registered.buffers cookie)

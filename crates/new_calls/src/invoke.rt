@@ -1,9 +1,13 @@
+ghost use Rattle.std.specs.Prelude.{IfOk};
 ghost use Rattle.kernel_model.specs.NewCall.{invoke_command};
-ghost use Rattle.new_calls.specs.Deciding.{Decides};
+ghost use Rattle.kernel_state.specs.Setup.{booted_with};
+ghost use Rattle.kernel_state.specs.Tables.{tables_of};
+ghost use Rattle.new_calls.specs.Applying.{CanApply, HaveApps};
+ghost use Rattle.new_calls.specs.Deciding.{Decides, call_of};
 
 use crate::argument::invocation;
+use crate::call::NewCall;
 use crate::halt::{Halt, Settled};
-use crate::new_call::NewCall;
 use crate::plan::Plan;
 use ns_ram::{Lane, Reads};
 use std::alloc::Global;
@@ -17,7 +21,9 @@ impl NewCall<'_> {
         lane: &Lane,
         reads: &mut Reads,
     ) -> Result<Plan, Halt>
-        ensures { Decides self.now invoke_command lane.now reads.old reads.new result }
+        requires { HaveApps (booted_with self.now.setup.now) (tables_of self.now.tables.now) }
+        ensures decides { Decides self.now invoke_command lane.now reads.old reads.new result }
+        ensures can_apply { IfOk result (CanApply (call_of self.now)) }
     {
         let params = self.parameters(alloc, lane, reads)?;
         let Some(invoked) = invocation(params.as_slice()) else {
@@ -32,6 +38,11 @@ impl NewCall<'_> {
         let Some(copies) = self.copied_params(alloc, lane, invoked, 0, reads)? else {
             return Err(Halt::Settled(Settled::Invoke(TEE_ERROR_BAD_PARAMETERS)));
         };
-        Ok(Plan::Invokes(session, copies))
+        let app = self.app_on(instance)?;
+        Ok(Plan::Invokes {
+            session,
+            app,
+            copies,
+        })
     }
 }

@@ -1,12 +1,14 @@
-ghost use Rattle.std.specs.Prelude.{◌≡◌, ◌≤◌, IfOk, Some, length};
+ghost use Rattle.std.specs.Prelude.{◌≡◌, ◌≤◌, IfOk, IfSome, Some, length};
 ghost use Rattle.kernel_model.specs.NewCall.{copied_params, parameters};
 ghost use Rattle.kernel_model.specs.Decision.{Taken as AnyTaken};
+ghost use Rattle.kernel_state.specs.Tables.{tables_of};
+ghost use Rattle.new_calls.specs.Applying.{AreRegistered};
 ghost use Rattle.new_calls.specs.Deciding.{ComesTo, call_of, copies_or};
 ghost use Rattle.ns_ram.specs.Reader.{over_lane};
 
 use crate::argument::params_in;
+use crate::call::NewCall;
 use crate::halt::{Halt, Settled};
-use crate::new_call::NewCall;
 use arrayvec::ArrayVec;
 use base::NoMemory;
 use msg_args::{HEAD_LEN, MsgParam, PARAM_LEN};
@@ -45,8 +47,10 @@ impl NewCall<'_> {
     ) -> Result<Option<TakenParams>, NoMemory>
         requires few { length params.now ≤ 4 }
         requires first { first ≤ 2 }
-        ensures { IfOk result (λ copies. (faulty : AnyTaken) →
+        ensures copied { IfOk result (λ copies. (faulty : AnyTaken) →
             over_lane (copied_params (call_of self.now) params.now first faulty) lane.now reads.old ≡ Some (copies_or faulty copies, reads.new)) }
+        ensures cookies { IfOk result (λ copies. IfSome copies (λ taken.
+            AreRegistered (tables_of self.now.tables.now) taken.cookies.items)) }
     {
         match take_params(alloc, lane, &self.tables.registry, params, first, reads) {
             Ok(copies) => Ok(Some(copies)),

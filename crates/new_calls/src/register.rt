@@ -1,13 +1,15 @@
-ghost use Rattle.std.specs.Prelude.{◌≡◌, ◌<◌, ◌≤◌, IfOk, Some};
+ghost use Rattle.std.specs.Prelude.{◌≡◌, ◌<◌, ◌≤◌, IfOk, IfSome, Some};
 ghost use Rattle.kernel_model.specs.Decision.{Taken as AnyTaken};
 ghost use Rattle.kernel_model.specs.NewCall.{listed_pages, offset_in, pages_touched, register_memory};
-ghost use Rattle.new_calls.specs.Deciding.{Decides, pages_or};
+ghost use Rattle.new_calls.specs.Applying.{CanApply};
+ghost use Rattle.new_calls.specs.Deciding.{Decides, call_of, pages_or};
 ghost use Rattle.ns_ram.specs.Attempt.{faultless};
 ghost use Rattle.ns_ram.specs.Reader.{over_lane};
+ghost use Rattle.shm_registry.specs.Pieces.{IsBuffer};
 
 use crate::argument::registering;
+use crate::call::NewCall;
 use crate::halt::{Halt, Settled};
-use crate::new_call::NewCall;
 use crate::plan::Plan;
 use base::{NoMemory, Sequence};
 use msg_args::MsgParam;
@@ -45,7 +47,8 @@ impl NewCall<'_> {
         lane: &Lane,
         reads: &mut Reads,
     ) -> Result<Plan, Halt>
-        ensures { Decides self.now register_memory lane.now reads.old reads.new result }
+        ensures decides { Decides self.now register_memory lane.now reads.old reads.new result }
+        ensures can_apply { IfOk result (CanApply (call_of self.now)) }
     {
         let params = self.parameters(alloc, lane, reads)?;
         let Some(param) = registering(params.as_slice()) else {
@@ -71,7 +74,10 @@ impl NewCall<'_> {
             offset: offset_in(&param) as u32,
             size: param.q,
         };
-        Ok(Plan::KeepsBuffer(param.s, buffer))
+        Ok(Plan::KeepsBuffer {
+            cookie: param.s,
+            buffer,
+        })
     }
 
     /// Its pages, by the lists of their addresses. None where one is no page of RAM.
@@ -83,8 +89,10 @@ impl NewCall<'_> {
         reads: &mut Reads,
     ) -> Result<Option<Vec<u64>>, NoMemory>
         requires { pages_touched param.now ≤ 1024 }
-        ensures { IfOk result (λ pages. (faulty : AnyTaken) →
+        ensures walked { IfOk result (λ pages. (faulty : AnyTaken) →
             over_lane (faultless (listed_pages param.now) faulty) lane.now reads.old ≡ Some (pages_or faulty pages, reads.new)) }
+        ensures good { IfOk result (λ walked. IfSome walked (λ pages.
+            IsBuffer (record { pages = pages.items; offset = offset_in param.now; size = param.now.q }))) }
     {
         let first_list = param.p - offset_in(param);
         let count = pages_touched(param) as u32;

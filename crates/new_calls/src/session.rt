@@ -1,9 +1,13 @@
-ghost use Rattle.std.specs.Prelude.{◌≡◌, None, Some, MatchOption};
+ghost use Rattle.std.specs.Prelude.{◌≡◌, IfOk, IsSome, None, Some, MatchOption};
+ghost use Rattle.kernel_model.specs.Instances.{app_of};
 ghost use Rattle.kernel_model.specs.NewCall.{named_session};
+ghost use Rattle.kernel_state.specs.Setup.{application_of, booted_with};
 ghost use Rattle.kernel_state.specs.Tables.{instance_of};
 ghost use Rattle.new_calls.specs.Deciding.{call_of};
 
-use crate::new_call::NewCall;
+use crate::call::NewCall;
+use base::NoMemory;
+use kernel_state::Application;
 use session_table::Session;
 use ta_instances::Instance;
 
@@ -22,5 +26,15 @@ impl NewCall<'_> {
             return None;
         };
         Some((*session, instance))
+    }
+    /// The application of an instance.
+    pub(crate) fn app_on(&self, instance: &Instance) -> Result<Application, NoMemory>
+        requires { IsSome (app_of (booted_with self.now.setup.now) instance.now.uuid) }
+        ensures { IfOk result (λ app. app_of (booted_with self.now.setup.now) instance.now.uuid ≡ Some (application_of app)) }
+    {
+        match self.setup.application(&instance.uuid)? {
+            Some(app) => Ok(app),
+            None => unreachable!(),
+        }
     }
 }

@@ -1,9 +1,11 @@
+ghost use Rattle.std.specs.Prelude.{IfOk};
 ghost use Rattle.kernel_model.specs.NewCall.{unregister_memory};
-ghost use Rattle.new_calls.specs.Deciding.{Decides};
+ghost use Rattle.new_calls.specs.Applying.{CanApply};
+ghost use Rattle.new_calls.specs.Deciding.{Decides, call_of};
 
 use crate::argument::unregistering;
+use crate::call::NewCall;
 use crate::halt::{Halt, Settled};
-use crate::new_call::NewCall;
 use crate::plan::Plan;
 use ns_ram::{Lane, Reads};
 use std::alloc::Global;
@@ -17,7 +19,8 @@ impl NewCall<'_> {
         lane: &Lane,
         reads: &mut Reads,
     ) -> Result<Plan, Halt>
-        ensures { Decides self.now unregister_memory lane.now reads.old reads.new result }
+        ensures decides { Decides self.now unregister_memory lane.now reads.old reads.new result }
+        ensures can_apply { IfOk result (CanApply (call_of self.now)) }
     {
         let params = self.parameters(alloc, lane, reads)?;
         let Some(param) = unregistering(params.as_slice()) else {
@@ -29,6 +32,6 @@ impl NewCall<'_> {
         if self.tables.registry.pinned_by(param.s).is_some() {
             return Err(Halt::Settled(Settled::Call(TEE_ERROR_BUSY)));
         }
-        Ok(Plan::DropsBuffer(param.s))
+        Ok(Plan::DropsBuffer { cookie: param.s })
     }
 }

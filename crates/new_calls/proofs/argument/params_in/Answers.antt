@@ -1,6 +1,5 @@
-use Rattle.std.proofs.Common.{◌≡◌, ◌++◌, List, ℕ, sym, ap, ◌∙◌, refl, rules, arith}
+use Rattle.std.proofs.Common.{◌≡◌, ◌++◌, ap, ◌∙◌, rules, arith}
 use Rattle.std.proofs.lemmas.Grind.{common_steps}
-use Rattle.msg_args.specs.Reading.{argument}
 use Rattle.new_calls.proofs.Params.{params_read, read_behind}
 use Rattle.new_calls.proofs.argument.params_in.Goals as goal
 

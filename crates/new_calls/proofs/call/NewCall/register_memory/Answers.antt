@@ -1,4 +1,4 @@
-use Rattle.std.proofs.Common.{◌≡◌, ℕ, true, List, Some, None, sym, ap, ◌∙◌, refl, rules, arith, length, nat_lt, nat_le}
+use Rattle.std.proofs.Common.{◌≡◌, true, sym, rules, arith, length, nat_lt, nat_le}
 use Rattle.std.proofs.lemmas.Bool.Decides.{nat_tests}
 use Rattle.std.specs.Prelude.{is_none}
 use Rattle.base.specs.NumberMap.{get}
@@ -6,10 +6,10 @@ use Rattle.kernel_model.specs.Codes.{bad_parameters}
 use Rattle.kernel_model.specs.NewCall.{pages_touched, settles}
 use Rattle.new_calls.specs.Deciding.{call_of}
 use Rattle.new_calls.proofs.Commands.{register_passes, register_unpaged}
-use Rattle.new_calls.proofs.new_call.NewCall.register_memory.Goals as goal
+use Rattle.new_calls.proofs.call.NewCall.register_memory.Goals as goal
 
-pub returns-in_default-2 : goal.returns-in_default-2
-returns-in_default-2 c =
+pub returns-in_default-2-clause-decides : goal.returns-in_default-2-clause-decides
+returns-in_default-2-clause-decides c =
     let call = call_of c.args.self.now in
     let param = c.in-Some.param in
     let new : is_none (get c.args.self.now.tables.now.registry.buffers param.s) ≡ true = search rules in
@@ -18,10 +18,10 @@ returns-in_default-2 c =
     let room : nat_lt (length c.args.self.now.tables.now.registry.buffers) 64 ≡ true = rw (← c.len.ensures.len) (grind (arith, nat_tests)) in
     register_unpaged call c.args.lane.now c.args.reads.now c.parameters.new.reads c.listed_pages.new.reads c.in_ok-params.params.items param (settles call bad_parameters)
     c.in_ok-params.ensures (rw c.as_slice.ensures.value at (sym c.in-Some.ensures)) new some few room
-    (rw c.in_default-2.is at (c.in_ok-pages.ensures (settles call bad_parameters)))
+    (rw c.in_default-2.is at (c.in_ok-pages.ensures.walked (settles call bad_parameters)))
 
-pub returns : goal.returns
-returns c =
+pub returns-clause-decides : goal.returns-clause-decides
+returns-clause-decides c =
     let call = call_of c.args.self.now in
     let param = c.in-Some.param in
     let new : is_none (get c.args.self.now.tables.now.registry.buffers param.s) ≡ true = search rules in
@@ -31,4 +31,4 @@ returns c =
     rw (c.of.ensures, c.offset_in.ensures.value)
     (register_passes call c.args.lane.now c.args.reads.now c.parameters.new.reads c.listed_pages.new.reads c.in_ok-params.params.items param c.in-Some-2.pages.items
     c.in_ok-params.ensures (rw c.as_slice.ensures.value at (sym c.in-Some.ensures)) new some few room
-    (rw c.in-Some-2.is at (c.in_ok-pages.ensures (settles call bad_parameters))))
+    (rw c.in-Some-2.is at (c.in_ok-pages.ensures.walked (settles call bad_parameters))))

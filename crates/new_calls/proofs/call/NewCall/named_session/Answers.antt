@@ -1,9 +1,9 @@
-use Rattle.std.proofs.Common.{◌≡◌, Some, None, sym, ap, ◌∙◌, refl}
+use Rattle.std.proofs.Common.{sym, ap, ◌∙◌}
 use Rattle.std.specs.Option.{option_map}
 use Rattle.kernel_state.specs.Tables.{instance_of}
 use Rattle.new_calls.specs.Deciding.{call_of}
 use Rattle.new_calls.proofs.Naming.{instance_at, named_found, named_lost}
-use Rattle.new_calls.proofs.new_call.NewCall.named_session.Goals as goal
+use Rattle.new_calls.proofs.call.NewCall.named_session.Goals as goal
 
 pub returns-in_default : goal.returns-in_default
 returns-in_default c =
