@@ -1,3 +1,4 @@
 pub mod Applying
 pub mod Argument
+pub mod Commands
 pub mod Deciding

@@ -8,6 +8,7 @@ use ta_params::Login;
 use uuid::Uuid;
 
 /// What an open's parameters say: it names the application and the client, and has up to four more.
+#[derive(Drop)]
 pub(crate) struct Wanted<'a> {
     pub uuid: Uuid,
     pub login: Login,

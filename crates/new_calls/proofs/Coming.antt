@@ -1,0 +1,51 @@
+-- What is decided behind the tests of every call.
+use Rattle.std.proofs.Common.{◌≡◌, ℕ, List, Option, Some, None, Result, Ok, Err, refl, ◌∙◌}
+use Rattle.kernel_model.specs.Application.{Booted}
+use Rattle.kernel_model.specs.Codes.{ethread_limit}
+use Rattle.kernel_model.specs.Decision.{Answers, Takes, Taken, Tested, decided_by, decision_in, taken_by, taken_in}
+use Rattle.kernel_model.specs.Kernel.{Tables}
+use Rattle.kernel_model.specs.NewCall.{new_call_in, new_call_with}
+use Rattle.ns_ram.specs.Attempt.{Attempt, passes, read}
+use Rattle.ns_ram.specs.Reader.{done, over_lane}
+use Rattle.ns_ram.specs.declared.read.Read.{Read}
+use Rattle.param_copy.proofs.PieceReads.{onward}
+use Rattle.smc_abi.specs.declared.answer.Answer.{Answer}
+use Rattle.new_calls.proofs.Steps.{passed_on, refused_at}
+
+-- ---- what the slot is taken for
+
+pub taken_at_end : (tests : Tested Taken) (lane : List ℕ) (before after : List Read) (taken : Taken) →
+    over_lane tests lane before ≡ Some (Ok taken, after) → over_lane (taken_by tests) lane before ≡ Some (taken, after)
+taken_at_end tests lane before after taken e = onward tests (λ result. done (taken_in result)) lane before after (Ok taken) e
+
+pub taken_by_test : (tests : Tested Taken) (lane : List ℕ) (before after : List Read) (taken : Taken) →
+    over_lane tests lane before ≡ Some (Err taken, after) → over_lane (taken_by tests) lane before ≡ Some (taken, after)
+taken_by_test tests lane before after taken e = onward tests (λ result. done (taken_in result)) lane before after (Err taken) e
+
+-- ---- what is decided
+
+decides : (attempt : Attempt Answer (ℕ × Taken)) (lane : List ℕ) (before after : List Read) (result : Result (ℕ × Taken) Answer) →
+    over_lane attempt lane before ≡ Some (result, after) → over_lane (decided_by attempt) lane before ≡ Some (decision_in result, after)
+decides attempt lane before after result e = onward attempt (λ result. done (decision_in result)) lane before after result e
+
+pub without_slot : (boot : Booted) (tables : Tables) (regs lane : List ℕ) (before : List Read) (free : Option ℕ) → free ≡ None →
+    over_lane (decided_by (new_call_with boot tables regs free)) lane before ≡ Some (Answers ethread_limit, before)
+without_slot boot tables regs lane before free none = rw none refl
+
+pub is_answered : (boot : Booted) (tables : Tables) (regs : List ℕ) (free : Option ℕ) (slot : ℕ) (lane : List ℕ) (before after : List Read) (answer : Answer) →
+    free ≡ Some slot → over_lane (new_call_in boot tables regs slot) lane before ≡ Some (Err answer, after) →
+    over_lane (decided_by (new_call_with boot tables regs free)) lane before ≡ Some (Answers answer, after)
+is_answered boot tables regs free slot lane before after answer is e =
+    rw is (decides (new_call_with boot tables regs (Some slot)) lane before after (Err answer)
+    (refused_at (new_call_in boot tables regs slot) (λ taken. passes (slot, taken)) lane before after answer e))
+
+pub is_taken : (boot : Booted) (tables : Tables) (regs : List ℕ) (free : Option ℕ) (slot : ℕ) (lane : List ℕ) (before between after : List Read)
+    (tests : Tested Taken) (taken : Taken) (at : ℕ) → free ≡ Some slot → at ≡ slot →
+    over_lane (new_call_in boot tables regs slot) lane before ≡ over_lane (read (taken_by tests)) lane between →
+    over_lane (taken_by tests) lane between ≡ Some (taken, after) →
+    over_lane (decided_by (new_call_with boot tables regs free)) lane before ≡ Some (Takes at taken, after)
+is_taken boot tables regs free slot lane before between after tests taken at is same comes e =
+    let passed : over_lane (new_call_in boot tables regs slot) lane before ≡ Some (Ok taken, after) =
+    comes ∙ onward (taken_by tests) passes lane between after taken e in
+    rw (is, same) (decides (new_call_with boot tables regs (Some slot)) lane before after (Ok (slot, taken))
+    (passed_on (new_call_in boot tables regs slot) (λ taken. passes (slot, taken)) lane before after taken passed))
