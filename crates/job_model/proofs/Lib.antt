@@ -3,3 +3,5 @@ pub mod MachineRuns
 pub mod Programs
 pub mod TakenAnswers
 pub mod SeenCancel
+pub mod Ranges
+pub mod FittingRequests

@@ -32,7 +32,7 @@ ComesToResult (Asks rpc payload now onward) = (reply : RpcReply) → ComesToResu
 ComesToResult (Ends step now) = IsDone step
 
 -- it asks for nothing
-abbrev IsEnd : StorageStep → Type 0
+abbrev pub IsEnd : StorageStep → Type 0
 IsEnd (Ask rpc payload) = ⊥
 IsEnd (Done result value) = Unit {0}
 IsEnd (Panic code) = Unit {0}

@@ -5,4 +5,5 @@ pub mod Beginning
 pub mod Steps
 pub mod Taken
 pub mod Flag
+pub mod Fitting
 pub mod Examples

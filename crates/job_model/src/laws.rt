@@ -2,6 +2,7 @@
 ghost use Rattle.std.specs.Prelude.{◌≡◌, ℕ, ◌+◌, ◌-◌, ◌≤◌, Some};
 ghost use Rattle.std.specs.Option.{option_and_then};
 ghost use Rattle.job_model.specs.Examples.{Examples};
+ghost use Rattle.job_model.specs.Fitting.{RequestsFit};
 ghost use Rattle.job_model.specs.Flag.{CancelStaysSeen};
 ghost use Rattle.job_model.specs.Job.{Job, Machine};
 ghost use Rattle.job_model.specs.declared.entry_point.EntryPoint.{EntryPoint};
@@ -51,6 +52,12 @@ pub fn grants_run_machines()
 /// else.
 pub fn answers_are_taken()
     ensures { AnswersAreTaken }
+{}
+
+/// What a job asks for fits a message, at its stop and behind each answer: a request that a message has room for, with
+/// its payload.
+pub fn requests_fit()
+    ensures { RequestsFit }
 {}
 
 /// Neither a step nor an answer takes back from a job that its call has seen that it was cancelled.

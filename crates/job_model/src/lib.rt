@@ -13,5 +13,5 @@ pub use call_kind::CallKind;
 pub use entry_point::EntryPoint;
 pub use laws::{
     answers_are_taken, cancel_stays_seen, grants_reach_stops, grants_run_machines, grants_take_on,
-    one_stop, steps_add_up, stops_add_up, worked_examples,
+    one_stop, requests_fit, steps_add_up, stops_add_up, worked_examples,
 };

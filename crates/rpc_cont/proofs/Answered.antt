@@ -6,11 +6,12 @@ use Rattle.base.specs.NumberMap.{NumberMap}
 use Rattle.job_model.specs.Asking.{PendingRequest, Asking, Gives, Ask, ask, asks_time, wait_result, ask_unchanged, bytes_at, object_asking}
 use Rattle.job_model.specs.Job.{Body, Machine, Job, with_cancel_seen, body_with_cancel_seen}
 use Rattle.job_model.specs.Steps.{Advance, Goes, Stops, Ends, Panics, Asks, on_from, with_bytes, advance_on_answer_in, advance_on_answer, advance_on_answers}
+use Rattle.job_model.proofs.Ranges.{length-bytes_at}
 use Rattle.rpc_cont.specs.declared.phase.Phase.{Phase}
 use Rattle.rpc_cont.specs.declared.phase.Phase.TheVariants as phase
 use Rattle.rpc_cont.proofs.Asking.{where_there, from_there, holds_there, body_there, gives-turn, answered_with, served-object}
 use Rattle.rpc_cont.proofs.Pending.{waits-pending}
-use Rattle.rpc_cont.proofs.Spans.{store-none, store-same, store-same_but, is_range-store, length-bytes_at, bytes_at-store}
+use Rattle.rpc_cont.proofs.Spans.{store-none, store-same, store-same_but, is_range-store, bytes_at-store}
 use Rattle.rpc_cont.specs.Spans.{rest_of}
 use Rattle.rpc_cont.specs.Advancing.{IsRunnable, phase_after}
 use Rattle.rpc_cont.specs.Answering.{HasImage, CanBeAnswered, IsAnswered, phase_behind}

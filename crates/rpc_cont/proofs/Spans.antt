@@ -8,6 +8,7 @@ use Rattle.std.proofs.lemmas.Option.{slice_get-get_or, unwrap_or-slice_get}
 use Rattle.base.specs.Zeros.{zeros}
 use Rattle.base.proofs.ZeroLemmas.{length-zeros}
 use Rattle.job_model.specs.Asking.{bytes_at}
+use Rattle.job_model.proofs.Ranges.{inside, is_range-fits, length-bytes_at}
 use Rattle.ta_step.specs.Addresses.{ranges, range_at, with_range, is_inside, load, store}
 use Rattle.ta_step.specs.Bytes.{has_bytes, written}
 use Rattle.ta_step.specs.State.{State}
@@ -58,38 +59,6 @@ is_range-store s addr new count =
     (has_bytes-same (range_at (store s addr new) addr) (range_at s addr) (addr % 0x10000000) count (length-range_at-store s addr new))
 
 -- ---- the bytes that stand there
-
--- where the first test fails, the others decide
-last_holds : (a b c : Bool) → a ≡ false → (a || (b && c)) ≡ true → c ≡ true
-last_holds true b c fails e = absurd cc
-last_holds false true c fails e = e
-last_holds false false c fails e = absurd cc
-
-middle_holds : (a b c : Bool) → a ≡ false → (a || (b && c)) ≡ true → b ≡ true
-middle_holds true b c fails e = absurd cc
-middle_holds false true c fails e = refl
-middle_holds false false c fails e = absurd cc
-
-some : (count : ℕ) → (suc count == 0) ≡ false
-some count = grind (arith, nat_tests)
-
--- bytes in one range are in it, if there are any
-inside : (s : State) (addr count : ℕ) → is_range s addr (suc count) ≡ true → is_inside s addr (suc count) ≡ true
-inside s addr count e = last_holds (suc count == 0) (nat_le (addr % 0x10000000 + suc count) 0x10000000) (is_inside s addr (suc count)) (some count) e
-
--- their addresses are in it too
-pub is_range-fits : (s : State) (addr count : ℕ) → is_range s addr count ≡ true → addr % 0x10000000 + count ≤ 0x10000000
-is_range-fits s addr zero e = omega arith
-is_range-fits s addr (suc count) e =
-    leb-true (addr % 0x10000000 + suc count) 0x10000000
-    (middle_holds (suc count == 0) (nat_le (addr % 0x10000000 + suc count) 0x10000000) (is_inside s addr (suc count)) (some count) e)
-
-pub length-bytes_at : (s : State) (addr count : ℕ) → is_range s addr count ≡ true → length (bytes_at s addr count) ≡ count
-length-bytes_at s addr zero e = refl
-length-bytes_at s addr (suc count) e =
-    let xs = range_at s addr in
-    let there = leb-true (addr % 0x10000000 + suc count) (length xs) (inside s addr count e) in
-    omega (arith, length-take (suc count) (drop (addr % 0x10000000) xs), length-drop (addr % 0x10000000) xs)
 
 below : (s : State) (addr count at : ℕ) → at < length (bytes_at s addr count) → at < count
 below s addr count at lt = omega (arith, length-take count (drop (addr % 0x10000000) (range_at s addr)))
