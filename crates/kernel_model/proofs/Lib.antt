@@ -6,7 +6,9 @@ pub mod EntryLaws
 pub mod Suspended
 pub mod Answered
 pub mod Tests
+pub mod Copied
 pub mod SoundNewCalls
+pub mod SoundOffers
 pub mod SoundEvents
 pub mod SoundSlots
 pub mod SoundWork
@@ -28,3 +30,6 @@ pub mod SoundCallsJoined
 pub mod SoundLine
 pub mod SoundSums
 pub mod SoundMemory
+pub mod SoundPlaces
+pub mod SoundRequests
+pub mod SoundPins

@@ -43,13 +43,13 @@ nothing_is call e = absurd cc
 joined_cases : (boot : Booted) (kernel : Kernel) (cpu : ℕ) → Before (call_at kernel.slots) kernel.tables → EventCases boot kernel cpu AfterJoined
 joined_cases boot kernel cpu sound = record {
   answered = λ visit answer inside. sound.joined;
-  comes = λ visit slot bytes inside free.
+  comes = λ visit slot bytes inside free fits.
       let c = new_call_of boot kernel.tables visit.regs slot bytes in
       let there = free_there kernel.slots slot free in
       cases_onward c (NewFits (call_at kernel.slots) c) (λ taken. AfterJoined (after_decision kernel visit (Takes slot taken)))
       (λ taken new. new _ (takes_slot kernel.slots taken.cancels slot visit.cpu Free taken.call there))
       (new_fits (call_at kernel.slots) c sound (ap (λ (o : Option ThreadSlot). option_and_then call_in o) there));
-  resumes = λ visit call given inside there.
+  resumes = λ visit call given inside there offered.
       let slot = thread_in visit.regs in
       let taken = resumed_taken boot kernel visit call given in
       resumed_fits (call_at kernel.slots) (resumed_call boot kernel.tables slot call given) sound.joined (unmarked call)

@@ -6,6 +6,7 @@ use Rattle.std.proofs.lemmas.Bool.Decides.{Decides-eqb}
 use Rattle.std.proofs.lemmas.Option.{option_and_then_some}
 use Rattle.event_journal.specs.declared.event.Event.{Event}
 use Rattle.event_journal.specs.declared.event.Event.TheVariants as event
+use Rattle.msg_args.specs.Reading.{head_at}
 use Rattle.ns_ram.specs.declared.read.Read.{Read}
 use Rattle.ns_ram.specs.Reader.{Reader, done, want_bytes, want_words, ◌>>=◌}
 use Rattle.smc_abi.specs.Call.{call_of}
@@ -14,7 +15,7 @@ use Rattle.smc_abi.specs.declared.answer.Answer.{Answer}
 use Rattle.smc_abi.specs.declared.call.Call.{Call}
 use Rattle.smc_abi.specs.declared.call.Call.TheVariants.{Fast, WithArg, Resume, Unknown}
 use Rattle.kernel_model.specs.Application.{Booted}
-use Rattle.kernel_model.specs.Argument.{client_in, reg, thread_in}
+use Rattle.kernel_model.specs.Argument.{argument_at, client_in, reg, thread_in}
 use Rattle.kernel_model.specs.Codes.{eresume, unknown_function}
 use Rattle.kernel_model.specs.Decision.{Decision, Answers, Takes, Taken, works_on}
 use Rattle.kernel_model.specs.Entry.{after_decision, after_entry, decision_of}
@@ -23,12 +24,13 @@ use Rattle.kernel_model.specs.Given.{Given, given_to}
 use Rattle.kernel_model.specs.History.{after_event, after_events, can_be_granted, entry_from, exit_to, is_outside, kernel_after}
 use Rattle.kernel_model.specs.Kernel.{Active, Fixed, Free, InSlot, Inside, Kernel, Outside, PendingCall, Processor, Progress, Suspended, ThreadSlot, Visit, first_kernel, lowest_free, with_visitor, without_visitor}
 use Rattle.kernel_model.specs.Laws.{IsFixed, IsOutside}
-use Rattle.kernel_model.specs.NewCall.{new_call_of, new_call_with}
+use Rattle.kernel_model.specs.NewCall.{has_argument, new_call_of, new_call_with}
 use Rattle.kernel_model.specs.Resume.{call_resumed_by, onward_of, resume_call, resumed_call, suspended_for, takes_call}
 use Rattle.kernel_model.proofs.FixedAnswer.{decides_all}
 use Rattle.kernel_model.proofs.Parts.{AllOf, AllOf-mapped, option_map_some}
 use Rattle.kernel_model.proofs.Past.{after_events-append}
 use Rattle.kernel_model.proofs.SoundNewCalls.{NewCases, cases_onward, new_decides}
+use Rattle.kernel_model.proofs.SoundOffers.{IsOffered, all_offered}
 
 -- the processor of an event
 abbrev pub cpu_of : Event → ℕ
@@ -50,9 +52,10 @@ resumed_taken boot kernel visit call given =
 pub record EventCases (boot : Booted) (kernel : Kernel) (cpu : ℕ) (P : Kernel → Type 0) : Type 0 where
   pub answered : (visit : Visit) (answer : Answer) → ComesIn kernel cpu visit → P (with_visitor kernel visit (Fixed answer))
   pub comes : (visit : Visit) (slot : ℕ) (bytes : List ℕ) → ComesIn kernel cpu visit → lowest_free kernel.slots ≡ Some slot →
+      has_argument (argument_at visit.regs) (head_at bytes) ≡ true →
       NewCases (new_call_of boot kernel.tables visit.regs slot bytes) (λ taken. P (after_decision kernel visit (Takes slot taken)))
   pub resumes : (visit : Visit) (call : PendingCall) (given : Given) → ComesIn kernel cpu visit →
-      slice_get kernel.slots (thread_in visit.regs) ≡ Some (Suspended (client_in visit.regs) call) →
+      slice_get kernel.slots (thread_in visit.regs) ≡ Some (Suspended (client_in visit.regs) call) → IsOffered given →
       P (after_decision kernel visit (Takes (thread_in visit.regs) (resumed_taken boot kernel visit call given)))
   pub told : (visit : Visit) (answer : Answer) → visit.cpu ≡ cpu → IsFixed kernel visit answer → P (without_visitor kernel visit)
   pub goes : (visit : Visit) (slot worker : ℕ) (call : PendingCall) (progress : Progress) → visit.cpu ≡ cpu →
@@ -86,22 +89,22 @@ module _ (boot : Booted) (kernel : Kernel) (cpu : ℕ) (P : Kernel → Type 0) (
   resume_all visit (Some call) inside some =
       let slot = thread_in visit.regs in
       let there = suspended_there (client_in visit.regs) (slice_get kernel.slots slot) call some in
-      mapped (given_to visit.regs slot call) (λ given. cases.resumes visit call given inside there)
+      mapped (given_to visit.regs slot call) (all_offered visit.regs slot call) (λ given offered. cases.resumes visit call given inside there offered)
     where
-      mapped : (reader : Reader Given)
-          → ((given : Given) → After visit (Takes (thread_in visit.regs) (works_on (onward_of (resumed_call boot kernel.tables (thread_in visit.regs) call given)))))
+      mapped : (reader : Reader Given) → AllOf IsOffered reader
+          → ((given : Given) → IsOffered given → After visit (Takes (thread_in visit.regs) (works_on (onward_of (resumed_call boot kernel.tables (thread_in visit.regs) call given)))))
           → AllOf (After visit)
           ((reader >>= (λ given. done (onward_of (resumed_call boot kernel.tables (thread_in visit.regs) call given))))
           >>= (λ progress. done (Takes (thread_in visit.regs) (works_on progress))))
-      mapped (done given) all = all given
-      mapped (want_bytes addr len next) all = λ got. mapped (next got) all
-      mapped (want_words addr most test next) all = λ got. mapped (next got) all
+      mapped (done given) offered all = all given offered
+      mapped (want_bytes addr len next) offered all = λ got. mapped (next got) (offered got) all
+      mapped (want_words addr most test next) offered all = λ got. mapped (next got) (offered got) all
 
   decision_all : (visit : Visit) (call : Call) → ComesIn kernel cpu visit → AllOf (After visit) (decision_of boot kernel visit.regs call)
   decision_all visit (Fast call) inside = cases.answered visit (fast_answer_of call visit.regs boot.threads) inside
   decision_all visit WithArg inside =
       new_decides (After visit) boot kernel.tables visit.regs (lowest_free kernel.slots) (λ answer. cases.answered visit answer inside)
-      (λ slot bytes free. cases.comes visit slot bytes inside free)
+      (λ slot bytes free fits. cases.comes visit slot bytes inside free fits)
   decision_all visit Resume inside = resume_all visit (call_resumed_by kernel.slots visit.regs) inside refl
   decision_all visit Unknown inside = cases.answered visit unknown_function inside
 
@@ -169,9 +172,9 @@ pub events_onward : (boot : Booted) (kernel : Kernel) (cpu : ℕ) (P Q : Kernel 
     → EventCases boot kernel cpu Q
 events_onward boot kernel cpu P Q onward cases = record {
   answered = λ visit answer inside. onward _ (cases.answered visit answer inside);
-  comes = λ visit slot bytes inside free.
-      cases_onward _ (λ taken. P (after_decision kernel visit (Takes slot taken))) _ (λ taken. onward _) (cases.comes visit slot bytes inside free);
-  resumes = λ visit call given inside there. onward _ (cases.resumes visit call given inside there);
+  comes = λ visit slot bytes inside free fits.
+      cases_onward _ (λ taken. P (after_decision kernel visit (Takes slot taken))) _ (λ taken. onward _) (cases.comes visit slot bytes inside free fits);
+  resumes = λ visit call given inside there offered. onward _ (cases.resumes visit call given inside there offered);
   told = λ visit answer its fixed. onward _ (cases.told visit answer its fixed);
   goes = λ visit slot worker call progress its inside there e. onward _ (cases.goes visit slot worker call progress its inside there e);
 }

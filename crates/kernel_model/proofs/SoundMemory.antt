@@ -351,23 +351,23 @@ module _ (before : Calls) (c : NewCall) (sound : Before before c.tables) (free :
     settles_open = λ app code after changes. rests after _ _ changes refl refl;
     settles_invoke = λ named code is after changes. rests after _ _ changes refl refl;
     cancels = λ named is after changes. rests after _ _ changes refl refl;
-    registers = λ param pages new room after changes. rests after _ _ changes refl refl;
+    registers = λ param pages new room good after changes. rests after _ _ changes refl refl;
     unregisters = λ param unpinned after changes. rests after _ _ changes refl refl;
-    opens_kept = λ wanted app copies kept shown shared unheld after changes.
+    opens_kept = λ wanted app copies copied kept shown shared unheld after changes.
         opens_so after _ _ wanted.uuid (opener wanted app copies) kept _ changes shown.of_boot shared shown.alive unheld refl refl refl refl;
-    opens_awaited = λ wanted app copies number shown shared waits after changes.
+    opens_awaited = λ wanted app copies copied number shown shared waits after changes.
         let waiter = awaited_uuids before c sound free app number waits in
         let none = no_instance number
         (λ instance its. gone before c sound free app number waiter.0 waiter.1 waiter.2 waiter.3 waiter.4 waiter.5
         ((sound.joined.each waiter.1 waiter.0 waiter.2).instance.settled waiter.6) shared instance its) in
         makes_new after _ _ wanted.uuid (opener wanted app copies) c.tables.next_instance _ changes shown.of_boot shared shown.pages none refl refl refl;
-    opens_next = λ wanted app copies shown shared waits after changes.
+    opens_next = λ wanted app copies copied shown shared waits after changes.
         makes_new after _ _ wanted.uuid (opener wanted app copies) (c.tables.next_instance + 1) _ changes shown.of_boot shared shown.pages
         (new_instance before c sound free c.tables.next_instance refl) refl refl refl;
-    open_waits = λ wanted app copies kept shown shared held after changes. rests after _ _ changes refl refl;
-    invokes = λ named copies is alive unheld after changes.
+    open_waits = λ wanted app copies copied kept shown shared held after changes. rests after _ _ changes refl refl;
+    invokes = λ named copies copied is alive unheld after changes.
         named_so after _ _ named copies.params (Invoke c.head.func) [] _ changes (named_is c named is).instance unheld refl refl refl refl;
-    invoke_waits = λ named copies is alive held after changes. rests after _ _ changes refl refl;
+    invoke_waits = λ named copies copied is alive held after changes. rests after _ _ changes refl refl;
     closes = λ named is unheld after changes.
         named_so after _ _ named no_copies.params Close _ _ changes (named_is c named is).instance unheld refl refl refl refl;
     close_waits = λ named is held after changes. rests after _ _ changes refl refl;
@@ -600,13 +600,13 @@ AfterMemory boot next = AreInMemory boot (call_at next.slots) next.tables
 memory_cases : (boot : Booted) (kernel : Kernel) (cpu : ℕ) → Before (call_at kernel.slots) kernel.tables → AfterMemory boot kernel → EventCases boot kernel cpu (AfterMemory boot)
 memory_cases boot kernel cpu sound memory = record {
   answered = λ visit answer inside. memory;
-  comes = λ visit slot bytes inside free.
+  comes = λ visit slot bytes inside free fits.
       let c = new_call_of boot kernel.tables visit.regs slot bytes in
       let there = free_there kernel.slots slot free in
       cases_onward c (NewMemory (call_at kernel.slots) c) (λ taken. AfterMemory boot (after_decision kernel visit (Takes slot taken)))
       (λ taken new. new _ (takes_slot kernel.slots taken.cancels slot visit.cpu Free taken.call there))
       (new_memory (call_at kernel.slots) c sound (ap (λ (o : Option ThreadSlot). option_and_then call_in o) there) memory);
-  resumes = λ visit call given inside there.
+  resumes = λ visit call given inside there offered.
       let slot = thread_in visit.regs in
       let taken = resumed_taken boot kernel visit call given in
       resumed_memory (call_at kernel.slots) (resumed_call boot kernel.tables slot call given) sound.joined sound.rising memory (unmarked call)

@@ -1,6 +1,6 @@
 -- What a new call takes its slot for: each of its forms, with what its tests have shown.
 use Rattle.std.proofs.Common.{◌≡◌, ℕ, Bool, true, false, List, [], ◌∷◌, Option, Some, None, Ok, Err, refl, subst}
-use Rattle.std.specs.Prelude.{All, ◌+◌, ◌*◌, ◌==◌, find, if◌then◌else◌, is_none, is_some, length, nat_le, nat_lt, not}
+use Rattle.std.specs.Prelude.{All, ◌+◌, ◌-◌, ◌*◌, ◌==◌, find, if◌then◌else◌, is_none, is_some, length, nat_le, nat_lt, not}
 use Rattle.std.specs.Option.{option_map_or}
 use Rattle.std.proofs.lemmas.List.Elements.{All-from_recursion, All-head, All-tail}
 use Rattle.base.specs.NumberMap.{get}
@@ -23,9 +23,10 @@ use Rattle.kernel_model.specs.Codes.{bad_parameters, busy, ebadaddr, ebadcmd, it
 use Rattle.kernel_model.specs.Decision.{Decision, Answers, Takes, Taken, Tested, decided_by}
 use Rattle.kernel_model.specs.Instances.{app_of, is_held}
 use Rattle.kernel_model.specs.Kernel.{Instance, Tables}
-use Rattle.kernel_model.specs.NewCall.{NewCall, about_open, about_session, beginner, cancel_calls, cancels, close_session, closes, command_of, commands, copied_params, drops_buffer, has_argument, has_pages, has_session_room, invoke_command, invokes, is_head_address, is_taken, keeps_buffer, listed_pages, named_session, new_call_in, new_call_of, new_call_with, no_copies, open_session, open_waits, opener, opens_or_waits, pages_touched, parameters, register_memory, runs_in, settles, settles_invoke, settles_open, shared_by, shares_one, unregister_memory, waits_in, with_session}
+use Rattle.kernel_model.specs.NewCall.{NewCall, about_open, about_session, beginner, cancel_calls, cancels, close_session, closes, command_of, commands, copied_params, drops_buffer, has_argument, has_pages, has_session_room, invoke_command, invokes, is_head_address, is_taken, keeps_buffer, listed_pages, named_session, new_call_in, new_call_of, new_call_with, no_copies, offset_in, open_session, open_waits, opener, opens_or_waits, pages_touched, parameters, register_memory, runs_in, settles, settles_invoke, settles_open, shared_by, shares_one, unregister_memory, waits_in, with_session}
+use Rattle.kernel_model.proofs.Copied.{AreCopied, AreGoodPages, Shows, copying_all, faultless-shows, invoked_room, known-shows, opening_room, params_counted, read-shows, shows-then, walk_pages}
 use Rattle.kernel_model.proofs.Parts.{AllOf, option_map_some}
-use Rattle.kernel_model.proofs.Tests.{Ends, Fails, TakenIn, answer_known, answer_need, answer_read, faultless-fails, known-fails, known-then, need-by, reads-fails, taken_ends, test-then}
+use Rattle.kernel_model.proofs.Tests.{Ends, Fails, TakenIn, answer_known, answer_need, answer_read, known-fails, known-then, need-by, reads-fails, taken_ends, test-then}
 
 -- a test, where its refusal needs nothing of it
 need-then : (P : Taken → Type 0) (test : Bool) (refusal : Taken) (onward : Unit {0} → Tested Taken)
@@ -56,6 +57,10 @@ pub record IsOpen (c : NewCall) (wanted : Opening) (app : Application) : Type 0 
   pub room : has_session_room c ≡ true
   pub pages : has_pages c app ≡ true
 
+-- what the copying of its parameters has shown
+abbrev pub IsCopied : NewCall → Copies → Type 0
+IsCopied c copies = AreCopied c.tables.registered.buffers c.arg c.head.count copies
+
 -- it holds of each form
 pub record NewCases (c : NewCall) (P : Taken → Type 0) : Type 0 where
   pub settles : (code : ℕ) → P (settles c code)
@@ -63,21 +68,21 @@ pub record NewCases (c : NewCall) (P : Taken → Type 0) : Type 0 where
   pub settles_invoke : (named : Session × Instance) (code : ℕ) → named_session c ≡ Some named → P (settles_invoke c code)
   pub cancels : (named : Session × Instance) → named_session c ≡ Some named → P (cancels c)
   pub registers : (param : MsgParam) (pages : List ℕ) → is_none (get c.tables.registered.buffers param.s) ≡ true →
-      nat_lt (length c.tables.registered.buffers) 64 ≡ true → P (keeps_buffer c param pages)
+      nat_lt (length c.tables.registered.buffers) 64 ≡ true → AreGoodPages pages → P (keeps_buffer c param pages)
   pub unregisters : (param : MsgParam) → is_none (lowest_slot c.tables.registered.pins param.s) ≡ true → P (drops_buffer c param)
-  pub opens_kept : (wanted : Opening) (app : Application) (copies : Copies) (kept : ℕ × Instance) → IsOpen c wanted app →
+  pub opens_kept : (wanted : Opening) (app : Application) (copies : Copies) → IsCopied c copies → (kept : ℕ × Instance) → IsOpen c wanted app →
       shared_by c app ≡ Some kept → is_held kept.1 ≡ false → P (opening_taken c wanted app copies (opens_kept (beginner c) (opener wanted app copies) kept))
-  pub opens_awaited : (wanted : Opening) (app : Application) (copies : Copies) (number : ℕ) → IsOpen c wanted app →
+  pub opens_awaited : (wanted : Opening) (app : Application) (copies : Copies) → IsCopied c copies → (number : ℕ) → IsOpen c wanted app →
       shared_by c app ≡ None → awaited_number c.tables app ≡ Some number →
       P (opening_taken c wanted app copies (opens_new (beginner c) (opener wanted app copies) number c.tables.next_instance))
-  pub opens_next : (wanted : Opening) (app : Application) (copies : Copies) → IsOpen c wanted app → shared_by c app ≡ None →
+  pub opens_next : (wanted : Opening) (app : Application) (copies : Copies) → IsCopied c copies → IsOpen c wanted app → shared_by c app ≡ None →
       awaited_number c.tables app ≡ None →
       P (opening_taken c wanted app copies (opens_new (beginner c) (opener wanted app copies) c.tables.next_instance (c.tables.next_instance + 1)))
-  pub open_waits : (wanted : Opening) (app : Application) (copies : Copies) (kept : ℕ × Instance) → IsOpen c wanted app →
+  pub open_waits : (wanted : Opening) (app : Application) (copies : Copies) → IsCopied c copies → (kept : ℕ × Instance) → IsOpen c wanted app →
       shared_by c app ≡ Some kept → is_held kept.1 ≡ true → P (open_waits c wanted app copies kept)
-  pub invokes : (named : Session × Instance) (copies : Copies) → named_session c ≡ Some named → named.1.dead ≡ false →
+  pub invokes : (named : Session × Instance) (copies : Copies) → IsCopied c copies → named_session c ≡ Some named → named.1.dead ≡ false →
       is_held named.1 ≡ false → P (working_taken c (kind.Invoke c.head.func) named copies (Invoke c.head.func ∷ []))
-  pub invoke_waits : (named : Session × Instance) (copies : Copies) → named_session c ≡ Some named → named.1.dead ≡ false →
+  pub invoke_waits : (named : Session × Instance) (copies : Copies) → IsCopied c copies → named_session c ≡ Some named → named.1.dead ≡ false →
       is_held named.1 ≡ true → P (waiting_taken c (kind.Invoke c.head.func) named copies)
   pub closes : (named : Session × Instance) → named_session c ≡ Some named → is_held named.1 ≡ false →
       P (working_taken c kind.Close named no_copies (closing_points (beginner c) c.head.session named.0 named.1))
@@ -91,14 +96,14 @@ all_cases c P all = record {
   settles_open = λ app code. all _;
   settles_invoke = λ named code is. all _;
   cancels = λ named is. all _;
-  registers = λ param pages new room. all _;
+  registers = λ param pages new room good. all _;
   unregisters = λ param unpinned. all _;
-  opens_kept = λ wanted app copies kept shown shared free. all _;
-  opens_awaited = λ wanted app copies number shown shared awaited. all _;
-  opens_next = λ wanted app copies shown shared awaited. all _;
-  open_waits = λ wanted app copies kept shown shared held. all _;
-  invokes = λ named copies is alive free. all _;
-  invoke_waits = λ named copies is alive held. all _;
+  opens_kept = λ wanted app copies copied kept shown shared free. all _;
+  opens_awaited = λ wanted app copies copied number shown shared awaited. all _;
+  opens_next = λ wanted app copies copied shown shared awaited. all _;
+  open_waits = λ wanted app copies copied kept shown shared held. all _;
+  invokes = λ named copies copied is alive free. all _;
+  invoke_waits = λ named copies copied is alive held. all _;
   closes = λ named is free. all _;
   close_waits = λ named is held. all _;
 }
@@ -110,14 +115,14 @@ cases_onward c P Q onward cases = record {
   settles_open = λ app code. onward _ (cases.settles_open app code);
   settles_invoke = λ named code is. onward _ (cases.settles_invoke named code is);
   cancels = λ named is. onward _ (cases.cancels named is);
-  registers = λ param pages new room. onward _ (cases.registers param pages new room);
+  registers = λ param pages new room good. onward _ (cases.registers param pages new room good);
   unregisters = λ param unpinned. onward _ (cases.unregisters param unpinned);
-  opens_kept = λ wanted app copies kept shown shared free. onward _ (cases.opens_kept wanted app copies kept shown shared free);
-  opens_awaited = λ wanted app copies number shown shared awaited. onward _ (cases.opens_awaited wanted app copies number shown shared awaited);
-  opens_next = λ wanted app copies shown shared awaited. onward _ (cases.opens_next wanted app copies shown shared awaited);
-  open_waits = λ wanted app copies kept shown shared held. onward _ (cases.open_waits wanted app copies kept shown shared held);
-  invokes = λ named copies is alive free. onward _ (cases.invokes named copies is alive free);
-  invoke_waits = λ named copies is alive held. onward _ (cases.invoke_waits named copies is alive held);
+  opens_kept = λ wanted app copies copied kept shown shared free. onward _ (cases.opens_kept wanted app copies copied kept shown shared free);
+  opens_awaited = λ wanted app copies copied number shown shared awaited. onward _ (cases.opens_awaited wanted app copies copied number shown shared awaited);
+  opens_next = λ wanted app copies copied shown shared awaited. onward _ (cases.opens_next wanted app copies copied shown shared awaited);
+  open_waits = λ wanted app copies copied kept shown shared held. onward _ (cases.open_waits wanted app copies copied kept shown shared held);
+  invokes = λ named copies copied is alive free. onward _ (cases.invokes named copies copied is alive free);
+  invoke_waits = λ named copies copied is alive held. onward _ (cases.invoke_waits named copies copied is alive held);
   closes = λ named is free. onward _ (cases.closes named is free);
   close_waits = λ named is held. onward _ (cases.close_waits named is held);
 }
@@ -134,45 +139,58 @@ module _ (c : NewCall) (P : Taken → Type 0) (cases : NewCases c P) where
   if_test true first second on_true on_false = on_true refl
   if_test false first second on_true on_false = on_false refl
 
-  made : (wanted : Opening) (app : Application) (copies : Copies) (awaited : Option ℕ) → IsOpen c wanted app → shared_by c app ≡ None
+  made : (wanted : Opening) (app : Application) (copies : Copies) → IsCopied c copies → (awaited : Option ℕ) → IsOpen c wanted app → shared_by c app ≡ None
       → awaited_number c.tables app ≡ awaited
       → P (opening_taken c wanted app copies (option_map_or
       (λ number. opens_new (beginner c) (opener wanted app copies) number c.tables.next_instance) awaited
       (opens_new (beginner c) (opener wanted app copies) c.tables.next_instance (c.tables.next_instance + 1))))
-  made wanted app copies None shown none is = cases.opens_next wanted app copies shown none is
-  made wanted app copies (Some number) shown none is = cases.opens_awaited wanted app copies number shown none is
+  made wanted app copies copied None shown none is = cases.opens_next wanted app copies copied shown none is
+  made wanted app copies copied (Some number) shown none is = cases.opens_awaited wanted app copies copied number shown none is
 
-  begun_in : (wanted : Opening) (app : Application) (copies : Copies) (found : Option (ℕ × Instance)) → IsOpen c wanted app
+  begun_in : (wanted : Opening) (app : Application) (copies : Copies) → IsCopied c copies → (found : Option (ℕ × Instance)) → IsOpen c wanted app
       → shared_by c app ≡ found
       → P (option_map_or (λ (kept : ℕ × Instance). if is_held kept.1 then open_waits c wanted app copies kept
       else opening_taken c wanted app copies (option_map_or (opens_kept (beginner c) (opener wanted app copies)) found (opens_made (beginner c) (opener wanted app copies))))
       found
       (opening_taken c wanted app copies (option_map_or (opens_kept (beginner c) (opener wanted app copies)) found (opens_made (beginner c) (opener wanted app copies)))))
-  begun_in wanted app copies None shown is = made wanted app copies (awaited_number c.tables app) shown is refl
-  begun_in wanted app copies (Some kept) shown is =
+  begun_in wanted app copies copied None shown is = made wanted app copies copied (awaited_number c.tables app) shown is refl
+  begun_in wanted app copies copied (Some kept) shown is =
       if_test (is_held kept.1) (open_waits c wanted app copies kept) _
-      (λ held. cases.open_waits wanted app copies kept shown is held)
-      (λ free. cases.opens_kept wanted app copies kept shown is free)
+      (λ held. cases.open_waits wanted app copies copied kept shown is held)
+      (λ free. cases.opens_kept wanted app copies copied kept shown is free)
 
-  opens_or_waits_all : (wanted : Opening) (app : Application) (copies : Copies) → IsOpen c wanted app → P (opens_or_waits c wanted app copies)
-  opens_or_waits_all wanted app copies shown = begun_in wanted app copies (shared_by c app) shown refl
+  opens_or_waits_all : (wanted : Opening) (app : Application) (copies : Copies) → IsCopied c copies → IsOpen c wanted app → P (opens_or_waits c wanted app copies)
+  opens_or_waits_all wanted app copies copied shown = begun_in wanted app copies copied (shared_by c app) shown refl
 
   not_true : (test : Bool) → not test ≡ true → test ≡ false
   not_true true e = absurd cc
   not_true false e = refl
 
+  -- so many parameters as the head counts
+  abbrev AreCounted : List MsgParam → Type 0
+  AreCounted params = length params ≡ c.head.count
+
+  parameters_show : Shows P AreCounted (parameters c)
+  parameters_show =
+      read-shows P AreCounted (take_bytes (c.arg + 32) (32 * c.head.count)) _
+      (λ bytes. known-shows P AreCounted (params_in c.head.count bytes) (settles c bad_parameters) (cases.settles bad_parameters)
+      (λ params is. params_counted c.head.count bytes params is))
+
   open_ends : Ends P (open_session c)
   open_ends =
-      test-then P (parameters c) _ parameters_fails (λ params.
+      shows-then P AreCounted (parameters c) _ parameters_show (λ params counted.
       known-then P (opening params) (settles c bad_parameters) _ (cases.settles bad_parameters) (λ wanted shape.
       known-then P (app_of c.boot wanted.uuid) (settles c item_not_found) _ (cases.settles item_not_found) (λ app is.
       need-then P (not (shares_one c app (λ kept. kept.1.dead))) (settles_open c app target_dead) _ (cases.settles_open app target_dead) (λ alive.
       need-then P (not (is_taken c app)) (settles_open c app busy) _ (cases.settles_open app busy) (λ free.
       need-then P (has_session_room c) (settles_open c app out_of_memory) _ (cases.settles_open app out_of_memory) (λ room.
       need-then P (has_pages c app) (settles_open c app out_of_memory) _ (cases.settles_open app out_of_memory) (λ pages.
-      test-then P (copied_params c wanted.params 2 (settles_open c app bad_parameters)) _
-      (faultless-fails P (copying c.tables.registered.buffers wanted.params 2) (settles_open c app bad_parameters) (cases.settles_open app bad_parameters))
-      (λ copies. opens_or_waits_all wanted app copies (record {
+      shows-then P (IsCopied c) (copied_params c wanted.params 2 (settles_open c app bad_parameters)) _
+      (faultless-shows P (IsCopied c) (copying c.tables.registered.buffers wanted.params 2) (settles_open c app bad_parameters)
+      (cases.settles_open app bad_parameters)
+      (copying_all c.tables.registered.buffers wanted.params 2 c.arg c.head.count
+      (opening_room params wanted c.head.count shape counted)))
+      (λ copies copied. opens_or_waits_all wanted app copies copied (record {
         of_boot = is;
         alive = not_true _ alive;
         free = not_true _ free;
@@ -182,16 +200,19 @@ module _ (c : NewCall) (P : Taken → Type 0) (cases : NewCases c P) where
 
   invoke_ends : Ends P (invoke_command c)
   invoke_ends =
-      test-then P (parameters c) _ parameters_fails (λ params.
+      shows-then P AreCounted (parameters c) _ parameters_show (λ params counted.
       known-then P (invocation params) (settles c bad_parameters) _ (cases.settles bad_parameters) (λ invoked shape.
       known-then P (named_session c) (settles c bad_parameters) _ (cases.settles bad_parameters) (λ named is.
       need-then P (not named.1.dead) (settles_invoke c target_dead) _ (cases.settles_invoke named target_dead is) (λ alive.
-      test-then P (copied_params c invoked 0 (settles_invoke c bad_parameters)) _
-      (faultless-fails P (copying c.tables.registered.buffers invoked 0) (settles_invoke c bad_parameters) (cases.settles_invoke named bad_parameters is))
-      (λ copies.
+      shows-then P (IsCopied c) (copied_params c invoked 0 (settles_invoke c bad_parameters)) _
+      (faultless-shows P (IsCopied c) (copying c.tables.registered.buffers invoked 0) (settles_invoke c bad_parameters)
+      (cases.settles_invoke named bad_parameters is)
+      (copying_all c.tables.registered.buffers invoked 0 c.arg c.head.count
+      (invoked_room params invoked c.head.count shape counted)))
+      (λ copies copied.
       if_test (is_held named.1) (waiting_taken c (kind.Invoke c.head.func) named copies) _
-      (λ held. cases.invoke_waits named copies is (not_true _ alive) held)
-      (λ free. cases.invokes named copies is (not_true _ alive) free))))))
+      (λ held. cases.invoke_waits named copies copied is (not_true _ alive) held)
+      (λ free. cases.invokes named copies copied is (not_true _ alive) free))))))
 
   close_ends : Ends P (close_session c)
   close_ends =
@@ -211,9 +232,9 @@ module _ (c : NewCall) (P : Taken → Type 0) (cases : NewCases c P) where
       need-then P (nat_lt 0 param.q) (settles c bad_parameters) _ (cases.settles bad_parameters) (λ some.
       need-then P (nat_le (pages_touched param) 1024) (settles c bad_parameters) _ (cases.settles bad_parameters) (λ few.
       need-then P (nat_lt (length c.tables.registered.buffers) 64) (settles c out_of_memory) _ (cases.settles out_of_memory) (λ room.
-      test-then P (faultless (listed_pages param) (settles c bad_parameters)) _
-      (faultless-fails P (listed_pages param) (settles c bad_parameters) (cases.settles bad_parameters))
-      (λ pages. cases.registers param pages new room)))))))
+      shows-then P AreGoodPages (faultless (listed_pages param) (settles c bad_parameters)) _
+      (faultless-shows P AreGoodPages (listed_pages param) (settles c bad_parameters) (cases.settles bad_parameters) (walk_pages (param.p - offset_in param) (pages_touched param)))
+      (λ pages good. cases.registers param pages new room good)))))))
 
   unregister_ends : Ends P (unregister_memory c)
   unregister_ends =
@@ -250,14 +271,20 @@ module _ (c : NewCall) (P : Taken → Type 0) (cases : NewCases c P) where
 -- ---- a whole call
 
 call_ends : (boot : Booted) (tables : Tables) (regs : List ℕ) (slot : ℕ) (P : Taken → Type 0)
-    → ((bytes : List ℕ) → NewCases (new_call_of boot tables regs slot bytes) P) → AllOf (TakenIn P) (new_call_in boot tables regs slot)
+    → ((bytes : List ℕ) → has_argument (argument_at regs) (head_at bytes) ≡ true → NewCases (new_call_of boot tables regs slot bytes) P)
+    → AllOf (TakenIn P) (new_call_in boot tables regs slot)
 call_ends boot tables regs slot P cases =
     answer_need P (is_head_address (argument_at regs)) ebadaddr _ (
     answer_read P (take_bytes (argument_at regs) 32) _ (λ bytes.
-    answer_need P (has_argument (argument_at regs) (head_at bytes)) ebadaddr _ (
+    where_it_holds (has_argument (argument_at regs) (head_at bytes)) _ (λ fits.
     answer_known P (command_of (head_at bytes).cmd) ebadcmd _ (λ command is.
     let c = new_call_of boot tables regs slot bytes in
-    taken_ends P (command c) (command_ends c P (cases bytes) (head_at bytes).cmd command is)))))
+    taken_ends P (command c) (command_ends c P (cases bytes fits) (head_at bytes).cmd command is)))))
+  where
+    where_it_holds : (test : Bool) (onward : Unit {0} → Attempt Answer Taken) → (test ≡ true → AllOf (TakenIn P) (onward tt))
+        → AllOf (TakenIn P) (need test ebadaddr >>= onward)
+    where_it_holds true onward rest = rest refl
+    where_it_holds false onward rest = tt
 
 slot_decides : (Q : Decision → Type 0) (slot : ℕ) (attempt : Attempt Answer Taken) → ((answer : Answer) → Q (Answers answer))
     → AllOf (TakenIn (λ taken. Q (Takes slot taken))) attempt → AllOf Q (decided_by (attempt >>= (λ taken. passes (slot, taken))))
@@ -268,9 +295,10 @@ slot_decides Q slot (want_words addr most test next) answers all = λ got. slot_
 
 -- it holds of what a new call decides where it holds of each answer and of each form
 pub new_decides : (Q : Decision → Type 0) (boot : Booted) (tables : Tables) (regs : List ℕ) (free : Option ℕ) → ((answer : Answer) → Q (Answers answer))
-    → ((slot : ℕ) (bytes : List ℕ) → free ≡ Some slot → NewCases (new_call_of boot tables regs slot bytes) (λ taken. Q (Takes slot taken)))
+    → ((slot : ℕ) (bytes : List ℕ) → free ≡ Some slot → has_argument (argument_at regs) (head_at bytes) ≡ true
+    → NewCases (new_call_of boot tables regs slot bytes) (λ taken. Q (Takes slot taken)))
     → AllOf Q (decided_by (new_call_with boot tables regs free))
 new_decides Q boot tables regs None answers cases = answers _
 new_decides Q boot tables regs (Some slot) answers cases =
     slot_decides Q slot (new_call_in boot tables regs slot) answers
-    (call_ends boot tables regs slot (λ taken. Q (Takes slot taken)) (λ bytes. cases slot bytes refl))
+    (call_ends boot tables regs slot (λ taken. Q (Takes slot taken)) (λ bytes fits. cases slot bytes refl fits))

@@ -295,33 +295,33 @@ module _ (before : Calls) (c : NewCall) (sound : Before before c.tables) (free :
     settles_open = λ app code after changes. settled_fits after _ _ changes refl refl refl refl refl;
     settles_invoke = λ named code is after changes. settled_fits after _ _ changes refl refl refl refl refl;
     cancels = λ named is after changes. settled_fits after _ _ changes refl refl refl refl refl;
-    registers = λ param pages new room after changes. settled_fits after _ _ changes refl refl refl refl refl;
+    registers = λ param pages new room good after changes. settled_fits after _ _ changes refl refl refl refl refl;
     unregisters = λ param unpinned after changes. settled_fits after _ _ changes refl refl refl refl refl;
-    opens_kept = λ wanted app copies kept shown shared unheld after changes.
+    opens_kept = λ wanted app copies copied kept shown shared unheld after changes.
         let there = shared_there app kept shared in
         open_begins after _ _ _ _ _ changes refl refl refl (ap (λ (u : List ℕ). Some u) (sym there.1)) refl refl refl refl refl refl
         (λ instance its. ap (λ (i : Instance). i.holder) (some_same instance kept.1 (sym its ∙ there.0)) ∙ held_none kept.1 unheld)
         (shared_uuids app kept shared);
-    opens_awaited = λ wanted app copies number shown shared waits after changes.
+    opens_awaited = λ wanted app copies copied number shown shared waits after changes.
         let waiter = awaited_uuids app number waits in
         open_begins after _ _ _ _ _ changes refl refl refl refl refl refl refl refl refl refl
         (λ instance its. absurd (gone app number waiter.0 waiter.1 waiter.2 waiter.3 waiter.4 waiter.5 ((sound.joined.each waiter.1 waiter.0 waiter.2).instance.settled waiter.6) shared instance its))
         (λ other another is on same. sym waiter.4
         ∙ sound.joined.applications waiter.1 other waiter.0 another waiter.2 is ((sound.joined.each waiter.1 waiter.0 waiter.2).instance.settled waiter.6) on (waiter.3 ∙ same));
-    opens_next = λ wanted app copies shown shared waits after changes.
+    opens_next = λ wanted app copies copied shown shared waits after changes.
         open_begins after _ _ _ _ _ changes refl refl refl refl refl refl refl refl refl refl
         (λ instance its. never_none _ instance (new_instance c.tables.next_instance refl) its)
         (λ other another is on same. absurd (below_apart another.instance c.tables.next_instance (sound.numbers.given other another is).instance same));
-    open_waits = λ wanted app copies kept shown shared held after changes.
+    open_waits = λ wanted app copies copied kept shown shared held after changes.
         let there = shared_there app kept shared in
         open_rests after _ _ _ changes refl refl refl refl refl refl refl refl
         (λ instance its.
         let same = some_same kept.1 instance (sym there.0 ∙ its) in
         ap (λ (u : List ℕ). Some u) (sym there.1) ∙ ap (λ (i : Instance). Some i.uuid) same)
         (shared_uuids app kept shared);
-    invokes = λ named copies is alive unheld after changes.
+    invokes = λ named copies copied is alive unheld after changes.
         named_begins after _ _ _ named _ changes (named_is c named is) unheld refl refl refl refl refl refl refl refl (λ e. invoke_open c.head.func e) refl refl;
-    invoke_waits = λ named copies is alive held after changes.
+    invoke_waits = λ named copies copied is alive held after changes.
         named_waits after _ _ named changes (named_is c named is) refl refl refl refl refl refl (λ e. invoke_open c.head.func e) refl refl;
     closes = λ named is unheld after changes.
         named_begins after _ _ _ named _ changes (named_is c named is) unheld refl refl refl refl refl refl refl refl (λ e. close_open e) refl refl;

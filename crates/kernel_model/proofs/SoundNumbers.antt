@@ -327,16 +327,16 @@ module _ (c : NewCall) (numbers : AreIn c.tables) where
     settles_open = λ app code. nothing_new _ refl refl refl (stay c.tables numbers);
     settles_invoke = λ named code is. in_named _ named is refl refl refl refl;
     cancels = λ named is. in_named _ named is refl refl refl refl;
-    registers = λ param pages new room. nothing_new _ refl refl refl (same_numbers c.tables _ refl refl refl refl refl numbers);
+    registers = λ param pages new room good. nothing_new _ refl refl refl (same_numbers c.tables _ refl refl refl refl refl numbers);
     unregisters = λ param unpinned. nothing_new _ refl refl refl (same_numbers c.tables _ refl refl refl refl refl numbers);
-    opens_kept = λ wanted app copies kept shown shared free.
+    opens_kept = λ wanted app copies copied kept shown shared free.
         let given = shared_all (λ (k : ℕ × Instance). IsGiven c.tables.next_instance k.0) c.tables.instances app kept numbers.instances shared in
         let call = opening_call c.tables.next_instance kept.0 given in
         record {
           on = opened_tables _ kept.0 _ shown.room refl (no_lower c.tables.next_instance) fewer_still refl given (puts_instance c.tables kept.0 _ numbers given) numbers.waiters;
           call = record { session = call.0; instance = call.1; some = λ is. call.2 };
         };
-    opens_awaited = λ wanted app copies number shown shared awaited.
+    opens_awaited = λ wanted app copies copied number shown shared awaited.
         let waiter = option_map_some (λ (w : Waiter). w.instance) _ number (if_some (is_single app) _ number awaited).1 in
         let found = find-all (λ (w : Waiter). IsGiven c.tables.next_instance w.instance) _ c.tables.waiters waiter.0 numbers.waiters waiter.1 in
         let given = subst (IsGiven c.tables.next_instance) waiter.2 found.holds in
@@ -345,7 +345,7 @@ module _ (c : NewCall) (numbers : AreIn c.tables) where
           on = opened_tables _ number _ shown.room refl (no_lower c.tables.next_instance) fewer_still refl given (puts_instance c.tables number _ numbers given) numbers.waiters;
           call = record { session = call.0; instance = call.1; some = λ is. call.2 };
         };
-    opens_next = λ wanted app copies shown shared awaited.
+    opens_next = λ wanted app copies copied shown shared awaited.
         let next = c.tables.next_instance in
         let given : IsGiven (next + 1) next = (some_instance, its_own next) in
         let call = opening_call (next + 1) next given in
@@ -358,7 +358,7 @@ module _ (c : NewCall) (numbers : AreIn c.tables) where
               (λ waiter was. given_later next (next + 1) waiter.instance (one_more next) was) c.tables.waiters numbers.waiters);
           call = record { session = call.0; instance = call.1; some = λ is. call.2 };
         };
-    open_waits = λ wanted app copies kept shown shared held.
+    open_waits = λ wanted app copies copied kept shown shared held.
         let given = shared_all (λ (k : ℕ × Instance). IsGiven c.tables.next_instance k.0) c.tables.instances app kept numbers.instances shared in
         let call = opening_call c.tables.next_instance kept.0 given in
         record {
@@ -366,8 +366,8 @@ module _ (c : NewCall) (numbers : AreIn c.tables) where
               (All-push (λ (waiter : Waiter). IsGiven c.tables.next_instance waiter.instance) c.tables.waiters _ numbers.waiters given);
           call = record { session = call.0; instance = call.1; some = λ is. call.2 };
         };
-    invokes = λ named copies is alive free. begins_in_session named _ _ _ is refl refl;
-    invoke_waits = λ named copies is alive held. waits_in_session named _ _ _ is refl refl refl;
+    invokes = λ named copies copied is alive free. begins_in_session named _ _ _ is refl refl;
+    invoke_waits = λ named copies copied is alive held. waits_in_session named _ _ _ is refl refl refl;
     closes = λ named is free. begins_in_session named _ _ _ is refl refl;
     close_waits = λ named is held. waits_in_session named _ _ _ is refl refl refl;
   }
@@ -566,11 +566,11 @@ number_cases : (boot : Booted) (kernel : Kernel) (cpu : ℕ) → AreNumbered (ca
     → EventCases boot kernel cpu (AfterNumbers kernel.tables)
 number_cases boot kernel cpu sound = record {
   answered = λ visit answer inside. record { numbers = sound; rise = rises kernel.tables kernel.tables (stay kernel.tables whole) };
-  comes = λ visit slot bytes inside free.
+  comes = λ visit slot bytes inside free fits.
       let c = new_call_of boot kernel.tables visit.regs slot bytes in
       cases_onward c (NewNumbers c) (λ taken. AfterNumbers kernel.tables (after_decision kernel visit (Takes slot taken)))
       (λ taken new. taken_after visit slot taken Free (free_there kernel.slots slot free) new.on new.call) (new_numbers c whole);
-  resumes = λ visit call given inside there.
+  resumes = λ visit call given inside there offered.
       let slot = thread_in visit.regs in
       let r = resumed_call boot kernel.tables slot call given in
       let before = sound.given slot (unmarked call) (ap (λ (o : Option ThreadSlot). option_and_then call_in o) there) in

@@ -116,33 +116,33 @@ new_order c order = record {
   settles_open = λ app code. order;
   settles_invoke = λ named code is. order;
   cancels = λ named is. order;
-  registers = λ param pages new room.
+  registers = λ param pages new room good.
       record { sessions = order.sessions; instances = order.instances; buffers = table_insert c.tables.registered.buffers _ _ order.buffers room };
   unregisters = λ param unpinned.
       record { sessions = order.sessions; instances = order.instances; buffers = table_remove c.tables.registered.buffers _ order.buffers };
-  opens_kept = λ wanted app copies kept shown shared free. record {
+  opens_kept = λ wanted app copies copied kept shown shared free. record {
     sessions = table_insert c.tables.sessions c.tables.next_session _ order.sessions (first_room c shown.room);
     instances = IsRising-insert c.tables.instances kept.0 _ order.instances;
     buffers = order.buffers;
   };
-  opens_awaited = λ wanted app copies number shown shared awaited. record {
+  opens_awaited = λ wanted app copies copied number shown shared awaited. record {
     sessions = table_insert c.tables.sessions c.tables.next_session _ order.sessions (first_room c shown.room);
     instances = IsRising-insert c.tables.instances number _ order.instances;
     buffers = order.buffers;
   };
-  opens_next = λ wanted app copies shown shared awaited. record {
+  opens_next = λ wanted app copies copied shown shared awaited. record {
     sessions = table_insert c.tables.sessions c.tables.next_session _ order.sessions (first_room c shown.room);
     instances = IsRising-insert c.tables.instances c.tables.next_instance _ order.instances;
     buffers = order.buffers;
   };
-  open_waits = λ wanted app copies kept shown shared held. record {
+  open_waits = λ wanted app copies copied kept shown shared held. record {
     sessions = table_insert c.tables.sessions c.tables.next_session _ order.sessions (first_room c shown.room);
     instances = order.instances;
     buffers = order.buffers;
   };
-  invokes = λ named copies is alive free.
+  invokes = λ named copies copied is alive free.
       record { sessions = order.sessions; instances = IsRising-insert c.tables.instances named.0.instance _ order.instances; buffers = order.buffers };
-  invoke_waits = λ named copies is alive held. record { sessions = order.sessions; instances = order.instances; buffers = order.buffers };
+  invoke_waits = λ named copies copied is alive held. record { sessions = order.sessions; instances = order.instances; buffers = order.buffers };
   closes = λ named is free.
       record { sessions = order.sessions; instances = IsRising-insert c.tables.instances named.0.instance _ order.instances; buffers = order.buffers };
   close_waits = λ named is held. record { sessions = order.sessions; instances = order.instances; buffers = order.buffers };
@@ -195,10 +195,10 @@ exit_order tables call granted progress order e = exits_all tables call granted 
 order_cases : (boot : Booted) (kernel : Kernel) (cpu : ℕ) → AreInOrder kernel.tables → EventCases boot kernel cpu (λ next. AreInOrder next.tables)
 order_cases boot kernel cpu order = record {
   answered = λ visit answer inside. order;
-  comes = λ visit slot bytes inside free.
+  comes = λ visit slot bytes inside free fits.
       let c = new_call_of boot kernel.tables visit.regs slot bytes in
       cases_onward c (λ taken. AreInOrder taken.tables) _ (λ taken sound. sound) (new_order c order);
-  resumes = λ visit call given inside there. resumed_order (resumed_call boot kernel.tables (thread_in visit.regs) call given) order;
+  resumes = λ visit call given inside there offered. resumed_order (resumed_call boot kernel.tables (thread_in visit.regs) call given) order;
   told = λ visit answer its fixed. order;
   goes = λ visit slot worker call progress its inside there e.
       let after = exit_order kernel.tables call visit.steps progress order e in

@@ -148,18 +148,18 @@ new_runs c booted = record {
   settles_open = λ app code. tt;
   settles_invoke = λ named code is. tt;
   cancels = λ named is. tt;
-  registers = λ param pages new room. tt;
+  registers = λ param pages new room good. tt;
   unregisters = λ param unpinned. tt;
-  opens_kept = λ wanted app copies kept shown shared free.
+  opens_kept = λ wanted app copies copied kept shown shared free.
       kept_runs (beginner c) (opener wanted app copies) kept (app_valid c.boot wanted.uuid app booted shown.of_boot);
-  opens_awaited = λ wanted app copies number shown shared awaited.
+  opens_awaited = λ wanted app copies copied number shown shared awaited.
       made_runs (beginner c) (opener wanted app copies) number c.tables.next_instance (app_valid c.boot wanted.uuid app booted shown.of_boot);
-  opens_next = λ wanted app copies shown shared awaited.
+  opens_next = λ wanted app copies copied shown shared awaited.
       made_runs (beginner c) (opener wanted app copies) c.tables.next_instance (c.tables.next_instance + 1)
       (app_valid c.boot wanted.uuid app booted shown.of_boot);
-  open_waits = λ wanted app copies kept shown shared held. tt;
-  invokes = λ named copies is alive free. session_runs (beginner c) named.0 named.1 copies.params (Invoke c.head.func ∷ []) booted;
-  invoke_waits = λ named copies is alive held. tt;
+  open_waits = λ wanted app copies copied kept shown shared held. tt;
+  invokes = λ named copies copied is alive free. session_runs (beginner c) named.0 named.1 copies.params (Invoke c.head.func ∷ []) booted;
+  invoke_waits = λ named copies copied is alive held. tt;
   closes = λ named is free.
       session_runs (beginner c) named.0 named.1 no_copies.params (closing_points (beginner c) c.head.session named.0 named.1) booted;
   close_waits = λ named is held. tt;
@@ -229,12 +229,12 @@ run_cases : (boot : Booted) (kernel : Kernel) (cpu : ℕ) → IsBooted boot → 
     → EventCases boot kernel cpu (λ next. AllRun (call_at next.slots))
 run_cases boot kernel cpu booted sound = record {
   answered = λ visit answer inside. sound;
-  comes = λ visit slot bytes inside free.
+  comes = λ visit slot bytes inside free fits.
       let c = new_call_of boot kernel.tables visit.regs slot bytes in
       cases_onward c (λ taken. RunsIn taken.call.phase) (λ taken. AllRun (call_at (after_decision kernel visit (Takes slot taken)).slots))
       (λ taken runs. runs_change (call_at kernel.slots) _ slot (Some (unmarked taken.call))
       (takes_slot kernel.slots taken.cancels slot visit.cpu Free taken.call (free_there kernel.slots slot free)) sound runs) (new_runs c booted);
-  resumes = λ visit call given inside there.
+  resumes = λ visit call given inside there offered.
       let slot = thread_in visit.regs in
       let r = resumed_call boot kernel.tables slot call given in
       let taken = resumed_taken boot kernel visit call given in

@@ -44,8 +44,8 @@ length-replicated (suc count) x = ap suc (length-replicated count x)
 many_cases : (boot : Booted) (kernel : Kernel) (cpu : ℕ) → AreAsMany boot kernel → EventCases boot kernel cpu (AreAsMany boot)
 many_cases boot kernel cpu sound = record {
   answered = λ visit answer inside. record { slots = sound.slots; processors = length-set kernel.processors visit.cpu _ ∙ sound.processors };
-  comes = λ visit slot bytes inside free. all_cases _ _ (λ taken. taken_many visit slot taken);
-  resumes = λ visit call given inside there. taken_many visit (thread_in visit.regs) (resumed_taken boot kernel visit call given);
+  comes = λ visit slot bytes inside free fits. all_cases _ _ (λ taken. taken_many visit slot taken);
+  resumes = λ visit call given inside there offered. taken_many visit (thread_in visit.regs) (resumed_taken boot kernel visit call given);
   told = λ visit answer its fixed. record { slots = sound.slots; processors = length-set kernel.processors visit.cpu _ ∙ sound.processors };
   goes = λ visit slot worker call progress its inside there e.
       record { slots = length-set kernel.slots slot _ ∙ sound.slots; processors = length-set kernel.processors visit.cpu _ ∙ sound.processors };
@@ -137,14 +137,14 @@ new_steps c = record {
   settles_open = λ app code. refl;
   settles_invoke = λ named code is. refl;
   cancels = λ named is. refl;
-  registers = λ param pages new room. refl;
+  registers = λ param pages new room good. refl;
   unregisters = λ param unpinned. refl;
-  opens_kept = λ wanted app copies kept shown shared free. refl;
-  opens_awaited = λ wanted app copies number shown shared awaited. refl;
-  opens_next = λ wanted app copies shown shared awaited. refl;
-  open_waits = λ wanted app copies kept shown shared held. refl;
-  invokes = λ named copies is alive free. refl;
-  invoke_waits = λ named copies is alive held. refl;
+  opens_kept = λ wanted app copies copied kept shown shared free. refl;
+  opens_awaited = λ wanted app copies copied number shown shared awaited. refl;
+  opens_next = λ wanted app copies copied shown shared awaited. refl;
+  open_waits = λ wanted app copies copied kept shown shared held. refl;
+  invokes = λ named copies copied is alive free. refl;
+  invoke_waits = λ named copies copied is alive held. refl;
   closes = λ named is free. refl;
   close_waits = λ named is held. refl;
 }
@@ -203,9 +203,9 @@ gone_steps events granted before after le few has = omega arith
 steps_cases : (boot : Booted) (events : ℕ) (kernel : Kernel) (cpu : ℕ) → AreGranted events kernel → EventCases boot kernel cpu (AreGranted (events + 1))
 steps_cases boot events kernel cpu sound = record {
   answered = λ visit answer inside. moved_steps events kernel visit.cpu _ (λ regs steps slot e. cc) sound;
-  comes = λ visit slot bytes inside free.
+  comes = λ visit slot bytes inside free fits.
       cases_onward _ _ _ (λ taken none. taken_steps events kernel cpu visit slot taken sound inside (no_steps taken.call.steps events none)) (new_steps _);
-  resumes = λ visit call given inside there.
+  resumes = λ visit call given inside there offered.
       let r = resumed_call boot kernel.tables (thread_in visit.regs) call given in
       let before : call.steps ≤ 1000000 * events = sound.calls (thread_in visit.regs) (Suspended (client_in visit.regs) call) there in
       let same = resumed_steps r ∙ given_steps given (sees call) ∙ seen_steps call in

@@ -172,15 +172,15 @@ new_waiters before c sound free = record {
   settles_open = λ app code after changes. same after _ changes refl;
   settles_invoke = λ named code is after changes. same after _ changes refl;
   cancels = λ named is after changes. same after _ changes refl;
-  registers = λ param pages new room after changes. same after _ changes refl;
+  registers = λ param pages new room good after changes. same after _ changes refl;
   unregisters = λ param unpinned after changes. same after _ changes refl;
-  opens_kept = λ wanted app copies kept shown shared free after changes. same after _ changes refl;
-  opens_awaited = λ wanted app copies number shown shared awaited after changes. same after _ changes refl;
-  opens_next = λ wanted app copies shown shared awaited after changes. same after _ changes refl;
-  open_waits = λ wanted app copies kept shown shared held after changes.
+  opens_kept = λ wanted app copies copied kept shown shared free after changes. same after _ changes refl;
+  opens_awaited = λ wanted app copies copied number shown shared awaited after changes. same after _ changes refl;
+  opens_next = λ wanted app copies copied shown shared awaited after changes. same after _ changes refl;
+  open_waits = λ wanted app copies copied kept shown shared held after changes.
       waits_now before after c.tables.waiters c.slot _ changes sound _ refl none refl;
-  invokes = λ named copies is alive free after changes. same after _ changes refl;
-  invoke_waits = λ named copies is alive held after changes. waits_now before after c.tables.waiters c.slot _ changes sound _ refl none refl;
+  invokes = λ named copies copied is alive free after changes. same after _ changes refl;
+  invoke_waits = λ named copies copied is alive held after changes. waits_now before after c.tables.waiters c.slot _ changes sound _ refl none refl;
   closes = λ named is free after changes. same after _ changes refl;
   close_waits = λ named is held after changes. waits_now before after c.tables.waiters c.slot _ changes sound _ refl none refl;
 }
@@ -268,13 +268,13 @@ AfterWaiters next = AreWaiters (call_at next.slots) next.tables.waiters
 waiter_cases : (boot : Booted) (kernel : Kernel) (cpu : ℕ) → AfterWaiters kernel → EventCases boot kernel cpu AfterWaiters
 waiter_cases boot kernel cpu sound = record {
   answered = λ visit answer inside. sound;
-  comes = λ visit slot bytes inside free.
+  comes = λ visit slot bytes inside free fits.
       let c = new_call_of boot kernel.tables visit.regs slot bytes in
       let there = free_there kernel.slots slot free in
       cases_onward c (NewWaiters (call_at kernel.slots) c) (λ taken. AfterWaiters (after_decision kernel visit (Takes slot taken)))
       (λ taken new. new _ (takes_slot kernel.slots taken.cancels slot visit.cpu Free taken.call there))
       (new_waiters (call_at kernel.slots) c sound (ap (λ (o : Option ThreadSlot). option_and_then call_in o) there));
-  resumes = λ visit call given inside there.
+  resumes = λ visit call given inside there offered.
       let slot = thread_in visit.regs in
       let r = resumed_call boot kernel.tables slot call given in
       let taken = resumed_taken boot kernel visit call given in

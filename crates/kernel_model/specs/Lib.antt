@@ -22,6 +22,9 @@ pub mod SoundWaiters
 pub mod SoundJobs
 pub mod SoundCalls
 pub mod SoundMemory
+pub mod SoundPlaces
+pub mod SoundRequests
+pub mod SoundPins
 pub mod Worked
 pub mod AnswerExamples
 pub mod ResultExamples

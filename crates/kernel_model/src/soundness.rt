@@ -6,6 +6,9 @@ ghost use Rattle.kernel_model.specs.SoundWaiters.{AreWaiters};
 ghost use Rattle.kernel_model.specs.SoundJobs.{ExitsCome};
 ghost use Rattle.kernel_model.specs.SoundCalls.{AreJoined};
 ghost use Rattle.kernel_model.specs.SoundMemory.{AreInMemory};
+ghost use Rattle.kernel_model.specs.SoundPlaces.{HaveTheirPlaces};
+ghost use Rattle.kernel_model.specs.SoundRequests.{HaveFittingRequests};
+ghost use Rattle.kernel_model.specs.SoundPins.{ArePinned};
 ghost use Rattle.session_table.specs.Waiters.{IsLine};
 
 /// A processor that is inside for a slot works on its call, and the processor that works on a call is inside for its
@@ -67,4 +70,19 @@ pub fn waiters_are_a_line()
 /// A call that works has its instance's memory, an instance that nobody holds has it itself, and the frames suffice.
 pub fn memory_is_kept()
     ensures { Always (λ boot kernel. AreInMemory boot (call_at kernel.slots) kernel.tables) }
+{}
+
+/// Where a call writes lies in RAM: its argument, the places of its parameters, and its buffer.
+pub fn calls_have_their_places()
+    ensures { Always (λ boot kernel. HaveTheirPlaces (call_at kernel.slots)) }
+{}
+
+/// What a call asks for fits a message, with its payload.
+pub fn requests_fit()
+    ensures { Always (λ boot kernel. HaveFittingRequests (call_at kernel.slots)) }
+{}
+
+/// Only slots with calls pin registered buffers.
+pub fn pins_are_of_calls()
+    ensures { Always (λ boot kernel. ArePinned (call_at kernel.slots) kernel.tables) }
 {}

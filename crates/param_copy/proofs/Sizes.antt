@@ -90,7 +90,7 @@ one-size : (addr size : ℕ) → bytes_in (one_piece addr size) ≡ size
 one-size addr zero = refl
 one-size addr (suc more) = omega arith
 
-one-in_ram : (addr size : ℕ) → is_in_ram addr size ≡ true → AllByRecursion IsPieceOfRam (one_piece addr size)
+pub one-in_ram : (addr size : ℕ) → is_in_ram addr size ≡ true → AllByRecursion IsPieceOfRam (one_piece addr size)
 one-in_ram addr zero e = tt
 one-in_ram addr (suc more) e = ((grind (arith, nat_tests), grind (arith, nat_tests)), tt)
 
