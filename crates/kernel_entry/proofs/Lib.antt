@@ -1,0 +1,8 @@
+pub mod Carries
+pub mod Coming
+pub mod InSession
+pub mod Legal
+pub mod Opens
+pub mod Replaying
+pub mod Sharing
+pub mod Standing

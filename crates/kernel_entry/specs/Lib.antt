@@ -1,0 +1,4 @@
+pub mod Applying
+pub mod Legal
+pub mod Replaying
+pub mod Visiting

@@ -1,0 +1,16 @@
+//! What a processor brings into the core.
+#![tactic(auto)]
+
+mod buffers;
+mod carrying;
+mod fixed;
+mod in_session;
+mod opening;
+mod pinning;
+mod settling;
+mod taking;
+mod visitor;
+mod waiting;
+
+pub use fixed::enters_fixed;
+pub use visitor::Visitor;
