@@ -14,6 +14,7 @@ use Rattle.kernel_model.specs.Instances.{app_of, is_held}
 use Rattle.kernel_model.specs.Kernel as model
 use Rattle.kernel_model.specs.Kernel.{Instance}
 use Rattle.kernel_model.specs.NewCall.{About, NewCall, about_session, beginner, call_about, runs_in, takes, waits_in, with_pins, works_or_waits}
+use Rattle.new_calls.specs.Applying.{AreRegistered}
 use Rattle.new_calls.specs.Deciding.{call_with}
 use Rattle.new_calls.specs.declared.entered.Entered.{Entered}
 use Rattle.param_copy.specs.Copying.{Copies}
@@ -28,7 +29,7 @@ use Rattle.kernel_state.specs.Tables.{tables_of}
 use Rattle.kernel_state.specs.declared.tables.Tables.{Tables}
 use Rattle.kernel_entry.proofs.Coming.{call_come, session_leaves}
 use Rattle.kernel_entry.proofs.Opens.{boot_of_one, known_alone, still_kept}
-use Rattle.kernel_entry.specs.Applying.{Came, CanComeIn, HasCome, IsTaken, KeepsBuffers, MayWork, began, queued, session_comes}
+use Rattle.kernel_entry.specs.Applying.{Came, CanComeIn, HasCome, IsTaken, MayWork, began, queued, session_comes}
 
 -- the slot is taken for a call that has come to this
 abbrev pub session_takes : NewCall → About → List ℕ → Came → Taken
@@ -108,7 +109,7 @@ came_waiting tables after old new app who session instance params points held th
 kept_of : (found : Option Instance) (tables after : Tables) (session : Session) (app : Application) (slot : ℕ) (old new : Cont (List ℕ)) (points : List EntryPoint) (cookies : List ℕ) →
     ((instance : Instance) → found ≡ Some instance → app_of (boot_of_one app) instance.uuid ≡ Some app →
     HasCome after old new instance.uuid (session_comes (who_begins (boot_of_one app) tables slot old) session instance (kept_params old.params) points)) →
-    IsSomeAnd found (CanComeIn app) → KeepsBuffers tables cookies → AllByRecursion (λ cookie. IsSome (get after.registry.buffers cookie)) cookies
+    IsSomeAnd found (CanComeIn app) → AreRegistered (tables_of tables) cookies → AllByRecursion (λ cookie. IsSome (get after.registry.buffers cookie)) cookies
 kept_of None tables after session app slot old new points cookies come may kept = absurd may
 kept_of (Some instance) tables after session app slot old new points cookies come may kept =
     let who = who_begins (boot_of_one app) tables slot old in
@@ -118,6 +119,6 @@ kept_of (Some instance) tables after session app slot old new points cookies com
 pub session_kept : (tables after : Tables) (session : Session) (app : Application) (slot : ℕ) (old new : Cont (List ℕ)) (points : List EntryPoint) (cookies : List ℕ) →
     ((boot : Booted) (instance : Instance) → get (tables_of tables).instances session.instance ≡ Some instance → app_of boot instance.uuid ≡ Some app →
     HasCome after old new instance.uuid (session_comes (who_begins boot tables slot old) session instance (kept_params old.params) points)) →
-    MayWork tables app session → KeepsBuffers tables cookies → AllByRecursion (λ cookie. IsSome (get after.registry.buffers cookie)) cookies
+    MayWork tables app session → AreRegistered (tables_of tables) cookies → AllByRecursion (λ cookie. IsSome (get after.registry.buffers cookie)) cookies
 session_kept tables after session app slot old new points cookies come may kept =
     kept_of (get (tables_of tables).instances session.instance) tables after session app slot old new points cookies (come (boot_of_one app)) may kept

@@ -1,3 +1,4 @@
+pub mod Applied
 pub mod Carries
 pub mod Coming
 pub mod InSession

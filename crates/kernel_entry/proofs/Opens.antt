@@ -15,6 +15,7 @@ use Rattle.kernel_model.specs.Instances.{app_of, is_held, shared_instance}
 use Rattle.kernel_model.specs.Kernel as model
 use Rattle.kernel_model.specs.Kernel.{Instance}
 use Rattle.kernel_model.specs.NewCall.{About, NewCall, about_open, beginner, call_about, open_waits, opener, opens_or_waits, runs_in, shared_by, takes, with_pins, with_session}
+use Rattle.new_calls.specs.Applying.{AreRegistered}
 use Rattle.new_calls.specs.Deciding.{asked_by, call_with}
 use Rattle.new_calls.specs.declared.entered.Entered.{Entered}
 use Rattle.param_copy.specs.Copying.{Copies}
@@ -36,7 +37,7 @@ use Rattle.kernel_state.specs.Tables.{tables_of}
 use Rattle.kernel_state.specs.declared.setup.Application.{Application as CodeApp}
 use Rattle.kernel_state.specs.declared.tables.Tables.{Tables}
 use Rattle.kernel_entry.proofs.Coming.{LeavesThose, call_come, call_numbered, open_leaves, with_number}
-use Rattle.kernel_entry.specs.Applying.{Came, HasCome, IsTaken, KeepsBuffers, began, open_comes, queued}
+use Rattle.kernel_entry.specs.Applying.{Came, HasCome, IsTaken, began, open_comes, queued}
 
 -- ---- what the slot is taken for
 
@@ -147,7 +148,7 @@ still_room before after came is leaves room =
     ap₂ (λ (kept : NumberMap Session) (next : ℕ). has_room (record { kept = kept; next = next })) kept next ∙ room
 
 pub still_kept : (before after : Tables) (came : Came) (cookies : List ℕ) → tables_of after ≡ came.tables → LeavesThose (tables_of before) came →
-    KeepsBuffers before cookies → AllByRecursion (λ cookie. IsSome (get after.registry.buffers cookie)) cookies
+    AreRegistered (tables_of before) cookies → AllByRecursion (λ cookie. IsSome (get after.registry.buffers cookie)) cookies
 still_kept before after came cookies is leaves kept =
     let same : after.registry ≡ before.registry = ap (λ (tables : model.Tables). tables.registered) is ∙ leaves.registered in
     subst (λ (registry : Registered). AllByRecursion (λ cookie. IsSome (get registry.buffers cookie)) cookies) (sym same) kept

@@ -1,10 +1,9 @@
 -- What becomes of a slot's call and of the tables as the plan of a new call is applied.
-use Rattle.std.specs.Prelude.{◌≡◌, ℕ, ◌<◌, ◌≤◌, false, true, if◌then◌else◌, List, [], ◌∷◌, ◌++◌, length, Option, Some, None, IsSome}
-use Rattle.std.specs.List.{AllByRecursion}
+use Rattle.std.specs.Prelude.{◌≡◌, ℕ, ◌<◌, ◌≤◌, false, true, if◌then◌else◌, List, [], ◌∷◌, ◌++◌, length, Option, Some, None}
 use Rattle.std.specs.Option.{IsSomeAnd}
 use Rattle.base.specs.NumberMap.{IsRising, get}
 use Rattle.job_model.specs.declared.entry_point.EntryPoint.{EntryPoint}
-use Rattle.kernel_model.specs.Application.{Application, pages_in, uuid_of}
+use Rattle.kernel_model.specs.Application.{Application, Booted, pages_in, uuid_of}
 use Rattle.kernel_model.specs.Begin.{Beginner, Begun, Opener, begins_on, opens_kept, opens_made}
 use Rattle.kernel_model.specs.Decision.{Taken}
 use Rattle.kernel_model.specs.Instances.{is_held, shared_instance}
@@ -18,9 +17,14 @@ use Rattle.session_table.specs.declared.session.Session.{Session}
 use Rattle.ta_params.specs.declared.copied_params.CopiedParams.{CopiedParams}
 use Rattle.begin_call.specs.Begins.{CanBegin, IsReady, IsReadyFor, IsValidApp, begun_from, new_number}
 use Rattle.kernel_state.specs.Calls.{IsAppOf, IsCall, IsInPhase}
+use Rattle.kernel_state.specs.Setup.{application_of}
 use Rattle.kernel_state.specs.Tables.{tables_of}
 use Rattle.kernel_state.specs.declared.tables.Tables.{Tables}
+use Rattle.new_calls.specs.Applying.{CanApply}
+use Rattle.new_calls.specs.Deciding.{call_with}
 use Rattle.new_calls.specs.declared.entered.Entered.{Entered}
+use Rattle.new_calls.specs.declared.plan.Plan.{Plan}
+use Rattle.new_calls.specs.declared.plan.Plan.TheVariants as plan
 
 -- ---- a call that comes to an instance
 
@@ -108,9 +112,32 @@ pub record KeepsSession (tables : Tables) (number : ℕ) (session : Session) : T
   pub rising : IsRising (tables_of tables).sessions
   pub kept : get (tables_of tables).sessions number ≡ Some session
 
--- the buffers of these cookies are kept
-abbrev pub KeepsBuffers : Tables → List ℕ → Type 0
-KeepsBuffers tables cookies = AllByRecursion (λ cookie. IsSome (get tables.registry.buffers cookie)) cookies
+-- ---- a plan
+
+pub record FitsOpen (tables : Tables) (slot : ℕ) (app : Application) : Type 0 where
+  pub comes : MayCome tables slot app
+  pub opens : MayOpen tables app
+
+pub record FitsSession (tables : Tables) (slot : ℕ) (app : Application) (session : Session) : Type 0 where
+  pub comes : MayCome tables slot app
+  pub works : MayWork tables app session
+  pub rising : IsRising (tables_of tables).sessions
+
+-- the tables are such that the plan can be applied in this slot
+abbrev pub FitsPlan : Tables → ℕ → Plan → Type 0
+FitsPlan tables slot (plan.Settles settled) = Unit {0}
+FitsPlan tables slot (plan.Opens app login copies) = FitsOpen tables slot (application_of app)
+FitsPlan tables slot (plan.Invokes session app copies) = FitsSession tables slot (application_of app) session
+FitsPlan tables slot (plan.Closes session app) = FitsSession tables slot (application_of app) session
+FitsPlan tables slot plan.Cancels = Unit {0}
+FitsPlan tables slot (plan.KeepsBuffer cookie buffer) = Unit {0}
+FitsPlan tables slot (plan.DropsBuffer cookie) = Unit {0}
+
+-- the tests have come to the plan, for some boot, and the tables are such
+pub record CanTake (tables : Tables) (entered : Entered) (plan : Plan) : Type 0 where
+  pub boot : Booted
+  pub applies : CanApply (call_with boot (tables_of tables) entered) plan
+  pub fits : FitsPlan tables entered.slot plan
 
 -- ---- the slot
 

@@ -11,10 +11,11 @@ ghost use Rattle.kernel_model.specs.NewCall.{closes, invokes};
 ghost use Rattle.kernel_state.specs.Setup.{application_of};
 ghost use Rattle.kernel_state.specs.Tables.{HasFreePages, tables_of};
 ghost use Rattle.kernel_state.specs.declared.setup.Setup.{Setup as AnySetup};
+ghost use Rattle.new_calls.specs.Applying.{AreRegistered};
 ghost use Rattle.new_calls.specs.Deciding.{call_with};
 ghost use Rattle.param_copy.specs.Outcome.{copies_in};
 ghost use Rattle.rpc_cont.specs.Conts.{kept_params};
-ghost use Rattle.kernel_entry.specs.Applying.{HasCome, IsNew, IsTaken, KeepsBuffers, KeepsSession, MayCome, MayWork, session_comes};
+ghost use Rattle.kernel_entry.specs.Applying.{HasCome, IsNew, IsTaken, KeepsSession, MayCome, MayWork, session_comes};
 
 use crate::pinning::pins;
 use crate::waiting::joins;
@@ -68,7 +69,7 @@ pub(crate) fn invokes(
 ) -> Cont<Pages>
     requires comes { MayCome tables.old entered.now.slot (application_of app) }
     requires works { MayWork tables.old (application_of app) session }
-    requires buffers { KeepsBuffers tables.old copies.cookies.items }
+    requires buffers { AreRegistered (tables_of tables.old) copies.cookies.items }
     ensures taken { (boot : Booted) (instance : AnyInstance) → get (tables_of tables.old).instances session.instance ≡ Some instance
         → app_of boot instance.uuid ≡ Some (application_of app)
         → IsTaken entered.now tables.new result (invokes (call_with boot (tables_of tables.old) entered.now) (session, instance) (copies_in copies)) }

@@ -8,11 +8,12 @@ ghost use Rattle.kernel_model.specs.NewCall.{opens_or_waits};
 ghost use Rattle.kernel_state.specs.Setup.{application_of, booted_with};
 ghost use Rattle.kernel_state.specs.Tables.{HasFreePages, tables_of};
 ghost use Rattle.kernel_state.specs.declared.setup.Setup.{Setup as AnySetup};
+ghost use Rattle.new_calls.specs.Applying.{AreRegistered};
 ghost use Rattle.new_calls.specs.Deciding.{asked_by, call_with};
 ghost use Rattle.param_copy.specs.Outcome.{copies_in};
 ghost use Rattle.session_table.specs.Session.{reserved_for};
 ghost use Rattle.session_table.specs.Sessions.{has_room};
-ghost use Rattle.kernel_entry.specs.Applying.{HasCome, IsNew, IsTaken, KeepsBuffers, MayCome, MayOpen, open_comes};
+ghost use Rattle.kernel_entry.specs.Applying.{HasCome, IsNew, IsTaken, MayCome, MayOpen, open_comes};
 
 use crate::pinning::pins;
 use crate::waiting::joins;
@@ -71,7 +72,7 @@ pub(crate) fn opens(
 ) -> Cont<Pages>
     requires comes { MayCome tables.old entered.now.slot (application_of app) }
     requires opens { MayOpen tables.old (application_of app) }
-    requires buffers { KeepsBuffers tables.old copies.cookies.items }
+    requires buffers { AreRegistered (tables_of tables.old) copies.cookies.items }
     ensures taken { (boot : Booted) → IsTaken entered.now tables.new result
         (opens_or_waits (call_with boot (tables_of tables.old) entered.now) (asked_by (application_of app) login) (application_of app) (copies_in copies)) }
     ensures pages { (setup : AnySetup) → app_of (booted_with setup) (uuid_of (application_of app)) ≡ Some (application_of app)

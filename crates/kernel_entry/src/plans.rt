@@ -1,0 +1,48 @@
+//! The plan of a new call, applied.
+ghost use Rattle.kernel_model.specs.Application.{Booted};
+ghost use Rattle.kernel_state.specs.Setup.{booted_with};
+ghost use Rattle.kernel_state.specs.Tables.{HasFreePages, tables_of};
+ghost use Rattle.kernel_state.specs.declared.setup.Setup.{Setup as AnySetup};
+ghost use Rattle.new_calls.specs.Applying.{CanApply};
+ghost use Rattle.new_calls.specs.Deciding.{call_with, taken_of};
+ghost use Rattle.kernel_entry.specs.Applying.{CanTake, IsTaken};
+
+use crate::buffers::{drops_buffer, keeps_buffer};
+use crate::in_session::{closes, invokes};
+use crate::opening::opens;
+use crate::settling::{settled_call, settles};
+use frame_pool::Pages;
+use kernel_state::Tables;
+use new_calls::{Entered, Plan};
+use rpc_cont::Cont;
+use std::alloc::Global;
+use ta_params::codes::TEE_SUCCESS;
+
+/// Changes the tables as the plan says, and gives the call that its slot is taken for. Takes no memory.
+pub fn apply(alloc: Global, tables: &mut Tables, entered: &Entered, plan: Plan) -> Cont<Pages>
+    requires { CanTake tables.old entered.now plan }
+    ensures taken { (boot : Booted) → CanApply (call_with boot (tables_of tables.old) entered.now) plan
+        → IsTaken entered.now tables.new result (taken_of (call_with boot (tables_of tables.old) entered.now) plan) }
+    ensures pages { (setup : AnySetup) → CanApply (call_with (booted_with setup) (tables_of tables.old) entered.now) plan
+        → HasFreePages setup tables.old → HasFreePages setup tables.new }
+{
+    match plan {
+        Plan::Settles(settled) => settles(alloc, entered, &settled),
+        Plan::Opens { app, login, copies } => opens(tables, entered, app, login, copies),
+        Plan::Invokes {
+            session,
+            app,
+            copies,
+        } => invokes(tables, entered, session, app, copies),
+        Plan::Closes { session, app } => closes(alloc, tables, entered, session, app),
+        Plan::Cancels => settled_call(alloc, entered, entered.head.session, TEE_SUCCESS),
+        Plan::KeepsBuffer { cookie, buffer } => {
+            keeps_buffer(&mut tables.registry, cookie, buffer);
+            settled_call(alloc, entered, 0, TEE_SUCCESS)
+        }
+        Plan::DropsBuffer { cookie } => {
+            drops_buffer(&mut tables.registry, cookie);
+            settled_call(alloc, entered, 0, TEE_SUCCESS)
+        }
+    }
+}
