@@ -8,6 +8,8 @@ mod instances;
 mod progress;
 mod sessions;
 mod tables_after;
+mod telling;
 
 pub use progress::{after_grant, after_rest};
 pub use tables_after::{tables_after_end, tables_after_panic, tables_unrun};
+pub use telling::{answer_of, slot_left, tables_left, tell};

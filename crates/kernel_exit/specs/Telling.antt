@@ -1,0 +1,50 @@
+-- What it takes to tell of a call, and what a slot is left with.
+use Rattle.std.specs.Prelude.{◌≡◌, ℕ, List, Option, slice_set, IsSomeAnd}
+use Rattle.std.specs.Global.{Box}
+use Rattle.std.specs.List.{AllByRecursion}
+use Rattle.call_leaving.specs.declared.leaving.Leaving.{Leaving}
+use Rattle.call_leaving.specs.declared.leaving.Leaving.TheVariants.{Interrupted, WantsBuffer, Requests, FreesBuffer, Finishes}
+use Rattle.call_leaving.specs.declared.leaving.Wanted.{Wanted}
+use Rattle.call_leaving.specs.declared.leaving.Wanted.TheVariants.{Asked}
+use Rattle.kernel_model.specs.Kernel as model
+use Rattle.kernel_state.specs.StandsFor.{IsSlot}
+use Rattle.kernel_state.specs.declared.cancellation.Cancellation.{Cancellation}
+use Rattle.ns_ram.specs.Lane.{IsInRam}
+use Rattle.param_copy.specs.Places.{IsWritable}
+use Rattle.rpc_cont.specs.declared.cont.Asked.{Asked as AskedFor}
+use Rattle.rpc_cont.specs.declared.cont.Cont.{Cont}
+use Rattle.rpc_msgs.specs.Request.{IsPayloadOf, IsRequest}
+use Rattle.rpc_msgs.specs.declared.rpc_buffer.RpcBuffer.{RpcBuffer}
+use Rattle.thread_slots.specs.declared.slot.Slot.{Slot}
+
+-- ---- what it takes
+
+-- a message has room for what its application asked for
+abbrev pub FitsMessage : AskedFor → Type 0
+FitsMessage asked = IsRequest asked.rpc × IsPayloadOf asked.rpc asked.payload
+
+-- what is asked for is there, and its place is one of a message
+pub record CanBeAsked (request : Option AskedFor) (place : RpcBuffer) (wanted : Wanted) : Type 0 where
+  pub in_ram : IsInRam place.addr 4096
+  pub asked : wanted ≡ Asked → IsSomeAnd request FitsMessage
+
+-- where the results of a call go lies in RAM: the head of its argument, and the places of its parameters
+pub record HasRoomForResult (cont : Cont (List ℕ)) : Type 0 where
+  pub argument : IsInRam cont.arg 32
+  pub places : AllByRecursion (IsWritable cont.arg) cont.places.items
+
+-- what the call goes out with can be told
+abbrev pub CanBeTold : Cont (List ℕ) → Leaving → Type 0
+CanBeTold cont Interrupted = Unit {0}
+CanBeTold cont WantsBuffer = Unit {0}
+CanBeTold cont (Requests place wanted) = CanBeAsked cont.request place wanted
+CanBeTold cont (FreesBuffer buffer) = Unit {0}
+CanBeTold cont Finishes = HasRoomForResult cont
+
+-- ---- the slot behind it
+
+-- the slot of this number, beside which this stands, is the kernel's now, and the others are as they were
+pub record HoldsNow (old new : List (Slot (Box (Cont (List ℕ))))) (slot : ℕ) (beside : Cancellation) (held : model.ThreadSlot) : Type 0 where
+  pub now : Slot (Box (Cont (List ℕ)))
+  pub set : new ≡ slice_set old slot now
+  pub is : IsSlot now beside held
