@@ -1,0 +1,12 @@
+mod Begins
+mod Decides
+mod Found
+mod Given
+mod Goes
+mod Keeping
+mod Line
+mod Requests
+mod Resumes
+mod Seen
+mod Slots
+pub mod Taking
