@@ -1,5 +1,5 @@
 -- A plan that was applied: what its slot is taken for.
-use Rattle.std.proofs.Common.{◌≡◌, ℕ, List, Option, Some, refl, sym, subst}
+use Rattle.std.proofs.Common.{◌≡◌, ℕ, List, Option, Some, refl, sym, subst, None}
 use Rattle.std.specs.Option.{option_map_or}
 use Rattle.base.specs.NumberMap.{get}
 use Rattle.kernel_model.proofs.SoundMaps.{named_is}
@@ -23,18 +23,18 @@ use Rattle.kernel_entry.specs.Applying.{IsTaken}
 -- a test that failed leaves the tables as they were
 pub settled_taken : (boot : Booted) (tables : Tables) (entered : Entered) (how : Settled) (cont : Cont (List ℕ)) →
     IsCall cont (settled_of (call_with boot (tables_of tables) entered) how).call →
-    IsTaken entered tables cont (settled_of (call_with boot (tables_of tables) entered) how)
-settled_taken boot tables entered (settled.Call code) cont is = record { tables = refl; call = is; cancel_id = refl; marked = refl }
-settled_taken boot tables entered (settled.Open app code) cont is = record { tables = refl; call = is; cancel_id = refl; marked = refl }
-settled_taken boot tables entered (settled.Invoke code) cont is = record { tables = refl; call = is; cancel_id = refl; marked = refl }
+    IsTaken None entered tables cont (settled_of (call_with boot (tables_of tables) entered) how)
+settled_taken boot tables entered (settled.Call code) cont is = record { tables = refl; call = is; cancel_id = refl; marked = refl; cancels = refl }
+settled_taken boot tables entered (settled.Open app code) cont is = record { tables = refl; call = is; cancel_id = refl; marked = refl; cancels = refl }
+settled_taken boot tables entered (settled.Invoke code) cont is = record { tables = refl; call = is; cancel_id = refl; marked = refl; cancels = refl }
 
 -- what begins in a session, on the instance that is found there
 pub in_session_taken : (c : model.NewCall) (session : Session) (app : Application) (entered : Entered) (after : Tables) (cont : Cont (List ℕ))
     (begins : Session × Instance → Taken) (there : IsInSession c session app) →
-    IsTaken entered after cont (begins (session, there.instance)) → IsTaken entered after cont (taken_in_session c session begins)
+    IsTaken None entered after cont (begins (session, there.instance)) → IsTaken None entered after cont (taken_in_session c session begins)
 in_session_taken c session app entered after cont begins there is =
     let found : get c.tables.instances session.instance ≡ Some there.instance = (named_is c (session, there.instance) there.named).instance in
-    subst (λ (o : Option Instance). IsTaken entered after cont (option_map_or (λ instance. begins (session, instance)) o (model.settles c 0xffff0006))) (sym found) is
+    subst (λ (o : Option Instance). IsTaken None entered after cont (option_map_or (λ instance. begins (session, instance)) o (model.settles c 0xffff0006))) (sym found) is
 
 pub found_there : (c : model.NewCall) (session : Session) (app : Application) (there : IsInSession c session app) →
     get c.tables.instances session.instance ≡ Some there.instance

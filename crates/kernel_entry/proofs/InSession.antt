@@ -61,7 +61,7 @@ pub session_taken : (boot : Booted) (before after : Tables) (entered : Entered) 
     entry.client ≡ entered.client → entry.kind ≡ kind → entry.arg ≡ entered.arg → entry.places.items ≡ copies.places → entry.session ≡ entered.head.session →
     HasCome after old new instance.uuid (session_comes (who_begins boot before entered.slot old) session instance (kept_params old.params) points) →
     registry ≡ record after.registry { pins = fold (λ pins cookie. with_pin pins cookie entered.slot) after.registry.pins copies.cookies } →
-    IsTaken entered (record after { registry = registry }) new
+    IsTaken None entered (record after { registry = registry }) new
     (works_or_waits (call_with boot (tables_of before) entered) kind session instance copies points)
 session_taken boot before after entered entry old new kind session instance copies points registry is_entered params client kind_is arg places named come pinned =
     let c = call_with boot (tables_of before) entered in
@@ -74,7 +74,7 @@ session_taken boot before after entered entry old new kind session instance copi
     let about = about_session c kind session instance copies in
     let pins : tables_of (record after { registry = registry }) ≡ with_pins c (tables_of after) copies.cookies =
     ap (λ (registry : Registered). tables_of (record after { registry = registry })) pinned in
-    subst (IsTaken entered (record after { registry = registry }) new) (sym (works_so c kind session instance copies points))
+    subst (IsTaken None entered (record after { registry = registry }) new) (sym (works_so c kind session instance copies points))
     (record {
       tables = pins ∙ ap (λ (tables : model.Tables). with_pins c tables copies.cookies) has.tables;
       call = call_come c about entry after old new came
@@ -82,6 +82,7 @@ session_taken boot before after entered entry old new kind session instance copi
           (came_on (is_held instance) (beginner c) session instance copies.params points);
       cancel_id = refl;
       marked = refl;
+      cancels = refl;
     })
 
 -- ---- by who holds the instance

@@ -2,7 +2,6 @@ pub mod Applied
 pub mod Carries
 pub mod Coming
 pub mod InSession
-pub mod Legal
 pub mod Opens
 pub mod Replaying
 pub mod Sharing

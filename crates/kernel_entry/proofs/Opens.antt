@@ -106,7 +106,7 @@ pub open_taken : (boot : Booted) (before after : Tables) (entered : Entered) (en
     number ≡ after.sessions.next →
     sessions ≡ record { kept = insert after.sessions.kept after.sessions.next (reserved_for entered.client login new.instance); next = after.sessions.next + 1 } →
     registry ≡ record after.registry { pins = fold (λ pins cookie. with_pin pins cookie entered.slot) after.registry.pins copies.cookies.items } →
-    IsTaken entered (record after { sessions = sessions; registry = registry }) (with_number new number)
+    IsTaken None entered (record after { sessions = sessions; registry = registry }) (with_number new number)
     (opens_or_waits (call_with boot (tables_of before) entered) (asked_by (application_of app) login) (application_of app) (copies_in copies))
 open_taken boot before after entered entry old new app login copies number sessions registry is_entered params client kind_is arg places none come number_is kept pinned =
     let c = call_with boot (tables_of before) entered in
@@ -129,7 +129,7 @@ open_taken boot before after entered entry old new app login copies number sessi
     (record { client = client; kind = kind_is; arg = arg; places = ap (λ places. places.items) places; session = none }) is_entered has refl in
     let numbered : IsCall (with_number new number) (call_about c (record about { session = number }) came.phase) =
     call_numbered c about new number came.phase leaves.start at_first in
-    subst (IsTaken entered (record after { sessions = sessions; registry = registry }) (with_number new number))
+    subst (IsTaken None entered (record after { sessions = sessions; registry = registry }) (with_number new number))
     (sym (opens_so c wanted (application_of app) (copies_in copies)))
     (record {
       tables = tables_entered entered.client login entered.slot copies.cookies.items after came (tables_of before).next_session new.instance
@@ -137,6 +137,7 @@ open_taken boot before after entered entry old new app login copies number sessi
       call = subst (λ (session : ℕ). IsCall (with_number new number) (call_about c (record about { session = session }) came.phase)) given numbered;
       cancel_id = refl;
       marked = refl;
+      cancels = refl;
     })
 
 -- sessions and buffers are still those that were there

@@ -1,5 +1,5 @@
 -- Parts that stood for a kernel stand for the one after an entry.
-use Rattle.std.proofs.Common.{◌≡◌, ℕ, zero, suc, ◌-◌, ◌<◌, ◌≤◌, List, [], ◌∷◌, length, Option, Some, None, refl, sym, ap, ◌∙◌, subst, arith}
+use Rattle.std.proofs.Common.{◌≡◌, ℕ, zero, suc, ◌-◌, ◌<◌, ◌≤◌, List, [], ◌∷◌, length, Option, Some, None, refl, sym, ap, ◌∙◌, subst, arith, ap₂, Bool, false}
 use Rattle.std.proofs.lemmas.List.{length-set, map-set}
 use Rattle.std.proofs.lemmas.List.Sums.{count_by-le-length}
 use Rattle.std.specs.Prelude.{not, count_by, map, slice_set}
@@ -24,7 +24,16 @@ use Rattle.kernel_state.specs.declared.processor.Errand.{Errand}
 use Rattle.kernel_state.specs.declared.processor.Errand.TheVariants.{Fixed, InSlot}
 use Rattle.kernel_state.specs.declared.processor.Processor.{Processor}
 use Rattle.kernel_state.specs.declared.processor.Processor.TheVariants.{Inside}
-use Rattle.kernel_entry.specs.Visiting.{besides_cancelled, coming_of}
+use Rattle.kernel_model.specs.NewCall.{NewCall}
+use Rattle.new_calls.specs.Deciding.{call_with, taken_of}
+use Rattle.new_calls.specs.declared.entered.Entered.{Entered}
+use Rattle.new_calls.specs.declared.plan.Plan.{Plan}
+use Rattle.new_calls.specs.declared.plan.Plan.TheVariants as plan
+use Rattle.ns_ram.specs.declared.read.Read.{Read}
+use Rattle.kernel_state.specs.Setup.{booted_with}
+use Rattle.kernel_state.specs.declared.tables.Tables.{Tables}
+use Rattle.kernel_entry.specs.Applying.{IsTaken, is_cancel, meant_by}
+use Rattle.kernel_entry.specs.Visiting.{HasTaken, IsInside, besides_cancelled, cancels_by, coming_of}
 use Rattle.kernel_entry.specs.declared.visitor.Visitor.{Visitor}
 
 abbrev pub CodeSlot : Type 0
@@ -155,3 +164,51 @@ slot_stands old new kernel visitor slot beside taken stands takes processors roo
 -- what was reserved has room for all exits behind the entry
 pub room_behind : (cpus before after : ℕ) → cpus < before → after ≡ before - 1 → cpus ≤ after
 room_behind cpus before after room is = omega (arith, room, is)
+
+-- ---- a new call
+
+abbrev the_cancel : ℕ → ℕ → Cancel
+the_cancel session cancel_id = record { session = session; cancel_id = cancel_id }
+
+-- a cancel means the calls of its own session
+meant_same : (c : NewCall) (entered : Entered) (of : Plan) (cancels : Bool) (beside : Cancellation) → cancels ≡ is_cancel of →
+    c.head ≡ entered.head → beside.session ≡ (taken_of c of).call.session → beside.cancel_id ≡ entered.head.cancel_id →
+    cancels_by cancels beside ≡ meant_by entered of
+meant_same c entered (plan.Settles settled) cancels beside is head session number = ap (λ (cancels : Bool). cancels_by cancels beside) is
+meant_same c entered (plan.Opens app login copies) cancels beside is head session number = ap (λ (cancels : Bool). cancels_by cancels beside) is
+meant_same c entered (plan.Invokes named app copies) cancels beside is head session number = ap (λ (cancels : Bool). cancels_by cancels beside) is
+meant_same c entered (plan.Closes named app) cancels beside is head session number = ap (λ (cancels : Bool). cancels_by cancels beside) is
+meant_same c entered plan.Cancels cancels beside is head session number =
+    let own : beside.session ≡ entered.head.session = session ∙ ap (λ head. head.session) head in
+    ap (λ (cancels : Bool). cancels_by cancels beside) is
+    ∙ ap₂ (λ (session cancel_id : ℕ). Some (the_cancel session cancel_id)) own number
+meant_same c entered (plan.KeepsBuffer cookie buffer) cancels beside is head session number = ap (λ (cancels : Bool). cancels_by cancels beside) is
+meant_same c entered (plan.DropsBuffer cookie) cancels beside is head session number = ap (λ (cancels : Bool). cancels_by cancels beside) is
+
+-- a slot was taken for the plan
+pub new_takes : (old mid new : Parts) (visitor : Visitor) (entered : Entered) (of : Plan) (cancels : Bool) (beside : Cancellation) (after : Tables)
+    (cont : Cont (List ℕ)) (reads : List Read) → cancels ≡ is_cancel of →
+    IsTaken (meant_by entered of) entered after cont (taken_of (call_with (booted_with old.setup) (tables_of old.tables) entered) of) →
+    HasFreePages old.setup after → beside ≡ record { session = cont.session; cancel_id = entered.head.cancel_id; marked = false } →
+    HasTaken (record old { tables = after }) mid visitor.cpu entered.slot beside (cancels_by cancels beside) →
+    IsInside mid new visitor (InSlot entered.slot) reads →
+    TakesSlot old new visitor entered.slot beside (taken_of (call_with (booted_with old.setup) (tables_of old.tables) entered) of)
+new_takes old mid new visitor entered of cancels beside after cont reads is taken pages beside_is has inside =
+    let c = call_with (booted_with old.setup) (tables_of old.tables) entered in
+    let session : beside.session ≡ (taken_of c of).call.session = ap (λ (beside : Cancellation). beside.session) beside_is ∙ taken.call.session in
+    let meant : cancels_by cancels beside ≡ (taken_of c of).cancels =
+    meant_same c entered of cancels beside is refl session (ap (λ (beside : Cancellation). beside.cancel_id) beside_is) ∙ sym taken.cancels in
+    let tables : new.tables ≡ after = ap (λ (parts : Parts). parts.tables) inside.stays ∙ ap (λ (parts : Parts). parts.tables) has.stays in
+    record {
+      setup = ap (λ (parts : Parts). parts.setup) inside.stays ∙ ap (λ (parts : Parts). parts.setup) has.stays;
+      slots = ap (λ (parts : Parts). parts.slots) inside.stays ∙ has.slots;
+      cancellations = ap (λ (parts : Parts). parts.cancellations.items) inside.stays ∙ has.cancellations
+          ∙ ap (λ (meant : Option Cancel). slice_set (besides_cancelled old.cancellations.items meant) entered.slot beside) meant;
+      beside_is = record {
+        session = session;
+        cancel_id = ap (λ (beside : Cancellation). beside.cancel_id) beside_is ∙ sym taken.cancel_id;
+        marked = ap (λ (beside : Cancellation). beside.marked) beside_is ∙ sym taken.marked;
+      };
+      tables = ap tables_of tables ∙ taken.tables;
+      pages = subst (λ (tables : Tables). HasFreePages old.setup tables) (sym tables) pages;
+    }

@@ -1,5 +1,5 @@
 -- What becomes of a slot's call and of the tables as the plan of a new call is applied.
-use Rattle.std.specs.Prelude.{◌≡◌, ℕ, ◌<◌, ◌≤◌, false, true, if◌then◌else◌, List, [], ◌∷◌, ◌++◌, length, Option, Some, None}
+use Rattle.std.specs.Prelude.{◌≡◌, ℕ, ◌<◌, ◌≤◌, false, true, if◌then◌else◌, List, [], ◌∷◌, ◌++◌, length, Option, Some, None, Bool}
 use Rattle.std.specs.Option.{IsSomeAnd}
 use Rattle.base.specs.NumberMap.{IsRising, get}
 use Rattle.job_model.specs.declared.entry_point.EntryPoint.{EntryPoint}
@@ -141,9 +141,32 @@ pub record CanTake (tables : Tables) (entered : Entered) (plan : Plan) : Type 0 
 
 -- ---- the slot
 
--- the tables and the call are those that the slot is taken for, and what is to stand beside the slot is the call's
-pub record IsTaken (entered : Entered) (after : Tables) (cont : Cont (List ℕ)) (taken : Taken) : Type 0 where
+-- the tables and the call are those that the slot is taken for, what is to stand beside the slot is the call's, and
+-- these calls are cancelled, if any
+pub record IsTaken (meant : Option model.Cancel) (entered : Entered) (after : Tables) (cont : Cont (List ℕ))
+    (taken : Taken) : Type 0 where
   pub tables : tables_of after ≡ taken.tables
   pub call : IsCall cont taken.call
   pub cancel_id : taken.call.cancel_id ≡ entered.head.cancel_id
   pub marked : taken.call.marked ≡ false
+  pub cancels : taken.cancels ≡ meant
+
+-- the calls that a plan cancels
+abbrev pub meant_by : Entered → Plan → Option model.Cancel
+meant_by entered (plan.Settles settled) = None
+meant_by entered (plan.Opens app login copies) = None
+meant_by entered (plan.Invokes session app copies) = None
+meant_by entered (plan.Closes session app) = None
+meant_by entered plan.Cancels = Some (record { session = entered.head.session; cancel_id = entered.head.cancel_id })
+meant_by entered (plan.KeepsBuffer cookie buffer) = None
+meant_by entered (plan.DropsBuffer cookie) = None
+
+-- the plan is one to cancel
+abbrev pub is_cancel : Plan → Bool
+is_cancel (plan.Settles settled) = false
+is_cancel (plan.Opens app login copies) = false
+is_cancel (plan.Invokes session app copies) = false
+is_cancel (plan.Closes session app) = false
+is_cancel plan.Cancels = true
+is_cancel (plan.KeepsBuffer cookie buffer) = false
+is_cancel (plan.DropsBuffer cookie) = false

@@ -1,4 +1,3 @@
 pub mod Applying
-pub mod Legal
 pub mod Replaying
 pub mod Visiting

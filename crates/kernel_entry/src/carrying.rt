@@ -21,7 +21,7 @@ pub(crate) fn carried(cont: Box<Cont<Pages>>) -> Carried
 }
 
 /// How many bytes were read. None only where 64 bits don't have the number.
-pub(crate) fn bytes_in(reads: &Reads) -> Option<u64>
+pub fn bytes_in(reads: &Reads) -> Option<u64>
     ensures { IfSome result (λ total. total ≡ total_bytes reads.now) }
 {
     let mut total: u64 = 0;

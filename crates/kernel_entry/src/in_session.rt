@@ -1,5 +1,5 @@
 //! An invoke and a close, as they begin or wait.
-ghost use Rattle.std.specs.Prelude.{◌≡◌, Some, is_some};
+ghost use Rattle.std.specs.Prelude.{◌≡◌, Some, is_some, None};
 ghost use Rattle.std.specs.Option.{option_and_then};
 ghost use Rattle.base.specs.NumberMap.{get};
 ghost use Rattle.begin_call.specs.Begins.{who_begins};
@@ -72,7 +72,7 @@ pub(crate) fn invokes(
     requires buffers { AreRegistered (tables_of tables.old) copies.cookies.items }
     ensures taken { (boot : Booted) (instance : AnyInstance) → get (tables_of tables.old).instances session.instance ≡ Some instance
         → app_of boot instance.uuid ≡ Some (application_of app)
-        → IsTaken entered.now tables.new result (invokes (call_with boot (tables_of tables.old) entered.now) (session, instance) (copies_in copies)) }
+        → IsTaken None entered.now tables.new result (invokes (call_with boot (tables_of tables.old) entered.now) (session, instance) (copies_in copies)) }
     ensures pages { (setup : AnySetup) → HasFreePages setup tables.old → HasFreePages setup tables.new }
 {
     let TakenParams {
@@ -116,7 +116,7 @@ pub(crate) fn closes(
     requires session { KeepsSession tables.old entered.now.head.session session }
     ensures taken { (boot : Booted) (instance : AnyInstance) → get (tables_of tables.old).instances session.instance ≡ Some instance
         → app_of boot instance.uuid ≡ Some (application_of app)
-        → IsTaken entered.now tables.new result (closes (call_with boot (tables_of tables.old) entered.now) (session, instance)) }
+        → IsTaken None entered.now tables.new result (closes (call_with boot (tables_of tables.old) entered.now) (session, instance)) }
     ensures pages { (setup : AnySetup) → HasFreePages setup tables.old → HasFreePages setup tables.new }
 {
     let number = entered.head.session;

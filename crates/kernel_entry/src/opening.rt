@@ -1,5 +1,5 @@
 //! An open, as it begins or waits.
-ghost use Rattle.std.specs.Prelude.{◌≡◌, ◌+◌, true, Some};
+ghost use Rattle.std.specs.Prelude.{◌≡◌, ◌+◌, true, Some, None};
 ghost use Rattle.base.specs.NumberMap.{insert};
 ghost use Rattle.begin_call.specs.Begins.{brought, who_begins};
 ghost use Rattle.kernel_model.specs.Application.{Booted, uuid_of};
@@ -73,7 +73,7 @@ pub(crate) fn opens(
     requires comes { MayCome tables.old entered.now.slot (application_of app) }
     requires opens { MayOpen tables.old (application_of app) }
     requires buffers { AreRegistered (tables_of tables.old) copies.cookies.items }
-    ensures taken { (boot : Booted) → IsTaken entered.now tables.new result
+    ensures taken { (boot : Booted) → IsTaken None entered.now tables.new result
         (opens_or_waits (call_with boot (tables_of tables.old) entered.now) (asked_by (application_of app) login) (application_of app) (copies_in copies)) }
     ensures pages { (setup : AnySetup) → app_of (booted_with setup) (uuid_of (application_of app)) ≡ Some (application_of app)
         → HasFreePages setup tables.old → HasFreePages setup tables.new }

@@ -5,7 +5,7 @@ ghost use Rattle.kernel_state.specs.Tables.{HasFreePages, tables_of};
 ghost use Rattle.kernel_state.specs.declared.setup.Setup.{Setup as AnySetup};
 ghost use Rattle.new_calls.specs.Applying.{CanApply};
 ghost use Rattle.new_calls.specs.Deciding.{call_with, taken_of};
-ghost use Rattle.kernel_entry.specs.Applying.{CanTake, IsTaken};
+ghost use Rattle.kernel_entry.specs.Applying.{CanTake, IsTaken, meant_by};
 
 use crate::buffers::{drops_buffer, keeps_buffer};
 use crate::in_session::{closes, invokes};
@@ -22,7 +22,7 @@ use ta_params::codes::TEE_SUCCESS;
 pub fn apply(alloc: Global, tables: &mut Tables, entered: &Entered, plan: Plan) -> Cont<Pages>
     requires { CanTake tables.old entered.now plan }
     ensures taken { (boot : Booted) → CanApply (call_with boot (tables_of tables.old) entered.now) plan
-        → IsTaken entered.now tables.new result (taken_of (call_with boot (tables_of tables.old) entered.now) plan) }
+        → IsTaken (meant_by entered.now plan) entered.now tables.new result (taken_of (call_with boot (tables_of tables.old) entered.now) plan) }
     ensures pages { (setup : AnySetup) → CanApply (call_with (booted_with setup) (tables_of tables.old) entered.now) plan
         → HasFreePages setup tables.old → HasFreePages setup tables.new }
 {

@@ -19,7 +19,7 @@ pub struct Visitor {
 }
 
 /// Makes room for one entry, and for the exits of so many processors.
-pub(crate) fn make_room(journal: &mut Journal, cpus: u8) -> Result<(), NoMemory>
+pub fn make_room(journal: &mut Journal, cpus: u8) -> Result<(), NoMemory>
     ensures events { journal.new.events ≡ journal.old.events }
     ensures room { OnOk result (cpus + 1 ≤ journal.new.spare) }
     ensures kept { journal.old.spare ≤ journal.new.spare }

@@ -1,4 +1,4 @@
-use Rattle.std.proofs.Common.{List, ℕ, refl, sym, ap, ◌∙◌, subst}
+use Rattle.std.proofs.Common.{List, ℕ, refl, sym, ap, ◌∙◌, subst, None}
 use Rattle.std.specs.Prelude.{IsSome, fold}
 use Rattle.std.specs.List.{AllByRecursion}
 use Rattle.base.specs.NumberMap.{get}
@@ -25,7 +25,7 @@ pins-requires-clause-kept c =
 pub returns-clause-taken : goal.returns-clause-taken
 returns-clause-taken c boot instance there known =
     let model = call_with boot (tables_of c.args.tables.now) c.args.entered.now in
-    subst (λ (points : List EntryPoint). IsTaken c.args.entered.now (record c.comes_in.new.tables { registry = c.pins.new.registry }) c.comes_in.new.cont
+    subst (λ (points : List EntryPoint). IsTaken None c.args.entered.now (record c.comes_in.new.tables { registry = c.pins.new.registry }) c.comes_in.new.cont
     (works_or_waits model (kind.Invoke c.args.entered.now.head.func) c.args.session instance (copies_in c.args.copies) points))
     c.only.ensures
     (session_taken boot c.args.tables.now c.comes_in.new.tables c.args.entered.now _ c.waiting-cont.result c.comes_in.new.cont (kind.Invoke c.args.entered.now.head.func)

@@ -44,6 +44,7 @@ returns-in-Cancels-clause-taken c boot applies =
       call = c.settled_call.ensures boot (tables_of c.args.tables.now) ACancel None;
       cancel_id = refl;
       marked = refl;
+      cancels = refl;
     })
 
 pub returns-in-KeepsBuffer-clause-taken : goal.returns-in-KeepsBuffer-clause-taken
@@ -53,6 +54,7 @@ returns-in-KeepsBuffer-clause-taken c boot applies =
       call = c.settled_call-in-KeepsBuffer.ensures boot (tables_of c.args.tables.now) Untold None;
       cancel_id = refl;
       marked = refl;
+      cancels = refl;
     })
 
 pub returns-in-DropsBuffer-clause-taken : goal.returns-in-DropsBuffer-clause-taken
@@ -62,4 +64,5 @@ returns-in-DropsBuffer-clause-taken c boot applies =
       call = c.settled_call-in-DropsBuffer.ensures boot (tables_of c.args.tables.now) Untold None;
       cancel_id = refl;
       marked = refl;
+      cancels = refl;
     })

@@ -1,0 +1,79 @@
+//! A new call that comes in.
+ghost use Rattle.std.specs.Prelude.{◌≡◌, ◌+◌, ◌<◌, ◌^◌, Some, List, ℕ, length};
+ghost use Rattle.event_journal.specs.Journal.{copied_bytes};
+ghost use Rattle.kernel_model.specs.Decision.{Takes};
+ghost use Rattle.kernel_state.specs.Replay.{Replays};
+ghost use Rattle.kernel_state.specs.Setup.{booted_with};
+ghost use Rattle.kernel_state.specs.Tables.{tables_of};
+ghost use Rattle.kernel_state.specs.Work.{IsCarriedAs};
+ghost use Rattle.new_calls.specs.Applying.{CanApply};
+ghost use Rattle.new_calls.specs.Deciding.{call_with, taken_of};
+ghost use Rattle.ns_ram.specs.Reads.{total_bytes};
+ghost use Rattle.thread_slots.specs.Slots.{lowest_free};
+ghost use Rattle.kernel_entry.specs.Applying.{CanTake, is_cancel};
+ghost use Rattle.kernel_entry.specs.Replaying.{Decides, MayEnter};
+
+use crate::carrying::carried;
+use crate::plans::apply;
+use crate::taking::takes_slot;
+use crate::visitor::{Visitor, lets_in};
+use frame_pool::Pages;
+use kernel_state::{Cancellation, Carried, Errand, Parts};
+use new_calls::{Entered, Plan};
+use ns_ram::Reads;
+use rpc_cont::Cont;
+use std::alloc::Global;
+
+/// The plan is one to cancel.
+fn is_cancel(plan: &Plan) -> bool
+    ensures { result ≡ is_cancel plan.now }
+{
+    matches!(plan, Plan::Cancels)
+}
+
+/// The box has this call in place of the one that it had.
+fn fills(cont: &mut Cont<Pages>, call: Cont<Pages>)
+    ensures { cont.new ≡ call }
+{
+    *cont = call;
+}
+
+/// Lets a processor in for a new call, which takes the lowest free slot and fills this box. Where the definitions decide
+/// so, the parts stand for the kernel after it, and the processor carries the call that its slot works on.
+pub fn enters_new(
+    alloc: Global,
+    parts: &mut Parts,
+    visitor: Visitor,
+    entered: Entered,
+    plan: Plan,
+    mut cont: Box<Cont<Pages>>,
+    reads: Reads,
+) -> Carried
+    requires cpu { visitor.cpu < length parts.old.processors.items }
+    requires room { parts.old.setup.cpus < parts.old.journal.spare }
+    requires few { copied_bytes parts.old.journal.events + total_bytes reads < 2 ^ 64 }
+    requires slot { lowest_free parts.old.slots ≡ Some entered.slot }
+    requires beside { entered.slot < length parts.old.cancellations.items }
+    requires plan { CanTake parts.old.tables entered plan }
+    ensures replays { (lane : List ℕ) (fact : Replays parts.old) → MayEnter parts.old fact.kernel visitor reads
+        → CanApply (call_with (booted_with parts.old.setup) (tables_of parts.old.tables) entered) plan
+        → Decides (booted_with parts.old.setup) fact.kernel visitor lane
+        (Takes entered.slot (taken_of (call_with (booted_with parts.old.setup) (tables_of parts.old.tables) entered) plan)) reads
+        → Replays parts.new }
+    ensures carries { CanApply (call_with (booted_with parts.old.setup) (tables_of parts.old.tables) entered) plan
+        → (let taken = taken_of (call_with (booted_with parts.old.setup) (tables_of parts.old.tables) entered) plan in
+        IsCarriedAs result taken.call taken.call.phase) }
+{
+    let slot = entered.slot;
+    let cancels = is_cancel(&plan);
+    let call = apply(alloc, &mut parts.tables, &entered, plan);
+    let beside = Cancellation {
+        session: call.session,
+        cancel_id: entered.head.cancel_id,
+        marked: false,
+    };
+    fills(&mut cont, call);
+    takes_slot(parts, visitor.cpu, slot, beside, cancels);
+    lets_in(parts, visitor, Errand::InSlot(slot), reads);
+    carried(cont)
+}
