@@ -1,10 +1,10 @@
 -- What is answered at once, over cores: a fixed answer changes its processor's part alone, and ETHREAD_LIMIT and ERESUME
 -- come exactly where a call finds no slot, or no call. And what a resume continues.
-use Rattle.std.proofs.Common.{◌≡◌, ℕ, List, [], ◌∷◌, ◌++◌, length, Option, Some, None, refl, ap, sym, subst, ◌∙◌}
+use Rattle.std.proofs.Common.{◌≡◌, ◌↔◌, ℕ, List, [], ◌∷◌, ◌++◌, length, Option, Some, None, refl, ap, sym, subst, ◌∙◌}
 use Rattle.std.proofs.Math.Logic.{∥∥₁_elim, ∥∥₁_map}
 use Rattle.std.proofs.Props.{props}
 use Rattle.std.proofs.lemmas.List.{append-nil}
-use Rattle.std.specs.Prelude.{IsSomeAnd, slice_get}
+use Rattle.std.specs.Prelude.{IsNone, IsSomeAnd, slice_get}
 use Rattle.event_journal.specs.declared.event.Event.{Event}
 use Rattle.event_journal.specs.declared.event.Event.TheVariants as event
 use Rattle.ns_ram.specs.Writes.{lane_after}
@@ -17,7 +17,7 @@ use Rattle.kernel_model.specs.Codes.{eresume}
 use Rattle.kernel_model.specs.Decision.{Takes, works_on}
 use Rattle.kernel_model.specs.Exit.{Exited, exit, goes_out}
 use Rattle.kernel_model.specs.History.{kernel_after}
-use Rattle.kernel_model.specs.Kernel.{Fixed, Inside, Kernel, PendingCall, Visit, with_visitor, without_visitor}
+use Rattle.kernel_model.specs.Kernel.{Fixed, Inside, Kernel, PendingCall, Visit, is_free, lowest_free, with_visitor, without_visitor}
 use Rattle.kernel_model.specs.Laws.{IsFixed}
 use Rattle.kernel_model.specs.Resume.{call_resumed_by}
 use Rattle.kernel_model.proofs.Answered.{events_stay}
@@ -26,11 +26,12 @@ use Rattle.kernel_model.proofs.FixedAnswer.{fixed_answers, inside_after}
 use Rattle.kernel_model.proofs.Suspended.{Continued, call_continued, suspended_there}
 use Rattle.kernel_state.specs.Entering.{IsAsBefore, visit_of}
 use Rattle.kernel_state.specs.Laws.{AnswersComeExactly, ChangedByOthers, ComesBackTo, CoreEntry, CoreExit, FixedAnswersPass, FixesAnswer, HasGoneWith, ReturnsContinue, regs_of}
-use Rattle.kernel_state.specs.Meaning.{booted_of, events_of, kernel_of}
+use Rattle.kernel_state.specs.Meaning.{booted_of, events_of, free_slots_in, kernel_of}
 use Rattle.kernel_state.specs.Work.{IsWorkIn, IsWorkOf}
 use Rattle.kernel_state.specs.declared.carried.Carried.{Carried}
 use Rattle.kernel_state.specs.declared.carried.Carried.TheVariants.{Nothing, Resting, Running}
 use Rattle.kernel_state.specs.declared.kernel_core.Core.{Core}
+use Rattle.thread_slots.proofs.FreeSlots.{none_found}
 use Rattle.kernel_state.proofs.CoreEvents.{entry_came_in, events_onward, exits, left_so}
 
 -- ---- fixed answers
@@ -120,6 +121,21 @@ fixed_pass = record { entry = fixed_entry; nothing = nothing_carried; exit = fix
 
 -- ---- ETHREAD_LIMIT and ERESUME
 
+none_is : (found : Option ℕ) → IsNone found → found ≡ None
+none_is None none = refl
+none_is (Some slot) none = absurd cc
+
+is_none : (found : Option ℕ) → found ≡ None → IsNone found
+is_none None e = refl
+is_none (Some slot) e = cc
+
+no_slot : (kernel : Kernel) → (lowest_free kernel.slots ≡ None) ↔ (free_slots_in kernel ≡ 0)
+no_slot kernel =
+    let found = none_found is_free kernel.slots in (
+      λ none. found.0 (is_none (lowest_free kernel.slots) none),
+      λ none. none_is (lowest_free kernel.slots) (found.1 none),
+    )
+
 pub answers_exactly : AnswersComeExactly
 answers_exactly = record {
   limit = λ entry.
@@ -128,6 +144,7 @@ answers_exactly = record {
   resume = λ entry.
       let came = entry_came_in entry in
       resumes_exactly.refuses (booted_of entry.old) entry.kernel entry.next (visit_of entry.coming) entry.has_entered.reads came.outside came.entered;
+  no_slot = no_slot;
 }
 
 -- ---- resumes

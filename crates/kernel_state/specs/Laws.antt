@@ -7,7 +7,7 @@ use Rattle.kernel_model.specs.Codes.{eresume, ethread_limit}
 use Rattle.kernel_model.specs.Entry.{after_entry}
 use Rattle.kernel_model.specs.Exit.{exit}
 use Rattle.kernel_model.specs.History.{IsLater, IsLegal, Resumes, ResumesCall}
-use Rattle.kernel_model.specs.Kernel.{Fixed, InSlot, Inside, Kernel, PendingCall, Suspended, Visit, with_visitor, without_visitor}
+use Rattle.kernel_model.specs.Kernel.{Fixed, InSlot, Inside, Kernel, PendingCall, Suspended, Visit, lowest_free, with_visitor, without_visitor}
 use Rattle.kernel_model.specs.Laws.{FindsNoCall, FindsNoSlot, IsFixed, IsOfOther}
 use Rattle.kernel_model.specs.Resume.{call_resumed_by}
 use Rattle.smc_abi.specs.Answer.{registers_of}
@@ -17,7 +17,7 @@ use Rattle.smc_abi.specs.declared.call.Call.TheVariants.{Resume}
 use Rattle.smc_abi.specs.declared.regs.Regs.{Regs}
 use Rattle.kernel_state.specs.Entering.{CanEnter, Coming, HasEntered, HasWork, IsAsBefore, visit_of}
 use Rattle.kernel_state.specs.Leaving.{CanLeave, HasLeft}
-use Rattle.kernel_state.specs.Meaning.{booted_of, events_of, kernel_of}
+use Rattle.kernel_state.specs.Meaning.{booted_of, events_of, free_slots_in, kernel_of}
 use Rattle.kernel_state.specs.Work.{IsRanOf}
 use Rattle.kernel_state.specs.declared.carried.Carried.TheVariants.{Nothing}
 use Rattle.kernel_state.specs.declared.kernel_core.Core.{Core}
@@ -123,6 +123,8 @@ pub record FixedAnswersPass : Type 0 where
 pub record AnswersComeExactly : Type 0 where
   pub limit : (entry : CoreEntry) → FixesAnswer entry ethread_limit ↔ FindsNoSlot entry.kernel (regs_of entry)
   pub resume : (entry : CoreEntry) → FixesAnswer entry eresume ↔ FindsNoCall entry.kernel (regs_of entry)
+  -- and no slot is free where the number of those that are is 0
+  pub no_slot : (kernel : Kernel) → (lowest_free kernel.slots ≡ None) ↔ (free_slots_in kernel ≡ 0)
 
 -- ---- resumes
 

@@ -1,6 +1,6 @@
 -- The lowest free slot, and how many are free.
 use Rattle.std.proofs.Common.{◌≡◌, ℕ, ◌+◌, ◌≤◌, ◌↔◌, Bool, true, false, not, cond, List, [], ◌∷◌, length, get_or, refl, sym, subst, ◌∙◌, arith, Some, None, IsNone, nat_lt}
-use Rattle.std.specs.List.{count_by, prefix_len, slice_get}
+use Rattle.std.specs.List.{count_by, position, prefix_len, slice_get}
 use Rattle.std.proofs.lemmas.List.Quantifiers.{position-Some}
 use Rattle.std.proofs.lemmas.List.Sums.{sum_by-cons}
 use Rattle.std.proofs.lemmas.Option.{get_or_from_slice_get, slice_get-get_or}
@@ -53,11 +53,15 @@ found_below at len none = grind (arith, nat_tests)
 nothing_past : (at len : ℕ) → len ≤ at → IsNone (cond (nat_lt at len) (Some at) None)
 nothing_past at len past = grind (arith, nat_tests)
 
-pub none_at_lowest : {T : Type 0} (slots : List (Slot T)) → IsNone (lowest_free slots) ↔ (count_by is_free slots ≡ 0)
-none_at_lowest slots = (
-  λ none. none_in_whole_prefix is_free slots (found_below _ (length slots) none),
-  λ none. nothing_past _ (length slots) (let whole = whole_prefix is_free slots none in omega arith),
+-- none passes exactly where `position` finds none
+pub none_found : {X : Type 0} (p : X → Bool) (xs : List X) → IsNone (position p xs) ↔ (count_by p xs ≡ 0)
+none_found p xs = (
+  λ none. none_in_whole_prefix p xs (found_below _ (length xs) none),
+  λ none. nothing_past _ (length xs) (let whole = whole_prefix p xs none in omega arith),
 )
+
+pub none_at_lowest : {T : Type 0} (slots : List (Slot T)) → IsNone (lowest_free slots) ↔ (count_by is_free slots ≡ 0)
+none_at_lowest slots = none_found is_free slots
 
 -- what holds where a slot is entered
 pub ruleset at_lowest = (free_at_lowest, no_value_at_lowest, none_at_lowest)
