@@ -17,7 +17,8 @@ use Rattle.new_calls.specs.declared.plan.Plan.TheVariants as plan
 -- each instance is of an application that was booted
 abbrev pub HaveApps : Booted → Tables → Type 0
 HaveApps boot tables =
-    (number : ℕ) (instance : Instance) → get tables.instances number ≡ Some instance → IsSome (app_of boot instance.uuid)
+    (number : ℕ) (instance : Instance) → get tables.instances number ≡ Some instance →
+    IsSome (app_of boot instance.uuid)
 
 -- a registered buffer has the cookie
 abbrev pub IsRegistered : Tables → ℕ → Type 0

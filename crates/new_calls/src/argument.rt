@@ -2,7 +2,8 @@
 
 ghost use Rattle.std.specs.Prelude.{◌≡◌, ◌*◌, ◌≤◌, None, Some, MatchOption, length};
 ghost use Rattle.std.specs.Option.{option_map};
-ghost use Rattle.kernel_model.specs.Argument.{has_no_meta, invocation, is_rmem, octets, params_in, registering, unregistering};
+ghost use Rattle.kernel_model.specs.Argument.{has_no_meta, invocation, octets};
+ghost use Rattle.kernel_model.specs.Argument.{is_rmem, params_in, registering, unregistering};
 ghost use Rattle.msg_args.specs.Attribute.{is_tmem};
 ghost use Rattle.msg_args.specs.Reading.{head_at};
 

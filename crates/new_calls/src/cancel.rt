@@ -13,7 +13,8 @@ impl NewCall<'_> {
     /// The pending calls of the named session that have the call's number are cancelled, and the cancel succeeds, also
     /// where there are none. Its parameters are ignored.
     pub fn cancel_calls(&self) -> Result<Plan, Halt>
-        ensures decides { (lane : List ℕ) (reads : List AnyRead) → Decides self.now cancel_calls lane reads reads result }
+        ensures decides { (lane : List ℕ) (reads : List AnyRead) →
+            Decides self.now cancel_calls lane reads reads result }
         ensures can_apply { IfOk result (CanApply (call_of self.now)) }
     {
         if self.named_session().is_none() {

@@ -15,7 +15,8 @@ impl NewCall<'_> {
     /// The tests of a close, and what it begins. Its parameters are ignored, and its instance may be dead.
     pub fn close_session(&self) -> Result<Plan, Halt>
         requires { HaveApps (booted_with self.now.setup.now) (tables_of self.now.tables.now) }
-        ensures decides { (lane : List ℕ) (reads : List AnyRead) → Decides self.now close_session lane reads reads result }
+        ensures decides { (lane : List ℕ) (reads : List AnyRead) →
+            Decides self.now close_session lane reads reads result }
         ensures can_apply { IfOk result (CanApply (call_of self.now)) }
     {
         let Some((session, instance)) = self.named_session() else {

@@ -57,7 +57,9 @@ pub fn new_call(
     requires pages { HasFreePages found.now.setup.now found.now.tables.now }
     requires apps { HaveApps (booted_with found.now.setup.now) (tables_of found.now.tables.now) }
     ensures decides { IfOk result (λ decided.
-        over_lane (decided_by (new_call_with (booted_with found.now.setup.now) (tables_of found.now.tables.now) regs.now.a found.now.free)) lane.now reads.old
+        over_lane (decided_by
+        (new_call_with (booted_with found.now.setup.now) (tables_of found.now.tables.now) regs.now.a found.now.free))
+        lane.now reads.old
         ≡ Some (decision_of (booted_with found.now.setup.now) (tables_of found.now.tables.now) decided, reads.new)) }
     ensures slot { IfOk result (IsInSlot found.now.free) }
     ensures can_apply { IfOk result (CanTake (booted_with found.now.setup.now) (tables_of found.now.tables.now)) }
@@ -125,7 +127,8 @@ impl NewCall<'_> {
     ) -> Result<Plan, NoMemory>
         requires pages { HasFreePages self.now.setup.now self.now.tables.now }
         requires apps { HaveApps (booted_with self.now.setup.now) (tables_of self.now.tables.now) }
-        ensures decides { IfOk result (λ plan. over_lane (taken_by (tests_of command (call_of self.now))) lane.now reads.old
+        ensures decides { IfOk result (λ plan.
+            over_lane (taken_by (tests_of command (call_of self.now))) lane.now reads.old
             ≡ Some (taken_of (call_of self.now) plan, reads.new)) }
         ensures can_apply { IfOk result (CanApply (call_of self.now)) }
     {

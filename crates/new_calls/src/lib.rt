@@ -1,8 +1,9 @@
 //! A new call, OPTEE_SMC_CALL_WITH_ARG: what is decided of it.
 //!
-//! Deciding is lent the tables to read, and does the tests and the reads. A test that fails settles the call, and want of
-//! memory ends it with nothing decided. What it comes to is a `Plan`, which says what the call's slot is taken for, and
-//! has all memory that this needs but the call's own; no table is changed here.
+//! Deciding is lent the tables to read, and does the tests and the reads. A test of every call that fails answers it, one
+//! of its command settles it in its slot, and want of memory ends it with nothing decided. What it comes to is a `Plan`,
+//! which says what the call's slot is taken for, and has all memory that this needs but the call's own. No table is
+//! changed here.
 //!
 //! Each function is named as its definition in `kernel_model`, and cites it.
 #![tactic(auto)]

@@ -25,7 +25,8 @@ impl NewCall<'_> {
         lane: &Lane,
         reads: &mut Reads,
     ) -> Result<ArrayVec<MsgParam, 6>, Halt>
-        ensures { ComesTo (call_of self.now) (parameters (call_of self.now)) (λ params. params.items) lane.now reads.old reads.new result }
+        ensures { ComesTo (call_of self.now) (parameters (call_of self.now)) (λ params. params.items)
+            lane.now reads.old reads.new result }
     {
         let head = self.entered.head;
         let behind_head = self.entered.arg + HEAD_LEN;
@@ -48,7 +49,8 @@ impl NewCall<'_> {
         requires few { length params.now ≤ 4 }
         requires first { first ≤ 2 }
         ensures copied { IfOk result (λ copies. (faulty : AnyTaken) →
-            over_lane (copied_params (call_of self.now) params.now first faulty) lane.now reads.old ≡ Some (copies_or faulty copies, reads.new)) }
+            over_lane (copied_params (call_of self.now) params.now first faulty) lane.now reads.old
+            ≡ Some (copies_or faulty copies, reads.new)) }
         ensures cookies { IfOk result (λ copies. IfSome copies (λ taken.
             AreRegistered (tables_of self.now.tables.now) taken.cookies.items)) }
     {

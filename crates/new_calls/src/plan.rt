@@ -5,14 +5,14 @@ use session_table::Session;
 use shm_registry::PageBuffer;
 use ta_params::Login;
 
-/// What a new call's tests have come to: what its slot is taken for, before anything is changed. It has all that a change
-/// needs, but for the call's own memory.
+/// What a new call's tests have come to: what its slot is taken for, before anything is changed. It has all that the
+/// change needs, but for the call's own memory.
 #[derive(Drop)]
 pub enum Plan {
     /// A test failed.
     Settles(Settled),
-    /// A session is opened with this application, on its instance or a new one; or that waits, where another call holds
-    /// the instance.
+    /// A session is opened with this application, on its instance or a new one; or that waits, where another call
+    /// holds the instance.
     Opens {
         app: Application,
         login: Login,

@@ -90,7 +90,8 @@ impl NewCall<'_> {
     ) -> Result<Option<Vec<u64>>, NoMemory>
         requires { pages_touched param.now ≤ 1024 }
         ensures walked { IfOk result (λ pages. (faulty : AnyTaken) →
-            over_lane (faultless (listed_pages param.now) faulty) lane.now reads.old ≡ Some (pages_or faulty pages, reads.new)) }
+            over_lane (faultless (listed_pages param.now) faulty) lane.now reads.old
+            ≡ Some (pages_or faulty pages, reads.new)) }
         ensures good { IfOk result (λ walked. IfSome walked (λ pages.
             IsBuffer (record { pages = pages.items; offset = offset_in param.now; size = param.now.q }))) }
     {

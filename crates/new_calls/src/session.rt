@@ -30,7 +30,8 @@ impl NewCall<'_> {
     /// The application of an instance.
     pub(crate) fn app_on(&self, instance: &Instance) -> Result<Application, NoMemory>
         requires { IsSome (app_of (booted_with self.now.setup.now) instance.now.uuid) }
-        ensures { IfOk result (λ app. app_of (booted_with self.now.setup.now) instance.now.uuid ≡ Some (application_of app)) }
+        ensures { IfOk result (λ app.
+            app_of (booted_with self.now.setup.now) instance.now.uuid ≡ Some (application_of app)) }
     {
         match self.setup.application(&instance.uuid)? {
             Some(app) => Ok(app),
