@@ -4,4 +4,4 @@ pub mod Entries
 pub mod LinesStay
 pub mod ExitsTold
 pub mod Items
-pub mod LaneReads
+pub mod EventsCome

@@ -8,6 +8,7 @@ use Rattle.event_journal.specs.declared.event.Event.TheVariants.{Exit}
 use Rattle.kernel_model.specs.Application.{Application, Booted, IsBooted, Native, booted}
 use Rattle.kernel_model.specs.Argument.{reg, thread_in}
 use Rattle.kernel_model.specs.Codes.{eresume}
+use Rattle.kernel_model.specs.Exit.{Exited, exit}
 use Rattle.kernel_model.specs.History.{IsLegal, Resumes, ResumesCall, after_event, kernel_after}
 use Rattle.kernel_model.specs.Instances.{is_single}
 use Rattle.kernel_model.specs.Kernel.{Fixed, Kernel, PendingCall, Visit, with_visitor, without_visitor}
@@ -28,7 +29,7 @@ use Rattle.trace_text.specs.declared.item.Item.{Item}
 use Rattle.trace_text.specs.declared.trace.Trace.{Trace}
 use Rattle.play_model.specs.Line.{Line, Ret}
 use Rattle.play_model.specs.Order.{HoldsInOrder, TellsExits}
-use Rattle.play_model.specs.Play.{Play, after_items, enters, enters_with, entry_event, lane_of, leaves, played_over}
+use Rattle.play_model.specs.Play.{Play, after_items, enters, enters_with, entry_event, lane_of, leaves, played_over, with_line, with_writes}
 
 -- ---- returns from RPC
 
@@ -116,6 +117,15 @@ pub record IsReadBy (boot : Booted) (play : Play) (visit : Visit) (reads : List 
 abbrev pub EntriesAreRead : Type 0
 EntriesAreRead = (boot : Booted) (play : Play) (visit : Visit) (reads : List Read) → IsReadBy boot play visit reads →
     enters boot play visit ≡ enters_with boot play visit reads
+
+-- a processor that has an exit goes out with it: the kernel after it, its event, its writes, and its line
+abbrev pub ExitsCome : Type 0
+ExitsCome = (boot : Booted) (play : Play) (cpu : ℕ) (exited : Exited) → exit play.kernel cpu ≡ Some exited →
+    (let gone : Play = record play {
+      kernel = exited.kernel;
+      history = play.history ++ Exit cpu (record { a = exited.regs }) ∷ [];
+    } in
+    leaves boot cpu play ≡ Some (with_line (Ret cpu exited.regs) (with_writes cpu exited.writes gone)))
 
 -- a processor that goes out with an answer that was fixed as it came in, as ERESUME is: of the kernel its part alone
 -- changes, which is outside again, RAM stays as it is, and its line is printed

@@ -1,6 +1,6 @@
 //! What holds of the definitions themselves.
 ghost use Rattle.play_model.specs.Examples.{Examples};
-ghost use Rattle.play_model.specs.Laws.{EntriesAreRead, FixedAnswersPass, PlaysGoOn, TracesArePlayed};
+ghost use Rattle.play_model.specs.Laws.{EntriesAreRead, ExitsCome, FixedAnswersPass, PlaysGoOn, TracesArePlayed};
 
 /// The history of each play is legal and holds the items of each processor in their order. In it a return from RPC
 /// resumes exactly the call that is suspended in its slot for its client, or answers ERESUME and changes nothing;
@@ -14,6 +14,11 @@ pub fn traces_are_played()
 /// comes in the play.
 pub fn entries_are_read()
     ensures { EntriesAreRead }
+{}
+
+/// A processor that has an exit goes out with it.
+pub fn exits_come()
+    ensures { ExitsCome }
 {}
 
 /// A processor that goes out with a fixed answer, as ERESUME is, changes nothing of a play but its own part of the
