@@ -33,3 +33,8 @@ pub mod SoundMemory
 pub mod SoundPlaces
 pub mod SoundRequests
 pub mod SoundPins
+pub mod SoundDestined
+pub mod SoundReasons
+pub mod SoundReasonsKept
+pub mod SoundSingles
+pub mod SoundFew

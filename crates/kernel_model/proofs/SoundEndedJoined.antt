@@ -28,21 +28,21 @@ use Rattle.kernel_model.proofs.SoundSlots.{Changes, by_number}
 -- ---- sessions and instances after an end
 
 -- what the session's number has after the end of a call of this kind
-abbrev SessionsSo : CallKind → Option Session → Option Session → Type 0
+abbrev pub SessionsSo : CallKind → Option Session → Option Session → Type 0
 SessionsSo kind.Open was now = Unit {0}
 SessionsSo (kind.Invoke func) was now = now ≡ was
 SessionsSo kind.Close was now = now ≡ None
 SessionsSo kind.Settled was now = now ≡ was
 
 -- all other sessions stay, and this one by its kind
-record SessionsEnd (call_kind : CallKind) (number : ℕ) (before after : NumberMap Session) : Type 0 where
-  here : SessionsSo call_kind (get before number) (get after number)
-  others : (other : ℕ) → (number ≡ other → ⊥) → get after other ≡ get before other
+pub record SessionsEnd (call_kind : CallKind) (number : ℕ) (before after : NumberMap Session) : Type 0 where
+  pub here : SessionsSo call_kind (get before number) (get after number)
+  pub others : (other : ℕ) → (number ≡ other → ⊥) → get after other ≡ get before other
 
 -- all other instances stay, and this one, where it is kept, is nobody's
-record InstancesEnd (number : ℕ) (held : Instance) (before after : NumberMap Instance) : Type 0 where
-  here : (instance : Instance) → get after number ≡ Some instance → (instance.holder ≡ None) × (instance.uuid ≡ held.uuid)
-  others : (other : ℕ) → (number ≡ other → ⊥) → get after other ≡ get before other
+pub record InstancesEnd (number : ℕ) (held : Instance) (before after : NumberMap Instance) : Type 0 where
+  pub here : (instance : Instance) → get after number ≡ Some instance → (instance.holder ≡ None) × (instance.uuid ≡ held.uuid)
+  pub others : (other : ℕ) → (number ≡ other → ⊥) → get after other ≡ get before other
 
 removes : (call_kind : CallKind) (number : ℕ) (sessions : NumberMap Session) → SessionsSo call_kind (get sessions number) None
     → SessionsEnd call_kind number sessions (remove sessions number)
@@ -56,7 +56,7 @@ settles : (number context : ℕ) (sessions : NumberMap Session) (found : Option 
 settles number context sessions None = record { here = tt; others = λ other apart. refl }
 settles number context sessions (Some session) = record { here = tt; others = λ other apart. get-insert-other sessions number _ other apart }
 
-sessions_end : (call_kind : CallKind) (sessions : NumberMap Session) (number result context : ℕ)
+pub sessions_end : (call_kind : CallKind) (sessions : NumberMap Session) (number result context : ℕ)
     → SessionsEnd call_kind number sessions (sessions_after call_kind sessions number result context)
 sessions_end kind.Open sessions number result context =
     if-both (SessionsEnd kind.Open number sessions) (result == success) (settled sessions number context) (remove sessions number)
@@ -65,14 +65,14 @@ sessions_end (kind.Invoke func) sessions number result context = record { here =
 sessions_end kind.Close sessions number result context = removes kind.Close number sessions refl
 sessions_end kind.Settled sessions number result context = record { here = refl; others = λ other apart. refl }
 
-sessions_panic : (call_kind : CallKind) (sessions : NumberMap Session) (number : ℕ)
+pub sessions_panic : (call_kind : CallKind) (sessions : NumberMap Session) (number : ℕ)
     → SessionsEnd call_kind number sessions (sessions_after_panic call_kind sessions number)
 sessions_panic kind.Open sessions number = removes kind.Open number sessions tt
 sessions_panic (kind.Invoke func) sessions number = record { here = refl; others = λ other apart. refl }
 sessions_panic kind.Close sessions number = removes kind.Close number sessions refl
 sessions_panic kind.Settled sessions number = record { here = refl; others = λ other apart. refl }
 
-instances_end : (sessions : NumberMap Session) (instances : NumberMap Instance) (number : ℕ) (is_last : Bool) (change : Instance → Instance) (held : Instance)
+pub instances_end : (sessions : NumberMap Session) (instances : NumberMap Instance) (number : ℕ) (is_last : Bool) (change : Instance → Instance) (held : Instance)
     (found : Option Instance) → found ≡ Some held → ((instance : Instance) → (change instance).holder ≡ None) → ((instance : Instance) → (change instance).uuid ≡ instance.uuid)
     → InstancesEnd number held instances (option_map_or (λ (instance : Instance). instances_after sessions instances number is_last (change instance)) found instances)
 instances_end sessions instances number is_last change held None is free same = never_none None held refl is

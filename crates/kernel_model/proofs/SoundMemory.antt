@@ -108,7 +108,7 @@ passes_there {X} test (first ∷ xs) x e = by_test (test first) refl (passes_the
     by_test false is rest here = rest here
 
 -- an application is found by its own UUID
-own_uuid : (boot : Booted) (uuid : List ℕ) (app : Application) → app_of boot uuid ≡ Some app → app_of boot (uuid_of app) ≡ Some app
+pub own_uuid : (boot : Booted) (uuid : List ℕ) (app : Application) → app_of boot uuid ≡ Some app → app_of boot (uuid_of app) ≡ Some app
 own_uuid boot uuid app e =
     let same = (bytes_eq-Decides (uuid_of app) uuid).0 (passes_there (λ (a : Application). bytes_eq (uuid_of a) uuid) boot.apps app e) in
     ap (app_of boot) same ∙ e

@@ -166,7 +166,7 @@ resumed_order r order = resumes_all r (λ progress. AreInOrder progress.tables) 
       record { sessions = order.sessions; instances = IsRising-insert r.tables.instances session.instance _ order.instances; buffers = order.buffers };
 })
 
-exit_order : (tables : Tables) (call : PendingCall) (granted : ℕ) (progress : Progress) → AreInOrder tables → progress_of tables call granted ≡ Some progress
+pub exit_order : (tables : Tables) (call : PendingCall) (granted : ℕ) (progress : Progress) → AreInOrder tables → progress_of tables call granted ≡ Some progress
     → AreInOrder progress.tables
 exit_order tables call granted progress order e = exits_all tables call granted (λ (p : Progress). AreInOrder p.tables) progress (record {
   left = λ job later is grant. order;

@@ -138,7 +138,7 @@ fails_on params phase over untold idle = record {
 
 module _ (before : Calls) (r : Resumed) (joined : AreJoined before r.tables) (was : PendingCall) (there : before r.slot ≡ Some was)
     (on : GoesOn was r.call) where
-  fits_session : FitsSession (get r.tables.sessions r.call.session) r.call
+  pub fits_session : FitsSession (get r.tables.sessions r.call.session) r.call
   fits_session = subst (λ (n : ℕ). FitsSession (get r.tables.sessions n) r.call) (sym on.session)
       (session_goes_on (get r.tables.sessions was.session) was r.call on (joined.each r.slot was there).session)
 

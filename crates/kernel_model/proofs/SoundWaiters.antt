@@ -196,7 +196,7 @@ new_waiters before c sound free = record {
 abbrev OnwardWaiters : Calls → ℕ → Progress → Type 0
 OnwardWaiters before slot progress = (after : Calls) → Changes before after slot (Some (unmarked progress.call)) → AreWaiters after progress.tables.waiters
 
-idle_after : (job : Job) (rpc : Rpc) (payload : List ℕ) (advance : Advance) (wanted : Awaited) → awaited_in (phase_after (Asks job rpc payload) advance) wanted ≡ None
+pub idle_after : (job : Job) (rpc : Rpc) (payload : List ℕ) (advance : Advance) (wanted : Awaited) → awaited_in (phase_after (Asks job rpc payload) advance) wanted ≡ None
 idle_after job rpc payload (Goes next) wanted = refl
 idle_after job rpc payload (Stops (steps.Asks asked bytes left)) wanted = refl
 idle_after job rpc payload (Stops (steps.Ends end)) wanted = refl
@@ -232,13 +232,13 @@ seen_phase (Asks job rpc payload) wanted = refl
 seen_phase (Waits params) wanted = refl
 seen_phase (Ends result params told wakes) wanted = refl
 
-given_awaits : (given : Given) (call : PendingCall) → awaited (Some (call_given given call)) ≡ awaited (Some call)
+pub given_awaits : (given : Given) (call : PendingCall) → awaited (Some (call_given given call)) ≡ awaited (Some call)
 given_awaits Nothing call = refl
 given_awaits (Buffer buffer) call = refl
 given_awaits NoBuffer call = refl
 given_awaits (Reply reply) call = refl
 
-sees_awaits : (call : PendingCall) → awaited (Some (sees call)) ≡ awaited (Some call)
+pub sees_awaits : (call : PendingCall) → awaited (Some (sees call)) ≡ awaited (Some call)
 sees_awaits call = if-both (λ (c : PendingCall). awaited (Some c) ≡ awaited (Some call)) call.marked _ call (seen_phase call.phase (call.instance, call.uuid)) refl
 
 -- ---- exits

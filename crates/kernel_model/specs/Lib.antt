@@ -25,6 +25,7 @@ pub mod SoundMemory
 pub mod SoundPlaces
 pub mod SoundRequests
 pub mod SoundPins
+pub mod SoundInstances
 pub mod Worked
 pub mod AnswerExamples
 pub mod ResultExamples

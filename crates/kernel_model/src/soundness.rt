@@ -9,6 +9,7 @@ ghost use Rattle.kernel_model.specs.SoundMemory.{AreInMemory};
 ghost use Rattle.kernel_model.specs.SoundPlaces.{HaveTheirPlaces};
 ghost use Rattle.kernel_model.specs.SoundRequests.{HaveFittingRequests};
 ghost use Rattle.kernel_model.specs.SoundPins.{ArePinned};
+ghost use Rattle.kernel_model.specs.SoundInstances.{AreFew};
 ghost use Rattle.session_table.specs.Waiters.{IsLine};
 
 /// A processor that is inside for a slot works on its call, and the processor that works on a call is inside for its
@@ -85,4 +86,9 @@ pub fn requests_fit()
 /// Only slots with calls pin registered buffers.
 pub fn pins_are_of_calls()
     ensures { Always (λ boot kernel. ArePinned (call_at kernel.slots) kernel.tables) }
+{}
+
+/// At most one instance is kept for each session, and one that each of sixteen applications keeps alive.
+pub fn instances_are_few()
+    ensures { Always (λ boot kernel. AreFew kernel.tables) }
 {}
