@@ -1,4 +1,10 @@
+pub mod ByLaws
 pub mod ComesTo
+pub mod FoundInside
 pub mod GivenBack
+pub mod Left
 pub mod Maps
+pub mod OneWay
 pub mod Seen
+pub mod StandsAfter
+pub mod ToBeTold

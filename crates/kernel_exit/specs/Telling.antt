@@ -44,7 +44,8 @@ CanBeTold cont Finishes = HasRoomForResult cont
 -- ---- the slot behind it
 
 -- the slot of this number, beside which this stands, is the kernel's now, and the others are as they were
-pub record HoldsNow (old new : List (Slot (Box (Cont (List ℕ))))) (slot : ℕ) (beside : Cancellation) (held : model.ThreadSlot) : Type 0 where
+pub record HoldsNow (old new : List (Slot (Box (Cont (List ℕ))))) (slot : ℕ) (beside : Cancellation)
+    (held : model.ThreadSlot) : Type 0 where
   pub now : Slot (Box (Cont (List ℕ)))
   pub set : new ≡ slice_set old slot now
   pub is : IsSlot now beside held
