@@ -1,6 +1,7 @@
 -- What is decided for the call that is found is what the kernel's call is given.
 use Rattle.std.proofs.Common.{◌≡◌, ℕ, List, Option, Some, None, refl, sym, ◌∙◌, ap, subst}
 use Rattle.std.specs.Prelude.{IsSome, IsSomeAnd}
+use Rattle.std.proofs.Math.Logic.{∥∥₁_map}
 use Rattle.std.specs.Global.{Box}
 use Rattle.std.specs.Option.{option_and_then, option_map}
 use Rattle.kernel_model.specs.Application.{Booted}
@@ -44,48 +45,46 @@ of_none (Some cont) call is of = absurd cc
 abbrev pub IsFound : List (Slot (Box (Cont (List ℕ)))) → List ℕ → Option (Cont (List ℕ)) → Type 0
 IsFound slots regs cont = (beside : List Cancellation) (held : List ThreadSlot) → AreSlots slots beside held → IsCallOf cont (call_resumed_by held regs)
 
-pub can_be_given : (slots : List (Slot (Box (Cont (List ℕ))))) (regs : List ℕ) (cont : Cont (List ℕ)) →
-    CanDecide slots regs → IsFound slots regs (Some cont) → CanBeGiven cont
-can_be_given slots regs cont can finds =
+given_by : (slots : List (Slot (Box (Cont (List ℕ))))) (regs : List ℕ) (cont : Cont (List ℕ)) → IsFound slots regs (Some cont) → CanDecide slots regs → CanBeGiven cont
+given_by slots regs cont finds can =
     let call : (one : PendingCall) × (call_resumed_by can.held regs ≡ Some one) × IsCall cont one = of_some cont (call_resumed_by can.held regs) (finds can.beside can.held can.stand) in
     record { call = call.0; is = call.2; placed = λ buffer is. can.placed call.0 buffer call.1 is }
 
-pub is_decided : (boot : Booted) (slots : List (Slot (Box (Cont (List ℕ))))) (regs lane : List ℕ) (slot : ℕ) (cont : Cont (List ℕ)) (decided : Decided) (before after : List Read) →
+pub can_be_given : (slots : List (Slot (Box (Cont (List ℕ))))) (regs : List ℕ) (cont : Cont (List ℕ)) →
+    ∥ CanDecide slots regs ∥₁ → IsFound slots regs (Some cont) → ∥ CanBeGiven cont ∥₁
+can_be_given slots regs cont fact finds = ∥∥₁_map fact (given_by slots regs cont finds)
+
+pub is_decided : (slots : List (Slot (Box (Cont (List ℕ))))) (regs lane : List ℕ) (slot : ℕ) (cont : Cont (List ℕ)) (decided : Decided) (before after : List Read) →
     slot ≡ thread_in regs → IsFound slots regs (Some cont) →
     ((call : PendingCall) → IsCall cont call → over_lane (given_to regs slot call) lane before ≡ Some (given_as decided.given, after)) →
-    ((call : PendingCall) → IsCall cont call → IsAppFor boot call decided.app) →
-    (beside : List Cancellation) (held : List ThreadSlot) → AreSlots slots beside held → IsDecided boot held regs lane before (Some decided) after
-is_decided boot slots regs lane slot cont decided before after is finds gives apps beside held are =
+    (beside : List Cancellation) (held : List ThreadSlot) → AreSlots slots beside held → IsDecided held regs lane before (Some decided) after
+is_decided slots regs lane slot cont decided before after is finds gives beside held are =
     let call : (one : PendingCall) × (call_resumed_by held regs ≡ Some one) × IsCall cont one = of_some cont (call_resumed_by held regs) (finds beside held are) in
     let given : over_lane (given_to regs (thread_in regs) call.0) lane before ≡ Some (given_as decided.given, after) =
     ap (λ (at : ℕ). over_lane (given_to regs at call.0) lane before) (sym is) ∙ gives call.0 call.2 in
-    subst (λ (one : Option PendingCall). IsSomeAnd one (IsDecidedFor boot regs lane before decided after)) (sym call.1)
-    (record { given = given; app = apps call.0 call.2 })
+    subst (λ (one : Option PendingCall). IsSomeAnd one (IsDecidedFor regs lane before decided after)) (sym call.1) given
 
-pub is_refused : (boot : Booted) (slots : List (Slot (Box (Cont (List ℕ))))) (regs lane : List ℕ) (none : Option (Cont (List ℕ))) (reads : List Read) →
+pub is_refused : (slots : List (Slot (Box (Cont (List ℕ))))) (regs lane : List ℕ) (none : Option (Cont (List ℕ))) (reads : List Read) →
     none ≡ None → IsFound slots regs none →
-    (beside : List Cancellation) (held : List ThreadSlot) → AreSlots slots beside held → IsDecided boot held regs lane reads None reads
-is_refused boot slots regs lane none reads is finds beside held are = (of_none none (call_resumed_by held regs) is (finds beside held are), refl)
+    (beside : List Cancellation) (held : List ThreadSlot) → AreSlots slots beside held → IsDecided held regs lane reads None reads
+is_refused slots regs lane none reads is finds beside held are = (of_none none (call_resumed_by held regs) is (finds beside held are), refl)
 
 -- ---- its application
 
-waits_at : (cont : Cont (List ℕ)) (call : PendingCall) (params : CopiedParams) → IsCall cont call → call.phase ≡ model.Waits params → IsWaiting cont params
-waits_at cont call params is waits = subst (IsInPhase cont) waits is.phase
-
 pub app_waited : (boot : Booted) (cont : Cont (List ℕ)) (own : ContApp) (app : Option (Application)) → cont.app ≡ Some own →
-    app_of boot (uuid_of (Some own)) ≡ option_map application_of app → (call : PendingCall) → IsCall cont call → IsAppFor boot call app
-app_waited boot cont own app is found call same params waits =
-    let uuid : call.uuid ≡ Some (uuid_of (Some own)) = subst (λ (one : Option (ContApp)). IsAppOf one call.uuid) is same.app in
-    ap (option_and_then (app_of boot)) uuid ∙ found
+    app_of boot (uuid_of (Some own)) ≡ option_map application_of app → IsAppFor boot cont app
+app_waited boot cont own app is found waits some = ap (λ (one : Option (ContApp)). app_of boot (uuid_of one)) is ∙ found
 
-pub app_unasked : (boot : Booted) (cont : Cont (List ℕ)) (app : Option (Application)) → (cont.phase ≡ phase.Waits → ⊥) →
-    (call : PendingCall) → IsCall cont call → IsAppFor boot call app
-app_unasked boot cont app works call same params waits = absurd (works (waits_at cont call params same waits).phase)
+pub app_unasked : (boot : Booted) (cont : Cont (List ℕ)) (app : Option (Application)) → (cont.phase ≡ phase.Waits → ⊥) → IsAppFor boot cont app
+app_unasked boot cont app works waits some = absurd (works waits)
 
 none_there : {A : Type 0} (o : Option A) → o ≡ None → IsSome o → ⊥
 none_there None is some = absurd cc
 none_there (Some a) is some = absurd cc
 
-pub app_missing : (boot : Booted) (cont : Cont (List ℕ)) (app : Option (Application)) → cont.app ≡ None →
-    (call : PendingCall) → IsCall cont call → IsAppFor boot call app
-app_missing boot cont app none call same params waits = absurd (none_there cont.app none (waits_at cont call params same waits).app)
+pub app_missing : (boot : Booted) (cont : Cont (List ℕ)) (app : Option (Application)) → cont.app ≡ None → IsAppFor boot cont app
+app_missing boot cont app none waits some = absurd (none_there cont.app none some)
+
+-- the call that is handed out is the one that was found
+pub app_handed_out : (boot : Booted) (cont found : Cont (List ℕ)) (app : Option (Application)) → Some found ≡ Some cont → IsAppFor boot found app → IsAppFor boot cont app
+app_handed_out boot cont found app same its = let is : found ≡ cont = cc in subst (λ (one : Cont (List ℕ)). IsAppFor boot one app) is its

@@ -1,5 +1,6 @@
 -- What a resume reads is what the kernel's call is given.
 use Rattle.std.proofs.Common.{◌≡◌, ℕ, List, Some, ◌∙◌, ap}
+use Rattle.std.proofs.Math.Logic.{∥∥₁_elim}
 use Rattle.std.specs.Option.{option_and_then}
 use Rattle.kernel_model.specs.Given.{Reply, given_after}
 use Rattle.kernel_model.specs.Kernel.{PendingCall}
@@ -14,6 +15,7 @@ use Rattle.rpc_msgs.specs.Reply.{reply_reader}
 use Rattle.rpc_msgs.specs.Request.{IsRequest}
 use Rattle.rpc_msgs.specs.declared.rpc.RpcReply.{RpcReply}
 use Rattle.rpc_msgs.specs.declared.rpc_buffer.RpcBuffer.{RpcBuffer}
+use Rattle.resumed_calls.proofs.Facts.{in_ram_prop, request_prop}
 use Rattle.resumed_calls.proofs.Requests.{GoesThere, goes_in}
 use Rattle.resumed_calls.specs.Giving.{CanBeGiven}
 use Rattle.call_leaving.specs.Leaving.{leaving_as, request_of}
@@ -33,12 +35,14 @@ when_asked slot cont place wanted can goes =
     goes_in slot cont can.call can.call.phase place (request_of cont.request wanted) can.is.phase (goes can.call can.is)
 
 pub in_ram_when_asked : (slot : ℕ) (cont : Cont (List ℕ)) (place : RpcBuffer) (wanted : Wanted) →
-    CanBeGiven cont → GoesOut slot cont (Requests place wanted) → IsInRam place.addr 4096
-in_ram_when_asked slot cont place wanted can goes = can.placed place (when_asked slot cont place wanted can goes).place_is
+    ∥ CanBeGiven cont ∥₁ → GoesOut slot cont (Requests place wanted) → IsInRam place.addr 4096
+in_ram_when_asked slot cont place wanted fact goes =
+    ∥∥₁_elim fact (in_ram_prop place.addr 4096) (λ (can : CanBeGiven cont). can.placed place (when_asked slot cont place wanted can goes).place_is)
 
 pub request_when_asked : (slot : ℕ) (cont : Cont (List ℕ)) (place : RpcBuffer) (wanted : Wanted) →
-    CanBeGiven cont → GoesOut slot cont (Requests place wanted) → IsRequest (request_of cont.request wanted).wanted
-request_when_asked slot cont place wanted can goes = (when_asked slot cont place wanted can goes).fits
+    ∥ CanBeGiven cont ∥₁ → GoesOut slot cont (Requests place wanted) → IsRequest (request_of cont.request wanted).wanted
+request_when_asked slot cont place wanted fact goes =
+    ∥∥₁_elim fact (request_prop (request_of cont.request wanted).wanted) (λ (can : CanBeGiven cont). (when_asked slot cont place wanted can goes).fits)
 
 -- ---- what is given
 

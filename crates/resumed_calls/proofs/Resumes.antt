@@ -1,5 +1,6 @@
 -- A call that is resumed comes to what the kernel's does.
 use Rattle.std.proofs.Common.{◌≡◌, ℕ, Bool, List, Option, Some, None, refl, sym, ◌∙◌, ap, subst}
+use Rattle.std.proofs.Math.Logic.{∥∥₁_elim}
 use Rattle.std.specs.Prelude.{IsSome}
 use Rattle.std.specs.Option.{option_and_then, option_map}
 use Rattle.base.specs.NumberMap.{get}
@@ -22,9 +23,10 @@ use Rattle.rpc_cont.specs.declared.phase.Phase.TheVariants as phase
 use Rattle.ta_isa.specs.Boots.{IsBoot}
 use Rattle.ta_params.specs.declared.copied_params.CopiedParams.{CopiedParams}
 use Rattle.resumed_calls.proofs.Begins.{its_uuid}
+use Rattle.resumed_calls.proofs.Facts.{can_be_answered_prop, in_line_prop}
 use Rattle.resumed_calls.specs.Onward.{HasCome}
 use Rattle.resumed_calls.specs.Resuming.{CanResume}
-use Rattle.resumed_calls.specs.Waiting.{IsInLine, IsOwnInstance, IsWaitingCall, MayBeItsApp, WaitsInLine, resumed_in}
+use Rattle.resumed_calls.specs.Waiting.{IsAppFor, IsInLine, IsOwnInstance, IsWaitingCall, MayBeItsApp, WaitsInLine, resumed_in}
 use Rattle.resumed_calls.specs.declared.resuming.Resumed.{Resumed as Resumes}
 
 -- ---- how far it has come
@@ -48,11 +50,12 @@ HasSeen old one marked = (call : PendingCall) → IsCall old call → call.marke
 abbrev pub HasGot : Cont (List ℕ) → Cont (List ℕ) → Given → Type 0
 HasGot one cont given = (call : PendingCall) → IsCall one call → IsCall cont (call_given given call)
 
-pub can_be_answered : (boot : Booted) (tables : model.Tables) (resumed : Resumes) (old one cont : Cont (List ℕ)) (given : Given) → CanResume boot tables resumed old →
+pub can_be_answered : (boot : Booted) (tables : model.Tables) (resumed : Resumes) (old one cont : Cont (List ℕ)) (given : Given) → ∥ CanResume boot tables resumed old ∥₁ →
     HasSeen old one resumed.marked → HasGot one cont given → cont.phase ≡ phase.Asks → CanBeAnswered bytes_of cont
-can_be_answered boot tables resumed old one cont given can saw gives asks =
+can_be_answered boot tables resumed old one cont given fact saw gives asks =
+    ∥∥₁_elim fact (can_be_answered_prop cont) (λ (can : CanResume boot tables resumed old).
     let last = call_given given (sees can.call) in
-    answered_at cont last.phase (gives (sees can.call) (saw can.call can.is can.marked)).phase asks
+    answered_at cont last.phase (gives (sees can.call) (saw can.call can.is can.marked)).phase asks)
 
 -- ---- one that waits
 
@@ -98,15 +101,22 @@ waiting_now cont call is waits =
     let at : (params : CopiedParams) × (call.phase ≡ Waits params) = waits_of cont call.phase is.phase waits in
     (at.0, at.1, subst (IsInPhase cont) at.1 is.phase)
 
-pub in_line : (boot : Booted) (tables : model.Tables) (resumed : Resumes) (old one cont : Cont (List ℕ)) (given : Given) → CanResume boot tables resumed old →
+line_by : (boot : Booted) (tables : model.Tables) (resumed : Resumes) (old one cont : Cont (List ℕ)) (given : Given) → CanResume boot tables resumed old →
     HasSeen old one resumed.marked → HasGot one cont given → one ≡ record old { cancelled = one.cancelled; machine = one.machine } → cont ≡ record one { buffer = cont.buffer } →
     cont.phase ≡ phase.Waits → IsInLine boot tables resumed.slot cont
-in_line boot tables resumed old one cont given can saw gives first second waits =
+line_by boot tables resumed old one cont given can saw gives first second waits =
     let last = call_given given (sees can.call) in
     let stays = stays_both old one cont first second in
     let now : (params : CopiedParams) × (last.phase ≡ Waits params) × IsWaiting cont params = waiting_now cont last (gives (sees can.call) (saw can.call can.is can.marked)) waits in
     let before : (params : CopiedParams) × (can.call.phase ≡ Waits params) × IsWaiting old params = waiting_now old can.call can.is (sym stays.phase ∙ waits) in
     line_of boot tables resumed.slot old cont can.call now.0 stays can.is (some_app old cont stays.app now.2.app) now.2 (can.line before.0 before.1)
+
+pub in_line : (boot : Booted) (tables : model.Tables) (resumed : Resumes) (old one cont : Cont (List ℕ)) (given : Given) → ∥ CanResume boot tables resumed old ∥₁ →
+    HasSeen old one resumed.marked → HasGot one cont given → one ≡ record old { cancelled = one.cancelled; machine = one.machine } → cont ≡ record one { buffer = cont.buffer } →
+    cont.phase ≡ phase.Waits → IsInLine boot tables resumed.slot cont
+in_line boot tables resumed old one cont given fact saw gives first second waits =
+    ∥∥₁_elim fact (in_line_prop boot tables resumed.slot cont) (λ (can : CanResume boot tables resumed old).
+    line_by boot tables resumed old one cont given can saw gives first second waits)
 
 app_there : (setup : Setup) (cont : Cont (List ℕ)) (app : Option (AnyApplication)) → IsBoot (boot_of setup) →
     app_of (booted_with setup) (uuid_of cont.app) ≡ option_map application_of app → MayBeItsApp (booted_with setup) cont app
@@ -114,19 +124,15 @@ app_there setup cont None boot found = found
 app_there setup cont (Some app) boot found =
     record { found = found; valid = valid_app (boot_of setup) (natives_of setup) (uuid_of cont.app) (application_of app) boot found }
 
-pub may_be_app : (setup : Setup) (tables : model.Tables) (resumed : Resumes) (old one cont : Cont (List ℕ)) (given : Given) → IsBoot (boot_of setup) →
-    CanResume (booted_with setup) tables resumed old → HasSeen old one resumed.marked → HasGot one cont given →
+pub may_be_app : (setup : Setup) (tables : model.Tables) (resumed : Resumes) (old one cont : Cont (List ℕ)) → IsBoot (boot_of setup) →
+    IsAppFor (booted_with setup) old resumed.app → IsInLine (booted_with setup) tables resumed.slot cont →
     one ≡ record old { cancelled = one.cancelled; machine = one.machine } → cont ≡ record one { buffer = cont.buffer } →
     cont.phase ≡ phase.Waits → MayBeItsApp (booted_with setup) cont resumed.app
-may_be_app setup tables resumed old one cont given boot can saw gives first second waits =
-    let last = call_given given (sees can.call) in
+may_be_app setup tables resumed old one cont boot its line first second waits =
     let stays = stays_both old one cont first second in
-    let now : (params : CopiedParams) × (last.phase ≡ Waits params) × IsWaiting cont params = waiting_now cont last (gives (sees can.call) (saw can.call can.is can.marked)) waits in
-    let before : (params : CopiedParams) × (can.call.phase ≡ Waits params) × IsWaiting old params = waiting_now old can.call can.is (sym stays.phase ∙ waits) in
-    let some : IsSome old.app = some_app old cont stays.app now.2.app in
     app_there setup cont resumed.app boot
     (ap (λ (app : Option (ContApp)). app_of (booted_with setup) (uuid_of app)) stays.app
-    ∙ sym (ap (option_and_then (app_of (booted_with setup))) (its_uuid old can.call some can.is)) ∙ can.app before.0 before.1)
+    ∙ its (sym stays.phase ∙ waits) (some_app old cont stays.app line.app))
 
 pub waiting_onward : (left tables : model.Tables) (boot : Booted) (resumed : Resumes) (old one cont after : Cont (List ℕ)) (given : Given) (without : Bool) →
     HasSeen old one resumed.marked → HasGot one cont given → cont.phase ≡ phase.Waits → without ≡ is_without_buffer given →

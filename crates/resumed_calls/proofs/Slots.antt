@@ -1,5 +1,5 @@
 -- The call that is found in the slots is the kernel's.
-use Rattle.std.proofs.Common.{◌≡◌, ℕ, List, Option, Some, None, sym, ◌∙◌, ap₂, subst, ◌==◌, Bool, true, false}
+use Rattle.std.proofs.Common.{◌≡◌, ℕ, List, Option, Some, None, sym, ◌∙◌, ap₂, subst, ◌==◌, Bool, true, false, ap}
 use Rattle.std.specs.Prelude.{slice_get, Ok, Err, if◌then◌else◌, Result}
 use Rattle.std.specs.Global.{Box}
 use Rattle.kernel_model.specs.Argument.{client_in, thread_in}
@@ -15,6 +15,7 @@ use Rattle.thread_slots.specs.declared.bad_resume.BadResume.{BadResume}
 use Rattle.thread_slots.specs.declared.bad_resume.BadResume.TheVariants.{OtherClient}
 use Rattle.thread_slots.specs.declared.slot.Slot.{Slot}
 use Rattle.thread_slots.specs.declared.slot.Slot.TheVariants.{Free, Active, Suspended}
+use Rattle.resumed_calls.specs.Deciding.{IsHandedOut}
 use Rattle.resumed_calls.specs.Finding.{IsCallOf}
 
 -- what a resume is told of a slot, as an option
@@ -66,3 +67,20 @@ pub refused_told : (slots : List (Slot (Box (Cont (List ℕ))))) (regs : List �
 refused_told slots regs slot client refusal is_slot is_client is beside held are =
     subst (λ (answer : Result _ BadResume). IsCallOf (found answer) (call_resumed_by held regs))
     (ap₂ (λ (at by : ℕ). resumed_from (slice_get slots at) by) (sym is_slot) (sym is_client) ∙ is) (call_found slots regs beside held are)
+
+-- ---- what is handed out
+
+pub handed_out : (slots : List (Slot (Box (Cont (List ℕ))))) (regs : List ℕ) (slot client : ℕ) (found : Box (Cont (List ℕ))) →
+    slot ≡ thread_in regs → client ≡ client_in regs → resumed_from (slice_get slots slot) client ≡ Ok found →
+    (cont : Box (Cont (List ℕ))) → IsHandedOut slots regs cont → Some found.value ≡ Some cont.value
+handed_out slots regs slot client found is_slot is_client is cont handed =
+    let both : Ok found ≡ Ok cont = sym is ∙ ap₂ (λ (at by : ℕ). resumed_from (slice_get slots at) by) is_slot is_client ∙ handed in
+    let same : found ≡ cont = cc in
+    ap (λ (one : Box (Cont (List ℕ))). Some one.value) same
+
+pub not_handed_out : (slots : List (Slot (Box (Cont (List ℕ))))) (regs : List ℕ) (slot client : ℕ) (refusal : BadResume) →
+    slot ≡ thread_in regs → client ≡ client_in regs → resumed_from (slice_get slots slot) client ≡ Err refusal →
+    (cont : Box (Cont (List ℕ))) → IsHandedOut slots regs cont → None ≡ Some cont.value
+not_handed_out slots regs slot client refusal is_slot is_client is cont handed =
+    let both : Err refusal ≡ Ok cont = sym is ∙ ap₂ (λ (at by : ℕ). resumed_from (slice_get slots at) by) is_slot is_client ∙ handed in
+    absurd cc

@@ -45,7 +45,7 @@ use Rattle.resumed_calls.specs.declared.deciding.Decided.{Decided}
 -- ---- the kernel's decision
 
 pub decision_refused : (boot : Booted) (kernel : Kernel) (regs lane : List ℕ) (before after : List Read) →
-    IsDecided boot kernel.slots regs lane before None after → over_lane (resume boot kernel regs) lane before ≡ Some (Answers eresume, after)
+    IsDecided kernel.slots regs lane before None after → over_lane (resume boot kernel regs) lane before ≡ Some (Answers eresume, after)
 decision_refused boot kernel regs lane before after is =
     ap (λ (call : Option PendingCall). over_lane (option_map_or (takes_call boot kernel.tables regs) call (done (Answers eresume))) lane before) is.0
     ∙ ap (λ (reads : List Read). Some (Answers eresume, reads)) (sym is.1)
@@ -54,7 +54,7 @@ decision_refused boot kernel regs lane before after is =
 pub record Continues (boot : Booted) (kernel : Kernel) (regs lane : List ℕ) (before : List Read) (decided : Decided) (after : List Read) : Type 0 where
   pub call : PendingCall
   pub found : call_resumed_by kernel.slots regs ≡ Some call
-  pub decides : IsDecidedFor boot regs lane before decided after call
+  pub decides : IsDecidedFor regs lane before decided after call
   pub takes : over_lane (resume boot kernel regs) lane before
       ≡ Some (Takes (thread_in regs) (works_on (onward_of (resumed_call boot kernel.tables (thread_in regs) call (given_as decided.given)))), after)
 
@@ -76,7 +76,7 @@ takes_it boot tables regs lane call given before after is =
     ∙ ap (option_and_then (λ (step : Progress × List Read). over_lane (onward step.0) lane step.1)) (comes_to boot tables regs lane call given before after is)
 
 decided_for : (boot : Booted) (kernel : Kernel) (regs lane : List ℕ) (before : List Read) (decided : Decided) (after : List Read) (found : Option PendingCall) →
-    call_resumed_by kernel.slots regs ≡ found → IsSomeAnd found (IsDecidedFor boot regs lane before decided after) → Continues boot kernel regs lane before decided after
+    call_resumed_by kernel.slots regs ≡ found → IsSomeAnd found (IsDecidedFor regs lane before decided after) → Continues boot kernel regs lane before decided after
 decided_for boot kernel regs lane before decided after None is decides = absurd decides
 decided_for boot kernel regs lane before decided after (Some call) is decides = record {
   call = call;
@@ -84,11 +84,11 @@ decided_for boot kernel regs lane before decided after (Some call) is decides = 
   decides = decides;
   takes =
       ap (λ (call : Option PendingCall). over_lane (option_map_or (takes_call boot kernel.tables regs) call (done (Answers eresume))) lane before) is
-      ∙ takes_it boot kernel.tables regs lane call (given_as decided.given) before after decides.given;
+      ∙ takes_it boot kernel.tables regs lane call (given_as decided.given) before after decides;
 }
 
 pub decision_taken : (boot : Booted) (kernel : Kernel) (regs lane : List ℕ) (before : List Read) (decided : Decided) (after : List Read) →
-    IsDecided boot kernel.slots regs lane before (Some decided) after → Continues boot kernel regs lane before decided after
+    IsDecided kernel.slots regs lane before (Some decided) after → Continues boot kernel regs lane before decided after
 decision_taken boot kernel regs lane before decided after is =
     decided_for boot kernel regs lane before decided after (call_resumed_by kernel.slots regs) refl is
 

@@ -1,6 +1,6 @@
 -- A call that waits for its instance, at its turn.
 use Rattle.std.specs.Prelude.{◌≡◌, ℕ, ◌*◌, ◌<◌, true, false, List, length, None, Option, Some, IsSome}
-use Rattle.std.specs.Option.{option_and_then, option_map}
+use Rattle.std.specs.Option.{option_map}
 use Rattle.base.specs.NumberMap.{IsRising, get}
 use Rattle.begin_call.specs.Begins.{CanBegin, IsValidApp}
 use Rattle.job_model.specs.declared.call_kind.CallKind.TheVariants.{Close, Open}
@@ -14,6 +14,7 @@ use Rattle.kernel_state.specs.Setup.{application_of}
 use Rattle.kernel_state.specs.declared.setup.Application.{Application as AnyApplication}
 use Rattle.rpc_cont.specs.Conts.{uuid_of}
 use Rattle.rpc_cont.specs.declared.cont.Cont.{Cont}
+use Rattle.rpc_cont.specs.declared.phase.Phase.TheVariants as phase
 use Rattle.session_table.specs.Waiters.{waits}
 use Rattle.session_table.specs.declared.session.Session.{Session}
 use Rattle.ta_params.specs.declared.copied_params.CopiedParams.{CopiedParams}
@@ -75,7 +76,7 @@ abbrev pub MayBeItsApp : Booted → Cont (List ℕ) → Option (AnyApplication) 
 MayBeItsApp boot cont None = app_of boot (uuid_of cont.app) ≡ None
 MayBeItsApp boot cont (Some app) = IsItsApp boot cont (application_of app)
 
--- of a call of the kernel that waits, this is its application, where the core has one
-abbrev pub IsAppFor : Booted → PendingCall → Option (AnyApplication) → Type 0
-IsAppFor boot call app =
-    (params : CopiedParams) → call.phase ≡ Waits params → option_and_then (app_of boot) call.uuid ≡ option_map application_of app
+-- of a call that waits, and has its application, this is that, where the core has it
+abbrev pub IsAppFor : Booted → Cont (List ℕ) → Option (AnyApplication) → Type 0
+IsAppFor boot cont app =
+    cont.phase ≡ phase.Waits → IsSome cont.app → app_of boot (uuid_of cont.app) ≡ option_map application_of app

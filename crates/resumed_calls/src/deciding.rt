@@ -1,12 +1,11 @@
 //! What a resume decides.
 ghost use Rattle.std.specs.Prelude.{◌≡◌, List, IfOk, OnErr};
-ghost use Rattle.kernel_model.specs.Kernel.{PendingCall, ThreadSlot};
-ghost use Rattle.kernel_state.specs.Calls.{IsCall};
+ghost use Rattle.kernel_model.specs.Kernel.{ThreadSlot};
 ghost use Rattle.kernel_state.specs.Setup.{booted_with};
 ghost use Rattle.kernel_state.specs.StandsFor.{AreSlots};
 ghost use Rattle.kernel_state.specs.declared.cancellation.Cancellation.{Cancellation as AnyCancellation};
 ghost use Rattle.rpc_cont.specs.Conts.{uuid_of};
-ghost use Rattle.resumed_calls.specs.Deciding.{CanDecide, IsDecided};
+ghost use Rattle.resumed_calls.specs.Deciding.{CanDecide, IsAppIn, IsDecided};
 ghost use Rattle.resumed_calls.specs.Waiting.{IsAppFor};
 
 use crate::finding::call_resumed_by;
@@ -40,9 +39,10 @@ pub fn decide(
     lane: &Lane,
     reads: &mut Reads,
 ) -> Result<Option<Decided>, NoMemory>
-    requires { CanDecide slots.now regs.now.a }
+    requires { ∥ CanDecide slots.now regs.now.a ∥₁ }
     ensures ok { (beside : List AnyCancellation) (held : List ThreadSlot) → AreSlots slots.now beside held → IfOk result (λ decided.
-        IsDecided (booted_with setup.now) held regs.now.a lane.now reads.old decided reads.new) }
+        IsDecided held regs.now.a lane.now reads.old decided reads.new) }
+    ensures app { IfOk result (IsAppIn (booted_with setup.now) slots.now regs.now.a) }
     ensures err { OnErr result (reads.new ≡ reads.old) }
 {
     let Some(cont) = call_resumed_by(slots, regs) else {
@@ -56,7 +56,7 @@ pub fn decide(
 /// The application of a call that waits for its instance, if the core has that.
 #[tactic(auto, using(crate::proofs::Decides::app_waited, crate::proofs::Decides::app_unasked, crate::proofs::Decides::app_missing))]
 fn app_of_waiting(setup: &Setup, cont: &Cont<Pages>) -> Result<Option<Application>, NoMemory>
-    ensures { IfOk result (λ app. (call : PendingCall) → IsCall cont.now call → IsAppFor (booted_with setup.now) call app) }
+    ensures { IfOk result (IsAppFor (booted_with setup.now) cont.now) }
 {
     match (cont.phase, &cont.app) {
         (Phase::Waits, Some(app)) => setup.application(&uuid_of(app)),

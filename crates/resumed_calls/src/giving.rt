@@ -25,7 +25,7 @@ const BUFFER_ALIGNMENT: u64 = 8;
 
 /// What a resume with these registers gives the call that a slot was left with, by what it went out with: of a request
 /// the reply is read. At want of memory nothing is listed.
-#[tactic(auto, using(crate::proofs::Given::replied, crate::proofs::Given::in_ram_when_asked))]
+#[tactic(auto, using(crate::proofs::Given::replied))]
 pub(crate) fn given_to(
     alloc: Global,
     regs: &Regs,
@@ -34,7 +34,7 @@ pub(crate) fn given_to(
     lane: &Lane,
     reads: &mut Reads,
 ) -> Result<ResumeInput, NoMemory>
-    requires { CanBeGiven cont.now }
+    requires { ∥ CanBeGiven cont.now ∥₁ }
     ensures ok { (call : PendingCall) → IsCall cont.now call → IfOk result (λ given.
         over_lane (given_to regs.now.a slot call) lane.now reads.old ≡ Some (given_as given, reads.new)) }
     ensures err { OnErr result (reads.new ≡ reads.old) }

@@ -9,6 +9,7 @@ ghost use Rattle.ta_isa.specs.Boots.{IsBoot};
 ghost use Rattle.resumed_calls.specs.Giving.{given_as};
 ghost use Rattle.resumed_calls.specs.Onward.{HasCome};
 ghost use Rattle.resumed_calls.specs.Resuming.{CanResume};
+ghost use Rattle.resumed_calls.specs.Waiting.{IsAppFor};
 
 use crate::onward::goes_on;
 use crate::seeing::{call_given, sees};
@@ -32,11 +33,11 @@ pub struct Resumed {
 
 /// Makes of a suspended call what its resume makes of it: it sees that it was cancelled, has the buffer that it is given,
 /// and goes on by its phase. Takes no memory, and can't fail.
-#[tactic(auto, using(crate::proofs::Resumes::can_be_answered))]
 pub fn resume_call(setup: &Setup, tables: &mut Tables, cont: &mut Cont<Pages>, resumed: Resumed)
     requires boot { IsBoot (boot_of setup.now) }
     requires pages { HasFreePages setup.now tables.old }
-    requires call { CanResume (booted_with setup.now) (tables_of tables.old) resumed cont.old }
+    requires call { ∥ CanResume (booted_with setup.now) (tables_of tables.old) resumed cont.old ∥₁ }
+    requires app { IsAppFor (booted_with setup.now) cont.old resumed.app }
     ensures call { (call : PendingCall) → IsCall cont.old call → call.marked ≡ resumed.marked
         → HasCome (tables_of tables.new) cont.new
         (onward_of (resumed_call (booted_with setup.now) (tables_of tables.old) resumed.slot call (given_as resumed.given))) }
