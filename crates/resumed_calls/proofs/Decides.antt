@@ -3,15 +3,14 @@ use Rattle.std.proofs.Common.{◌≡◌, ℕ, List, Option, Some, None, refl, sy
 use Rattle.std.specs.Prelude.{IsSome, IsSomeAnd}
 use Rattle.std.proofs.Math.Logic.{∥∥₁_map}
 use Rattle.std.specs.Global.{Box}
-use Rattle.std.specs.Option.{option_and_then, option_map}
+use Rattle.std.specs.Option.{option_map}
 use Rattle.kernel_model.specs.Application.{Booted}
 use Rattle.kernel_model.specs.Argument.{thread_in}
 use Rattle.kernel_model.specs.Given.{given_to}
 use Rattle.kernel_model.specs.Instances.{app_of}
 use Rattle.kernel_model.specs.Kernel.{PendingCall, ThreadSlot}
-use Rattle.kernel_model.specs.Kernel as model
 use Rattle.kernel_model.specs.Resume.{call_resumed_by}
-use Rattle.kernel_state.specs.Calls.{IsAppOf, IsCall, IsInPhase, IsWaiting}
+use Rattle.kernel_state.specs.Calls.{IsCall}
 use Rattle.kernel_state.specs.Setup.{application_of}
 use Rattle.kernel_state.specs.StandsFor.{AreSlots}
 use Rattle.kernel_state.specs.declared.cancellation.Cancellation.{Cancellation}
@@ -22,7 +21,6 @@ use Rattle.rpc_cont.specs.Conts.{uuid_of}
 use Rattle.rpc_cont.specs.declared.app.ContApp.{ContApp}
 use Rattle.rpc_cont.specs.declared.cont.Cont.{Cont}
 use Rattle.rpc_cont.specs.declared.phase.Phase.TheVariants as phase
-use Rattle.ta_params.specs.declared.copied_params.CopiedParams.{CopiedParams}
 use Rattle.thread_slots.specs.declared.slot.Slot.{Slot}
 use Rattle.resumed_calls.specs.Deciding.{CanDecide, IsDecided, IsDecidedFor}
 use Rattle.resumed_calls.specs.Finding.{IsCallOf}

@@ -1,5 +1,5 @@
 -- What is asked of a call before it goes on is a fact: there is one way at most in which it holds.
-use Rattle.std.proofs.Common.{◌≡◌, ℕ, Bool, List, Option, Some, None}
+use Rattle.std.proofs.Common.{ℕ, Bool, List, Option, Some, None}
 use Rattle.std.proofs.Props.{props}
 use Rattle.begin_call.specs.Begins.{CanBegin}
 use Rattle.kernel_model.specs.Application.{Booted}
