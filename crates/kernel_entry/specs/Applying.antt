@@ -1,5 +1,6 @@
 -- What becomes of a slot's call and of the tables as the plan of a new call is applied.
-use Rattle.std.specs.Prelude.{◌≡◌, ℕ, ◌<◌, ◌≤◌, false, true, if◌then◌else◌, List, [], ◌∷◌, ◌++◌, length, Option, Some, None, Bool}
+use Rattle.std.specs.Prelude.{◌≡◌, ℕ, ◌<◌, ◌≤◌, Bool, false, true, if◌then◌else◌, List, [], ◌∷◌, ◌++◌, length}
+use Rattle.std.specs.Prelude.{Option, Some, None}
 use Rattle.std.specs.Option.{IsSomeAnd}
 use Rattle.base.specs.NumberMap.{IsRising, get}
 use Rattle.job_model.specs.declared.entry_point.EntryPoint.{EntryPoint}
@@ -41,7 +42,9 @@ began begun = record { tables = begun.tables; instance = begun.instance; phase =
 -- it waits there, behind those that wait already, with its application's UUID and its parameters
 abbrev pub queued : Beginner → ℕ → List ℕ → CopiedParams → Came
 queued who number uuid params = record {
-  tables = record who.tables { waiters = who.tables.waiters ++ record { instance = number; uuid = uuid; slot = who.slot } ∷ [] };
+  tables = record who.tables {
+    waiters = who.tables.waiters ++ record { instance = number; uuid = uuid; slot = who.slot } ∷ [];
+  };
   instance = number;
   phase = Waits params;
 }

@@ -36,7 +36,9 @@ cancels_by is_cancel beside =
     if is_cancel then Some (record { session = beside.session; cancel_id = beside.cancel_id }) else None
 
 -- the slot is active on the processor, and this stands beside it, once those calls are cancelled
-pub record HasTaken (old new : Parts) (cpu slot : ℕ) (beside : Cancellation) (cancels : Option model.Cancel) : Type 0 where
+pub record HasTaken (old new : Parts) (cpu slot : ℕ) (beside : Cancellation)
+    (cancels : Option model.Cancel) : Type 0 where
   pub slots : new.slots ≡ slice_set old.slots slot (Active cpu)
-  pub cancellations : new.cancellations.items ≡ slice_set (besides_cancelled old.cancellations.items cancels) slot beside
+  pub cancellations : new.cancellations.items
+      ≡ slice_set (besides_cancelled old.cancellations.items cancels) slot beside
   pub stays : new ≡ record old { slots = new.slots; cancellations = new.cancellations }

@@ -38,8 +38,8 @@ fn fills(cont: &mut Cont<Pages>, call: Cont<Pages>)
     *cont = call;
 }
 
-/// Lets a processor in for a new call, which takes the lowest free slot and fills this box. Where the definitions decide
-/// so, the parts stand for the kernel after it, and the processor carries the call that its slot works on.
+/// Lets a processor in for a new call, which takes the lowest free slot and fills this box. Where the definitions
+/// decide so, the parts stand for the kernel after it, and the processor carries the call that its slot works on.
 pub fn enters_new(
     alloc: Global,
     parts: &mut Parts,
@@ -58,7 +58,8 @@ pub fn enters_new(
     ensures replays { (lane : List ℕ) (fact : Replays parts.old) → MayEnter parts.old fact.kernel visitor reads
         → CanApply (call_with (booted_with parts.old.setup) (tables_of parts.old.tables) entered) plan
         → Decides (booted_with parts.old.setup) fact.kernel visitor lane
-        (Takes entered.slot (taken_of (call_with (booted_with parts.old.setup) (tables_of parts.old.tables) entered) plan)) reads
+        (Takes entered.slot
+        (taken_of (call_with (booted_with parts.old.setup) (tables_of parts.old.tables) entered) plan)) reads
         → Replays parts.new }
     ensures carries { CanApply (call_with (booted_with parts.old.setup) (tables_of parts.old.tables) entered) plan
         → (let taken = taken_of (call_with (booted_with parts.old.setup) (tables_of parts.old.tables) entered) plan in

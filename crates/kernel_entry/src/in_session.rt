@@ -32,7 +32,8 @@ use std::alloc::Global;
 
 /// A call holds the instance.
 fn is_held(tables: &Tables, number: u32) -> bool
-    ensures { result ≡ is_some (option_and_then (λ (instance : AnyInstance). instance.holder) (get (tables_of tables.now).instances number)) }
+    ensures { result ≡ is_some (option_and_then (λ (instance : AnyInstance). instance.holder)
+        (get (tables_of tables.now).instances number)) }
 {
     match tables.instances.get(number) {
         Some(instance) => instance.holder.is_some(),
@@ -45,10 +46,12 @@ fn comes_in(tables: &mut Tables, cont: &mut Cont<Pages>, call: SessionCall)
     requires new { IsNew cont.old }
     requires comes { MayCome tables.old call.slot (application_of call.app) }
     requires works { MayWork tables.old (application_of call.app) call.session }
-    ensures came { (boot : Booted) (instance : AnyInstance) → get (tables_of tables.old).instances call.session.instance ≡ Some instance
+    ensures came { (boot : Booted) (instance : AnyInstance)
+        → get (tables_of tables.old).instances call.session.instance ≡ Some instance
         → app_of boot instance.uuid ≡ Some (application_of call.app)
-        → HasCome tables.new cont.old cont.new instance.uuid (session_comes (who_begins boot tables.old call.slot cont.old)
-        call.session instance (kept_params cont.old.params) (points_of call.points)) }
+        → HasCome tables.new cont.old cont.new instance.uuid
+        (session_comes (who_begins boot tables.old call.slot cont.old) call.session instance
+        (kept_params cont.old.params) (points_of call.points)) }
     ensures pages { (setup : AnySetup) → HasFreePages setup tables.old → HasFreePages setup tables.new }
 {
     let number = call.session.instance;
@@ -70,9 +73,11 @@ pub(crate) fn invokes(
     requires comes { MayCome tables.old entered.now.slot (application_of app) }
     requires works { MayWork tables.old (application_of app) session }
     requires buffers { AreRegistered (tables_of tables.old) copies.cookies.items }
-    ensures taken { (boot : Booted) (instance : AnyInstance) → get (tables_of tables.old).instances session.instance ≡ Some instance
+    ensures taken { (boot : Booted) (instance : AnyInstance)
+        → get (tables_of tables.old).instances session.instance ≡ Some instance
         → app_of boot instance.uuid ≡ Some (application_of app)
-        → IsTaken None entered.now tables.new result (invokes (call_with boot (tables_of tables.old) entered.now) (session, instance) (copies_in copies)) }
+        → IsTaken None entered.now tables.new result
+        (invokes (call_with boot (tables_of tables.old) entered.now) (session, instance) (copies_in copies)) }
     ensures pages { (setup : AnySetup) → HasFreePages setup tables.old → HasFreePages setup tables.new }
 {
     let TakenParams {
@@ -114,9 +119,11 @@ pub(crate) fn closes(
     requires comes { MayCome tables.old entered.now.slot (application_of app) }
     requires works { MayWork tables.old (application_of app) session }
     requires session { KeepsSession tables.old entered.now.head.session session }
-    ensures taken { (boot : Booted) (instance : AnyInstance) → get (tables_of tables.old).instances session.instance ≡ Some instance
+    ensures taken { (boot : Booted) (instance : AnyInstance)
+        → get (tables_of tables.old).instances session.instance ≡ Some instance
         → app_of boot instance.uuid ≡ Some (application_of app)
-        → IsTaken None entered.now tables.new result (closes (call_with boot (tables_of tables.old) entered.now) (session, instance)) }
+        → IsTaken None entered.now tables.new result
+        (closes (call_with boot (tables_of tables.old) entered.now) (session, instance)) }
     ensures pages { (setup : AnySetup) → HasFreePages setup tables.old → HasFreePages setup tables.new }
 {
     let number = entered.head.session;

@@ -50,7 +50,8 @@ fn comes_in(tables: &mut Tables, cont: &mut Cont<Pages>, call: OpenCall)
     ensures came { (boot : Booted) → HasCome tables.new cont.old cont.new (uuid_of (application_of call.app))
         (open_comes (who_begins boot tables.old call.slot cont.old) (brought call cont.old)
         (shared_instance (tables_of tables.old).instances (application_of call.app))) }
-    ensures pages { (setup : AnySetup) → app_of (booted_with setup) (uuid_of (application_of call.app)) ≡ Some (application_of call.app)
+    ensures pages { (setup : AnySetup)
+        → app_of (booted_with setup) (uuid_of (application_of call.app)) ≡ Some (application_of call.app)
         → HasFreePages setup tables.old → HasFreePages setup tables.new }
 {
     match shared_instance(tables, &call.app) {
@@ -74,8 +75,10 @@ pub(crate) fn opens(
     requires opens { MayOpen tables.old (application_of app) }
     requires buffers { AreRegistered (tables_of tables.old) copies.cookies.items }
     ensures taken { (boot : Booted) → IsTaken None entered.now tables.new result
-        (opens_or_waits (call_with boot (tables_of tables.old) entered.now) (asked_by (application_of app) login) (application_of app) (copies_in copies)) }
-    ensures pages { (setup : AnySetup) → app_of (booted_with setup) (uuid_of (application_of app)) ≡ Some (application_of app)
+        (opens_or_waits (call_with boot (tables_of tables.old) entered.now) (asked_by (application_of app) login)
+        (application_of app) (copies_in copies)) }
+    ensures pages { (setup : AnySetup)
+        → app_of (booted_with setup) (uuid_of (application_of app)) ≡ Some (application_of app)
         → HasFreePages setup tables.old → HasFreePages setup tables.new }
 {
     let TakenParams {

@@ -9,7 +9,9 @@ use shm_registry::Registry;
 pub(crate) fn pins(registry: &mut Registry, cookies: &[u64], slot: u8)
     requires kept { AllByRecursion (λ cookie. IsSome (get registry.old.buffers cookie)) cookies.now }
     requires slot { slot < 16 }
-    ensures { registry.new ≡ record registry.old { pins = fold (λ pins cookie. with_pin pins cookie slot) registry.old.pins cookies.now } }
+    ensures { registry.new ≡ record registry.old {
+      pins = fold (λ pins cookie. with_pin pins cookie slot) registry.old.pins cookies.now;
+    } }
 {
     for cookie in cookies {
         registry.pin(*cookie, slot);

@@ -22,8 +22,10 @@ use ta_params::codes::TEE_SUCCESS;
 pub fn apply(alloc: Global, tables: &mut Tables, entered: &Entered, plan: Plan) -> Cont<Pages>
     requires { CanTake tables.old entered.now plan }
     ensures taken { (boot : Booted) → CanApply (call_with boot (tables_of tables.old) entered.now) plan
-        → IsTaken (meant_by entered.now plan) entered.now tables.new result (taken_of (call_with boot (tables_of tables.old) entered.now) plan) }
-    ensures pages { (setup : AnySetup) → CanApply (call_with (booted_with setup) (tables_of tables.old) entered.now) plan
+        → IsTaken (meant_by entered.now plan) entered.now tables.new result
+        (taken_of (call_with boot (tables_of tables.old) entered.now) plan) }
+    ensures pages { (setup : AnySetup)
+        → CanApply (call_with (booted_with setup) (tables_of tables.old) entered.now) plan
         → HasFreePages setup tables.old → HasFreePages setup tables.new }
 {
     match plan {

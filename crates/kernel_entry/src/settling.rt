@@ -18,7 +18,8 @@ use ta_params::{CallResult, Login};
 /// A call in this session that is settled with this result, which no application returned.
 pub(crate) fn settled_call(alloc: Global, entered: &Entered, session: u32, code: u32) -> Cont<Pages>
     ensures { (boot : Booted) (tables : AnyTables) (settled : SettledCall) (uuid : Option (List ℕ)) → IsCall result
-        (record (settled_call (call_with boot tables entered.now) code) { settled = settled; uuid = uuid; session = session }) }
+        (record (settled_call (call_with boot tables entered.now) code)
+        { settled = settled; uuid = uuid; session = session }) }
 {
     let nobody = Login {
         client: [0; 16],
@@ -48,7 +49,8 @@ pub(crate) fn settled_call(alloc: Global, entered: &Entered, session: u32, code:
 
 /// A call that a test has settled.
 pub(crate) fn settles(alloc: Global, entered: &Entered, settled: &Settled) -> Cont<Pages>
-    ensures { (boot : Booted) (tables : AnyTables) → IsCall result (settled_of (call_with boot tables entered.now) settled.now).call }
+    ensures { (boot : Booted) (tables : AnyTables)
+        → IsCall result (settled_of (call_with boot tables entered.now) settled.now).call }
 {
     match settled {
         Settled::Call(code) => settled_call(alloc, entered, 0, *code),

@@ -35,7 +35,8 @@ pub(crate) fn joins(
     requires slot { slot < 16 }
     requires absent { waits tables.old.waiters slot ≡ false }
     ensures came { (boot : Booted) → HasCome tables.new cont.old cont.new (uuid_of_app (application_of app))
-        (queued (who_begins boot tables.old slot cont.old) number (uuid_of_app (application_of app)) (kept_params cont.old.params)) }
+        (queued (who_begins boot tables.old slot cont.old) number (uuid_of_app (application_of app))
+        (kept_params cont.old.params)) }
     ensures pages { (setup : AnySetup) → HasFreePages setup tables.old → HasFreePages setup tables.new }
 {
     tables.waiters.join(number, app.uuid(), slot);
