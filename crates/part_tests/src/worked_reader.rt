@@ -12,7 +12,7 @@ use ns_ram::{Lane, NoMemory, Reads};
 use std::alloc::Global;
 
 /// The bytes behind the one at `addr` that counts them. It lists two reads, or one where the count is 0.
-pub fn read_counted_bytes<'a>(
+pub(crate) fn read_counted_bytes<'a>(
     alloc: Global,
     lane: &'a Lane,
     addr: u64,
@@ -27,7 +27,7 @@ pub fn read_counted_bytes<'a>(
 }
 
 /// A whole call: its value is the whole reading of its reads, and the lane holds these.
-pub fn counted_bytes_and_reads(
+pub(crate) fn counted_bytes_and_reads(
     alloc: Global,
     lane: &Lane,
     addr: u64,
