@@ -34,4 +34,3 @@ pub use kind::ParamKind;
 pub use laws::{one_spelling, worked_examples};
 pub use layout::{HEAD_LEN, PARAM_LEN, origin_at, p_at, param_place, q_at, ret_at, session_at};
 pub use param::MsgParam;
-

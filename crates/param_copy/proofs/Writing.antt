@@ -93,9 +93,10 @@ bytes-in_ram false pieces bytes h = tt
 
 memory-in_ram : (arg : ℕ) (place : Place) (bytes : List ℕ) (size : ℕ) → IsWritable arg place →
     AllByRecursion IsWriteOfRam (memory_to (q_at arg place.number) place.pieces bytes size)
-memory-in_ram arg place bytes size w =
-    (word-in_ram (param_place arg place.number) 16 size w.argument (omega arith),
-     bytes-in_ram (nat_le size (length bytes)) place.pieces (take size bytes) w.pieces)
+memory-in_ram arg place bytes size w = (
+  word-in_ram (param_place arg place.number) 16 size w.argument (omega arith),
+  bytes-in_ram (nat_le size (length bytes)) place.pieces (take size bytes) w.pieces,
+)
 
 param-in_ram : (arg : ℕ) (place : Place) (param : GpParam) → IsWritable arg place → AllByRecursion IsWriteOfRam (param_writes arg place param)
 param-in_ram arg place Empty w = tt

@@ -21,4 +21,3 @@ pub use image::{Image, Instr, MAGIC, MAX_INSTRUCTIONS, MAX_PAGES};
 pub use image_fault::ImageFault;
 pub use laws::{instruction_fields, one_image, worked_examples};
 pub use row::{Immediate, LAST_SYSTEM_CALL, Operand, REGISTERS, Row, row_of};
-
