@@ -1,7 +1,13 @@
 pub mod Applied
+pub mod Arrived
 pub mod Carries
 pub mod Coming
+pub mod Continuing
+pub mod Decisions
+pub mod Entered
+pub mod Following
 pub mod InSession
+pub mod Legal
 pub mod Opens
 pub mod Replaying
 pub mod Sharing

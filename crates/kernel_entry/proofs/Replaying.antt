@@ -19,7 +19,7 @@ use Rattle.kernel_model.specs.Kernel.{Kernel, Outside, Processor, first_kernel}
 use Rattle.ns_ram.proofs.ReaderLaws.{over_lane-bind, over_lane-reading}
 use Rattle.ns_ram.specs.Lane.{bytes_from}
 use Rattle.ns_ram.specs.Reader.{Reader, done, over_lane, reading}
-use Rattle.ns_ram.specs.Reads.{HoldsRead, HoldsReads}
+use Rattle.ns_ram.specs.Reads.{HoldsRead, HoldsReads, total_bytes}
 use Rattle.ns_ram.specs.declared.read.Read.{Read}
 use Rattle.smc_abi.specs.Call.{call_of}
 use Rattle.ta_isa.specs.Boots.{IsBoot}
@@ -29,9 +29,22 @@ use Rattle.kernel_state.specs.Replay.{Replays}
 use Rattle.kernel_state.specs.Setup.{boot_of, booted_with, natives_of}
 use Rattle.kernel_state.specs.StandsFor.{StandsFor}
 use Rattle.kernel_state.specs.declared.parts.Parts.{Parts}
-use Rattle.kernel_entry.specs.Replaying.{Decides, MayEnter}
 use Rattle.kernel_entry.specs.Visiting.{coming_of}
 use Rattle.kernel_entry.specs.declared.visitor.Visitor.{Visitor}
+
+-- ---- an entry
+
+-- the visitor's call comes to this, with these reads
+abbrev pub Decides : Booted → Kernel → Visitor → List ℕ → Decision → List Read → Type 0
+Decides boot kernel visitor lane decision reads =
+    over_lane (decision_of boot kernel visitor.regs.a (call_of (reg visitor.regs.a 0))) lane [] ≡ Some (decision, reads)
+
+-- it can come into this kernel, and all bytes that were read with its own are few
+pub record MayEnter (parts : Parts) (kernel : Kernel) (visitor : Visitor) (reads : List Read) : Type 0 where
+  pub outside : slice_get kernel.processors visitor.cpu ≡ Some Outside
+  pub some_steps : 1 ≤ visitor.steps
+  pub few_steps : visitor.steps ≤ 1000000
+  pub few_bytes : copied_bytes parts.journal.events + total_bytes reads ≤ 2 ^ 28
 
 -- ---- reads of one lane agree
 
@@ -92,7 +105,7 @@ agree_behind (first ∷ events) happened agree too = (agree.0, agree_behind even
 granted : (steps : ℕ) → 1 ≤ steps → steps ≤ 1000000 → can_be_granted steps ≡ true
 granted steps some few = rw (le-leb 1 steps some, le-leb steps 1000000 few) refl
 
-entered : (boot : Booted) (kernel : Kernel) (visitor : Visitor) (lane : List ℕ) (decision : Decision) (reads : List Read) →
+pub entered : (boot : Booted) (kernel : Kernel) (visitor : Visitor) (lane : List ℕ) (decision : Decision) (reads : List Read) →
     Decides boot kernel visitor lane decision reads →
     over_lane (entry boot kernel (visit_of (coming_of visitor))) lane [] ≡ Some (after_decision kernel (visit_of (coming_of visitor)) decision, reads)
 entered boot kernel visitor lane decision reads decides =
@@ -118,27 +131,43 @@ kernel_follows boot kernel next events happened comes follows =
 
 -- ---- the fact
 
+-- what was read has the lane's bytes
+pub read_from_lane : (boot : Booted) (kernel : Kernel) (visitor : Visitor) (lane : List ℕ) (decision : Decision) (reads : List Read) →
+    Decides boot kernel visitor lane decision reads → HoldsReads lane reads
+read_from_lane boot kernel visitor lane decision reads decides =
+    let next = after_decision kernel (visit_of (coming_of visitor)) decision in
+    ((over_lane-reading (entry boot kernel (visit_of (coming_of visitor))) lane reads next).0 (entered boot kernel visitor lane decision reads decides)).1
+
+-- the events come to the kernel after what was decided
+pub comes_entered : (old new : Parts) (visitor : Visitor) (lane : List ℕ) (decision : Decision) (reads : List Read) (fact : Replays old) →
+    MayEnter old fact.kernel visitor reads → Decides (booted_with old.setup) fact.kernel visitor lane decision reads →
+    new.setup ≡ old.setup → new.journal.events ≡ old.journal.events ++ Entry visitor.cpu visitor.regs visitor.steps reads ∷ [] →
+    kernel_after (booted_with new.setup) new.journal.events ≡ Some (after_decision fact.kernel (visit_of (coming_of visitor)) decision)
+comes_entered old new visitor lane decision reads fact may decides setup events =
+    let boot = booted_with old.setup in
+    let next = after_decision fact.kernel (visit_of (coming_of visitor)) decision in
+    let read = (over_lane-reading (entry boot fact.kernel (visit_of (coming_of visitor))) lane reads next).0 (entered boot fact.kernel visitor lane decision reads decides) in
+    ap₂ (λ setup (events : List Event). kernel_after (booted_with setup) events) setup events
+    ∙ kernel_follows boot fact.kernel next old.journal.events (Entry visitor.cpu visitor.regs visitor.steps reads) fact.comes_to
+    (entry_follows boot fact.kernel next visitor reads may.outside may.some_steps may.few_steps read.0)
+
 pub replays_entered : (old new : Parts) (visitor : Visitor) (lane : List ℕ) (decision : Decision) (reads : List Read) (fact : Replays old) →
     MayEnter old fact.kernel visitor reads → Decides (booted_with old.setup) fact.kernel visitor lane decision reads →
     new.setup ≡ old.setup → new.journal.events ≡ old.journal.events ++ Entry visitor.cpu visitor.regs visitor.steps reads ∷ [] →
     StandsFor new (after_decision fact.kernel (visit_of (coming_of visitor)) decision) → Replays new
 replays_entered old new visitor lane decision reads fact may decides setup events stands =
-    let boot = booted_with old.setup in
-    let next = after_decision fact.kernel (visit_of (coming_of visitor)) decision in
-    let read = (over_lane-reading (entry boot fact.kernel (visit_of (coming_of visitor))) lane reads next).0 (entered boot fact.kernel visitor lane decision reads decides) in
     let happened = Entry visitor.cpu visitor.regs visitor.steps reads in
     record {
-      kernel = next;
+      kernel = after_decision fact.kernel (visit_of (coming_of visitor)) decision;
       is_boot = subst (λ setup. IsBoot (boot_of setup)) (sym setup) fact.is_boot;
       are_natives = subst (λ setup. AreNatives (boot_of setup) (natives_of setup)) (sym setup) fact.are_natives;
-      comes_to = ap₂ (λ setup (events : List Event). kernel_after (booted_with setup) events) setup events
-          ∙ kernel_follows boot fact.kernel next old.journal.events happened fact.comes_to
-          (entry_follows boot fact.kernel next visitor reads may.outside may.some_steps may.few_steps read.0);
+      comes_to = comes_entered old new visitor lane decision reads fact may decides setup events;
       stands = stands;
       few = subst (λ (events : List Event). copied_bytes events ≤ 2 ^ 28) (sym events)
           (subst (λ (bytes : ℕ). bytes ≤ 2 ^ 28) (sym (copied_behind old.journal.events happened)) may.few_bytes);
       agree = subst (λ (events : List Event). AllByRecursion ReadsAgree events) (sym events)
-          (agree_behind old.journal.events happened fact.agree (all_agree lane reads read.1));
+          (agree_behind old.journal.events happened fact.agree
+          (all_agree lane reads (read_from_lane (booted_with old.setup) fact.kernel visitor lane decision reads decides)));
     }
   where
     copied_behind : (events : List Event) (happened : Event) → copied_bytes (events ++ happened ∷ []) ≡ copied_bytes events + copied_by happened

@@ -1,3 +1,5 @@
 pub mod Applying
-pub mod Replaying
+pub mod Deciding
+pub mod Entering
+pub mod Resuming
 pub mod Visiting

@@ -1,11 +1,15 @@
 -- What the parts of a core are once a processor has come in.
-use Rattle.std.specs.Prelude.{◌≡◌, ℕ, ◌-◌, Bool, if◌then◌else◌, List, [], ◌∷◌, ◌++◌, Option, Some, None, map, slice_set}
+use Rattle.std.specs.Prelude.{◌≡◌, ℕ, ◌-◌, Bool, if◌then◌else◌, List, [], ◌∷◌, ◌++◌, Option, Some, None, map}
+use Rattle.std.specs.Prelude.{slice_set}
 use Rattle.event_journal.specs.declared.event.Event.TheVariants.{Entry}
+use Rattle.kernel_model.specs.Decision.{Decision}
+use Rattle.kernel_model.specs.Entry.{after_decision}
 use Rattle.kernel_model.specs.Kernel as model
 use Rattle.ns_ram.specs.declared.read.Read.{Read}
 use Rattle.thread_slots.specs.declared.slot.Slot.TheVariants.{Active}
 use Rattle.kernel_state.specs.Cancelling.{marked_by}
-use Rattle.kernel_state.specs.Entering.{Coming}
+use Rattle.kernel_state.specs.Entering.{Coming, visit_of}
+use Rattle.kernel_state.specs.StandsFor.{StandsFor}
 use Rattle.kernel_state.specs.declared.cancellation.Cancellation.{Cancellation}
 use Rattle.kernel_state.specs.declared.parts.Parts.{Parts}
 use Rattle.kernel_state.specs.declared.processor.Errand.{Errand}
@@ -24,6 +28,16 @@ pub record IsInside (old new : Parts) (visitor : Visitor) (errand : Errand) (rea
     spare = old.journal.spare - 1;
   }
   pub stays : new ≡ record old { processors = new.processors; journal = new.journal }
+
+-- its entry stands behind the events, and nothing else was booted
+pub record HasComeIn (old new : Parts) (visitor : Visitor) (reads : List Read) : Type 0 where
+  pub setup : new.setup ≡ old.setup
+  pub events : new.journal.events ≡ old.journal.events ++ Entry visitor.cpu visitor.regs visitor.steps reads ∷ []
+
+-- where the parts stood for this kernel, they stand for the one after the decision
+abbrev pub StandsAfter : Parts → Parts → Visitor → model.Kernel → Decision → Type 0
+StandsAfter old new visitor kernel decision =
+    StandsFor old kernel → StandsFor new (after_decision kernel (visit_of (coming_of visitor)) decision)
 
 -- what stands beside the slots, once those calls are cancelled, if any
 abbrev pub besides_cancelled : List Cancellation → Option model.Cancel → List Cancellation

@@ -1,8 +1,8 @@
 //! A new call that comes in.
-ghost use Rattle.std.specs.Prelude.{◌≡◌, ◌+◌, ◌<◌, ◌^◌, Some, List, ℕ, length};
+ghost use Rattle.std.specs.Prelude.{◌≡◌, ◌+◌, ◌<◌, ◌^◌, Some, length};
 ghost use Rattle.event_journal.specs.Journal.{copied_bytes};
 ghost use Rattle.kernel_model.specs.Decision.{Takes};
-ghost use Rattle.kernel_state.specs.Replay.{Replays};
+ghost use Rattle.kernel_model.specs.Kernel.{Kernel};
 ghost use Rattle.kernel_state.specs.Setup.{booted_with};
 ghost use Rattle.kernel_state.specs.Tables.{tables_of};
 ghost use Rattle.kernel_state.specs.Work.{IsCarriedAs};
@@ -11,7 +11,7 @@ ghost use Rattle.new_calls.specs.Deciding.{call_with, taken_of};
 ghost use Rattle.ns_ram.specs.Reads.{total_bytes};
 ghost use Rattle.thread_slots.specs.Slots.{lowest_free};
 ghost use Rattle.kernel_entry.specs.Applying.{CanTake, is_cancel};
-ghost use Rattle.kernel_entry.specs.Replaying.{Decides, MayEnter};
+ghost use Rattle.kernel_entry.specs.Visiting.{HasComeIn, StandsAfter};
 
 use crate::carrying::carried;
 use crate::plans::apply;
@@ -55,12 +55,10 @@ pub fn enters_new(
     requires slot { lowest_free parts.old.slots ≡ Some entered.slot }
     requires beside { entered.slot < length parts.old.cancellations.items }
     requires plan { CanTake parts.old.tables entered plan }
-    ensures replays { (lane : List ℕ) (fact : Replays parts.old) → MayEnter parts.old fact.kernel visitor reads
-        → CanApply (call_with (booted_with parts.old.setup) (tables_of parts.old.tables) entered) plan
-        → Decides (booted_with parts.old.setup) fact.kernel visitor lane
-        (Takes entered.slot
-        (taken_of (call_with (booted_with parts.old.setup) (tables_of parts.old.tables) entered) plan)) reads
-        → Replays parts.new }
+    ensures come { HasComeIn parts.old parts.new visitor reads }
+    ensures stands { CanApply (call_with (booted_with parts.old.setup) (tables_of parts.old.tables) entered) plan
+        → (kernel : Kernel) → StandsAfter parts.old parts.new visitor kernel (Takes entered.slot
+        (taken_of (call_with (booted_with parts.old.setup) (tables_of parts.old.tables) entered) plan)) }
     ensures carries { CanApply (call_with (booted_with parts.old.setup) (tables_of parts.old.tables) entered) plan
         → (let taken = taken_of (call_with (booted_with parts.old.setup) (tables_of parts.old.tables) entered) plan in
         IsCarriedAs result taken.call taken.call.phase) }

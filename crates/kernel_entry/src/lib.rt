@@ -1,19 +1,23 @@
-//! What a processor brings into the core.
+//! A processor comes in: `enter`.
 //!
-//! The plan of a new call is applied to tables that are lent: its slot's call is then the one of the definitions. And a
-//! processor is let into the parts of a core, for an answer that is fixed or for a new call: where the kernel's entry
-//! decides so, the parts stand for the kernel after it. None of this takes memory, and none can fail. What an entry
-//! decides isn't joined to it yet, nor are calls that are resumed.
+//! What its registers ask for is decided first, over parts and a lane that are lent to read: an answer that is fixed,
+//! a new call, or a call that is resumed. All memory is taken there. Then the processor is let into the parts of the
+//! core, which takes no memory and can't fail: the plan of a new call is applied to the tables, or a call is handed out
+//! of its slot and resumed. The parts then stand for the kernel after that decision, and the processor carries the call.
 #![tactic(auto)]
 
 mod beginning;
 mod buffers;
 mod carrying;
+mod deciding;
+mod entering;
 mod fixed;
 mod in_session;
 mod opening;
 mod pinning;
 mod plans;
+mod preparing;
+mod resuming;
 mod settling;
 mod taking;
 mod visitor;
@@ -21,6 +25,8 @@ mod waiting;
 
 pub use beginning::enters_new;
 pub use carrying::bytes_in;
+pub use entering::enter;
 pub use fixed::enters_fixed;
 pub use plans::apply;
+pub use resuming::enters_resumed;
 pub use visitor::{Visitor, make_room};

@@ -1,6 +1,5 @@
 use Rattle.std.proofs.Common.{◌≡◌, ◌-◌, List, [], ◌∷◌, ◌++◌, false, refl, ap, ◌∙◌}
 use Rattle.std.specs.Prelude.{slice_set}
-use Rattle.kernel_model.specs.Decision.{Takes}
 use Rattle.kernel_state.specs.Setup.{booted_with}
 use Rattle.kernel_state.specs.Tables.{tables_of}
 use Rattle.kernel_state.specs.declared.cancellation.Cancellation.{Cancellation}
@@ -11,12 +10,20 @@ use Rattle.kernel_state.specs.declared.processor.Processor.TheVariants.{Inside}
 use Rattle.event_journal.specs.Journal.{Contents}
 use Rattle.event_journal.specs.declared.event.Event.TheVariants.{Entry}
 use Rattle.new_calls.specs.Deciding.{call_with, taken_of}
-use Rattle.kernel_entry.proofs.Replaying.{replays_entered}
 use Rattle.kernel_entry.proofs.Standing.{new_takes, room_behind, slot_stands}
 use Rattle.kernel_entry.proofs.beginning.enters_new.Goals as goal
 
-pub returns-clause-replays : goal.returns-clause-replays
-returns-clause-replays c lane fact may applies decides =
+pub returns-clause-come : goal.returns-clause-come
+returns-clause-come c =
+    let journal : c.takes_slot.new.parts.journal ≡ c.args.parts.now.journal = ap (λ (parts : Parts). parts.journal) c.takes_slot.ensures.stays in
+    record {
+      setup = ap (λ (parts : Parts). parts.setup) c.lets_in.ensures.stays ∙ ap (λ (parts : Parts). parts.setup) c.takes_slot.ensures.stays;
+      events = ap (λ (journal : Contents). journal.events) c.lets_in.ensures.journal
+          ∙ ap (λ (journal : Contents). journal.events ++ Entry c.args.visitor.cpu c.args.visitor.regs c.args.visitor.steps c.args.reads ∷ []) journal;
+    }
+
+pub returns-clause-stands : goal.returns-clause-stands
+returns-clause-stands c applies kernel stands =
     let old = c.args.parts.now in
     let mid = c.takes_slot.new.parts in
     let new = c.lets_in.new.parts in
@@ -24,15 +31,12 @@ returns-clause-replays c lane fact may applies decides =
     let taken = taken_of model c.args.plan in
     let beside : Cancellation = record { session = c.apply-call.result.session; cancel_id = c.args.entered.head.cancel_id; marked = false } in
     let takes = new_takes old mid new c.args.visitor c.args.entered c.args.plan c.is_cancel-cancels.result beside c.apply-call.new.tables c.apply-call.result c.args.reads
-    c.is_cancel-cancels.ensures (c.apply-call.ensures.taken (booted_with old.setup) applies) (c.apply-call.ensures.pages old.setup applies fact.stands.pages) refl
+    c.is_cancel-cancels.ensures (c.apply-call.ensures.taken (booted_with old.setup) applies) (c.apply-call.ensures.pages old.setup applies stands.pages) refl
     c.takes_slot.ensures c.lets_in.ensures in
     let journal : mid.journal ≡ old.journal = ap (λ (parts : Parts). parts.journal) c.takes_slot.ensures.stays in
     let processors : mid.processors.items ≡ old.processors.items = ap (λ (parts : Parts). parts.processors.items) c.takes_slot.ensures.stays in
-    replays_entered old new c.args.visitor lane (Takes c.args.entered.slot taken) c.args.reads fact may decides takes.setup
-    (ap (λ (journal : Contents). journal.events) c.lets_in.ensures.journal
-    ∙ ap (λ (journal : Contents). journal.events ++ Entry c.args.visitor.cpu c.args.visitor.regs c.args.visitor.steps c.args.reads ∷ []) journal)
-    (slot_stands old new fact.kernel c.args.visitor c.args.entered.slot beside taken fact.stands takes
+    slot_stands old new kernel c.args.visitor c.args.entered.slot beside taken stands takes
     (c.lets_in.ensures.processors
     ∙ ap (λ (processors : List Processor). slice_set processors c.args.visitor.cpu (Inside c.args.visitor.regs c.args.visitor.steps (InSlot c.args.entered.slot))) processors)
     (room_behind old.setup.cpus old.journal.spare new.journal.spare c.requires.room
-    (ap (λ (journal : Contents). journal.spare) c.lets_in.ensures.journal ∙ ap (λ (journal : Contents). journal.spare - 1) journal)))
+    (ap (λ (journal : Contents). journal.spare) c.lets_in.ensures.journal ∙ ap (λ (journal : Contents). journal.spare - 1) journal))

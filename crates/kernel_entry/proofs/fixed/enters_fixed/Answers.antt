@@ -1,11 +1,9 @@
 use Rattle.std.proofs.Common.{ap}
-use Rattle.kernel_entry.proofs.Replaying.{replays_entered}
 use Rattle.kernel_entry.proofs.Standing.{Stays, fixed_stands, room_behind}
-use Rattle.kernel_model.specs.Decision.{Answers}
 use Rattle.kernel_entry.proofs.fixed.enters_fixed.Goals as goal
 
-pub returns-clause-replays : goal.returns-clause-replays
-returns-clause-replays c lane fact may decides =
+pub returns-clause-stands : goal.returns-clause-stands
+returns-clause-stands c kernel stands =
     let old = c.args.parts.now in
     let new = c.lets_in.new.parts in
     let stays : Stays old new = record {
@@ -14,7 +12,5 @@ returns-clause-replays c lane fact may decides =
       cancellations = ap (λ parts. parts.cancellations) c.lets_in.ensures.stays;
       tables = ap (λ parts. parts.tables) c.lets_in.ensures.stays;
     } in
-    replays_entered old new c.args.visitor lane (Answers c.args.answer) c.args.reads fact may decides
-    (ap (λ parts. parts.setup) c.lets_in.ensures.stays) (ap (λ journal. journal.events) c.lets_in.ensures.journal)
-    (fixed_stands old new fact.kernel c.args.visitor c.args.answer fact.stands stays c.lets_in.ensures.processors
-    (room_behind old.setup.cpus old.journal.spare new.journal.spare c.requires.room (ap (λ journal. journal.spare) c.lets_in.ensures.journal)))
+    fixed_stands old new kernel c.args.visitor c.args.answer stands stays c.lets_in.ensures.processors
+    (room_behind old.setup.cpus old.journal.spare new.journal.spare c.requires.room (ap (λ journal. journal.spare) c.lets_in.ensures.journal))

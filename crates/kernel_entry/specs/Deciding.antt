@@ -1,0 +1,70 @@
+-- What an entry decides, as the kernel's definitions see it, and what it has found for that.
+use Rattle.std.specs.Prelude.{◌≡◌, ℕ, List, Some}
+use Rattle.std.specs.Option.{option_map_or}
+use Rattle.kernel_model.specs.Argument.{reg, thread_in}
+use Rattle.kernel_model.specs.Codes.{eresume}
+use Rattle.kernel_model.specs.Decision as model
+use Rattle.kernel_model.specs.Decision.{Decision, works_on}
+use Rattle.kernel_model.specs.Entry.{decision_of}
+use Rattle.kernel_model.specs.Kernel.{Kernel, PendingCall}
+use Rattle.kernel_model.specs.Resume.{call_resumed_by}
+use Rattle.kernel_state.specs.Setup.{booted_with}
+use Rattle.kernel_state.specs.Tables.{tables_of}
+use Rattle.kernel_state.specs.declared.parts.Parts.{Parts}
+use Rattle.new_calls.specs.Applying.{CanApply}
+use Rattle.new_calls.specs.Deciding.{call_with, taken_of}
+use Rattle.new_calls.specs.declared.entered.Entered.{Entered}
+use Rattle.new_calls.specs.declared.plan.Plan.{Plan}
+use Rattle.ns_ram.specs.Reader.{Reader, over_lane}
+use Rattle.ns_ram.specs.declared.read.Read.{Read}
+use Rattle.resumed_calls.specs.Deciding.{IsAppIn}
+use Rattle.resumed_calls.specs.declared.deciding.Decided.{Decided}
+use Rattle.smc_abi.specs.Call.{call_of}
+use Rattle.thread_slots.specs.Slots.{lowest_free}
+use Rattle.kernel_entry.specs.Resuming.{IsSuspended, goes_on_as}
+use Rattle.kernel_entry.specs.declared.deciding.EntryDecision.{EntryDecision}
+use Rattle.kernel_entry.specs.declared.deciding.EntryDecision.TheVariants as decision
+
+-- ---- the kernel's decision
+
+-- the slot works on what its call comes to
+abbrev pub goes_on_in : Parts → List ℕ → Decided → PendingCall → Decision
+goes_on_in parts regs decided call = model.Takes (thread_in regs) (works_on (goes_on_as parts regs decided call))
+
+-- what was decided
+abbrev pub decision_as : Parts → Kernel → List ℕ → EntryDecision → Decision
+decision_as parts kernel regs (decision.Answers answer) = model.Answers answer
+decision_as parts kernel regs (decision.Begins entered plan cont) = model.Takes entered.slot
+    (taken_of (call_with (booted_with parts.setup) (tables_of parts.tables) entered) plan)
+decision_as parts kernel regs (decision.GoesOn decided) =
+    option_map_or (goes_on_in parts regs decided) (call_resumed_by kernel.slots regs) (model.Answers eresume)
+
+-- by what is read of the lane this reader comes to what was decided
+abbrev pub ComesTo : Parts → Kernel → List ℕ → Reader Decision → List ℕ → List Read → List Read → EntryDecision →
+    Type 0
+ComesTo parts kernel regs reader lane before after decided =
+    over_lane reader lane before ≡ Some (decision_as parts kernel regs decided, after)
+
+-- the kernel decides so of a call with these registers
+abbrev pub IsDecided : Parts → Kernel → List ℕ → List ℕ → List Read → List Read → EntryDecision → Type 0
+IsDecided parts kernel regs lane before after decided =
+    let reader : Reader Decision = decision_of (booted_with parts.setup) kernel regs (call_of (reg regs 0)) in
+    ComesTo parts kernel regs reader lane before after decided
+
+-- ---- what was found
+
+-- a new call can take the slot for this plan: it is the lowest free one
+pub record CanBegin (parts : Parts) (entered : Entered) (plan : Plan) : Type 0 where
+  pub lowest : lowest_free parts.slots ≡ Some entered.slot
+  pub applies : CanApply (call_with (booted_with parts.setup) (tables_of parts.tables) entered) plan
+
+-- a call is suspended that can be resumed with this, and its application is the one that was found
+pub record CanContinue (parts : Parts) (regs : List ℕ) (decided : Decided) : Type 0 where
+  pub suspended : IsSuspended parts.slots regs
+  pub app : IsAppIn (booted_with parts.setup) parts.slots regs (Some decided)
+
+-- what was found for what was decided
+abbrev pub HasFound : Parts → List ℕ → EntryDecision → Type 0
+HasFound parts regs (decision.Answers answer) = Unit {0}
+HasFound parts regs (decision.Begins entered plan cont) = CanBegin parts entered plan
+HasFound parts regs (decision.GoesOn decided) = CanContinue parts regs decided

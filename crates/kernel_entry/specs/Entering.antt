@@ -1,0 +1,77 @@
+-- A processor that comes in: what is prepared for it, and what it carries.
+use Rattle.std.specs.Prelude.{◌≡◌, ℕ, ◌+◌, ◌<◌, ◌≤◌, ◌^◌, List, [], length, Result, Ok, Err}
+use Rattle.event_journal.specs.Journal.{copied_bytes}
+use Rattle.kernel_model.specs.Decision as model
+use Rattle.kernel_model.specs.Decision.{Decision}
+use Rattle.kernel_model.specs.Kernel.{Kernel}
+use Rattle.kernel_state.specs.StandsFor.{StandsFor}
+use Rattle.kernel_state.specs.Work.{IsCarriedAs}
+use Rattle.kernel_state.specs.declared.carried.Carried.{Carried}
+use Rattle.kernel_state.specs.declared.carried.Carried.TheVariants.{Nothing}
+use Rattle.kernel_state.specs.declared.enter_refusal.EnterRefusal.{EnterRefusal}
+use Rattle.kernel_state.specs.declared.enter_refusal.EnterRefusal.TheVariants.{Full, Memory}
+use Rattle.kernel_state.specs.declared.parts.Parts.{Parts}
+use Rattle.new_calls.specs.declared.entered.Entered.{Entered}
+use Rattle.new_calls.specs.declared.plan.Plan.{Plan}
+use Rattle.ns_ram.specs.Reads.{total_bytes}
+use Rattle.ns_ram.specs.declared.read.Read.{Read}
+use Rattle.kernel_entry.specs.Applying.{CanTake}
+use Rattle.kernel_entry.specs.Deciding.{CanBegin, HasFound, IsDecided}
+use Rattle.kernel_entry.specs.Resuming.{CanGoOn}
+use Rattle.kernel_entry.specs.declared.deciding.EntryDecision.{EntryDecision}
+use Rattle.kernel_entry.specs.declared.deciding.EntryDecision.TheVariants as decision
+use Rattle.kernel_entry.specs.declared.preparing.Prepared.{Prepared}
+
+-- ---- before it comes in
+
+-- there is room for as many more events, or more; nothing else changes
+pub record HasMoreRoom (old new : Parts) : Type 0 where
+  pub events : new.journal.events ≡ old.journal.events
+  pub spare : old.journal.spare ≤ new.journal.spare
+  pub stays : new ≡ record old { journal = new.journal }
+
+-- it was decided by the lane's bytes, which are listed
+abbrev pub IsDecidedBy : Parts → List ℕ → List ℕ → List Read → EntryDecision → Type 0
+IsDecidedBy parts regs lane reads decided =
+    (kernel : Kernel) → StandsFor parts kernel → IsDecided parts kernel regs lane [] reads decided
+
+-- the event of an entry has room, and the bytes that it has read are few enough
+pub record IsPrepared (parts : Parts) (regs lane : List ℕ) (prepared : Prepared) : Type 0 where
+  pub decides : IsDecidedBy parts regs lane prepared.reads prepared.decision
+  pub found : HasFound parts regs prepared.decision
+  pub room : parts.setup.cpus < parts.journal.spare
+  pub few : copied_bytes parts.journal.events + total_bytes prepared.reads ≤ 2 ^ 28
+
+-- the entry would read so many bytes more than those that were copied so far, and more than 2^28 with them
+pub record IsTooMuchFor (parts : Parts) (regs lane : List ℕ) (copied more : ℕ) : Type 0 where
+  pub reads : List Read
+  pub decision : EntryDecision
+  pub decides : IsDecidedBy parts regs lane reads decision
+  pub so_far : copied ≡ copied_bytes parts.journal.events
+  pub of_entry : more ≡ total_bytes reads
+  pub above : 2 ^ 28 < copied + more
+
+-- it is prepared, or refused: want of memory says nothing of it
+abbrev pub Prepares : Parts → List ℕ → List ℕ → Result (Prepared) EnterRefusal → Type 0
+Prepares parts regs lane (Ok prepared) = IsPrepared parts regs lane prepared
+Prepares parts regs lane (Err (Full copied more)) = IsTooMuchFor parts regs lane copied more
+Prepares parts regs lane (Err Memory) = Unit {0}
+
+-- ---- as it comes in
+
+-- the slot of a new call can be taken
+pub record CanTakeSlot (parts : Parts) (entered : Entered) (plan : Plan) : Type 0 where
+  pub begins : CanBegin parts entered plan
+  pub beside : entered.slot < length parts.cancellations.items
+  pub takes : CanTake parts.tables entered plan
+
+-- what was decided can be done
+abbrev pub CanFollow : Parts → List ℕ → EntryDecision → Type 0
+CanFollow parts regs (decision.Answers answer) = Unit {0}
+CanFollow parts regs (decision.Begins entered plan cont) = CanTakeSlot parts entered plan
+CanFollow parts regs (decision.GoesOn decided) = CanGoOn parts regs decided
+
+-- what is carried is the call that the slot was taken for, or nothing
+abbrev pub IsCarriedBy : Carried → Decision → Type 0
+IsCarriedBy carried (model.Answers answer) = carried ≡ Nothing
+IsCarriedBy carried (model.Takes slot taken) = IsCarriedAs carried taken.call taken.call.phase

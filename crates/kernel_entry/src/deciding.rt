@@ -1,0 +1,118 @@
+//! What an entry decides.
+ghost use Rattle.std.specs.Prelude.{◌≡◌, IfOk};
+ghost use Rattle.kernel_model.specs.Kernel.{Kernel};
+ghost use Rattle.kernel_model.specs.NewCall.{new_call};
+ghost use Rattle.kernel_model.specs.Resume.{resume};
+ghost use Rattle.kernel_state.specs.Setup.{booted_with};
+ghost use Rattle.kernel_state.specs.StandsFor.{StandsFor};
+ghost use Rattle.kernel_state.specs.Tables.{HasFreePages, tables_of};
+ghost use Rattle.new_calls.specs.Applying.{HaveApps};
+ghost use Rattle.resumed_calls.specs.Deciding.{CanDecide};
+ghost use Rattle.kernel_entry.specs.Deciding.{ComesTo, HasFound, IsDecided};
+
+use crate::settling::settled_call;
+use base::NoMemory;
+use frame_pool::Pages;
+use kernel_state::Parts;
+use new_calls::{Entered, Found, Plan, lowest_free, new_call};
+use ns_ram::{Lane, Reads};
+use rpc_cont::Cont;
+use smc_abi::{Answer, Call, ERESUME, Regs, UNKNOWN_FUNCTION, decode_call, fast_answer};
+use std::alloc::Global;
+use ta_params::codes::TEE_SUCCESS;
+
+/// What an entry comes to, with all memory that this takes.
+#[derive(Drop)]
+pub(crate) enum EntryDecision {
+    /// This answer, which takes no slot and changes nothing.
+    Answers(Answer),
+    /// A new call takes its slot for this plan, and fills the box.
+    Begins(Entered, Plan, Box<Cont<Pages>>),
+    /// The call that the registers name goes on with this.
+    GoesOn(resumed_calls::Decided),
+}
+
+/// What is decided of a call with these registers. All that it reads is listed, and nothing is changed.
+pub(crate) fn decide(
+    alloc: Global,
+    parts: &Parts,
+    regs: &Regs,
+    lane: &Lane,
+    reads: &mut Reads,
+) -> Result<EntryDecision, NoMemory>
+    requires call { ∥ CanDecide parts.now.slots regs.now.a ∥₁ }
+    requires pages { HasFreePages parts.now.setup parts.now.tables }
+    requires apps { HaveApps (booted_with parts.now.setup) (tables_of parts.now.tables) }
+    ensures decides { (kernel : Kernel) → StandsFor parts.now kernel
+        → IfOk result (IsDecided parts.now kernel regs.now.a lane.now reads.old reads.new) }
+    ensures found { IfOk result (HasFound parts.now regs.now.a) }
+{
+    match decode_call(regs) {
+        Call::Fast(call) => {
+            let answer = fast_answer(call, regs, parts.setup.threads);
+            Ok(EntryDecision::Answers(answer))
+        }
+        Call::WithArg => decide_new(alloc, parts, regs, lane, reads),
+        Call::Resume => decide_resume(alloc, parts, regs, lane, reads),
+        Call::Unknown => Ok(EntryDecision::Answers(code(UNKNOWN_FUNCTION))),
+    }
+}
+
+/// What is decided of a new call. The box of one that takes a slot is made here.
+fn decide_new(
+    alloc: Global,
+    parts: &Parts,
+    regs: &Regs,
+    lane: &Lane,
+    reads: &mut Reads,
+) -> Result<EntryDecision, NoMemory>
+    requires pages { HasFreePages parts.now.setup parts.now.tables }
+    requires apps { HaveApps (booted_with parts.now.setup) (tables_of parts.now.tables) }
+    ensures decides { (kernel : Kernel) → StandsFor parts.now kernel
+        → IfOk result (ComesTo parts.now kernel regs.now.a (new_call (booted_with parts.now.setup) kernel regs.now.a)
+        lane.now reads.old reads.new) }
+    ensures found { IfOk result (HasFound parts.now regs.now.a) }
+{
+    let free = lowest_free(&parts.slots);
+    let found = Found {
+        setup: &parts.setup,
+        tables: &parts.tables,
+        free,
+    };
+    let decided = new_call(alloc, &found, regs, lane, reads)?;
+    match decided {
+        new_calls::Decided::Answers(answer) => Ok(EntryDecision::Answers(answer)),
+        new_calls::Decided::Takes(entered, plan) => {
+            let cont = Box::new(alloc, settled_call(alloc, &entered, 0, TEE_SUCCESS))?;
+            Ok(EntryDecision::Begins(entered, plan, cont))
+        }
+    }
+}
+
+/// What is decided of a resume.
+fn decide_resume(
+    alloc: Global,
+    parts: &Parts,
+    regs: &Regs,
+    lane: &Lane,
+    reads: &mut Reads,
+) -> Result<EntryDecision, NoMemory>
+    requires { ∥ CanDecide parts.now.slots regs.now.a ∥₁ }
+    ensures decides { (kernel : Kernel) → StandsFor parts.now kernel
+        → IfOk result (ComesTo parts.now kernel regs.now.a (resume (booted_with parts.now.setup) kernel regs.now.a)
+        lane.now reads.old reads.new) }
+    ensures found { IfOk result (HasFound parts.now regs.now.a) }
+{
+    let call = resumed_calls::decide(alloc, &parts.setup, &parts.slots, regs, lane, reads)?;
+    match call {
+        Some(decided) => Ok(EntryDecision::GoesOn(decided)),
+        None => Ok(EntryDecision::Answers(code(ERESUME))),
+    }
+}
+
+/// An answer of this code alone.
+fn code(code: u32) -> Answer
+    ensures { result ≡ Answer.Words code 0 0 0 }
+{
+    Answer::Words(code, 0, 0, 0)
+}

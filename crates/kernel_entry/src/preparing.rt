@@ -1,0 +1,57 @@
+//! What is prepared before a processor comes in.
+ghost use Rattle.std.specs.Prelude.{◌≤◌, ◌^◌};
+ghost use Rattle.event_journal.specs.Journal.{copied_bytes};
+ghost use Rattle.kernel_state.specs.Setup.{booted_with};
+ghost use Rattle.kernel_state.specs.Tables.{HasFreePages, tables_of};
+ghost use Rattle.new_calls.specs.Applying.{HaveApps};
+ghost use Rattle.resumed_calls.specs.Deciding.{CanDecide};
+ghost use Rattle.kernel_entry.specs.Entering.{HasMoreRoom, Prepares};
+
+use crate::carrying::bytes_in;
+use crate::deciding::{EntryDecision, decide};
+use crate::visitor::make_room;
+use kernel_state::{EnterRefusal, Parts};
+use ns_ram::{Lane, Reads};
+use smc_abi::Regs;
+use std::alloc::Global;
+
+/// The most bytes that all entries may have read, together.
+const MOST_BYTES: u64 = 1 << 28;
+
+/// An entry that was decided, and what it has read.
+#[derive(Drop)]
+pub(crate) struct Prepared {
+    pub(crate) decision: EntryDecision,
+    pub(crate) reads: Reads,
+}
+
+/// Decides an entry, and makes room for it and for the exits of all processors. All memory of an entry is taken here.
+pub(crate) fn prepare(
+    alloc: Global,
+    parts: &mut Parts,
+    regs: &Regs,
+    lane: &Lane,
+) -> Result<Prepared, EnterRefusal>
+    requires few { copied_bytes parts.old.journal.events ≤ 2 ^ 28 }
+    requires call { ∥ CanDecide parts.old.slots regs.now.a ∥₁ }
+    requires pages { HasFreePages parts.old.setup parts.old.tables }
+    requires apps { HaveApps (booted_with parts.old.setup) (tables_of parts.old.tables) }
+    ensures prepares { Prepares parts.new regs.now.a lane.now result }
+    ensures room { HasMoreRoom parts.old parts.new }
+{
+    let Ok(()) = make_room(&mut parts.journal, parts.setup.cpus) else {
+        return Err(EnterRefusal::Memory);
+    };
+    let mut reads = Reads::new(alloc);
+    let Ok(decision) = decide(alloc, parts, regs, lane, &mut reads) else {
+        return Err(EnterRefusal::Memory);
+    };
+    let Some(more) = bytes_in(&reads) else {
+        return Err(EnterRefusal::Memory);
+    };
+    let copied = parts.journal.copied();
+    if more > MOST_BYTES - copied {
+        return Err(EnterRefusal::Full { copied, more });
+    }
+    Ok(Prepared { decision, reads })
+}
