@@ -38,8 +38,8 @@ fn fills(cont: &mut Cont<Pages>, call: Cont<Pages>)
     *cont = call;
 }
 
-/// Lets a processor in for a new call, which takes the lowest free slot and fills this box. Where the definitions
-/// decide so, the parts stand for the kernel after it, and the processor carries the call that its slot works on.
+/// Lets a processor in for a new call, which takes the lowest free slot and fills this box. The parts stand for the
+/// kernel after it, and the processor carries the call that its slot works on.
 pub fn enters_new(
     alloc: Global,
     parts: &mut Parts,
