@@ -33,8 +33,11 @@ pub mod SoundMemory
 pub mod SoundPlaces
 pub mod SoundRequests
 pub mod SoundPins
+pub mod SoundCourses
 pub mod SoundDestined
 pub mod SoundReasons
 pub mod SoundReasonsKept
 pub mod SoundSingles
 pub mod SoundFew
+pub mod SoundSpared
+pub mod SoundSessionsKept

@@ -23,7 +23,8 @@ use Rattle.kernel_model.specs.Kernel.{CallPhase, Instance, PendingCall, Tables}
 use Rattle.kernel_model.specs.Sessions.{has_opened}
 use Rattle.kernel_model.specs.Sound.{Calls}
 use Rattle.kernel_model.specs.SoundCalls.{AreJoined, job_in}
-use Rattle.kernel_model.proofs.SoundDestined.{IsDestined}
+use Rattle.kernel_model.proofs.SoundCourses.{KeepsCourse}
+use Rattle.kernel_model.proofs.SoundDestined.{Destined, IsDestined}
 use Rattle.kernel_model.proofs.SoundJoined.{never_none, some_same}
 use Rattle.kernel_model.proofs.SoundMaps.{get-insert-other, get-insert-same, get-removed}
 use Rattle.kernel_model.proofs.SoundNewJoined.{no_job}
@@ -165,11 +166,9 @@ ends_still boot before after instance call job stay (inl so) = inl so
 ends_still boot before after instance call job stay (inr (inl other)) = inr (inl (other_still before after call.instance call.session stay other))
 ends_still boot before after instance call job stay (inr (inr either)) = inr (inr either)
 
--- where a later phase has a job, the earlier one had one, which was destined as this one is
+-- what was destined still is
 abbrev pub KeepsDestiny : CallPhase → CallPhase → Type 0
-KeepsDestiny phase next =
-    (opening : Bool) (job : Job) → job_in next ≡ Some job → (was : Job) × (job_in phase ≡ Some was)
-    × (IsDestined opening was.body was.points was.result → IsDestined opening job.body job.points job.result)
+KeepsDestiny phase next = (opening : Bool) → KeepsCourse (Destined opening) phase next
 
 -- ---- one call changes
 

@@ -37,7 +37,8 @@ use Rattle.kernel_model.specs.SoundNumbers.{IsNumberedSession, is_on_instance}
 use Rattle.kernel_model.specs.SoundOrder.{AreInOrder}
 use Rattle.kernel_model.proofs.Parts.{if-both, some_of}
 use Rattle.kernel_model.proofs.SoundCallsJoined.{all_joined}
-use Rattle.kernel_model.proofs.SoundDestined.{HasEnded, IsDestined, answered_so, granted_so, seen_so}
+use Rattle.kernel_model.proofs.SoundCourses.{answered_course, asked_course, course_both, course_same, left_course, resumed_course}
+use Rattle.kernel_model.proofs.SoundDestined.{Destined, HasEnded, IsDestined, destined_on, granted_so}
 use Rattle.kernel_model.proofs.SoundEndedJoined.{sessions_end, sessions_panic}
 use Rattle.kernel_model.proofs.SoundEvents.{EventCases, holds_along, resumed_taken}
 use Rattle.kernel_model.proofs.SoundExits.{exits_all, left_all, unbuffered}
@@ -162,63 +163,26 @@ module _ (before : Calls) (c : NewCall) (sound : Before before c.tables) (order 
 -- ---- phases
 
 destiny_same : (phase next : CallPhase) → phase ≡ next → KeepsDestiny phase next
-destiny_same phase next e opening job works = (job, ap job_in e ∙ works, λ so. so)
+destiny_same phase next e opening = course_same (Destined opening) phase next e
 
 destiny_both : (first second third : CallPhase) → KeepsDestiny first second → KeepsDestiny second third → KeepsDestiny first third
-destiny_both first second third one two opening job works =
-    let mid = two opening job works in
-    let was = one opening mid.0 mid.1 in
-    (was.0, was.1, λ so. mid.2 (was.2 so))
-
--- a job in place of another
-destiny_of : (opening : Bool) (phase : CallPhase) (was later job : Job) → job_in phase ≡ Some was → later ≡ job
-    → (IsDestined opening was.body was.points was.result → IsDestined opening later.body later.points later.result)
-    → (before_it : Job) × (job_in phase ≡ Some before_it)
-    × (IsDestined opening before_it.body before_it.points before_it.result → IsDestined opening job.body job.points job.result)
-destiny_of opening phase was later job is same onward =
-    (was, is, λ so. subst (λ (j : Job). IsDestined opening j.body j.points j.result) same (onward so))
+destiny_both first second third one two opening = course_both (Destined opening) first second third (one opening) (two opening)
 
 left_destiny : (granted : ℕ) (job later : Job) → grant_of granted job ≡ Some (Left later) → KeepsDestiny (Runs job) (Runs later)
-left_destiny granted job later grant opening next works =
-    destiny_of opening (Runs job) job later next refl (some_same later next works) (λ so. granted_so opening granted job (Left later) so grant)
+left_destiny granted job later grant opening = left_course (Destined opening) (HasEnded opening) (destined_on opening) granted job later grant
 
 asked_destiny : (granted used : ℕ) (job later : Job) (wanted : Rpc) (payload : List ℕ)
     → grant_of granted job ≡ Some (Stopped used (steps.Asks wanted payload later)) → KeepsDestiny (Runs job) (Asks later wanted payload)
-asked_destiny granted used job later wanted payload grant opening next works =
-    destiny_of opening (Runs job) job later next refl (some_same later next works)
-    (λ so. granted_so opening granted job (Stopped used (steps.Asks wanted payload later)) so grant)
+asked_destiny granted used job later wanted payload grant opening =
+    asked_course (Destined opening) (HasEnded opening) (destined_on opening) granted used job later wanted payload grant
 
 answered_destiny : (job : Job) (wanted : Rpc) (payload : List ℕ) (answer : RpcAnswer) (advance : Advance) → advance_on_answer answer job ≡ Some advance
     → KeepsDestiny (Asks job wanted payload) (phase_after (Asks job wanted payload) advance)
-answered_destiny job wanted payload answer (Goes later) e opening next works =
-    destiny_of opening (Asks job wanted payload) job later next refl (some_same later next works) (λ so. answered_so opening job answer (Goes later) so e)
-answered_destiny job wanted payload answer (Stops (steps.Asks other bytes later)) e opening next works =
-    destiny_of opening (Asks job wanted payload) job later next refl (some_same later next works)
-    (λ so. answered_so opening job answer (Stops (steps.Asks other bytes later)) so e)
-answered_destiny job wanted payload answer (Stops (steps.Ends end)) e opening next works = (next, works, λ so. so)
-answered_destiny job wanted payload answer (Stops (steps.Panics code)) e opening next works = (next, works, λ so. so)
-
-seen_destiny : (phase : CallPhase) → KeepsDestiny phase (phase_seen phase)
-seen_destiny (Runs job) opening next works =
-    destiny_of opening (Runs job) job (with_cancel_seen job) next refl (some_same (with_cancel_seen job) next works) (λ so. seen_so opening job so)
-seen_destiny (Asks job wanted payload) opening next works =
-    destiny_of opening (Asks job wanted payload) job (with_cancel_seen job) next refl (some_same (with_cancel_seen job) next works) (λ so. seen_so opening job so)
-seen_destiny (Waits params) opening next works = no_job next works
-seen_destiny (Ends result params told wakes) opening next works = no_job next works
-
-sees_destiny : (call : PendingCall) → KeepsDestiny call.phase (sees call).phase
-sees_destiny call =
-    if-both (λ (c : PendingCall). KeepsDestiny call.phase c.phase) call.marked (record call { seen = true; phase = phase_seen call.phase }) call
-    (seen_destiny call.phase) (destiny_same call.phase call.phase refl)
-
-given_destiny : (given : Given) (call : PendingCall) → KeepsDestiny call.phase (call_given given call).phase
-given_destiny NothingGiven call = destiny_same call.phase call.phase refl
-given_destiny (Buffer buffer) call = destiny_same call.phase call.phase refl
-given_destiny NoBuffer call = destiny_same call.phase call.phase refl
-given_destiny (Reply reply) call = destiny_same call.phase call.phase refl
+answered_destiny job wanted payload answer advance e opening =
+    answered_course (Destined opening) (HasEnded opening) (destined_on opening) job wanted payload answer advance e
 
 resumed_destiny : (given : Given) (call : PendingCall) → KeepsDestiny call.phase (call_given given (sees call)).phase
-resumed_destiny given call = destiny_both call.phase (sees call).phase _ (sees_destiny call) (given_destiny given (sees call))
+resumed_destiny given call opening = resumed_course (Destined opening) given call
 
 -- ---- resumes
 
@@ -371,18 +335,9 @@ dead_opened true true e f = refl
 dead_opened true false e f = absurd cc
 dead_opened false opened e f = absurd cc
 
-module _ (boot : Booted) (before : Calls) (tables : Tables) (slot : ℕ) (call : PendingCall) (joined : AreJoined before tables) (order : AreInOrder tables)
-    (reasons : AreReasoned boot before tables) (there : before slot ≡ Some (unmarked call)) where
-  exit_goes : (after : Calls) (now : Tables) (left : PendingCall) (phase : CallPhase) → Changes before after slot (Some left) → call.phase ≡ phase
-      → left.instance ≡ call.instance → left.session ≡ call.session → left.kind ≡ call.kind → KeepsDestiny phase left.phase
-      → now.instances ≡ tables.instances → now.sessions ≡ tables.sessions → AreReasoned boot after now
-  exit_goes after now left phase changes is instance session of_kind same instances sessions =
-      reasons_go boot before after tables now slot (Some left) changes reasons (unmarked call) left there refl instance session of_kind
-      (subst (λ (p : CallPhase). KeepsDestiny p left.phase) (sym is) same) instances
-      (λ at found kept opened. ap (λ (m : NumberMap Session). get m at) sessions ∙ kept)
-
+module _ (before : Calls) (tables : Tables) (slot : ℕ) (call : PendingCall) (joined : AreJoined before tables) (there : before slot ≡ Some (unmarked call)) where
   -- the session of a call that works is on its instance
-  own_session : (k : CallKind) (job : Job) → call.kind ≡ k → call.phase ≡ Runs job → (session : Session) → get tables.sessions call.session ≡ Some session
+  pub own_session : (k : CallKind) (job : Job) → call.kind ≡ k → call.phase ≡ Runs job → (session : Session) → get tables.sessions call.session ≡ Some session
       → session.instance ≡ call.instance
   own_session kind.Open job is runs session kept =
       let has = (joined.each slot (unmarked call) there).session.opening is (ap is_told runs) in
@@ -396,6 +351,20 @@ module _ (boot : Booted) (before : Calls) (tables : Tables) (slot : ℕ) (call :
   own_session kind.Settled job is runs session kept =
       never_both (sym ((joined.each slot (unmarked call) there).instance.settled (ap is_over runs)) ∙ ap is_on_instance is)
 
+  -- and it holds that
+  pub its_hold : (job : Job) → call.phase ≡ Runs job → Holds (get tables.instances call.instance) slot (unmarked call)
+  its_hold job is = (joined.each slot (unmarked call) there).instance.working job (ap job_in is)
+
+module _ (boot : Booted) (before : Calls) (tables : Tables) (slot : ℕ) (call : PendingCall) (joined : AreJoined before tables) (order : AreInOrder tables)
+    (reasons : AreReasoned boot before tables) (there : before slot ≡ Some (unmarked call)) where
+  exit_goes : (after : Calls) (now : Tables) (left : PendingCall) (phase : CallPhase) → Changes before after slot (Some left) → call.phase ≡ phase
+      → left.instance ≡ call.instance → left.session ≡ call.session → left.kind ≡ call.kind → KeepsDestiny phase left.phase
+      → now.instances ≡ tables.instances → now.sessions ≡ tables.sessions → AreReasoned boot after now
+  exit_goes after now left phase changes is instance session of_kind same instances sessions =
+      reasons_go boot before after tables now slot (Some left) changes reasons (unmarked call) left there refl instance session of_kind
+      (subst (λ (p : CallPhase). KeepsDestiny p left.phase) (sym is) same) instances
+      (λ at found kept opened. ap (λ (m : NumberMap Session). get m at) sessions ∙ kept)
+
   exit_ends : (after : Calls) (now : Tables) (left : PendingCall) (job : Job) (held : Instance) → Changes before after slot (Some left)
       → call.phase ≡ Runs job → get tables.instances call.instance ≡ Some held → held.holder ≡ Some slot → job_in left.phase ≡ None
       → ((other : ℕ) → (call.instance ≡ other → ⊥) → get now.instances other ≡ get tables.instances other)
@@ -407,13 +376,10 @@ module _ (boot : Booted) (before : Calls) (tables : Tables) (slot : ℕ) (call :
       (λ instance other its its_holder. some_same slot other (sym holder ∙ ap (λ (i : Instance). i.holder) (some_same held instance (sym kept ∙ its)) ∙ its_holder))
       instances
       (λ at session its opened apart. by_number call.session at
-      (λ same. absurd (apart (own_session call.kind job refl runs session (ap (λ (n : ℕ). get tables.sessions n) same ∙ its))))
+      (λ same. absurd (apart (own_session before tables slot call joined there call.kind job refl runs session (ap (λ (n : ℕ). get tables.sessions n) same ∙ its))))
       (λ differ. sessions at differ ∙ its))
       (λ instance its none. reason instance its)
       (λ other next instance is works its leaving. no_job next (sym idle ∙ ap (λ (c : PendingCall). job_in c.phase) (some_same left other is) ∙ works))
-
-  its_hold : (job : Job) → call.phase ≡ Runs job → Holds (get tables.instances call.instance) slot (unmarked call)
-  its_hold job is = (joined.each slot (unmarked call) there).instance.working job (ap job_in is)
 
   -- another opened session is still there after the end of a call
   other_stays : (now : NumberMap Session) → ((at : ℕ) → (call.session ≡ at → ⊥) → get now at ≡ get tables.sessions at)
@@ -498,7 +464,7 @@ module _ (boot : Booted) (before : Calls) (tables : Tables) (slot : ℕ) (call :
   exit_reasons granted progress e after changes = exits_all tables call granted (λ (p : Progress). progress_of tables call granted ≡ Some p → OnwardReasons boot before slot p) progress (record {
     left = λ job later is grant its after changes. exit_goes after _ _ (Runs job) changes is refl refl refl (left_destiny granted job later grant) refl refl;
     ends = λ job count end is grant its after changes.
-        let holds = its_hold job is in
+        let holds = its_hold before tables slot call joined there job is in
         let sessions = sessions_after call.kind tables.sessions call.session end.result.result end.context in
         exit_ends after _ _ job holds.instance changes is holds.kept holds.holder refl
         (others_after sessions end.is_last (given_back end.memory end.objects))
@@ -509,7 +475,7 @@ module _ (boot : Booted) (before : Calls) (tables : Tables) (slot : ℕ) (call :
         end_reason granted count job end call.kind holds.instance left refl is grant holds.kept (exit_order tables call granted _ order its).sessions.rising
         back.0 back.1 back.2);
     panics = λ job count code is grant its after changes.
-        let holds = its_hold job is in
+        let holds = its_hold before tables slot call joined there job is in
         let sessions = sessions_after_panic call.kind tables.sessions call.session in
         exit_ends after _ _ job holds.instance changes is holds.kept holds.holder refl
         (others_after sessions false killed)

@@ -26,6 +26,7 @@ pub mod SoundPlaces
 pub mod SoundRequests
 pub mod SoundPins
 pub mod SoundInstances
+pub mod SoundSessions
 pub mod Worked
 pub mod AnswerExamples
 pub mod ResultExamples

@@ -18,6 +18,7 @@ pub use laws::{
 pub use soundness::{
     calls_fit_their_tables, calls_have_their_places, exits_come, instances_are_few, memory_is_kept,
     numbers_are_given, numbers_rise, others_stay_away, pins_are_of_calls,
-    processors_work_on_their_slots, requests_fit, slots_are_as_many, steps_are_granted,
+    processors_work_on_their_slots, requests_fit, sessions_keep_their_instances, slots_are_as_many,
+    steps_are_granted,
     tables_are_in_order, waiters_are_a_line, waiters_are_calls,
 };

@@ -10,6 +10,7 @@ ghost use Rattle.kernel_model.specs.SoundPlaces.{HaveTheirPlaces};
 ghost use Rattle.kernel_model.specs.SoundRequests.{HaveFittingRequests};
 ghost use Rattle.kernel_model.specs.SoundPins.{ArePinned};
 ghost use Rattle.kernel_model.specs.SoundInstances.{AreFew};
+ghost use Rattle.kernel_model.specs.SoundSessions.{HaveTheirInstances};
 ghost use Rattle.session_table.specs.Waiters.{IsLine};
 
 /// A processor that is inside for a slot works on its call, and the processor that works on a call is inside for its
@@ -91,4 +92,9 @@ pub fn pins_are_of_calls()
 /// At most one instance is kept for each session, and one that each of sixteen applications keeps alive.
 pub fn instances_are_few()
     ensures { Always (λ boot kernel. AreFew kernel.tables) }
+{}
+
+/// A session that was opened keeps its instance, dead or not.
+pub fn sessions_keep_their_instances()
+    ensures { Always (λ boot kernel. HaveTheirInstances kernel.tables) }
 {}
