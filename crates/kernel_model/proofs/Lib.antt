@@ -21,7 +21,6 @@ pub mod SoundOrder
 pub mod SoundWaiters
 pub mod SoundJobs
 pub mod SoundJoined
-pub mod SoundRunning
 pub mod SoundRising
 pub mod SoundNewJoined
 pub mod SoundResumedJoined
@@ -29,7 +28,11 @@ pub mod SoundEndedJoined
 pub mod SoundCallsJoined
 pub mod SoundLine
 pub mod SoundSums
+pub mod SoundStarts
 pub mod SoundMemory
+pub mod SoundBodies
+pub mod SoundRunning
+pub mod SoundPages
 pub mod SoundPlaces
 pub mod SoundRequests
 pub mod SoundPins

@@ -1,21 +1,18 @@
 -- Calls, sessions and instances fit together after each event of a legal history.
-use Rattle.std.proofs.Common.{◌≡◌, ℕ, suc, ◌++◌, List, [], ◌∷◌, Option, Some, None, refl, ap, subst, sym, ◌∙◌}
+use Rattle.std.proofs.Common.{◌≡◌, ℕ, List, Option, Some, None, refl, ap, sym, ◌∙◌}
 use Rattle.std.specs.Prelude.{slice_get, slice_set}
 use Rattle.std.specs.Option.{option_and_then}
 use Rattle.event_journal.specs.declared.event.Event.{Event}
-use Rattle.job_model.specs.Job.{Job}
-use Rattle.ta_params.specs.declared.call_result.CallResult.{CallResult}
-use Rattle.ta_params.specs.declared.copied_params.CopiedParams.{CopiedParams}
 use Rattle.kernel_model.specs.Application.{Booted}
 use Rattle.kernel_model.specs.Argument.{client_in, thread_in}
-use Rattle.kernel_model.specs.Decision.{Taken, Takes}
+use Rattle.kernel_model.specs.Decision.{Takes}
 use Rattle.kernel_model.specs.Entry.{after_decision}
-use Rattle.kernel_model.specs.Exit.{progress_of, slot_left, tables_left}
+use Rattle.kernel_model.specs.Exit.{slot_left, tables_left}
 use Rattle.kernel_model.specs.History.{kernel_after}
-use Rattle.kernel_model.specs.Kernel.{Active, CallPhase, Ends, Free, Instance, Kernel, PendingCall, Progress, Suspended, Tables, ThreadSlot, Visit, first_kernel}
+use Rattle.kernel_model.specs.Kernel.{Active, Free, Kernel, PendingCall, Progress, Suspended, ThreadSlot, first_kernel}
 use Rattle.kernel_model.specs.Leaving.{leaving_of}
 use Rattle.kernel_model.specs.NewCall.{new_call_of}
-use Rattle.kernel_model.specs.Resume.{resumed_call, sees}
+use Rattle.kernel_model.specs.Resume.{resumed_call}
 use Rattle.kernel_model.specs.Sound.{Always, Calls, call_at, call_in, unmarked}
 use Rattle.kernel_model.specs.SoundCalls.{AreJoined, job_in}
 use Rattle.kernel_model.proofs.SoundEndedJoined.{exit_fits}

@@ -1,6 +1,6 @@
 -- What a call has come to at an exit fits the tables, and leaves the others as they fit.
 use Rattle.std.proofs.Common.{◌≡◌, ℕ, Bool, true, false, List, Option, Some, None, refl, ap, subst, sym, ◌∙◌}
-use Rattle.std.specs.Prelude.{◌==◌, ◌&&◌, ◌||◌, not, if◌then◌else◌}
+use Rattle.std.specs.Prelude.{◌==◌}
 use Rattle.std.specs.Option.{option_map_or}
 use Rattle.base.specs.NumberMap.{NumberMap, get, insert, remove}
 use Rattle.job_model.specs.Job.{Job}
@@ -10,16 +10,16 @@ use Rattle.session_table.specs.declared.session.Session.{Session}
 use Rattle.session_table.specs.Session.{opened_with}
 use Rattle.session_table.specs.Sessions.{settled}
 use Rattle.kernel_model.specs.Codes.{success}
-use Rattle.kernel_model.specs.Exit.{gives_back, progress_of, tables_after_end, tables_after_panic, tables_unrun}
+use Rattle.kernel_model.specs.Exit.{progress_of, tables_unrun}
 use Rattle.kernel_model.specs.Instances.{given_back, instances_after, killed}
-use Rattle.kernel_model.specs.Kernel.{Asks, CallPhase, Ends, Instance, PendingCall, Progress, Runs, Tables, Waits}
-use Rattle.kernel_model.specs.Sessions.{has_opened, sessions_after, sessions_after_panic, sessions_unrun}
+use Rattle.kernel_model.specs.Kernel.{CallPhase, Instance, PendingCall, Progress, Runs, Tables}
+use Rattle.kernel_model.specs.Sessions.{sessions_after, sessions_after_panic, sessions_unrun}
 use Rattle.kernel_model.specs.Sound.{Calls, unmarked}
-use Rattle.kernel_model.specs.SoundCalls.{AreJoined, Fits, FitsInstance, FitsSession, HasSession, Holds, IsHolder, is_in_session, is_over, is_told, job_in}
+use Rattle.kernel_model.specs.SoundCalls.{AreJoined, Fits, FitsInstance, FitsSession, HasSession, Holds, is_in_session, is_over, is_told, job_in}
 use Rattle.kernel_model.specs.SoundNumbers.{is_on_instance}
 use Rattle.kernel_model.proofs.Parts.{if-both}
 use Rattle.kernel_model.proofs.SoundExits.{exits_all}
-use Rattle.kernel_model.proofs.SoundJoined.{GoesOn, OthersFit, StandsApart, apart_goes_on, goes_on_joined, joined_change, never_both, never_none, rests_joined, some_same, still_holds}
+use Rattle.kernel_model.proofs.SoundJoined.{GoesOn, StandsApart, apart_goes_on, goes_on_joined, joined_change, never_both, never_none, rests_joined, some_same, still_holds}
 use Rattle.kernel_model.proofs.SoundMaps.{get-insert-other, get-insert-same, get-remove-other, get-remove-same}
 use Rattle.kernel_model.proofs.SoundNewJoined.{no_job}
 use Rattle.kernel_model.proofs.SoundResumedJoined.{OnwardFits, PhaseOn, asks_on, in_phase, on_both, plain_on, runs_on, unmarked_on}

@@ -1,5 +1,5 @@
 -- What holds after an event, by its kind: an answer, a new call, a resume, or the exit from either.
-use Rattle.std.proofs.Common.{◌≡◌, ℕ, suc, ◌+◌, Bool, true, false, List, [], ◌∷◌, ◌++◌, Option, Some, None, refl, ap, subst, sym, ◌∙◌, arith}
+use Rattle.std.proofs.Common.{◌≡◌, ℕ, suc, ◌+◌, Bool, true, false, List, [], ◌∷◌, ◌++◌, Option, Some, None, refl, ap, subst, ◌∙◌, arith}
 use Rattle.std.specs.Prelude.{slice_get, if◌then◌else◌, ◌==◌, ◌&&◌, bytes_eq, length}
 use Rattle.std.specs.Option.{option_map, option_map_or, option_and_then}
 use Rattle.std.proofs.lemmas.Bool.Decides.{Decides-eqb}
@@ -14,6 +14,7 @@ use Rattle.smc_abi.specs.FastAnswer.{fast_answer_of}
 use Rattle.smc_abi.specs.declared.answer.Answer.{Answer}
 use Rattle.smc_abi.specs.declared.call.Call.{Call}
 use Rattle.smc_abi.specs.declared.call.Call.TheVariants.{Fast, WithArg, Resume, Unknown}
+use Rattle.smc_abi.specs.declared.regs.Regs.{Regs}
 use Rattle.kernel_model.specs.Application.{Booted}
 use Rattle.kernel_model.specs.Argument.{argument_at, client_in, reg, thread_in}
 use Rattle.kernel_model.specs.Codes.{eresume, unknown_function}
@@ -24,10 +25,10 @@ use Rattle.kernel_model.specs.Given.{Given, given_to}
 use Rattle.kernel_model.specs.History.{after_event, after_events, can_be_granted, entry_from, exit_to, is_outside, kernel_after}
 use Rattle.kernel_model.specs.Kernel.{Active, Fixed, Free, InSlot, Inside, Kernel, Outside, PendingCall, Processor, Progress, Suspended, ThreadSlot, Visit, first_kernel, lowest_free, with_visitor, without_visitor}
 use Rattle.kernel_model.specs.Laws.{IsFixed, IsOutside}
-use Rattle.kernel_model.specs.NewCall.{has_argument, new_call_of, new_call_with}
-use Rattle.kernel_model.specs.Resume.{call_resumed_by, onward_of, resume_call, resumed_call, suspended_for, takes_call}
+use Rattle.kernel_model.specs.NewCall.{has_argument, new_call_of}
+use Rattle.kernel_model.specs.Resume.{call_resumed_by, onward_of, resumed_call, suspended_for, takes_call}
 use Rattle.kernel_model.proofs.FixedAnswer.{decides_all}
-use Rattle.kernel_model.proofs.Parts.{AllOf, AllOf-mapped, option_map_some}
+use Rattle.kernel_model.proofs.Parts.{AllOf, option_map_some}
 use Rattle.kernel_model.proofs.Past.{after_events-append}
 use Rattle.kernel_model.proofs.SoundNewCalls.{NewCases, cases_onward, new_decides}
 use Rattle.kernel_model.proofs.SoundOffers.{IsOffered, all_offered}
@@ -48,6 +49,24 @@ abbrev pub resumed_taken : Booted → Kernel → Visit → PendingCall → Given
 resumed_taken boot kernel visit call given =
     works_on (onward_of (resumed_call boot kernel.tables (thread_in visit.regs) call given))
 
+-- it holds after each entry of this processor, whatever its kind is
+pub record EntryCases (boot : Booted) (kernel : Kernel) (cpu : ℕ) (P : Kernel → Type 0) : Type 0 where
+  pub answered : (visit : Visit) (answer : Answer) → ComesIn kernel cpu visit → P (with_visitor kernel visit (Fixed answer))
+  pub comes : (visit : Visit) (slot : ℕ) (bytes : List ℕ) → ComesIn kernel cpu visit → lowest_free kernel.slots ≡ Some slot →
+      has_argument (argument_at visit.regs) (head_at bytes) ≡ true →
+      NewCases (new_call_of boot kernel.tables visit.regs slot bytes) (λ taken. P (after_decision kernel visit (Takes slot taken)))
+  pub resumes : (visit : Visit) (call : PendingCall) (given : Given) → ComesIn kernel cpu visit →
+      slice_get kernel.slots (thread_in visit.regs) ≡ Some (Suspended (client_in visit.regs) call) → IsOffered given →
+      P (after_decision kernel visit (Takes (thread_in visit.regs) (resumed_taken boot kernel visit call given)))
+
+-- and after each exit
+pub record LeaveCases (boot : Booted) (kernel : Kernel) (cpu : ℕ) (P : Kernel → Type 0) : Type 0 where
+  pub told : (visit : Visit) (answer : Answer) → visit.cpu ≡ cpu → IsFixed kernel visit answer → P (without_visitor kernel visit)
+  pub goes : (visit : Visit) (slot worker : ℕ) (call : PendingCall) (progress : Progress) → visit.cpu ≡ cpu →
+      slice_get kernel.processors visit.cpu ≡ Some (Inside visit.regs visit.steps (InSlot slot)) →
+      slice_get kernel.slots slot ≡ Some (Active worker call) → progress_of kernel.tables call visit.steps ≡ Some progress →
+      P (goes_out_from kernel visit slot progress).kernel
+
 -- it holds after each event of this processor, whatever its kind is
 pub record EventCases (boot : Booted) (kernel : Kernel) (cpu : ℕ) (P : Kernel → Type 0) : Type 0 where
   pub answered : (visit : Visit) (answer : Answer) → ComesIn kernel cpu visit → P (with_visitor kernel visit (Fixed answer))
@@ -63,9 +82,15 @@ pub record EventCases (boot : Booted) (kernel : Kernel) (cpu : ℕ) (P : Kernel 
       slice_get kernel.slots slot ≡ Some (Active worker call) → progress_of kernel.tables call visit.steps ≡ Some progress →
       P (goes_out_from kernel visit slot progress).kernel
 
-module _ (boot : Booted) (kernel : Kernel) (cpu : ℕ) (P : Kernel → Type 0) (cases : EventCases boot kernel cpu P) where
-  -- ---- entries
+entries_of : (boot : Booted) (kernel : Kernel) (cpu : ℕ) (P : Kernel → Type 0) → EventCases boot kernel cpu P → EntryCases boot kernel cpu P
+entries_of boot kernel cpu P cases = record { answered = cases.answered; comes = cases.comes; resumes = cases.resumes }
 
+exits_of : (boot : Booted) (kernel : Kernel) (cpu : ℕ) (P : Kernel → Type 0) → EventCases boot kernel cpu P → LeaveCases boot kernel cpu P
+exits_of boot kernel cpu P cases = record { told = cases.told; goes = cases.goes }
+
+-- ---- entries
+
+module _ (boot : Booted) (kernel : Kernel) (cpu : ℕ) (P : Kernel → Type 0) (cases : EntryCases boot kernel cpu P) where
   abbrev After : Visit → Decision → Type 0
   After visit decision = P (after_decision kernel visit decision)
 
@@ -120,8 +145,9 @@ module _ (boot : Booted) (kernel : Kernel) (cpu : ℕ) (P : Kernel → Type 0) (
   enters next visit reads Outside false its there can e = absurd cc
   enters next visit reads (Inside regs steps errand) granted its there can e = absurd cc
 
-  -- ---- exits
+-- ---- exits
 
+module _ (boot : Booted) (kernel : Kernel) (cpu : ℕ) (P : Kernel → Type 0) (cases : LeaveCases boot kernel cpu P) where
   held_exit : (visit : Visit) (slot : ℕ) (held : ThreadSlot) (progress : Progress) → visit.cpu ≡ cpu
       → slice_get kernel.processors visit.cpu ≡ Some (Inside visit.regs visit.steps (InSlot slot)) → slice_get kernel.slots slot ≡ Some held
       → progress_held kernel.tables visit.steps held ≡ Some progress → P (goes_out_from kernel visit slot progress).kernel
@@ -154,18 +180,29 @@ module _ (boot : Booted) (kernel : Kernel) (cpu : ℕ) (P : Kernel → Type 0) (
   exits next exited true holds e = let is : exited.kernel ≡ next = cc in subst P is holds
   exits next exited false holds e = absurd cc
 
--- it holds after an event where it holds after each kind of event of its processor
-pub after_one : (boot : Booted) (kernel next : Kernel) (P : Kernel → Type 0) (happened : Event) → EventCases boot kernel (cpu_of happened) P
-    → after_event boot kernel happened ≡ Some next → P next
-after_one boot kernel next P (event.Entry cpu regs steps reads) cases e =
+-- it holds after an entry where it holds after each kind of entry of its processor
+pub after_entry_of : (boot : Booted) (kernel next : Kernel) (P : Kernel → Type 0) (cpu steps : ℕ) (regs : Regs) (reads : List Read)
+    → EntryCases boot kernel cpu P → after_event boot kernel (event.Entry cpu regs steps reads) ≡ Some next → P next
+after_entry_of boot kernel next P cpu steps regs reads cases e =
     let visit : Visit = record { cpu = cpu; regs = regs.a; steps = steps } in
     option_and_then_some (entry_from boot kernel visit reads) (slice_get kernel.processors cpu) next e
     (λ (processor : Processor) there onward. enters boot kernel cpu P cases next visit reads processor (can_be_granted steps) refl there refl onward)
-after_one boot kernel next P (event.Exit cpu regs) cases e =
+
+-- and so after an exit
+pub after_exit_of : (boot : Booted) (kernel next : Kernel) (P : Kernel → Type 0) (cpu : ℕ) (regs : Regs) → LeaveCases boot kernel cpu P
+    → after_event boot kernel (event.Exit cpu regs) ≡ Some next → P next
+after_exit_of boot kernel next P cpu regs cases e =
     option_and_then_some (exit_to regs.a) (exit kernel cpu) next e
     (λ (exited : Exited) there onward.
     exits boot kernel cpu P cases next exited (bytes_eq exited.regs regs.a)
     (exited_all boot kernel cpu P cases (slice_get kernel.processors cpu) exited refl there) onward)
+
+-- it holds after an event where it holds after each kind of event of its processor
+pub after_one : (boot : Booted) (kernel next : Kernel) (P : Kernel → Type 0) (happened : Event) → EventCases boot kernel (cpu_of happened) P
+    → after_event boot kernel happened ≡ Some next → P next
+after_one boot kernel next P (event.Entry cpu regs steps reads) cases e =
+    after_entry_of boot kernel next P cpu steps regs reads (entries_of boot kernel cpu P cases) e
+after_one boot kernel next P (event.Exit cpu regs) cases e = after_exit_of boot kernel next P cpu regs (exits_of boot kernel cpu P cases) e
 
 -- something that follows holds too
 pub events_onward : (boot : Booted) (kernel : Kernel) (cpu : ℕ) (P Q : Kernel → Type 0) → ((next : Kernel) → P next → Q next) → EventCases boot kernel cpu P

@@ -300,3 +300,11 @@ pub kernels_few : Always (λ boot kernel. AreFew kernel.tables)
 kernels_few boot history kernel booted e =
     few boot (call_at kernel.slots) kernel.tables (all_joined boot history kernel e) (all_reasoned boot history kernel e) booted (in_order boot history kernel e)
     (all_single boot history kernel e)
+
+sum_few : (instances sessions : ℕ) → instances ≤ sessions + 16 → sessions ≤ 64 → instances ≤ 80
+sum_few instances sessions few most = omega arith
+
+pub at_most_80 : Always (λ boot kernel. length kernel.tables.instances ≤ 80)
+at_most_80 boot history kernel booted e =
+    sum_few (length kernel.tables.instances) (length kernel.tables.sessions) (kernels_few boot history kernel booted e).most
+    (in_order boot history kernel e).sessions.few

@@ -1,13 +1,12 @@
 -- What a change of one call and of its session and instance leaves of the fit of calls, sessions and instances.
-use Rattle.std.proofs.Common.{◌≡◌, ℕ, ◌<◌, Bool, true, false, List, [], ◌∷◌, Option, Some, None, refl, ap, subst, sym, ◌∙◌, arith}
-use Rattle.base.specs.NumberMap.{NumberMap, get, insert, remove}
+use Rattle.std.proofs.Common.{◌≡◌, ℕ, Bool, true, false, Option, Some, None, ap, subst, sym, ◌∙◌}
+use Rattle.base.specs.NumberMap.{NumberMap, get, insert}
 use Rattle.job_model.specs.Job.{Job}
-use Rattle.job_model.specs.declared.call_kind.CallKind.{CallKind}
 use Rattle.job_model.specs.declared.call_kind.CallKind.TheVariants as kind
 use Rattle.session_table.specs.declared.session.Session.{Session}
 use Rattle.kernel_model.specs.Kernel.{Instance, PendingCall, Tables}
 use Rattle.kernel_model.specs.Sound.{Calls}
-use Rattle.kernel_model.specs.SoundCalls.{AreJoined, Fits, FitsInstance, FitsSession, HasSession, Holds, IsHolder, is_in_session, is_over, is_told, job_in}
+use Rattle.kernel_model.specs.SoundCalls.{AreJoined, Fits, FitsInstance, FitsSession, HasSession, IsHolder, is_in_session, is_over, is_told, job_in}
 use Rattle.kernel_model.specs.SoundNumbers.{is_on_instance}
 use Rattle.kernel_model.proofs.SoundMaps.{get-insert-other, get-insert-same, get-inserted}
 use Rattle.kernel_model.proofs.SoundSlots.{Changes, by_number}

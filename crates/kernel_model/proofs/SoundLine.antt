@@ -1,13 +1,11 @@
 -- The waiters are a line: each waits in a slot of its own, of which there are at most sixteen.
-use Rattle.std.proofs.Common.{◌≡◌, ℕ, zero, suc, ◌<◌, ◌≤◌, List, [], ◌∷◌, length, Option, Some, None, refl, ap, subst, sym, ◌∙◌, arith}
-use Rattle.std.specs.Prelude.{All, slice_get}
-use Rattle.std.specs.Option.{option_and_then}
+use Rattle.std.proofs.Common.{◌≡◌, ℕ, zero, suc, ◌<◌, ◌≤◌, List, [], ◌∷◌, length, Some, ap, subst, sym, arith}
 use Rattle.std.proofs.lemmas.List.Elements.{All-weaker}
 use Rattle.session_table.specs.declared.waiters.Waiter.{Waiter}
 use Rattle.session_table.specs.Waiters.{IsLine}
 use Rattle.kernel_model.specs.Application.{Booted, IsBooted}
-use Rattle.kernel_model.specs.Kernel.{Kernel, ThreadSlot}
-use Rattle.kernel_model.specs.Sound.{Always, call_at, call_in}
+use Rattle.kernel_model.specs.Kernel.{ThreadSlot}
+use Rattle.kernel_model.specs.Sound.{Always, call_at}
 use Rattle.kernel_model.specs.SoundWaiters.{Awaited, IsWaiter, awaited}
 use Rattle.kernel_model.proofs.SoundSteps.{as_many}
 use Rattle.kernel_model.proofs.SoundWaiters.{waiting}

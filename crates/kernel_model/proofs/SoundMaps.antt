@@ -1,7 +1,7 @@
 -- What a map has after a change; what a search finds; and what the end of a call makes of sessions and instances.
-use Rattle.std.proofs.Common.{◌≡◌, ℕ, zero, suc, Bool, true, false, not, cond, List, [], ◌∷◌, Option, Some, None, refl, ap, subst, sym, ◌∙◌, arith}
-use Rattle.std.specs.Prelude.{All, ◌==◌, ◌&&◌, ◌||◌, find, if◌then◌else◌}
-use Rattle.std.specs.Option.{option_map, option_map_or, option_and_then}
+use Rattle.std.proofs.Common.{◌≡◌, ℕ, Bool, true, false, not, cond, List, [], ◌∷◌, Option, Some, None, refl, ap, subst, sym, ◌∙◌, arith}
+use Rattle.std.specs.Prelude.{All, ◌==◌, ◌&&◌, find, if◌then◌else◌}
+use Rattle.std.specs.Option.{option_map, option_map_or}
 use Rattle.std.specs.Ordering.{nat_cmp, eq_by_cmp}
 use Rattle.std.proofs.lemmas.Bool.Decides.{Decides-eqb, nat_tests}
 use Rattle.std.proofs.lemmas.List.Elements.{All-head, All-tail}
@@ -13,7 +13,7 @@ use Rattle.job_model.specs.declared.call_kind.CallKind.TheVariants.{Open, Invoke
 use Rattle.session_table.specs.declared.session.Session.{Session}
 use Rattle.session_table.specs.Session.{opened_with}
 use Rattle.session_table.specs.Sessions.{settled}
-use Rattle.kernel_model.specs.Application.{Application, uuid_of}
+use Rattle.kernel_model.specs.Application.{Application}
 use Rattle.kernel_model.specs.Codes.{success}
 use Rattle.kernel_model.specs.Instances.{is_single, shared_instance}
 use Rattle.kernel_model.specs.Kernel.{Instance}

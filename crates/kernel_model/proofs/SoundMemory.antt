@@ -9,15 +9,11 @@ use Rattle.base.specs.NumberMap.{NumberMap, IsRising, get, insert, remove}
 use Rattle.base.proofs.MapLemmas.{All-get, All-insert, All-remove}
 use Rattle.base.proofs.ZeroLemmas.{length-zeros}
 use Rattle.event_journal.specs.declared.event.Event.{Event}
-use Rattle.job_model.specs.Beginning.{Program, begun_job}
-use Rattle.job_model.specs.Beginning as program
-use Rattle.job_model.specs.Job.{Body, Job, Machine, Native, Nothing, body_with_cancel_seen, idle_job, with_cancel_seen}
+use Rattle.job_model.specs.Job.{Body, Job, Machine, Native, Nothing, body_with_cancel_seen, with_cancel_seen}
 use Rattle.job_model.specs.Steps.{Advance, Goes, Left, Stopped, Stops}
 use Rattle.job_model.specs.Steps as steps
-use Rattle.job_model.specs.declared.call_kind.CallKind.TheVariants as kind
 use Rattle.job_model.specs.declared.entry_point.EntryPoint.{EntryPoint}
-use Rattle.job_model.specs.declared.entry_point.EntryPoint.TheVariants.{Create, Open, Invoke, Close, Destroy}
-use Rattle.native_tas.specs.declared.relation.Relation.{Relation}
+use Rattle.job_model.specs.declared.entry_point.EntryPoint.TheVariants.{Invoke, Close}
 use Rattle.rpc_msgs.specs.declared.rpc.Rpc.{Rpc}
 use Rattle.session_table.specs.declared.session.Session.{Session}
 use Rattle.ta_params.specs.declared.copied_params.CopiedParams.{CopiedParams}
@@ -54,6 +50,7 @@ use Rattle.kernel_model.proofs.SoundResumedJoined.{fits_instance, named_app, res
 use Rattle.kernel_model.proofs.SoundResumes.{opener_of, resumes_all}
 use Rattle.kernel_model.proofs.SoundSlots.{Changes, by_number, free_there, leaves_slot, takes_slot}
 use Rattle.kernel_model.proofs.SoundSums.{sum_insert, sum_remove, sum_with}
+use Rattle.kernel_model.proofs.SoundStarts.{Starts, kept_starts, made_starts, session_starts}
 use Rattle.kernel_model.proofs.SoundWaiters.{waiting}
 
 abbrev AllIn : Booted → NumberMap Instance → Type 0
@@ -126,36 +123,17 @@ memory_alive boot instance app alive e =
 
 -- ---- what a call begins on
 
--- so much memory comes of a program and its memory
-abbrev Comes : Option Program → List ℕ → ℕ → Type 0
-Comes None memory due = 0 ≡ due
-Comes (Some (program.OfImage image)) memory due = length memory ≡ due
-Comes (Some (program.OfRelation relation)) memory due = 0 ≡ due
-
-native_memory : (relation : Relation) (job : Job) (first : EntryPoint) (behind : List EntryPoint) (memory : List ℕ) (seen : Bool) (due : ℕ) → job.body ≡ Nothing
-    → 0 ≡ due → memory_in (begun_job (record { program = Some (program.OfRelation relation); memory = memory; seen = seen }) job (first ∷ behind)).body ≡ due
-native_memory relation job Create behind memory seen due idle e = ap memory_in idle ∙ e
-native_memory relation job Open behind memory seen due idle e = ap memory_in idle ∙ e
-native_memory relation job (Invoke func) behind memory seen due idle e = e
-native_memory relation job Close behind memory seen due idle e = ap memory_in idle ∙ e
-native_memory relation job Destroy behind memory seen due idle e = ap memory_in idle ∙ e
-
-begun_memory : (found : Option Program) (memory : List ℕ) (seen : Bool) (job : Job) (first : EntryPoint) (behind : List EntryPoint) (due : ℕ) → job.body ≡ Nothing
-    → Comes found memory due → memory_in (begun_job (record { program = found; memory = memory; seen = seen }) job (first ∷ behind)).body ≡ due
-begun_memory None memory seen job first behind due idle e = ap memory_in idle ∙ e
-begun_memory (Some (program.OfImage image)) memory seen job first behind due idle e = e
-begun_memory (Some (program.OfRelation relation)) memory seen job first behind due idle e = native_memory relation job first behind memory seen due idle e
-
-app_comes : (app : Application) (memory : List ℕ) → length memory ≡ 4096 * pages_in app → Comes (Some (program_of app)) memory (4096 * pages_in app)
-app_comes (OfImage app) memory e = e
-app_comes (BuiltIn uuid relation) memory e = refl
+app_comes : (app : Application) (memory : List ℕ) → length memory ≡ 4096 * pages_in app
+    → Starts (λ body. memory_in body ≡ 4096 * pages_in app) (Some (program_of app)) memory
+app_comes (OfImage app) memory e = λ point machine is. ap length is ∙ e
+app_comes (BuiltIn uuid relation) memory e = (refl, λ func. refl)
 
 on_comes : (boot : Booted) (instance : Instance) → length instance.memory ≡ memory_of boot instance
-    → Comes (program_on boot instance) instance.memory (memory_of boot instance)
+    → Starts (λ body. memory_in body ≡ memory_of boot instance) (program_on boot instance) instance.memory
 on_comes boot instance e = by (app_of boot instance.uuid) instance.dead e
   where
     by : (o : Option Application) (dead : Bool) → length instance.memory ≡ (if dead then 0 else 4096 * option_map_or pages_in o 0)
-        → Comes (if dead then None else option_map program_of o) instance.memory (if dead then 0 else 4096 * option_map_or pages_in o 0)
+        → Starts (λ body. memory_in body ≡ (if dead then 0 else 4096 * option_map_or pages_in o 0)) (if dead then None else option_map program_of o) instance.memory
     by o true is = refl
     by None false is = refl
     by (Some app) false is = app_comes app instance.memory is
@@ -163,23 +141,21 @@ on_comes boot instance e = by (app_of boot instance.uuid) instance.dead e
 kept_memory : (who : Beginner) (brought : Opener) (kept : ℕ × Instance) → length kept.1.memory ≡ 4096 * pages_in brought.app
     → memory_in (opens_kept who brought kept).job.body ≡ 4096 * pages_in brought.app
 kept_memory who brought kept e =
-    begun_memory (Some (program_of brought.app)) kept.1.memory who.seen (idle_job (uuid_of brought.app) brought.login 0 kept.1.objects brought.params) Open _
-    (4096 * pages_in brought.app) refl (app_comes brought.app kept.1.memory e)
+    kept_starts (λ body. memory_in body ≡ 4096 * pages_in brought.app) who brought kept (app_comes brought.app kept.1.memory e)
 
 made_memory : (who : Beginner) (brought : Opener) (number next : ℕ) → memory_in (opens_new who brought number next).job.body ≡ 4096 * pages_in brought.app
 made_memory who brought number next =
-    begun_memory (Some (program_of brought.app)) (fresh_memory (pages_in brought.app)) who.seen (idle_job (uuid_of brought.app) brought.login 0 [] brought.params) Create _
-    (4096 * pages_in brought.app) refl (app_comes brought.app (fresh_memory (pages_in brought.app)) (length-zeros (4096 * pages_in brought.app)))
+    made_starts (λ body. memory_in body ≡ 4096 * pages_in brought.app) who brought number next
+    (app_comes brought.app (fresh_memory (pages_in brought.app)) (length-zeros (4096 * pages_in brought.app)))
 
 session_memory : (who : Beginner) (session : Session) (instance : Instance) (params : CopiedParams) (first : EntryPoint) (behind : List EntryPoint)
     → length instance.memory ≡ memory_of who.boot instance
     → memory_in (begins_on who session instance params (first ∷ behind)).job.body ≡ memory_of who.boot instance
 session_memory who session instance params first behind e =
-    begun_memory (program_on who.boot instance) instance.memory who.seen (idle_job instance.uuid session.login session.context instance.objects params) first behind
-    (memory_of who.boot instance) refl (on_comes who.boot instance e)
+    session_starts (λ body. memory_in body ≡ memory_of who.boot instance) who session instance params first behind (on_comes who.boot instance e)
 
 -- an instance that nobody holds has its memory
-has_own : (boot : Booted) (instance : Instance) → IsInMemory boot instance → is_held instance ≡ false → length instance.memory ≡ memory_of boot instance
+pub has_own : (boot : Booted) (instance : Instance) → IsInMemory boot instance → is_held instance ≡ false → length instance.memory ≡ memory_of boot instance
 has_own boot instance within free = subst (KeepsMemory boot instance) (held_none instance free) within.memory
 
 held_within : (boot : Booted) (slot : ℕ) (instance : Instance) → IsInMemory boot instance → IsInMemory boot (held_by slot instance)
@@ -664,3 +640,10 @@ all_in_memory boot history kernel e =
 
 pub kernels_in_memory : Always (λ boot kernel. AreInMemory boot (call_at kernel.slots) kernel.tables)
 kernels_in_memory boot history kernel booted e = all_in_memory boot history kernel e
+
+sum_up : (frames used : ℕ) → used ≤ frames → frames - used + used ≡ frames
+sum_up frames used few = omega arith
+
+pub frames_add_up : Always (λ boot kernel. free_pages boot kernel.tables.instances + pages_used boot kernel.tables.instances ≡ boot.frames)
+frames_add_up boot history kernel booted e =
+    sum_up boot.frames (pages_used boot kernel.tables.instances) (all_in_memory boot history kernel e).frames

@@ -23,7 +23,7 @@ use Rattle.kernel_model.specs.Codes.{bad_parameters, busy, ebadaddr, ebadcmd, it
 use Rattle.kernel_model.specs.Decision.{Decision, Answers, Takes, Taken, Tested, decided_by}
 use Rattle.kernel_model.specs.Instances.{app_of, is_held}
 use Rattle.kernel_model.specs.Kernel.{Instance, Tables}
-use Rattle.kernel_model.specs.NewCall.{NewCall, about_open, about_session, beginner, cancel_calls, cancels, close_session, closes, command_of, commands, copied_params, drops_buffer, has_argument, has_pages, has_session_room, invoke_command, invokes, is_head_address, is_taken, keeps_buffer, listed_pages, named_session, new_call_in, new_call_of, new_call_with, no_copies, offset_in, open_session, open_waits, opener, opens_or_waits, pages_touched, parameters, register_memory, runs_in, settles, settles_invoke, settles_open, shared_by, shares_one, unregister_memory, waits_in, with_session}
+use Rattle.kernel_model.specs.NewCall.{NewCall, about_open, about_session, beginner, cancel_calls, cancels, close_session, command_of, commands, copied_params, drops_buffer, has_argument, has_pages, has_session_room, invoke_command, is_head_address, is_taken, keeps_buffer, listed_pages, named_session, new_call_in, new_call_of, new_call_with, no_copies, offset_in, open_session, open_waits, opener, opens_or_waits, pages_touched, parameters, register_memory, runs_in, settles, settles_invoke, settles_open, shared_by, shares_one, unregister_memory, waits_in, with_session}
 use Rattle.kernel_model.proofs.Copied.{AreCopied, AreGoodPages, Shows, copying_all, faultless-shows, invoked_room, known-shows, opening_room, params_counted, read-shows, shows-then, walk_pages}
 use Rattle.kernel_model.proofs.Parts.{AllOf, option_map_some}
 use Rattle.kernel_model.proofs.Tests.{Ends, Fails, TakenIn, answer_known, answer_need, answer_read, known-fails, known-then, need-by, reads-fails, taken_ends, test-then}

@@ -1,24 +1,22 @@
 -- A new call fits the tables, and leaves the others as they fit.
-use Rattle.std.proofs.Common.{◌≡◌, ℕ, ◌+◌, ◌<◌, Bool, true, false, List, Option, Some, None, refl, ap, subst, sym, ◌∙◌, arith}
+use Rattle.std.proofs.Common.{◌≡◌, ℕ, ◌<◌, Bool, true, false, List, Option, Some, None, refl, ap, subst, sym, ◌∙◌, arith}
 use Rattle.std.specs.Prelude.{All, bytes_eq, find, is_some, if◌then◌else◌}
-use Rattle.std.specs.Option.{option_map}
 use Rattle.std.proofs.lemmas.List.Elements.{All-weaker}
 use Rattle.std.proofs.lemmas.Slice.Eq.{bytes_eq-Decides}
 use Rattle.base.specs.NumberMap.{NumberMap, IsRising, get, insert}
 use Rattle.base.proofs.MapLemmas.{none_above}
 use Rattle.job_model.specs.Job.{Job}
-use Rattle.job_model.specs.declared.call_kind.CallKind.{CallKind}
 use Rattle.job_model.specs.declared.call_kind.CallKind.TheVariants as kind
 use Rattle.session_table.specs.declared.session.Session.{Session}
 use Rattle.session_table.specs.declared.waiters.Waiter.{Waiter}
 use Rattle.kernel_model.specs.Application.{Application, uuid_of}
 use Rattle.kernel_model.specs.Begin.{awaited_number}
 use Rattle.kernel_model.specs.Decision.{Taken}
-use Rattle.kernel_model.specs.Instances.{is_held, is_single, shared_instance}
+use Rattle.kernel_model.specs.Instances.{is_held, is_single}
 use Rattle.kernel_model.specs.Kernel.{Asks, CallPhase, Ends, Instance, PendingCall, Runs, Tables, Waits}
-use Rattle.kernel_model.specs.NewCall.{NewCall, named_session, shared_by}
+use Rattle.kernel_model.specs.NewCall.{NewCall, shared_by}
 use Rattle.kernel_model.specs.Sound.{Calls, unmarked}
-use Rattle.kernel_model.specs.SoundCalls.{AreJoined, Fits, FitsInstance, FitsSession, HasSession, Holds, IsHolder, is_in_session, is_over, is_told, job_in}
+use Rattle.kernel_model.specs.SoundCalls.{AreJoined, FitsSession, HasSession, is_in_session, is_over, job_in}
 use Rattle.kernel_model.specs.SoundNumbers.{AreNumbered, IsGiven, is_on_instance}
 use Rattle.kernel_model.specs.SoundWaiters.{AreWaiters, Awaited, IsWaiter, awaited, awaited_in}
 use Rattle.kernel_model.proofs.Parts.{option_map_some}
@@ -26,7 +24,7 @@ use Rattle.kernel_model.proofs.SoundJoined.{IsIdleSlot, StandsApart, begins_join
 use Rattle.kernel_model.proofs.SoundMaps.{IsNamed, find-all, get-insert-other, get-insert-same, if_some, named_is}
 use Rattle.kernel_model.proofs.SoundNewCalls.{NewCases}
 use Rattle.kernel_model.proofs.SoundRising.{found_there, none_passes}
-use Rattle.kernel_model.proofs.SoundSlots.{Changes, by_number}
+use Rattle.kernel_model.proofs.SoundSlots.{Changes}
 
 -- what is known before a new call
 pub record Before (before : Calls) (tables : Tables) : Type 0 where

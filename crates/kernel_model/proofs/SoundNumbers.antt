@@ -15,7 +15,6 @@ use Rattle.session_table.specs.Waiters.{without}
 use Rattle.shm_registry.specs.Registered.{Registered}
 use Rattle.kernel_model.specs.Application.{Booted}
 use Rattle.kernel_model.specs.Argument.{client_in, thread_in}
-use Rattle.kernel_model.specs.Begin.{opens_kept, opens_new}
 use Rattle.kernel_model.specs.Decision.{Taken, Takes}
 use Rattle.kernel_model.specs.Entry.{after_decision}
 use Rattle.kernel_model.specs.Exit.{progress_of, slot_left, tables_left}

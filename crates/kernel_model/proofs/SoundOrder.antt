@@ -1,6 +1,6 @@
 -- The tables are in order after each event of a legal history, and have few entries.
-use Rattle.std.proofs.Common.{◌≡◌, ℕ, ◌+◌, ◌<◌, ◌≤◌, Bool, true, false, cond, List, [], length, Option, Some, None, refl, ap, subst, sym, ◌∙◌, arith}
-use Rattle.std.specs.Prelude.{T, ◌==◌, ◌&&◌, is_some, nat_lt, slice_get, slice_set}
+use Rattle.std.proofs.Common.{◌≡◌, ℕ, ◌+◌, ◌≤◌, Bool, true, false, cond, List, length, Option, Some, None, refl, ap, subst, sym, ◌∙◌, arith}
+use Rattle.std.specs.Prelude.{T, ◌==◌, ◌&&◌, is_some, nat_lt}
 use Rattle.std.specs.Option.{option_map_or}
 use Rattle.std.specs.Ordering.{nat_cmp}
 use Rattle.std.specs.Cmp.{nat_cmp_total}
@@ -17,13 +17,10 @@ use Rattle.session_table.specs.Sessions.{settled}
 use Rattle.kernel_model.specs.Application.{Booted}
 use Rattle.kernel_model.specs.Argument.{thread_in}
 use Rattle.kernel_model.specs.Codes.{success}
-use Rattle.kernel_model.specs.Decision.{Taken, Takes}
-use Rattle.kernel_model.specs.Entry.{after_decision}
-use Rattle.kernel_model.specs.Exit.{progress_of, slot_left, tables_left}
+use Rattle.kernel_model.specs.Exit.{progress_of, tables_left}
 use Rattle.kernel_model.specs.History.{kernel_after}
 use Rattle.kernel_model.specs.Instances.{given_back, instances_after, killed}
-use Rattle.kernel_model.specs.Kernel.{Instance, Kernel, PendingCall, Progress, Tables, Visit, first_kernel}
-use Rattle.kernel_model.specs.Leaving.{leaving_of}
+use Rattle.kernel_model.specs.Kernel.{Instance, Kernel, PendingCall, Progress, Tables}
 use Rattle.kernel_model.specs.NewCall.{NewCall, has_session_room, new_call_of}
 use Rattle.kernel_model.specs.Resume.{Resumed, onward_of, resumed_call}
 use Rattle.kernel_model.specs.Sessions.{sessions_after, sessions_after_panic, sessions_unrun}

@@ -5,7 +5,7 @@ use Rattle.std.specs.Option.{option_and_then, option_map_or}
 use Rattle.base.specs.NumberMap.{NumberMap, IsRising, IsRising-remove, get, insert, remove}
 use Rattle.base.proofs.MapLemmas.{All-get}
 use Rattle.event_journal.specs.declared.event.Event.{Event}
-use Rattle.job_model.specs.Job.{Job, with_cancel_seen}
+use Rattle.job_model.specs.Job.{Job}
 use Rattle.job_model.specs.Steps.{Advance, End, Goes, Left, Stopped, Stops, advance_on_answer, grant_of}
 use Rattle.job_model.specs.Steps as steps
 use Rattle.job_model.specs.declared.call_kind.CallKind.{CallKind}
@@ -22,24 +22,24 @@ use Rattle.kernel_model.specs.Codes.{success}
 use Rattle.kernel_model.specs.Decision.{Taken, Takes}
 use Rattle.kernel_model.specs.Entry.{after_decision}
 use Rattle.kernel_model.specs.Exit.{progress_of, slot_left, tables_left}
-use Rattle.kernel_model.specs.Given.{Buffer, Given, NoBuffer, Nothing as NothingGiven, Reply, call_given}
+use Rattle.kernel_model.specs.Given.{Given, call_given}
 use Rattle.kernel_model.specs.History.{kernel_after}
 use Rattle.kernel_model.specs.Instances.{app_of, given_back, held_by, instances_after, is_held, keeps_alive, killed, made_for}
-use Rattle.kernel_model.specs.Kernel.{Active, Asks, CallPhase, Ends, Free, Instance, Kernel, PendingCall, Progress, Runs, Suspended, Tables, ThreadSlot, Waits, first_kernel}
+use Rattle.kernel_model.specs.Kernel.{Active, Asks, CallPhase, Free, Instance, Kernel, PendingCall, Progress, Runs, Suspended, Tables, ThreadSlot, Waits, first_kernel}
 use Rattle.kernel_model.specs.Leaving.{leaving_of}
 use Rattle.kernel_model.specs.NewCall.{NewCall, beginner, new_call_of, no_copies, opener}
-use Rattle.kernel_model.specs.Resume.{Resumed, app_of_call, onward_of, phase_after, phase_seen, resumed_call, sees, who_resumes}
+use Rattle.kernel_model.specs.Resume.{Resumed, app_of_call, onward_of, phase_after, resumed_call, sees, who_resumes}
 use Rattle.kernel_model.specs.Sessions.{has_opened, sessions_after, sessions_after_panic, sessions_unrun}
 use Rattle.kernel_model.specs.Sound.{Calls, call_at, call_in, unmarked}
 use Rattle.kernel_model.specs.SoundCalls.{AreJoined, Holds, is_in_session, is_over, is_told, job_in}
 use Rattle.kernel_model.specs.SoundMemory.{AreInMemory, IsInMemory}
 use Rattle.kernel_model.specs.SoundNumbers.{IsNumberedSession, is_on_instance}
 use Rattle.kernel_model.specs.SoundOrder.{AreInOrder}
-use Rattle.kernel_model.proofs.Parts.{if-both, some_of}
+use Rattle.kernel_model.proofs.Parts.{some_of}
 use Rattle.kernel_model.proofs.SoundCallsJoined.{all_joined}
 use Rattle.kernel_model.proofs.SoundCourses.{answered_course, asked_course, course_both, course_same, left_course, resumed_course}
 use Rattle.kernel_model.proofs.SoundDestined.{Destined, HasEnded, IsDestined, destined_on, granted_so}
-use Rattle.kernel_model.proofs.SoundEndedJoined.{sessions_end, sessions_panic}
+use Rattle.kernel_model.proofs.SoundEndedJoined.{instances_end, sessions_end, sessions_panic}
 use Rattle.kernel_model.proofs.SoundEvents.{EventCases, holds_along, resumed_taken}
 use Rattle.kernel_model.proofs.SoundExits.{exits_all, left_all, unbuffered}
 use Rattle.kernel_model.proofs.SoundJoined.{GoesOn, never_both, never_none, some_same}
@@ -467,7 +467,8 @@ module _ (boot : Booted) (before : Calls) (tables : Tables) (slot : ℕ) (call :
         let holds = its_hold before tables slot call joined there job is in
         let sessions = sessions_after call.kind tables.sessions call.session end.result.result end.context in
         exit_ends after _ _ job holds.instance changes is holds.kept holds.holder refl
-        (others_after sessions end.is_last (given_back end.memory end.objects))
+        (instances_end sessions tables.instances call.instance end.is_last (given_back end.memory end.objects) holds.instance
+        (get tables.instances call.instance) holds.kept (λ instance. refl) (λ instance. refl)).others
         (sessions_end call.kind tables.sessions call.session end.result.result end.context).others
         (λ left kept.
         let back = back_left sessions tables.instances call.instance end.is_last (given_back end.memory end.objects) holds.instance left
@@ -478,7 +479,8 @@ module _ (boot : Booted) (before : Calls) (tables : Tables) (slot : ℕ) (call :
         let holds = its_hold before tables slot call joined there job is in
         let sessions = sessions_after_panic call.kind tables.sessions call.session in
         exit_ends after _ _ job holds.instance changes is holds.kept holds.holder refl
-        (others_after sessions false killed)
+        (instances_end sessions tables.instances call.instance false killed holds.instance
+        (get tables.instances call.instance) holds.kept (λ instance. refl) (λ instance. refl)).others
         (sessions_panic call.kind tables.sessions call.session).others
         (λ left kept.
         let back = back_left sessions tables.instances call.instance false killed holds.instance left (get tables.instances call.instance) holds.kept kept in
@@ -491,21 +493,6 @@ module _ (boot : Booted) (before : Calls) (tables : Tables) (slot : ℕ) (call :
     tells = λ result params wakes is its after changes.
         reasons_rest boot before after tables _ slot (Some _) changes reasons _ refl refl refl (unrun_stay call.kind refl (ap is_told is));
   }) e e after changes
-    where
-      others_after : (sessions : NumberMap Session) (is_last : Bool) (change : Instance → Instance) (other : ℕ) → (call.instance ≡ other → ⊥)
-          → get (option_map_or (λ (instance : Instance). instances_after sessions tables.instances call.instance is_last (change instance))
-          (get tables.instances call.instance) tables.instances) other ≡ get tables.instances other
-      others_after sessions is_last change other apart = found (get tables.instances call.instance)
-        where
-          found : (o : Option Instance)
-              → get (option_map_or (λ (instance : Instance). instances_after sessions tables.instances call.instance is_last (change instance)) o tables.instances) other
-              ≡ get tables.instances other
-          found None = refl
-          found (Some instance) =
-              if-both (λ (m : NumberMap Instance). get m other ≡ get tables.instances other) (is_last || ((change instance).dead && not (has_opened sessions call.instance)))
-              (remove tables.instances call.instance) (insert tables.instances call.instance (change instance))
-              (get-remove-other tables.instances call.instance other apart)
-              (get-insert-other tables.instances call.instance (change instance) other apart)
 
 -- ---- events
 

@@ -1,5 +1,5 @@
 -- A resumed call fits the tables, and leaves the others as they fit.
-use Rattle.std.proofs.Common.{◌≡◌, ℕ, Bool, true, false, List, [], ◌∷◌, Option, Some, None, refl, ap, subst, sym, ◌∙◌}
+use Rattle.std.proofs.Common.{◌≡◌, ℕ, true, false, List, [], ◌∷◌, Option, Some, None, refl, ap, subst, sym, ◌∙◌}
 use Rattle.std.specs.Prelude.{All, bytes_eq}
 use Rattle.std.specs.Option.{option_and_then}
 use Rattle.std.proofs.lemmas.List.Elements.{All-cons, All-nil}
@@ -8,7 +8,6 @@ use Rattle.base.specs.NumberMap.{NumberMap, get, insert}
 use Rattle.job_model.specs.Job.{Job, with_cancel_seen}
 use Rattle.job_model.specs.Steps.{Advance, Goes, Stops}
 use Rattle.job_model.specs.Steps as steps
-use Rattle.job_model.specs.declared.call_kind.CallKind.{CallKind}
 use Rattle.job_model.specs.declared.call_kind.CallKind.TheVariants as kind
 use Rattle.rpc_msgs.specs.declared.rpc.Rpc.{Rpc}
 use Rattle.session_table.specs.declared.session.Session.{Session}
@@ -19,13 +18,13 @@ use Rattle.kernel_model.specs.Instances.{app_of, held_by}
 use Rattle.kernel_model.specs.Kernel.{Asks, CallPhase, Ends, Instance, PendingCall, Progress, Runs, Tables, Waits}
 use Rattle.kernel_model.specs.Resume.{Resumed, app_of_call, onward_of, phase_after, phase_seen, sees}
 use Rattle.kernel_model.specs.Sound.{Calls, unmarked}
-use Rattle.kernel_model.specs.SoundCalls.{AreJoined, Fits, FitsInstance, FitsSession, HasSession, is_in_session, is_over, is_told, job_in}
+use Rattle.kernel_model.specs.SoundCalls.{AreJoined, FitsInstance, FitsSession, HasSession, is_in_session, is_over, is_told, job_in}
 use Rattle.kernel_model.specs.SoundNumbers.{is_on_instance}
 use Rattle.kernel_model.proofs.Parts.{if-both}
-use Rattle.kernel_model.proofs.SoundJoined.{GoesOn, IsIdleSlot, StandsApart, apart_goes_on, begins_joined, goes_on_joined, instance_goes_on, never_both, never_none, session_goes_on, some_same}
+use Rattle.kernel_model.proofs.SoundJoined.{GoesOn, IsIdleSlot, apart_goes_on, begins_joined, goes_on_joined, instance_goes_on, never_both, never_none, session_goes_on, some_same}
 use Rattle.kernel_model.proofs.SoundMaps.{find-all}
 use Rattle.kernel_model.proofs.SoundNewJoined.{held_none, no_job}
-use Rattle.kernel_model.proofs.SoundResumes.{IsAwake, IsReady, resumes_all}
+use Rattle.kernel_model.proofs.SoundResumes.{resumes_all}
 use Rattle.kernel_model.proofs.SoundSlots.{Changes}
 
 -- ---- phases

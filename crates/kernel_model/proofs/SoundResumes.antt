@@ -1,5 +1,5 @@
 -- What a resumed call comes to: each of its forms, with what its tests have shown.
-use Rattle.std.proofs.Common.{◌≡◌, ℕ, Bool, true, false, List, [], ◌∷◌, Option, Some, None, refl, ap, subst, sym, ◌∙◌}
+use Rattle.std.proofs.Common.{◌≡◌, ℕ, Bool, true, false, List, [], ◌∷◌, Option, Some, None, refl}
 use Rattle.std.specs.Prelude.{if◌then◌else◌, ◌&&◌, not}
 use Rattle.std.specs.Option.{option_map_or}
 use Rattle.base.specs.NumberMap.{get}
@@ -20,7 +20,7 @@ use Rattle.kernel_model.specs.Codes.{bad_parameters, out_of_memory, target_dead}
 use Rattle.kernel_model.specs.Given.{Buffer, Given, NoBuffer, Nothing, Reply}
 use Rattle.kernel_model.specs.Instances.{is_held}
 use Rattle.kernel_model.specs.Kernel.{Asks, CallPhase, Ends, Instance, Progress, Runs, Waits}
-use Rattle.kernel_model.specs.Resume.{Resumed, app_of_call, begins, begins_in, begins_open, ends_with, goes_on, is_close, is_without_buffer, onward_in, onward_of, phase_after, phase_when_given, resumes_waiting, sleeps_on, still_wakes, tested_again, who_resumes}
+use Rattle.kernel_model.specs.Resume.{Resumed, app_of_call, begins, begins_in, begins_open, ends_with, goes_on, is_close, is_without_buffer, onward_in, onward_of, phase_after, phase_when_given, sleeps_on, still_wakes, tested_again, who_resumes}
 
 -- a call that has waited, with its session
 pub record IsAwake (r : Resumed) (params : CopiedParams) (session : Session) : Type 0 where

@@ -1,5 +1,5 @@
 -- A session that was opened keeps its instance, after each event of a legal history: no other call ends that.
-use Rattle.std.proofs.Common.{◌≡◌, ℕ, ◌+◌, ◌<◌, Bool, true, false, List, [], ◌∷◌, Option, Some, None, refl, ap, subst, sym, ◌∙◌, arith}
+use Rattle.std.proofs.Common.{◌≡◌, ℕ, ◌+◌, Bool, true, false, List, [], ◌∷◌, Option, Some, None, refl, ap, subst, sym, ◌∙◌}
 use Rattle.std.specs.Prelude.{All, IsSome, if◌then◌else◌, ◌==◌, ◌&&◌, ◌||◌, not, slice_get, slice_set}
 use Rattle.std.specs.List.{list_any}
 use Rattle.std.specs.Option.{option_and_then, option_map_or}
@@ -15,26 +15,22 @@ use Rattle.job_model.specs.declared.call_kind.CallKind.{CallKind}
 use Rattle.job_model.specs.declared.call_kind.CallKind.TheVariants as kind
 use Rattle.session_table.specs.declared.session.Session.{Session}
 use Rattle.session_table.specs.Session.{opened_with}
-use Rattle.ta_params.specs.declared.copied_params.CopiedParams.{CopiedParams}
-use Rattle.kernel_model.specs.Application.{Application, Booted, uuid_of}
+use Rattle.kernel_model.specs.Application.{Booted, uuid_of}
 use Rattle.kernel_model.specs.Argument.{client_in, thread_in}
-use Rattle.kernel_model.specs.Begin.{begins_on, closing_points}
 use Rattle.kernel_model.specs.Codes.{success}
 use Rattle.kernel_model.specs.Decision.{Taken, Takes}
 use Rattle.kernel_model.specs.Entry.{after_decision}
 use Rattle.kernel_model.specs.Exit.{progress_of, slot_left, tables_left}
 use Rattle.kernel_model.specs.History.{kernel_after}
 use Rattle.kernel_model.specs.Instances.{given_back, held_by, instances_after, killed, made_for}
-use Rattle.kernel_model.specs.Kernel.{Active, Asks, CallPhase, Ends, Free, Instance, Kernel, PendingCall, Progress, Runs, Suspended, Tables, ThreadSlot, Waits, first_kernel}
+use Rattle.kernel_model.specs.Kernel.{Active, Asks, CallPhase, Free, Instance, Kernel, PendingCall, Progress, Runs, Suspended, Tables, ThreadSlot, first_kernel}
 use Rattle.kernel_model.specs.Leaving.{leaving_of}
 use Rattle.kernel_model.specs.NewCall.{NewCall, beginner, new_call_of, no_copies, opener}
-use Rattle.kernel_model.specs.Resume.{Resumed, onward_of, resumed_call, sees, who_resumes}
+use Rattle.kernel_model.specs.Resume.{Resumed, onward_of, resumed_call, who_resumes}
 use Rattle.kernel_model.specs.Sessions.{has_opened, sessions_after, sessions_after_panic, sessions_unrun}
 use Rattle.kernel_model.specs.Sound.{Always, Calls, call_at, call_in, unmarked}
-use Rattle.kernel_model.specs.SoundCalls.{AreJoined, Holds, is_in_session, is_over, is_told, job_in}
-use Rattle.kernel_model.specs.SoundNumbers.{is_on_instance}
+use Rattle.kernel_model.specs.SoundCalls.{AreJoined, is_in_session, job_in}
 use Rattle.kernel_model.specs.SoundSessions.{HaveTheirInstances}
-use Rattle.kernel_model.proofs.Parts.{if-both}
 use Rattle.kernel_model.proofs.SoundCallsJoined.{all_joined}
 use Rattle.kernel_model.proofs.SoundCourses.{KeepsCourse, HoldsOf, OfPlace, answered_course, asked_course, course_both, course_same, granted_on, left_course, resumed_course}
 use Rattle.kernel_model.proofs.SoundEndedJoined.{instances_end, sessions_end, sessions_panic}
@@ -48,7 +44,7 @@ use Rattle.kernel_model.proofs.SoundNumbers.{numbered}
 use Rattle.kernel_model.proofs.SoundOrder.{in_order}
 use Rattle.kernel_model.proofs.SoundReasons.{is_open, leaves}
 use Rattle.kernel_model.proofs.SoundReasonsKept.{its_hold, own_session}
-use Rattle.kernel_model.proofs.SoundResumedJoined.{fits_session, resumed_on, session_instance}
+use Rattle.kernel_model.proofs.SoundResumedJoined.{resumed_on, session_instance}
 use Rattle.kernel_model.proofs.SoundResumes.{opener_of, resumes_all}
 use Rattle.kernel_model.proofs.SoundSlots.{Changes, by_number, free_there, leaves_slot, none_at_first, takes_slot}
 use Rattle.kernel_model.proofs.SoundSpared.{HasSpared, Spared, closes_spared, invokes_spared, opens_kept_spared, opens_new_spared, spared_on, spared_onward}
@@ -199,9 +195,10 @@ module _ (before after : Calls) (tables now : Tables) (slot : ℕ) (held : Optio
       (spared_onward (MayEnd tables.sessions was) (MayEnd now.sessions call) (is_open was.kind) onward _ job.points job.result so)))
     where
       onward : MayEnd tables.sessions was → MayEnd now.sessions call
-      onward may =
-          (ap leaves of_kind ∙ may.0,
-          λ at found kept opened on. session ∙ may.1 at found (were at found kept opened) opened (on ∙ instance))
+      onward may = (
+        ap leaves of_kind ∙ may.0,
+        λ at found kept opened on. session ∙ may.1 at found (were at found kept opened) opened (on ∙ instance),
+      )
 
   -- the end of a call
   spared_end : (was : PendingCall) (job : Job) (own : Instance) → before slot ≡ Some was → ((call : PendingCall) → held ≡ Some call → job_in call.phase ≡ None)
@@ -231,9 +228,12 @@ module _ (before after : Calls) (tables now : Tables) (slot : ℕ) (held : Optio
   }
     where
       onward : (call : PendingCall) → (was.instance ≡ call.instance → ⊥) → MayEnd tables.sessions call → MayEnd now.sessions call
-      onward call apart may = (may.0, λ at session is opened on. by_number was.session at
-          (λ own_one. absurd (apart (sym (its session (ap (λ (n : ℕ). get now.sessions n) own_one ∙ is)) ∙ on)))
-          (λ differ. may.1 at session (sym (sessions at differ) ∙ is) opened on))
+      onward call apart may = (
+        may.0,
+        λ at session is opened on. by_number was.session at
+            (λ own_one. absurd (apart (sym (its session (ap (λ (n : ℕ). get now.sessions n) own_one ∙ is)) ∙ on)))
+            (λ differ. may.1 at session (sym (sessions at differ) ∙ is) opened on),
+      )
 
 -- ---- new calls
 
@@ -374,8 +374,11 @@ module _ (before : Calls) (r : Resumed) (joined : AreJoined before r.tables) (sp
         begins_so after _ _ (held_by r.slot instance) _ false changes refl
         (ap (λ (n : ℕ). insert r.tables.instances n (held_by r.slot instance)) same)
         refl (ap is_open is) (closes_spared _ (who_resumes r) r.call.session session instance params
-        (λ none. (ap leaves is, subst (λ (n : ℕ). IsAlone r.tables.sessions n r.call.session) same
-        (other_alone r.tables.sessions session.instance r.call.session none))));
+        (λ none. (
+          ap leaves is,
+          subst (λ (n : ℕ). IsAlone r.tables.sessions n r.call.session) same
+              (other_alone r.tables.sessions session.instance r.call.session none),
+        )));
   })
 
 -- ---- exits

@@ -3,29 +3,32 @@ use Rattle.std.proofs.Common.{◌≡◌, ℕ, zero, suc, ◌+◌, ◌*◌, ◌�
 use Rattle.std.specs.Prelude.{map, nat_le, slice_get, slice_set, replicate, ◌&&◌}
 use Rattle.std.proofs.lemmas.Bool.Decides.{nat_tests}
 use Rattle.std.proofs.lemmas.List.{length-set}
+use Rattle.std.proofs.lemmas.Option.{option_and_then_some}
 use Rattle.event_journal.specs.declared.event.Event.{Event}
+use Rattle.event_journal.specs.declared.event.Event.TheVariants as event
 use Rattle.job_model.specs.Job.{Job}
-use Rattle.job_model.specs.Steps.{Grant, JobStop, Left, Stopped, grant_of}
+use Rattle.job_model.specs.Steps.{JobStop, Stopped, grant_of}
 use Rattle.job_model.proofs.JobSteps.{granted-IsGrant}
-use Rattle.kernel_model.specs.Application.{Booted, IsBooted}
+use Rattle.kernel_model.specs.Application.{Booted}
 use Rattle.kernel_model.specs.Argument.{client_in, thread_in}
 use Rattle.kernel_model.specs.Decision.{Taken, Takes}
 use Rattle.kernel_model.specs.Entry.{after_decision}
-use Rattle.kernel_model.specs.Exit.{goes_out_from, progress_of, slot_left}
+use Rattle.kernel_model.specs.Exit.{progress_of, slot_left}
 use Rattle.kernel_model.specs.Given.{Buffer, Given, NoBuffer, Nothing, Reply, call_given}
-use Rattle.kernel_model.specs.History.{can_be_granted, kernel_after}
-use Rattle.kernel_model.specs.Kernel.{Active, Cancel, Fixed, Free, InSlot, Inside, Kernel, Outside, PendingCall, Processor, Progress, Suspended, ThreadSlot, Visit, cancelled_slots, first_kernel}
-use Rattle.kernel_model.specs.Laws.{IsOutside}
+use Rattle.kernel_model.specs.History.{after_event, after_events, can_be_granted}
+use Rattle.kernel_model.specs.Kernel.{Active, Cancel, Free, InSlot, Inside, Kernel, Outside, PendingCall, Processor, Progress, Suspended, ThreadSlot, Visit, cancelled_slots, first_kernel}
 use Rattle.kernel_model.specs.Leaving.{leaving_of}
 use Rattle.kernel_model.specs.NewCall.{NewCall}
 use Rattle.kernel_model.specs.Resume.{Resumed, onward_of, resumed_call, sees}
 use Rattle.kernel_model.specs.Sound.{Always, AreAsMany, AreGranted, HasStepsAfter, StepsAreGranted}
+use Rattle.kernel_model.specs.SoundSteps.{StepsAreOfEntries, entries_in}
 use Rattle.kernel_model.proofs.Parts.{if-both, set_other, set_then_read}
-use Rattle.kernel_model.proofs.SoundEvents.{ComesIn, EventCases, holds_after, resumed_taken}
+use Rattle.kernel_model.proofs.SoundEvents.{ComesIn, EntryCases, EventCases, LeaveCases, after_entry_of, after_exit_of, holds_after, resumed_taken}
 use Rattle.kernel_model.proofs.SoundExits.{exits_all, left_all}
+use Rattle.kernel_model.proofs.SoundJoined.{some_same}
 use Rattle.kernel_model.proofs.SoundNewCalls.{NewCases, all_cases, cases_onward}
 use Rattle.kernel_model.proofs.SoundResumes.{resumes_all}
-use Rattle.kernel_model.proofs.SoundSlots.{by_number, free_there, plain, was_held}
+use Rattle.kernel_model.proofs.SoundSlots.{by_number, plain, was_held}
 
 -- ---- how many there are
 
@@ -67,10 +70,22 @@ as_many boot history kernel booted e =
 
 -- ---- steps
 
-later_steps : (events : ℕ) (held : ThreadSlot) → HasStepsAfter events held → HasStepsAfter (events + 1) held
-later_steps events Free has = tt
-later_steps events (Active cpu call) has = omega arith
-later_steps events (Suspended client call) has = omega arith
+more_than : (few many steps : ℕ) → few ≤ many → steps ≤ 1000000 * few → steps ≤ 1000000 * many
+more_than few many steps le has = omega arith
+
+later_steps : (few many : ℕ) (held : ThreadSlot) → few ≤ many → HasStepsAfter few held → HasStepsAfter many held
+later_steps few many Free le has = tt
+later_steps few many (Active cpu call) le has = more_than few many (call.steps + 1000000) le has
+later_steps few many (Suspended client call) le has = more_than few many call.steps le has
+
+later_granted : (few many : ℕ) (kernel : Kernel) → few ≤ many → AreGranted few kernel → AreGranted many kernel
+later_granted few many kernel le sound = record {
+  calls = λ slot held is. later_steps few many held le (sound.calls slot held is);
+  grants = sound.grants;
+}
+
+one_more : (entries : ℕ) → entries ≤ entries + 1
+one_more entries = omega arith
 
 plain_steps : (events : ℕ) (held : ThreadSlot) → HasStepsAfter events held → HasStepsAfter events (plain held)
 plain_steps events Free has = tt
@@ -107,7 +122,7 @@ taken_steps events kernel cpu visit slot taken sound inside few = record {
       (λ apart.
       let was = was_held kernel.slots taken.cancels at held (sym (set_other marked slot at (Active visit.cpu taken.call) apart) ∙ is) in
       let before = plain_steps events was.0 (sound.calls at was.0 was.1) in
-      later_steps events held (steps_of_plain events held (subst (HasStepsAfter events) was.2 before)));
+      later_steps events (events + 1) held (one_more events) (steps_of_plain events held (subst (HasStepsAfter events) was.2 before)));
   grants = λ worker at steps regs is.
       by_number visit.cpu worker
       (λ same.
@@ -121,9 +136,9 @@ taken_steps events kernel cpu visit slot taken sound inside few = record {
     marked = cancelled_slots kernel.slots taken.cancels
 
 moved_steps : (events : ℕ) (kernel : Kernel) (cpu : ℕ) (now : Processor) → ((regs : List ℕ) (steps slot : ℕ) → now ≡ Inside regs steps (InSlot slot) → ⊥)
-    → AreGranted events kernel → AreGranted (events + 1) (record kernel { processors = slice_set kernel.processors cpu now })
+    → AreGranted events kernel → AreGranted events (record kernel { processors = slice_set kernel.processors cpu now })
 moved_steps events kernel cpu now never sound = record {
-  calls = λ slot held is. later_steps events held (sound.calls slot held is);
+  calls = sound.calls;
   grants = λ worker at steps regs is.
       by_number cpu worker
       (λ same. absurd (never regs steps at (set_then_read kernel.processors cpu now (Inside regs steps (InSlot at))
@@ -197,34 +212,40 @@ exit_steps kernel call granted progress e = exits_all kernel.tables call granted
   tells = λ result params wakes is. same_steps call.steps granted;
 }) e
 
-gone_steps : (events granted before after : ℕ) → after ≤ before + granted → granted ≤ 1000000 → before + 1000000 ≤ 1000000 * events → after ≤ 1000000 * (events + 1)
-gone_steps events granted before after le few has = omega arith
+gone_steps : (entries granted before after : ℕ) → after ≤ before + granted → granted ≤ 1000000 → before + 1000000 ≤ 1000000 * entries
+    → after ≤ 1000000 * entries
+gone_steps entries granted before after le few has = omega arith
 
-steps_cases : (boot : Booted) (events : ℕ) (kernel : Kernel) (cpu : ℕ) → AreGranted events kernel → EventCases boot kernel cpu (AreGranted (events + 1))
-steps_cases boot events kernel cpu sound = record {
-  answered = λ visit answer inside. moved_steps events kernel visit.cpu _ (λ regs steps slot e. cc) sound;
+entry_steps : (boot : Booted) (entries : ℕ) (kernel : Kernel) (cpu : ℕ) → AreGranted entries kernel → EntryCases boot kernel cpu (AreGranted (entries + 1))
+entry_steps boot entries kernel cpu sound = record {
+  answered = λ visit answer inside.
+      later_granted entries (entries + 1) _ (one_more entries) (moved_steps entries kernel visit.cpu _ (λ regs steps slot e. cc) sound);
   comes = λ visit slot bytes inside free fits.
-      cases_onward _ _ _ (λ taken none. taken_steps events kernel cpu visit slot taken sound inside (no_steps taken.call.steps events none)) (new_steps _);
+      cases_onward _ _ _ (λ taken none. taken_steps entries kernel cpu visit slot taken sound inside (no_steps taken.call.steps entries none)) (new_steps _);
   resumes = λ visit call given inside there offered.
       let r = resumed_call boot kernel.tables (thread_in visit.regs) call given in
-      let before : call.steps ≤ 1000000 * events = sound.calls (thread_in visit.regs) (Suspended (client_in visit.regs) call) there in
+      let before : call.steps ≤ 1000000 * entries = sound.calls (thread_in visit.regs) (Suspended (client_in visit.regs) call) there in
       let same = resumed_steps r ∙ given_steps given (sees call) ∙ seen_steps call in
-      taken_steps events kernel cpu visit (thread_in visit.regs) (resumed_taken boot kernel visit call given) sound inside
-      (subst (λ (n : ℕ). n ≤ 1000000 * events) (sym same) before);
-  told = λ visit answer its fixed. moved_steps events kernel visit.cpu Outside (λ regs steps slot e. cc) sound;
+      taken_steps entries kernel cpu visit (thread_in visit.regs) (resumed_taken boot kernel visit call given) sound inside
+      (subst (λ (n : ℕ). n ≤ 1000000 * entries) (sym same) before);
+}
+
+leave_steps : (boot : Booted) (entries : ℕ) (kernel : Kernel) (cpu : ℕ) → AreGranted entries kernel → LeaveCases boot kernel cpu (AreGranted entries)
+leave_steps boot entries kernel cpu sound = record {
+  told = λ visit answer its fixed. moved_steps entries kernel visit.cpu Outside (λ regs steps slot e. cc) sound;
   goes = λ visit slot worker call progress its inside there e.
-      let before : call.steps + 1000000 ≤ 1000000 * events = sound.calls slot (Active worker call) there in
+      let before : call.steps + 1000000 ≤ 1000000 * entries = sound.calls slot (Active worker call) there in
       let few = sound.grants visit.cpu slot visit.steps visit.regs inside in
-      let after = gone_steps events visit.steps call.steps progress.call.steps (exit_steps kernel call visit.steps progress e) few before in
-      let moved = moved_steps events kernel visit.cpu Outside (λ regs steps at e. cc) sound in
+      let after = gone_steps entries visit.steps call.steps progress.call.steps (exit_steps kernel call visit.steps progress e) few before in
+      let moved = moved_steps entries kernel visit.cpu Outside (λ regs steps at e. cc) sound in
       let left = slot_left progress.call (leaving_of slot progress.call) in
-      let has : HasStepsAfter (events + 1) left = left_all slot progress.call (HasStepsAfter (events + 1)) after after (λ result params told is. tt) in
+      let has : HasStepsAfter entries left = left_all slot progress.call (HasStepsAfter entries) after after (λ result params told is. tt) in
       record {
         calls = λ at held is.
             by_number slot at
-            (λ same. subst (HasStepsAfter (events + 1)) (set_then_read kernel.slots slot left held
+            (λ same. subst (HasStepsAfter entries) (set_then_read kernel.slots slot left held
             (subst (λ (n : ℕ). slice_get (slice_set kernel.slots slot left) n ≡ Some held) (sym same) is)) has)
-            (λ apart. later_steps events held (sound.calls at held (sym (set_other kernel.slots slot at left apart) ∙ is)));
+            (λ apart. sound.calls at held (sym (set_other kernel.slots slot at left apart) ∙ is));
         grants = moved.grants;
       };
 }
@@ -239,12 +260,36 @@ nobody_inside zero cpu steps slot regs e = cc
 nobody_inside (suc count) zero steps slot regs e = cc
 nobody_inside (suc count) (suc cpu) steps slot regs e = nobody_inside count cpu steps slot regs e
 
+later : (boot : Booted) (entries : ℕ) (kernel last : Kernel) (events : List Event) → AreGranted entries kernel
+    → after_events boot kernel events ≡ Some last → AreGranted (entries + entries_in events) last
+later boot entries kernel last [] sound e =
+    let none : entries ≡ entries + 0 = omega arith in
+    subst (λ (n : ℕ). AreGranted n last) none (subst (AreGranted entries) (some_same kernel last e) sound)
+later boot entries kernel last (event.Entry cpu regs steps reads ∷ events) sound e =
+    option_and_then_some (λ k. after_events boot k events) (after_event boot kernel (event.Entry cpu regs steps reads)) last e
+    (λ (next : Kernel) there onward.
+    let one : (entries + 1) + entries_in events ≡ entries + suc (entries_in events) = omega arith in
+    subst (λ (n : ℕ). AreGranted n last) one
+    (later boot (entries + 1) next last events
+    (after_entry_of boot kernel next (AreGranted (entries + 1)) cpu steps regs reads (entry_steps boot entries kernel cpu sound) there) onward))
+later boot entries kernel last (event.Exit cpu regs ∷ events) sound e =
+    option_and_then_some (λ k. after_events boot k events) (after_event boot kernel (event.Exit cpu regs)) last e
+    (λ (next : Kernel) there onward.
+    later boot entries next last events (after_exit_of boot kernel next (AreGranted entries) cpu regs (leave_steps boot entries kernel cpu sound) there) onward)
+
+pub steps_of_entries : StepsAreOfEntries
+steps_of_entries boot history kernel e =
+    let none : 0 + entries_in history ≡ entries_in history = omega arith in
+    subst (λ (n : ℕ). AreGranted n kernel) none (later boot 0 (first_kernel boot) kernel history (record {
+      calls = λ slot held is. no_calls boot.threads slot held is;
+      grants = λ cpu slot steps regs is. absurd (nobody_inside boot.cpus cpu steps slot regs is);
+    }) e)
+
+few_entries : (history : List Event) → entries_in history ≤ length history
+few_entries [] = omega arith
+few_entries (event.Entry cpu regs steps reads ∷ events) = let rest = few_entries events in omega arith
+few_entries (event.Exit cpu regs ∷ events) = let rest = few_entries events in omega arith
+
 pub steps_granted : StepsAreGranted
 steps_granted boot history kernel e =
-    holds_after boot AreGranted (record {
-      first = record {
-        calls = λ slot held is. no_calls boot.threads slot held is;
-        grants = λ cpu slot steps regs is. absurd (nobody_inside boot.cpus cpu steps slot regs is);
-      };
-      onward = λ events k cpu sound. steps_cases boot events k cpu sound;
-    }) history kernel e
+    later_granted (entries_in history) (length history) kernel (few_entries history) (steps_of_entries boot history kernel e)

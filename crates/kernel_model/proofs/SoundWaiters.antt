@@ -1,7 +1,6 @@
 -- The waiters are the calls that wait, after each event of a legal history.
-use Rattle.std.proofs.Common.{◌≡◌, ◌≢◌, ℕ, Bool, true, false, cond, not, ◌||◌, List, [], ◌∷◌, ◌++◌, Option, Some, None, refl, ap, subst, sym, ◌∙◌, arith}
+use Rattle.std.proofs.Common.{◌≡◌, ℕ, Bool, true, false, cond, not, ◌||◌, List, [], ◌∷◌, ◌++◌, Option, Some, None, refl, ap, subst, sym, ◌∙◌, arith}
 use Rattle.std.specs.Prelude.{All, AllPairs, IsSome, ◌==◌, filter, slice_get, slice_set}
-use Rattle.std.specs.List.{list_any}
 use Rattle.std.specs.Option.{option_and_then}
 use Rattle.std.proofs.lemmas.Bool.Decides.{Decides-eqb, nat_tests}
 use Rattle.std.proofs.lemmas.List.Elements.{All-cons, All-head, All-nil, All-push, All-tail, All-weaker}
@@ -19,11 +18,10 @@ use Rattle.kernel_model.specs.Application.{Booted}
 use Rattle.kernel_model.specs.Argument.{client_in, thread_in}
 use Rattle.kernel_model.specs.Decision.{Taken, Takes}
 use Rattle.kernel_model.specs.Entry.{after_decision}
-use Rattle.kernel_model.specs.Exit.{progress_of, slot_left, tables_left}
+use Rattle.kernel_model.specs.Exit.{progress_of, tables_left}
 use Rattle.kernel_model.specs.Given.{Buffer, Given, NoBuffer, Nothing, Reply, call_given}
 use Rattle.kernel_model.specs.History.{kernel_after}
-use Rattle.kernel_model.specs.Kernel.{Active, Asks, CallPhase, Ends, Free, Kernel, PendingCall, Progress, Runs, Suspended, Tables, ThreadSlot, Visit, Waits, first_kernel}
-use Rattle.kernel_model.specs.Leaving.{leaving_of}
+use Rattle.kernel_model.specs.Kernel.{Active, Asks, CallPhase, Ends, Free, Kernel, PendingCall, Progress, Runs, Suspended, Tables, ThreadSlot, Waits, first_kernel}
 use Rattle.kernel_model.specs.NewCall.{NewCall, new_call_of}
 use Rattle.kernel_model.specs.Resume.{Resumed, onward_of, phase_after, phase_seen, resumed_call, sees}
 use Rattle.kernel_model.specs.Sound.{Always, Calls, call_at, call_in, unmarked}

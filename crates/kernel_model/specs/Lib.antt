@@ -27,6 +27,8 @@ pub mod SoundRequests
 pub mod SoundPins
 pub mod SoundInstances
 pub mod SoundSessions
+pub mod SoundSteps
+pub mod SoundPages
 pub mod Worked
 pub mod AnswerExamples
 pub mod ResultExamples

@@ -16,9 +16,10 @@ pub use laws::{
     some_history_is_legal, worked_examples,
 };
 pub use soundness::{
-    calls_fit_their_tables, calls_have_their_places, exits_come, instances_are_few, memory_is_kept,
+    calls_fit_their_tables, calls_have_their_places, exits_come, frames_are_free_or_used,
+    instances_are_at_most_80, instances_are_few, machines_have_their_pages, memory_is_kept,
     numbers_are_given, numbers_rise, others_stay_away, pins_are_of_calls,
     processors_work_on_their_slots, requests_fit, sessions_keep_their_instances, slots_are_as_many,
-    steps_are_granted,
-    tables_are_in_order, waiters_are_a_line, waiters_are_calls,
+    steps_are_granted, steps_are_of_entries, tables_are_in_order, waiters_are_a_line,
+    waiters_are_calls,
 };

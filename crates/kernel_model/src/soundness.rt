@@ -5,12 +5,16 @@ ghost use Rattle.kernel_model.specs.SoundOrder.{AreInOrder};
 ghost use Rattle.kernel_model.specs.SoundWaiters.{AreWaiters};
 ghost use Rattle.kernel_model.specs.SoundJobs.{ExitsCome};
 ghost use Rattle.kernel_model.specs.SoundCalls.{AreJoined};
-ghost use Rattle.kernel_model.specs.SoundMemory.{AreInMemory};
+ghost use Rattle.kernel_model.specs.SoundMemory.{AreInMemory, pages_used};
+ghost use Rattle.kernel_model.specs.Instances.{free_pages};
 ghost use Rattle.kernel_model.specs.SoundPlaces.{HaveTheirPlaces};
 ghost use Rattle.kernel_model.specs.SoundRequests.{HaveFittingRequests};
 ghost use Rattle.kernel_model.specs.SoundPins.{ArePinned};
 ghost use Rattle.kernel_model.specs.SoundInstances.{AreFew};
 ghost use Rattle.kernel_model.specs.SoundSessions.{HaveTheirInstances};
+ghost use Rattle.kernel_model.specs.SoundSteps.{StepsAreOfEntries};
+ghost use Rattle.kernel_model.specs.SoundPages.{HaveTheirPages};
+ghost use Rattle.std.specs.Prelude.{◌≡◌, ◌+◌, ◌≤◌, length};
 ghost use Rattle.session_table.specs.Waiters.{IsLine};
 
 /// A processor that is inside for a slot works on its call, and the processor that works on a call is inside for its
@@ -32,6 +36,11 @@ pub fn slots_are_as_many()
 /// A call has done at most a million steps for each event so far.
 pub fn steps_are_granted()
     ensures { StepsAreGranted }
+{}
+
+/// A call has done at most a million steps for each entry so far.
+pub fn steps_are_of_entries()
+    ensures { StepsAreOfEntries }
 {}
 
 /// The numbers of sessions, instances, calls and waiters were given, and fit 32 bits.
@@ -92,6 +101,22 @@ pub fn pins_are_of_calls()
 /// At most one instance is kept for each session, and one that each of sixteen applications keeps alive.
 pub fn instances_are_few()
     ensures { Always (λ boot kernel. AreFew kernel.tables) }
+{}
+
+/// At most 80 instances are kept.
+pub fn instances_are_at_most_80()
+    ensures { Always (λ boot kernel. length kernel.tables.instances ≤ 80) }
+{}
+
+/// Each frame is free, or one of an instance that isn't dead.
+pub fn frames_are_free_or_used()
+    ensures { Always (λ boot kernel.
+        free_pages boot kernel.tables.instances + pages_used boot kernel.tables.instances ≡ boot.frames) }
+{}
+
+/// A machine's memory is the pages of its image.
+pub fn machines_have_their_pages()
+    ensures { Always (λ boot kernel. HaveTheirPages (call_at kernel.slots)) }
 {}
 
 /// A session that was opened keeps its instance, dead or not.
