@@ -104,7 +104,7 @@ onward_stays boot first items before next after more is (Onward going e) stays =
 onward_stays boot first items before next after more is (Ended other ended same) stays = stays same
 
 -- nothing comes any more
-ended_stays : (boot : Booted) (items : List Item) (before after : Play) (more : ℕ) → before.refused ≡ Some more
+pub ended_stays : (boot : Booted) (items : List Item) (before after : Play) (more : ℕ) → before.refused ≡ Some more
     → after_items boot items before ≡ Some after → before ≡ after
 ended_stays boot [] before after more is e = cc
 ended_stays boot (first ∷ items) before after more is e =

@@ -5,3 +5,4 @@ pub mod LinesStay
 pub mod ExitsTold
 pub mod Items
 pub mod EventsCome
+pub mod Coming

@@ -3,4 +3,5 @@ pub mod Play
 pub mod Text
 pub mod Order
 pub mod Laws
+pub mod Coming
 pub mod Examples

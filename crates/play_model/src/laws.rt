@@ -1,4 +1,5 @@
 //! What holds of the definitions themselves.
+ghost use Rattle.play_model.specs.Coming.{ItemsCanCome};
 ghost use Rattle.play_model.specs.Examples.{Examples};
 ghost use Rattle.play_model.specs.Laws.{EntriesAreRead, ExitsCome, FixedAnswersPass, PlaysGoOn, TracesArePlayed};
 
@@ -30,6 +31,12 @@ pub fn fixed_answers_pass()
 /// A play goes on from where its first items end, and what they have printed stays at the front of its lines.
 pub fn plays_go_on()
     ensures { PlaysGoOn }
+{}
+
+/// Behind the first items of a sound trace, none of which was refused, the next one can come: its processor is outside
+/// where it comes in, and inside where it goes out.
+pub fn items_can_come()
+    ensures { ItemsCanCome }
 {}
 
 /// Examples of the definitions, and plays of written scripts with what they print.

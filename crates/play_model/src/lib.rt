@@ -8,6 +8,6 @@
 mod laws;
 
 pub use laws::{
-    entries_are_read, exits_come, fixed_answers_pass, plays_go_on, traces_are_played,
-    worked_examples,
+    entries_are_read, exits_come, fixed_answers_pass, items_can_come, plays_go_on,
+    traces_are_played, worked_examples,
 };
