@@ -112,14 +112,14 @@ none_inside cpus cpu = all_false 8 cpu ∙ sym (all_outside cpus cpu)
     all_outside (suc count) (suc n) = all_outside count n
 
 -- one that comes in was there, and is inside
-record Moves (kernel next : Kernel) (cpu : ℕ) (inside : Bool) : Type 0 where
-  was : Processor
-  now : Processor
-  there : slice_get kernel.processors cpu ≡ Some was
-  set : next.processors ≡ slice_set kernel.processors cpu now
-  is : is_in (Some now) ≡ inside
+pub record Moves (kernel next : Kernel) (cpu : ℕ) (inside : Bool) : Type 0 where
+  pub was : Processor
+  pub now : Processor
+  pub there : slice_get kernel.processors cpu ≡ Some was
+  pub set : next.processors ≡ slice_set kernel.processors cpu now
+  pub is : is_in (Some now) ≡ inside
 
-comes_in : (boot : Booted) (kernel next : Kernel) (visit : Visit) (reads : List Read)
+pub comes_in : (boot : Booted) (kernel next : Kernel) (visit : Visit) (reads : List Read)
     → after_event boot kernel (entry_event visit reads) ≡ Some next → Moves kernel next visit.cpu true
 comes_in boot kernel next visit reads e =
     let regs : Regs = record { a = visit.regs } in
@@ -162,13 +162,13 @@ goes_outside boot kernel next cpu regs e =
 
 -- ---- what stands behind items that were all taken
 
-record Stands (boot : Booted) (inside : List Bool) (play : Play) : Type 0 where
-  comes : kernel_after boot play.history ≡ Some play.kernel
-  eight : length inside ≡ 8
-  tells : Tells inside play.kernel.processors
-  lanes : AreLanes boot.cpus play.lanes
+pub record Stands (boot : Booted) (inside : List Bool) (play : Play) : Type 0 where
+  pub comes : kernel_after boot play.history ≡ Some play.kernel
+  pub eight : length inside ≡ 8
+  pub tells : Tells inside play.kernel.processors
+  pub lanes : AreLanes boot.cpus play.lanes
 
-comes_more : (boot : Booted) (before : List Event) (event : Event) (kernel next : Kernel)
+pub comes_more : (boot : Booted) (before : List Event) (event : Event) (kernel next : Kernel)
     → kernel_after boot before ≡ Some kernel
     → after_event boot kernel event ≡ Some next → kernel_after boot (before ++ event ∷ []) ≡ Some next
 comes_more boot before event kernel next comes came =
@@ -249,7 +249,7 @@ both_stand boot visit inside before between after few there stands going came (E
 below_eight : (cpus cpu : ℕ) → cpus ≤ 8 → cpu < cpus → cpu < 8
 below_eight cpus cpu few there = omega (arith, few, there)
 
-item_stands : (boot : Booted) (i : Item) (inside : List Bool) (before after : Play) → boot.cpus ≤ 8
+pub item_stands : (boot : Booted) (i : Item) (inside : List Bool) (before after : Play) → boot.cpus ≤ 8
     → IsSoundItem boot.cpus i
     → IsTrue (can_come inside i) → Stands boot inside before → after_item boot i before ≡ Some after
     → after.refused ≡ None
@@ -331,14 +331,14 @@ outside_there processors cpu None is within out =
 outside_there processors cpu (Some Outside) is within out = is
 outside_there processors cpu (Some (Inside regs steps errand)) is within out = absurd cc
 
-inside_there : (kernel : Kernel) (cpu : ℕ) (found : Option Processor) → slice_get kernel.processors cpu ≡ found
+pub inside_there : (kernel : Kernel) (cpu : ℕ) (found : Option Processor) → slice_get kernel.processors cpu ≡ found
     → is_in found ≡ true → IsInside kernel cpu
 inside_there kernel cpu None is in_it = absurd cc
 inside_there kernel cpu (Some Outside) is in_it = absurd cc
 inside_there kernel cpu
     (Some (Inside regs steps errand)) is in_it = record { regs = regs; steps = steps; errand = errand; inside = is }
 
-is_ready : (cpus : ℕ) (kernel : Kernel) (i : Item) (inside : List Bool) → length kernel.processors ≡ cpus
+pub is_ready : (cpus : ℕ) (kernel : Kernel) (i : Item) (inside : List Bool) → length kernel.processors ≡ cpus
     → Tells inside kernel.processors
     → IsSoundItem cpus i → IsTrue (can_come inside i) → IsReadyFor kernel i
 is_ready cpus kernel (item.Smc cpu steps regs) inside many tells sound can =
@@ -356,7 +356,7 @@ is_ready cpus kernel (item.Show cpu addr len) inside many tells sound can = tt
 
 -- ---- the first play
 
-first_stands : (ram : List ℕ) (boot : Booted) (fills : List Fill) → IsWhole ram
+pub first_stands : (ram : List ℕ) (boot : Booted) (fills : List Fill) → IsWhole ram
     → Stands boot outside (first_play ram boot fills)
 first_stands ram boot fills whole = record {
   comes = refl;
@@ -369,7 +369,7 @@ first_stands ram boot fills whole = record {
   };
 }
 
-few_cpus : (on : Booted) → IsBooted on → on.cpus ≤ 8
+pub few_cpus : (on : Booted) → IsBooted on → on.cpus ≤ 8
 few_cpus on boots = subst (λ (b : Booted). b.cpus ≤ 8) (sym boots.same) boots.is_boot.few_processors
 
 pub items_can_come : ItemsCanCome

@@ -6,3 +6,8 @@ pub mod ExitsTold
 pub mod Items
 pub mod EventsCome
 pub mod Coming
+pub mod WholeLanes
+pub mod CopiesGiven
+pub mod PagesKept
+pub mod EntriesGiven
+pub mod PlaysThere

@@ -1,6 +1,6 @@
 -- Which items can come to a play: what an item of a sound trace finds, where all before it were taken. This project's
 -- own.
-use Rattle.std.specs.Prelude.{◌≡◌, ℕ, ◌≤◌, List, ◌∷◌, ◌++◌, length, Some, None, All, slice_get}
+use Rattle.std.specs.Prelude.{◌≡◌, ℕ, ◌≤◌, List, ◌∷◌, ◌++◌, length, Some, None, All, IfSome, IsSome, slice_get}
 use Rattle.kernel_model.specs.Application.{Booted, IsBooted, Native, booted}
 use Rattle.kernel_model.specs.History.{IsLegal, kernel_after}
 use Rattle.kernel_model.specs.Kernel.{Errand, Inside, Kernel, Outside}
@@ -9,7 +9,8 @@ use Rattle.trace_text.specs.Sound.{IsSound, IsSoundItem}
 use Rattle.trace_text.specs.declared.item.Item.{Item}
 use Rattle.trace_text.specs.declared.item.Item.TheVariants as item
 use Rattle.trace_text.specs.declared.trace.Trace.{Trace}
-use Rattle.play_model.specs.Play.{Play, after_items, first_play}
+use Rattle.play_model.specs.Play.{Play, after_item, after_items, first_play, played_over}
+use Rattle.play_model.specs.Text.{text_of}
 
 -- the processor is inside
 pub record IsInside (kernel : Kernel) (cpu : ℕ) : Type 0 where
@@ -52,3 +53,13 @@ ItemsCanCome =
     trace.items ≡ taken ++ i ∷ rest →
     after_items (booted boot natives) taken (first_play ram (booted boot natives) trace.fills) ≡ Some play →
     play.refused ≡ None → CanCome (booted boot natives) i play
+
+-- what can come comes, so that each sound trace has a play, whatever RAM holds at first, and a text
+pub record TracesHavePlays : Type 0 where
+  pub comes : (boot : Booted) (i : Item) (play : Play) → CanCome boot i play → IsSome (after_item boot i play)
+  pub played : (ram : List ℕ) (natives : List Native) (uuids : List (List ℕ)) (boot : Boot) (trace : Trace) →
+      IsWhole ram → IsBooted (booted boot natives) → IsSound uuids trace → trace.boot ≡ Some boot →
+      IsSome (played_over ram natives boot trace)
+  pub told : (natives : List Native) (uuids : List (List ℕ)) (trace : Trace) →
+      IfSome trace.boot (λ boot. IsBooted (booted boot natives)) → IsSound uuids trace →
+      IsSome (text_of natives trace)

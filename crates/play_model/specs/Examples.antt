@@ -3,7 +3,8 @@ use Rattle.std.specs.Prelude.{◌≡◌, ℕ, List, [], ◌∷◌, ◌++◌, Opt
 use Rattle.std.specs.List.{flat_map}
 use Rattle.std.specs.Option.{option_map}
 use Rattle.kernel_model.specs.Application.{booted}
-use Rattle.kernel_model.specs.Worked.{add, app_with, boot_with, call_of, half, head, names, offer_of, param, resume_of, wait}
+use Rattle.kernel_model.specs.Worked.{add, app_with, boot_with, call_of, half, head, names, offer_of, param, resume_of}
+use Rattle.kernel_model.specs.Worked.{wait}
 use Rattle.ta_isa.specs.declared.boot.Boot.{Boot}
 use Rattle.trace_text.specs.declared.item.Item.{Item}
 use Rattle.trace_text.specs.declared.item.Item.TheVariants.{Smc, Enter, Leave, Write, Show}

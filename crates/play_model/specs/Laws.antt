@@ -1,5 +1,6 @@
 -- What holds of each play of a trace.
-use Rattle.std.specs.Prelude.{◌≡◌, ◌↔◌, ℕ, ◌+◌, ◌^◌, ◌<◌, ◌≤◌, false, List, [], ◌∷◌, ◌++◌, length, Option, Some, None, IsSome}
+use Rattle.std.specs.Prelude.{◌≡◌, ◌↔◌, ℕ, ◌+◌, ◌^◌, ◌<◌, ◌≤◌, false, List, [], ◌∷◌, ◌++◌, length, Option, Some, None}
+use Rattle.std.specs.Prelude.{IsSome}
 use Rattle.std.specs.List.{AllByRecursion}
 use Rattle.std.specs.Option.{option_and_then}
 use Rattle.event_journal.specs.Journal.{copied_bytes}
@@ -29,7 +30,8 @@ use Rattle.trace_text.specs.declared.item.Item.{Item}
 use Rattle.trace_text.specs.declared.trace.Trace.{Trace}
 use Rattle.play_model.specs.Line.{Line, Ret}
 use Rattle.play_model.specs.Order.{HoldsInOrder, TellsExits}
-use Rattle.play_model.specs.Play.{Play, after_items, enters, enters_with, entry_event, lane_of, leaves, played_over, with_line, with_writes}
+use Rattle.play_model.specs.Play.{Play, after_items, enters, enters_with, entry_event, lane_of, leaves, played_over}
+use Rattle.play_model.specs.Play.{with_line, with_writes}
 
 -- ---- returns from RPC
 

@@ -1,6 +1,7 @@
 -- The play of a trace: what its items make of the kernel, of each processor's RAM and of the history, one after the
 -- other, and what they print. This project's own.
-use Rattle.std.specs.Prelude.{ℕ, ◌+◌, ◌^◌, ◌==◌, nat_lt, List, [], ◌∷◌, ◌++◌, map, replicate, slice_index, slice_index_or, slice_set, Option, Some, None, if◌then◌else◌}
+use Rattle.std.specs.Prelude.{ℕ, ◌+◌, ◌^◌, ◌==◌, nat_lt, List, [], ◌∷◌, ◌++◌, map, replicate, slice_index}
+use Rattle.std.specs.Prelude.{slice_index_or, slice_set, Option, Some, None, if◌then◌else◌}
 use Rattle.std.specs.Option.{option_and_then, option_map, option_map_or}
 use Rattle.base.specs.Zeros.{zeros}
 use Rattle.event_journal.specs.Journal.{copied_bytes}

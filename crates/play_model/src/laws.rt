@@ -1,5 +1,5 @@
 //! What holds of the definitions themselves.
-ghost use Rattle.play_model.specs.Coming.{ItemsCanCome};
+ghost use Rattle.play_model.specs.Coming.{ItemsCanCome, TracesHavePlays};
 ghost use Rattle.play_model.specs.Examples.{Examples};
 ghost use Rattle.play_model.specs.Laws.{EntriesAreRead, ExitsCome, FixedAnswersPass, PlaysGoOn, TracesArePlayed};
 
@@ -37,6 +37,11 @@ pub fn plays_go_on()
 /// where it comes in, and inside where it goes out.
 pub fn items_can_come()
     ensures { ItemsCanCome }
+{}
+
+/// What can come comes, and each sound trace has a play, whatever RAM holds at first, and a text.
+pub fn traces_have_plays()
+    ensures { TracesHavePlays }
 {}
 
 /// Examples of the definitions, and plays of written scripts with what they print.

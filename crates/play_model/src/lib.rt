@@ -9,5 +9,5 @@ mod laws;
 
 pub use laws::{
     entries_are_read, exits_come, fixed_answers_pass, items_can_come, plays_go_on,
-    traces_are_played, worked_examples,
+    traces_are_played, traces_have_plays, worked_examples,
 };
