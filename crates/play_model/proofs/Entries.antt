@@ -1,5 +1,6 @@
 -- Entries and exits of a play: what comes of them, and how many bytes were read.
-use Rattle.std.proofs.Common.{◌≡◌, ℕ, ◌+◌, ◌<◌, ◌≤◌, Bool, true, false, List, [], ◌∷◌, ◌++◌, Some, None, refl, ap, subst, sym, ◌∙◌, arith}
+use Rattle.std.proofs.Common.{◌≡◌, ℕ, ◌+◌, ◌<◌, ◌≤◌, Bool, true, false, List, [], ◌∷◌, ◌++◌, Some, None, refl, ap}
+use Rattle.std.proofs.Common.{subst, sym, ◌∙◌, arith}
 use Rattle.std.specs.Prelude.{◌^◌, nat_lt, if◌then◌else◌}
 use Rattle.std.proofs.lemmas.Bool.{ltb-false}
 use Rattle.std.proofs.lemmas.Bool.Decides.{Decides-ltb}
@@ -19,7 +20,8 @@ use Rattle.ns_ram.specs.declared.read.Read.{Read}
 use Rattle.trace_text.specs.declared.item.Reg.{Reg}
 use Rattle.play_model.specs.Line.{Ret}
 use Rattle.play_model.specs.Order.{Comes, Leaves}
-use Rattle.play_model.specs.Play.{Play, enters, enters_with, leaves, leaves_with, reads_of, visit_of, with_event, with_line, with_writes}
+use Rattle.play_model.specs.Play.{Play, enters, enters_with, leaves, leaves_with, reads_of, visit_of, with_event}
+use Rattle.play_model.specs.Play.{with_line, with_writes}
 use Rattle.play_model.proofs.Adds.{Adds, adds_event}
 
 -- ---- how many bytes were read
@@ -30,7 +32,8 @@ pub record IsWithin (play : Play) : Type 0 where
   pub many : (more : ℕ) → play.refused ≡ Some more → 2 ^ 28 < copied_bytes play.history + more
 
 -- it says nothing of RAM and lines
-pub within_same : (before after : Play) → after.history ≡ before.history → after.refused ≡ before.refused → IsWithin before → IsWithin after
+pub within_same : (before after : Play) → after.history ≡ before.history → after.refused ≡ before.refused
+    → IsWithin before → IsWithin after
 within_same before after history refused within = record {
   few = subst (λ (h : List Event). copied_bytes h ≤ 2 ^ 28) (sym history) within.few;
   many = λ more is.
@@ -41,15 +44,18 @@ within_same before after history refused within = record {
 pub event_made : (boot : Booted) (event : Event) (before after : Play) → with_event boot event before ≡ Some after
     → (after.history ≡ before.history ++ event ∷ []) × (after.refused ≡ before.refused)
 event_made boot event before after e =
-    let came = option_map_some (λ (next : Kernel). record before { kernel = next; history = before.history ++ event ∷ [] })
+    let came = option_map_some
+    (λ (next : Kernel). record before { kernel = next; history = before.history ++ event ∷ [] })
     (after_event boot before.kernel event) after e in
     (ap (λ (p : Play). p.history) (sym came.2), ap (λ (p : Play). p.refused) (sym came.2))
 
-copied-event : (history : List Event) (event : Event) → copied_bytes (history ++ event ∷ []) ≡ copied_bytes history + copied_by event
+copied-event : (history : List Event) (event : Event)
+    → copied_bytes (history ++ event ∷ []) ≡ copied_bytes history + copied_by event
 copied-event history event = let sum = sum_by-append copied_by history (event ∷ []) in omega (arith, sum)
 
 -- an event that reads few enough bytes keeps within them
-within_event : (boot : Booted) (event : Event) (before after : Play) → before.refused ≡ None → with_event boot event before ≡ Some after
+within_event : (boot : Booted) (event : Event) (before after : Play) → before.refused ≡ None
+    → with_event boot event before ≡ Some after
     → copied_bytes before.history + copied_by event ≤ 2 ^ 28 → IsWithin after
 within_event boot event before after going e few =
     let made = event_made boot event before after e in
@@ -64,7 +70,8 @@ within_event boot event before after going e few =
 -- an entry comes, or is refused
 pub data Entered (boot : Booted) (visit : Visit) (before after : Play) : Type 0 where
   CameIn : (reads : List Read) → copied_bytes before.history + total_bytes reads ≤ 2 ^ 28 →
-      with_event boot (Entry visit.cpu (record { a = visit.regs }) visit.steps reads) before ≡ Some after → Entered boot visit before after
+      with_event boot (Entry visit.cpu (record { a = visit.regs }) visit.steps reads) before ≡ Some after
+      → Entered boot visit before after
   WasRefused : (reads : List Read) → 2 ^ 28 < copied_bytes before.history + total_bytes reads →
       record before { refused = Some (total_bytes reads) } ≡ after → Entered boot visit before after
 
@@ -79,11 +86,13 @@ entered_by boot visit before after reads true is e =
 entered_by boot visit before after reads false is e =
     CameIn reads (ltb-false (2 ^ 28) (copied_bytes before.history + total_bytes reads) is) e
 
-pub entered : (boot : Booted) (visit : Visit) (before after : Play) → enters boot before visit ≡ Some after → Entered boot visit before after
+pub entered : (boot : Booted) (visit : Visit) (before after : Play) → enters boot before visit ≡ Some after
+    → Entered boot visit before after
 entered boot visit before after e =
     option_and_then_some (enters_with boot before visit) (reads_of boot before visit) after e
     (λ (reads : List Read) there onward.
-    entered_by boot visit before after reads (nat_lt (2 ^ 28) (copied_bytes before.history + total_bytes reads)) refl onward)
+    entered_by boot visit before after reads
+    (nat_lt (2 ^ 28) (copied_bytes before.history + total_bytes reads)) refl onward)
 
 -- ---- exits
 
@@ -95,7 +104,8 @@ pub record Left (boot : Booted) (cpu : ℕ) (before after : Play) : Type 0 where
   pub came : with_event boot (Exit cpu (record { a = exited.regs })) before ≡ Some gone
   pub is : with_line (Ret cpu exited.regs) (with_writes cpu exited.writes gone) ≡ after
 
-pub left : (boot : Booted) (cpu : ℕ) (before after : Play) → leaves boot cpu before ≡ Some after → Left boot cpu before after
+pub left : (boot : Booted) (cpu : ℕ) (before after : Play) → leaves boot cpu before ≡ Some after
+    → Left boot cpu before after
 left boot cpu before after e =
     option_and_then_some (leaves_with boot before cpu) (exit before.kernel cpu) after e
     (λ (exited : Exited) there onward.
@@ -103,24 +113,29 @@ left boot cpu before after e =
     let came = option_map_some tells (with_event boot (Exit cpu (record { a = exited.regs })) before) after onward in
     record { exited = exited; there = there; gone = came.0; came = came.1; is = came.2 })
 
-pub left_adds : (boot : Booted) (cpu : ℕ) (before after : Play) → Left boot cpu before after → Adds boot (Leaves cpu ∷ []) before after
+pub left_adds : (boot : Booted) (cpu : ℕ) (before after : Play) → Left boot cpu before after
+    → Adds boot (Leaves cpu ∷ []) before after
 left_adds boot cpu before after out =
-    let added = adds_event boot (Leaves cpu) (Exit cpu (record { a = out.exited.regs })) before out.gone refl out.came in
+    let added = adds_event boot (Leaves cpu)
+    (Exit cpu (record { a = out.exited.regs })) before out.gone refl out.came in
     subst (λ (p : Play). Adds boot (Leaves cpu ∷ []) before p) out.is
     (record { events = added.events; history = added.history; kernels = added.kernels; follows = added.follows })
 
 -- it refuses nothing
-pub left_going : (boot : Booted) (cpu : ℕ) (before after : Play) → Left boot cpu before after → before.refused ≡ None → after.refused ≡ None
+pub left_going : (boot : Booted) (cpu : ℕ) (before after : Play) → Left boot cpu before after → before.refused ≡ None
+    → after.refused ≡ None
 left_going boot cpu before after out going =
     let made = event_made boot (Exit cpu (record { a = out.exited.regs })) before out.gone out.came in
     ap (λ (p : Play). p.refused) (sym out.is) ∙ made.1 ∙ going
 
-pub left_within : (boot : Booted) (cpu : ℕ) (before after : Play) → Left boot cpu before after → before.refused ≡ None → IsWithin before → IsWithin after
+pub left_within : (boot : Booted) (cpu : ℕ) (before after : Play) → Left boot cpu before after → before.refused ≡ None
+    → IsWithin before → IsWithin after
 left_within boot cpu before after out going within =
     let few : copied_bytes before.history + 0 ≤ 2 ^ 28 = let had = within.few in omega arith in
     let event = Exit cpu (record { a = out.exited.regs }) in
     let made = within_event boot event before out.gone going out.came few in
-    within_same out.gone after (ap (λ (p : Play). p.history) (sym out.is)) (ap (λ (p : Play). p.refused) (sym out.is)) made
+    within_same out.gone after (ap (λ (p : Play). p.history) (sym out.is))
+    (ap (λ (p : Play). p.refused) (sym out.is)) made
 
 -- ---- an entry that came in
 
@@ -134,18 +149,21 @@ came_adds boot cpu steps regs reads before after came =
 
 pub came_within : (boot : Booted) (visit : Visit) (reads : List Read) (before after : Play) → before.refused ≡ None
     → copied_bytes before.history + total_bytes reads ≤ 2 ^ 28
-    → with_event boot (Entry visit.cpu (record { a = visit.regs }) visit.steps reads) before ≡ Some after → IsWithin after
+    → with_event boot (Entry visit.cpu (record { a = visit.regs }) visit.steps reads) before ≡ Some after
+    → IsWithin after
 came_within boot visit reads before after going few came =
     within_event boot (Entry visit.cpu (record { a = visit.regs }) visit.steps reads) before after going came few
 
 -- ---- one that was refused
 
-pub refused_within : (before after : Play) (more : ℕ) → 2 ^ 28 < copied_bytes before.history + more → record before { refused = Some more } ≡ after
+pub refused_within : (before after : Play) (more : ℕ) → 2 ^ 28 < copied_bytes before.history + more
+    → record before { refused = Some more } ≡ after
     → IsWithin before → IsWithin after
 refused_within before after more much is within =
     let here : Play = record before { refused = Some more } in
     let holds : IsWithin here = record {
       few = within.few;
-      many = λ other same. let equal : more ≡ other = cc in subst (λ (n : ℕ). 2 ^ 28 < copied_bytes before.history + n) equal much;
+      many = λ other same. let equal : more ≡ other = cc in subst
+          (λ (n : ℕ). 2 ^ 28 < copied_bytes before.history + n) equal much;
     } in
     subst IsWithin is holds

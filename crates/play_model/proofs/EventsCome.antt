@@ -20,12 +20,15 @@ pub entries_are_read : EntriesAreRead
 entries_are_read boot play visit reads is =
     let next = some_of _ is.follows in
     let came = fixed.entered boot play.kernel next.0 visit.cpu visit.steps (record { a = visit.regs }) reads next.1 in
-    let over = (over_lane-reading (entry boot play.kernel visit) (lane_of play visit.cpu) reads next.0).1 (came, is.holds) in
-    ap (λ (o : Option (Kernel × List Read)). option_and_then (enters_with boot play visit) (option_map (λ end. end.1) o)) over
+    let over = (over_lane-reading (entry boot play.kernel visit) (lane_of play visit.cpu) reads next.0).1
+    (came, is.holds) in
+    ap (λ (o : Option (Kernel × List Read)). option_and_then (enters_with boot play visit)
+    (option_map (λ end. end.1) o)) over
 
 pub exits_come : ExitsCome
 exits_come boot play cpu exited e =
-    let gone = λ (next : Kernel). record play { kernel = next; history = play.history ++ Exit cpu (record { a = exited.regs }) ∷ [] } in
+    let gone = λ (next : Kernel). record play
+    { kernel = next; history = play.history ++ Exit cpu (record { a = exited.regs }) ∷ [] } in
     let tells = λ (next : Play). with_line (Ret cpu exited.regs) (with_writes cpu exited.writes next) in
     let same = (bytes_eq-Decides exited.regs exited.regs).1 refl in
     let after : after_event boot play.kernel (Exit cpu (record { a = exited.regs })) ≡ Some exited.kernel =

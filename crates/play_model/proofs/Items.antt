@@ -17,9 +17,11 @@ use Rattle.trace_text.specs.declared.item.Reg.{Reg}
 use Rattle.play_model.specs.Laws.{TracesArePlayed}
 use Rattle.play_model.specs.Line.{Mem}
 use Rattle.play_model.specs.Order.{Comes, Follow, Leaves, Move, moves_of}
-use Rattle.play_model.specs.Play.{Play, after_item, after_items, enters, first_play, lane_of, leaves, unless_refused, visit_of, with_line, with_writes}
+use Rattle.play_model.specs.Play.{Play, after_item, after_items, enters, first_play, lane_of, leaves, unless_refused}
+use Rattle.play_model.specs.Play.{visit_of, with_line, with_writes}
 use Rattle.play_model.proofs.Adds.{Adds, Ended, GoesOn, Onward, adds_more, adds_nothing, goes_on}
-use Rattle.play_model.proofs.Entries.{CameIn, Entered, IsWithin, WasRefused, came_adds, came_within, entered, event_made, left, left_adds, left_going, left_within, refused_within, within_same}
+use Rattle.play_model.proofs.Entries.{CameIn, Entered, IsWithin, WasRefused, came_adds, came_within, entered}
+use Rattle.play_model.proofs.Entries.{event_made, left, left_adds, left_going, left_within, refused_within, within_same}
 use Rattle.play_model.proofs.ExitsTold.{items_told}
 use Rattle.play_model.proofs.Returns.{alone_in, no_call_in, no_slot_in, returns_in}
 
@@ -28,30 +30,37 @@ use Rattle.play_model.proofs.Returns.{alone_in, no_call_in, no_slot_in, returns_
 -- the item was taken, or its entry was refused
 data Came (boot : Booted) (moves : List Move) (before after : Play) : Type 0 where
   Taken : Adds boot moves before after → after.refused ≡ None → IsWithin after → Came boot moves before after
-  Refused : Adds boot [] before after → (more : ℕ) → after.refused ≡ Some more → IsWithin after → Came boot moves before after
+  Refused : Adds boot [] before after → (more : ℕ) → after.refused ≡ Some more → IsWithin after
+      → Came boot moves before after
 
 refused_came : (boot : Booted) (moves : List Move) (before after : Play) (more : ℕ) → IsWithin before
-    → 2 ^ 28 < copied_bytes before.history + more → record before { refused = Some more } ≡ after → Came boot moves before after
+    → 2 ^ 28 < copied_bytes before.history + more → record before { refused = Some more } ≡ after
+    → Came boot moves before after
 refused_came boot moves before after more within much is =
     let here : Play = record before { refused = Some more } in
     Refused (subst (λ (p : Play). Adds boot [] before p) is (adds_nothing boot before here refl refl)) more
     (ap (λ (p : Play). p.refused) (sym is)) (refused_within before after more much is within)
 
-enter_came : (boot : Booted) (cpu steps : ℕ) (regs : List Reg) (before after : Play) → before.refused ≡ None → IsWithin before
-    → Entered boot (visit_of before.history cpu steps regs) before after → Came boot (Comes cpu steps regs ∷ []) before after
+enter_came : (boot : Booted) (cpu steps : ℕ) (regs : List Reg) (before after : Play) → before.refused ≡ None
+    → IsWithin before
+    → Entered boot (visit_of before.history cpu steps regs) before after
+    → Came boot (Comes cpu steps regs ∷ []) before after
 enter_came boot cpu steps regs before after going within (CameIn reads few came) =
     let visit = visit_of before.history cpu steps regs in
     let made = event_made boot (Entry cpu (record { a = visit.regs }) steps reads) before after came in
-    Taken (came_adds boot cpu steps regs reads before after came) (made.1 ∙ going) (came_within boot visit reads before after going few came)
+    Taken (came_adds boot cpu steps regs reads before after came) (made.1 ∙ going)
+    (came_within boot visit reads before after going few came)
 enter_came boot cpu steps regs before after going within (WasRefused reads much is) =
     refused_came boot (Comes cpu steps regs ∷ []) before after (total_bytes reads) within much is
 
 -- an exit behind an entry that came
 leave_came : (boot : Booted) (cpu : ℕ) (move : Move) (before between after : Play)
-    → Came boot (move ∷ []) before between → GoesOn (leaves boot cpu) between after → Came boot (move ∷ Leaves cpu ∷ []) before after
+    → Came boot (move ∷ []) before between → GoesOn (leaves boot cpu) between after
+    → Came boot (move ∷ Leaves cpu ∷ []) before after
 leave_came boot cpu move before between after (Taken adds going within) (Onward is e) =
     let out = left boot cpu between after e in
-    Taken (adds_more boot (move ∷ []) (Leaves cpu ∷ []) before between after adds (left_adds boot cpu between after out))
+    Taken (adds_more boot (move ∷ []) (Leaves cpu ∷ []) before between after adds
+    (left_adds boot cpu between after out))
     (left_going boot cpu between after out going) (left_within boot cpu between after out going within)
 leave_came boot cpu move before between after (Taken adds going within) (Ended more is same) =
     let none : None ≡ Some more = sym going ∙ is in absurd cc
@@ -62,11 +71,13 @@ leave_came boot cpu move before between after (Refused adds more is within) (End
 
 -- it changes RAM or prints
 still_came : (boot : Booted) (before here after : Play) → here.history ≡ before.history → here.kernel ≡ before.kernel
-    → here.refused ≡ before.refused → before.refused ≡ None → IsWithin before → Some here ≡ Some after → Came boot [] before after
+    → here.refused ≡ before.refused → before.refused ≡ None → IsWithin before → Some here ≡ Some after
+    → Came boot [] before after
 still_came boot before here after history kernel refused going within e =
     let same : here ≡ after = cc in
     subst (λ (p : Play). Came boot [] before p) same
-    (Taken (adds_nothing boot before here history kernel) (refused ∙ going) (within_same before here history refused within))
+    (Taken (adds_nothing boot before here history kernel) (refused ∙ going)
+    (within_same before here history refused within))
 
 item_came : (boot : Booted) (i : Item) (before after : Play) → before.refused ≡ None → IsWithin before
     → after_item boot i before ≡ Some after → Came boot (moves_of i) before after
@@ -78,14 +89,18 @@ item_came boot (item.Smc cpu steps regs) before after going within e =
     (enter_came boot cpu steps regs before between going within (entered boot visit before between there))
     (goes_on (leaves boot cpu) between after onward))
 item_came boot (item.Enter cpu steps regs) before after going within e =
-    enter_came boot cpu steps regs before after going within (entered boot (visit_of before.history cpu steps regs) before after e)
+    enter_came boot cpu steps regs before after going within
+    (entered boot (visit_of before.history cpu steps regs) before after e)
 item_came boot (item.Leave cpu) before after going within e =
     let out = left boot cpu before after e in
-    Taken (left_adds boot cpu before after out) (left_going boot cpu before after out going) (left_within boot cpu before after out going within)
+    Taken (left_adds boot cpu before after out) (left_going boot cpu before after out going)
+    (left_within boot cpu before after out going within)
 item_came boot (item.Write cpu addr bytes) before after going within e =
-    still_came boot before (with_writes cpu (record { addr = addr; bytes = bytes } ∷ []) before) after refl refl refl going within e
+    still_came boot before
+    (with_writes cpu (record { addr = addr; bytes = bytes } ∷ []) before) after refl refl refl going within e
 item_came boot (item.Show cpu addr len) before after going within e =
-    still_came boot before (with_line (Mem cpu addr (bytes_at (lane_of before cpu) addr len)) before) after refl refl refl going within e
+    still_came boot before
+    (with_line (Mem cpu addr (bytes_at (lane_of before cpu) addr len)) before) after refl refl refl going within e
 
 -- ---- items in a row
 
@@ -98,9 +113,11 @@ record Ran (boot : Booted) (items : List Item) (before after : Play) : Type 0 wh
   all : after.refused ≡ None → rest ≡ []
   within : IsWithin after
 
-onward_stays : (boot : Booted) (first : Item) (items : List Item) (before next after : Play) (more : ℕ) → before.refused ≡ Some more
+onward_stays : (boot : Booted) (first : Item) (items : List Item) (before next after : Play) (more : ℕ)
+    → before.refused ≡ Some more
     → GoesOn (after_item boot first) before next → (before ≡ next → before ≡ after) → before ≡ after
-onward_stays boot first items before next after more is (Onward going e) stays = let none : None ≡ Some more = sym going ∙ is in absurd cc
+onward_stays boot first items before next after more is (Onward going e) stays =
+    let none : None ≡ Some more = sym going ∙ is in absurd cc
 onward_stays boot first items before next after more is (Ended other ended same) stays = stays same
 
 -- nothing comes any more
@@ -109,10 +126,13 @@ pub ended_stays : (boot : Booted) (items : List Item) (before after : Play) (mor
 ended_stays boot [] before after more is e = cc
 ended_stays boot (first ∷ items) before after more is e =
     option_and_then_some (λ next. after_items boot items next) (unless_refused (after_item boot first) before) after e
-    (λ (next : Play) there onward. onward_stays boot first items before next after more is (goes_on (after_item boot first) before next there)
-    (λ same. ended_stays boot items before after more is (subst (λ (p : Play). after_items boot items p ≡ Some after) (sym same) onward)))
+    (λ (next : Play) there onward. onward_stays boot first items before next after more is
+    (goes_on (after_item boot first) before next there)
+    (λ same. ended_stays boot items before after more is
+    (subst (λ (p : Play). after_items boot items p ≡ Some after) (sym same) onward)))
 
-refused_ran : (boot : Booted) (items : List Item) (before after : Play) (more : ℕ) → after.refused ≡ Some more → Adds boot [] before after → IsWithin after
+refused_ran : (boot : Booted) (items : List Item) (before after : Play) (more : ℕ) → after.refused ≡ Some more
+    → Adds boot [] before after → IsWithin after
     → Ran boot items before after
 refused_ran boot items before after more is adds within = record {
   taken = [];
@@ -123,8 +143,10 @@ refused_ran boot items before after more is adds within = record {
   within = within;
 }
 
-first_ran : (boot : Booted) (first : Item) (items : List Item) (before next after : Play) → Came boot (moves_of first) before next
-    → (next.refused ≡ None → IsWithin next → Ran boot items next after) → ((more : ℕ) → next.refused ≡ Some more → next ≡ after)
+first_ran : (boot : Booted) (first : Item) (items : List Item) (before next after : Play)
+    → Came boot (moves_of first) before next
+    → (next.refused ≡ None → IsWithin next → Ran boot items next after)
+    → ((more : ℕ) → next.refused ≡ Some more → next ≡ after)
     → Ran boot (first ∷ items) before after
 first_ran boot first items before next after (Taken adds going within) ran stays =
     let others = ran going within in
@@ -137,12 +159,14 @@ first_ran boot first items before next after (Taken adds going within) ran stays
       within = others.within;
     }
 first_ran boot first items before next after (Refused adds more is within) ran stays =
-    subst (λ (p : Play). Ran boot (first ∷ items) before p) (stays more is) (refused_ran boot (first ∷ items) before next more is adds within)
+    subst (λ (p : Play). Ran boot (first ∷ items) before p) (stays more is)
+    (refused_ran boot (first ∷ items) before next more is adds within)
 
 goes_came : (boot : Booted) (first : Item) (before next : Play) → before.refused ≡ None → IsWithin before
     → GoesOn (after_item boot first) before next → Came boot (moves_of first) before next
 goes_came boot first before next going within (Onward is e) = item_came boot first before next going within e
-goes_came boot first before next going within (Ended more is same) = let none : None ≡ Some more = sym going ∙ is in absurd cc
+goes_came boot first before next going within (Ended more is same) =
+    let none : None ≡ Some more = sym going ∙ is in absurd cc
 
 items_ran : (boot : Booted) (items : List Item) (before after : Play) → before.refused ≡ None → IsWithin before
     → after_items boot items before ≡ Some after → Ran boot items before after

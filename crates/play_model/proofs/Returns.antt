@@ -45,12 +45,15 @@ legal_before boot before behind legal =
 -- ---- returns from RPC
 
 -- the kernel after one event more
-one_more : (boot : Booted) (before : List Event) (happened : Event) (kernel next : Kernel) → kernel_after boot before ≡ Some kernel
+one_more : (boot : Booted) (before : List Event) (happened : Event) (kernel next : Kernel)
+    → kernel_after boot before ≡ Some kernel
     → kernel_after boot (before ++ happened ∷ []) ≡ Some next → after_event boot kernel happened ≡ Some next
 one_more boot before happened kernel next there after =
     let cut = sym (after_events-append boot (first_kernel boot) before (happened ∷ [])) ∙ after in
-    let here = sym (ap (λ (o : Option Kernel). option_and_then (λ k. after_events boot k (happened ∷ [])) o) there) ∙ cut in
-    option_and_then_some (λ k. Some k) (after_event boot kernel happened) next here (λ (last : Kernel) came is. came ∙ is)
+    let here = sym (ap (λ (o : Option Kernel). option_and_then (λ k. after_events boot k (happened ∷ [])) o) there)
+    ∙ cut in
+    option_and_then_some (λ k. Some k) (after_event boot kernel happened) next here
+    (λ (last : Kernel) came is. came ∙ is)
 
 module _ (boot : Booted) (before : List Event) (visit : Visit) (reads : List Read) (kernel next : Kernel)
     (is : call_of (reg visit.regs 0) ≡ Resume) (after : kernel_after boot (entered before visit reads) ≡ Some next)
@@ -64,15 +67,19 @@ module _ (boot : Booted) (before : List Event) (visit : Visit) (reads : List Rea
       ∙ ap (λ (ps : List Processor). slice_get ps visit.cpu) (processors_after kernel visit decision)
       ∙ set_found kernel.processors visit.cpu (inside_for visit decision) there.0 there.1
 
-  returned : (found : Option PendingCall) → call_resumed_by kernel.slots visit.regs ≡ found → Returned boot before visit reads kernel found
+  returned : (found : Option PendingCall) → call_resumed_by kernel.slots visit.regs ≡ found
+      → Returned boot before visit reads kernel found
   returned None none =
-      let decided = tells boot kernel next visit reads (fixed.entered boot kernel next visit.cpu visit.steps (record { a = visit.regs }) reads came) in
+      let decided = tells boot kernel next visit reads
+      (fixed.entered boot kernel next visit.cpu visit.steps (record { a = visit.regs }) reads came) in
       let refused = told_resume kernel visit.regs decided.value decided.holds (is, none) in
-      after ∙ ap (λ (k : Kernel). Some k) (sym decided.gives ∙ ap (λ (d : Decision). after_decision kernel visit d) refused)
+      after ∙ ap (λ (k : Kernel). Some k)
+      (sym decided.gives ∙ ap (λ (d : Decision). after_decision kernel visit d) refused)
   returned (Some call) some =
       let resumed = resumes_call boot kernel next visit reads call is some
       (fixed.entered boot kernel next visit.cpu visit.steps (record { a = visit.regs }) reads came) in
-      let continued = resumes_continue boot before visit.cpu visit.steps (thread_in visit.regs) (record { a = visit.regs }) reads next after is
+      let continued = resumes_continue boot before visit.cpu visit.steps (thread_in visit.regs)
+      (record { a = visit.regs }) reads next after is
       (inside_slot (Takes (thread_in visit.regs) (works_on resumed.progress)) resumed.next_is) in
       record { next = next; comes_to = after; resumes = resumed; left = continued.0; was_left = continued.1 }
 
@@ -80,19 +87,22 @@ pub returns_in : (boot : Booted) (history : List Event) → IsLegal boot history
 returns_in boot history legal before behind visit reads kernel cut is there =
     let later = kernel_before boot (entered before visit reads) behind (subst (IsLegal boot) cut legal) in
     let happened : Event = Entry visit.cpu (record { a = visit.regs }) visit.steps reads in
-    returned boot before visit reads kernel later.0 is later.1 (one_more boot before happened kernel later.0 there later.1)
+    returned boot before visit reads kernel later.0 is later.1
+    (one_more boot before happened kernel later.0 there later.1)
     (call_resumed_by kernel.slots visit.regs) refl
 
 -- ---- answers
 
 pub no_slot_in : (boot : Booted) (history : List Event) → IsLegal boot history → ToldIn boot history 1 FindsNoSlot
 no_slot_in boot history legal before between behind cpu steps regs told reads kernel cut others there =
-    let whole = legal_before boot (visited before cpu regs steps reads between told) behind (subst (IsLegal boot) cut legal) in
+    let whole = legal_before boot (visited before cpu regs steps reads between told) behind
+    (subst (IsLegal boot) cut legal) in
     answers_exactly.limit boot before between cpu steps regs told reads kernel there others whole
 
 pub no_call_in : (boot : Booted) (history : List Event) → IsLegal boot history → ToldIn boot history 3 FindsNoCall
 no_call_in boot history legal before between behind cpu steps regs told reads kernel cut others there =
-    let whole = legal_before boot (visited before cpu regs steps reads between told) behind (subst (IsLegal boot) cut legal) in
+    let whole = legal_before boot (visited before cpu regs steps reads between told) behind
+    (subst (IsLegal boot) cut legal) in
     answers_exactly.resume boot before between cpu steps regs told reads kernel there others whole
 
 -- ---- sessions
