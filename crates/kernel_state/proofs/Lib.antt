@@ -6,4 +6,5 @@ pub mod CoreEvents
 pub mod Granting
 pub mod Opened
 pub mod Others
+pub mod Placed
 pub mod Told

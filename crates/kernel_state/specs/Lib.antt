@@ -6,6 +6,7 @@ pub mod Entering
 pub mod Laws
 pub mod Leaving
 pub mod Meaning
+pub mod Placing
 pub mod Processors
 pub mod Reads
 pub mod Replay

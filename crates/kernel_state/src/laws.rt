@@ -1,5 +1,6 @@
 //! What the contracts of an entry and an exit say, over all cores.
 ghost use Rattle.kernel_state.specs.Laws.{AnswersComeExactly, FixedAnswersPass, JournalsStayLegal, ReturnsContinue, WorkCanLeave, WorkStays};
+ghost use Rattle.kernel_state.specs.Placing.{EntriesStandAtTheirPlaces};
 
 /// The journal of each core is a legal history, and an entry and an exit make of its kernel what the kernel's own make.
 pub fn journals_stay_legal()
@@ -14,6 +15,11 @@ pub fn work_stays()
 /// The work of an entry, with its granted steps done, can leave.
 pub fn work_can_leave()
     ensures { WorkCanLeave }
+{}
+
+/// The place that a work and its run name is that of their entry in the journal, whatever others have done.
+pub fn entries_stand_at_their_places()
+    ensures { EntriesStandAtTheirPlaces }
 {}
 
 /// A fixed answer changes its processor's part alone, and its processor goes out with just that answer.

@@ -28,8 +28,8 @@ pub use carried::Carried;
 pub use enter_refusal::EnterRefusal;
 pub use kernel_core::Core;
 pub use laws::{
-    answers_come_exactly, fixed_answers_pass, journals_stay_legal, returns_continue,
-    work_can_leave, work_stays,
+    answers_come_exactly, entries_stand_at_their_places, fixed_answers_pass, journals_stay_legal,
+    returns_continue, work_can_leave, work_stays,
 };
 pub use parts::Parts;
 pub use processor::{Errand, Processor};
