@@ -22,6 +22,3 @@ pub use pass::{Pass, Turn};
 pub fn worked_examples()
     ensures { Examples }
 {}
-
-#[cfg(test)]
-mod tests;

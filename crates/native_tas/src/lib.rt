@@ -13,8 +13,6 @@ mod native;
 mod native_app;
 mod natives;
 mod relation;
-#[cfg(test)]
-mod tests;
 
 pub use digesting::digest;
 pub use examples::worked_examples;

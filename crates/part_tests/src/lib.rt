@@ -11,11 +11,17 @@ mod frame_pool_tests;
 #[cfg(test)]
 mod msg_args_tests;
 #[cfg(test)]
+mod native_tas_tests;
+#[cfg(test)]
 mod ns_ram_tests;
 #[cfg(test)]
 mod pages_tests;
 #[cfg(test)]
 mod param_copy_tests;
+#[cfg(test)]
+mod ports_tests;
+#[cfg(test)]
+mod rpc_cont_tests;
 #[cfg(test)]
 mod rpc_msgs_tests;
 #[cfg(test)]

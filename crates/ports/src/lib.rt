@@ -25,6 +25,3 @@ pub use sink::{Put, Sink};
 pub use source::{Source, Taken};
 pub use std_sink::StdSink;
 pub use std_source::{StdSource, Stop};
-
-#[cfg(test)]
-mod tests;

@@ -22,8 +22,6 @@ mod new_call;
 mod phase;
 mod resume;
 mod stop;
-#[cfg(test)]
-mod tests;
 
 pub use app::ContApp;
 pub use call_entry::CallEntry;

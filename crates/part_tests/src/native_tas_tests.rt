@@ -1,6 +1,6 @@
 ghost use Rattle.std.specs.Prelude.{◌≡◌};
 
-use super::*;
+use native_tas::{AddFault, CopiedParams, Native, Natives, Relation, Uuid, digest};
 use std::alloc::{AllocError, Global};
 use std::test::Fail;
 use ta_params::{Buf, GpParam, Way};

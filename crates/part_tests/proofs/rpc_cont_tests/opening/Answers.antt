@@ -1,8 +1,8 @@
-use Rattle.std.proofs.Common.{rules, ◌≡◌, ◌∙◌, ap, ℕ, List, Bool, Option, Some, None}
+use Rattle.std.proofs.Common.{rules, ◌∙◌, ap}
 use Rattle.rpc_cont.specs.declared.cont.Cont.{Cont}
 use Rattle.ta_isa.specs.Spelling.{IsValid}
 use Rattle.rpc_cont.proofs.Beginning.{can_advance}
-use Rattle.rpc_cont.proofs.tests.call_at.Goals as goal
+use Rattle.part_tests.proofs.rpc_cont_tests.opening.Goals as goal
 
 pub returns : goal.returns
 returns c =

@@ -1,6 +1,6 @@
 ghost use Rattle.std.specs.Prelude.{◌≤◌, IfOk};
 
-use crate::{MemSink, MemSource, NoPace, Pace, Put, Sink, Source, StdSink, StdSource, Taken};
+use ports::{Put, Sink, Source, StdSink, StdSource, Taken};
 use std::alloc::Global;
 use std::io;
 use std::io::{ErrorKind, Read, Write};
@@ -96,43 +96,6 @@ impl Write for FakeWriter<'_> {
 }
 
 #[test]
-fn takes_from_memory(rt: HostRuntime) -> Result<(), Fail> {
-    let bytes = b"abcde".to_vec(rt.alloc())?;
-    let fails = [1, 4].to_vec(rt.alloc())?;
-    let mut source = MemSource::new(bytes, fails);
-    let mut buf = [0; 2];
-    let wants: [(Taken, &[u8]); 8] = [
-        (Taken::Bytes(2), b"ab"),
-        (Taken::Failed, b""),
-        (Taken::Bytes(2), b"cd"),
-        (Taken::Bytes(1), b"e"),
-        (Taken::Failed, b""),
-        (Taken::End, b""),
-        (Taken::End, b""),
-        (Taken::End, b""),
-    ];
-    for (want, bytes) in wants {
-        assert_eq!(rt; take_from(&mut source, &mut buf), want);
-        assert!(rt; buf.starts_with(bytes));
-    }
-    assert_eq!(rt; source.faults(), 2);
-    Ok(())
-}
-
-#[test]
-fn puts_to_memory(rt: HostRuntime) -> Result<(), Fail> {
-    let fails = [1].to_vec(rt.alloc())?;
-    let mut sink = MemSink::new(rt.alloc(), fails);
-    assert_eq!(rt; put_to(&mut sink, b"ab"), Put::Done);
-    assert_eq!(rt; put_to(&mut sink, b"cd"), Put::Failed);
-    assert_eq!(rt; sink.bytes(), b"ab".as_slice());
-    assert_eq!(rt; put_to(&mut sink, b"ef"), Put::Done);
-    assert_eq!(rt; sink.faults(), 1);
-    assert_eq!(rt; sink.into_bytes().as_slice(), b"abef".as_slice());
-    Ok(())
-}
-
-#[test]
 fn takes_from_a_reader(rt: HostRuntime) {
     let steps = [
         Step::Moves(2),
@@ -224,9 +187,4 @@ fn interruptions_are_tried_again(rt: HostRuntime) {
     let mut source = StdSource::new(reader);
     assert_eq!(rt; take_from(&mut source, &mut [0; 2]), Taken::Failed);
     assert_eq!(rt; source.faults(), 1);
-}
-
-#[test]
-fn no_pace_does_nothing() {
-    NoPace.between(0, 1);
 }
