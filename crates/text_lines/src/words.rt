@@ -5,13 +5,27 @@ ghost use Rattle.std.specs.Option.{option_map, option_copied};
 ghost use Rattle.text_lines.specs.Lines.{Lacks, IsCutAt};
 ghost use Rattle.text_lines.specs.Words.{words_left, words_of, word_at, last_word, is_ended};
 
+use memchr::memchr;
 use std::marker::Model;
+
+/// A line of so many bytes is searched many bytes at a time, which is no gain over short words.
+const LONG_LINE: usize = 512;
+
+/// The first word of a long line that has others, and what stands behind the space after it.
+fn split_long(line: &[u8]) -> Option<(&[u8], &[u8])>
+    ensures { MatchOption result (Lacks 32 line.now) (λ x. IsCutAt 32 line.now x.0.now x.1.now) }
+{
+    let end = memchr(b' ', line)?;
+    Some((&line[..end], &line[end + 1..]))
+}
 
 /// The first word of a line that has others, and what stands behind the space after it.
 fn split_word(line: &[u8]) -> Option<(&[u8], &[u8])>
     ensures { MatchOption result (Lacks 32 line.now) (λ x. IsCutAt 32 line.now x.0.now x.1.now) }
 {
-    // Words are short, and a search that reads many bytes at a time is no gain.
+    if line.len() >= LONG_LINE {
+        return split_long(line);
+    }
     for (end, byte) in line.iter().enumerate() {
         if *byte == b' ' {
             return Some((&line[..end], &line[end + 1..]));
