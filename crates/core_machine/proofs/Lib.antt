@@ -1,0 +1,6 @@
+pub mod TurnsTaken
+pub mod AtPlay
+pub mod Wholes
+pub mod Played
+pub mod Stands
+pub mod Served

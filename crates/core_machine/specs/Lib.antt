@@ -1,0 +1,6 @@
+pub mod Turns
+pub mod Whole
+pub mod Standing
+pub mod Moving
+pub mod Serving
+pub mod Laws
