@@ -1,7 +1,7 @@
-//! Reads a script of secure monitor calls from standard input, serves them, prints each return, and ends
-//! with the number of the status.
+//! Reads a trace from standard input, plays it, prints each line as it comes, and ends with the number of the status.
 #![tactic(auto)]
 
+use native_tas::{Native, Natives, Relation, digest};
 use ports::{StdSink, StdSource};
 use std::alloc::AllocError;
 use std::io::ErrorKind;
@@ -9,6 +9,12 @@ use std::process::ExitCode;
 use std::rt::Env;
 use std::{env, io};
 use trace_runner::{Status, run};
+use uuid::Uuid;
+
+/// The UUID of the digest application, which is built in.
+const DIGEST_UUID: [u8; 16] = [
+    0x3f, 0x0c, 0x7a, 0x11, 0x52, 0xb8, 0x4d, 0x6e, 0x9a, 0x40, 0x0e, 0x6b, 0x5d, 0x2c, 0x8f, 0x01,
+];
 
 /// The words after the program's name. Where one isn't UTF-8 there are none, since no such word is of use.
 fn words(rt: &(impl Env + AllocGlobal)) -> Result<Vec<String>, AllocError> {
@@ -23,8 +29,17 @@ fn main(rt: HostRuntime) -> ExitCode {
     let Ok(words) = words(&rt) else {
         return ExitCode::from(Status::Memory.number());
     };
+    let mut natives = Natives::new(rt.alloc());
+    let digest = Native {
+        uuid: Uuid::from_bytes(DIGEST_UUID),
+        relation: Relation::Digest,
+        call: digest,
+    };
+    if natives.add(digest).is_err() {
+        return ExitCode::from(Status::Memory.number());
+    }
     let mut input = StdSource::new(rt.reader());
     let mut out = StdSink::new(io::writer(&rt));
-    let status = run(rt.alloc(), words.as_slice(), &mut input, &mut out);
+    let status = run(rt.alloc(), words.as_slice(), &mut input, &mut out, &natives);
     ExitCode::from(status.number())
 }

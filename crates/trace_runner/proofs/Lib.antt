@@ -1,6 +1,10 @@
 pub mod ReadingLemmas
 pub mod Eight
 pub mod PuttingLemmas
-pub mod Playing
+pub mod Answers
+pub mod Played
+pub mod Moved
+pub mod Fills
 pub mod Running
+pub mod Playable
 pub mod Words

@@ -1,31 +1,365 @@
--- From what was read and answered to what the top call says.
-use Rattle.std.proofs.Common.{◌≡◌, ℕ, ◌^◌, ◌≤◌, ◌⊎◌, inl, inr, List, ◌++◌, length, Option, Some, None, sym, ap, subst, ◌∙◌}
-use Rattle.std.specs.Prelude.{IfSome}
+-- From what was read, played and answered to what the top call says.
+use Rattle.std.proofs.Common.{◌≡◌, ℕ, ◌^◌, ◌≤◌, ◌⊎◌, inl, inr, List, [], ◌++◌, length, Option, Some, None, refl, sym, ap, subst, ◌∙◌, arith}
+use Rattle.std.specs.Prelude.{IfSome, IsSome, IsSomeAnd, Result, Ok, Err}
+use Rattle.std.specs.Option.{option_and_then, option_map}
 use Rattle.std.proofs.lemmas.List.{append-nil}
-use Rattle.ports.specs.Port.{Moves}
+use Rattle.kernel_model.specs.Application.{Native}
+use Rattle.play_model.specs.Play.{Play, played}
+use Rattle.play_model.specs.Text.{text_by, text_of, text_of_play}
+use Rattle.ports.specs.Port.{Appends, Moves, Rose}
+use Rattle.ta_isa.specs.declared.boot.Boot.{Boot}
+use Rattle.trace_text.specs.Grammar.{EveryText, Spells}
+use Rattle.trace_text.specs.declared.trace.Trace.{Trace}
 use Rattle.trace_runner.specs.Input.{IsAtEnd}
-use Rattle.trace_runner.specs.Run.{Ran, Answered, WritesPart}
-use Rattle.trace_runner.specs.declared.status.Status.TheVariants.{WriteFault, Memory}
+use Rattle.trace_runner.specs.Line.{bad_trace_line}
+use Rattle.trace_runner.specs.Output.{AppendsPart}
+use Rattle.trace_runner.specs.Run.{Answered, CanBeServed, HasTooMany, IsBad, IsServedBy, IsServedWhole, IsTold, IsPlayedOut, IsTooLong, IsTooMuch, Ran, Statuses, Writes, WritesPart, WritesText, refused_by, refused_in, status_of, status_of_play, uuids_of}
+use Rattle.trace_runner.proofs.Played.{some-and}
+use Rattle.trace_runner.specs.declared.player.Stop.{Stop}
+use Rattle.trace_runner.specs.declared.player.Stop.TheVariants.{Full, Failed}
+use Rattle.trace_runner.specs.declared.player.Stop.TheVariants as stop
+use Rattle.trace_runner.specs.declared.status.Status.TheVariants.{BadTrace, ReadFault, WriteFault, Memory, TooLong}
+use Rattle.trace_runner.specs.declared.status.Status.TheVariants as status
 use Rattle.trace_runner.specs.declared.status.Status.{Status}
 
+-- ---- reading
+
 -- an input that was read to its end is the bytes that were read
-pub Ran-read : (left_old left_new : Option (List ℕ)) (bytes : List ℕ) (result : Status) (old new : Option (List ℕ)) → Moves left_old left_new bytes → IsAtEnd left_new → length bytes ≤ 2 ^ 24
-    → Answered bytes result old new → IfSome left_old (λ input. Ran input left_new result old new)
-Ran-read (Some l) (Some r) bytes result old new moved ended short answered =
+pub Ran-read : (natives : List Native) (left_old left_new : Option (List ℕ)) (bytes : List ℕ) (result : Status)
+    (old new : Option (List ℕ)) → Moves left_old left_new bytes → IsAtEnd left_new → length bytes ≤ 2 ^ 24
+    → Answered natives bytes result old new → IfSome left_old (λ input. Ran natives input left_new result old new)
+Ran-read natives (Some l) (Some r) bytes result old new moved ended short answered =
     let same : bytes ≡ l = sym (append-nil bytes) ∙ ap (λ (x : List ℕ). bytes ++ x) (sym ended) ∙ sym moved in
-    subst (λ (x : List ℕ). Ran x (Some r) result old new) same (inr (inr (short, ap (λ (x : List ℕ). Some x) ended, answered)))
-Ran-read None None bytes result old new moved ended short answered = tt
-Ran-read (Some l) None bytes result old new moved ended short answered = absurd moved
-Ran-read None (Some r) bytes result old new moved ended short answered = absurd moved
+    subst (λ (x : List ℕ). Ran natives x (Some r) result old new) same
+    (inr (inr (short, ap (λ (x : List ℕ). Some x) ended, answered)))
+Ran-read natives None None bytes result old new moved ended short answered = tt
+Ran-read natives (Some l) None bytes result old new moved ended short answered = absurd moved
+Ran-read natives None (Some r) bytes result old new moved ended short answered = absurd moved
 
--- what was written where the text was not written whole
-Ran-part : (input : List ℕ) (left : Option (List ℕ)) (result : Status) (old new : Option (List ℕ)) → Ran input left result old new
-    → (result ≡ WriteFault) ⊎ (result ≡ Memory) → WritesPart input old new
-Ran-part input left result old new (inl unread) short = inl unread.1
-Ran-part input left result old new (inr (inl long)) short = inl long.2
-Ran-part input left result old new (inr (inr whole)) short = whole.2.part short
+-- ---- playing
 
-pub told-part : (told left : Option (List ℕ)) (result : Status) (old new : Option (List ℕ)) → IfSome told (λ input. Ran input left result old new)
-    → IfSome told (λ input. (result ≡ WriteFault) ⊎ (result ≡ Memory) → WritesPart input old new)
-told-part (Some input) left result old new ran = Ran-part input left result old new ran
-told-part None left result old new ran = tt
+-- the text of a trace whose play is this
+text-played : (natives : List Native) (trace : Trace) (boot : Boot) (play : Play) → trace.boot ≡ Some boot
+    → played natives boot trace ≡ Some play
+    → text_of natives trace ≡ Some (text_of_play play)
+text-played natives trace boot play is e =
+    ap (text_by natives trace) is ∙ ap (option_map text_of_play) e
+
+refused-played : (natives : List Native) (trace : Trace) (boot : Boot) (play : Play) → trace.boot ≡ Some boot
+    → played natives boot trace ≡ Some play
+    → refused_in natives trace ≡ play.refused
+refused-played natives trace boot play is e =
+    ap (refused_by natives trace) is ∙ ap (option_and_then (λ (p : Play). p.refused)) e
+
+has-text : (natives : List Native) (trace : Trace) (boot : Boot) (play : Play) (P : List ℕ → Type 0)
+    → trace.boot ≡ Some boot → played natives boot trace ≡ Some play
+    → P (text_of_play play) → IsSomeAnd (text_of natives trace) P
+has-text natives trace boot play P is e p =
+    subst (λ (o : Option (List ℕ)). IsSomeAnd o P) (sym (text-played natives trace boot play is e)) p
+
+pub told-ok : (natives : List Native) (trace : Trace) (boot : Boot) (play : Play) (old new : Option (List ℕ))
+    → trace.boot ≡ Some boot → played natives boot trace ≡ Some play
+    → play.refused ≡ None → Appends old new (text_of_play play) → IsTold natives trace (Ok tt) old new
+told-ok natives trace boot play old new is e going put =
+    (refused-played natives trace boot play is e ∙ going, has-text natives trace boot play (Appends old new) is e put)
+
+pub told-full : (natives : List Native) (trace : Trace) (boot : Boot) (play : Play) (old new : Option (List ℕ))
+    (more : ℕ) → trace.boot ≡ Some boot → played natives boot trace ≡ Some play
+    → play.refused ≡ Some more → Appends old new (text_of_play play) → IsTold natives trace (Err Full) old new
+told-full natives trace boot play old new more is e refused put = (
+  subst IsSome (sym (refused-played natives trace boot play is e ∙ refused)) refl,
+  has-text natives trace boot play (Appends old new) is e put,
+)
+
+pub told-part : (natives : List Native) (trace : Trace) (boot : Boot) (play : Play) (old new : Option (List ℕ))
+    → trace.boot ≡ Some boot → played natives boot trace ≡ Some play
+    → AppendsPart old new (text_of_play play) → IsSomeAnd (text_of natives trace) (AppendsPart old new)
+told-part natives trace boot play old new is e part = has-text natives trace boot play (AppendsPart old new) is e part
+
+-- without a boot there is nothing to play
+pub told-none : (natives : List Native) (trace : Trace) (old new : Option (List ℕ)) → trace.boot ≡ None
+    → Appends old new [] → IsTold natives trace (Ok tt) old new
+told-none natives trace old new is put = (
+  ap (refused_by natives trace) is,
+  subst (λ (o : Option (List ℕ)). IsSomeAnd o (Appends old new)) (sym (ap (text_by natives trace) is)) put,
+)
+
+-- ---- answering
+
+and-more : {X : Type 0} (P Q : X → Type 0) (o : Option X) → ((x : X) → P x → Q x) → IsSomeAnd o P → IsSomeAnd o Q
+and-more P Q (Some x) goes p = goes x p
+and-more P Q None goes p = absurd p
+
+refused-status : (o : Option ℕ) → IsSome o → status_of_play o ≡ TooLong
+refused-status (Some more) some = refl
+refused-status None some = absurd cc
+
+-- what a play has told is what it writes
+pub told-writes : (natives : List Native) (trace : Trace) (stopped : Result (Unit {0}) Stop)
+    (old new : Option (List ℕ)) → IsTold natives trace stopped old new
+    → IsPlayedOut natives trace (status_of stopped) old new
+told-writes natives trace (Ok done) old new told =
+    inr (and-more (Appends old new) _ (text_of natives trace)
+    (λ text put. inl (sym (ap status_of_play told.0), put)) told.1)
+told-writes natives trace (Err Full) old new told =
+    inr (and-more (Appends old new) _ (text_of natives trace)
+    (λ text put. inl (sym (refused-status (refused_in natives trace) told.0), put)) told.1)
+told-writes natives trace (Err Failed) old new told =
+    inr (and-more (AppendsPart old new) _ (text_of natives trace) (λ text part. inr (inl refl, part)) told)
+told-writes natives trace (Err stop.Memory) old new (inl nothing) = inl (refl, nothing)
+told-writes natives trace (Err stop.Memory) old new (inr told) =
+    inr (and-more (AppendsPart old new) _ (text_of natives trace) (λ text part. inr (inr refl, part)) told)
+
+-- ---- each status
+
+-- the status is one, and no other
+writes-named : (named : Status) (text : List ℕ) (result : Status) (old new : Option (List ℕ))
+    → Writes named text result old new
+    → (result ≡ WriteFault → ⊥) → (result ≡ Memory → ⊥) → (result ≡ named) × Appends old new text
+writes-named named text result old new (inl whole) no_fault no_want = whole
+writes-named named text result old new (inr ((inl fault), part)) no_fault no_want = absurd (no_fault fault)
+writes-named named text result old new (inr ((inr want), part)) no_fault no_want = absurd (no_want want)
+
+writes-part : (named : Status) (text : List ℕ) (result : Status) (old new : Option (List ℕ))
+    → Writes named text result old new
+    → (result ≡ named → ⊥) → AppendsPart old new text
+writes-part named text result old new (inl whole) other = absurd (other whole.0)
+writes-part named text result old new (inr part) other = part.1
+
+ok-refused : (o : Option ℕ) → status.Ok ≡ status_of_play o → o ≡ None
+ok-refused None e = refl
+ok-refused (Some more) e = absurd cc
+
+long-refused : (o : Option ℕ) → TooLong ≡ status_of_play o → IsSome o
+long-refused None e = absurd cc
+long-refused (Some more) e = refl
+
+-- at 0
+served-ok : (natives : List Native) (input : List ℕ) (trace : Trace) (old new : Option (List ℕ))
+    → (IsTooLong input → ⊥) → Spells (uuids_of natives) input trace
+    → IsServedBy natives trace status.Ok old new → (other : Trace) × CanBeServed natives input other
+    × WritesText natives other old new
+served-ok natives input trace old new short spelled (inl many) = let e = many.1 in absurd cc
+served-ok natives input trace old new short spelled (inr (few, inl want)) = let e = want.0 in absurd cc
+served-ok natives input trace old new short spelled (inr (few, inr plays)) =
+    let text = some-and _ (text_of natives trace) plays in
+    let whole = writes-named (status_of_play (refused_in natives trace)) text.0 status.Ok old new text.2
+    (λ e. absurd cc) (λ e. absurd cc) in (
+      trace,
+      record { short = short; spelled = spelled; few = few; goes_on = ok-refused (refused_in natives trace) whole.0 },
+      subst (λ (o : Option (List ℕ)). IsSomeAnd o (Appends old new)) (sym text.1) whole.1,
+    )
+
+ran-ok : (natives : List Native) (input : List ℕ) (left : Option (List ℕ)) (old new : Option (List ℕ))
+    → Ran natives input left status.Ok old new
+    → (left ≡ Some []) × ((trace : Trace) × CanBeServed natives input trace × WritesText natives trace old new)
+ran-ok natives input left old new (inl ((inl e), nothing)) = absurd cc
+ran-ok natives input left old new (inl ((inr e), nothing)) = absurd cc
+ran-ok natives input left old new (inr (inl long)) = let e = long.0 in absurd cc
+ran-ok natives input left old new (inr (inr (short, ended, inl want))) = let e = want.0 in absurd cc
+ran-ok natives input left old new (inr (inr (short, ended, inr (inl refused)))) =
+    let whole = writes-named BadTrace (bad_trace_line refused.place refused.kind) status.Ok old new refused.line
+    (λ e. absurd cc) (λ e. absurd cc) in
+    let e = whole.0 in absurd cc
+ran-ok natives input left old new (inr (inr (short, ended, inr (inr served)))) = (
+  ended,
+  served-ok natives input served.trace old new
+      (λ long. absurd (omega (arith, long, short))) served.spelled served.served,
+)
+
+-- at TooLong
+served-long : (natives : List Native) (input : List ℕ) (trace : Trace) (old new : Option (List ℕ))
+    → Spells (uuids_of natives) input trace
+    → IsServedBy natives trace TooLong old new → IsTooMuch natives input old new
+served-long natives input trace old new spelled (inl many) = inr (inl (trace, spelled, many.0, many.2))
+served-long natives input trace old new spelled (inr (few, inl want)) = let e = want.0 in absurd cc
+served-long natives input trace old new spelled (inr (few, inr plays)) =
+    let text = some-and _ (text_of natives trace) plays in
+    let whole = writes-named (status_of_play (refused_in natives trace)) text.0 TooLong old new text.2
+    (λ e. absurd cc) (λ e. absurd cc) in
+    inr (inr (
+      trace,
+      spelled,
+      few,
+      long-refused (refused_in natives trace) whole.0,
+      subst (λ (o : Option (List ℕ)). IsSomeAnd o (Appends old new)) (sym text.1) whole.1,
+    ))
+
+ran-long : (natives : List Native) (input : List ℕ) (left : Option (List ℕ)) (old new : Option (List ℕ))
+    → Ran natives input left TooLong old new → IsTooMuch natives input old new
+ran-long natives input left old new (inl ((inl e), nothing)) = absurd cc
+ran-long natives input left old new (inl ((inr e), nothing)) = absurd cc
+ran-long natives input left old new (inr (inl long)) = inl (long.1, long.2)
+ran-long natives input left old new (inr (inr (short, ended, inl want))) = let e = want.0 in absurd cc
+ran-long natives input left old new (inr (inr (short, ended, inr (inl refused)))) =
+    let whole = writes-named BadTrace (bad_trace_line refused.place refused.kind) TooLong old new refused.line
+    (λ e. absurd cc) (λ e. absurd cc) in
+    let e = whole.0 in absurd cc
+ran-long natives input left old new (inr (inr (short, ended, inr (inr served)))) =
+    served-long natives input served.trace old new served.spelled served.served
+
+-- at BadTrace
+status-played : (o : Option ℕ) → BadTrace ≡ status_of_play o → ⊥
+status-played None e = absurd cc
+status-played (Some more) e = absurd cc
+
+served-bad : (natives : List Native) (trace : Trace) (old new : Option (List ℕ))
+    → IsServedBy natives trace BadTrace old new → ⊥
+served-bad natives trace old new (inl many) = let e = many.1 in absurd cc
+served-bad natives trace old new (inr (few, inl want)) = let e = want.0 in absurd cc
+served-bad natives trace old new (inr (few, inr plays)) =
+    let text = some-and _ (text_of natives trace) plays in
+    let whole = writes-named (status_of_play (refused_in natives trace)) text.0 BadTrace old new text.2
+    (λ e. absurd cc) (λ e. absurd cc) in
+    status-played (refused_in natives trace) whole.0
+
+ran-bad : (natives : List Native) (input : List ℕ) (left : Option (List ℕ)) (old new : Option (List ℕ))
+    → Ran natives input left BadTrace old new → IsBad natives input old new
+ran-bad natives input left old new (inl ((inl e), nothing)) = absurd cc
+ran-bad natives input left old new (inl ((inr e), nothing)) = absurd cc
+ran-bad natives input left old new (inr (inl long)) = let e = long.0 in absurd cc
+ran-bad natives input left old new (inr (inr (short, ended, inl want))) = let e = want.0 in absurd cc
+ran-bad natives input left old new (inr (inr (short, ended, inr (inl refused)))) =
+    let whole = writes-named BadTrace (bad_trace_line refused.place refused.kind) BadTrace old new refused.line
+    (λ e. absurd cc) (λ e. absurd cc) in
+    (λ long. absurd (omega (arith, long, short)), (refused.place, refused.kind, refused.first, whole.1))
+ran-bad natives input left old new (inr (inr (short, ended, inr (inr served)))) =
+    absurd (served-bad natives served.trace old new served.served)
+
+-- at WriteFault and Memory
+is-short : (result : Status) → (result ≡ WriteFault) ⊎ (result ≡ Memory) → (result ≡ status.Ok → ⊥)
+    × (result ≡ BadTrace → ⊥) × (result ≡ TooLong → ⊥)
+is-short result (inl e) = (λ other. absurd cc, λ other. absurd cc, λ other. absurd cc)
+is-short result (inr e) = (λ other. absurd cc, λ other. absurd cc, λ other. absurd cc)
+
+other-status : (o : Option ℕ) (result : Status) → (result ≡ status.Ok → ⊥) × (result ≡ BadTrace → ⊥)
+    × (result ≡ TooLong → ⊥) → result ≡ status_of_play o → ⊥
+other-status None result other e = other.0 e
+other-status (Some more) result other e = other.2 e
+
+served-part : (natives : List Native) (input : List ℕ) (trace : Trace) (result : Status) (old new : Option (List ℕ))
+    → Spells (uuids_of natives) input trace
+    → (result ≡ WriteFault) ⊎ (result ≡ Memory) → IsServedBy natives trace result old new
+    → WritesPart natives input old new
+served-part natives input trace result old new spelled short (inl many) = inl many.2
+served-part natives input trace result old new spelled short (inr (few, inl want)) = inl want.1
+served-part natives input trace result old new spelled short (inr (few, inr plays)) =
+    inr (inr (
+      trace,
+      spelled,
+      and-more _ (AppendsPart old new) (text_of natives trace)
+          (λ text writes. writes-part (status_of_play (refused_in natives trace)) text result old new writes
+          (other-status (refused_in natives trace) result (is-short result short)))
+          plays,
+    ))
+
+ran-part : (natives : List Native) (input : List ℕ) (left : Option (List ℕ)) (result : Status)
+    (old new : Option (List ℕ)) → Ran natives input left result old new
+    → (result ≡ WriteFault) ⊎ (result ≡ Memory) → WritesPart natives input old new
+ran-part natives input left result old new (inl unread) short = inl unread.1
+ran-part natives input left result old new (inr (inl long)) short = inl long.2
+ran-part natives input left result old new (inr (inr (few, ended, inl want))) short = inl want.1
+ran-part natives input left result old new (inr (inr (few, ended, inr (inl refused)))) short =
+    inr (inl (
+      refused.place,
+      refused.kind,
+      refused.first,
+      writes-part BadTrace (bad_trace_line refused.place refused.kind) result old new refused.line
+          (is-short result short).1,
+    ))
+ran-part natives input left result old new (inr (inr (few, ended, inr (inr served)))) short =
+    served-part natives input served.trace result old new served.spelled short served.served
+
+-- all of them
+pub ran-statuses : (natives : List Native) (input : List ℕ) (left : Option (List ℕ)) (result : Status)
+    (old new : Option (List ℕ)) → Ran natives input left result old new → Statuses natives input left result old new
+ran-statuses natives input left result old new ran = record {
+  ok = λ e. ran-ok natives input left old new (subst (λ (s : Status). Ran natives input left s old new) e ran);
+  too_long = λ e. ran-long natives input left old new (subst (λ (s : Status). Ran natives input left s old new) e ran);
+  bad_trace = λ e. ran-bad natives input left old new (subst (λ (s : Status). Ran natives input left s old new) e ran);
+  part = ran-part natives input left result old new ran;
+}
+
+pub told-statuses : (natives : List Native) (told left : Option (List ℕ)) (result : Status)
+    (old new : Option (List ℕ)) → IfSome told (λ input. Ran natives input left result old new)
+    → IfSome told (λ input. Statuses natives input left result old new)
+told-statuses natives (Some input) left result old new ran = ran-statuses natives input left result old new ran
+told-statuses natives None left result old new ran = tt
+
+-- ---- completeness
+
+writes-whole : (text : List ℕ) (result : Status) (old new : Option (List ℕ)) → Writes status.Ok text result old new
+    → (result ≡ WriteFault → ⊥)
+    → ((result ≡ status.Ok) × Appends old new text) ⊎ (result ≡ Memory)
+writes-whole text result old new (inl whole) no_fault = inl whole
+writes-whole text result old new (inr ((inl fault), part)) no_fault = absurd (no_fault fault)
+writes-whole text result old new (inr ((inr want), part)) no_fault = inr want
+
+whole-some : (natives : List Native) (trace : Trace) (result : Status) (old new : Option (List ℕ)) (text : List ℕ)
+    → text_of natives trace ≡ Some text
+    → ((result ≡ status.Ok) × Appends old new text) ⊎ (result ≡ Memory) → IsServedWhole natives trace result old new
+    ⊎ (result ≡ Memory)
+whole-some natives trace result old new text e (inl whole) =
+    inl (whole.0, subst (λ (o : Option (List ℕ)). IsSomeAnd o (Appends old new)) (sym e) whole.1)
+whole-some natives trace result old new text e (inr want) = inr want
+
+served-whole : (natives : List Native) (trace : Trace) (result : Status) (old new : Option (List ℕ))
+    → (HasTooMany trace.items → ⊥) → refused_in natives trace ≡ None → (result ≡ WriteFault → ⊥)
+    → IsServedBy natives trace result old new → IsServedWhole natives trace result old new ⊎ (result ≡ Memory)
+served-whole natives trace result old new few going no_fault (inl many) = absurd (few many.0)
+served-whole natives trace result old new few going no_fault (inr (less, inl want)) = inr want.0
+served-whole natives trace result old new few going no_fault (inr (less, inr plays)) =
+    let text = some-and _ (text_of natives trace) plays in
+    let writes = subst (λ (o : Option ℕ). Writes (status_of_play o) text.0 result old new) going text.2 in
+    whole-some natives trace result old new text.0 text.1 (writes-whole text.0 result old new writes no_fault)
+
+ran-whole : (natives : List Native) (input : List ℕ) (left : Option (List ℕ)) (result : Status)
+    (old new : Option (List ℕ)) (trace : Trace) → EveryText → CanBeServed natives input trace
+    → (result ≡ ReadFault → ⊥) → (result ≡ WriteFault → ⊥) → Ran natives input left result old new
+    → IsServedWhole natives trace result old new ⊎ (result ≡ Memory)
+ran-whole natives input left result old new trace every can no_read no_write (inl ((inl fault), nothing)) =
+    absurd (no_read fault)
+ran-whole natives input left result old new trace every can no_read no_write (inl ((inr want), nothing)) = inr want
+ran-whole natives input left result old new trace every can no_read no_write (inr (inl long)) =
+    absurd (can.short long.1)
+ran-whole natives input left result old new trace every can no_read no_write (inr (inr (short, ended, inl want))) =
+    inr want.0
+ran-whole natives input left result old new trace every can no_read no_write
+    (inr (inr (short, ended, inr (inl refused)))) =
+    absurd ((every (uuids_of natives) input).not_both trace refused.place refused.kind can.spelled refused.first)
+ran-whole natives input left result old new trace every can no_read no_write
+    (inr (inr (short, ended, inr (inr served)))) =
+    let same = (every (uuids_of natives) input).one_trace served.trace trace served.spelled can.spelled in
+    served-whole natives trace result old new can.few can.goes_on no_write
+    (subst (λ (t : Trace). IsServedBy natives t result old new) same served.served)
+
+-- an input that can be served is, where no port has failed
+pub told-whole : (natives : List Native) (told left : Option (List ℕ)) (result : Status) (old new : Option (List ℕ))
+    (a b c d : ℕ) → EveryText
+    → (result ≡ ReadFault → Rose a b) → (result ≡ WriteFault → Rose c d)
+    → IfSome told (λ input. Ran natives input left result old new)
+    → IfSome told (λ input. (trace : Trace) → CanBeServed natives input trace → (Rose a b → ⊥) → (Rose c d → ⊥)
+    → IsServedWhole natives trace result old new ⊎ (result ≡ Memory))
+told-whole natives (Some input) left result old new a b c d every read write ran = λ trace can no_read no_write.
+    ran-whole natives input left result old new trace every can (λ e. no_read (read e)) (λ e. no_write (write e)) ran
+told-whole natives None left result old new a b c d every read write ran = tt
+
+-- ---- statuses that don't come
+
+pub not-usage : (stopped : Result (Unit {0}) Stop) → status_of stopped ≡ status.Usage → ⊥
+not-usage (Ok done) e = absurd cc
+not-usage (Err Full) e = absurd cc
+not-usage (Err Failed) e = absurd cc
+not-usage (Err stop.Memory) e = absurd cc
+
+pub writes-not-usage : (text : List ℕ) (result : Status) (old new : Option (List ℕ))
+    → Writes BadTrace text result old new → result ≡ status.Usage → ⊥
+writes-not-usage text result old new (inl whole) e = let is = sym whole.0 ∙ e in absurd cc
+writes-not-usage text result old new (inr ((inl fault), part)) e = let is = sym fault ∙ e in absurd cc
+writes-not-usage text result old new (inr ((inr want), part)) e = let is = sym want ∙ e in absurd cc
+
+pub failed-only : (stopped : Result (Unit {0}) Stop) → status_of stopped ≡ WriteFault → stopped ≡ Err Failed
+failed-only (Ok done) e = absurd cc
+failed-only (Err Full) e = absurd cc
+failed-only (Err Failed) e = refl
+failed-only (Err stop.Memory) e = absurd cc

@@ -2,6 +2,6 @@ pub mod Status
 pub mod Line
 pub mod Input
 pub mod Output
-pub mod Play
+pub mod Playing
 pub mod Run
 pub mod Examples

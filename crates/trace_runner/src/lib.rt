@@ -1,7 +1,7 @@
 //! The top call: words and bytes in, bytes and a status out.
 //!
-//! `run` reads a script of secure monitor calls from a source, serves them in the script's order and
-//! writes each return to a sink. Its contract says what is written for every input, and when each status
+//! `run` reads a trace from a source, plays it on one core in the order of its items, and writes each line to a
+//! sink as it comes. Its contract says what is written for every input, and when each status
 //! comes.
 #![tactic(auto)]
 
@@ -10,6 +10,7 @@ mod input;
 mod line;
 mod output;
 mod play;
+mod player;
 mod status;
 mod top_call;
 

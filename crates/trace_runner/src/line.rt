@@ -1,7 +1,8 @@
 //! The lines that are printed.
 
-ghost use Rattle.std.specs.Prelude.{◌≡◌, ◌++◌, IfOk, OnOk};
-ghost use Rattle.trace_runner.specs.Line.{bad_trace_line, register_text, ret_line};
+ghost use Rattle.std.specs.Prelude.{◌≡◌, ◌<◌, ◌^◌, ◌++◌, IfOk, OnOk};
+ghost use Rattle.play_model.specs.Line.{mem_line, register_text, ret_line};
+ghost use Rattle.trace_runner.specs.Line.{bad_trace_line};
 
 use smc_abi::Regs;
 use std::alloc::{AllocError, Global};
@@ -34,7 +35,22 @@ pub fn ret_line(alloc: Global, cpu: u8, regs: &Regs) -> Result<Vec<u8>, AllocErr
     Ok(line)
 }
 
-/// The line of an input that is no script: the place of its first fault and the kind of it.
+/// The line of bytes of a processor's RAM.
+pub fn mem_line(alloc: Global, cpu: u8, addr: u64, bytes: &[u8]) -> Result<Vec<u8>, AllocError>
+    requires { addr < 2 ^ 32 }
+    ensures { IfOk result (λ line. line.items ≡ mem_line cpu addr bytes.now) }
+{
+    let mut line = Vec::new(alloc);
+    line.extend_from_slice(b"mem ")?;
+    line.extend_from_slice(cpu.to_string(alloc)?.as_bytes())?;
+    push_register(&mut line, addr as u32)?;
+    line.push(b' ')?;
+    line.extend_from_slice(hex::encode(alloc, bytes)?.as_bytes())?;
+    line.push(b'\n')?;
+    Ok(line)
+}
+
+/// The line of an input that is no trace: the place of its first fault and the kind of it.
 pub fn bad_trace_line(alloc: Global, place: u32, kind: BadKind) -> Result<Vec<u8>, AllocError>
     ensures { IfOk result (λ line. line.items ≡ bad_trace_line place kind) }
 {

@@ -1,103 +1,120 @@
-//! Playing a trace: serving its calls in their order, and printing each return as it comes.
-
-ghost use Rattle.std.specs.Prelude.{◌≡◌, ◌≢◌, ◌≤◌, All, map, slice_index};
+//! Playing a trace: its boot, its fills, and then its items in their order.
+ghost use Rattle.std.specs.Prelude.{◌≡◌, ◌↔◌, ◌≤◌, [], All, Err, IfOk, IsTrue, replicate};
+ghost use Rattle.base.specs.Zeros.{zeros};
+ghost use Rattle.kernel_model.specs.Application.{IsBooted, booted};
+ghost use Rattle.kernel_state.specs.Meaning.{booted_of, events_of};
+ghost use Rattle.native_tas.specs.Table.{entries};
+ghost use Rattle.play_model.specs.Play.{filled, first_play};
 ghost use Rattle.ports.specs.Port.{Rose};
-ghost use Rattle.trace_text.specs.Item.{IsFastCall, IsNumber};
-ghost use Rattle.trace_runner.specs.Output.{Puts};
-ghost use Rattle.trace_runner.specs.Play.{number_of, play, returned, step, text_of};
+ghost use Rattle.ta_isa.specs.Boots.{IsBoot};
+ghost use Rattle.trace_text.specs.Sound.{IsSound, IsSoundFill};
+ghost use Rattle.trace_runner.specs.Playing.{IsPlayedTo};
+ghost use Rattle.trace_runner.specs.Run.{HasTooMany, IsTold, is_smc, uuids_of};
 
-use crate::line::ret_line;
-use crate::output::put_text;
-use ports::{Put, Sink};
-use smc_abi::{
-    Answer, Call, ERESUME, Regs, UNKNOWN_FUNCTION, decode_call, encode_answer, fast_answer,
-};
+use crate::player::{Player, Stop};
+use base::NoMemory;
+use core_machine::{Machine, machines_stand};
+use kernel_state::{Core, journals_stay_legal};
+use native_tas::Natives;
+use ns_ram::Lane;
+use ports::Sink;
 use std::alloc::Global;
-use trace_text::{Item, Reg, Trace};
+use ta_isa::Boot;
+use trace_text::{Fill, Item, Trace};
 
-fn number(reg: Reg) -> u32
-    requires { IsNumber reg }
-    ensures { result ≡ number_of reg }
+/// The most SMC items of a trace.
+const MAX_SMCS: usize = 1 << 16;
+
+/// Whether an item makes a processor come in.
+fn is_smc(item: &Item) -> bool
+    ensures { result ≡ is_smc item.now }
 {
-    match reg {
-        Reg::Num(number) => number,
-        Reg::Last(_) => unreachable!(),
+    matches!(item, Item::Smc { .. } | Item::Enter { .. })
+}
+
+/// Whether a trace has more SMC items than one may have.
+pub fn has_too_many(items: &[Item]) -> bool
+    ensures { IsTrue result ↔ HasTooMany items.now }
+{
+    let count = items.iter().filter(|item| is_smc(*item)).count();
+    count > MAX_SMCS
+}
+
+/// The RAM that a processor sees at first.
+fn first_lane(alloc: Global, fills: &[Fill]) -> Result<Lane, NoMemory>
+    requires { All IsSoundFill fills.now }
+    ensures { IfOk result (λ lane. lane ≡ filled (zeros 0x400000) fills.now) }
+{
+    let mut lane = Lane::new(alloc)?;
+    for fill in fills {
+        lane.write(fill.addr, fill.bytes.as_slice());
     }
+    Ok(lane)
 }
 
-fn registers(regs: &[Reg; 8]) -> Regs
-    requires { All IsNumber regs.now }
-    ensures { result.a ≡ map number_of regs.now }
+/// That of each of so many processors.
+fn first_lanes(alloc: Global, cpus: u8, fills: &[Fill]) -> Result<Vec<Lane>, NoMemory>
+    requires { All IsSoundFill fills.now }
+    ensures { IfOk result (λ lanes. lanes.items ≡ replicate cpus (filled (zeros 0x400000) fills.now)) }
 {
-    let [a0, a1, a2, a3, a4, a5, a6, a7] = *regs;
-    Regs {
-        a: [
-            number(a0),
-            number(a1),
-            number(a2),
-            number(a3),
-            number(a4),
-            number(a5),
-            number(a6),
-            number(a7),
-        ],
+    let mut lanes = Vec::with_capacity(alloc, usize::from(cpus))?;
+    for _ in 0..cpus {
+        lanes.push(first_lane(alloc, fills)?)?;
     }
+    Ok(lanes)
 }
 
-/// The registers after a call that was made with these.
-fn returned(threads: u8, regs: &Regs) -> Regs
-    requires { slice_index regs.now.a 0 ≢ 0x32000004 }
-    ensures { result.a ≡ returned regs.now.a (record { threads = threads }) }
+/// A core of this boot. Its applications have UUIDs of their own, so want of memory alone can refuse it.
+fn core_of(alloc: Global, boot: Boot, natives: &Natives) -> Result<Core, NoMemory>
+    requires { IsBoot boot }
+    ensures booted { IfOk result (λ core. booted_of core ≡ booted boot (entries natives.now)) }
+    ensures events { IfOk result (λ core. events_of core ≡ []) }
+    ensures boots { IfOk result (λ core. IsBooted (booted boot (entries natives.now))) }
 {
-    let answer = match decode_call(regs) {
-        Call::Fast(call) => fast_answer(call, regs, threads),
-        Call::Resume => Answer::Words(ERESUME, 0, 0, 0),
-        Call::WithArg => unreachable!(),
-        Call::Unknown => Answer::Words(UNKNOWN_FUNCTION, 0, 0, 0),
-    };
-    encode_answer(&answer, regs)
+    journals_stay_legal();
+    Core::boot(alloc, boot, natives).map_err(|_refused| NoMemory)
 }
 
-/// Serves an item's call and prints its return.
-fn play_item<K: Sink>(alloc: Global, threads: u8, item: &Item, out: &mut K) -> Put
-    requires { IsFastCall item.now }
-    ensures text { Puts (step (record { threads = threads }) item.now).1 result (K.held out.old) (K.held out.new) }
-    ensures failed { result ≡ Put.Failed → Rose (K.faults out.old) (K.faults out.new) }
+/// A player before its first item.
+fn first_player(
+    alloc: Global,
+    boot: Boot,
+    natives: &Natives,
+    fills: &[Fill],
+) -> Result<Player, NoMemory>
+    requires boot { IsBoot boot }
+    requires fills { All IsSoundFill fills.now }
+    ensures stands { IfOk result (λ player.
+        IsPlayedTo (booted boot (entries natives.now)) (first_play (zeros 0x400000) (booted boot (entries natives.now)) fills.now) player) }
+    ensures boots { IfOk result (λ player. IsBooted (booted boot (entries natives.now))) }
+{
+    let lanes = first_lanes(alloc, boot.cpus, fills)?;
+    let core = core_of(alloc, boot, natives)?;
+    Ok(Player::new(Machine::new(alloc, core, lanes)?))
+}
+
+/// Plays a trace and prints each line as it comes, up to a refused entry, a fault of the sink or want of memory.
+pub fn play<K: Sink>(
+    alloc: Global,
+    natives: &Natives,
+    trace: Trace,
+    out: &mut K,
+) -> Result<(), Stop>
+    requires { IsSound (uuids_of (entries natives.now)) trace }
+    ensures told { IsTold (entries natives.now) trace result (K.held out.old) (K.held out.new) }
+    ensures failed { result ≡ Err Stop.Failed → Rose (K.faults out.old) (K.faults out.new) }
     ensures count { K.faults out.old ≤ K.faults out.new }
 {
-    let Item::Smc { cpu, regs, .. } = item else {
-        unreachable!()
+    let Trace { boot, fills, items } = trace;
+    let Some(boot) = boot else {
+        return Ok(());
     };
-    match ret_line(alloc, *cpu, &returned(threads, &registers(regs))) {
-        Ok(line) => put_text(out, line.as_slice()),
-        Err(_) => Put::Memory,
-    }
-}
-
-/// Serves the trace's calls in their order and prints each return as it comes, up to a fault of the sink.
-pub fn play<K: Sink>(alloc: Global, trace: &Trace, out: &mut K) -> Put
-    requires { All IsFastCall trace.now.items }
-    ensures text { Puts (text_of trace.now) result (K.held out.old) (K.held out.new) }
-    ensures failed { result ≡ Put.Failed → Rose (K.faults out.old) (K.faults out.new) }
-    ensures count { K.faults out.old ≤ K.faults out.new }
-{
-    let Some(boot) = &trace.boot else {
-        return Put::Done;
+    let Ok(mut player) = first_player(alloc, boot, natives, fills.as_slice()) else {
+        return Err(Stop::Memory);
     };
-    play_items(alloc, boot.threads, trace.items.as_slice(), out)
-}
-
-fn play_items<K: Sink>(alloc: Global, threads: u8, items: &[Item], out: &mut K) -> Put
-    requires { All IsFastCall items.now }
-    ensures text { Puts (play (record { threads = threads }) items.now) result (K.held out.old) (K.held out.new) }
-    ensures failed { result ≡ Put.Failed → Rose (K.faults out.old) (K.faults out.new) }
-    ensures count { K.faults out.old ≤ K.faults out.new }
-{
-    for item in items {
-        match play_item(alloc, threads, item, out) {
-            Put::Done => {}
-            stopped => return stopped,
-        }
+    machines_stand();
+    for item in items.as_slice() {
+        player.play_item(alloc, item, out)?;
     }
-    Put::Done
+    Ok(())
 }

@@ -1,23 +1,24 @@
 //! The top call.
 
-ghost use Rattle.std.specs.Prelude.{◌≡◌, ◌↔◌, ◌⊎◌, ◌≤◌, ◌+◌, ◌^◌, IsTrue, IfSome, Some, [], ◌∷◌, length};
+ghost use Rattle.std.specs.Prelude.{◌≡◌, ℕ, ◌↔◌, ◌⊎◌, ◌≤◌, ◌+◌, ◌^◌, IsTrue, IfSome, Some, None, [], ◌∷◌, Err, length};
+ghost use Rattle.native_tas.specs.Table.{entries};
 ghost use Rattle.ports.specs.Port.{Appends, Rose};
-ghost use Rattle.trace_text.specs.Script.{IsPlain, Spells};
+ghost use Rattle.trace_text.specs.Sound.{IsSound};
 ghost use Rattle.trace_text.specs.declared.trace.Trace.{Trace};
 ghost use Rattle.trace_runner.specs.Input.{TakesAtMost};
-ghost use Rattle.trace_runner.specs.Output.{AppendsPart};
-ghost use Rattle.trace_runner.specs.Play.{text_of};
 ghost use Rattle.trace_runner.specs.Line.{bad_trace_line};
-ghost use Rattle.trace_runner.specs.Run.{Answered, IsAmong, IsRun, Ran, IsTooLong, IsUnread, Writes, WritesPart, not_plain_line, status_after, usage_line};
+ghost use Rattle.trace_runner.specs.Run.{Answered, CanBeServed, IsRun, IsServedBy, IsServedWhole, Ran, Statuses, Writes, status_after, status_of, usage_line, uuids_of};
 
 use crate::input::{InputFault, read_input};
 use crate::line::bad_trace_line;
 use crate::output::put_text;
-use crate::play::play;
+use crate::play::{has_too_many, play};
+use crate::player::Stop;
 use crate::status::Status;
+use native_tas::Natives;
 use ports::{Put, Sink, Source};
 use std::alloc::Global;
-use trace_text::{BadKind, TraceFault, read_plain};
+use trace_text::{BadKind, Trace, TraceFault, read_trace};
 
 const USAGE_LINE: &[u8] = b"usage: optee_run run | run-binary | threads | asm | work SEED COUNT\n";
 
@@ -50,23 +51,51 @@ fn answer_line<K: Sink>(out: &mut K, named: Status, line: &[u8]) -> Status
     status_after(named, put_text(out, line))
 }
 
-/// Serves an input that was read whole, and writes what it is answered with.
-fn answer<K: Sink>(alloc: Global, input: &[u8], out: &mut K) -> Status
-    requires { length input.now ≤ 2 ^ 24 }
-    ensures answered { Answered input.now result (K.held out.old) (K.held out.new) }
+/// The status that a play stands for.
+fn status_of(played: Result<(), Stop>) -> Status
+    ensures { result ≡ status_of played }
+{
+    match played {
+        Ok(()) => Status::Ok,
+        Err(Stop::Full) => Status::TooLong,
+        Err(Stop::Failed) => Status::WriteFault,
+        Err(Stop::Memory) => Status::Memory,
+    }
+}
+
+/// Plays a trace, where it doesn't have too many SMC items.
+fn answer_trace<K: Sink>(alloc: Global, natives: &Natives, trace: Trace, out: &mut K) -> Status
+    requires { IsSound (uuids_of (entries natives.now)) trace }
+    ensures served { IsServedBy (entries natives.now) trace result (K.held out.old) (K.held out.new) }
+    ensures words { result ≡ Status.Usage → ⊥ }
     ensures write_fault { result ≡ Status.WriteFault → Rose (K.faults out.old) (K.faults out.new) }
     ensures count { K.faults out.old ≤ K.faults out.new }
 {
-    match read_plain(alloc, input) {
-        Ok(trace) => status_after(Status::Ok, play(alloc, &trace, out)),
+    if has_too_many(trace.items.as_slice()) {
+        return Status::TooLong;
+    }
+    status_of(play(alloc, natives, trace, out))
+}
+
+/// Serves an input that was read whole, and writes what it is answered with.
+fn answer<K: Sink>(alloc: Global, input: &[u8], out: &mut K, natives: &Natives) -> Status
+    requires { length input.now ≤ 2 ^ 24 }
+    ensures answered { Answered (entries natives.now) input.now result (K.held out.old) (K.held out.new) }
+    ensures words { result ≡ Status.Usage → ⊥ }
+    ensures write_fault { result ≡ Status.WriteFault → Rose (K.faults out.old) (K.faults out.new) }
+    ensures count { K.faults out.old ≤ K.faults out.new }
+{
+    match read_trace(alloc, input, natives.uuids().as_slice()) {
+        Ok(trace) => answer_trace(alloc, natives, trace, out),
         Err(TraceFault::Bad { place, kind }) => refuse(alloc, place, kind, out),
         Err(TraceFault::Memory) => Status::Memory,
     }
 }
 
-/// Writes the line of an input that is no script.
+/// Writes the line of an input that is no trace.
 fn refuse<K: Sink>(alloc: Global, place: u32, kind: BadKind, out: &mut K) -> Status
     ensures line { Writes Status.BadTrace (bad_trace_line place kind) result (K.held out.old) (K.held out.new) }
+    ensures words { result ≡ Status.Usage → ⊥ }
     ensures write_fault { result ≡ Status.WriteFault → Rose (K.faults out.old) (K.faults out.new) }
     ensures count { K.faults out.old ≤ K.faults out.new }
 {
@@ -76,38 +105,43 @@ fn refuse<K: Sink>(alloc: Global, place: u32, kind: BadKind, out: &mut K) -> Sta
     }
 }
 
-/// Reads a script and serves it.
-fn run_script<S: Source, K: Sink>(alloc: Global, input: &mut S, out: &mut K) -> Status
-    ensures told { IfSome (S.left input.old) (λ bytes. Ran bytes (S.left input.new) result (K.held out.old) (K.held out.new)) }
+/// Reads a trace and plays it.
+fn run_trace<S: Source, K: Sink>(
+    alloc: Global,
+    input: &mut S,
+    out: &mut K,
+    natives: &Natives,
+) -> Status
+    ensures told { IfSome (S.left input.old) (λ bytes.
+        Ran (entries natives.now) bytes (S.left input.new) result (K.held out.old) (K.held out.new)) }
+    ensures words { result ≡ Status.Usage → ⊥ }
     ensures read_fault { result ≡ Status.ReadFault →
         Rose (S.faults input.old) (S.faults input.new) × Appends (K.held out.old) (K.held out.new) [] }
     ensures write_fault { result ≡ Status.WriteFault → Rose (K.faults out.old) (K.faults out.new) }
-    ensures too_long { result ≡ Status.TooLong → Appends (K.held out.old) (K.held out.new) [] }
-    ensures bad_trace { result ≡ Status.BadTrace → Appends (K.held out.old) (K.held out.new) not_plain_line }
-    ensures not_usage { result ≡ Status.Usage → ⊥ }
     ensures taken { TakesAtMost (2 ^ 24 + 1) (S.left input.old) (S.left input.new) }
     ensures input_count { S.faults input.old ≤ S.faults input.new }
     ensures out_count { K.faults out.old ≤ K.faults out.new }
 {
     match read_input(alloc, input) {
-        Ok(bytes) => answer(alloc, bytes.as_slice(), out),
+        Ok(bytes) => answer(alloc, bytes.as_slice(), out, natives),
         Err(InputFault::Failed) => Status::ReadFault,
         Err(InputFault::TooLong) => Status::TooLong,
         Err(InputFault::Memory) => Status::Memory,
     }
 }
 
-/// Does what the words ask for: `run` reads a script of one processor from the input and serves its fast
-/// calls in their order, and any other words are answered with the usage line.
+/// Does what the words ask for: `run` reads a trace from the input and plays it on one core, beside the applications
+/// that are built in, and any other words are answered with the usage line.
 ///
-/// The words are tested first, then the input is read to its end, then its length and its grammar are
-/// tested, then it runs; the first answer met ends the call. Lines are written as they come. Want of
+/// The words are tested first, then the input is read to its end, then its length, its grammar and the number of its SMC
+/// items are tested, then it is played; the first answer met ends the call. Lines are written as they come. Want of
 /// memory may come at any time.
 pub fn run<S: Source, K: Sink>(
     alloc: Global,
     words: &[String],
     input: &mut S,
     out: &mut K,
+    natives: &Natives,
 ) -> Status
     // ---- The words.
     ensures usage { result ≡ Status.Usage →
@@ -115,35 +149,24 @@ pub fn run<S: Source, K: Sink>(
     ensures other_words { (IsRun words.now → ⊥) →
         Writes Status.Usage usage_line result (K.held out.old) (K.held out.new) × (S.left input.new ≡ S.left input.old) }
 
-    // ---- The length of the input.
-    ensures too_long { result ≡ Status.TooLong →
-        IsRun words.now × IfSome (S.left input.old) IsTooLong × Appends (K.held out.old) (K.held out.new) [] }
-    ensures longer { IsRun words.now → IfSome (S.left input.old) (λ bytes. IsTooLong bytes →
-        IsAmong (Status.TooLong ∷ Status.ReadFault ∷ Status.Memory ∷ []) result × Appends (K.held out.old) (K.held out.new) []) }
+    // ---- The input: it wasn't read whole, or it is too long, or it is answered by its meaning.
+    ensures ran { IsRun words.now → IfSome (S.left input.old) (λ bytes.
+        Ran (entries natives.now) bytes (S.left input.new) result (K.held out.old) (K.held out.new)) }
 
-    // ---- Its grammar.
-    ensures bad_trace { result ≡ Status.BadTrace →
-        IsRun words.now × IfSome (S.left input.old) (λ bytes. (IsTooLong bytes → ⊥) × (IsPlain bytes → ⊥))
-        × Appends (K.held out.old) (K.held out.new) not_plain_line }
-    ensures not_plain { IsRun words.now → IfSome (S.left input.old) (λ bytes. (IsTooLong bytes → ⊥) → (IsPlain bytes → ⊥) →
-        IsUnread result (K.held out.old) (K.held out.new)
-        ⊎ Writes Status.BadTrace not_plain_line result (K.held out.old) (K.held out.new)) }
+    // ---- Each status, and what was then written.
+    ensures statuses { IsRun words.now → IfSome (S.left input.old) (λ bytes.
+        Statuses (entries natives.now) bytes (S.left input.new) result (K.held out.old) (K.held out.new)) }
 
-    // ---- The run: the whole input was read, it spells a trace, and that trace's text is written.
-    ensures ok { result ≡ Status.Ok → IsRun words.now × IfSome (S.left input.old) (λ bytes.
-        (S.left input.new ≡ Some []) × (IsTooLong bytes → ⊥)
-        × ((trace : Trace) × Spells bytes trace × Appends (K.held out.old) (K.held out.new) (text_of trace))) }
+    // ---- Each input within the limits is served whole, or there is want of memory.
     ensures complete { IsRun words.now → IfSome (S.left input.old) (λ bytes. (trace : Trace) →
-        (IsTooLong bytes → ⊥) → Spells bytes trace →
+        CanBeServed (entries natives.now) bytes trace →
         (Rose (S.faults input.old) (S.faults input.new) → ⊥) → (Rose (K.faults out.old) (K.faults out.new) → ⊥) →
-        ((result ≡ Status.Ok) × Appends (K.held out.old) (K.held out.new) (text_of trace)) ⊎ (result ≡ Status.Memory)) }
+        IsServedWhole (entries natives.now) trace result (K.held out.old) (K.held out.new) ⊎ (result ≡ Status.Memory)) }
 
-    // ---- Faults of the ports, and what is written where the text is not written whole.
+    // ---- Faults of the ports.
     ensures read_fault { result ≡ Status.ReadFault → IsRun words.now
         × Rose (S.faults input.old) (S.faults input.new) × Appends (K.held out.old) (K.held out.new) [] }
     ensures write_fault { result ≡ Status.WriteFault → Rose (K.faults out.old) (K.faults out.new) }
-    ensures part { IsRun words.now → IfSome (S.left input.old) (λ bytes.
-        ((result ≡ Status.WriteFault) ⊎ (result ≡ Status.Memory)) → WritesPart bytes (K.held out.old) (K.held out.new)) }
 
     // ---- Reading ends, and counts of faults never fall.
     ensures taken { TakesAtMost (2 ^ 24 + 1) (S.left input.old) (S.left input.new) }
@@ -151,7 +174,7 @@ pub fn run<S: Source, K: Sink>(
     ensures out_count { K.faults out.old ≤ K.faults out.new }
 {
     if is_run(words) {
-        run_script(alloc, input, out)
+        run_trace(alloc, input, out, natives)
     } else {
         answer_line(out, Status::Usage, USAGE_LINE)
     }

@@ -1,5 +1,6 @@
 ghost use Rattle.std.specs.Prelude.{◌≡◌, ◌↔◌, [], ◌∷◌, ◌++◌, IsNone, OnOk};
 
+use native_tas::Natives;
 use ports::{MemSink, MemSource};
 use std::alloc::{AllocError, Global};
 use std::mem;
@@ -105,14 +106,21 @@ impl Case {
         Ok(())
     }
 
-    /// Runs the case, and says what came of it. The case's bytes and failing calls are used up.
-    pub fn verdict(&mut self, alloc: Global, wanted: u32) -> Result<String, AllocError> {
+    /// Runs the case beside these built-in applications, and says what came of it. The case's bytes and failing calls are
+    /// used up.
+    pub fn verdict(
+        &mut self,
+        alloc: Global,
+        natives: &Natives,
+        wanted: u32,
+    ) -> Result<String, AllocError> {
         let input = mem::replace(&mut self.input, Vec::new(alloc));
         let takes = mem::replace(&mut self.failing_takes, Vec::new(alloc));
         let puts = mem::replace(&mut self.failing_puts, Vec::new(alloc));
         let mut source = MemSource::new(input, takes);
         let mut sink = MemSink::new(alloc, puts);
-        let status = run(alloc, self.words.as_slice(), &mut source, &mut sink).number();
+        let words = self.words.as_slice();
+        let status = run(alloc, words, &mut source, &mut sink, natives).number();
         let name = self.name.as_str();
         match self.difference(u32::from(status), wanted, sink.bytes()) {
             None => format!(in alloc; "{name} ok"),

@@ -11,11 +11,24 @@ mod case;
 
 use anyhow::{Context, Result, bail};
 use case::Case;
+use native_tas::{Native, Natives, Relation, digest};
 use std::alloc::Global;
 use std::io::{BufRead, BufReader};
+use uuid::Uuid;
+
+/// The UUID of the digest application, which is built in.
+const DIGEST_UUID: [u8; 16] = [
+    0x3f, 0x0c, 0x7a, 0x11, 0x52, 0xb8, 0x4d, 0x6e, 0x9a, 0x40, 0x0e, 0x6b, 0x5d, 0x2c, 0x8f, 0x01,
+];
 
 /// Takes one line of a case. At its last line the case runs, and what came of it is printed.
-fn take_line(rt: &impl Print, alloc: Global, case: &mut Case, line: &str) -> Result<()> {
+fn take_line(
+    rt: &impl Print,
+    alloc: Global,
+    natives: &Natives,
+    case: &mut Case,
+    line: &str,
+) -> Result<()> {
     if let Some(text) = line.strip_prefix('|') {
         case.push_bytes(text.as_bytes())?;
         case.push_bytes(b"\n")?;
@@ -34,7 +47,7 @@ fn take_line(rt: &impl Print, alloc: Global, case: &mut Case, line: &str) -> Res
         "comment" => case.push_comment(number(rest)?)?,
         "take" => case.fail_take(number(rest)?)?,
         "put" => case.fail_put(number(rest)?)?,
-        "status" => println!(rt; "{}", case.verdict(alloc, number(rest)?)?)?,
+        "status" => println!(rt; "{}", case.verdict(alloc, natives, number(rest)?)?)?,
         _ => bail!("no line of a case: {line}"),
     }
     Ok(())
@@ -46,9 +59,18 @@ fn number(text: &str) -> Result<u32> {
 
 fn main(rt: HostRuntime) -> Result<()> {
     let alloc = rt.alloc();
+    let mut natives = Natives::new(alloc);
+    let digest = Native {
+        uuid: Uuid::from_bytes(DIGEST_UUID),
+        relation: Relation::Digest,
+        call: digest,
+    };
+    if natives.add(digest).is_err() {
+        bail!("no memory for the application that is built in");
+    }
     let mut case = Case::new(alloc, "")?;
     for line in BufReader::new(alloc, rt.reader())?.lines(alloc) {
-        take_line(&rt, alloc, &mut case, line?.as_str())?;
+        take_line(&rt, alloc, &natives, &mut case, line?.as_str())?;
     }
     Ok(())
 }

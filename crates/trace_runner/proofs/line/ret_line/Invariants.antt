@@ -2,7 +2,7 @@ use Rattle.std.proofs.Common.{◌≡◌, ◌++◌, take}
 use Rattle.std.specs.Prelude.{codes}
 use Rattle.std.specs.Fmt.{decimal}
 use Rattle.std.specs.List.{flat_map}
-use Rattle.trace_runner.specs.Line.{register_text}
+use Rattle.play_model.specs.Line.{register_text}
 use Rattle.trace_runner.proofs.line.ret_line.Given as goal
 
 -- the line holds the registers so far

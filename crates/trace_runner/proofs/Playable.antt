@@ -1,0 +1,221 @@
+-- From a sound trace to a player that can play it, and from its play to what was told.
+use Rattle.std.proofs.Common.{◌≡◌, ℕ, ◌+◌, ◌<◌, ◌≤◌, List, [], length, take, drop, get_or, Option, Some, None, refl, sym, ap, subst, ◌∙◌, arith, inr}
+use Rattle.std.specs.Prelude.{replicate, Ok, Err, IfSome, IsSome}
+use Rattle.std.proofs.lemmas.List.{append-nil, take_all}
+use Rattle.base.specs.Zeros.{zeros}
+use Rattle.base.proofs.ZeroLemmas.{length-zeros}
+use Rattle.kernel_model.specs.Application.{Booted, IsBooted, Native, booted}
+use Rattle.kernel_state.specs.Meaning.{booted_of}
+use Rattle.kernel_state.specs.declared.kernel_core.Core.{Core}
+use Rattle.play_model.specs.Coming as coming
+use Rattle.play_model.specs.Play.{Play, after_item, after_items, filled, first_play, played}
+use Rattle.play_model.specs.Text.{text_of_play}
+use Rattle.play_model.proofs.Coming.{items_can_come}
+use Rattle.play_model.proofs.PlaysThere.{traces_have_plays}
+use Rattle.ports.specs.Port.{Appends}
+use Rattle.ports.specs.PortLaws.{Appends-nil, Appends-trans}
+use Rattle.ta_isa.specs.declared.boot.Boot.{Boot}
+use Rattle.trace_text.specs.Sound.{IsSound, IsSoundBoot}
+use Rattle.trace_text.specs.declared.item.Item.{Item}
+use Rattle.trace_text.specs.declared.item.Item.TheVariants as item
+use Rattle.trace_text.specs.declared.trace.Fill.{Fill}
+use Rattle.trace_text.specs.declared.trace.Trace.{Trace}
+use Rattle.core_machine.specs.Laws.{MachinesStand}
+use Rattle.trace_runner.specs.Playing.{AreLast, CanBeTaken, Follows, IsPlayedTo}
+use Rattle.trace_runner.specs.Run.{IsTold}
+use Rattle.core_machine.specs.Standing.{IsAt, begun}
+use Rattle.core_machine.specs.declared.machine.Machine.{Machine}
+use Rattle.trace_runner.specs.declared.player.Player.{Player}
+use Rattle.trace_runner.specs.declared.player.Stop.{Stop}
+use Rattle.trace_runner.specs.declared.player.Stop.TheVariants.{Full, Failed, Memory}
+use Rattle.trace_runner.proofs.Played.{Written, Written-more, Written-part, Written-refused, items-split}
+use Rattle.trace_runner.proofs.Running.{told-full, told-ok, told-part}
+
+-- ---- what can be taken
+
+-- a machine can take an item that can come
+pub can-take : (boot : Booted) (play : Play) (machine : Machine) (i : Item) → MachinesStand → boot.cpus ≤ 8
+    → IsAt boot play machine → coming.CanCome boot i play → CanBeTaken machine i
+can-take boot play machine (item.Smc cpu steps regs) stand few at can = record {
+  few = let there = can.sound.processor in omega (arith, there, few);
+  comes = λ given. stand.can_come boot play machine (record { cpu = cpu; regs = given; steps = steps }) at
+      can.ready can.sound.some_step can.sound.few_steps;
+  sound = can.sound.registers;
+}
+can-take boot play machine (item.Enter cpu steps regs) stand few at can = record {
+  few = let there = can.sound.processor in omega (arith, there, few);
+  comes = λ given. stand.can_come boot play machine (record { cpu = cpu; regs = given; steps = steps }) at
+      can.ready can.sound.some_step can.sound.few_steps;
+  sound = can.sound.registers;
+}
+can-take boot play machine (item.Leave cpu) stand few at can = (
+  let there = can.sound in omega (arith, there, few),
+  stand.can_leave boot play machine cpu can.ready.regs can.ready.steps can.ready.errand at can.ready.inside,
+)
+can-take boot play machine (item.Write cpu addr bytes) stand few at can =
+    (subst (λ (on : Booted). cpu < on.cpus) (sym at.booted) can.sound.0, can.sound.1)
+can-take boot play machine (item.Show cpu addr len) stand few at can =
+    (subst (λ (on : Booted). cpu < on.cpus) (sym at.booted) can.sound.0, can.sound.1)
+
+zeros-whole : coming.IsWhole (zeros 0x400000)
+zeros-whole = let size = length-zeros 0x400000 in omega (arith, size)
+
+-- ---- the beginning
+
+pub first-stands : (boot : Boot) (natives : List Native) (core : Core) (lanes : List (List ℕ)) (fills : List Fill)
+    (player : Player) → booted_of core ≡ booted boot natives
+    → lanes ≡ replicate boot.cpus (filled (zeros 0x400000) fills)
+    → IsAt (booted_of core) (begun (booted_of core) lanes) player.machine → AreLast [] player.answers
+    → IsPlayedTo (booted boot natives) (first_play (zeros 0x400000) (booted boot natives) fills) player
+first-stands boot natives core lanes fills player same filled_so at last = record {
+  machine =
+      subst (λ (ls : List (List ℕ)). IsAt (booted boot natives) (begun (booted boot natives) ls) player.machine)
+      filled_so
+      (subst (λ (on : Booted). IsAt on (begun on lanes) player.machine) same at);
+  answers = last;
+}
+
+module _ (natives : List Native) (uuids : List (List ℕ)) (boot : Boot) (trace : Trace)
+    (boots : IsBooted (booted boot natives)) (sound : IsSound uuids trace)
+    (is : trace.boot ≡ Some boot) where
+  abbrev pub start : Play
+  start = first_play (zeros 0x400000) (booted boot natives) trace.fills
+
+  -- nothing was printed yet
+  pub Written-none : (player : Player) (a : Option (List ℕ)) → IsPlayedTo (booted boot natives) start player
+      → Written (booted boot natives) start trace.items 0 player a a
+  Written-none player a stands = record { play = start; taken = refl; stands = stands; put = Appends-nil a }
+
+  -- the next item can be taken
+  pub next-taken : (at : ℕ) (i : Item) (player : Player) (a b : Option (List ℕ)) → MachinesStand → boot.cpus ≤ 8
+      → at < length trace.items → i ≡ get_or trace.items at i
+      → (w : Written (booted boot natives) start trace.items at player a b) → CanBeTaken player.machine i
+  next-taken at i player a b stand few lt same w =
+      can-take (booted boot natives) w.play player.machine i stand few w.stands.machine
+      (items_can_come (zeros 0x400000) natives uuids boot trace (take at trace.items)
+      (drop (at + 1) trace.items) i w.play zeros-whole boots sound is
+      (sym (items-split trace.items at i lt same)) w.taken w.stands.machine.goes_on)
+
+  there : (o : Option Play) → played natives boot trace ≡ o → IsSome o → (play : Play)
+      × (played natives boot trace ≡ Some play)
+  there (Some play) e some = (play, e)
+  there None e some = absurd cc
+
+  -- an item stopped the play
+  pub stopped : (at : ℕ) (i : Item) (before after : Player) (stop : Stop) (a b c : Option (List ℕ))
+      → at < length trace.items → i ≡ get_or trace.items at i
+      → (w : Written (booted boot natives) start trace.items at before a b)
+      → Follows (booted boot natives) w.play (after_item (booted boot natives) i w.play) (Err stop) after b c
+      → IsTold natives trace (Err stop) a c
+  stopped at i before after Full a b c lt same w follows =
+      let ended = record w.play { refused = Some follows.0 } in
+      told-full natives trace boot ended a c follows.0 is
+      (Written-refused (booted boot natives) start trace.items at i before a b follows.0 lt same w follows.1) refl
+      (subst (Appends a c) (append-nil (text_of_play w.play))
+      (Appends-trans a b c (text_of_play w.play) [] w.put follows.2))
+  stopped at i before after Failed a b c lt same w follows =
+      let final = there (played natives boot trace) refl
+      (traces_have_plays.played (zeros 0x400000) natives uuids boot trace zeros-whole boots sound is) in
+      told-part natives trace boot final.0 a c is final.1
+      (Written-part (booted boot natives) start trace.items at i before a b c final.0 lt same w follows final.1)
+  stopped at i before after Memory a b c lt same w follows =
+      let final = there (played natives boot trace) refl
+      (traces_have_plays.played (zeros 0x400000) natives uuids boot trace zeros-whole boots sound is) in
+      inr (told-part natives trace boot final.0 a c is final.1
+      (Written-part (booted boot natives) start trace.items at i before a b c final.0 lt same w follows final.1))
+
+  -- the last item was played
+  pub ended : (at : ℕ) (player : Player) (a b : Option (List ℕ)) → length trace.items ≤ at
+      → (w : Written (booted boot natives) start trace.items at player a b)
+      → IsTold natives trace (Ok tt) a b
+  ended at player a b whole w =
+      told-ok natives trace boot w.play a b is
+      (sym (ap (λ (l : List Item). after_items (booted boot natives) l start) (take_all at trace.items whole))
+      ∙ w.taken)
+      w.stands.machine.goes_on w.put
+
+-- ---- all of it
+
+-- the items so far were played, on a core of the trace's boot
+pub record Playing (natives : List Native) (trace : Trace) (items : List Item) (at : ℕ) (player : Player)
+    (old new : Option (List ℕ)) : Type 0 where
+  pub boot : Boot
+  pub is : trace.boot ≡ Some boot
+  pub boots : IsBooted (booted boot natives)
+  pub same : items ≡ trace.items
+  pub written : Written (booted boot natives)
+      (first_play (zeros 0x400000) (booted boot natives) trace.fills) trace.items at player old new
+
+few-there : (uuids : List (List ℕ)) (trace : Trace) (boot : Boot) → IsSound uuids trace → trace.boot ≡ Some boot
+    → boot.cpus ≤ 8
+few-there uuids trace boot sound is =
+    (subst (λ (o : Option Boot). IfSome o (IsSoundBoot uuids)) is sound.boot).boots.few_processors
+
+pub playing-first : (natives : List Native) (trace : Trace) (boot : Boot) (items : List Item) (fills : List Fill)
+    (player : Player) (a : Option (List ℕ)) → trace.boot ≡ Some boot
+    → IsBooted (booted boot natives) → items ≡ trace.items → fills ≡ trace.fills
+    → IsPlayedTo (booted boot natives) (first_play (zeros 0x400000) (booted boot natives) fills) player
+    → Playing natives trace items 0 player a a
+playing-first natives trace boot items fills player a is boots same filled_by stands = record {
+  boot = boot;
+  is = is;
+  boots = boots;
+  same = same;
+  written = record {
+    play = first_play (zeros 0x400000) (booted boot natives) trace.fills;
+    taken = refl;
+    stands = subst (λ (fs : List Fill). IsPlayedTo (booted boot natives)
+        (first_play (zeros 0x400000) (booted boot natives) fs) player) filled_by stands;
+    put = Appends-nil a;
+  };
+}
+
+in-trace : (items all : List Item) (at : ℕ) (i : Item) → items ≡ all → at < length items → i ≡ get_or items at i
+    → (at < length all) × (i ≡ get_or all at i)
+in-trace items all at i same lt is =
+    (subst (λ (l : List Item). at < length l) same lt, subst (λ (l : List Item). i ≡ get_or l at i) same is)
+
+pub playing-takes : (natives : List Native) (uuids : List (List ℕ)) (trace : Trace) (items : List Item) (at : ℕ)
+    (i : Item) (player : Player) (a b : Option (List ℕ)) → MachinesStand
+    → IsSound uuids trace → at < length items → i ≡ get_or items at i → Playing natives trace items at player a b
+    → CanBeTaken player.machine i
+playing-takes natives uuids trace items at i player a b stand sound lt is p =
+    let there = in-trace items trace.items at i p.same lt is in
+    next-taken natives uuids p.boot trace p.boots sound p.is at i player a b stand
+    (few-there uuids trace p.boot sound p.is) there.0 there.1 p.written
+
+pub playing-more : (natives : List Native) (trace : Trace) (items : List Item) (at : ℕ) (i : Item)
+    (before after : Player) (a b c : Option (List ℕ)) → at < length items → i ≡ get_or items at i
+    → Playing natives trace items at before a b
+    → ((boot : Booted) (play : Play) → IsPlayedTo boot play before
+    → Follows boot play (after_item boot i play) (Ok tt) after b c) → Playing natives trace items (at + 1) after a c
+playing-more natives trace items at i before after a b c lt is p follows =
+    let there = in-trace items trace.items at i p.same lt is in
+    let next = follows (booted p.boot natives) p.written.play p.written.stands in
+    record {
+      boot = p.boot;
+      is = p.is;
+      boots = p.boots;
+      same = p.same;
+      written = Written-more (booted p.boot natives)
+          (first_play (zeros 0x400000) (booted p.boot natives) trace.fills) trace.items at i before after a b c
+          there.0 there.1
+          p.written next.0 next.1 next.2 next.3;
+    }
+
+pub playing-stopped : (natives : List Native) (uuids : List (List ℕ)) (trace : Trace) (items : List Item) (at : ℕ)
+    (i : Item) (before after : Player) (stop : Stop) (a b c : Option (List ℕ))
+    → IsSound uuids trace → at < length items → i ≡ get_or items at i → Playing natives trace items at before a b
+    → ((boot : Booted) (play : Play) → IsPlayedTo boot play before
+    → Follows boot play (after_item boot i play) (Err stop) after b c) → IsTold natives trace (Err stop) a c
+playing-stopped natives uuids trace items at i before after stop a b c sound lt is p follows =
+    let there = in-trace items trace.items at i p.same lt is in
+    stopped natives uuids p.boot trace p.boots sound p.is at i before after stop a b c there.0 there.1 p.written
+    (follows (booted p.boot natives) p.written.play p.written.stands)
+
+pub playing-ended : (natives : List Native) (uuids : List (List ℕ)) (trace : Trace) (items : List Item) (at : ℕ)
+    (player : Player) (a b : Option (List ℕ)) → IsSound uuids trace
+    → length items ≤ at → Playing natives trace items at player a b → IsTold natives trace (Ok tt) a b
+playing-ended natives uuids trace items at player a b sound whole p =
+    ended natives uuids p.boot trace p.boots sound p.is at player a b
+    (subst (λ (l : List Item). length l ≤ at) p.same whole) p.written

@@ -1,0 +1,222 @@
+//! Playing items: their entries and exits on a core, and the lines that they print.
+ghost use Rattle.std.specs.Prelude.{◌≡◌, ℕ, ◌<◌, ◌≤◌, [], All, Err, OnOk, Some, map, slice_get};
+ghost use Rattle.kernel_model.specs.Application.{Booted};
+ghost use Rattle.trace_text.specs.declared.item.Item.TheVariants as item;
+ghost use Rattle.play_model.specs.Play.{Play, after_item, number_in, visit_of};
+ghost use Rattle.ports.specs.Port.{Rose};
+ghost use Rattle.trace_text.specs.Sound.{IsPartOfRam, IsSoundReg};
+ghost use Rattle.trace_runner.specs.Playing.{AreLast, CanBeTaken, CanComeIn, ComesIn, Follows, GoesOut, HasLane, IsPlayedTo, PutsLine};
+ghost use Rattle.core_machine.specs.Standing.{CanCome};
+ghost use Rattle.core_machine.specs.declared.smc.Smc.TheVariants.{Leaves};
+
+use crate::line::{mem_line, ret_line};
+use crate::output::put_text;
+use core_machine::{Machine, machines_stand, turns_are_taken};
+use kernel_entry::Visitor;
+use kernel_state::EnterRefusal;
+use ports::{Put, Sink};
+use smc_abi::Regs;
+use std::alloc::{AllocError, Global};
+use trace_text::{Item, Reg};
+
+/// The most processors that there are.
+const MAX_CPUS: usize = 8;
+
+/// Why a play stopped before its end.
+#[derive(Clone, Copy, Debug, PartialEq, Eq)]
+pub enum Stop {
+    /// An entry was refused, since all entries would then have read more than 2^28 bytes.
+    Full,
+    /// The sink counted a fault.
+    Failed,
+    /// Want of memory.
+    Memory,
+}
+
+impl From<EnterRefusal> for Stop {
+    ghost use Rattle.trace_runner.specs.Playing.{stop_of};
+
+    ghost from_gives = { λ refusal stop. stop ≡ stop_of refusal };
+
+    fn from(refusal: EnterRefusal) -> Stop {
+        match refusal {
+            EnterRefusal::Full { .. } => Stop::Full,
+            EnterRefusal::Memory => Stop::Memory,
+        }
+    }
+}
+
+impl From<AllocError> for Stop {
+    ghost use Rattle.trace_runner.specs.declared.player.Stop.TheVariants.{Memory};
+
+    ghost from_gives = { λ _ stop. stop ≡ Memory };
+
+    fn from(_refused: AllocError) -> Stop {
+        Stop::Memory
+    }
+}
+
+/// The number that a register holds, given the registers of the last answer.
+fn number(answer: &Regs, reg: Reg) -> u32
+    requires { IsSoundReg reg }
+    ensures { result ≡ number_in answer.now.a reg }
+{
+    match reg {
+        Reg::Num(number) => number,
+        Reg::Last(register) => answer.a[usize::from(register)],
+    }
+}
+
+/// The registers that a processor comes in with.
+fn registers(answer: &Regs, regs: &[Reg; 8]) -> Regs
+    requires { All IsSoundReg regs.now }
+    ensures { result.a ≡ map (number_in answer.now.a) regs.now }
+{
+    let [a0, a1, a2, a3, a4, a5, a6, a7] = *regs;
+    Regs {
+        a: [
+            number(answer, a0),
+            number(answer, a1),
+            number(answer, a2),
+            number(answer, a3),
+            number(answer, a4),
+            number(answer, a5),
+            number(answer, a6),
+            number(answer, a7),
+        ],
+    }
+}
+
+/// Prints a line.
+fn print<K: Sink>(line: Vec<u8>, out: &mut K) -> Result<(), Stop>
+    ensures line { PutsLine line.items result (K.held out.old) (K.held out.new) }
+    ensures failed { result ≡ Err Stop.Failed → Rose (K.faults out.old) (K.faults out.new) }
+    ensures count { K.faults out.old ≤ K.faults out.new }
+{
+    match put_text(out, line.as_slice()) {
+        Put::Done => Ok(()),
+        Put::Failed => Err(Stop::Failed),
+        Put::Memory => Err(Stop::Memory),
+    }
+}
+
+/// A core with its processors, and what each of them was last answered: zeros before any.
+#[derive(Drop)]
+pub struct Player {
+    machine: Machine,
+    answers: [Regs; MAX_CPUS],
+}
+
+impl Player {
+    /// Nobody was answered yet.
+    pub fn new(machine: Machine) -> Player
+        ensures machine { result.machine ≡ machine }
+        ensures answers { AreLast [] result.answers }
+    {
+        Player {
+            machine,
+            answers: [Regs { a: [0; 8] }; MAX_CPUS],
+        }
+    }
+
+    /// What a processor was last answered.
+    fn answer_to(&self, cpu: u8) -> Regs
+        requires { cpu < 8 }
+        ensures { slice_get self.now.answers cpu ≡ Some result }
+    {
+        self.answers[usize::from(cpu)]
+    }
+
+    /// A processor comes in.
+    fn enter(&mut self, alloc: Global, cpu: u8, steps: u32, regs: &[Reg; 8]) -> Result<(), Stop>
+        requires { CanComeIn self.old.machine cpu steps regs.now }
+        ensures comes { (boot : Booted) (play : Play) → IsPlayedTo boot play self.old
+            → ComesIn boot play (visit_of play.history cpu steps regs.now) result self.new }
+        ensures inside { OnOk result (CanCome self.new.machine (Leaves cpu)) }
+        ensures sink { result ≡ Err Stop.Failed → ⊥ }
+    {
+        machines_stand();
+        turns_are_taken();
+        let regs = registers(&self.answer_to(cpu), regs);
+        self.machine.enter(alloc, Visitor { cpu, regs, steps })?;
+        Ok(())
+    }
+
+    /// A processor goes out, and its answer is printed.
+    fn leave<K: Sink>(&mut self, alloc: Global, cpu: u8, out: &mut K) -> Result<(), Stop>
+        requires inside { CanCome self.old.machine (Leaves cpu) }
+        requires few { cpu < 8 }
+        ensures leaves { (boot : Booted) (play : Play) → IsPlayedTo boot play self.old
+            → GoesOut boot play cpu result self.new (K.held out.old) (K.held out.new) }
+        ensures failed { result ≡ Err Stop.Failed → Rose (K.faults out.old) (K.faults out.new) }
+        ensures count { K.faults out.old ≤ K.faults out.new }
+    {
+        let told = self.machine.leave(cpu);
+        self.answers[usize::from(cpu)] = told;
+        print(ret_line(alloc, cpu, &told)?, out)
+    }
+
+    /// Prints bytes of a processor's RAM.
+    fn show<K: Sink>(
+        &self,
+        alloc: Global,
+        cpu: u8,
+        addr: u64,
+        len: u32,
+        out: &mut K,
+    ) -> Result<(), Stop>
+        requires lane { HasLane self.now.machine cpu }
+        requires part { IsPartOfRam addr len }
+        ensures shows { (boot : Booted) (play : Play) → IsPlayedTo boot play self.now
+            → Follows boot play (after_item boot (item.Show cpu addr len) play) result self.now (K.held out.old) (K.held out.new) }
+        ensures failed { result ≡ Err Stop.Failed → Rose (K.faults out.old) (K.faults out.new) }
+        ensures count { K.faults out.old ≤ K.faults out.new }
+    {
+        let bytes = self.machine.show(cpu, addr, u64::from(len));
+        print(mem_line(alloc, cpu, addr, bytes)?, out)
+    }
+
+    /// An item that makes a processor come in and go out.
+    fn call<K: Sink>(
+        &mut self,
+        alloc: Global,
+        cpu: u8,
+        steps: u32,
+        regs: &[Reg; 8],
+        out: &mut K,
+    ) -> Result<(), Stop>
+        requires { CanComeIn self.old.machine cpu steps regs.now }
+        ensures calls { (boot : Booted) (play : Play) → IsPlayedTo boot play self.old
+            → Follows boot play (after_item boot (item.Smc cpu steps regs.now) play) result self.new (K.held out.old) (K.held out.new) }
+        ensures failed { result ≡ Err Stop.Failed → Rose (K.faults out.old) (K.faults out.new) }
+        ensures count { K.faults out.old ≤ K.faults out.new }
+    {
+        self.enter(alloc, cpu, steps, regs)?;
+        self.leave(alloc, cpu, out)
+    }
+
+    /// Plays an item, and prints what it prints.
+    pub fn play_item<K: Sink>(
+        &mut self,
+        alloc: Global,
+        item: &Item,
+        out: &mut K,
+    ) -> Result<(), Stop>
+        requires { CanBeTaken self.old.machine item.now }
+        ensures follows { (boot : Booted) (play : Play) → IsPlayedTo boot play self.old
+            → Follows boot play (after_item boot item.now play) result self.new (K.held out.old) (K.held out.new) }
+        ensures failed { result ≡ Err Stop.Failed → Rose (K.faults out.old) (K.faults out.new) }
+        ensures count { K.faults out.old ≤ K.faults out.new }
+    {
+        match item {
+            Item::Smc { cpu, steps, regs } => self.call(alloc, *cpu, *steps, regs, out),
+            Item::Enter { cpu, steps, regs } => self.enter(alloc, *cpu, *steps, regs),
+            Item::Leave { cpu } => self.leave(alloc, *cpu, out),
+            Item::Write { cpu, addr, bytes } => {
+                self.machine.write(*cpu, *addr, bytes.as_slice());
+                Ok(())
+            }
+            Item::Show { cpu, addr, len } => self.show(alloc, *cpu, *addr, *len, out),
+        }
+    }
+}
