@@ -85,7 +85,8 @@ fn first_player(
     requires boot { IsBoot boot }
     requires fills { All IsSoundFill fills.now }
     ensures stands { IfOk result (λ player.
-        IsPlayedTo (booted boot (entries natives.now)) (first_play (zeros 0x400000) (booted boot (entries natives.now)) fills.now) player) }
+        IsPlayedTo (booted boot (entries natives.now))
+        (first_play (zeros 0x400000) (booted boot (entries natives.now)) fills.now) player) }
     ensures boots { IfOk result (λ player. IsBooted (booted boot (entries natives.now))) }
 {
     let lanes = first_lanes(alloc, boot.cpus, fills)?;

@@ -168,7 +168,8 @@ impl Player {
         requires lane { HasLane self.now.machine cpu }
         requires part { IsPartOfRam addr len }
         ensures shows { (boot : Booted) (play : Play) → IsPlayedTo boot play self.now
-            → Follows boot play (after_item boot (item.Show cpu addr len) play) result self.now (K.held out.old) (K.held out.new) }
+            → Follows boot play (after_item boot (item.Show cpu addr len) play) result self.now
+            (K.held out.old) (K.held out.new) }
         ensures failed { result ≡ Err Stop.Failed → Rose (K.faults out.old) (K.faults out.new) }
         ensures count { K.faults out.old ≤ K.faults out.new }
     {
@@ -187,7 +188,8 @@ impl Player {
     ) -> Result<(), Stop>
         requires { CanComeIn self.old.machine cpu steps regs.now }
         ensures calls { (boot : Booted) (play : Play) → IsPlayedTo boot play self.old
-            → Follows boot play (after_item boot (item.Smc cpu steps regs.now) play) result self.new (K.held out.old) (K.held out.new) }
+            → Follows boot play (after_item boot (item.Smc cpu steps regs.now) play) result self.new
+            (K.held out.old) (K.held out.new) }
         ensures failed { result ≡ Err Stop.Failed → Rose (K.faults out.old) (K.faults out.new) }
         ensures count { K.faults out.old ≤ K.faults out.new }
     {

@@ -45,7 +45,8 @@ fn status_after(named: Status, put: Put) -> Status
 /// Writes a line, and answers the status that it stands for.
 fn answer_line<K: Sink>(out: &mut K, named: Status, line: &[u8]) -> Status
     ensures line { Writes named line.now result (K.held out.old) (K.held out.new) }
-    ensures write_fault { result ≡ Status.WriteFault → (named ≡ Status.WriteFault) ⊎ Rose (K.faults out.old) (K.faults out.new) }
+    ensures write_fault { result ≡ Status.WriteFault →
+        (named ≡ Status.WriteFault) ⊎ Rose (K.faults out.old) (K.faults out.new) }
     ensures count { K.faults out.old ≤ K.faults out.new }
 {
     status_after(named, put_text(out, line))
@@ -133,9 +134,9 @@ fn run_trace<S: Source, K: Sink>(
 /// Does what the words ask for: `run` reads a trace from the input and plays it on one core, beside the applications
 /// that are built in, and any other words are answered with the usage line.
 ///
-/// The words are tested first, then the input is read to its end, then its length, its grammar and the number of its SMC
-/// items are tested, then it is played; the first answer met ends the call. Lines are written as they come. Want of
-/// memory may come at any time.
+/// The words are tested first, then the input is read to its end, then its length, its grammar and the number of its
+/// SMC items are tested, then it is played; the first answer met ends the call. Lines are written as they come. Want
+/// of memory may come at any time.
 pub fn run<S: Source, K: Sink>(
     alloc: Global,
     words: &[String],
