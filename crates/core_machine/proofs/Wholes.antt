@@ -1,5 +1,6 @@
 -- The works of a machine, behind an entry and an exit of its core.
-use Rattle.std.proofs.Common.{◌≡◌, ℕ, zero, suc, ◌<◌, get_or, Bool, true, false, List, [], ◌∷◌, length, Option, Some}
+use Rattle.std.proofs.Common.{◌≡◌, ◌↔◌, ℕ, zero, suc, ◌<◌, get_or, Bool, true, false, List, [], ◌∷◌, length, Option}
+use Rattle.std.proofs.Common.{Some}
 use Rattle.std.proofs.Common.{None, refl, ap, sym, subst, ◌∙◌, ⊎_elim}
 use Rattle.std.proofs.Math.Logic.{∥∥₁_elim, ∥∥₁_map, ∥∥₁_prop}
 use Rattle.std.proofs.Props.{props}
@@ -8,8 +9,9 @@ use Rattle.std.proofs.lemmas.List.{length-map, length-replicate, length-set, map
 use Rattle.std.proofs.lemmas.Option.{get_or_from_slice_get, slice_get-map, slice_get_read, slice_get_within}
 use Rattle.std.specs.Prelude.{IsSomeAnd, map, not, replicate, slice_get, slice_set}
 use Rattle.std.specs.Option.{is_some, option_map}
-use Rattle.core_machine.specs.Turns.{insides}
+use Rattle.core_machine.specs.Turns.{ComeInTurn, insides}
 use Rattle.core_machine.specs.Whole.{IsWhole}
+use Rattle.core_machine.specs.declared.smc.Smc.{Smc}
 use Rattle.core_machine.proofs.TurnsTaken.{insides_entered, insides_left}
 use Rattle.kernel_model.specs.Application.{Booted}
 use Rattle.kernel_model.specs.History.{is_outside, kernel_after}
@@ -28,7 +30,7 @@ use Rattle.kernel_state.proofs.Others.{works_stay}
 use Rattle.play_model.specs.Play.{Play, lane_of}
 use Rattle.smc_abi.specs.declared.regs.Regs.{Regs}
 
-abbrev Works : Type 0
+abbrev pub Works : Type 0
 Works = List (Option Work)
 
 -- which processors are inside, by the works
@@ -310,3 +312,36 @@ whole_without_work old new ran lane now told lanes works place slot whole has sa
     subst (λ (one : Option Work). IsWhole new (slice_set lanes place now) (slice_set works place one)) (sym is)
     (subst (λ (n : ℕ). IsWhole new (slice_set lanes n now) (slice_set works n None)) (sym same)
     (whole_left old new ran lane now told lanes works so has)))
+
+-- ---- what the works tell of who is inside
+
+pub stands_iff : (core : Core) (lanes : List (List ℕ)) (works : Works) → ∥ IsWhole core lanes works ∥₁ →
+    (place cpu : ℕ) (is : Bool) →
+    place ≡ cpu → IsSomeAnd (kernel_of core) (λ kernel. slice_get (insides kernel) cpu ≡ Some is) ↔
+    (option_map is_some (slice_get works place) ≡ Some is)
+stands_iff core lanes works whole place cpu is same =
+    let kernel = some_kernel core in
+    let told : slice_get (insides kernel.0) cpu ≡ option_map is_some (slice_get works place) =
+    ∥∥₁_elim whole (Prim.hlevel props) (λ (so : IsWhole core lanes works).
+    ap (λ (all : List Bool). slice_get all cpu) (insides_of core lanes works kernel.0 so kernel.1)
+    ∙ ap (slice_get (map is_some works)) (sym same) ∙ slice_get-map is_some works place) in (
+      λ has. sym told ∙ subst (λ (o : Option Kernel). IsSomeAnd o (λ k. slice_get (insides k) cpu ≡ Some is)) kernel.1
+          has,
+      λ e. subst (λ (o : Option Kernel). IsSomeAnd o (λ k. slice_get (insides k) cpu ≡ Some is)) (sym kernel.1) (told
+          ∙ e),
+    )
+
+-- who can come, by the works
+pub come_iff : (core : Core) (lanes : List (List ℕ)) (works : Works) → ∥ IsWhole core lanes works ∥₁ →
+    (smcs : List Smc) →
+    IsSomeAnd (kernel_of core) (λ kernel. ComeInTurn (insides kernel) smcs) ↔ ComeInTurn (map is_some works) smcs
+come_iff core lanes works whole smcs =
+    let kernel = some_kernel core in
+    let told : insides kernel.0 ≡ map is_some works =
+    ∥∥₁_elim whole (Prim.hlevel props) (λ (so : IsWhole core lanes works).
+    insides_of core lanes works kernel.0 so kernel.1) in (
+      λ has. subst (λ (inside : List Bool). ComeInTurn inside smcs) told
+          (subst (λ (o : Option Kernel). IsSomeAnd o (λ k. ComeInTurn (insides k) smcs)) kernel.1 has),
+      λ come. subst (λ (o : Option Kernel). IsSomeAnd o (λ k. ComeInTurn (insides k) smcs)) (sym kernel.1)
+          (subst (λ (inside : List Bool). ComeInTurn inside smcs) (sym told) come),
+    )

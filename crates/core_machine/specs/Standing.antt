@@ -1,5 +1,5 @@
 -- Where a machine stands in a play.
-use Rattle.std.specs.Prelude.{◌≡◌, ℕ, List, [], Some, None, IsSomeAnd}
+use Rattle.std.specs.Prelude.{◌≡◌, ℕ, Bool, List, [], Some, None, IsSomeAnd, slice_get}
 use Rattle.core_machine.specs.Turns.{ComeInTurn, MayCome, insides}
 use Rattle.core_machine.specs.declared.machine.Machine.{Machine}
 use Rattle.core_machine.specs.declared.smc.Smc.{Smc}
@@ -41,3 +41,8 @@ CanCome machine smc = IsSomeAnd (kernel_of machine.core) (λ kernel. MayCome (in
 -- a list can come, each behind those before it
 abbrev pub CanAllCome : Machine → List Smc → Type 0
 CanAllCome machine smcs = IsSomeAnd (kernel_of machine.core) (λ kernel. ComeInTurn (insides kernel) smcs)
+
+-- a processor of this number is there, and is inside, or outside
+abbrev pub StandsAs : Machine → ℕ → Bool → Type 0
+StandsAs machine cpu inside = IsSomeAnd (kernel_of machine.core)
+    (λ kernel. slice_get (insides kernel) cpu ≡ Some inside)

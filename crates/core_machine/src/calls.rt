@@ -1,7 +1,7 @@
 //! What is done with a machine: its processors come in and go out, and RAM is written and shown.
-ghost use Rattle.std.specs.Prelude.{◌≡◌, ◌<◌, [], ◌∷◌, None, Some, IfOk, length, replicate};
+ghost use Rattle.std.specs.Prelude.{◌≡◌, ◌<◌, [], ◌∷◌, ◌↔◌, None, Some, IfOk, IsTrue, length, replicate};
 ghost use Rattle.core_machine.specs.Moving.{EntersAt, LeavesAt};
-ghost use Rattle.core_machine.specs.Standing.{CanCome, IsAt, begun};
+ghost use Rattle.core_machine.specs.Standing.{CanCome, IsAt, StandsAs, begun};
 ghost use Rattle.core_machine.specs.declared.smc.Smc.TheVariants as smc;
 ghost use Rattle.kernel_model.specs.Application.{Booted};
 ghost use Rattle.kernel_state.specs.Meaning.{booted_of, events_of, is_inside};
@@ -9,6 +9,7 @@ ghost use Rattle.ns_ram.specs.Lane.{IsInRam, bytes_at};
 ghost use Rattle.play_model.specs.Play.{Play, lane_of, with_writes};
 
 use crate::machine::Machine;
+use crate::smc::Smc;
 use base::NoMemory;
 use kernel_entry::{Visitor, enter};
 use kernel_exit::leave;
@@ -16,6 +17,9 @@ use kernel_state::{Core, EnterRefusal, Work};
 use ns_ram::Lane;
 use smc_abi::Regs;
 use std::alloc::Global;
+
+/// The most steps that an entry grants.
+pub(crate) const MOST_STEPS: u32 = 1_000_000;
 
 /// So many processors without work.
 fn no_works(alloc: Global, cpus: usize) -> Result<Vec<Option<Work>>, NoMemory>
@@ -104,5 +108,27 @@ impl Machine {
         ensures { result ≡ (booted_of self.now.core).cpus }
     {
         self.core.parts.setup.cpus
+    }
+
+    /// Whether an entry or an exit can come.
+    pub fn can_come(&self, smc: Smc) -> bool
+        ensures { IsTrue result ↔ CanCome self.now smc }
+    {
+        match smc {
+            Smc::Comes(visitor) => {
+                self.stands_as(visitor.cpu, false) && (1..=MOST_STEPS).contains(&visitor.steps)
+            }
+            Smc::Leaves(cpu) => self.stands_as(cpu, true),
+        }
+    }
+
+    /// Whether there is a processor of this number that is inside, or one that is outside.
+    fn stands_as(&self, cpu: u8, inside: bool) -> bool
+        ensures { IsTrue result ↔ StandsAs self.now cpu inside }
+    {
+        match self.works.get(usize::from(cpu)) {
+            Some(work) => work.is_some() == inside,
+            None => false,
+        }
     }
 }

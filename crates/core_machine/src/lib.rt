@@ -10,6 +10,7 @@ mod laws;
 mod machine;
 mod serving;
 mod smc;
+mod turns;
 
 pub use laws::{machines_stand, turns_are_taken};
 pub use machine::Machine;
