@@ -103,3 +103,19 @@ fn the_uuid_of_a_built_in_application_is_repeated(rt: HostRuntime) -> Result<(),
     assert_eq!(rt; refused.err(), Some(BootFault::Repeated(uuid_of(3))));
     Ok(())
 }
+
+#[test]
+fn a_core_boots_with_sixteen_built_in_applications(rt: HostRuntime) -> Result<(), Fail> {
+    let mut natives = Natives::new(rt.alloc());
+    for number in 0..16 {
+        let native = Native {
+            uuid: uuid_of(number),
+            relation: Relation::Fixed(5),
+            call: five,
+        };
+        assert_eq!(rt; natives.add(native), Ok(()));
+    }
+    let core = Core::boot(rt.alloc(), least(rt.alloc()), &natives);
+    assert!(rt; core.is_ok());
+    Ok(())
+}
