@@ -1,9 +1,8 @@
-ghost use Rattle.std.specs.Prelude.{◌≡◌, ◌↔◌, [], ◌∷◌, ◌++◌, IsNone, OnOk};
+ghost use Rattle.std.specs.Prelude.{◌≡◌, ◌↔◌, [], ◌∷◌, ◌++◌, IfOk, IsNone, OnOk, take};
 
 use native_tas::Natives;
 use ports::{MemSink, MemSource};
 use std::alloc::{AllocError, Global};
-use std::mem;
 use trace_runner::run;
 
 /// Which bytes of a case are being read.
@@ -28,13 +27,17 @@ pub struct Case {
     input: Vec<u8>,
     output: Vec<u8>,
     part: Part,
+    /// It runs once with each number of bytes of the input from the first cut to the last, or with all where there are
+    /// fewer.
+    first_cut: u32,
+    last_cut: u32,
     /// The calls of the source and of the sink that fail, counted from 0.
     failing_takes: Vec<u32>,
     failing_puts: Vec<u32>,
 }
 
 impl Case {
-    /// A case of this name, with no words, no bytes and no call that fails.
+    /// A case of this name, with no words, no bytes, no cut and no call that fails.
     pub fn new(alloc: Global, name: &str) -> Result<Case, AllocError> {
         Ok(Case {
             name: String::from_str(alloc, name)?,
@@ -42,9 +45,24 @@ impl Case {
             input: Vec::new(alloc),
             output: Vec::new(alloc),
             part: Part::Input,
+            first_cut: u32::MAX,
+            last_cut: u32::MAX,
             failing_takes: Vec::new(alloc),
             failing_puts: Vec::new(alloc),
         })
+    }
+
+    /// The same words and input under another name, with no output, no cut and no call that fails.
+    pub fn begin_again(&mut self, alloc: Global, name: &str) -> Result<(), AllocError>
+        ensures { OnOk result ((self.new.words ≡ self.old.words) × (self.new.input ≡ self.old.input)) }
+    {
+        self.name = String::from_str(alloc, name)?;
+        self.output = Vec::new(alloc);
+        self.first_cut = u32::MAX;
+        self.last_cut = u32::MAX;
+        self.failing_takes = Vec::new(alloc);
+        self.failing_puts = Vec::new(alloc);
+        Ok(())
     }
 
     /// Adds the words of a line to the command line.
@@ -82,6 +100,15 @@ impl Case {
         }
     }
 
+    /// So many lines of this text.
+    pub fn push_lines(&mut self, count: u32, text: &str) -> Result<(), AllocError> {
+        for _ in 0..count {
+            self.push_bytes(text.as_bytes())?;
+            self.push_bytes(b"\n")?;
+        }
+        Ok(())
+    }
+
     /// A comment line of so many bytes, its line feed included.
     pub fn push_comment(&mut self, length: u32) -> Result<(), AllocError> {
         for _ in 1..length {
@@ -106,30 +133,61 @@ impl Case {
         Ok(())
     }
 
-    /// Runs the case beside these built-in applications, and says what came of it. The case's bytes and failing calls are
-    /// used up.
+    /// It runs once with each number of bytes of its input from the first to the last.
+    pub fn cut(&mut self, first: u32, last: u32)
+        ensures { (self.new.first_cut ≡ first) × (self.new.last_cut ≡ last) }
+    {
+        self.first_cut = first;
+        self.last_cut = last;
+    }
+
+    /// The input up to a cut.
+    fn input_to(&self, alloc: Global, cut: u32) -> Result<Vec<u8>, AllocError>
+        ensures { IfOk result (λ bytes. bytes.items ≡ take cut self.now.input.items) }
+    {
+        let count = (cut as usize).min(self.input.len());
+        let mut bytes = Vec::with_capacity(alloc, count)?;
+        bytes.extend_from_slice(&self.input.as_slice()[..count])?;
+        Ok(bytes)
+    }
+
+    /// Runs the case at each of its cuts, beside these built-in applications, and says what came of it.
     pub fn verdict(
-        &mut self,
+        &self,
         alloc: Global,
         natives: &Natives,
         wanted: u32,
     ) -> Result<String, AllocError> {
-        let input = mem::replace(&mut self.input, Vec::new(alloc));
-        let takes = mem::replace(&mut self.failing_takes, Vec::new(alloc));
-        let puts = mem::replace(&mut self.failing_puts, Vec::new(alloc));
-        let mut source = MemSource::new(input, takes);
-        let mut sink = MemSink::new(alloc, puts);
+        for cut in self.first_cut..=self.last_cut.max(self.first_cut) {
+            if let Some(told) = self.fault_at(alloc, natives, cut, wanted)? {
+                return Ok(told);
+            }
+        }
+        let name = self.name.as_str();
+        format!(in alloc; "{name} ok")
+    }
+
+    /// Runs the case at a cut, and says what differs from the case, if anything does.
+    fn fault_at(
+        &self,
+        alloc: Global,
+        natives: &Natives,
+        cut: u32,
+        wanted: u32,
+    ) -> Result<Option<String>, AllocError> {
+        let mut source = MemSource::new(self.input_to(alloc, cut)?, self.failing_takes.clone()?);
+        let mut sink = MemSink::new(alloc, self.failing_puts.clone()?);
         let words = self.words.as_slice();
         let status = run(alloc, words, &mut source, &mut sink, natives).number();
         let name = self.name.as_str();
         match self.difference(u32::from(status), wanted, sink.bytes()) {
-            None => format!(in alloc; "{name} ok"),
-            Some(Difference::Status) => format!(in alloc;
-                "{name} ended with {status}, and not with {wanted}"
-            ),
+            None => Ok(None),
+            Some(Difference::Status) => Ok(Some(format!(in alloc;
+                "{name} at cut {cut} ended with {status}, and not with {wanted}"
+            )?)),
             Some(Difference::Output) => {
                 let text = String::from_utf8_lossy(alloc, sink.bytes())?;
-                format!(in alloc; "{name} wrote {text}")
+                Ok(Some(format!(in alloc; "{name} at cut {cut} wrote {text}")?))
             }
         }
     }

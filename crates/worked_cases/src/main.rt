@@ -3,8 +3,10 @@
 //!
 //! A case is lines: `case NAME`, `words W..`, the bytes of the input after a line `input` and those of the
 //! output after a line `output`, and last `status N`, at which it runs. Bytes are given by lines `|TEXT` (the
-//! text and a line feed), `=TEXT` (the text alone) and `comment N` (a comment line of N bytes). `take N` and
-//! `put N` make call N of the source or the sink fail, counted from 0.
+//! text and a line feed), `=TEXT` (the text alone), `lines N TEXT` (N lines of the text) and `comment N` (a
+//! comment line of N bytes). `take N` and `put N` make call N of the source or the sink fail, counted from 0.
+//! `again NAME` begins a case with the words and the input of the one before, and `cut FIRST LAST` makes a case
+//! run once with each number of bytes of its input from the first to the last.
 #![tactic(auto)]
 
 mod case;
@@ -41,16 +43,30 @@ fn take_line(
     let (word, rest) = line.split_once(' ').unwrap_or((line, ""));
     match word {
         "case" => *case = Case::new(alloc, rest)?,
+        "again" => case.begin_again(alloc, rest)?,
         "words" => case.push_words(alloc, rest)?,
         "input" => case.begin_input(),
         "output" => case.begin_output(),
         "comment" => case.push_comment(number(rest)?)?,
+        "lines" => {
+            let (count, text) = halves(rest)?;
+            case.push_lines(number(count)?, text)?;
+        }
+        "cut" => {
+            let (first, last) = halves(rest)?;
+            case.cut(number(first)?, number(last)?);
+        }
         "take" => case.fail_take(number(rest)?)?,
         "put" => case.fail_put(number(rest)?)?,
         "status" => println!(rt; "{}", case.verdict(alloc, natives, number(rest)?)?)?,
         _ => bail!("no line of a case: {line}"),
     }
     Ok(())
+}
+
+/// What stands before the first space, and what stands behind it.
+fn halves(text: &str) -> Result<(&str, &str)> {
+    text.split_once(' ').context("reading two words")
 }
 
 fn number(text: &str) -> Result<u32> {
@@ -60,12 +76,12 @@ fn number(text: &str) -> Result<u32> {
 fn main(rt: HostRuntime) -> Result<()> {
     let alloc = rt.alloc();
     let mut natives = Natives::new(alloc);
-    let digest = Native {
+    let built_in = natives.add(Native {
         uuid: Uuid::from_bytes(DIGEST_UUID),
         relation: Relation::Digest,
         call: digest,
-    };
-    if natives.add(digest).is_err() {
+    });
+    if built_in.is_err() {
         bail!("no memory for the application that is built in");
     }
     let mut case = Case::new(alloc, "")?;
