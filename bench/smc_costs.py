@@ -1,0 +1,103 @@
+#!/usr/bin/env python3
+"""Counts the host's instructions for an entry and an exit of the core.
+
+Plays traces that do the same N and 2N times, as cases of `worked_cases`, under callgrind, and prints what `enter` and `leave` take for
+each further time, with all that these call; where the compiler has dissolved one into its caller, it counts none. Blocks are moved and
+cleared by vectors here: by `rep` instructions, which is the C library's way with long ones, callgrind counts each byte. Build the program
+first, by `rt run` in crates/worked_cases.
+Usage: bench/smc_costs.py [N..]
+"""
+
+import os
+import pathlib
+import struct
+import sys
+
+from callgrind import costs
+
+PROGRAM = pathlib.Path(__file__).resolve().parent.parent / "crates/worked_cases/out/worked_cases"
+TIMES = [1_000, 32_000]
+BY_VECTORS = "glibc.cpu.x86_rep_stosb_threshold=100000000:glibc.cpu.x86_rep_movsb_threshold=100000000"
+
+UUID = "11111111-2222-3333-4444-555555555555"
+OPEN, INVOKE = 0, 1
+VALUE_INOUT, MEMREF_OUT, META = 3, 10, 0x101
+
+CALL = "smc 0 1000 32000004 0 40000000 0 0 0 0 0"
+BRIEF_CALL = "smc 0 1 32000004 0 40000000 0 0 0 0 0"
+BRIEF_RESUME = "smc 0 1 32000003 0 0 0 0 0 0 0"
+OPENS, CLOSES = "write 0 40000000 00000000", "write 0 40000000 02000000"
+
+# op, d, a, b, imm. At each image's instruction 0 its entry points begin, but for the invoke's at 1
+RETURN = (0x18, 0, 0, 0, 0)
+RETURNS = [RETURN, RETURN]
+JUMPS = [RETURN, (0x15, 0, 0, 0, 1)]  # jump 1
+ADDS = [
+    RETURN,
+    (0x01, 0, 0, 0, 0),  # const r0 0
+    (0x18, 0, 0, 0, 3),  # value
+    (0x03, 1, 0, 1, 0),  # add r1 r0 r1
+    (0x01, 0, 0, 0, 0),  # const r0 0
+    (0x18, 0, 0, 0, 4),  # set value
+    RETURN,
+]
+
+
+def image(code):
+    """An image of one page."""
+    header = b"OTTA" + struct.pack("<8I", 0, 1, len(code), 0, 0, 1, 0, 0)
+    return (header + b"".join(struct.pack("<4BI", *instruction) for instruction in code)).hex()
+
+
+def argument(command, *params):
+    """A message argument of a command on session 1."""
+    header = struct.pack("<8I", command, 0, 1, 0, 0, 0, 0, len(params))
+    return (header + b"".join(params)).hex()
+
+
+def param(attribute, a, b):
+    return struct.pack("<4Q", attribute, a, b, 0)
+
+
+def invoking(*params):
+    return f"write 0 40000000 {argument(INVOKE, *params)}"
+
+
+CLIENT = param(META, *struct.unpack("<2Q", bytes.fromhex(UUID.replace("-", ""))))
+VALUES = invoking(param(VALUE_INOUT, 5, 7))
+MEMREFS = invoking(param(MEMREF_OUT, 0x40001000, 4096), param(MEMREF_OUT, 0x40002000, 4096))
+
+# an image, what comes once behind an open, and what comes again and again
+LOOPS = {
+    "a fast call": (RETURNS, [], ["smc 0 1 bf00ff01 0 0 0 0 0 0 0"]),
+    "an open with its close": (RETURNS, [CLOSES, CALL], [OPENS, CALL, CLOSES, CALL]),
+    "an invoke with values (ADD)": (ADDS, [VALUES], [CALL]),
+    "an invoke with two memrefs of 4,096 bytes": (RETURNS, [MEMREFS], [CALL]),
+    "a suspend with its resume": (JUMPS, [invoking(), BRIEF_CALL], [BRIEF_RESUME]),
+}
+
+
+def case(code, once, again, times):
+    """The case of a trace. It names a wrong status, so that one line is printed."""
+    head = ["boot 1 1 2", f"ta {UUID} {image(code)}", f"mem 40000000 {argument(OPEN, CLIENT, param(META, 0, 0))}", CALL]
+    lines = ["case loop", "words run", "input", *("|" + line for line in head + once + again * times), "output", "status 1"]
+    return "".join(line + "\n" for line in lines).encode()
+
+
+def taken(loop, times):
+    """How many instructions `enter` and `leave` take in a whole trace."""
+    _, found, printed = costs(PROGRAM, given=case(*loop, times))
+    assert printed == b"loop ended with 0, and not with 1\n", printed
+    return [sum(cost for name, cost in found.items() if name.endswith(end)) for end in ("entering::enter", "Machine::leave")]
+
+
+def main():
+    os.environ["GLIBC_TUNABLES"] = BY_VECTORS
+    for times in [int(word) for word in sys.argv[1:]] or TIMES:
+        for name, loop in LOOPS.items():
+            enter, leave = [(twice - once) / times for once, twice in zip(taken(loop, times), taken(loop, 2 * times))]
+            print(f"{times:,} times, {name}: enter {enter:.0f}, leave {leave:.0f}, together {enter + leave:.0f}", flush=True)
+
+
+if __name__ == "__main__":
+    main()
