@@ -1,11 +1,12 @@
 #!/usr/bin/env python3
 """Counts the instructions that a further call of a whole trace costs, with reading, serving and printing told apart.
 
-Makes the trace of seed 7 that docs/formats.md defines, with N and with 2N calls, writes it as text, and runs
-`optee_run` on it under callgrind: a further call costs the difference of both runs by N. What of it is reading, serving
-and printing is read off the functions that do it, with all that these call; where the compiler has dissolved one into its
-caller, it counts none. Then it prints the most memory that the program takes for the longer one, beside the bytes of the
-text and of the lanes. Build the program first, by `rt run` in crates/optee_run.
+Makes the trace of seed 7 that docs/formats.md defines, with N and with 2N calls, as text, and plays it as a case of
+`worked_cases` under callgrind: a further call costs the difference of both by N. Serving is an entry and an exit of the
+core, printing is what the exit of a trace needs besides, and reading is the rest; taking bytes from the source isn't in
+it. Blocks are moved and cleared by vectors here: by `rep` instructions, which is the C library's way with long ones,
+callgrind counts each byte. Then it prints the most memory that the program takes for the longer trace, beside the bytes
+of the text and of the lanes. Build the program first, by `rt run` in crates/worked_cases.
 Usage: bench/playing.py [N..]
 """
 
@@ -18,7 +19,7 @@ import tempfile
 
 from callgrind import costs
 
-PROGRAM = pathlib.Path(__file__).resolve().parent.parent / "crates/optee_run/out/optee_run"
+PROGRAM = pathlib.Path(__file__).resolve().parent.parent / "crates/worked_cases/out/worked_cases"
 SEED = 7
 UUID = "11111111-2222-3333-4444-555555555555"
 CODE = [
@@ -33,12 +34,7 @@ CODE = [
 ADD = b"OTTA" + struct.pack("<8I", 0, 1, len(CODE), 0, 0, 1, 0, 0)
 ADD += b"".join(struct.pack("<4BI", *line) for line in CODE)
 LANE = 1 << 22
-# What does each part, by the end of its name.
-PARTS = {
-    "reading": ["read_input", "read_trace"],
-    "serving": ["Machine::enter", "Machine::leave"],
-    "printing": ["ret_line", "put_text"],
-}
+BY_VECTORS = "glibc.cpu.x86_rep_stosb_threshold=100000000:glibc.cpu.x86_rep_movsb_threshold=100000000"
 
 
 def head(cmd, session, count):
@@ -74,39 +70,46 @@ def trace(count):
     for _ in range(count):
         x = (x * 6364136223846793005 + 1442695040888963407) % (1 << 64)
         lines.append(items(x))
-    return "".join(lines).encode()
+    return "".join(lines)
 
 
-def part(functions, ends):
-    """What the functions with these names need together."""
-    return sum(cost for name, cost in functions.items() if name.endswith(tuple(ends)))
+def case(count):
+    """The case of such a trace. It names a wrong status, so that one line is printed."""
+    text = ["|" + line for line in trace(count).splitlines()]
+    lines = ["case made", "words run", "input", *text, "output", "status 1"]
+    return "".join(line + "\n" for line in lines).encode()
 
 
 def measured(count):
-    """What the program needs for so many calls: in all, and in each part."""
-    total, functions, printed = costs(PROGRAM, "run", given=trace(count))
-    assert printed.count(b"\n") == count, "a line for each call"
-    return {"in all": total, **{name: part(functions, ends) for name, ends in PARTS.items()}}
+    """What the program needs for so many calls: in all, and for each part of it."""
+    _, functions, printed = costs(PROGRAM, given=case(count))
+    assert printed == b"made at cut 4294967295 ended with 0, and not with 1\n", printed
+    named = lambda part: sum(cost for name, cost in functions.items() if name.split("::<")[0].endswith(part))
+    all_of_it, going_out = named("top_call::answer"), named("Player::leave")
+    serving = named("entering::enter") + named("Machine::leave")
+    printing = going_out - named("Machine::leave")
+    return {"in all": all_of_it, "reading": all_of_it - serving - printing, "serving": serving, "printing": printing}
 
 
 def most_memory(count):
     """The most bytes that the program takes for so many calls."""
     with tempfile.TemporaryFile() as given:
-        given.write(trace(count))
+        given.write(case(count))
         given.seek(0)
-        run = subprocess.Popen([PROGRAM, "run"], stdin=given, stdout=subprocess.DEVNULL)
+        run = subprocess.Popen([PROGRAM], stdin=given, stdout=subprocess.DEVNULL)
         _, status, usage = os.wait4(run.pid, 0)
         assert status == 0
         return usage.ru_maxrss << 10
 
 
 def main():
+    os.environ["GLIBC_TUNABLES"] = BY_VECTORS
     for count in [int(word) for word in sys.argv[1:]] or [1000, 8000]:
         once, twice = measured(count), measured(2 * count)
         further = ", ".join(f"{name} {(twice[name] - once[name]) / count:.0f}" for name in once)
-        print(f"{count} calls more behind {count}: instructions of each: {further}")
-        least = (len(trace(2 * count)) + 4 * LANE) >> 20
-        print(f"{2 * count} calls: at most {most_memory(2 * count) >> 20} MiB, {least} of them text and lanes")
+        print(f"{count} calls more behind {count}, for each: {further}", flush=True)
+        text, most = len(trace(2 * count)), most_memory(2 * count)
+        print(f"{2 * count} calls: at most {most} bytes, for a text of {text} and lanes of {4 * LANE}", flush=True)
 
 
 if __name__ == "__main__":
