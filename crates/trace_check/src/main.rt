@@ -3,7 +3,7 @@
 //!
 //! With the word `rows` it reads a table of traces, and prints for each row the whole trace, or its first fault. A row is
 //!
-//! - a text with `|` for its line feeds; `plain` is printed in front of a plain script;
+//! - a text with `|` for its line feeds;
 //! - `hex` and the bytes of a binary trace, as hexadecimal digits with blanks anywhere;
 //! - `binary` and a text: the bytes that are written of its trace, where reading them gives that trace again;
 //! - `fronts` and a text: of each shorter front of these bytes what it is, and how many in a row are the same;
@@ -20,7 +20,7 @@ use std::env;
 use std::io::{BufRead, BufReader, Read};
 use std::rt::Env;
 use trace_bin::{read_binary, write_binary};
-use trace_text::{Trace, TraceFault, read_plain, read_trace};
+use trace_text::{Trace, TraceFault, read_trace};
 use uuid::Uuid;
 
 /// The bytes that a text may have here.
@@ -68,12 +68,7 @@ fn text_verdict(alloc: Global, natives: &[Uuid], text: &[u8]) -> Result<String> 
     if text.len() > MOST_BYTES {
         bail!("the text is too long");
     }
-    let told = told(alloc, read_trace(alloc, text, natives))?;
-    match read_plain(alloc, text) {
-        Ok(_) => Ok(format!(in alloc; "plain {told}")?),
-        Err(TraceFault::Memory) => bail!("out of memory"),
-        Err(_) => Ok(told),
-    }
+    told(alloc, read_trace(alloc, text, natives))
 }
 
 /// The line that tells what the bytes of a row are.
@@ -130,12 +125,7 @@ fn binary_verdict(alloc: Global, natives: &[Uuid], text: &str) -> Result<String>
     let bytes = written(alloc, text)?;
     let read = bytes_verdict(alloc, natives, bytes.as_slice())?;
     let given = text_verdict(alloc, natives, text.as_bytes())?;
-    if given
-        .as_str()
-        .strip_prefix("plain ")
-        .unwrap_or(given.as_str())
-        != read.as_str()
-    {
+    if given.as_str() != read.as_str() {
         bail!("another trace: {read}");
     }
     Ok(hex::encode(alloc, bytes.as_slice())?)

@@ -6,8 +6,3 @@ pub mod Pieces
 pub mod SoundWords
 pub mod SoundLaws
 pub mod GrammarLaws
-pub mod EndedLines
-pub mod Splitting
-pub mod Loop
-pub mod LineLaws
-pub mod ScriptLaws

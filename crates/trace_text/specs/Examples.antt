@@ -1,47 +1,78 @@
--- What the definitions say of a few small inputs.
-use Rattle.std.specs.Prelude.{◌≡◌, ℕ, List, [], ◌∷◌, ◌++◌, Some, codes}
+-- What the rules of lines and the limits of traces say of a few small inputs.
+use Rattle.std.specs.Prelude.{◌≡◌, ℕ, List, [], ◌∷◌, ◌++◌, true, false, Some, codes}
+use Rattle.std.specs.List.{flat_map}
+use Rattle.trace_text.specs.declared.fault.BadKind.TheVariants as bad
+use Rattle.trace_text.specs.declared.fault.TraceFault.TheVariants.{Bad}
+use Rattle.trace_text.specs.declared.item.Item.TheVariants.{Enter, Leave}
 use Rattle.trace_text.specs.declared.item.Reg.{Reg}
-use Rattle.trace_text.specs.declared.item.Reg.TheVariants.{Num}
-use Rattle.trace_text.specs.declared.item.Item.TheVariants.{Smc}
+use Rattle.trace_text.specs.declared.item.Reg.TheVariants.{Num, Last}
 use Rattle.trace_text.specs.declared.trace.Trace.{Trace}
-use Rattle.trace_text.specs.declared.fault.BadKind.TheVariants.{NotYet}
-use Rattle.trace_text.specs.Fault.{kind_word}
-use Rattle.trace_text.specs.Word.{IsDecimal, IsDecimalWithin, IsHexadecimal}
-use Rattle.trace_text.specs.Item.{IsFastCall}
-use Rattle.trace_text.specs.Line.{line_of}
-use Rattle.trace_text.specs.Limits.{empty_trace}
-use Rattle.trace_text.specs.Script.{Spells, IsPlain}
+use Rattle.trace_text.specs.Fault.{fault_text}
+use Rattle.trace_text.specs.Forms.{is_decimal, decimal, is_hexadecimal, hexadecimal, is_register, register, is_uuid, uuid, is_hex, bytes}
+use Rattle.trace_text.specs.Grammar.{Spells, IsFirstFault}
+use Rattle.trace_text.specs.Limits.{empty_trace, inside_after, lies_in_ram, outside}
+use Rattle.text_lines.specs.Lines.{is_skipped}
+use Rattle.trace_text.specs.Sound.{can_come, IsPartOfRam, IsSound, IsSoundBoot, IsSoundItem, IsSoundReg}
 
--- the registers of a call with only the first of them set
-abbrev pub only_first : ℕ → List Reg
-only_first n = Num n ∷ Num 0 ∷ Num 0 ∷ Num 0 ∷ Num 0 ∷ Num 0 ∷ Num 0 ∷ Num 0 ∷ []
+-- the text of these lines, each with its line feed
+abbrev pub text_of : List (List ℕ) → List ℕ
+text_of lines = flat_map (λ line. line ++ 10 ∷ []) lines
 
--- `boot 1 1 1` and `smc 0 1 bf00ff01 0 0 0 0 0 0 0`, each with its line feed
-abbrev pub boot_text : List ℕ
-boot_text = codes "boot 1 1 1" ++ 10 ∷ []
+abbrev pub boot_line : List ℕ
+boot_line = codes "boot 2 1 1"
 
-abbrev pub uid_text : List ℕ
-uid_text = boot_text ++ (codes "smc 0 1 bf00ff01 0 0 0 0 0 0 0" ++ 10 ∷ [])
+abbrev pub enter_line : List ℕ
+enter_line = codes "enter 1 5 =7 0 0 0 0 0 0 a"
 
-abbrev pub uid_trace : Trace
-uid_trace = record { boot = Some (record { cpus = 1; threads = 1; frames = 1; apps = [] }); fills = []; items = Smc 0 1 (only_first 0xbf00_ff01) ∷ [] }
+-- the registers of that line
+abbrev pub entered : List Reg
+entered = Last 7 ∷ Num 0 ∷ Num 0 ∷ Num 0 ∷ Num 0 ∷ Num 0 ∷ Num 0 ∷ Num 10 ∷ []
+
+abbrev pub small_trace : Trace
+small_trace = record {
+  boot = Some (record { cpus = 2; threads = 1; frames = 1; apps = [] });
+  fills = record { addr = 0x4000_0000; bytes = 0 ∷ 255 ∷ [] } ∷ [];
+  items = Enter 1 5 entered ∷ Leave 1 ∷ [];
+}
+
+abbrev pub hyphenated : List ℕ
+hyphenated = codes "11111111-2222-3333-4444-5555555555aB"
 
 pub record Examples : Type 0 where
-  pub zero : IsDecimal (codes "0") 0
-  pub million : IsDecimalWithin 1 1000000 (codes "1000000") 1000000
-  pub leading_zero : ¬ (IsDecimal (codes "01") 1)
-  pub sign : ¬ (IsDecimal (codes "+1") 1)
-  pub above_the_limit : ¬ (IsDecimalWithin 1 16 (codes "17") 17)
-  pub either_case : IsHexadecimal 8 (codes "bF00Ff01") 0xbf00_ff01
-  pub leading_zeros : IsHexadecimal 8 (codes "00000001") 1
-  pub nine_digits : ¬ (IsHexadecimal 8 (codes "000000001") 1)
-  pub line : line_of (codes "boot" ∷ codes "1" ∷ codes "1" ∷ codes "1" ∷ []) ≡ boot_text
-  pub nothing : Spells [] empty_trace
-  pub uid : Spells uid_text uid_trace
-  pub no_line_feed : ¬ (IsPlain (codes "boot 1 1 1"))
-  pub empty_line : ¬ (IsPlain (10 ∷ boot_text))
-  pub two_spaces : ¬ (IsPlain (codes "boot 1  1 1" ++ 10 ∷ []))
-  pub refusal : kind_word NotYet ≡ codes "notyet"
-  pub fast : IsFastCall (Smc 0 1 (only_first 0xbf00_ff01))
-  pub call_with_argument : ¬ (IsFastCall (Smc 0 1 (only_first 0x3200_0004)))
-  pub other_processor : ¬ (IsFastCall (Smc 1 1 (only_first 0xbf00_ff01)))
+  pub ten : is_decimal (codes "10") ≡ true
+  pub tens_value : decimal (codes "10") ≡ 10
+  pub leading_zero : is_decimal (codes "01") ≡ false
+  pub sign : is_decimal (codes "+1") ≡ false
+  pub nine_digits : is_hexadecimal 8 (codes "000000001") ≡ false
+  pub either_case : hexadecimal (codes "aF") ≡ 175
+  pub last : register (codes "=7") ≡ Last 7
+  pub no_eighth : is_register (codes "=8") ≡ false
+  pub eight_digits : register (codes "bF00Ff01") ≡ Num 0xbf00_ff01
+  pub id : uuid hyphenated ≡ 17 ∷ 17 ∷ 17 ∷ 17 ∷ 34 ∷ 34 ∷ 51 ∷ 51 ∷ 68 ∷ 68 ∷ 85 ∷ 85 ∷ 85 ∷ 85 ∷ 85 ∷ 171 ∷ []
+  pub braces : is_uuid (codes "{" ++ hyphenated ++ codes "}") ≡ false
+  pub two_bytes : bytes (codes "00fF") ≡ 0 ∷ 255 ∷ []
+  pub odd : is_hex (codes "0") ≡ false
+  pub last_byte : lies_in_ram 0x403f_ffff 1 ≡ true
+  pub past_ram : lies_in_ram 0x403f_ffff 2 ≡ false
+  pub comment : is_skipped (codes "# boot") ≡ true
+  pub inside : inside_after (Enter 1 5 entered ∷ []) ≡ false ∷ true ∷ false ∷ false ∷ false ∷ false ∷ false ∷ false ∷ []
+  pub nothing : Spells [] [] empty_trace
+  pub small : Spells [] (text_of (codes "# small" ∷ [] ∷ boot_line ∷ codes "mem 40000000 00fF" ∷ enter_line ∷ codes "leave 1" ∷ [])) small_trace
+  pub early : IsFirstFault [] (text_of (codes "leave 1" ∷ [])) 1 bad.Place
+  pub second_boot : IsFirstFault [] (text_of (boot_line ∷ boot_line ∷ [])) 2 bad.Place
+  pub two_spaces : IsFirstFault [] (text_of (codes "boot 1  1 1" ∷ [])) 1 bad.Count
+  pub cut : IsFirstFault [] (text_of (boot_line ∷ []) ++ codes "leave x") 2 bad.Cut
+  pub range_before_cpu : IsFirstFault [] (text_of (boot_line ∷ codes "show 2 40000000 0" ∷ [])) 2 bad.Range
+  pub twice_inside : IsFirstFault [] (text_of (boot_line ∷ enter_line ∷ enter_line ∷ [])) 3 bad.Inside
+  pub within_limits : IsSound [] small_trace
+  pub empty_within_limits : IsSound [] empty_trace
+  pub nine_processors : ¬ (IsSoundBoot [] (record { cpus = 9; threads = 1; frames = 1; apps = [] }))
+  pub no_bytes : ¬ (IsPartOfRam 0x4000_0000 0)
+  pub above_ram : ¬ (IsPartOfRam 0x4040_0000 1)
+  pub no_eighth_register : ¬ (IsSoundReg (Last 8))
+  pub no_steps : ¬ (IsSoundItem 2 (Enter 1 0 entered))
+  pub no_such_processor : ¬ (IsSoundItem 2 (Leave 2))
+  pub enters : can_come outside (Enter 1 5 entered) ≡ true
+  pub leaves_from_outside : can_come outside (Leave 1) ≡ false
+  pub printed : fault_text (Bad 12 bad.Unended) ≡ codes "bad trace 12 unended"
+  pub unended : IsFirstFault [] (text_of (boot_line ∷ enter_line ∷ [])) 3 bad.Unended

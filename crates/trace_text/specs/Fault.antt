@@ -4,7 +4,7 @@ use Rattle.std.specs.Fmt.{decimal}
 use Rattle.trace_text.specs.declared.fault.BadKind.{BadKind}
 use Rattle.trace_text.specs.declared.fault.TraceFault.{TraceFault}
 use Rattle.trace_text.specs.declared.fault.TraceFault.TheVariants.{Bad, Memory}
-use Rattle.trace_text.specs.declared.fault.BadKind.TheVariants.{Byte, Cut, Item, Count, Place, Number, Uuid, Hex, Range, Cpu, Repeat, Image, Inside, Unended, Asm, NotYet}
+use Rattle.trace_text.specs.declared.fault.BadKind.TheVariants.{Byte, Cut, Item, Count, Place, Number, Uuid, Hex, Range, Cpu, Repeat, Image, Inside, Unended, Asm}
 
 -- the word of a kind
 abbrev pub kind_word : BadKind → List ℕ
@@ -23,7 +23,6 @@ kind_word Image = codes "image"
 kind_word Inside = codes "inside"
 kind_word Unended = codes "unended"
 kind_word Asm = codes "asm"
-kind_word NotYet = codes "notyet"
 
 -- a fault, with its place in decimal
 abbrev pub fault_text : TraceFault → List ℕ

@@ -1,9 +1,4 @@
-pub mod Word
 pub mod Fault
-pub mod Item
-pub mod Line
-pub mod Script
-pub mod Examples
 pub mod Reading
 pub mod Forms
 pub mod Limits
@@ -11,4 +6,4 @@ pub mod Rules
 pub mod Grammar
 pub mod Sound
 pub mod Judging
-pub mod GrammarExamples
+pub mod Examples

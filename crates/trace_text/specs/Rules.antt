@@ -8,7 +8,6 @@ use Rattle.ta_isa.specs.declared.boot.Boot.{Boot}
 use Rattle.ta_isa.specs.Reading.{image_of}
 use Rattle.trace_text.specs.declared.fault.BadKind.{BadKind}
 use Rattle.trace_text.specs.declared.fault.BadKind.TheVariants as bad
-use Rattle.trace_text.specs.declared.item.Item.{Item}
 use Rattle.trace_text.specs.declared.item.Item.TheVariants as item
 use Rattle.trace_text.specs.declared.line_kind.LineKind.{LineKind}
 use Rattle.trace_text.specs.declared.line_kind.LineKind.TheVariants as kind

@@ -43,8 +43,6 @@ pub enum BadKind {
     Unended,
     /// No text of the assembler.
     Asm,
-    /// No plain script, which is all that is read so far.
-    NotYet,
 }
 
 impl BadKind {
@@ -68,7 +66,6 @@ impl BadKind {
             BadKind::Inside => "inside",
             BadKind::Unended => "unended",
             BadKind::Asm => "asm",
-            BadKind::NotYet => "notyet",
         }
     }
 }

@@ -2,8 +2,7 @@
 //!
 //! A trace is what one run of the core is given: what it is booted with, the bytes that stand in the normal
 //! world's memory at the start, and the items of each processor in their order. Its text form is this
-//! project's own. [`read_trace`] reads all of them, and [`read_plain`] plain scripts alone: scripts of one processor
-//! that make fast calls.
+//! project's own, and [`read_trace`] reads it.
 #![tactic(auto)]
 
 mod builder;
@@ -13,7 +12,6 @@ mod laws;
 pub mod limits;
 mod line;
 mod line_kind;
-mod plain;
 mod reader;
 mod reading;
 mod said;
@@ -23,7 +21,6 @@ mod word;
 pub use builder::Builder;
 pub use fault::{BadKind, LineFault, TraceFault};
 pub use item::{Item, Reg};
-pub use laws::{grammar_examples, one_meaning, one_spelling, worked_examples};
-pub use plain::read_plain;
+pub use laws::{one_meaning, worked_examples};
 pub use reading::read_trace;
 pub use trace::{Fill, Trace};

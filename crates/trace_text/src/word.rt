@@ -1,8 +1,8 @@
 //! Words of a line: the numbers that they write.
 
-ghost use Rattle.std.specs.Prelude.{◌≡◌, ◌<◌, ◌≤◌, [], ◌∷◌, min, IfSome};
+ghost use Rattle.std.specs.Prelude.{◌≡◌, ◌≤◌, [], ◌∷◌, min};
 ghost use Rattle.std.specs.Option.{option_map};
-ghost use Rattle.trace_text.specs.Reading.{has_leading_zero, decimal_at, hexadecimal_at, within_at, register_at};
+ghost use Rattle.trace_text.specs.Reading.{has_leading_zero, decimal_at, hexadecimal_at};
 ghost use Rattle.trace_text.specs.Forms.{is_decimal, decimal, is_hexadecimal, hexadecimal, is_register, register, is_uuid, uuid, is_hex, bytes};
 ghost use Rattle.trace_text.specs.Judging.{IsSaid, Judged, Reads};
 
@@ -37,21 +37,6 @@ fn decimal(word: &[u8]) -> Option<u32>
         number = number.saturating_mul(10).saturating_add(digit);
     }
     Some(number)
-}
-
-/// The decimal number of a word, where it lies within these limits.
-#[tactic(auto, unfolding(crate::specs::Reading::within_at))]
-pub fn decimal_within(word: &[u8], least: u32, most: u32) -> Option<u32>
-    requires { most < u32.MAX }
-    ensures read { result ≡ within_at least most word.now }
-    ensures bound { IfSome result (λ n. n ≤ most) }
-{
-    let number = decimal(word)?;
-    if least <= number && number <= most {
-        Some(number)
-    } else {
-        None
-    }
 }
 
 /// The number that decimal digits write, where `u32::MAX` stands for all numbers above it.
@@ -96,14 +81,6 @@ pub fn address(word: &[u8]) -> Result<u64, LineFault>
     ensures { IsSaid result BadKind.Number (is_hexadecimal 16 word.now) (hexadecimal word.now) }
 {
     hexadecimal(word, 16).ok_or(LineFault::Broken(BadKind::Number))
-}
-
-/// The register of a word that writes a number.
-#[tactic(auto, unfolding(crate::specs::Reading::register_at))]
-pub fn register(word: &[u8]) -> Option<Reg>
-    ensures { result ≡ register_at word.now }
-{
-    Some(Reg::Num(short_hexadecimal(word)?))
 }
 
 /// The register of a word that writes a number, or names a register of the last answer.

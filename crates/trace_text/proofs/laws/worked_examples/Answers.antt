@@ -1,43 +1,62 @@
-use Rattle.std.proofs.Common.{◌≡◌, [], ◌∷◌, ◌++◌, Some, refl, arith}
+use Rattle.std.proofs.Common.{ℕ, List, [], ◌∷◌, ◌++◌, refl, arith}
 use Rattle.std.specs.Prelude.{codes}
-use Rattle.std.proofs.lemmas.List.Elements.{All-from_recursion}
-use Rattle.trace_text.specs.declared.item.Reg.TheVariants.{Num}
-use Rattle.smc_abi.specs.declared.call.TheConstants.{CALL_WITH_ARG}
-use Rattle.trace_text.specs.Item.{IsNumber, AreFast}
-use Rattle.trace_text.specs.Examples.{boot_text, uid_text, uid_trace, only_first}
-use Rattle.trace_text.specs.Limits.{empty_trace}
-use Rattle.trace_text.specs.Reading.{decimal_at, hexadecimal_at, within_at, register_at, named_at, number_at, next_register_at, registers_at, boot_at, item_at, lines_at, items_at, script_at, trace_at}
-use Rattle.trace_text.proofs.Digits.{decimal_read, within_read, hexadecimal_read}
-use Rattle.trace_text.proofs.ScriptLaws.{trace_read, no_plain}
+use Rattle.std.specs.Fmt.{digits}
+use Rattle.hex.specs.Hex.{decode_pairs}
+use Rattle.uuid.specs.Text.{by_index}
+use Rattle.trace_text.specs.declared.fault.BadKind.TheVariants as bad
+use Rattle.trace_text.specs.Forms.{is_decimal, decimal, is_hexadecimal, hexadecimal, is_last, is_register, register, is_uuid, uuid, is_hex, bytes}
+use Rattle.trace_text.specs.Grammar.{piece_fault}
+use Rattle.trace_text.specs.Examples.{boot_line, enter_line, small_trace, text_of}
+use Rattle.trace_text.specs.Judging.{read_pieces}
+use Rattle.trace_text.specs.Limits.{empty_trace, inside_after, lies_in_ram}
+use Rattle.text_lines.specs.Lines.{is_skipped}
+use Rattle.trace_text.specs.Rules.{added, after_line, counts, kind_named, line_rules, rules_behind}
+use Rattle.trace_text.proofs.GrammarLaws.{first_fault_read, spelled_read}
+use Rattle.trace_text.proofs.SoundLaws.{IsSound-spelled}
 use Rattle.trace_text.proofs.laws.worked_examples.Goals as goal
 
-other_number : Some (Num 0xbf00_ff01) ≡ Some (Num CALL_WITH_ARG) → ⊥
-other_number e =
-    let same : 0xbf00_ff01 ≡ CALL_WITH_ARG = cc in
-    absurd (omega arith)
-
-fast_uid : AreFast (only_first 0xbf00_ff01)
-fast_uid = record { numbers = All-from_recursion IsNumber (only_first 0xbf00_ff01) (tt, (tt, (tt, (tt, (tt, (tt, (tt, (tt, tt)))))))); no_call = other_number }
+-- the text of the small trace
+abbrev small_text : List ℕ
+small_text = text_of (codes "# small" ∷ [] ∷ boot_line ∷ codes "mem 40000000 00fF" ∷ enter_line ∷ codes "leave 1" ∷ [])
 
 pub returns : goal.returns
-unfolding decimal_at hexadecimal_at within_at register_at named_at number_at next_register_at registers_at boot_at item_at lines_at items_at script_at trace_at
+unfolding is_decimal decimal is_hexadecimal hexadecimal is_last is_register register is_uuid uuid is_hex bytes piece_fault read_pieces added after_line counts inside_after lies_in_ram is_skipped kind_named line_rules rules_behind decode_pairs by_index digits
 returns c = record {
-  zero = decimal_read (codes "0") 0 refl;
-  million = within_read 1 1000000 (codes "1000000") 1000000 refl;
-  leading_zero = λ d. absurd (omega (arith, d.no_leading_zero refl));
-  sign = λ d. absurd (omega (arith, d.digits.1.0));
-  above_the_limit = λ d. absurd (omega (arith, d.to_most));
-  either_case = hexadecimal_read 8 (codes "bF00Ff01") 0xbf00_ff01 refl;
-  leading_zeros = hexadecimal_read 8 (codes "00000001") 1 refl;
-  nine_digits = λ d. absurd (omega (arith, d.short));
-  line = refl;
-  nothing = trace_read [] empty_trace refl;
-  uid = trace_read uid_text uid_trace refl;
-  no_line_feed = no_plain (codes "boot 1 1 1") refl;
-  empty_line = no_plain (10 ∷ boot_text) refl;
-  two_spaces = no_plain (codes "boot 1  1 1" ++ 10 ∷ []) refl;
-  refusal = refl;
-  fast = (refl, fast_uid);
-  call_with_argument = λ f. f.1.no_call refl;
-  other_processor = λ f. absurd (omega (arith, f.0));
+  ten = refl;
+  tens_value = refl;
+  leading_zero = refl;
+  sign = refl;
+  nine_digits = refl;
+  either_case = refl;
+  last = refl;
+  no_eighth = refl;
+  eight_digits = refl;
+  id = refl;
+  braces = refl;
+  two_bytes = refl;
+  odd = refl;
+  last_byte = refl;
+  past_ram = refl;
+  comment = refl;
+  inside = refl;
+  nothing = spelled_read [] [] empty_trace refl;
+  small = spelled_read [] small_text small_trace refl;
+  early = first_fault_read [] (text_of (codes "leave 1" ∷ [])) 1 bad.Place refl;
+  second_boot = first_fault_read [] (text_of (boot_line ∷ boot_line ∷ [])) 2 bad.Place refl;
+  two_spaces = first_fault_read [] (text_of (codes "boot 1  1 1" ∷ [])) 1 bad.Count refl;
+  cut = first_fault_read [] (text_of (boot_line ∷ []) ++ codes "leave x") 2 bad.Cut refl;
+  range_before_cpu = first_fault_read [] (text_of (boot_line ∷ codes "show 2 40000000 0" ∷ [])) 2 bad.Range refl;
+  twice_inside = first_fault_read [] (text_of (boot_line ∷ enter_line ∷ enter_line ∷ [])) 3 bad.Inside refl;
+  within_limits = IsSound-spelled [] small_text small_trace (spelled_read [] small_text small_trace refl);
+  empty_within_limits = IsSound-spelled [] [] empty_trace (spelled_read [] [] empty_trace refl);
+  nine_processors = λ b. absurd (omega (arith, b.boots.few_processors));
+  no_bytes = λ p. absurd (omega (arith, p.some));
+  above_ram = λ p. absurd (omega (arith, p.in_ram.1));
+  no_eighth_register = λ r. absurd (omega (arith, r));
+  no_steps = λ i. absurd (omega (arith, i.some_step));
+  no_such_processor = λ i. absurd (omega (arith, i));
+  enters = refl;
+  leaves_from_outside = refl;
+  printed = refl;
+  unended = first_fault_read [] (text_of (boot_line ∷ enter_line ∷ [])) 3 bad.Unended refl;
 }
