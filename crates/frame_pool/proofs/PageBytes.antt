@@ -1,10 +1,15 @@
 -- Where a byte of some pages stands in the one list of their bytes.
-use Rattle.std.proofs.Common.{◌≡◌, ℕ, zero, suc, ◌+◌, ◌-◌, ◌*◌, ◌<◌, ◌≤◌, List, [], ◌∷◌, ◌++◌, length, Some, None, refl, sym, ◌∙◌, ap, arith, length-append, append_assoc}
+use Rattle.std.proofs.Common.{◌≡◌, ℕ, zero, suc, ◌+◌, ◌-◌, ◌*◌, ◌<◌, ◌≤◌, List, [], ◌∷◌, ◌++◌, length, take, drop, true, false, Some, None, refl, sym, ◌∙◌, ap, arith, length-append, append_assoc}
 use Rattle.std.proofs.Math.ListN.{set}
 use Rattle.std.proofs.Math.Nat.{mul-le-mul_left}
-use Rattle.std.proofs.lemmas.List.{set-append_left, set-append_right, append-nil}
-use Rattle.std.proofs.lemmas.Option.{slice_get_past}
+use Rattle.std.proofs.Math.Seq.{take-append-add, drop-append-add}
+use Rattle.std.proofs.lemmas.List.{set-append_left, set-append_right, append-nil, take-append-le, drop-append-le}
+use Rattle.std.proofs.lemmas.Bool.Decides.{nat_tests}
+use Rattle.std.proofs.lemmas.Option.{slice_get_past, slice_get-get_or}
 use Rattle.std.specs.List.{All, concat, slice_get}
+use Rattle.base.specs.Bytes.{has_bytes, overwritten, written}
+use Rattle.ta_step.specs.Bytes.{word_at}
+use Rattle.ta_step.proofs.Words.{word_found, word_short}
 
 -- ---- bytes of two lists in a row
 
@@ -74,3 +79,82 @@ set-concat size (p ∷ ps) (suc q) r n page v all below found e =
     let whole : length p ≡ size = first size p ps all in
     ap (λ bytes. p ++ bytes) (set-concat size ps q r (n - size) page v (others size p ps all) below found (omega arith))
     ∙ sym (set-append_right p (concat ps) size n v whole (omega arith))
+
+-- ---- words of pages
+
+whole_page : (size : ℕ) (pages : List (List ℕ)) (q : ℕ) (page : List ℕ) → Each size pages → slice_get pages q ≡ Some page →
+    length page ≡ size
+whole_page size [] q page all found = absurd (cc)
+whole_page size (p ∷ ps) zero page all found = let same : page ≡ p = cc in rw same (first size p ps all)
+whole_page size (p ∷ ps) (suc q) page all found = whole_page size ps q page (others size p ps all) found
+
+-- the word that lies in this page
+pub word_at-concat : (size : ℕ) (pages : List (List ℕ)) (q r n : ℕ) (page : List ℕ) → Each size pages →
+    r + 4 ≤ size → slice_get pages q ≡ Some page → n ≡ size * q + r →
+    word_at (concat pages) n ≡ word_at page r
+word_at-concat size pages q r n page all within found e =
+    let long = whole_page size pages q page all found in
+    let f0 = slice_get-get_or page r 0 (omega arith) in
+    let f1 = slice_get-get_or page (r + 1) 0 (omega arith) in
+    let f2 = slice_get-get_or page (r + 2) 0 (omega arith) in
+    let f3 = slice_get-get_or page (r + 3) 0 (omega arith) in
+    let g0 = slice_get-concat size pages q r n page _ all (omega arith) found f0 e in
+    let g1 = slice_get-concat size pages q (r + 1) (n + 1) page _ all (omega arith) found f1 (omega arith) in
+    let g2 = slice_get-concat size pages q (r + 2) (n + 2) page _ all (omega arith) found f2 (omega arith) in
+    let g3 = slice_get-concat size pages q (r + 3) (n + 3) page _ all (omega arith) found f3 (omega arith) in
+    word_found (concat pages) n _ _ _ _ g0 g1 g2 g3 ∙ sym (word_found page r _ _ _ _ f0 f1 f2 f3)
+
+-- there is none behind the last page
+pub word_at-concat_past : (size : ℕ) (pages : List (List ℕ)) (q r n : ℕ) → Each size pages →
+    length pages ≤ q → n ≡ size * q + r → word_at (concat pages) n ≡ None
+word_at-concat_past size pages q r n all past e =
+    word_short (concat pages) n (omega (arith, length-concat size pages all, mul-le-mul_left size past))
+
+overwritten-left : (xs ys : List ℕ) (at : ℕ) (new : List ℕ) → at + length new ≤ length xs →
+    overwritten (xs ++ ys) at new ≡ overwritten xs at new ++ ys
+overwritten-left xs ys at new le =
+    let before : at ≤ length xs = omega arith in
+    ap (λ l. l ++ new ++ drop (at + length new) (xs ++ ys)) (take-append-le at xs ys before)
+    ∙ ap (λ l. take at xs ++ new ++ l) (drop-append-le (at + length new) xs ys le)
+    ∙ sym (append_assoc (take at xs ++ new) (drop (at + length new) xs) ys)
+
+overwritten-right : (xs ys : List ℕ) (at n : ℕ) (new : List ℕ) → n ≡ length xs + at →
+    overwritten (xs ++ ys) n new ≡ xs ++ overwritten ys at new
+overwritten-right xs ys at n new e =
+    let behind : n + length new ≡ length xs + (at + length new) = omega arith in
+    let rest = drop (at + length new) ys in
+    let front : take n (xs ++ ys) ≡ xs ++ take at ys = ap (λ k. take k (xs ++ ys)) e ∙ take-append-add xs ys at in
+    let back : drop (n + length new) (xs ++ ys) ≡ rest =
+    ap (λ k. drop k (xs ++ ys)) behind ∙ drop-append-add xs ys (at + length new)
+    in
+    ap (λ l. l ++ new ++ drop (n + length new) (xs ++ ys)) front
+    ∙ ap (λ l. (xs ++ take at ys) ++ new ++ l) back
+    ∙ ap (λ l. l ++ rest) (append_assoc xs (take at ys) new)
+    ∙ append_assoc xs (take at ys ++ new) rest
+
+-- bytes written in this page
+pub overwritten-concat : (size : ℕ) (pages : List (List ℕ)) (q r n : ℕ) (page new : List ℕ) → Each size pages →
+    r + length new ≤ size → slice_get pages q ≡ Some page → n ≡ size * q + r →
+    concat (set pages q (overwritten page r new)) ≡ overwritten (concat pages) n new
+overwritten-concat size [] q r n page new all within found e = absurd (cc)
+overwritten-concat size (p ∷ ps) zero r n page new all within found e =
+    let same : page ≡ p = cc in
+    let at : n ≡ r = omega arith in
+    let there : r + length new ≤ length p = omega (arith, first size p ps all) in
+    rw (at, same) (sym (overwritten-left p (concat ps) r new there))
+overwritten-concat size (p ∷ ps) (suc q) r n page new all within found e =
+    let long : length p ≡ size = first size p ps all in
+    ap (λ bytes. p ++ bytes) (overwritten-concat size ps q r (size * q + r) page new (others size p ps all) within found refl)
+    ∙ sym (overwritten-right p (concat ps) (size * q + r) n new (omega (arith, long)))
+
+-- ---- bytes that are all there, and bytes behind the last page
+
+pub written-there : (xs new : List ℕ) (n : ℕ) → n + length new ≤ length xs → written xs n new ≡ overwritten xs n new
+written-there xs new n le =
+    let there : has_bytes xs n (length new) ≡ true = grind (arith, nat_tests, le) in
+    rw there refl
+
+pub written-past : (xs new : List ℕ) (n : ℕ) → length xs < n + length new → written xs n new ≡ xs
+written-past xs new n lt =
+    let past : has_bytes xs n (length new) ≡ false = grind (arith, nat_tests, lt) in
+    rw past refl

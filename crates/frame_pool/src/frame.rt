@@ -1,10 +1,13 @@
-ghost use Rattle.std.specs.Prelude.{◌≡◌, ◌<◌, [], length, slice_get, slice_set, IfOk, Some};
+ghost use Rattle.std.specs.Prelude.{◌≡◌, ◌+◌, ◌<◌, ◌≤◌, [], length, slice_get, slice_set, IfOk, Some};
+ghost use Rattle.base.specs.Bytes.{overwritten};
 ghost use Rattle.base.specs.Zeros.{zeros};
+ghost use Rattle.ta_step.specs.Bytes.{word_at};
 
 use base::NoMemory;
 use std::alloc::Global;
 use std::default::MadeWith;
 use std::marker::Model;
+use ta_step::{put_word, word_of};
 
 /// The bytes of a page.
 pub const PAGE_BYTES: usize = 4096;
@@ -53,6 +56,22 @@ impl Frame {
         ensures { self.new ≡ slice_set self.old at value }
     {
         self.bytes[at] = value;
+    }
+
+    /// The word from a place on, its lowest byte first.
+    pub(crate) fn word(&self, at: usize) -> u32
+        requires { at + 4 ≤ length self.now }
+        ensures { word_at self.now at ≡ Some result }
+    {
+        word_of(self.bytes.as_slice(), at)
+    }
+
+    /// Writes the four bytes of a word from a place on.
+    pub(crate) fn set_word(&mut self, at: usize, word: [u8; 4])
+        requires { at + 4 ≤ length self.old }
+        ensures { self.new ≡ overwritten self.old at word }
+    {
+        put_word(self.bytes.as_mut_slice(), at, word);
     }
 }
 

@@ -1,6 +1,8 @@
-ghost use Rattle.std.specs.Prelude.{◌≡◌, ◌+◌, ◌*◌, ◌<◌, ◌≤◌, [], ◌++◌, length};
+ghost use Rattle.std.specs.Prelude.{◌≡◌, ◌+◌, ◌*◌, ◌%◌, ◌^◌, ◌<◌, ◌≤◌, [], ◌++◌, length, nat_lt};
 ghost use Rattle.std.specs.List.{concat};
+ghost use Rattle.base.specs.Bytes.{has_bytes, overwritten, written};
 ghost use Rattle.frame_pool.specs.Pages.{AreWhole, page_count};
+ghost use Rattle.ta_step.specs.Bytes.{word_at};
 
 use crate::frame::{Frame, PAGE_BYTES};
 use arrayvec::ArrayVec;
@@ -10,6 +12,9 @@ use ta_step::TaMemory;
 
 /// The most pages that one owner has.
 pub const MAX_PAGES: usize = 64;
+
+/// The bytes of a word.
+const WORD_BYTES: usize = 4;
 
 /// Some pages of a pool, one behind the other, as the memory of one instance. Contracts see the list of their
 /// bytes.
@@ -67,6 +72,53 @@ impl Pages {
     {
         self.frames.len() as u16
     }
+
+    /// The word from an address on, byte by byte, where it may lie in two pages.
+    #[tactic(auto, using(ta_step::proofs::Words::word_found, ta_step::proofs::Words::word_cut))]
+    fn word_across(&self, addr: u32) -> Option<u32>
+        requires { addr + 4 < 2 ^ 32 }
+        ensures { result ≡ word_at self.now addr }
+    {
+        let b0 = self.load(addr)?;
+        let b1 = self.load(addr + 1)?;
+        let b2 = self.load(addr + 2)?;
+        let b3 = self.load(addr + 3)?;
+        Some(u32::from_le_bytes([b0, b1, b2, b3]))
+    }
+
+    /// Writes four bytes from an address on, one after another, over bytes that are all there.
+    #[tactic(auto, using(ta_step::proofs::Words::word_set))]
+    fn put_bytes(&mut self, addr: u32, word: [u8; 4])
+        requires there { addr + 4 ≤ length self.old }
+        requires fits { addr + 4 < 2 ^ 32 }
+        ensures { self.new ≡ overwritten self.old addr word }
+    {
+        self.store(addr, word[0]);
+        self.store(addr + 1, word[1]);
+        self.store(addr + 2, word[2]);
+        self.store(addr + 3, word[3]);
+    }
+
+    /// Writes four bytes from an address on where they may lie in two pages, or answers `false` where they are not all
+    /// there.
+    fn set_word_across(&mut self, addr: u32, word: [u8; 4]) -> bool
+        requires { addr + 4 < 2 ^ 32 }
+        ensures inside { result ≡ has_bytes self.old addr 4 }
+        ensures bytes { self.new ≡ written self.old addr word }
+    {
+        if self.load(addr + 3).is_none() {
+            return false;
+        }
+        self.put_bytes(addr, word);
+        true
+    }
+}
+
+/// Whether a word from an address on lies in two pages.
+fn crosses(addr: u32) -> bool
+    ensures { result ≡ nat_lt 4096 (addr % 4096 + 4) }
+{
+    addr as usize % PAGE_BYTES + WORD_BYTES > PAGE_BYTES
 }
 
 impl TaMemory for Pages {
@@ -82,6 +134,25 @@ impl TaMemory for Pages {
             return false;
         };
         frame.set(addr as usize % PAGE_BYTES, value);
+        true
+    }
+
+    fn load_word(&self, addr: u32) -> Option<u32> {
+        if crosses(addr) {
+            return self.word_across(addr);
+        }
+        let frame = self.frames.as_slice().get(addr as usize / PAGE_BYTES)?;
+        Some(frame.word(addr as usize % PAGE_BYTES))
+    }
+
+    fn store_word(&mut self, addr: u32, word: [u8; 4]) -> bool {
+        if crosses(addr) {
+            return self.set_word_across(addr, word);
+        }
+        let Some(frame) = self.frames.get_mut(addr as usize / PAGE_BYTES) else {
+            return false;
+        };
+        frame.set_word(addr as usize % PAGE_BYTES, word);
         true
     }
 }

@@ -1,7 +1,6 @@
 //! Several bytes of a memory at a time.
-ghost use Rattle.std.specs.Prelude.{◌≡◌, ◌+◌, ◌^◌, ◌<◌, ◌≤◌, length};
+ghost use Rattle.std.specs.Prelude.{◌≡◌, ◌+◌, ◌^◌, ◌<◌, ◌≤◌, [], ◌∷◌, length};
 ghost use Rattle.base.specs.Bytes.{has_bytes, overwritten, written};
-ghost use Rattle.ta_step.specs.Bytes.{word_at};
 
 use crate::memory::TaMemory;
 
@@ -15,17 +14,14 @@ pub(crate) fn has_bytes<T: TaMemory>(memory: &T, place: u32, count: u32) -> bool
     memory.load(place + (count - 1)).is_some()
 }
 
-/// The word from a place on, its lowest byte first, if its four bytes are all there.
-#[tactic(auto, using(crate::proofs::Words::word_found, crate::proofs::Words::word_cut))]
-pub(crate) fn load_word<T: TaMemory>(memory: &T, place: u32) -> Option<u32>
-    requires { place + 4 < 2 ^ 32 }
-    ensures { result ≡ word_at (T.bytes memory.now) place }
+/// Writes one byte, or answers `false` where there is none at that place.
+#[tactic(auto, using(crate::proofs::Words::byte_written))]
+pub(crate) fn store_byte<T: TaMemory>(memory: &mut T, place: u32, value: u8) -> bool
+    requires { place + 1 < 2 ^ 32 }
+    ensures inside { result ≡ has_bytes (T.bytes memory.old) place 1 }
+    ensures bytes { T.bytes memory.new ≡ written (T.bytes memory.old) place (value ∷ []) }
 {
-    let b0 = memory.load(place)?;
-    let b1 = memory.load(place + 1)?;
-    let b2 = memory.load(place + 2)?;
-    let b3 = memory.load(place + 3)?;
-    Some(u32::from_le_bytes([b0, b1, b2, b3]))
+    memory.store(place, value)
 }
 
 fn overwrite<T: TaMemory>(memory: &mut T, place: u32, bytes: &[u8])
@@ -45,6 +41,9 @@ pub(crate) fn write_bytes<T: TaMemory>(memory: &mut T, place: u32, bytes: &[u8])
     ensures inside { result ≡ has_bytes (T.bytes memory.old) place (length bytes.now) }
     ensures bytes { T.bytes memory.new ≡ written (T.bytes memory.old) place bytes.now }
 {
+    if let [b0, b1, b2, b3] = bytes {
+        return memory.store_word(place, [*b0, *b1, *b2, *b3]);
+    }
     let inside = has_bytes(memory, place, bytes.len() as u32);
     if inside {
         overwrite(memory, place, bytes);

@@ -30,7 +30,10 @@ impl<M: TaMemory> Machine<M> {
         ensures found { result ≡ is_inside (state_of M.bytes self.old) addr 1 }
         ensures state { state_of M.bytes self.new ≡ store (state_of M.bytes self.old) addr (value ∷ []) }
     {
-        self.write(addr, &[value])
+        match addr / RANGE {
+            0 => access::store_byte(&mut self.memory, addr % RANGE, value),
+            _ => self.write(addr, &[value]),
+        }
     }
 
     /// The word from an address on, its lowest byte first, if its four bytes are all in one range.
@@ -40,8 +43,20 @@ impl<M: TaMemory> Machine<M> {
     {
         let place = addr % RANGE;
         match addr / RANGE {
-            0 => access::load_word(&self.memory, place),
+            0 => self.memory.load_word(place),
             number => parameters::load_word(parameters::param_at(&self.params, number - 1)?, place),
+        }
+    }
+
+    /// Writes a word, its lowest byte first, to an address, or answers `false` where its four bytes are not all in
+    /// one range.
+    pub(crate) fn store_word(&mut self, addr: u32, word: [u8; 4]) -> bool
+        ensures inside { result ≡ is_inside (state_of M.bytes self.old) addr 4 }
+        ensures state { state_of M.bytes self.new ≡ store (state_of M.bytes self.old) addr word }
+    {
+        match addr / RANGE {
+            0 => self.memory.store_word(addr % RANGE, word),
+            _ => self.write(addr, &word),
         }
     }
 

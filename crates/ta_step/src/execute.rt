@@ -1,5 +1,5 @@
 //! What each instruction does.
-ghost use Rattle.std.specs.Prelude.{◌≡◌, ◌+◌, ◌/◌, ◌%◌, ◌^◌, ◌<◌, ◌≤◌, length, IsSome, IfSome};
+ghost use Rattle.std.specs.Prelude.{◌≡◌, ◌+◌, ◌/◌, ◌%◌, ◌^◌, ◌<◌, [], ◌∷◌, IsSome, IfSome};
 ghost use Rattle.ta_isa.specs.InstructionTable.{HasFields};
 ghost use Rattle.ta_step.specs.Addresses.{load};
 ghost use Rattle.ta_step.specs.Machine.{state_of};
@@ -80,15 +80,26 @@ impl<M: TaMemory> Machine<M> {
         Some(u32::from(byte))
     }
 
-    /// Writes bytes to an address.
-    fn put_stored(&mut self, addr: u32, bytes: &[u8]) -> Result<(), Stop>
-        requires some { 0 < length bytes.now }
-        requires few { length bytes.now ≤ 16 }
-        requires place { (state_of M.bytes self.old).place + 1 < 2 ^ 32 }
+    /// Writes a byte to an address.
+    fn put_byte(&mut self, addr: u32, value: u8) -> Result<(), Stop>
+        requires { (state_of M.bytes self.old).place + 1 < 2 ^ 32 }
         ensures { let old = state_of M.bytes self.old in
-            Leads old (stored old addr bytes.now) result (state_of M.bytes self.new) }
+            Leads old (stored old addr (value ∷ [])) result (state_of M.bytes self.new) }
     {
-        if !self.write(addr, bytes) {
+        if !self.store(addr, value) {
+            return Err(Stop::Panicked(BAD_ADDRESS));
+        }
+        self.place += 1;
+        Ok(())
+    }
+
+    /// Writes a word to an address, its lowest byte first.
+    fn put_word(&mut self, addr: u32, word: [u8; 4]) -> Result<(), Stop>
+        requires { (state_of M.bytes self.old).place + 1 < 2 ^ 32 }
+        ensures { let old = state_of M.bytes self.old in
+            Leads old (stored old addr word) result (state_of M.bytes self.new) }
+    {
+        if !self.store_word(addr, word) {
             return Err(Stop::Panicked(BAD_ADDRESS));
         }
         self.place += 1;
@@ -165,8 +176,8 @@ impl<M: TaMemory> Machine<M> {
             0x0c => self.put(instr.d, a.wrapping_shr(b)),
             0x0d => self.put_loaded(instr.d, self.widened_byte(addr)),
             0x0e => self.put_loaded(instr.d, self.word_at(addr)),
-            0x0f => self.put_stored(addr, &[(b % 256) as u8]),
-            0x10 => self.put_stored(addr, &b.to_le_bytes()),
+            0x0f => self.put_byte(addr, (b % 256) as u8),
+            0x10 => self.put_word(addr, b.to_le_bytes()),
             0x11 => self.branch(a == b, instr.imm),
             0x12 => self.branch(a != b, instr.imm),
             0x13 => self.branch(a < b, instr.imm),

@@ -15,6 +15,7 @@ mod requests;
 mod run;
 mod stop;
 mod system_calls;
+mod word_access;
 
 pub use addresses::RANGE;
 pub use base::NoMemory;
@@ -27,3 +28,4 @@ pub use memory::{Plain, TaMemory};
 pub use requests::object_span;
 pub use stop::{Request, Stop};
 pub use ta_params::{Login, ObjectCall};
+pub use word_access::{put_word, word_of};

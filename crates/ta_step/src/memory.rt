@@ -1,5 +1,7 @@
-ghost use Rattle.std.specs.Prelude.{◌≡◌, ℕ, ◌<◌, ◌↔◌, List, length, replicate, slice_get, slice_set, IsTrue, IfOk, Option};
+ghost use Rattle.std.specs.Prelude.{◌≡◌, ℕ, ◌+◌, ◌^◌, ◌<◌, ◌↔◌, List, length, replicate, slice_get, slice_set, IsTrue, IfOk, Option};
+ghost use Rattle.ta_step.specs.Bytes.{has_bytes, word_at, written};
 
+use crate::word_access;
 use base::NoMemory;
 use std::alloc::Global;
 use std::marker::Model;
@@ -17,6 +19,18 @@ pub trait TaMemory {
     fn store(&mut self, addr: u32, value: u8) -> bool
         ensures stored { IsTrue result ↔ (addr < length (bytes self.old)) }
         ensures bytes { bytes self.new ≡ slice_set (bytes self.old) addr value };
+
+    /// The word from an address on, its lowest byte first, if its four bytes are all there.
+    fn load_word(&self, addr: u32) -> Option<u32>
+        requires { addr + 4 < 2 ^ 32 }
+        ensures { result ≡ word_at (bytes self.now) addr };
+
+    /// Writes the four bytes of a word, its lowest first, from an address on and no others, or answers `false` where
+    /// they are not all there.
+    fn store_word(&mut self, addr: u32, word: [u8; 4]) -> bool
+        requires { addr + 4 < 2 ^ 32 }
+        ensures inside { result ≡ has_bytes (bytes self.old) addr 4 }
+        ensures bytes { bytes self.new ≡ written (bytes self.old) addr word };
 }
 
 /// A memory in one list of bytes. Contracts see that list.
@@ -57,5 +71,13 @@ impl TaMemory for Plain {
             self.bytes[addr as usize] = value;
         }
         found
+    }
+
+    fn load_word(&self, addr: u32) -> Option<u32> {
+        word_access::word_in(self.bytes.as_slice(), addr)
+    }
+
+    fn store_word(&mut self, addr: u32, word: [u8; 4]) -> bool {
+        word_access::put_word_in(self.bytes.as_mut_slice(), addr, word)
     }
 }

@@ -5,8 +5,8 @@ ghost use Rattle.base.specs.Bytes.{has_bytes, written};
 ghost use Rattle.ta_step.specs.Bytes.{word_at};
 ghost use Rattle.ta_step.specs.Parameters.{buffer, goes_out, param_at, with_buffer, with_size, with_value};
 
-use crate::access;
 use crate::memory::TaMemory;
+use crate::{access, word_access};
 use ta_params::{Buf, CopiedParams, GpParam, Way};
 
 impl TaMemory for Buf {
@@ -23,6 +23,14 @@ impl TaMemory for Buf {
             bytes[addr as usize] = value;
         }
         found
+    }
+
+    fn load_word(&self, addr: u32) -> Option<u32> {
+        word_access::word_in(self.bytes(), addr)
+    }
+
+    fn store_word(&mut self, addr: u32, word: [u8; 4]) -> bool {
+        word_access::put_word_in(self.bytes_mut(), addr, word)
     }
 }
 
@@ -55,7 +63,7 @@ pub(crate) fn load_word(param: &GpParam, place: u32) -> Option<u32>
     ensures { result ≡ word_at (buffer param.now) place }
 {
     match param {
-        GpParam::Memref { buf, .. } => access::load_word(buf, place),
+        GpParam::Memref { buf, .. } => buf.load_word(place),
         _ => None,
     }
 }
