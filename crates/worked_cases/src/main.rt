@@ -3,10 +3,11 @@
 //!
 //! A case is lines: `case NAME`, `words W..`, the bytes of the input after a line `input` and those of the
 //! output after a line `output`, and last `status N`, at which it runs. Bytes are given by lines `|TEXT` (the
-//! text and a line feed), `=TEXT` (the text alone), `lines N TEXT` (N lines of the text) and `comment N` (a
-//! comment line of N bytes). `take N` and `put N` make call N of the source or the sink fail, counted from 0.
-//! `again NAME` begins a case with the words and the input of the one before, and `cut FIRST LAST` makes a case
-//! run once with each number of bytes of its input from the first to the last.
+//! text and a line feed), `=TEXT` (the text alone), `<FILE` (those of a file, whose path is relative to the folder
+//! that the program runs in), `lines N TEXT` (N lines of the text) and `comment N` (a comment line of N bytes).
+//! `take N` and `put N` make call N of the source or the sink fail, counted from 0. `again NAME` begins a case with
+//! the words and the input of the one before, and `cut FIRST LAST` makes a case run once with each number of bytes of
+//! its input from the first to the last.
 #![tactic(auto)]
 
 mod case;
@@ -15,7 +16,9 @@ use anyhow::{Context, Result, bail};
 use case::Case;
 use native_tas::{Native, Natives, Relation, digest};
 use std::alloc::Global;
+use std::fs;
 use std::io::{BufRead, BufReader};
+use std::rt::Files;
 use uuid::Uuid;
 
 /// The UUID of the digest application, which is built in.
@@ -25,7 +28,7 @@ const DIGEST_UUID: [u8; 16] = [
 
 /// Takes one line of a case. At its last line the case runs, and what came of it is printed.
 fn take_line(
-    rt: &impl Print,
+    rt: &(impl Files + AllocGlobal + Print),
     alloc: Global,
     natives: &Natives,
     case: &mut Case,
@@ -38,6 +41,11 @@ fn take_line(
     }
     if let Some(text) = line.strip_prefix('=') {
         case.push_bytes(text.as_bytes())?;
+        return Ok(());
+    }
+    if let Some(path) = line.strip_prefix('<') {
+        let bytes = fs::read(rt, path).context("reading a file")?;
+        case.push_bytes(bytes.as_slice())?;
         return Ok(());
     }
     let (word, rest) = line.split_once(' ').unwrap_or((line, ""));
