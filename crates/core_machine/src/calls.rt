@@ -103,6 +103,13 @@ impl Machine {
         self.core.inside(cpu)
     }
 
+    /// The core, to be read.
+    pub fn core(&self) -> &Core
+        ensures { result.now ≡ self.now.core }
+    {
+        &self.core
+    }
+
     /// How many processors there are.
     pub fn cpus(&self) -> u8
         ensures { result ≡ (booted_of self.now.core).cpus }
