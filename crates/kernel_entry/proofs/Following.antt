@@ -237,5 +237,5 @@ call_found slots beside held regs are ok =
 
 pub can_follow : (parts : Parts) (regs : List ℕ) (of : EntryDecision) → ∥ Replays parts ∥₁ → HasFound parts regs of → CanFollow parts regs of
 can_follow parts regs (decision.Answers answer) fact found = tt
-can_follow parts regs (decision.Begins entered plan cont) fact found = can_take_slot parts entered plan fact found
-can_follow parts regs (decision.GoesOn decided) fact found = can_go_on parts regs decided fact found
+can_follow parts regs (decision.Begins entered plan cont) fact found = (can_take_slot parts entered plan fact found.0, found.1)
+can_follow parts regs (decision.GoesOn decided) fact found = can_go_on parts regs decided.value fact found

@@ -21,6 +21,7 @@ use Rattle.resumed_calls.specs.Deciding.{IsAppIn}
 use Rattle.resumed_calls.specs.declared.deciding.Decided.{Decided}
 use Rattle.smc_abi.specs.Call.{call_of}
 use Rattle.thread_slots.specs.Slots.{lowest_free}
+use Rattle.kernel_entry.specs.Applying.{IsBlank}
 use Rattle.kernel_entry.specs.Resuming.{IsSuspended, goes_on_as}
 use Rattle.kernel_entry.specs.declared.deciding.EntryDecision.{EntryDecision}
 use Rattle.kernel_entry.specs.declared.deciding.EntryDecision.TheVariants as decision
@@ -37,7 +38,7 @@ decision_as parts kernel regs (decision.Answers answer) = model.Answers answer
 decision_as parts kernel regs (decision.Begins entered plan cont) = model.Takes entered.slot
     (taken_of (call_with (booted_with parts.setup) (tables_of parts.tables) entered) plan)
 decision_as parts kernel regs (decision.GoesOn decided) =
-    option_map_or (goes_on_in parts regs decided) (call_resumed_by kernel.slots regs) (model.Answers eresume)
+    option_map_or (goes_on_in parts regs decided.value) (call_resumed_by kernel.slots regs) (model.Answers eresume)
 
 -- by what is read of the lane this reader comes to what was decided
 abbrev pub ComesTo : Parts → Kernel → List ℕ → Reader Decision → List ℕ → List Read → List Read → EntryDecision →
@@ -66,5 +67,5 @@ pub record CanContinue (parts : Parts) (regs : List ℕ) (decided : Decided) : T
 -- what was found for what was decided
 abbrev pub HasFound : Parts → List ℕ → EntryDecision → Type 0
 HasFound parts regs (decision.Answers answer) = Unit {0}
-HasFound parts regs (decision.Begins entered plan cont) = CanBegin parts entered plan
-HasFound parts regs (decision.GoesOn decided) = CanContinue parts regs decided
+HasFound parts regs (decision.Begins entered plan cont) = CanBegin parts entered plan × IsBlank cont.value
+HasFound parts regs (decision.GoesOn decided) = CanContinue parts regs decided.value

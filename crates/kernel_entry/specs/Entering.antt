@@ -15,7 +15,7 @@ use Rattle.new_calls.specs.declared.entered.Entered.{Entered}
 use Rattle.new_calls.specs.declared.plan.Plan.{Plan}
 use Rattle.ns_ram.specs.Reads.{total_bytes}
 use Rattle.ns_ram.specs.declared.read.Read.{Read}
-use Rattle.kernel_entry.specs.Applying.{CanTake}
+use Rattle.kernel_entry.specs.Applying.{CanTake, IsBlank}
 use Rattle.kernel_entry.specs.Deciding.{CanBegin, HasFound, IsDecided}
 use Rattle.kernel_entry.specs.Resuming.{CanGoOn}
 use Rattle.kernel_entry.specs.declared.deciding.EntryDecision.{EntryDecision}
@@ -68,8 +68,8 @@ pub record CanTakeSlot (parts : Parts) (entered : Entered) (plan : Plan) : Type 
 -- what was decided can be done
 abbrev pub CanFollow : Parts → List ℕ → EntryDecision → Type 0
 CanFollow parts regs (decision.Answers answer) = Unit {0}
-CanFollow parts regs (decision.Begins entered plan cont) = CanTakeSlot parts entered plan
-CanFollow parts regs (decision.GoesOn decided) = CanGoOn parts regs decided
+CanFollow parts regs (decision.Begins entered plan cont) = CanTakeSlot parts entered plan × IsBlank cont.value
+CanFollow parts regs (decision.GoesOn decided) = CanGoOn parts regs decided.value
 
 -- what is carried is the call that the slot was taken for, or nothing
 abbrev pub IsCarriedBy : Carried → Decision → Type 0

@@ -10,7 +10,7 @@ ghost use Rattle.new_calls.specs.Applying.{CanApply};
 ghost use Rattle.new_calls.specs.Deciding.{call_with, taken_of};
 ghost use Rattle.ns_ram.specs.Reads.{total_bytes};
 ghost use Rattle.thread_slots.specs.Slots.{lowest_free};
-ghost use Rattle.kernel_entry.specs.Applying.{CanTake, is_cancel};
+ghost use Rattle.kernel_entry.specs.Applying.{CanTake, IsBlank, is_cancel};
 ghost use Rattle.kernel_entry.specs.Visiting.{HasComeIn, StandsAfter};
 
 use crate::carrying::carried;
@@ -31,13 +31,6 @@ fn is_cancel(plan: &Plan) -> bool
     matches!(plan, Plan::Cancels)
 }
 
-/// The box has this call in place of the one that it had.
-fn fills(cont: &mut Cont<Pages>, call: Cont<Pages>)
-    ensures { cont.new ≡ call }
-{
-    *cont = call;
-}
-
 /// Lets a processor in for a new call, which takes the lowest free slot and fills this box. The parts stand for the
 /// kernel after it, and the processor carries the call that its slot works on.
 pub fn enters_new(
@@ -55,6 +48,7 @@ pub fn enters_new(
     requires slot { lowest_free parts.old.slots ≡ Some entered.slot }
     requires beside { entered.slot < length parts.old.cancellations.items }
     requires plan { CanTake parts.old.tables entered plan }
+    requires blank { IsBlank cont.value }
     ensures come { HasComeIn parts.old parts.new visitor reads }
     ensures stands { CanApply (call_with (booted_with parts.old.setup) (tables_of parts.old.tables) entered) plan
         → (kernel : Kernel) → StandsAfter parts.old parts.new visitor kernel (Takes entered.slot
@@ -65,13 +59,12 @@ pub fn enters_new(
 {
     let slot = entered.slot;
     let cancels = is_cancel(&plan);
-    let call = apply(alloc, &mut parts.tables, &entered, plan);
+    apply(alloc, &mut parts.tables, &entered, plan, &mut cont);
     let beside = Cancellation {
-        session: call.session,
+        session: cont.session,
         cancel_id: entered.head.cancel_id,
         marked: false,
     };
-    fills(&mut cont, call);
     takes_slot(parts, visitor.cpu, slot, beside, cancels);
     lets_in(parts, visitor, Errand::InSlot(slot), reads);
     carried(cont)

@@ -10,7 +10,7 @@ ghost use Rattle.new_calls.specs.Applying.{HaveApps};
 ghost use Rattle.resumed_calls.specs.Deciding.{CanDecide};
 ghost use Rattle.kernel_entry.specs.Deciding.{ComesTo, HasFound, IsDecided};
 
-use crate::settling::settled_call;
+use crate::filling::blank;
 use base::NoMemory;
 use frame_pool::Pages;
 use kernel_state::Parts;
@@ -19,17 +19,16 @@ use ns_ram::{Lane, Reads};
 use rpc_cont::Cont;
 use smc_abi::{Answer, Call, ERESUME, Regs, UNKNOWN_FUNCTION, decode_call, fast_answer};
 use std::alloc::Global;
-use ta_params::codes::TEE_SUCCESS;
 
 /// What an entry comes to, with all memory that this takes.
 #[derive(Drop)]
 pub(crate) enum EntryDecision {
     /// This answer, which takes no slot and changes nothing.
     Answers(Answer),
-    /// A new call takes its slot for this plan, and fills the box.
+    /// A new call takes its slot for this plan, and fills the box, in which nothing of it is there yet.
     Begins(Entered, Plan, Box<Cont<Pages>>),
     /// The call that the registers name goes on with this.
-    GoesOn(resumed_calls::Decided),
+    GoesOn(Box<resumed_calls::Decided>),
 }
 
 /// What is decided of a call with these registers. All that it reads is listed, and nothing is changed.
@@ -83,7 +82,7 @@ fn decide_new(
     match decided {
         new_calls::Decided::Answers(answer) => Ok(EntryDecision::Answers(answer)),
         new_calls::Decided::Takes(entered, plan) => {
-            let cont = Box::new(alloc, settled_call(alloc, &entered, 0, TEE_SUCCESS))?;
+            let cont = Box::new(alloc, blank(alloc))?;
             Ok(EntryDecision::Begins(entered, plan, cont))
         }
     }
@@ -105,7 +104,10 @@ fn decide_resume(
 {
     let call = resumed_calls::decide(alloc, &parts.setup, &parts.slots, regs, lane, reads)?;
     match call {
-        Some(decided) => Ok(EntryDecision::GoesOn(decided)),
+        Some(decided) => {
+            let boxed = Box::new(alloc, decided)?;
+            Ok(EntryDecision::GoesOn(boxed))
+        }
         None => Ok(EntryDecision::Answers(code(ERESUME))),
     }
 }

@@ -55,7 +55,9 @@ fn comes_in(
         EntryDecision::Begins(entered, plan, cont) => {
             enters_new(alloc, parts, visitor, entered, plan, cont, reads)
         }
-        EntryDecision::GoesOn(decided) => enters_resumed(parts, visitor, decided, reads),
+        EntryDecision::GoesOn(decided) => {
+            enters_resumed(parts, visitor, Box::into_inner(decided), reads)
+        }
     }
 }
 

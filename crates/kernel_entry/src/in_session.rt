@@ -15,8 +15,9 @@ ghost use Rattle.new_calls.specs.Applying.{AreRegistered};
 ghost use Rattle.new_calls.specs.Deciding.{call_with};
 ghost use Rattle.param_copy.specs.Outcome.{copies_in};
 ghost use Rattle.rpc_cont.specs.Conts.{kept_params};
-ghost use Rattle.kernel_entry.specs.Applying.{HasCome, IsNew, IsTaken, KeepsSession, MayCome, MayWork, session_comes};
+ghost use Rattle.kernel_entry.specs.Applying.{HasCome, IsBlank, IsNew, IsTaken, KeepsSession, MayCome, MayWork, session_comes};
 
+use crate::filling::waits_as;
 use crate::pinning::pins;
 use crate::waiting::joins;
 use arrayvec::ArrayVec;
@@ -69,14 +70,16 @@ pub(crate) fn invokes(
     session: Session,
     app: Application,
     copies: TakenParams,
-) -> Cont<Pages>
+    cont: &mut Cont<Pages>,
+)
+    requires blank { IsBlank cont.old }
     requires comes { MayCome tables.old entered.now.slot (application_of app) }
     requires works { MayWork tables.old (application_of app) session }
     requires buffers { AreRegistered (tables_of tables.old) copies.cookies.items }
     ensures taken { (boot : Booted) (instance : AnyInstance)
         → get (tables_of tables.old).instances session.instance ≡ Some instance
         → app_of boot instance.uuid ≡ Some (application_of app)
-        → IsTaken None entered.now tables.new result
+        → IsTaken None entered.now tables.new cont.new
         (invokes (call_with boot (tables_of tables.old) entered.now) (session, instance) (copies_in copies)) }
     ensures pages { (setup : AnySetup) → HasFreePages setup tables.old → HasFreePages setup tables.new }
 {
@@ -86,7 +89,7 @@ pub(crate) fn invokes(
         cookies,
     } = copies;
     let func = entered.head.func;
-    let mut cont = Cont::waiting(CallEntry {
+    let entry = CallEntry {
         client: entered.client,
         kind: CallKind::Invoke { func },
         login: session.login,
@@ -96,16 +99,16 @@ pub(crate) fn invokes(
         places,
         session: entered.head.session,
         instance: session.instance,
-    });
+    };
+    waits_as(cont, entry);
     let call = SessionCall {
         slot: entered.slot,
         session,
         app,
         points: Points::only(EntryPoint::Invoke { func }),
     };
-    comes_in(tables, &mut cont, call);
+    comes_in(tables, cont, call);
     pins(&mut tables.registry, cookies.as_slice(), entered.slot);
-    cont
 }
 
 /// A close of this session.
@@ -115,19 +118,21 @@ pub(crate) fn closes(
     entered: &Entered,
     session: Session,
     app: Application,
-) -> Cont<Pages>
+    cont: &mut Cont<Pages>,
+)
+    requires blank { IsBlank cont.old }
     requires comes { MayCome tables.old entered.now.slot (application_of app) }
     requires works { MayWork tables.old (application_of app) session }
     requires session { KeepsSession tables.old entered.now.head.session session }
     ensures taken { (boot : Booted) (instance : AnyInstance)
         → get (tables_of tables.old).instances session.instance ≡ Some instance
         → app_of boot instance.uuid ≡ Some (application_of app)
-        → IsTaken None entered.now tables.new result
+        → IsTaken None entered.now tables.new cont.new
         (closes (call_with boot (tables_of tables.old) entered.now) (session, instance)) }
     ensures pages { (setup : AnySetup) → HasFreePages setup tables.old → HasFreePages setup tables.new }
 {
     let number = entered.head.session;
-    let mut cont = Cont::waiting(CallEntry {
+    let entry = CallEntry {
         client: entered.client,
         kind: CallKind::Close,
         login: session.login,
@@ -137,7 +142,8 @@ pub(crate) fn closes(
         places: ArrayVec::new_in(alloc),
         session: number,
         instance: session.instance,
-    });
+    };
+    waits_as(cont, entry);
     let points = closing_points(tables, &app, number, session);
     let call = SessionCall {
         slot: entered.slot,
@@ -145,6 +151,5 @@ pub(crate) fn closes(
         app,
         points,
     };
-    comes_in(tables, &mut cont, call);
-    cont
+    comes_in(tables, cont, call);
 }

@@ -11,6 +11,7 @@ mod buffers;
 mod carrying;
 mod deciding;
 mod entering;
+mod filling;
 mod fixed;
 mod in_session;
 mod opening;

@@ -13,8 +13,9 @@ ghost use Rattle.new_calls.specs.Deciding.{asked_by, call_with};
 ghost use Rattle.param_copy.specs.Outcome.{copies_in};
 ghost use Rattle.session_table.specs.Session.{reserved_for};
 ghost use Rattle.session_table.specs.Sessions.{has_room};
-ghost use Rattle.kernel_entry.specs.Applying.{HasCome, IsNew, IsTaken, MayCome, MayOpen, open_comes};
+ghost use Rattle.kernel_entry.specs.Applying.{HasCome, IsBlank, IsNew, IsTaken, MayCome, MayOpen, open_comes};
 
+use crate::filling::waits_as;
 use crate::pinning::pins;
 use crate::waiting::joins;
 use begin_call::{OpenCall, opens_kept, opens_made, shared_instance};
@@ -70,11 +71,13 @@ pub(crate) fn opens(
     app: Application,
     login: Login,
     copies: TakenParams,
-) -> Cont<Pages>
+    cont: &mut Cont<Pages>,
+)
+    requires blank { IsBlank cont.old }
     requires comes { MayCome tables.old entered.now.slot (application_of app) }
     requires opens { MayOpen tables.old (application_of app) }
     requires buffers { AreRegistered (tables_of tables.old) copies.cookies.items }
-    ensures taken { (boot : Booted) → IsTaken None entered.now tables.new result
+    ensures taken { (boot : Booted) → IsTaken None entered.now tables.new cont.new
         (opens_or_waits (call_with boot (tables_of tables.old) entered.now) (asked_by (application_of app) login)
         (application_of app) (copies_in copies)) }
     ensures pages { (setup : AnySetup)
@@ -86,7 +89,7 @@ pub(crate) fn opens(
         places,
         cookies,
     } = copies;
-    let mut cont = Cont::waiting(CallEntry {
+    let entry = CallEntry {
         client: entered.client,
         kind: CallKind::Open,
         login,
@@ -96,10 +99,10 @@ pub(crate) fn opens(
         places,
         session: 0,
         instance: 0,
-    });
+    };
+    waits_as(cont, entry);
     let slot = entered.slot;
-    comes_in(tables, &mut cont, OpenCall { slot, app, login });
+    comes_in(tables, cont, OpenCall { slot, app, login });
     cont.session = reserves(&mut tables.sessions, entered.client, login, cont.instance);
     pins(&mut tables.registry, cookies.as_slice(), slot);
-    cont
 }

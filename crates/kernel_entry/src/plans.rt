@@ -5,7 +5,7 @@ ghost use Rattle.kernel_state.specs.Tables.{HasFreePages, tables_of};
 ghost use Rattle.kernel_state.specs.declared.setup.Setup.{Setup as AnySetup};
 ghost use Rattle.new_calls.specs.Applying.{CanApply};
 ghost use Rattle.new_calls.specs.Deciding.{call_with, taken_of};
-ghost use Rattle.kernel_entry.specs.Applying.{CanTake, IsTaken, meant_by};
+ghost use Rattle.kernel_entry.specs.Applying.{CanTake, IsBlank, IsTaken, meant_by};
 
 use crate::buffers::{drops_buffer, keeps_buffer};
 use crate::in_session::{closes, invokes};
@@ -18,33 +18,41 @@ use rpc_cont::Cont;
 use std::alloc::Global;
 use ta_params::codes::TEE_SUCCESS;
 
-/// Changes the tables as the plan says, and gives the call that its slot is taken for. Takes no memory.
-pub fn apply(alloc: Global, tables: &mut Tables, entered: &Entered, plan: Plan) -> Cont<Pages>
-    requires { CanTake tables.old entered.now plan }
+/// Changes the tables as the plan says, and makes of a call of which nothing is there yet the one that its slot is taken
+/// for. Takes no memory.
+pub fn apply(
+    alloc: Global,
+    tables: &mut Tables,
+    entered: &Entered,
+    plan: Plan,
+    cont: &mut Cont<Pages>,
+)
+    requires takes { CanTake tables.old entered.now plan }
+    requires blank { IsBlank cont.old }
     ensures taken { (boot : Booted) → CanApply (call_with boot (tables_of tables.old) entered.now) plan
-        → IsTaken (meant_by entered.now plan) entered.now tables.new result
+        → IsTaken (meant_by entered.now plan) entered.now tables.new cont.new
         (taken_of (call_with boot (tables_of tables.old) entered.now) plan) }
     ensures pages { (setup : AnySetup)
         → CanApply (call_with (booted_with setup) (tables_of tables.old) entered.now) plan
         → HasFreePages setup tables.old → HasFreePages setup tables.new }
 {
     match plan {
-        Plan::Settles(settled) => settles(alloc, entered, &settled),
-        Plan::Opens { app, login, copies } => opens(tables, entered, app, login, copies),
+        Plan::Settles(settled) => settles(alloc, cont, entered, &settled),
+        Plan::Opens { app, login, copies } => opens(tables, entered, app, login, copies, cont),
         Plan::Invokes {
             session,
             app,
             copies,
-        } => invokes(tables, entered, session, app, copies),
-        Plan::Closes { session, app } => closes(alloc, tables, entered, session, app),
-        Plan::Cancels => settled_call(alloc, entered, entered.head.session, TEE_SUCCESS),
+        } => invokes(tables, entered, session, app, copies, cont),
+        Plan::Closes { session, app } => closes(alloc, tables, entered, session, app, cont),
+        Plan::Cancels => settled_call(alloc, cont, entered, entered.head.session, TEE_SUCCESS),
         Plan::KeepsBuffer { cookie, buffer } => {
             keeps_buffer(&mut tables.registry, cookie, buffer);
-            settled_call(alloc, entered, 0, TEE_SUCCESS)
+            settled_call(alloc, cont, entered, 0, TEE_SUCCESS);
         }
         Plan::DropsBuffer { cookie } => {
             drops_buffer(&mut tables.registry, cookie);
-            settled_call(alloc, entered, 0, TEE_SUCCESS)
+            settled_call(alloc, cont, entered, 0, TEE_SUCCESS);
         }
     }
 }

@@ -1,4 +1,4 @@
-use Rattle.std.proofs.Common.{◌≡◌, ◌-◌, List, [], ◌∷◌, ◌++◌, false, refl, ap, ◌∙◌}
+use Rattle.std.proofs.Common.{◌≡◌, ◌-◌, ℕ, List, [], ◌∷◌, ◌++◌, false, refl, ap, ◌∙◌}
 use Rattle.std.specs.Prelude.{slice_set}
 use Rattle.kernel_state.specs.Setup.{booted_with}
 use Rattle.kernel_state.specs.Tables.{tables_of}
@@ -10,6 +10,7 @@ use Rattle.kernel_state.specs.declared.processor.Processor.TheVariants.{Inside}
 use Rattle.event_journal.specs.Journal.{Contents}
 use Rattle.event_journal.specs.declared.event.Event.TheVariants.{Entry}
 use Rattle.new_calls.specs.Deciding.{call_with, taken_of}
+use Rattle.rpc_cont.specs.declared.cont.Cont.{Cont}
 use Rattle.kernel_entry.proofs.Standing.{new_takes, room_behind, slot_stands}
 use Rattle.kernel_entry.proofs.beginning.enters_new.Goals as goal
 
@@ -29,9 +30,11 @@ returns-clause-stands c applies kernel stands =
     let new = c.lets_in.new.parts in
     let model = call_with (booted_with old.setup) (tables_of old.tables) c.args.entered in
     let taken = taken_of model c.args.plan in
-    let beside : Cancellation = record { session = c.apply-call.result.session; cancel_id = c.args.entered.head.cancel_id; marked = false } in
-    let takes = new_takes old mid new c.args.visitor c.args.entered c.args.plan c.is_cancel-cancels.result beside c.apply-call.new.tables c.apply-call.result c.args.reads
-    c.is_cancel-cancels.ensures (c.apply-call.ensures.taken (booted_with old.setup) applies) (c.apply-call.ensures.pages old.setup applies stands.pages) refl
+    let beside_of : Cont (List ℕ) → Cancellation = λ cont. record { session = cont.session; cancel_id = c.args.entered.head.cancel_id; marked = false } in
+    let beside : Cancellation = beside_of c.deref.result.now in
+    let shown : c.deref.result.now ≡ c.apply.new.cont = let e = c.deref.ensures in let b = c.deref_mut.ensures.writes_back in cc in
+    let takes = new_takes old mid new c.args.visitor c.args.entered c.args.plan c.is_cancel-cancels.result beside c.apply.new.tables c.apply.new.cont c.args.reads
+    c.is_cancel-cancels.ensures (c.apply.ensures.taken (booted_with old.setup) applies) (c.apply.ensures.pages old.setup applies stands.pages) (ap beside_of shown)
     c.takes_slot.ensures c.lets_in.ensures in
     let journal : mid.journal ≡ old.journal = ap (λ (parts : Parts). parts.journal) c.takes_slot.ensures.stays in
     let processors : mid.processors.items ≡ old.processors.items = ap (λ (parts : Parts). parts.processors.items) c.takes_slot.ensures.stays in

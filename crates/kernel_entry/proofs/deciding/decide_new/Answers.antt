@@ -1,8 +1,9 @@
-use Rattle.std.proofs.Common.{◌∙◌, refl, sym}
+use Rattle.std.proofs.Common.{◌∙◌, refl, subst, sym}
 use Rattle.kernel_model.specs.Decision as model
 use Rattle.kernel_state.specs.Setup.{booted_with}
 use Rattle.kernel_state.specs.Tables.{tables_of}
 use Rattle.new_calls.specs.Deciding.{call_with, taken_of}
+use Rattle.kernel_entry.specs.Applying.{IsBlank}
 use Rattle.kernel_entry.proofs.Decisions.{new_so}
 use Rattle.kernel_entry.proofs.deciding.decide_new.Goals as goal
 
@@ -18,7 +19,10 @@ returns-in_ok-cont-in-Takes-clause-decides c kernel stands =
     (model.Takes c.in-Takes.entered.slot taken) c.lowest_free-free.ensures.slot (rw c.in-Takes.is refl) stands c.in_ok-decided.ensures.decides
 
 pub returns-in_ok-cont-in-Takes-clause-found : goal.returns-in_ok-cont-in-Takes-clause-found
-returns-in_ok-cont-in-Takes-clause-found c = record {
-  lowest = sym c.lowest_free-free.ensures.slot ∙ (rw c.in-Takes.is at c.in_ok-decided.ensures.slot);
-  applies = rw c.in-Takes.is at c.in_ok-decided.ensures.can_apply;
-}
+returns-in_ok-cont-in-Takes-clause-found c = (
+  record {
+    lowest = sym c.lowest_free-free.ensures.slot ∙ (rw c.in-Takes.is at c.in_ok-decided.ensures.slot);
+    applies = rw c.in-Takes.is at c.in_ok-decided.ensures.can_apply;
+  },
+  subst IsBlank (sym c.in_ok-cont-in-Takes.ensures.ok) c.blank.ensures,
+)

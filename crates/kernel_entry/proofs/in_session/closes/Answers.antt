@@ -16,7 +16,7 @@ returns-clause-taken c boot instance there known =
     subst (λ (points : List EntryPoint). IsTaken None c.args.entered.now c.comes_in.new.tables c.comes_in.new.cont
     (works_or_waits model kind.Close c.args.session instance no_copies points))
     (c.closing_points-points.ensures boot model.slot false instance known)
-    (session_taken boot c.args.tables.now c.comes_in.new.tables c.args.entered.now _ c.waiting-cont.result c.comes_in.new.cont kind.Close
+    (session_taken boot c.args.tables.now c.comes_in.new.tables c.args.entered.now _ c.waits_as.new.cont c.comes_in.new.cont kind.Close
     c.args.session instance no_copies (points_of c.closing_points-points.result) c.comes_in.new.tables.registry
-    c.waiting-cont.ensures.entered (ap kept_params c.waiting-cont.ensures.params) refl refl refl c.new_in.ensures refl
+    c.waits_as.ensures.entered (ap kept_params c.waits_as.ensures.params) refl refl refl c.new_in.ensures refl
     (c.comes_in.ensures.came boot instance there known) refl)

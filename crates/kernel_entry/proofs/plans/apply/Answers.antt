@@ -12,14 +12,14 @@ use Rattle.kernel_entry.proofs.plans.apply.Goals as goal
 
 pub returns-in-Settles-clause-taken : goal.returns-in-Settles-clause-taken
 returns-in-Settles-clause-taken c boot applies =
-    rw c.in-Settles.is (settled_taken boot c.args.tables.now c.args.entered.now c.in-Settles.settled c.settles.result
+    rw c.in-Settles.is (settled_taken boot c.args.tables.now c.args.entered.now c.in-Settles.settled c.settles.new.cont
     (c.settles.ensures boot (tables_of c.args.tables.now)))
 
 pub returns-in-Invokes-clause-taken : goal.returns-in-Invokes-clause-taken
 returns-in-Invokes-clause-taken c boot applies =
     let model = call_with boot (tables_of c.args.tables.now) c.args.entered.now in
     let can : CanInvoke model c.in-Invokes.session (application_of c.in-Invokes.app) c.in-Invokes.copies.cookies.items = rw c.in-Invokes.is at applies in
-    rw c.in-Invokes.is (in_session_taken model c.in-Invokes.session (application_of c.in-Invokes.app) c.args.entered.now c.invokes.new.tables c.invokes.result
+    rw c.in-Invokes.is (in_session_taken model c.in-Invokes.session (application_of c.in-Invokes.app) c.args.entered.now c.invokes.new.tables c.invokes.new.cont
     (λ named. invokes model named (copies_in c.in-Invokes.copies)) can.there
     (c.invokes.ensures.taken boot can.there.instance (found_there model c.in-Invokes.session (application_of c.in-Invokes.app) can.there) can.there.known))
 
@@ -30,7 +30,7 @@ pub returns-in-Closes-clause-taken : goal.returns-in-Closes-clause-taken
 returns-in-Closes-clause-taken c boot applies =
     let model = call_with boot (tables_of c.args.tables.now) c.args.entered.now in
     let there : IsInSession model c.in-Closes.session (application_of c.in-Closes.app) = rw c.in-Closes.is at applies in
-    rw c.in-Closes.is (in_session_taken model c.in-Closes.session (application_of c.in-Closes.app) c.args.entered.now c.closes.new.tables c.closes.result
+    rw c.in-Closes.is (in_session_taken model c.in-Closes.session (application_of c.in-Closes.app) c.args.entered.now c.closes.new.tables c.closes.new.cont
     (λ named. closes model named) there
     (c.closes.ensures.taken boot there.instance (found_there model c.in-Closes.session (application_of c.in-Closes.app) there) there.known))
 

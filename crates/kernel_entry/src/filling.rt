@@ -1,0 +1,108 @@
+//! A call that is filled where it stays: its box is made before anything is changed, and filling it takes no memory.
+ghost use Rattle.std.specs.Prelude.{◌≡◌, None};
+ghost use Rattle.job_model.specs.Job.{of_tee};
+ghost use Rattle.rpc_cont.specs.Beginning.{IsEntered, IsFresh};
+ghost use Rattle.kernel_entry.specs.Applying.{IsBlank, IsNew};
+
+use arrayvec::ArrayVec;
+use frame_pool::Pages;
+use job_model::CallKind;
+use rpc_cont::{CallEntry, Cont, Phase};
+use std::alloc::Global;
+use ta_params::codes::{TEE_ORIGIN_TEE, TEE_SUCCESS};
+use ta_params::{CallResult, Login};
+
+/// Whom no login names.
+pub(crate) fn nobody() -> Login {
+    Login {
+        client: [0; 16],
+        kind: 0,
+    }
+}
+
+/// A result that no application returned.
+pub(crate) fn of_tee(code: u32) -> CallResult
+    ensures { result ≡ of_tee code }
+{
+    CallResult {
+        result: code,
+        origin: TEE_ORIGIN_TEE,
+    }
+}
+
+/// A call of which nothing is there yet.
+pub(crate) fn blank(alloc: Global) -> Cont<Pages>
+    ensures { IsBlank result }
+{
+    Cont::settled(
+        CallEntry {
+            client: 0,
+            kind: CallKind::Settled,
+            login: nobody(),
+            context: 0,
+            params: None,
+            arg: 0,
+            places: ArrayVec::new_in(alloc),
+            session: 0,
+            instance: 0,
+        },
+        of_tee(TEE_SUCCESS),
+    )
+}
+
+/// The call is the one of this entry, with this result so far.
+fn fills(cont: &mut Cont<Pages>, entered: CallEntry, outcome: CallResult, phase: Phase)
+    requires { IsBlank cont.old }
+    ensures fresh { IsFresh cont.new }
+    ensures entered { IsEntered entered cont.new }
+    ensures params { cont.new.params ≡ entered.params }
+    ensures outcome { cont.new.result ≡ outcome }
+    ensures phase { cont.new.phase ≡ phase }
+{
+    let CallEntry {
+        client,
+        kind,
+        login,
+        context,
+        params,
+        arg,
+        places,
+        session,
+        instance,
+    } = entered;
+    cont.client = client;
+    cont.kind = kind;
+    cont.login = login;
+    cont.context = context;
+    cont.params = params;
+    cont.arg = arg;
+    cont.places = places;
+    cont.session = session;
+    cont.instance = instance;
+    cont.result = outcome;
+    cont.phase = phase;
+}
+
+/// The call is the one of this entry, and waits for its instance.
+pub(crate) fn waits_as(cont: &mut Cont<Pages>, entered: CallEntry)
+    requires { IsBlank cont.old }
+    ensures new { IsNew cont.new }
+    ensures entered { IsEntered entered cont.new }
+    ensures params { cont.new.params ≡ entered.params }
+{
+    fills(cont, entered, of_tee(TEE_SUCCESS), Phase::Waits);
+}
+
+/// The call is the one of this entry, and was settled there with this result.
+pub(crate) fn ends_as(cont: &mut Cont<Pages>, entered: CallEntry, outcome: CallResult)
+    requires { IsBlank cont.old }
+    ensures fresh { IsFresh cont.new }
+    ensures entered { IsEntered entered cont.new }
+    ensures params { cont.new.params ≡ entered.params }
+    ensures outcome { cont.new.result ≡ outcome }
+    ensures phase { cont.new.phase ≡ Phase.Ends }
+    ensures app { cont.new.app ≡ None }
+{
+    fills(cont, entered, outcome, Phase::Ends);
+    cont.app = None;
+}
