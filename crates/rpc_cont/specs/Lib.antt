@@ -2,6 +2,7 @@ pub mod Conts
 pub mod Running
 pub mod Beginning
 pub mod Spans
+pub mod Stopped
 pub mod Advancing
 pub mod Answering
 pub mod Resuming

@@ -7,8 +7,9 @@ ghost use Rattle.native_tas.specs.Relation.{answer_of};
 ghost use Rattle.rpc_cont.specs.Advancing.{CanAdvance, CanRun, IsAdvance, phase_after, turn_of};
 ghost use Rattle.rpc_cont.specs.Answering.{CanBeAnswered};
 ghost use Rattle.rpc_cont.specs.Conts.{job_at, job_for, job_of, job_with, kept_params, memory_size};
-ghost use Rattle.rpc_cont.specs.Running.{IsIdle, IsRun, IsRunning, IsTurn, worked};
+ghost use Rattle.rpc_cont.specs.Running.{IsRun, IsRunning, IsTurn, worked};
 ghost use Rattle.rpc_cont.specs.Shapes.{IsShaped};
+ghost use Rattle.rpc_cont.specs.Stopped.{HasRunTo};
 ghost use Rattle.ta_isa.specs.Spelling.{IsValid};
 ghost use Rattle.ta_step.specs.Machine.{state_of};
 ghost use Rattle.ta_step.specs.Requests.{NamesRange};
@@ -121,47 +122,34 @@ impl<M: TaMemory + Drop> Cont<M> {
         ensures size { memory_size M.bytes self.new ≡ memory_size M.bytes self.old }
         ensures stays { self.new ≡ record (worked self.old self.new) { steps = self.new.steps } }
     {
-        let Some(mut machine) = self.machine.take() else {
+        let Some(machine) = &mut self.machine else {
             unreachable!();
         };
-        let (stop, used) = run_machine(&mut machine, image, steps);
+        let (stop, used) = run_machine(machine, image, steps);
         self.steps += u128::from(used);
-        let stop = self.stopped(uuid, image, machine, stop);
+        let stop = self.stopped(uuid, image, stop);
         (stop, used)
     }
 
-    /// Serves the stop of its machine. Answers why the call stopped, if it did.
-    fn stopped(
-        &mut self,
-        uuid: Uuid,
-        image: &Image,
-        machine: Machine<M>,
-        stop: Stop,
-    ) -> Option<ContStop>
-        requires idle { IsIdle self.old }
-        requires flag { (state_of M.bytes machine).cancelled ≡ self.old.cancelled }
-        requires asked { (state_of M.bytes machine).asked ≡ request_of stop }
-        requires named { NamesRange stop (state_of M.bytes machine) }
-        ensures serves { (here : AnyPoint) → self.old.point ≡ Some here
-            → IsSomeAnd (after_run (job_with Nothing uuid self.old) image.now here (state_of M.bytes machine) stop)
-            (λ turn. IsTurn M.bytes uuid image.now self.new turn result) }
-        ensures size { memory_size M.bytes self.new ≡ length (state_of M.bytes machine).memory }
+    /// Serves the stop that its machine has run to. Answers why the call stopped, if it did.
+    fn stopped(&mut self, uuid: Uuid, image: &Image, stop: Stop) -> Option<ContStop>
+        requires { HasRunTo M.bytes self.old stop }
+        ensures serves { IsSomeAnd self.old.machine (λ m. (here : AnyPoint) → self.old.point ≡ Some here
+            → IsSomeAnd (after_run (job_with Nothing uuid self.old) image.now here (state_of M.bytes m) stop)
+            (λ turn. IsTurn M.bytes uuid image.now self.new turn result)) }
+        ensures size { memory_size M.bytes self.new ≡ memory_size M.bytes self.old }
         ensures stays { self.new ≡ worked self.old self.new }
     {
         match stop {
-            Stop::Ended { result, context } => self.returned(image, machine, result, context),
-            Stop::Panicked(code) => {
-                self.machine = Some(machine);
-                Some(self.panicked(code))
+            Stop::Ended { result, context } => {
+                let Some(machine) = self.machine.take() else {
+                    unreachable!();
+                };
+                self.returned(image, machine, result, context)
             }
-            Stop::Asks(request) => {
-                self.machine = Some(machine);
-                self.ask(uuid, request)
-            }
-            Stop::Interrupted => {
-                self.machine = Some(machine);
-                None
-            }
+            Stop::Panicked(code) => Some(self.panicked(code)),
+            Stop::Asks(request) => self.ask(uuid, request),
+            Stop::Interrupted => None,
         }
     }
 
