@@ -58,11 +58,11 @@ room word i lt d =
     let short : length (take i word) ≤ 15 = omega (arith, length-take i word) in
     omega (arith, below, pow-le-pow_right {n = 16} (omega arith) short)
 
-pub one_more : (radix : ℕ) (word : List ℕ) (i byte digit : ℕ) → i < length word → AllDigits radix (take i word) → byte ≡ get_or word i 0 → (digit_value byte < radix) × (digit ≡ digit_value byte)
+pub one_more : (radix : ℕ) (word : List ℕ) (i digit : ℕ) → radix ≤ 16 → i < length word → AllDigits radix (take i word) → digit ≡ min 16 (digit_value (get_or word i 0)) → digit < radix
     → AllDigits radix (take (i + 1) word) × (digits_value radix (take (i + 1) word) ≡ digits_value radix (take i word) * radix + digit)
-one_more radix word i byte digit lt d is v =
-    let same : digit_value byte ≡ digit_value (get_or word i 0) = ap digit_value is in
-    (digits_more radix word i lt d (omega (arith, same, v)), digits_value_more radix word i lt ∙ ap (λ (k : ℕ). digits_value radix (take i word) * radix + k) (sym (v.1 ∙ same)))
+one_more radix word i digit small lt d is below =
+    let same : digit ≡ digit_value (get_or word i 0) = omega arith in
+    (digits_more radix word i lt d (omega arith), digits_value_more radix word i lt ∙ ap (λ (k : ℕ). digits_value radix (take i word) * radix + k) (sym same))
 
 pub saturated : (a b n m v digit : ℕ) → n ≡ min 4294967295 v → a ≡ min (n * 10) 4294967295 → b ≡ min (a + digit) 4294967295 → m ≡ v * 10 + digit → b ≡ min 4294967295 m
 saturated a b n m v digit is doubled added whole = omega arith

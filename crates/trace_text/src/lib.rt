@@ -6,6 +6,7 @@
 #![tactic(auto)]
 
 mod builder;
+mod digit;
 mod fault;
 mod item;
 mod laws;

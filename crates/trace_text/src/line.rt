@@ -11,7 +11,12 @@ use text_lines::Words;
 pub fn is_text(line: &[u8]) -> bool
     ensures { result ≡ list_all is_text_byte line.now }
 {
-    line.iter().all(|byte| matches!(*byte, 0x20..=0x7e))
+    // Without an exit the bytes are tested many at a time.
+    let mut all = true;
+    for byte in line {
+        all &= matches!(*byte, 0x20..=0x7e);
+    }
+    all
 }
 
 /// Whether a line has a first word and so many behind it, none of them empty.

@@ -6,6 +6,7 @@ ghost use Rattle.trace_text.specs.Reading.{has_leading_zero, decimal_at, hexadec
 ghost use Rattle.trace_text.specs.Forms.{is_decimal, decimal, is_hexadecimal, hexadecimal, is_register, register, is_uuid, uuid, is_hex, bytes};
 ghost use Rattle.trace_text.specs.Judging.{IsSaid, Judged, Reads};
 
+use crate::digit::digit_of;
 use crate::fault::{BadKind, LineFault};
 use crate::item::Reg;
 use hex::FromHexError;
@@ -33,8 +34,11 @@ fn decimal(word: &[u8]) -> Option<u32>
     }
     let mut number = 0u32;
     for byte in word {
-        let digit = char::from(*byte).to_digit(10)?;
-        number = number.saturating_mul(10).saturating_add(digit);
+        let digit = digit_of(*byte);
+        if digit >= 10 {
+            return None;
+        }
+        number = number.saturating_mul(10).saturating_add(u32::from(digit));
     }
     Some(number)
 }
@@ -61,7 +65,10 @@ fn hexadecimal(word: &[u8], most: usize) -> Option<u64>
     }
     let mut number = 0u64;
     for byte in word {
-        let digit = char::from(*byte).to_digit(16)?;
+        let digit = digit_of(*byte);
+        if digit >= 16 {
+            return None;
+        }
         number = number * 16 + u64::from(digit);
     }
     Some(number)

@@ -1,4 +1,4 @@
-use Rattle.std.proofs.Common.{◌<◌, length, arith}
+use Rattle.std.proofs.Common.{◌<◌, length, ◌∙◌, arith}
 use Rattle.std.proofs.lemmas.Bool.Decides.{nat_tests}
 use Rattle.trace_text.proofs.Digits.{room, one_more, hexadecimal_done}
 use Rattle.trace_text.proofs.word.hexadecimal.Goals as goal
@@ -11,12 +11,12 @@ overflow_mul-number c =
 pub overflow_add-number : goal.overflow_add-number
 overflow_add-number c =
     let below = room c.args.word.now c.loop-byte.byte-index (omega arith) c.loop-byte.invariant.0 in
-    omega (arith, below, c.loop-byte.invariant.1, c.in_ok-digit.ensures.value)
+    omega (arith, below, c.loop-byte.invariant.1, c.from.ensures)
 
 pub loop-byte-preserved : goal.loop-byte-preserved
 loop-byte-preserved c =
     let so_far = c.loop-byte.invariant in
-    let more = one_more 16 c.args.word.now c.loop-byte.byte-index c.from.result c.in_ok-digit.digit c.loop-byte-test.true so_far.0 c.from.ensures c.in_ok-digit.ensures.value in
+    let more = one_more 16 c.args.word.now c.loop-byte.byte-index c.from.result (omega arith) c.loop-byte-test.true so_far.0 (c.from.ensures ∙ c.digit_of-digit.ensures) (omega arith) in
     (more.0, omega (arith, more.1, so_far.1))
 
 pub returns : goal.returns
