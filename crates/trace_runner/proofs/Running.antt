@@ -8,13 +8,17 @@ use Rattle.play_model.specs.Play.{Play, played}
 use Rattle.play_model.specs.Text.{text_by, text_of, text_of_play}
 use Rattle.ports.specs.Port.{Appends, Moves, Rose}
 use Rattle.ta_isa.specs.declared.boot.Boot.{Boot}
-use Rattle.trace_text.specs.Grammar.{EveryText, Spells}
 use Rattle.trace_text.specs.declared.trace.Trace.{Trace}
+use Rattle.trace_runner.specs.Content.{IsTooLarge, Spells, refused_by, refused_for, refused_in, text_for}
 use Rattle.trace_runner.specs.Input.{IsAtEnd}
 use Rattle.trace_runner.specs.Line.{bad_trace_line}
 use Rattle.trace_runner.specs.Output.{AppendsPart}
-use Rattle.trace_runner.specs.Run.{Answered, CanBeServed, HasTooMany, IsBad, IsServedBy, IsServedWhole, IsTold, IsPlayedOut, IsTooLong, IsTooMuch, Ran, Statuses, Writes, WritesPart, WritesText, refused_by, refused_in, status_of, status_of_play, uuids_of}
+use Rattle.trace_runner.specs.Run.{Answered, CanBeServed, IsBad, IsDone, IsServedBy, IsServedWhole, IsTold, IsTooLong, IsTooMuch, Ran, Statuses, Writes, WritesPart, WritesText, status_of, status_of_play, uuids_of}
 use Rattle.trace_runner.proofs.Played.{some-and}
+use Rattle.trace_runner.proofs.Readings.{EveryInput}
+use Rattle.trace_runner.specs.declared.content.Content.{Content}
+use Rattle.trace_runner.specs.declared.content.Content.TheVariants as variant
+use Rattle.trace_runner.specs.declared.grammar.Grammar.{Grammar}
 use Rattle.trace_runner.specs.declared.player.Stop.{Stop}
 use Rattle.trace_runner.specs.declared.player.Stop.TheVariants.{Full, Failed}
 use Rattle.trace_runner.specs.declared.player.Stop.TheVariants as stop
@@ -25,16 +29,16 @@ use Rattle.trace_runner.specs.declared.status.Status.{Status}
 -- ---- reading
 
 -- an input that was read to its end is the bytes that were read
-pub Ran-read : (natives : List Native) (left_old left_new : Option (List ℕ)) (bytes : List ℕ) (result : Status)
+pub Ran-read : (grammar : Grammar) (natives : List Native) (left_old left_new : Option (List ℕ)) (bytes : List ℕ) (result : Status)
     (old new : Option (List ℕ)) → Moves left_old left_new bytes → IsAtEnd left_new → length bytes ≤ 2 ^ 24
-    → Answered natives bytes result old new → IfSome left_old (λ input. Ran natives input left_new result old new)
-Ran-read natives (Some l) (Some r) bytes result old new moved ended short answered =
+    → Answered grammar natives bytes result old new → IfSome left_old (λ input. Ran grammar natives input left_new result old new)
+Ran-read grammar natives (Some l) (Some r) bytes result old new moved ended short answered =
     let same : bytes ≡ l = sym (append-nil bytes) ∙ ap (λ (x : List ℕ). bytes ++ x) (sym ended) ∙ sym moved in
-    subst (λ (x : List ℕ). Ran natives x (Some r) result old new) same
+    subst (λ (x : List ℕ). Ran grammar natives x (Some r) result old new) same
     (inr (inr (short, ap (λ (x : List ℕ). Some x) ended, answered)))
-Ran-read natives None None bytes result old new moved ended short answered = tt
-Ran-read natives (Some l) None bytes result old new moved ended short answered = absurd moved
-Ran-read natives None (Some r) bytes result old new moved ended short answered = absurd moved
+Ran-read grammar natives None None bytes result old new moved ended short answered = tt
+Ran-read grammar natives (Some l) None bytes result old new moved ended short answered = absurd moved
+Ran-read grammar natives None (Some r) bytes result old new moved ended short answered = absurd moved
 
 -- ---- playing
 
@@ -97,7 +101,7 @@ refused-status None some = absurd cc
 -- what a play has told is what it writes
 pub told-writes : (natives : List Native) (trace : Trace) (stopped : Result (Unit {0}) Stop)
     (old new : Option (List ℕ)) → IsTold natives trace stopped old new
-    → IsPlayedOut natives trace (status_of stopped) old new
+    → IsDone natives (variant.Trace trace) (status_of stopped) old new
 told-writes natives trace (Ok done) old new told =
     inr (and-more (Appends old new) _ (text_of natives trace)
     (λ text put. inl (sym (ap status_of_play told.0), put)) told.1)
@@ -135,96 +139,96 @@ long-refused None e = absurd cc
 long-refused (Some more) e = refl
 
 -- at 0
-served-ok : (natives : List Native) (input : List ℕ) (trace : Trace) (old new : Option (List ℕ))
-    → (IsTooLong input → ⊥) → Spells (uuids_of natives) input trace
-    → IsServedBy natives trace status.Ok old new → (other : Trace) × CanBeServed natives input other
+served-ok : (grammar : Grammar) (natives : List Native) (input : List ℕ) (content : Content) (old new : Option (List ℕ))
+    → (IsTooLong input → ⊥) → Spells grammar (uuids_of natives) input content
+    → IsServedBy natives content status.Ok old new → (other : Content) × CanBeServed grammar natives input other
     × WritesText natives other old new
-served-ok natives input trace old new short spelled (inl many) = let e = many.1 in absurd cc
-served-ok natives input trace old new short spelled (inr (few, inl want)) = let e = want.0 in absurd cc
-served-ok natives input trace old new short spelled (inr (few, inr plays)) =
-    let text = some-and _ (text_of natives trace) plays in
-    let whole = writes-named (status_of_play (refused_in natives trace)) text.0 status.Ok old new text.2
+served-ok grammar natives input content old new short spelled (inl many) = let e = many.1 in absurd cc
+served-ok grammar natives input content old new short spelled (inr (few, inl want)) = let e = want.0 in absurd cc
+served-ok grammar natives input content old new short spelled (inr (few, inr plays)) =
+    let text = some-and _ (text_for natives content) plays in
+    let whole = writes-named (status_of_play (refused_for natives content)) text.0 status.Ok old new text.2
     (λ e. absurd cc) (λ e. absurd cc) in (
-      trace,
-      record { short = short; spelled = spelled; few = few; goes_on = ok-refused (refused_in natives trace) whole.0 },
+      content,
+      record { short = short; spelled = spelled; few = few; goes_on = ok-refused (refused_for natives content) whole.0 },
       subst (λ (o : Option (List ℕ)). IsSomeAnd o (Appends old new)) (sym text.1) whole.1,
     )
 
-ran-ok : (natives : List Native) (input : List ℕ) (left : Option (List ℕ)) (old new : Option (List ℕ))
-    → Ran natives input left status.Ok old new
-    → (left ≡ Some []) × ((trace : Trace) × CanBeServed natives input trace × WritesText natives trace old new)
-ran-ok natives input left old new (inl ((inl e), nothing)) = absurd cc
-ran-ok natives input left old new (inl ((inr e), nothing)) = absurd cc
-ran-ok natives input left old new (inr (inl long)) = let e = long.0 in absurd cc
-ran-ok natives input left old new (inr (inr (short, ended, inl want))) = let e = want.0 in absurd cc
-ran-ok natives input left old new (inr (inr (short, ended, inr (inl refused)))) =
+ran-ok : (grammar : Grammar) (natives : List Native) (input : List ℕ) (left : Option (List ℕ)) (old new : Option (List ℕ))
+    → Ran grammar natives input left status.Ok old new
+    → (left ≡ Some []) × ((content : Content) × CanBeServed grammar natives input content × WritesText natives content old new)
+ran-ok grammar natives input left old new (inl ((inl e), nothing)) = absurd cc
+ran-ok grammar natives input left old new (inl ((inr e), nothing)) = absurd cc
+ran-ok grammar natives input left old new (inr (inl long)) = let e = long.0 in absurd cc
+ran-ok grammar natives input left old new (inr (inr (short, ended, inl want))) = let e = want.0 in absurd cc
+ran-ok grammar natives input left old new (inr (inr (short, ended, inr (inl refused)))) =
     let whole = writes-named BadTrace (bad_trace_line refused.place refused.kind) status.Ok old new refused.line
     (λ e. absurd cc) (λ e. absurd cc) in
     let e = whole.0 in absurd cc
-ran-ok natives input left old new (inr (inr (short, ended, inr (inr served)))) = (
+ran-ok grammar natives input left old new (inr (inr (short, ended, inr (inr served)))) = (
   ended,
-  served-ok natives input served.trace old new
+  served-ok grammar natives input served.content old new
       (λ long. absurd (omega (arith, long, short))) served.spelled served.served,
 )
 
 -- at TooLong
-served-long : (natives : List Native) (input : List ℕ) (trace : Trace) (old new : Option (List ℕ))
-    → Spells (uuids_of natives) input trace
-    → IsServedBy natives trace TooLong old new → IsTooMuch natives input old new
-served-long natives input trace old new spelled (inl many) = inr (inl (trace, spelled, many.0, many.2))
-served-long natives input trace old new spelled (inr (few, inl want)) = let e = want.0 in absurd cc
-served-long natives input trace old new spelled (inr (few, inr plays)) =
-    let text = some-and _ (text_of natives trace) plays in
-    let whole = writes-named (status_of_play (refused_in natives trace)) text.0 TooLong old new text.2
+served-long : (grammar : Grammar) (natives : List Native) (input : List ℕ) (content : Content) (old new : Option (List ℕ))
+    → Spells grammar (uuids_of natives) input content
+    → IsServedBy natives content TooLong old new → IsTooMuch grammar natives input old new
+served-long grammar natives input content old new spelled (inl many) = inr (inl (content, spelled, many.0, many.2))
+served-long grammar natives input content old new spelled (inr (few, inl want)) = let e = want.0 in absurd cc
+served-long grammar natives input content old new spelled (inr (few, inr plays)) =
+    let text = some-and _ (text_for natives content) plays in
+    let whole = writes-named (status_of_play (refused_for natives content)) text.0 TooLong old new text.2
     (λ e. absurd cc) (λ e. absurd cc) in
     inr (inr (
-      trace,
+      content,
       spelled,
       few,
-      long-refused (refused_in natives trace) whole.0,
+      long-refused (refused_for natives content) whole.0,
       subst (λ (o : Option (List ℕ)). IsSomeAnd o (Appends old new)) (sym text.1) whole.1,
     ))
 
-ran-long : (natives : List Native) (input : List ℕ) (left : Option (List ℕ)) (old new : Option (List ℕ))
-    → Ran natives input left TooLong old new → IsTooMuch natives input old new
-ran-long natives input left old new (inl ((inl e), nothing)) = absurd cc
-ran-long natives input left old new (inl ((inr e), nothing)) = absurd cc
-ran-long natives input left old new (inr (inl long)) = inl (long.1, long.2)
-ran-long natives input left old new (inr (inr (short, ended, inl want))) = let e = want.0 in absurd cc
-ran-long natives input left old new (inr (inr (short, ended, inr (inl refused)))) =
+ran-long : (grammar : Grammar) (natives : List Native) (input : List ℕ) (left : Option (List ℕ)) (old new : Option (List ℕ))
+    → Ran grammar natives input left TooLong old new → IsTooMuch grammar natives input old new
+ran-long grammar natives input left old new (inl ((inl e), nothing)) = absurd cc
+ran-long grammar natives input left old new (inl ((inr e), nothing)) = absurd cc
+ran-long grammar natives input left old new (inr (inl long)) = inl (long.1, long.2)
+ran-long grammar natives input left old new (inr (inr (short, ended, inl want))) = let e = want.0 in absurd cc
+ran-long grammar natives input left old new (inr (inr (short, ended, inr (inl refused)))) =
     let whole = writes-named BadTrace (bad_trace_line refused.place refused.kind) TooLong old new refused.line
     (λ e. absurd cc) (λ e. absurd cc) in
     let e = whole.0 in absurd cc
-ran-long natives input left old new (inr (inr (short, ended, inr (inr served)))) =
-    served-long natives input served.trace old new served.spelled served.served
+ran-long grammar natives input left old new (inr (inr (short, ended, inr (inr served)))) =
+    served-long grammar natives input served.content old new served.spelled served.served
 
 -- at BadTrace
 status-played : (o : Option ℕ) → BadTrace ≡ status_of_play o → ⊥
 status-played None e = absurd cc
 status-played (Some more) e = absurd cc
 
-served-bad : (natives : List Native) (trace : Trace) (old new : Option (List ℕ))
-    → IsServedBy natives trace BadTrace old new → ⊥
-served-bad natives trace old new (inl many) = let e = many.1 in absurd cc
-served-bad natives trace old new (inr (few, inl want)) = let e = want.0 in absurd cc
-served-bad natives trace old new (inr (few, inr plays)) =
-    let text = some-and _ (text_of natives trace) plays in
-    let whole = writes-named (status_of_play (refused_in natives trace)) text.0 BadTrace old new text.2
+served-bad : (natives : List Native) (content : Content) (old new : Option (List ℕ))
+    → IsServedBy natives content BadTrace old new → ⊥
+served-bad natives content old new (inl many) = let e = many.1 in absurd cc
+served-bad natives content old new (inr (few, inl want)) = let e = want.0 in absurd cc
+served-bad natives content old new (inr (few, inr plays)) =
+    let text = some-and _ (text_for natives content) plays in
+    let whole = writes-named (status_of_play (refused_for natives content)) text.0 BadTrace old new text.2
     (λ e. absurd cc) (λ e. absurd cc) in
-    status-played (refused_in natives trace) whole.0
+    status-played (refused_for natives content) whole.0
 
-ran-bad : (natives : List Native) (input : List ℕ) (left : Option (List ℕ)) (old new : Option (List ℕ))
-    → Ran natives input left BadTrace old new → IsBad natives input old new
-ran-bad natives input left old new (inl ((inl e), nothing)) = absurd cc
-ran-bad natives input left old new (inl ((inr e), nothing)) = absurd cc
-ran-bad natives input left old new (inr (inl long)) = let e = long.0 in absurd cc
-ran-bad natives input left old new (inr (inr (short, ended, inl want))) = let e = want.0 in absurd cc
-ran-bad natives input left old new (inr (inr (short, ended, inr (inl refused)))) =
+ran-bad : (grammar : Grammar) (natives : List Native) (input : List ℕ) (left : Option (List ℕ)) (old new : Option (List ℕ))
+    → Ran grammar natives input left BadTrace old new → IsBad grammar natives input old new
+ran-bad grammar natives input left old new (inl ((inl e), nothing)) = absurd cc
+ran-bad grammar natives input left old new (inl ((inr e), nothing)) = absurd cc
+ran-bad grammar natives input left old new (inr (inl long)) = let e = long.0 in absurd cc
+ran-bad grammar natives input left old new (inr (inr (short, ended, inl want))) = let e = want.0 in absurd cc
+ran-bad grammar natives input left old new (inr (inr (short, ended, inr (inl refused)))) =
     let whole = writes-named BadTrace (bad_trace_line refused.place refused.kind) BadTrace old new refused.line
     (λ e. absurd cc) (λ e. absurd cc) in
     (λ long. absurd (omega (arith, long, short)), (refused.place, refused.kind, refused.first, whole.1))
-ran-bad natives input left old new (inr (inr (short, ended, inr (inr served)))) =
-    absurd (served-bad natives served.trace old new served.served)
+ran-bad grammar natives input left old new (inr (inr (short, ended, inr (inr served)))) =
+    absurd (served-bad natives served.content old new served.served)
 
 -- at WriteFault and Memory
 is-short : (result : Status) → (result ≡ WriteFault) ⊎ (result ≡ Memory) → (result ≡ status.Ok → ⊥)
@@ -237,29 +241,29 @@ other-status : (o : Option ℕ) (result : Status) → (result ≡ status.Ok → 
 other-status None result other e = other.0 e
 other-status (Some more) result other e = other.2 e
 
-served-part : (natives : List Native) (input : List ℕ) (trace : Trace) (result : Status) (old new : Option (List ℕ))
-    → Spells (uuids_of natives) input trace
-    → (result ≡ WriteFault) ⊎ (result ≡ Memory) → IsServedBy natives trace result old new
-    → WritesPart natives input old new
-served-part natives input trace result old new spelled short (inl many) = inl many.2
-served-part natives input trace result old new spelled short (inr (few, inl want)) = inl want.1
-served-part natives input trace result old new spelled short (inr (few, inr plays)) =
+served-part : (grammar : Grammar) (natives : List Native) (input : List ℕ) (content : Content) (result : Status) (old new : Option (List ℕ))
+    → Spells grammar (uuids_of natives) input content
+    → (result ≡ WriteFault) ⊎ (result ≡ Memory) → IsServedBy natives content result old new
+    → WritesPart grammar natives input old new
+served-part grammar natives input content result old new spelled short (inl many) = inl many.2
+served-part grammar natives input content result old new spelled short (inr (few, inl want)) = inl want.1
+served-part grammar natives input content result old new spelled short (inr (few, inr plays)) =
     inr (inr (
-      trace,
+      content,
       spelled,
-      and-more _ (AppendsPart old new) (text_of natives trace)
-          (λ text writes. writes-part (status_of_play (refused_in natives trace)) text result old new writes
-          (other-status (refused_in natives trace) result (is-short result short)))
+      and-more _ (AppendsPart old new) (text_for natives content)
+          (λ text writes. writes-part (status_of_play (refused_for natives content)) text result old new writes
+          (other-status (refused_for natives content) result (is-short result short)))
           plays,
     ))
 
-ran-part : (natives : List Native) (input : List ℕ) (left : Option (List ℕ)) (result : Status)
-    (old new : Option (List ℕ)) → Ran natives input left result old new
-    → (result ≡ WriteFault) ⊎ (result ≡ Memory) → WritesPart natives input old new
-ran-part natives input left result old new (inl unread) short = inl unread.1
-ran-part natives input left result old new (inr (inl long)) short = inl long.2
-ran-part natives input left result old new (inr (inr (few, ended, inl want))) short = inl want.1
-ran-part natives input left result old new (inr (inr (few, ended, inr (inl refused)))) short =
+ran-part : (grammar : Grammar) (natives : List Native) (input : List ℕ) (left : Option (List ℕ)) (result : Status)
+    (old new : Option (List ℕ)) → Ran grammar natives input left result old new
+    → (result ≡ WriteFault) ⊎ (result ≡ Memory) → WritesPart grammar natives input old new
+ran-part grammar natives input left result old new (inl unread) short = inl unread.1
+ran-part grammar natives input left result old new (inr (inl long)) short = inl long.2
+ran-part grammar natives input left result old new (inr (inr (few, ended, inl want))) short = inl want.1
+ran-part grammar natives input left result old new (inr (inr (few, ended, inr (inl refused)))) short =
     inr (inl (
       refused.place,
       refused.kind,
@@ -267,24 +271,24 @@ ran-part natives input left result old new (inr (inr (few, ended, inr (inl refus
       writes-part BadTrace (bad_trace_line refused.place refused.kind) result old new refused.line
           (is-short result short).1,
     ))
-ran-part natives input left result old new (inr (inr (few, ended, inr (inr served)))) short =
-    served-part natives input served.trace result old new served.spelled short served.served
+ran-part grammar natives input left result old new (inr (inr (few, ended, inr (inr served)))) short =
+    served-part grammar natives input served.content result old new served.spelled short served.served
 
 -- all of them
-pub ran-statuses : (natives : List Native) (input : List ℕ) (left : Option (List ℕ)) (result : Status)
-    (old new : Option (List ℕ)) → Ran natives input left result old new → Statuses natives input left result old new
-ran-statuses natives input left result old new ran = record {
-  ok = λ e. ran-ok natives input left old new (subst (λ (s : Status). Ran natives input left s old new) e ran);
-  too_long = λ e. ran-long natives input left old new (subst (λ (s : Status). Ran natives input left s old new) e ran);
-  bad_trace = λ e. ran-bad natives input left old new (subst (λ (s : Status). Ran natives input left s old new) e ran);
-  part = ran-part natives input left result old new ran;
+pub ran-statuses : (grammar : Grammar) (natives : List Native) (input : List ℕ) (left : Option (List ℕ)) (result : Status)
+    (old new : Option (List ℕ)) → Ran grammar natives input left result old new → Statuses grammar natives input left result old new
+ran-statuses grammar natives input left result old new ran = record {
+  ok = λ e. ran-ok grammar natives input left old new (subst (λ (s : Status). Ran grammar natives input left s old new) e ran);
+  too_long = λ e. ran-long grammar natives input left old new (subst (λ (s : Status). Ran grammar natives input left s old new) e ran);
+  bad_trace = λ e. ran-bad grammar natives input left old new (subst (λ (s : Status). Ran grammar natives input left s old new) e ran);
+  part = ran-part grammar natives input left result old new ran;
 }
 
-pub told-statuses : (natives : List Native) (told left : Option (List ℕ)) (result : Status)
-    (old new : Option (List ℕ)) → IfSome told (λ input. Ran natives input left result old new)
-    → IfSome told (λ input. Statuses natives input left result old new)
-told-statuses natives (Some input) left result old new ran = ran-statuses natives input left result old new ran
-told-statuses natives None left result old new ran = tt
+pub told-statuses : (grammar : Grammar) (natives : List Native) (told left : Option (List ℕ)) (result : Status)
+    (old new : Option (List ℕ)) → IfSome told (λ input. Ran grammar natives input left result old new)
+    → IfSome told (λ input. Statuses grammar natives input left result old new)
+told-statuses grammar natives (Some input) left result old new ran = ran-statuses grammar natives input left result old new ran
+told-statuses grammar natives None left result old new ran = tt
 
 -- ---- completeness
 
@@ -295,54 +299,54 @@ writes-whole text result old new (inl whole) no_fault = inl whole
 writes-whole text result old new (inr ((inl fault), part)) no_fault = absurd (no_fault fault)
 writes-whole text result old new (inr ((inr want), part)) no_fault = inr want
 
-whole-some : (natives : List Native) (trace : Trace) (result : Status) (old new : Option (List ℕ)) (text : List ℕ)
-    → text_of natives trace ≡ Some text
-    → ((result ≡ status.Ok) × Appends old new text) ⊎ (result ≡ Memory) → IsServedWhole natives trace result old new
+whole-some : (natives : List Native) (content : Content) (result : Status) (old new : Option (List ℕ)) (text : List ℕ)
+    → text_for natives content ≡ Some text
+    → ((result ≡ status.Ok) × Appends old new text) ⊎ (result ≡ Memory) → IsServedWhole natives content result old new
     ⊎ (result ≡ Memory)
-whole-some natives trace result old new text e (inl whole) =
+whole-some natives content result old new text e (inl whole) =
     inl (whole.0, subst (λ (o : Option (List ℕ)). IsSomeAnd o (Appends old new)) (sym e) whole.1)
-whole-some natives trace result old new text e (inr want) = inr want
+whole-some natives content result old new text e (inr want) = inr want
 
-served-whole : (natives : List Native) (trace : Trace) (result : Status) (old new : Option (List ℕ))
-    → (HasTooMany trace.items → ⊥) → refused_in natives trace ≡ None → (result ≡ WriteFault → ⊥)
-    → IsServedBy natives trace result old new → IsServedWhole natives trace result old new ⊎ (result ≡ Memory)
-served-whole natives trace result old new few going no_fault (inl many) = absurd (few many.0)
-served-whole natives trace result old new few going no_fault (inr (less, inl want)) = inr want.0
-served-whole natives trace result old new few going no_fault (inr (less, inr plays)) =
-    let text = some-and _ (text_of natives trace) plays in
+served-whole : (natives : List Native) (content : Content) (result : Status) (old new : Option (List ℕ))
+    → (IsTooLarge content → ⊥) → refused_for natives content ≡ None → (result ≡ WriteFault → ⊥)
+    → IsServedBy natives content result old new → IsServedWhole natives content result old new ⊎ (result ≡ Memory)
+served-whole natives content result old new few going no_fault (inl many) = absurd (few many.0)
+served-whole natives content result old new few going no_fault (inr (less, inl want)) = inr want.0
+served-whole natives content result old new few going no_fault (inr (less, inr plays)) =
+    let text = some-and _ (text_for natives content) plays in
     let writes = subst (λ (o : Option ℕ). Writes (status_of_play o) text.0 result old new) going text.2 in
-    whole-some natives trace result old new text.0 text.1 (writes-whole text.0 result old new writes no_fault)
+    whole-some natives content result old new text.0 text.1 (writes-whole text.0 result old new writes no_fault)
 
-ran-whole : (natives : List Native) (input : List ℕ) (left : Option (List ℕ)) (result : Status)
-    (old new : Option (List ℕ)) (trace : Trace) → EveryText → CanBeServed natives input trace
-    → (result ≡ ReadFault → ⊥) → (result ≡ WriteFault → ⊥) → Ran natives input left result old new
-    → IsServedWhole natives trace result old new ⊎ (result ≡ Memory)
-ran-whole natives input left result old new trace every can no_read no_write (inl ((inl fault), nothing)) =
+ran-whole : (grammar : Grammar) (natives : List Native) (input : List ℕ) (left : Option (List ℕ)) (result : Status)
+    (old new : Option (List ℕ)) (content : Content) → EveryInput → CanBeServed grammar natives input content
+    → (result ≡ ReadFault → ⊥) → (result ≡ WriteFault → ⊥) → Ran grammar natives input left result old new
+    → IsServedWhole natives content result old new ⊎ (result ≡ Memory)
+ran-whole grammar natives input left result old new content every can no_read no_write (inl ((inl fault), nothing)) =
     absurd (no_read fault)
-ran-whole natives input left result old new trace every can no_read no_write (inl ((inr want), nothing)) = inr want
-ran-whole natives input left result old new trace every can no_read no_write (inr (inl long)) =
+ran-whole grammar natives input left result old new content every can no_read no_write (inl ((inr want), nothing)) = inr want
+ran-whole grammar natives input left result old new content every can no_read no_write (inr (inl long)) =
     absurd (can.short long.1)
-ran-whole natives input left result old new trace every can no_read no_write (inr (inr (short, ended, inl want))) =
+ran-whole grammar natives input left result old new content every can no_read no_write (inr (inr (short, ended, inl want))) =
     inr want.0
-ran-whole natives input left result old new trace every can no_read no_write
+ran-whole grammar natives input left result old new content every can no_read no_write
     (inr (inr (short, ended, inr (inl refused)))) =
-    absurd ((every (uuids_of natives) input).not_both trace refused.place refused.kind can.spelled refused.first)
-ran-whole natives input left result old new trace every can no_read no_write
+    absurd ((every grammar (uuids_of natives) input).not_both content refused.place refused.kind can.spelled refused.first)
+ran-whole grammar natives input left result old new content every can no_read no_write
     (inr (inr (short, ended, inr (inr served)))) =
-    let same = (every (uuids_of natives) input).one_trace served.trace trace served.spelled can.spelled in
-    served-whole natives trace result old new can.few can.goes_on no_write
-    (subst (λ (t : Trace). IsServedBy natives t result old new) same served.served)
+    let same = (every grammar (uuids_of natives) input).one_content served.content content served.spelled can.spelled in
+    served-whole natives content result old new can.few can.goes_on no_write
+    (subst (λ (c : Content). IsServedBy natives c result old new) same served.served)
 
 -- an input that can be served is, where no port has failed
-pub told-whole : (natives : List Native) (told left : Option (List ℕ)) (result : Status) (old new : Option (List ℕ))
-    (a b c d : ℕ) → EveryText
+pub told-whole : (grammar : Grammar) (natives : List Native) (told left : Option (List ℕ)) (result : Status) (old new : Option (List ℕ))
+    (a b c d : ℕ) → EveryInput
     → (result ≡ ReadFault → Rose a b) → (result ≡ WriteFault → Rose c d)
-    → IfSome told (λ input. Ran natives input left result old new)
-    → IfSome told (λ input. (trace : Trace) → CanBeServed natives input trace → (Rose a b → ⊥) → (Rose c d → ⊥)
-    → IsServedWhole natives trace result old new ⊎ (result ≡ Memory))
-told-whole natives (Some input) left result old new a b c d every read write ran = λ trace can no_read no_write.
-    ran-whole natives input left result old new trace every can (λ e. no_read (read e)) (λ e. no_write (write e)) ran
-told-whole natives None left result old new a b c d every read write ran = tt
+    → IfSome told (λ input. Ran grammar natives input left result old new)
+    → IfSome told (λ input. (content : Content) → CanBeServed grammar natives input content → (Rose a b → ⊥) → (Rose c d → ⊥)
+    → IsServedWhole natives content result old new ⊎ (result ≡ Memory))
+told-whole grammar natives (Some input) left result old new a b c d every read write ran = λ content can no_read no_write.
+    ran-whole grammar natives input left result old new content every can (λ e. no_read (read e)) (λ e. no_write (write e)) ran
+told-whole grammar natives None left result old new a b c d every read write ran = tt
 
 -- ---- statuses that don't come
 

@@ -1,7 +1,9 @@
 pub mod Status
+pub mod Words
 pub mod Line
 pub mod Input
 pub mod Output
+pub mod Content
 pub mod Playing
 pub mod Run
 pub mod Examples

@@ -5,7 +5,9 @@
 //! comes.
 #![tactic(auto)]
 
+mod content;
 mod examples;
+mod grammar;
 mod input;
 mod line;
 mod output;

@@ -2,10 +2,13 @@
 
 ghost use Rattle.std.specs.Prelude.{◌≡◌, ◌<◌, ◌^◌, ◌++◌, IfOk, OnOk};
 ghost use Rattle.play_model.specs.Line.{mem_line, register_text, ret_line};
-ghost use Rattle.trace_runner.specs.Line.{bad_trace_line};
+ghost use Rattle.ta_isa.specs.Spelling.{IsValid};
+ghost use Rattle.trace_runner.specs.Line.{bad_trace_line, image_line};
 
+use base::NoMemory;
 use smc_abi::Regs;
 use std::alloc::{AllocError, Global};
+use ta_isa::{Image, encode_image};
 use trace_text::BadKind;
 
 /// The length of a `ret` line of a processor whose number has one digit.
@@ -59,6 +62,18 @@ pub fn bad_trace_line(alloc: Global, place: u32, kind: BadKind) -> Result<Vec<u8
     line.extend_from_slice(place.to_string(alloc)?.as_bytes())?;
     line.push(b' ')?;
     line.extend_from_slice(kind.to_string(alloc)?.as_bytes())?;
+    line.push(b'\n')?;
+    Ok(line)
+}
+
+/// The line of an image: its bytes in hexadecimal.
+pub fn image_line(alloc: Global, image: &Image) -> Result<Vec<u8>, NoMemory>
+    requires { IsValid image.now }
+    ensures { IfOk result (λ line. line.items ≡ image_line image.now) }
+{
+    let bytes = encode_image(alloc, image)?;
+    let mut line = Vec::new(alloc);
+    line.extend_from_slice(hex::encode(alloc, bytes.as_slice())?.as_bytes())?;
     line.push(b'\n')?;
     Ok(line)
 }

@@ -9,7 +9,8 @@ ghost use Rattle.ports.specs.Port.{Rose};
 ghost use Rattle.ta_isa.specs.Boots.{IsBoot};
 ghost use Rattle.trace_text.specs.Sound.{IsSound, IsSoundFill};
 ghost use Rattle.trace_runner.specs.Playing.{IsPlayedTo};
-ghost use Rattle.trace_runner.specs.Run.{HasTooMany, IsTold, is_smc, uuids_of};
+ghost use Rattle.trace_runner.specs.Content.{HasTooMany, is_smc};
+ghost use Rattle.trace_runner.specs.Run.{IsTold, uuids_of};
 
 use crate::player::{Player, Stop};
 use base::NoMemory;

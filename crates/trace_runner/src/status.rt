@@ -8,7 +8,7 @@ pub enum Status {
     Ok,
     /// The words ask for nothing that the program does; the usage line is written.
     Usage,
-    /// The input is no script that is served; the line that says so is written.
+    /// The input leaves its grammar; the line that says where and how is written.
     BadTrace,
     /// The source counted a fault.
     ReadFault,
@@ -16,7 +16,8 @@ pub enum Status {
     WriteFault,
     /// Want of memory.
     Memory,
-    /// The input is longer than 2^24 bytes.
+    /// The input is longer than 2^24 bytes, or its trace has more than 65,536 SMC items, or an entry was refused, since
+    /// all entries would then have read more than 2^28 bytes.
     TooLong,
 }
 

@@ -1,16 +1,23 @@
 //! The top call.
 
-ghost use Rattle.std.specs.Prelude.{◌≡◌, ℕ, ◌↔◌, ◌⊎◌, ◌≤◌, ◌+◌, ◌^◌, IsTrue, IfSome, Some, None, [], ◌∷◌, Err, length};
+ghost use Rattle.std.specs.Prelude.{◌≡◌, ◌⊎◌, ◌≤◌, ◌+◌, ◌^◌, IfSome, Some, None, [], Err, length};
 ghost use Rattle.native_tas.specs.Table.{entries};
 ghost use Rattle.ports.specs.Port.{Appends, Rose};
+ghost use Rattle.ta_isa.specs.Spelling.{IsValid};
 ghost use Rattle.trace_text.specs.Sound.{IsSound};
-ghost use Rattle.trace_text.specs.declared.trace.Trace.{Trace};
+ghost use Rattle.trace_runner.specs.Content.{IsSoundContent};
 ghost use Rattle.trace_runner.specs.Input.{TakesAtMost};
 ghost use Rattle.trace_runner.specs.Line.{bad_trace_line};
-ghost use Rattle.trace_runner.specs.Run.{Answered, CanBeServed, IsRun, IsServedBy, IsServedWhole, Ran, Statuses, Writes, status_after, status_of, usage_line, uuids_of};
+ghost use Rattle.trace_runner.specs.Run.{Answered, CanBeServed, IsServedBy, IsServedWhole, Ran, Statuses, Writes, status_after, status_of, usage_line, uuids_of};
+ghost use Rattle.trace_runner.specs.Words.{AskNothing, Asks};
+ghost use Rattle.trace_runner.specs.declared.content.Content.{Content};
+ghost use Rattle.trace_runner.specs.declared.content.Content.TheVariants as content;
+ghost use Rattle.trace_runner.specs.declared.grammar.Grammar.{Grammar};
 
+use crate::content::{Content, read_content};
+use crate::grammar::{Grammar, grammar_of};
 use crate::input::{InputFault, read_input};
-use crate::line::bad_trace_line;
+use crate::line::{bad_trace_line, image_line};
 use crate::output::put_text;
 use crate::play::{has_too_many, play};
 use crate::player::Stop;
@@ -18,18 +25,10 @@ use crate::status::Status;
 use native_tas::Natives;
 use ports::{Put, Sink, Source};
 use std::alloc::Global;
-use trace_text::{BadKind, Trace, TraceFault, read_trace};
+use ta_isa::Image;
+use trace_text::{BadKind, Trace, TraceFault};
 
 const USAGE_LINE: &[u8] = b"usage: optee_run run | run-binary | threads | asm | work SEED COUNT\n";
-
-fn is_run(words: &[String]) -> bool
-    ensures { IsTrue result ↔ IsRun words.now }
-{
-    match words {
-        [word] => word.as_str() == "run",
-        _ => false,
-    }
-}
 
 /// The status after a text was put: the named one where it was put whole.
 fn status_after(named: Status, put: Put) -> Status
@@ -67,7 +66,7 @@ fn status_of(played: Result<(), Stop>) -> Status
 /// Plays a trace, where it doesn't have too many SMC items.
 fn answer_trace<K: Sink>(alloc: Global, natives: &Natives, trace: Trace, out: &mut K) -> Status
     requires { IsSound (uuids_of (entries natives.now)) trace }
-    ensures served { IsServedBy (entries natives.now) trace result (K.held out.old) (K.held out.new) }
+    ensures served { IsServedBy (entries natives.now) (content.Trace trace) result (K.held out.old) (K.held out.new) }
     ensures words { result ≡ Status.Usage → ⊥ }
     ensures write_fault { result ≡ Status.WriteFault → Rose (K.faults out.old) (K.faults out.new) }
     ensures count { K.faults out.old ≤ K.faults out.new }
@@ -78,22 +77,35 @@ fn answer_trace<K: Sink>(alloc: Global, natives: &Natives, trace: Trace, out: &m
     status_of(play(alloc, natives, trace, out))
 }
 
-/// Serves an input that was read whole, and writes what it is answered with.
-fn answer<K: Sink>(alloc: Global, input: &[u8], out: &mut K, natives: &Natives) -> Status
-    requires { length input.now ≤ 2 ^ 24 }
-    ensures answered { Answered (entries natives.now) input.now result (K.held out.old) (K.held out.new) }
+/// Prints an image.
+fn answer_image<K: Sink>(alloc: Global, natives: &Natives, image: &Image, out: &mut K) -> Status
+    requires { IsValid image.now }
+    ensures served { IsServedBy (entries natives.now) (content.Image image.now) result (K.held out.old) (K.held out.new) }
     ensures words { result ≡ Status.Usage → ⊥ }
     ensures write_fault { result ≡ Status.WriteFault → Rose (K.faults out.old) (K.faults out.new) }
     ensures count { K.faults out.old ≤ K.faults out.new }
 {
-    match read_trace(alloc, input, natives.uuids().as_slice()) {
-        Ok(trace) => answer_trace(alloc, natives, trace, out),
-        Err(TraceFault::Bad { place, kind }) => refuse(alloc, place, kind, out),
-        Err(TraceFault::Memory) => Status::Memory,
+    match image_line(alloc, image) {
+        Ok(line) => answer_line(out, Status::Ok, line.as_slice()),
+        Err(_) => Status::Memory,
     }
 }
 
-/// Writes the line of an input that is no trace.
+/// Plays or prints what an input spells.
+fn serve<K: Sink>(alloc: Global, natives: &Natives, content: Content, out: &mut K) -> Status
+    requires { IsSoundContent (uuids_of (entries natives.now)) content }
+    ensures served { IsServedBy (entries natives.now) content result (K.held out.old) (K.held out.new) }
+    ensures words { result ≡ Status.Usage → ⊥ }
+    ensures write_fault { result ≡ Status.WriteFault → Rose (K.faults out.old) (K.faults out.new) }
+    ensures count { K.faults out.old ≤ K.faults out.new }
+{
+    match content {
+        Content::Trace(trace) => answer_trace(alloc, natives, trace, out),
+        Content::Image(image) => answer_image(alloc, natives, &image, out),
+    }
+}
+
+/// Writes the line of an input that leaves its grammar.
 fn refuse<K: Sink>(alloc: Global, place: u32, kind: BadKind, out: &mut K) -> Status
     ensures line { Writes Status.BadTrace (bad_trace_line place kind) result (K.held out.old) (K.held out.new) }
     ensures words { result ≡ Status.Usage → ⊥ }
@@ -106,15 +118,37 @@ fn refuse<K: Sink>(alloc: Global, place: u32, kind: BadKind, out: &mut K) -> Sta
     }
 }
 
-/// Reads a trace and plays it.
-fn run_trace<S: Source, K: Sink>(
+/// Serves an input that was read whole, and writes what it is answered with.
+fn answer<K: Sink>(
     alloc: Global,
+    grammar: Grammar,
+    input: &[u8],
+    out: &mut K,
+    natives: &Natives,
+) -> Status
+    requires { length input.now ≤ 2 ^ 24 }
+    ensures answered { Answered grammar (entries natives.now) input.now result (K.held out.old) (K.held out.new) }
+    ensures words { result ≡ Status.Usage → ⊥ }
+    ensures write_fault { result ≡ Status.WriteFault → Rose (K.faults out.old) (K.faults out.new) }
+    ensures count { K.faults out.old ≤ K.faults out.new }
+{
+    match read_content(alloc, grammar, input, natives.uuids().as_slice()) {
+        Ok(content) => serve(alloc, natives, content, out),
+        Err(TraceFault::Bad { place, kind }) => refuse(alloc, place, kind, out),
+        Err(TraceFault::Memory) => Status::Memory,
+    }
+}
+
+/// Reads an input in its grammar, and serves it.
+fn run_input<S: Source, K: Sink>(
+    alloc: Global,
+    grammar: Grammar,
     input: &mut S,
     out: &mut K,
     natives: &Natives,
 ) -> Status
     ensures told { IfSome (S.left input.old) (λ bytes.
-        Ran (entries natives.now) bytes (S.left input.new) result (K.held out.old) (K.held out.new)) }
+        Ran grammar (entries natives.now) bytes (S.left input.new) result (K.held out.old) (K.held out.new)) }
     ensures words { result ≡ Status.Usage → ⊥ }
     ensures read_fault { result ≡ Status.ReadFault →
         Rose (S.faults input.old) (S.faults input.new) × Appends (K.held out.old) (K.held out.new) [] }
@@ -124,15 +158,16 @@ fn run_trace<S: Source, K: Sink>(
     ensures out_count { K.faults out.old ≤ K.faults out.new }
 {
     match read_input(alloc, input) {
-        Ok(bytes) => answer(alloc, bytes.as_slice(), out, natives),
+        Ok(bytes) => answer(alloc, grammar, bytes.as_slice(), out, natives),
         Err(InputFault::Failed) => Status::ReadFault,
         Err(InputFault::TooLong) => Status::TooLong,
         Err(InputFault::Memory) => Status::Memory,
     }
 }
 
-/// Does what the words ask for: `run` reads a trace from the input and plays it on one core, beside the applications
-/// that are built in, and any other words are answered with the usage line.
+/// Does what the words ask for. `run` reads a trace as text from the input and plays it on one core, beside the
+/// applications that are built in, `run-binary` reads it as records, and `asm` reads a text of the assembler and prints
+/// its image in hexadecimal. Any other words are answered with the usage line.
 ///
 /// The words are tested first, then the input is read to its end, then its length, its grammar and the number of its
 /// SMC items are tested, then it is played; the first answer met ends the call. Lines are written as they come. Want
@@ -146,26 +181,27 @@ pub fn run<S: Source, K: Sink>(
 ) -> Status
     // ---- The words.
     ensures usage { result ≡ Status.Usage →
-        (IsRun words.now → ⊥) × Appends (K.held out.old) (K.held out.new) usage_line }
-    ensures other_words { (IsRun words.now → ⊥) →
+        AskNothing words.now × Appends (K.held out.old) (K.held out.new) usage_line }
+    ensures other_words { AskNothing words.now →
         Writes Status.Usage usage_line result (K.held out.old) (K.held out.new) × (S.left input.new ≡ S.left input.old) }
 
-    // ---- The input: it wasn't read whole, or it is too long, or it is answered by its meaning.
-    ensures ran { IsRun words.now → IfSome (S.left input.old) (λ bytes.
-        Ran (entries natives.now) bytes (S.left input.new) result (K.held out.old) (K.held out.new)) }
+    // ---- The input: it wasn't read whole, or it is too long, or it is answered by its meaning in the grammar.
+    ensures ran { (grammar : Grammar) → Asks words.now grammar → IfSome (S.left input.old) (λ bytes.
+        Ran grammar (entries natives.now) bytes (S.left input.new) result (K.held out.old) (K.held out.new)) }
 
     // ---- Each status, and what was then written.
-    ensures statuses { IsRun words.now → IfSome (S.left input.old) (λ bytes.
-        Statuses (entries natives.now) bytes (S.left input.new) result (K.held out.old) (K.held out.new)) }
+    ensures statuses { (grammar : Grammar) → Asks words.now grammar → IfSome (S.left input.old) (λ bytes.
+        Statuses grammar (entries natives.now) bytes (S.left input.new) result (K.held out.old) (K.held out.new)) }
 
     // ---- Each input within the limits is served whole, or there is want of memory.
-    ensures complete { IsRun words.now → IfSome (S.left input.old) (λ bytes. (trace : Trace) →
-        CanBeServed (entries natives.now) bytes trace →
+    ensures complete { (grammar : Grammar) → Asks words.now grammar → IfSome (S.left input.old) (λ bytes.
+        (content : Content) → CanBeServed grammar (entries natives.now) bytes content →
         (Rose (S.faults input.old) (S.faults input.new) → ⊥) → (Rose (K.faults out.old) (K.faults out.new) → ⊥) →
-        IsServedWhole (entries natives.now) trace result (K.held out.old) (K.held out.new) ⊎ (result ≡ Status.Memory)) }
+        IsServedWhole (entries natives.now) content result (K.held out.old) (K.held out.new)
+        ⊎ (result ≡ Status.Memory)) }
 
     // ---- Faults of the ports.
-    ensures read_fault { result ≡ Status.ReadFault → IsRun words.now
+    ensures read_fault { result ≡ Status.ReadFault → ((grammar : Grammar) × Asks words.now grammar)
         × Rose (S.faults input.old) (S.faults input.new) × Appends (K.held out.old) (K.held out.new) [] }
     ensures write_fault { result ≡ Status.WriteFault → Rose (K.faults out.old) (K.faults out.new) }
 
@@ -174,9 +210,8 @@ pub fn run<S: Source, K: Sink>(
     ensures input_count { S.faults input.old ≤ S.faults input.new }
     ensures out_count { K.faults out.old ≤ K.faults out.new }
 {
-    if is_run(words) {
-        run_trace(alloc, input, out, natives)
-    } else {
-        answer_line(out, Status::Usage, USAGE_LINE)
+    match grammar_of(words) {
+        Some(grammar) => run_input(alloc, grammar, input, out, natives),
+        None => answer_line(out, Status::Usage, USAGE_LINE),
     }
 }

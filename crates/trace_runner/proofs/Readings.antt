@@ -1,0 +1,84 @@
+-- What an input spells is one thing, in each grammar, and words ask for one grammar.
+use Rattle.std.proofs.Common.{◌≡◌, ℕ, List, [], ◌∷◌, length, get_or, ap, refl, sym, ◌∙◌, arith}
+use Rattle.std.specs.Prelude.{String}
+use Rattle.std.specs.Global.{Global}
+use Rattle.ta_asm.proofs.Meanings as asm
+use Rattle.ta_isa.specs.declared.image.Image.{Image}
+use Rattle.trace_bin.proofs.GrammarLaws as records
+use Rattle.trace_text.proofs.GrammarLaws as text
+use Rattle.trace_text.specs.declared.fault.BadKind.{BadKind}
+use Rattle.trace_text.specs.declared.trace.Trace.{Trace}
+use Rattle.trace_runner.specs.Content.{IsFirstFault, Spells}
+use Rattle.trace_runner.specs.Words.{Asks, word_of}
+use Rattle.trace_runner.specs.declared.content.Content.{Content}
+use Rattle.trace_runner.specs.declared.content.Content.TheVariants as variant
+use Rattle.trace_runner.specs.declared.grammar.Grammar.{Grammar}
+use Rattle.trace_runner.specs.declared.grammar.Grammar.TheVariants.{Text, Records, Assembler}
+
+-- ---- inputs
+
+same_content : (grammar : Grammar) (natives : List (List ℕ)) (input : List ℕ) (one other : Content)
+    → Spells grammar natives input one → Spells grammar natives input other → one ≡ other
+same_content Text natives input (variant.Trace a) (variant.Trace b) p q =
+    ap (λ (t : Trace). variant.Trace t) ((text.every_text natives input).one_trace a b p q)
+same_content Text natives input (variant.Trace a) (variant.Image b) p q = absurd q
+same_content Text natives input (variant.Image a) other p q = absurd p
+same_content Records natives input (variant.Trace a) (variant.Trace b) p q =
+    ap (λ (t : Trace). variant.Trace t) ((records.meaning natives input).one_trace a b p q)
+same_content Records natives input (variant.Trace a) (variant.Image b) p q = absurd q
+same_content Records natives input (variant.Image a) other p q = absurd p
+same_content Assembler natives input (variant.Image a) (variant.Image b) p q =
+    ap (λ (i : Image). variant.Image i) ((asm.every_text input).one_image a b p q)
+same_content Assembler natives input (variant.Image a) (variant.Trace b) p q = absurd q
+same_content Assembler natives input (variant.Trace a) other p q = absurd p
+
+never_both : (grammar : Grammar) (natives : List (List ℕ)) (input : List ℕ) (content : Content) (place : ℕ)
+    (kind : BadKind) → Spells grammar natives input content → IsFirstFault grammar natives input place kind → ⊥
+never_both Text natives input (variant.Trace a) place kind p q =
+    (text.every_text natives input).not_both a place kind p q
+never_both Text natives input (variant.Image a) place kind p q = absurd p
+never_both Records natives input (variant.Trace a) place kind p q =
+    (records.meaning natives input).not_both a place kind p q
+never_both Records natives input (variant.Image a) place kind p q = absurd p
+never_both Assembler natives input (variant.Image a) place kind p q =
+    (asm.every_text input).not_both a q.0 p q.1
+never_both Assembler natives input (variant.Trace a) place kind p q = absurd p
+
+-- an input spells one trace or image, or it has a fault, and not both
+pub record OneMeaning (grammar : Grammar) (natives : List (List ℕ)) (input : List ℕ) : Type 0 where
+  pub one_content : (one other : Content) → Spells grammar natives input one → Spells grammar natives input other
+      → one ≡ other
+  pub not_both : (content : Content) (place : ℕ) (kind : BadKind) → Spells grammar natives input content
+      → IsFirstFault grammar natives input place kind → ⊥
+
+abbrev pub EveryInput : Type 0
+EveryInput = (grammar : Grammar) (natives : List (List ℕ)) (input : List ℕ) → OneMeaning grammar natives input
+
+pub every_input : EveryInput
+every_input grammar natives input = record {
+  one_content = same_content grammar natives input;
+  not_both = never_both grammar natives input;
+}
+
+-- ---- words
+
+abbrev first : List ℕ → ℕ
+first word = get_or word 0 0
+
+same_word : (one other : Grammar) → word_of one ≡ word_of other → one ≡ other
+same_word Text Text e = refl
+same_word Text Records e = let length_is : 3 ≡ 10 = ap length e in absurd (omega (arith, length_is))
+same_word Text Assembler e = let first_is : 114 ≡ 97 = ap first e in absurd (omega (arith, first_is))
+same_word Records Text e = let length_is : 10 ≡ 3 = ap length e in absurd (omega (arith, length_is))
+same_word Records Records e = refl
+same_word Records Assembler e = let length_is : 10 ≡ 3 = ap length e in absurd (omega (arith, length_is))
+same_word Assembler Text e = let first_is : 97 ≡ 114 = ap first e in absurd (omega (arith, first_is))
+same_word Assembler Records e = let length_is : 3 ≡ 10 = ap length e in absurd (omega (arith, length_is))
+same_word Assembler Assembler e = refl
+
+-- words ask for one grammar
+pub one_grammar : (words : List (String Global)) (one other : Grammar) → Asks words one → Asks words other → one ≡ other
+one_grammar words one other p q =
+    let both = sym p ∙ q in
+    let same : word_of one ≡ word_of other = cc in
+    same_word one other same

@@ -1,0 +1,102 @@
+-- What an input spells in each grammar, what the first fault of any other input is, and what is written for it.
+use Rattle.std.specs.Prelude.{◌≡◌, ℕ, ◌^◌, ◌<◌, Bool, true, false, List, Option, Some, None}
+use Rattle.std.specs.List.{count_by}
+use Rattle.std.specs.Option.{option_and_then}
+use Rattle.kernel_model.specs.Application.{Native}
+use Rattle.play_model.specs.Play.{Play, played}
+use Rattle.play_model.specs.Text as play_text
+use Rattle.ta_asm.specs.Grammar as asm
+use Rattle.ta_asm.specs.declared.fault.AsmFault.{AsmFault}
+use Rattle.ta_asm.specs.declared.fault.AsmFault.TheVariants.{BadLine, RepeatedLabel, UnknownLabel}
+use Rattle.ta_asm.specs.declared.fault.AsmFault.TheVariants as asm_fault
+use Rattle.ta_isa.specs.Spelling.{IsValid}
+use Rattle.ta_isa.specs.declared.boot.Boot.{Boot}
+use Rattle.trace_bin.specs.Grammar as records
+use Rattle.trace_text.specs.Grammar as text
+use Rattle.trace_text.specs.Sound.{IsSound}
+use Rattle.trace_text.specs.declared.fault.BadKind.{BadKind}
+use Rattle.trace_text.specs.declared.fault.BadKind.TheVariants.{Asm}
+use Rattle.trace_text.specs.declared.fault.TraceFault.{TraceFault}
+use Rattle.trace_text.specs.declared.fault.TraceFault.TheVariants.{Bad, Memory}
+use Rattle.trace_text.specs.declared.item.Item.{Item}
+use Rattle.trace_text.specs.declared.item.Item.TheVariants as item
+use Rattle.trace_text.specs.declared.trace.Trace.{Trace}
+use Rattle.trace_runner.specs.Line.{image_line}
+use Rattle.trace_runner.specs.declared.content.Content.{Content}
+use Rattle.trace_runner.specs.declared.content.Content.TheVariants as content
+use Rattle.trace_runner.specs.declared.grammar.Grammar.{Grammar}
+use Rattle.trace_runner.specs.declared.grammar.Grammar.TheVariants.{Text, Records, Assembler}
+
+-- ---- reading
+
+-- the input spells this in the grammar, beside built-in applications of these UUIDs
+abbrev pub Spells : Grammar → List (List ℕ) → List ℕ → Content → Type 0
+Spells Text natives input (content.Trace trace) = text.Spells natives input trace
+Spells Text natives input (content.Image image) = ⊥
+Spells Records natives input (content.Trace trace) = records.Spells natives input trace
+Spells Records natives input (content.Image image) = ⊥
+Spells Assembler natives input (content.Trace trace) = ⊥
+Spells Assembler natives input (content.Image image) = asm.StandsFor input image
+
+-- what a fault of the assembler is called in an answer: the kind is `asm`, and the place is its line
+abbrev pub fault_of : AsmFault → TraceFault
+fault_of (BadLine line) = Bad line Asm
+fault_of (UnknownLabel line) = Bad line Asm
+fault_of (RepeatedLabel line) = Bad line Asm
+fault_of asm_fault.Memory = Memory
+
+-- the input leaves the grammar first at this place, in this way
+abbrev pub IsFirstFault : Grammar → List (List ℕ) → List ℕ → ℕ → BadKind → Type 0
+IsFirstFault Text natives input place kind = text.IsFirstFault natives input place kind
+IsFirstFault Records natives input place kind = records.IsFirstFault natives input place kind
+IsFirstFault Assembler natives input place kind =
+    (fault : AsmFault) × asm.IsFirstFault input fault × (fault_of fault ≡ Bad place kind)
+
+-- what was answered is the input's first fault, or want of memory
+abbrev pub IsFaultOf : Grammar → List (List ℕ) → List ℕ → TraceFault → Type 0
+IsFaultOf grammar natives input (Bad place kind) = IsFirstFault grammar natives input place kind
+IsFaultOf grammar natives input Memory = Unit {0}
+
+-- what is read is within its limits
+abbrev pub IsSoundContent : List (List ℕ) → Content → Type 0
+IsSoundContent natives (content.Trace trace) = IsSound natives trace
+IsSoundContent natives (content.Image image) = IsValid image
+
+-- ---- limits
+
+-- an item that makes a processor come in
+abbrev pub is_smc : Item → Bool
+is_smc (item.Smc cpu steps regs) = true
+is_smc (item.Enter cpu steps regs) = true
+is_smc (item.Leave cpu) = false
+is_smc (item.Write cpu addr bytes) = false
+is_smc (item.Show cpu addr len) = false
+
+-- more of these than a trace may have
+abbrev pub HasTooMany : List Item → Type 0
+HasTooMany items = 2 ^ 16 < count_by is_smc items
+
+-- a trace has; an image has none of them
+abbrev pub IsTooLarge : Content → Type 0
+IsTooLarge (content.Trace trace) = HasTooMany trace.items
+IsTooLarge (content.Image image) = ⊥
+
+-- ---- what is written
+
+-- the text of a trace, or the line of an image
+abbrev pub text_for : List Native → Content → Option (List ℕ)
+text_for natives (content.Trace trace) = play_text.text_of natives trace
+text_for natives (content.Image image) = Some (image_line image)
+
+-- how many bytes the entry would have read that the play of a trace refuses, where it refuses one
+abbrev pub refused_by : List Native → Trace → Option Boot → Option ℕ
+refused_by natives trace None = None
+refused_by natives trace (Some boot) = option_and_then (λ (play : Play). play.refused) (played natives boot trace)
+
+abbrev pub refused_in : List Native → Trace → Option ℕ
+refused_in natives trace = refused_by natives trace trace.boot
+
+-- an image has no play that could
+abbrev pub refused_for : List Native → Content → Option ℕ
+refused_for natives (content.Trace trace) = refused_in natives trace
+refused_for natives (content.Image image) = None
