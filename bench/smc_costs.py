@@ -87,7 +87,7 @@ def case(code, once, again, times):
 def taken(loop, times):
     """How many instructions `enter` and `leave` take in a whole trace."""
     _, found, printed = costs(PROGRAM, given=case(*loop, times))
-    assert printed == b"loop ended with 0, and not with 1\n", printed
+    assert printed == b"loop at cut 4294967295 ended with 0, and not with 1\n", printed
     return [sum(cost for name, cost in found.items() if name.endswith(end)) for end in ("entering::enter", "Machine::leave")]
 
 
