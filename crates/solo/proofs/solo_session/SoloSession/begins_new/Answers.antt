@@ -1,0 +1,17 @@
+use Rattle.std.proofs.Common.{refl, subst}
+use Rattle.kernel_model.specs.Kernel.{Waits}
+use Rattle.own_model.specs.Solo.{fresh_call, start_with}
+use Rattle.rpc_cont.specs.Conts.{kept_params}
+use Rattle.solo.proofs.Adding.{stands_still}
+use Rattle.solo.proofs.Coming.{begun_at_once, next_is}
+use Rattle.solo.specs.Standing.{StandsFor, app_in}
+use Rattle.solo.proofs.solo_session.SoloSession.begins_new.Goals as goal
+
+pub returns-clause-ok : goal.returns-clause-ok
+returns-clause-ok c solo at stands home works =
+    let s = c.args.self.now in
+    let params = kept_params c.args.params in
+    let call = fresh_call c.args.kind (Waits params) in
+    let next = next_is s solo c.in_ok-number.number c.in_ok-number.ensures stands in
+    subst (StandsFor c.begins_last.new.self) (begun_at_once (app_in s) solo call (start_with at params) c.in_ok-number.number next)
+    (c.begins_last.ensures.begins solo call at params (stands_still s _ solo refl c.reserve.ensures.items stands) next c.in_ok-call.ensures.call refl works home)

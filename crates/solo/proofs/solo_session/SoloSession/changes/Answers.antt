@@ -1,0 +1,45 @@
+use Rattle.std.proofs.Common.{subst}
+use Rattle.solo.proofs.Adding.{on_ok}
+use Rattle.solo.proofs.Kept.{valid_when_kept}
+use Rattle.solo.proofs.Stepped.{came_back, cancelled, closed, invoked, opened, saw}
+use Rattle.solo.specs.Standing.{StandsFor, app_in}
+use Rattle.solo.proofs.solo_session.SoloSession.changes.Goals as goal
+
+pub opens-requires : goal.opens-requires
+opens-requires c = valid_when_kept c.args.self.now c.requires
+
+pub invokes-requires : goal.invokes-requires
+invokes-requires c = valid_when_kept c.args.self.now c.requires
+
+pub closes-requires : goal.closes-requires
+closes-requires c = valid_when_kept c.args.self.now c.requires
+
+pub returns-in-Open-clause-ok : goal.returns-in-Open-clause-ok
+returns-in-Open-clause-ok c most solo next told is silent e =
+    let o = opened most (app_in c.args.self.now) solo next c.args.event.now c.in-Open.params c.in-Open.login told c.in-Open.is e in
+    on_ok c.opens.result _ _ (λ stands. (o.1.1, subst (StandsFor c.opens.new.self) o.1.0 stands)) (c.opens.ensures.ok solo is.stands o.0)
+
+pub returns-in-Invoke-clause-ok : goal.returns-in-Invoke-clause-ok
+returns-in-Invoke-clause-ok c most solo next told is silent e =
+    let o = invoked most (app_in c.args.self.now) solo next c.args.event.now c.in-Invoke.func c.in-Invoke.input told c.in-Invoke.is e in
+    on_ok c.invokes.result _ _ (λ stands. (o.1, stands)) (c.invokes.ensures.ok solo next is.stands o.0)
+
+pub returns-in-Close-clause-ok : goal.returns-in-Close-clause-ok
+returns-in-Close-clause-ok c most solo next told is silent e =
+    let o = closed most (app_in c.args.self.now) solo next c.args.event.now told c.in-Close.is e in
+    on_ok c.closes.result _ _ (λ stands. (o.1.1.1, subst (StandsFor c.closes.new.self) o.1.1.0 stands)) (c.closes.ensures.ok solo o.0 is.stands o.1.0)
+
+pub returns-in-Cancel-clause-ok : goal.returns-in-Cancel-clause-ok
+returns-in-Cancel-clause-ok c most solo next told is silent e =
+    let o = cancelled most (app_in c.args.self.now) solo next c.args.event.now told c.in-Cancel.is e in
+    on_ok c.settles.result _ _ (λ stands. (o.1, subst (StandsFor c.settles.new.self) o.0 stands)) (c.settles.ensures.ok solo is.stands)
+
+pub returns-in-Seen-clause-ok : goal.returns-in-Seen-clause-ok
+returns-in-Seen-clause-ok c most solo next told is silent e =
+    let o = saw most (app_in c.args.self.now) solo next c.args.event.now c.in-Seen.call c.in-Seen.steps told c.in-Seen.is e in
+    (o.silent_so, c.sees.ensures.sees solo next o.call is.stands o.there o.does_so)
+
+pub returns-in-Back-clause-ok : goal.returns-in-Back-clause-ok
+returns-in-Back-clause-ok c most solo next told is silent e =
+    let o = came_back most (app_in c.args.self.now) solo next c.args.event.now c.in-Back.call c.in-Back.input told c.in-Back.is e in
+    on_ok c.comes_back.result _ _ (λ stands. (o.silent_so, stands)) (c.comes_back.ensures.ok solo next o.call is.stands is.order o.there o.does_so)

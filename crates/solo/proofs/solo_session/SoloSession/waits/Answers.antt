@@ -1,0 +1,19 @@
+use Rattle.std.proofs.Common.{ℕ, [], ◌∷◌, ◌++◌, refl, ap, subst}
+use Rattle.base.specs.NumberMap.{insert}
+use Rattle.kernel_model.specs.Kernel.{Waits}
+use Rattle.own_model.specs.Solo.{Solo, counted, fresh_call}
+use Rattle.rpc_cont.specs.Conts.{kept_params}
+use Rattle.solo.proofs.Coming.{line_grows, line_same, next_is}
+use Rattle.solo.specs.Standing.{StandsFor}
+use Rattle.solo.proofs.solo_session.SoloSession.waits.Goals as goal
+
+pub returns-clause-ok : goal.returns-clause-ok
+returns-clause-ok c solo stands =
+    let s = c.args.self.now in
+    let call = fresh_call c.args.kind (Waits (kept_params c.args.params)) in
+    let with_it : Solo = record (counted solo) { calls = insert solo.calls solo.entered call } in
+    let number = c.in_ok-number.number in
+    let next = next_is s solo number c.in_ok-number.ensures stands in
+    subst (StandsFor _) (ap (λ (n : ℕ). record with_it { waiting = solo.waiting ++ n ∷ [] }) next)
+    (line_grows c.counted.new.self _ with_it number refl c.push_reserved.ensures.items
+    (c.in_ok-counted.ensures.ok solo call (line_same s _ solo refl c.reserve.ensures.items stands) c.in_ok-call.ensures.call))

@@ -1,0 +1,259 @@
+//! Calls that come in.
+ghost use Rattle.std.specs.Prelude.{◌≡◌, ◌≢◌, ◌<◌, [], IfOk, None, OnErr, OnOk, Some, false, vec_capacity, vec_len};
+ghost use Rattle.std.specs.Option.{option_and_then};
+ghost use Rattle.base.specs.NumberMap.{insert};
+ghost use Rattle.begin_call.specs.Begins.{CanBegin, IsValidApp};
+ghost use Rattle.job_model.specs.Job.{of_tee};
+ghost use Rattle.job_model.specs.Point.{no_params};
+ghost use Rattle.kernel_model.specs.Kernel.{Ends, Instance as AnyInstance, Waits};
+ghost use Rattle.kernel_state.specs.Setup.{application_of};
+ghost use Rattle.ta_params.specs.declared.copied_params.CopiedParams.{CopiedParams as AnyParams};
+ghost use Rattle.own_model.specs.Solo.{OwnCall as AnyCall, OwnSession as AnySession, Solo as AnySolo, counted, fresh_call, home, invokes, opens, settles, start_with, waits, works_or_waits, begins, closes};
+ghost use Rattle.rpc_cont.specs.Conts.{kept_params};
+ghost use Rattle.solo.specs.Calls.{IsCall};
+ghost use Rattle.solo.specs.Standing.{StandsFor, app_in};
+
+use crate::beginning::Ready;
+use crate::copies::copied_params;
+use crate::kept_session::KeptSession;
+use crate::made::made;
+use crate::solo_session::SoloSession;
+use arrayvec::ArrayVec;
+use base::NoMemory;
+use job_model::CallKind;
+use own_model::OwnInput;
+use rpc_cont::{CallEntry, Cont, ContApp};
+use std::alloc::Global;
+use ta_params::codes::{TEE_ERROR_BAD_PARAMETERS, TEE_ERROR_TARGET_DEAD, TEE_ORIGIN_TEE};
+use ta_params::{CallResult, CopiedParams, Login};
+use ta_step::Plain;
+use uuid::Uuid;
+
+/// Who opened a session is told to a call as it begins.
+const NOBODY: Login = Login {
+    client: [0; 16],
+    kind: 0,
+};
+
+/// What a call has from its entry on. No other session is there, no client and no argument.
+fn entry_of(alloc: Global, kind: CallKind, params: Option<CopiedParams>) -> CallEntry
+    ensures kind { result.kind ≡ kind }
+    ensures params { result.params ≡ params }
+{
+    CallEntry {
+        client: 0,
+        kind,
+        login: NOBODY,
+        context: 0,
+        params,
+        arg: 0,
+        places: ArrayVec::new_in(alloc),
+        session: 0,
+        instance: 0,
+    }
+}
+
+/// A call that comes in to the application of this UUID, as it waits with these parameters.
+fn fresh_call(
+    alloc: Global,
+    uuid: Uuid,
+    kind: CallKind,
+    params: Option<CopiedParams>,
+) -> Result<Box<Cont<Plain>>, NoMemory>
+    ensures call { IfOk result (λ call. IsCall call.value (fresh_call kind (Waits (kept_params params)))) }
+    ensures fresh { IfOk result (λ call. CanBegin call.value) }
+{
+    let mut cont = Cont::waiting(entry_of(alloc, kind, params));
+    cont.app = Some(ContApp::Dead { uuid });
+    Ok(Box::new(alloc, cont)?)
+}
+
+/// A call that has this result as it comes in, which no application returned.
+fn settled_call(alloc: Global, code: u32) -> Result<Box<Cont<Plain>>, NoMemory>
+    ensures { IfOk result (λ call. IsCall call.value (fresh_call CallKind.Settled
+        (Ends (of_tee code) no_params false None))) }
+{
+    let outcome = CallResult {
+        result: code,
+        origin: TEE_ORIGIN_TEE,
+    };
+    let cont = Cont::settled(entry_of(alloc, CallKind::Settled, None), outcome);
+    Ok(Box::new(alloc, cont)?)
+}
+
+impl SoloSession {
+    /// A call comes in and gets the next number.
+    #[tactic(auto, using(crate::proofs::Adding::added, crate::proofs::Adding::stands_still))]
+    fn counted(&mut self, call: Box<Cont<Plain>>) -> Result<(), NoMemory>
+        ensures ok { (solo : AnySolo) (own : AnyCall) → StandsFor self.old solo → IsCall call.value own
+            → OnOk result (StandsFor self.new (record (counted solo) { calls = insert solo.calls solo.entered own })) }
+        ensures err { (solo : AnySolo) → StandsFor self.old solo → OnErr result (StandsFor self.new solo) }
+        ensures stays { self.new ≡ record self.old { calls = self.new.calls } }
+    {
+        self.add(call)
+    }
+
+    /// A call comes in and has this result at once.
+    pub(crate) fn settles(&mut self, alloc: Global, code: u32) -> Result<(), NoMemory>
+        ensures ok { (solo : AnySolo) → StandsFor self.old solo → OnOk result (StandsFor self.new (settles solo code)) }
+        ensures err { (solo : AnySolo) → StandsFor self.old solo → OnErr result (StandsFor self.new solo) }
+        ensures app { self.new.app ≡ self.old.app }
+    {
+        let call = settled_call(alloc, code)?;
+        self.counted(call)
+    }
+
+    /// One comes in and waits, behind those that wait already.
+    fn waits(
+        &mut self,
+        alloc: Global,
+        kind: CallKind,
+        params: Option<CopiedParams>,
+    ) -> Result<(), NoMemory>
+        ensures ok { (solo : AnySolo) → StandsFor self.old solo
+            → OnOk result (StandsFor self.new (waits solo kind (kept_params params))) }
+        ensures err { (solo : AnySolo) → StandsFor self.old solo → OnErr result (StandsFor self.new solo) }
+        ensures app { self.new.app ≡ self.old.app }
+    {
+        let number = self.next_number()?;
+        let call = fresh_call(alloc, self.app.uuid(), kind, params)?;
+        self.waiting.reserve(1)?;
+        self.counted(call)?;
+        self.waiting.push_reserved(number);
+        Ok(())
+    }
+
+    /// One that has come in begins, where there is room for it behind the others.
+    fn begins_last(&mut self, number: u32, mut call: Box<Cont<Plain>>, ready: Ready)
+        requires valid { IsValidApp (app_in self.old) }
+        requires app { application_of ready.app ≡ app_in self.old }
+        requires empty { ready.empty ≡ [] }
+        requires fresh { CanBegin call.value }
+        requires room { vec_len self.old.calls < vec_capacity self.old.calls }
+        ensures begins { (solo : AnySolo) (own : AnyCall) (at : AnySession × AnyInstance) (params : AnyParams)
+            → StandsFor self.old solo
+            → number ≡ solo.entered → IsCall call.value own → own.phase ≡ Waits params
+            → own.kind ≢ CallKind.Settled → home solo ≡ Some at
+            → StandsFor self.new (counted (begins (app_in self.old) solo number own
+            (record { session = at.0; instance = at.1; params = params; seen = own.seen }))) }
+        ensures app { self.new.app ≡ self.old.app }
+    {
+        self.begins(number, &mut call, ready);
+        self.calls.push_reserved(Some(call));
+    }
+
+    /// One comes in and begins.
+    fn begins_new(
+        &mut self,
+        alloc: Global,
+        kind: CallKind,
+        params: Option<CopiedParams>,
+    ) -> Result<(), NoMemory>
+        requires { IsValidApp (app_in self.old) }
+        ensures ok { (solo : AnySolo) (at : AnySession × AnyInstance) → StandsFor self.old solo → home solo ≡ Some at
+            → kind ≢ CallKind.Settled
+            → OnOk result (StandsFor self.new (begins (app_in self.old) (counted solo) solo.entered
+            (fresh_call kind (Waits (kept_params params))) (start_with at (kept_params params)))) }
+        ensures err { (solo : AnySolo) → StandsFor self.old solo → OnErr result (StandsFor self.new solo) }
+        ensures app { self.new.app ≡ self.old.app }
+    {
+        let number = self.next_number()?;
+        let ready = self.ready(alloc)?;
+        let call = fresh_call(alloc, self.app.uuid(), kind, params)?;
+        self.calls.reserve(1)?;
+        self.begins_last(number, call, ready);
+        Ok(())
+    }
+
+    /// One comes in on the instance: it waits where another holds that, and else begins.
+    fn works_or_waits(
+        &mut self,
+        alloc: Global,
+        kind: CallKind,
+        params: Option<CopiedParams>,
+    ) -> Result<(), NoMemory>
+        requires { IsValidApp (app_in self.old) }
+        ensures ok { (solo : AnySolo) (at : AnySession × AnyInstance) → StandsFor self.old solo → home solo ≡ Some at
+            → kind ≢ CallKind.Settled → OnOk result (StandsFor self.new
+            (works_or_waits (app_in self.old) solo kind (start_with at (kept_params params)))) }
+        ensures err { (solo : AnySolo) → StandsFor self.old solo → OnErr result (StandsFor self.new solo) }
+        ensures app { self.new.app ≡ self.old.app }
+    {
+        let held = self.is_held();
+        if held {
+            self.waits(alloc, kind, params)
+        } else {
+            self.begins_new(alloc, kind, params)
+        }
+    }
+
+    /// The open makes session and instance, and begins.
+    pub(crate) fn opens(
+        &mut self,
+        alloc: Global,
+        params: &CopiedParams,
+        login: Login,
+    ) -> Result<(), NoMemory>
+        requires { IsValidApp (app_in self.old) }
+        ensures ok { (solo : AnySolo) → StandsFor self.old solo → solo.entered ≡ 0
+            → OnOk result (StandsFor self.new (opens (app_in self.old) solo params.now login)) }
+        ensures err { (solo : AnySolo) → StandsFor self.old solo → OnErr result (StandsFor self.new solo) }
+        ensures app { self.new.app ≡ self.old.app }
+    {
+        let number = self.next_number()?;
+        let params = copied_params(alloc, params)?;
+        let instance = made(alloc, &self.app)?;
+        let ready = self.ready(alloc)?;
+        let call = fresh_call(alloc, self.app.uuid(), CallKind::Open, Some(params))?;
+        self.calls.reserve(1)?;
+        self.session = Some(KeptSession {
+            login,
+            context: 0,
+            opened: false,
+        });
+        self.instance = Some(instance);
+        self.begins_last(number, call, ready);
+        Ok(())
+    }
+
+    /// An invoke comes in: of a dead instance it has a result at once, else with faulty parameters; else it begins or
+    /// waits.
+    pub(crate) fn invokes(
+        &mut self,
+        alloc: Global,
+        func: u32,
+        input: &OwnInput,
+    ) -> Result<(), NoMemory>
+        requires { IsValidApp (app_in self.old) }
+        ensures ok { (solo next : AnySolo) → StandsFor self.old solo
+            → option_and_then (invokes (app_in self.old) solo func input.now) (home solo) ≡ Some next
+            → OnOk result (StandsFor self.new next) }
+        ensures err { (solo : AnySolo) → StandsFor self.old solo → OnErr result (StandsFor self.new solo) }
+        ensures app { self.new.app ≡ self.old.app }
+    {
+        let Some(found) = self.home() else {
+            return self.settles(alloc, TEE_ERROR_BAD_PARAMETERS);
+        };
+        if found.dead {
+            return self.settles(alloc, TEE_ERROR_TARGET_DEAD);
+        }
+        match input {
+            OwnInput::Copied(params) => {
+                let params = copied_params(alloc, params)?;
+                self.works_or_waits(alloc, CallKind::Invoke { func }, Some(params))
+            }
+            OwnInput::Faulty | OwnInput::Unread => self.settles(alloc, TEE_ERROR_BAD_PARAMETERS),
+        }
+    }
+
+    /// A close comes in: it begins or waits, also where the instance is dead.
+    pub(crate) fn closes(&mut self, alloc: Global) -> Result<(), NoMemory>
+        requires { IsValidApp (app_in self.old) }
+        ensures ok { (solo : AnySolo) (at : AnySession × AnyInstance) → StandsFor self.old solo → home solo ≡ Some at
+            → OnOk result (StandsFor self.new (closes (app_in self.old) solo at)) }
+        ensures err { (solo : AnySolo) → StandsFor self.old solo → OnErr result (StandsFor self.new solo) }
+        ensures app { self.new.app ≡ self.old.app }
+    {
+        self.works_or_waits(alloc, CallKind::Close, None)
+    }
+}

@@ -1,0 +1,200 @@
+//! Calls that go out.
+ghost use Rattle.std.specs.Prelude.{◌≡◌, ◌+◌, ◌<◌, ◌≤◌, ◌^◌, ℕ, [], IfOk, OnErr, Option, Some, if◌then◌else◌, vec_capacity};
+ghost use Rattle.std.specs.Option.{option_and_then};
+ghost use Rattle.base.specs.NumberMap.{get};
+ghost use Rattle.job_model.specs.Job.{Job as AnyJob};
+ghost use Rattle.kernel_model.specs.Kernel.{CallPhase as AnyPhase, Runs};
+ghost use Rattle.kernel_state.specs.Calls.{IsInPhase, bytes_of, woken_slot};
+ghost use Rattle.own_model.specs.Own.{ended};
+ghost use Rattle.own_model.specs.Solo.{Going as AnyGoing, OwnCall as AnyCall, Solo as AnySolo, goes_out, goes_out_in, going_in, leaves};
+ghost use Rattle.own_model.specs.declared.own_reply.OwnReply.{OwnReply as AnyReply};
+ghost use Rattle.rpc_cont.specs.Advancing.{CanAdvance};
+ghost use Rattle.solo.specs.Calls.{IsCall};
+ghost use Rattle.solo.specs.GoingOut.{Ending as AnyEnding, IsGoing, asked_in, phase_of};
+ghost use Rattle.solo.specs.Rooms.{IsOutputRoom, IsRoom};
+ghost use Rattle.solo.specs.Short.{AreShort, IsShortPhase, IsShortSolo};
+ghost use Rattle.solo.specs.Standing.{IsAside, IsBeside, IsSomeSolo, StandsFor};
+
+use crate::copies::copied_rpc;
+use crate::outputs::ended;
+use crate::room::{OutputRoom, Room};
+use crate::solo_session::SoloSession;
+use crate::stops::runs_to_stop;
+use base::NoMemory;
+use own_model::OwnReply;
+use rpc_cont::{Asked, Cont, ContStop, Phase};
+use rpc_msgs::{Payload, Rpc};
+use std::alloc::Global;
+use ta_params::Buf;
+use ta_step::Plain;
+
+/// A copy of a payload, in a list with room for it. Takes no memory.
+fn copied_payload(mut room: Vec<u8>, payload: &Payload) -> Buf
+    requires empty { room.items ≡ [] }
+    requires room { 3584 ≤ vec_capacity room }
+    ensures { result ≡ payload.now }
+{
+    room.extend_from_slice(payload.bytes()).unwrap();
+    Buf::of(room)
+}
+
+/// What the application asks for.
+fn asked_reply(asked: &Asked, room: Vec<u8>) -> OwnReply
+    requires empty { room.items ≡ [] }
+    requires room { 3584 ≤ vec_capacity room }
+    ensures { result ≡ OwnReply.Ask asked.now.rpc asked.now.payload }
+{
+    OwnReply::Ask {
+        rpc: copied_rpc(&asked.rpc),
+        payload: copied_payload(room, &asked.payload),
+    }
+}
+
+/// The number of the call that it asks to wake.
+fn woken_call(cont: &Cont<Plain>) -> Option<u32>
+    ensures { result ≡ option_and_then (λ asked. woken_slot asked.rpc) cont.now.request }
+{
+    match &cont.request {
+        Some(asked) => match &asked.rpc {
+            Rpc::Wake(number) => Some(*number),
+            _ => None,
+        },
+        None => None,
+    }
+}
+
+/// What a call asks for, if it does, where it has a buffer for that.
+#[tactic(auto, using(crate::proofs::Answering::runs_told, crate::proofs::Answering::asks_told, crate::proofs::Answering::asks_something, crate::proofs::Answering::waits_told, crate::proofs::Answering::ends_told))]
+fn asked_in(cont: &Cont<Plain>, room: Vec<u8>) -> Option<OwnReply>
+    requires empty { room.items ≡ [] }
+    requires room { 3584 ≤ vec_capacity room }
+    ensures { (phase : AnyPhase) → IsInPhase cont.now phase → result ≡ asked_in phase }
+{
+    match cont.phase {
+        Phase::Runs => None,
+        Phase::Asks => Some(asked_reply(cont.request.as_ref()?, room)),
+        Phase::Waits => Some(OwnReply::Sleep),
+        Phase::Ends => Some(OwnReply::Wake {
+            call: woken_call(cont)?,
+        }),
+    }
+}
+
+/// A request, or first a buffer for it.
+fn in_buffer(asked: OwnReply, has_buffer: bool) -> OwnReply
+    ensures { result ≡ (if has_buffer then asked else OwnReply.Alloc) }
+{
+    if has_buffer { asked } else { OwnReply::Alloc }
+}
+
+impl SoloSession {
+    /// The job of a call that runs is taken to its stop.
+    fn taken_on(&mut self, cont: &mut Cont<Plain>)
+        requires { CanAdvance bytes_of cont.old }
+        ensures going { (most : ℕ) (solo : AnySolo) (call : AnyCall) (going : AnyGoing) (job : AnyJob)
+            → IsBeside self.old solo
+            → IsCall cont.old call → call.phase ≡ Runs job → call.steps + most < 2 ^ 128
+            → going_in most solo call (Runs job) ≡ Some going → IsGoing self.new cont.new solo going }
+        ensures app { self.new.app ≡ self.old.app }
+        ensures calls { self.new.calls ≡ self.old.calls }
+    {
+        match runs_to_stop(cont) {
+            ContStop::Interrupted | ContStop::Asks => {}
+            ContStop::Ended(_) => self.ended(cont),
+            ContStop::Panicked(_) => self.panicked(cont),
+        }
+    }
+
+    /// The call as it goes out, by its phase.
+    fn going_in(&mut self, cont: &mut Cont<Plain>)
+        requires { cont.old.phase ≡ Phase.Runs → CanAdvance bytes_of cont.old }
+        ensures going { (most : ℕ) (solo : AnySolo) (call : AnyCall) (going : AnyGoing) → IsBeside self.old solo
+            → IsCall cont.old call → call.steps + most < 2 ^ 128 → going_in most solo call call.phase ≡ Some going
+            → IsGoing self.new cont.new solo going }
+        ensures app { self.new.app ≡ self.old.app }
+        ensures calls { self.new.calls ≡ self.old.calls }
+    {
+        match cont.phase {
+            Phase::Runs => self.taken_on(cont),
+            Phase::Ends => self.at_end(cont),
+            Phase::Asks | Phase::Waits => {}
+        }
+    }
+
+    /// One that has ended as it goes out: it shows its result, unless it has.
+    fn at_end(&mut self, cont: &mut Cont<Plain>)
+        requires { cont.old.phase ≡ Phase.Ends }
+        ensures going { (most : ℕ) (solo : AnySolo) (call : AnyCall) (going : AnyGoing) → IsBeside self.old solo
+            → IsCall cont.old call
+            → going_in most solo call call.phase ≡ Some going → IsGoing self.new cont.new solo going }
+        ensures app { self.new.app ≡ self.old.app }
+        ensures calls { self.new.calls ≡ self.old.calls }
+    {
+        let shown = cont.done;
+        if !shown {
+            self.unrun(cont);
+        }
+    }
+
+    /// The call of this number goes out. None where there is none.
+    pub(crate) fn goes_out(
+        &mut self,
+        alloc: Global,
+        number: u32,
+    ) -> Result<Option<OwnReply>, NoMemory>
+        requires { ∥ IsSomeSolo self.old ∥₁ }
+        ensures ok { (most : ℕ) (solo next : AnySolo) (call : AnyCall) (told : Option AnyReply)
+            → StandsFor self.old solo
+            → get solo.calls number ≡ Some call → call.steps + most < 2 ^ 128 → IsShortSolo solo
+            → goes_out most solo number call ≡ Some (next, told)
+            → IfOk result (λ answer. (answer ≡ told) × StandsFor self.new next) }
+        ensures err { (solo : AnySolo) → StandsFor self.old solo → OnErr result (StandsFor self.new solo) }
+        ensures app { self.new.app ≡ self.old.app }
+    {
+        let room = Room::new(alloc)?;
+        let Some(mut call) = self.take(number) else {
+            return Ok(None);
+        };
+        self.going_in(&mut call);
+        Ok(Some(self.answers(number, call, room)))
+    }
+
+    /// It goes out: it asks for something, or leaves.
+    fn answers(&mut self, number: u32, call: Box<Cont<Plain>>, room: Room) -> OwnReply
+        requires { IsRoom room }
+        ensures answers { (solo next : AnySolo) (own : AnyCall) (told : Option AnyReply) → IsAside self.old number solo
+            → IsCall call.value own → IsShortPhase own.phase → goes_out_in solo number own own.phase ≡ Some (next, told)
+            → (Some result ≡ told) × StandsFor self.new next }
+        ensures app { self.new.app ≡ self.old.app }
+    {
+        let Room { payload, outputs } = room;
+        match asked_in(&call, payload) {
+            Some(asked) => {
+                let told = in_buffer(asked, call.buffer.is_some());
+                self.put(number, call);
+                told
+            }
+            None => self.leaves(number, call, outputs),
+        }
+    }
+
+    /// It has ended: it gives its buffer back, or is told its result.
+    fn leaves(&mut self, number: u32, mut call: Box<Cont<Plain>>, outputs: OutputRoom) -> OwnReply
+        requires { IsOutputRoom outputs }
+        ensures leaves { (solo next : AnySolo) (own : AnyCall) (told : Option AnyReply) (ends : AnyEnding)
+            → IsAside self.old number solo
+            → IsCall call.value own → own.phase ≡ phase_of ends → AreShort ends.params
+            → leaves solo number own (ended ends.result ends.params) ≡ (next, told)
+            → (Some result ≡ told) × StandsFor self.new next }
+        ensures app { self.new.app ≡ self.old.app }
+    {
+        let has_buffer = call.buffer.is_some();
+        if has_buffer {
+            call.buffer = None;
+            self.put(number, call);
+            OwnReply::Free
+        } else {
+            ended(outputs, call.result, &call.params)
+        }
+    }
+}

@@ -1,0 +1,97 @@
+//! What is told of the parameters of a call at its end, in memory that was taken before.
+ghost use Rattle.std.specs.Prelude.{◌≡◌, ◌≤◌, [], length, vec_capacity};
+ghost use Rattle.job_model.specs.Point.{no_params};
+ghost use Rattle.own_model.specs.Own.{ended};
+ghost use Rattle.own_model.specs.Parameters.{bytes_told, output_of, outputs_with};
+ghost use Rattle.rpc_cont.specs.Conts.{kept_params};
+ghost use Rattle.solo.specs.Rooms.{IsOutputRoom};
+ghost use Rattle.solo.specs.Short.{AreShort};
+ghost use Rattle.ta_step.specs.Parameters.{buffer};
+
+use crate::room::OutputRoom;
+use own_model::OwnReply;
+use ta_params::codes::TEE_ORIGIN_TRUSTED_APP;
+use ta_params::{Buf, CallResult, CopiedParams, GpParam, Way};
+
+/// The bytes of a memory parameter that are written back: as many as its size says, where it has so many.
+fn bytes_told(mut room: Vec<u8>, buf: &Buf, size: u32) -> Buf
+    requires empty { room.items ≡ [] }
+    requires room { 65536 ≤ vec_capacity room }
+    ensures { length buf.now ≤ 65536 → result ≡ bytes_told buf.now size }
+{
+    if let Some(bytes) = buf.bytes().get(..size as usize) {
+        let _ = room.extend_from_slice(bytes);
+    }
+    Buf::of(room)
+}
+
+/// A parameter as it is told: nothing of an input.
+fn output_of(room: Vec<u8>, param: &GpParam) -> GpParam
+    requires empty { room.items ≡ [] }
+    requires room { 65536 ≤ vec_capacity room }
+    ensures { length (buffer param.now) ≤ 65536 → result ≡ output_of param.now }
+{
+    match param {
+        GpParam::Empty
+        | GpParam::Value { way: Way::In, .. }
+        | GpParam::Memref { way: Way::In, .. } => GpParam::Empty,
+        GpParam::Value { way, a, b } => GpParam::Value {
+            way: *way,
+            a: *a,
+            b: *b,
+        },
+        GpParam::Memref { way, buf, size } => GpParam::Memref {
+            way: *way,
+            buf: bytes_told(room, buf, *size),
+            size: *size,
+        },
+    }
+}
+
+/// Four that are empty.
+fn no_params() -> CopiedParams
+    ensures { result ≡ no_params }
+{
+    CopiedParams {
+        p0: GpParam::Empty,
+        p1: GpParam::Empty,
+        p2: GpParam::Empty,
+        p3: GpParam::Empty,
+    }
+}
+
+/// The four, which are told only where the application returned the result.
+fn outputs_with(
+    room: OutputRoom,
+    outcome: CallResult,
+    params: &Option<CopiedParams>,
+) -> CopiedParams
+    requires { IsOutputRoom room }
+    ensures { AreShort (kept_params params.now) → result ≡ outputs_with outcome (kept_params params.now) }
+{
+    match params {
+        Some(params) if outcome.origin == TEE_ORIGIN_TRUSTED_APP => CopiedParams {
+            p0: output_of(room.p0, &params.p0),
+            p1: output_of(room.p1, &params.p1),
+            p2: output_of(room.p2, &params.p2),
+            p3: output_of(room.p3, &params.p3),
+        },
+        Some(_) | None => no_params(),
+    }
+}
+
+/// A call has ended with this result, and leaves these parameters.
+pub(crate) fn ended(
+    room: OutputRoom,
+    outcome: CallResult,
+    params: &Option<CopiedParams>,
+) -> OwnReply
+    requires { IsOutputRoom room }
+    ensures { AreShort (kept_params params.now) → result ≡ ended outcome (kept_params params.now) }
+{
+    OwnReply::Ended {
+        result: outcome.result,
+        origin: outcome.origin,
+        outputs: outputs_with(room, outcome, params),
+    }
+}
