@@ -4,7 +4,8 @@
 //! A case is lines: `case NAME`, `words W..`, the bytes of the input after a line `input` and those of the
 //! output after a line `output`, and last `status N`, at which it runs. Bytes are given by lines `|TEXT` (the
 //! text and a line feed), `=TEXT` (the text alone), `<FILE` (those of a file, whose path is relative to the folder
-//! that the program runs in), `lines N TEXT` (N lines of the text) and `comment N` (a comment line of N bytes).
+//! that the program runs in), `hex HEX` (those of hexadecimal digits), `lines N TEXT` (N lines of the text) and
+//! `comment N` (a comment line of N bytes).
 //! `take N` and `put N` make call N of the source or the sink fail, counted from 0. `again NAME` begins a case with
 //! the words and the input of the one before, and `cut FIRST LAST` makes a case run once with each number of bytes of
 //! its input from the first to the last.
@@ -55,6 +56,7 @@ fn take_line(
         "words" => case.push_words(alloc, rest)?,
         "input" => case.begin_input(),
         "output" => case.begin_output(),
+        "hex" => case.push_bytes(hex::decode(alloc, rest)?.as_slice())?,
         "comment" => case.push_comment(number(rest)?)?,
         "lines" => {
             let (count, text) = halves(rest)?;
