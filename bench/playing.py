@@ -1,12 +1,12 @@
 #!/usr/bin/env python3
 """Counts the instructions that a further call of a whole trace costs, with reading, serving and printing told apart.
 
-Makes the trace of seed 7 that docs/formats.md defines, with N and with 2N calls, as text, and plays it as a case of
-`worked_cases` under callgrind: a further call costs the difference of both by N. Serving is an entry and an exit of the
-core, printing is what the exit of a trace needs besides, and reading is the rest; taking bytes from the source isn't in
-it. Blocks are moved and cleared by vectors here: by `rep` instructions, which is the C library's way with long ones,
-callgrind counts each byte. Then it prints the most memory that the program takes for the longer trace, beside the bytes
-of the text and of the lanes. Build the program first, by `rt run` in crates/worked_cases.
+Makes the trace of seed 7 that docs/formats.md defines, with N and with 2N calls, as text, and gives it to `optee_run
+run` under callgrind: a further call costs the difference of both by N. Serving is an entry and an exit of the core,
+printing is what the exit of a trace needs besides, and reading is the rest. Blocks are moved and cleared by vectors
+here: by `rep` instructions, which is the C library's way with long ones, callgrind counts each byte. Then it prints
+the most memory that the program takes for each of the traces, beside the bytes of the text and of the lanes. Build
+the program first, by `rt run` in crates/optee_run.
 Usage: bench/playing.py [N..]
 """
 
@@ -19,7 +19,7 @@ import tempfile
 
 from callgrind import costs
 
-PROGRAM = pathlib.Path(__file__).resolve().parent.parent / "crates/worked_cases/out/worked_cases"
+PROGRAM = pathlib.Path(__file__).resolve().parent.parent / "crates/optee_run/out/optee_run"
 SEED = 7
 UUID = "11111111-2222-3333-4444-555555555555"
 CODE = [
@@ -73,19 +73,12 @@ def trace(count):
     return "".join(lines)
 
 
-def case(count):
-    """The case of such a trace. It names a wrong status, so that one line is printed."""
-    text = ["|" + line for line in trace(count).splitlines()]
-    lines = ["case made", "words run", "input", *text, "output", "status 1"]
-    return "".join(line + "\n" for line in lines).encode()
-
-
 def measured(count):
     """What the program needs for so many calls: in all, and for each part of it."""
-    _, functions, printed = costs(PROGRAM, given=case(count))
-    assert printed == b"made at cut 4294967295 ended with 0, and not with 1\n", printed
+    _, functions, printed = costs(PROGRAM, "run", given=trace(count).encode())
+    assert printed.count(b"ret ") == count, printed
     named = lambda part: sum(cost for name, cost in functions.items() if name.split("::<")[0].endswith(part))
-    all_of_it, going_out = named("top_call::answer"), named("Player::leave")
+    all_of_it, going_out = named("top_call::run_input"), named("Player::leave")
     serving = named("entering::enter") + named("Machine::leave")
     printing = going_out - named("Machine::leave")
     return {"in all": all_of_it, "reading": all_of_it - serving - printing, "serving": serving, "printing": printing}
@@ -94,9 +87,9 @@ def measured(count):
 def most_memory(count):
     """The most bytes that the program takes for so many calls."""
     with tempfile.TemporaryFile() as given:
-        given.write(case(count))
+        given.write(trace(count).encode())
         given.seek(0)
-        run = subprocess.Popen([PROGRAM], stdin=given, stdout=subprocess.DEVNULL)
+        run = subprocess.Popen([PROGRAM, "run"], stdin=given, stdout=subprocess.DEVNULL)
         _, status, usage = os.wait4(run.pid, 0)
         assert status == 0
         return usage.ru_maxrss << 10
@@ -108,8 +101,9 @@ def main():
         once, twice = measured(count), measured(2 * count)
         further = ", ".join(f"{name} {(twice[name] - once[name]) / count:.0f}" for name in once)
         print(f"{count} calls more behind {count}, for each: {further}", flush=True)
-        text, most = len(trace(2 * count)), most_memory(2 * count)
-        print(f"{2 * count} calls: at most {most} bytes, for a text of {text} and lanes of {4 * LANE}", flush=True)
+        for calls in (count, 2 * count):
+            text, most = len(trace(calls)), most_memory(calls)
+            print(f"{calls} calls: at most {most} bytes, for a text of {text} and lanes of {4 * LANE}", flush=True)
 
 
 if __name__ == "__main__":
