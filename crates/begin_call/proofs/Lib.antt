@@ -1,5 +1,6 @@
 pub mod Apps
 pub mod Destroying
+pub mod Facts
 pub mod HeldInstances
 pub mod Maps
 pub mod OnSession

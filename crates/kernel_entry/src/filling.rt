@@ -1,6 +1,5 @@
 //! A call that is filled where it stays: its box is made before anything is changed, and filling it takes no memory.
 ghost use Rattle.std.specs.Prelude.{◌≡◌, None};
-ghost use Rattle.job_model.specs.Job.{of_tee};
 ghost use Rattle.rpc_cont.specs.Beginning.{IsEntered, IsFresh};
 ghost use Rattle.kernel_entry.specs.Applying.{IsBlank, IsNew};
 
@@ -9,26 +8,8 @@ use frame_pool::Pages;
 use job_model::CallKind;
 use rpc_cont::{CallEntry, Cont, Phase};
 use std::alloc::Global;
-use ta_params::codes::{TEE_ORIGIN_TEE, TEE_SUCCESS};
+use ta_params::codes::TEE_SUCCESS;
 use ta_params::{CallResult, Login};
-
-/// Whom no login names.
-pub(crate) fn nobody() -> Login {
-    Login {
-        client: [0; 16],
-        kind: 0,
-    }
-}
-
-/// A result that no application returned.
-pub(crate) fn of_tee(code: u32) -> CallResult
-    ensures { result ≡ of_tee code }
-{
-    CallResult {
-        result: code,
-        origin: TEE_ORIGIN_TEE,
-    }
-}
 
 /// A call of which nothing is there yet.
 pub(crate) fn blank(alloc: Global) -> Cont<Pages>
@@ -38,7 +19,7 @@ pub(crate) fn blank(alloc: Global) -> Cont<Pages>
         CallEntry {
             client: 0,
             kind: CallKind::Settled,
-            login: nobody(),
+            login: Login::public(),
             context: 0,
             params: None,
             arg: 0,
@@ -46,7 +27,7 @@ pub(crate) fn blank(alloc: Global) -> Cont<Pages>
             session: 0,
             instance: 0,
         },
-        of_tee(TEE_SUCCESS),
+        CallResult::of_tee(TEE_SUCCESS),
     )
 }
 
@@ -90,7 +71,7 @@ pub(crate) fn waits_as(cont: &mut Cont<Pages>, entered: CallEntry)
     ensures entered { IsEntered entered cont.new }
     ensures params { cont.new.params ≡ entered.params }
 {
-    fills(cont, entered, of_tee(TEE_SUCCESS), Phase::Waits);
+    fills(cont, entered, CallResult::of_tee(TEE_SUCCESS), Phase::Waits);
 }
 
 /// The call is the one of this entry, and was settled there with this result.

@@ -7,13 +7,14 @@ ghost use Rattle.kernel_state.specs.Calls.{IsCall};
 ghost use Rattle.new_calls.specs.Deciding.{call_with, settled_of};
 ghost use Rattle.kernel_entry.specs.Applying.{IsBlank};
 
-use crate::filling::{ends_as, nobody, of_tee};
+use crate::filling::ends_as;
 use arrayvec::ArrayVec;
 use frame_pool::Pages;
 use job_model::CallKind;
 use new_calls::{Entered, Settled};
 use rpc_cont::{CallEntry, Cont};
 use std::alloc::Global;
+use ta_params::{CallResult, Login};
 
 /// A call in this session that is settled with this result, which no application returned.
 pub(crate) fn settled_call(
@@ -33,7 +34,7 @@ pub(crate) fn settled_call(
         CallEntry {
             client: entered.client,
             kind: CallKind::Settled,
-            login: nobody(),
+            login: Login::public(),
             context: 0,
             params: None,
             arg: entered.arg,
@@ -41,7 +42,7 @@ pub(crate) fn settled_call(
             session,
             instance: 0,
         },
-        of_tee(code),
+        CallResult::of_tee(code),
     );
 }
 

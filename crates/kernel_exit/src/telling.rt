@@ -2,7 +2,6 @@
 ghost use Rattle.std.specs.Prelude.{◌≡◌, ℕ, List, [], ◌∷◌};
 ghost use Rattle.std.specs.List.{AllByRecursion};
 ghost use Rattle.call_leaving.specs.Leaving.{leaving_as, request_of};
-ghost use Rattle.job_model.specs.Point.{no_params};
 ghost use Rattle.kernel_model.specs.Exit.{answer_of, output_writes, result_writes, session_writes, slot_left, tables_left, word32, writes_of};
 ghost use Rattle.kernel_model.specs.Kernel.{PendingCall};
 ghost use Rattle.kernel_state.specs.Calls.{IsCall};
@@ -28,8 +27,8 @@ use param_copy::copy_out;
 use rpc_cont::Cont;
 use rpc_msgs::{Rpc, RpcBuffer, put_request};
 use smc_abi::{Answer, OK};
+use ta_params::CopiedParams;
 use ta_params::codes::{TEE_ORIGIN_TRUSTED_APP, TEE_SUCCESS};
-use ta_params::{CopiedParams, GpParam};
 use thread_slots::Slots;
 
 /// The bytes of the buffer that a call asks for.
@@ -84,18 +83,6 @@ fn put_wanted(lane: &mut Lane, cont: &Cont<Pages>, place: RpcBuffer, wanted: Wan
     }
 }
 
-/// Four that are empty.
-fn no_params() -> CopiedParams
-    ensures { result ≡ no_params }
-{
-    CopiedParams {
-        p0: GpParam::Empty,
-        p1: GpParam::Empty,
-        p2: GpParam::Empty,
-        p3: GpParam::Empty,
-    }
-}
-
 /// Writes the parameters back, where the application returned the result.
 fn put_outputs(lane: &mut Lane, cont: &Cont<Pages>)
     requires { AllByRecursion (IsWritable cont.now.arg) cont.now.places.items }
@@ -105,7 +92,7 @@ fn put_outputs(lane: &mut Lane, cont: &Cont<Pages>)
     if cont.result.origin == TEE_ORIGIN_TRUSTED_APP {
         match &cont.params {
             Some(params) => copy_out(lane, cont.arg, &cont.places, params),
-            None => copy_out(lane, cont.arg, &cont.places, &no_params()),
+            None => copy_out(lane, cont.arg, &cont.places, &CopiedParams::none()),
         }
     }
 }

@@ -1,49 +1,15 @@
 -- That a call can be granted steps is a fact: there is one way at most in which it holds.
-use Rattle.std.proofs.Common.{◌≡◌, ℕ, ◌+◌, ◌<◌, ◌^◌, List, Option, Some, None, subst}
+use Rattle.std.proofs.Common.{◌≡◌, ℕ, ◌+◌, ◌<◌, ◌^◌, List, subst}
 use Rattle.std.proofs.Math.Logic.{∥∥₁_elim}
 use Rattle.std.specs.Global.{Box}
 use Rattle.std.proofs.Props.{props}
-use Rattle.std.specs.Prelude.{Bool}
-use Rattle.job_model.specs.declared.entry_point.EntryPoint.{EntryPoint}
-use Rattle.job_model.specs.declared.entry_point.EntryPoint.TheVariants as entry
-use Rattle.rpc_cont.specs.Advancing.{CanAdvance, CanRun, IsInvoke, IsRunnable}
-use Rattle.rpc_cont.specs.declared.app.ContApp.{ContApp}
-use Rattle.rpc_cont.specs.declared.app.ContApp.TheVariants as app
+use Rattle.rpc_cont.specs.Advancing.{CanAdvance}
 use Rattle.rpc_cont.specs.declared.cont.Cont.{Cont}
-use Rattle.ta_isa.specs.Spelling.{IsValid}
-use Rattle.ta_isa.specs.declared.image.Image.{Image}
-use Rattle.ta_step.specs.declared.machine.Machine.{Machine as AnyMachine}
 use Rattle.kernel_state.specs.Calls.{bytes_of}
+use Rattle.kernel_state.proofs.CallFacts.{can_advance_prop}
 use Rattle.kernel_state.specs.Carried.{CanBeGranted}
 use Rattle.kernel_state.specs.declared.carried.Carried.{Carried}
 use Rattle.kernel_state.specs.declared.carried.Carried.TheVariants.{Nothing, Resting, Running}
-
-valid_prop : (image : Image) → IsProp (IsValid image)
-valid_prop image = Prim.hlevel props
-
-invoke_prop : (point : EntryPoint) → IsProp (IsInvoke point)
-invoke_prop entry.Create = Prim.hlevel props
-invoke_prop entry.Open = Prim.hlevel props
-invoke_prop (entry.Invoke func) = Prim.hlevel props
-invoke_prop entry.Close = Prim.hlevel props
-invoke_prop entry.Destroy = Prim.hlevel props
-
-runnable_prop : (seen : Bool) (of : Option ContApp) (point : Option EntryPoint) (machine : Option (AnyMachine (List ℕ))) →
-    IsProp (IsRunnable bytes_of seen of point machine)
-runnable_prop seen None None machine = Prim.hlevel props
-runnable_prop seen (Some (app.Image uuid image)) None machine = Prim.hlevel props
-runnable_prop seen (Some (app.Native native)) None machine = Prim.hlevel props
-runnable_prop seen (Some (app.Dead uuid)) None machine = Prim.hlevel props
-runnable_prop seen (Some (app.Image uuid image)) (Some point) machine = Prim.hlevel (props, valid_prop)
-runnable_prop seen (Some (app.Native native)) (Some point) machine = Prim.hlevel (props, invoke_prop)
-runnable_prop seen (Some (app.Dead uuid)) (Some point) machine = Prim.hlevel props
-runnable_prop seen None (Some point) machine = Prim.hlevel props
-
-can_run_prop : (of : Option ContApp) (cont : Cont (List ℕ)) → IsProp (CanRun bytes_of of cont)
-can_run_prop of cont = Prim.hlevel (props, runnable_prop)
-
-can_advance_prop : (cont : Cont (List ℕ)) → IsProp (CanAdvance bytes_of cont)
-can_advance_prop cont = Prim.hlevel (props, can_run_prop)
 
 can_be_granted_prop : (steps : ℕ) (call : Carried) → IsProp (CanBeGranted steps call)
 can_be_granted_prop steps Nothing = Prim.hlevel props

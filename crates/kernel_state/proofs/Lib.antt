@@ -1,6 +1,8 @@
 pub mod Answering
 pub mod Apart
 pub mod Applications
+pub mod CallFacts
+pub mod CallPhases
 pub mod Cancelling
 pub mod CoreEvents
 pub mod Granting

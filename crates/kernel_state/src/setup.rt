@@ -63,6 +63,16 @@ impl Setup {
 }
 
 impl Application {
+    /// The same application, for a call of it.
+    pub fn share(&self) -> Result<Application, NoMemory>
+        ensures { IfOk result (λ shared. application_of shared ≡ application_of self.now) }
+    {
+        match self {
+            Application::OfImage(app) => Ok(Application::OfImage(app.share()?)),
+            Application::BuiltIn(native) => Ok(Application::BuiltIn(*native)),
+        }
+    }
+
     /// The UUID that opens name it by.
     pub fn uuid(&self) -> Uuid
         ensures { result ≡ uuid_of (application_of self.now) }

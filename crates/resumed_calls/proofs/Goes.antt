@@ -1,13 +1,11 @@
 -- A call that doesn't wait goes on as the kernel's does.
 use Rattle.std.proofs.Common.{◌≡◌, ℕ, List, Option, Some, None, refl, sym, ap, subst}
 use Rattle.std.specs.Prelude.{IsSome, IsSomeAnd}
-use Rattle.std.specs.Option.{option_map_or}
 use Rattle.job_model.specs.Job.{Job}
-use Rattle.job_model.specs.Steps.{Advance, Goes, Stops, advance_on_answer}
-use Rattle.job_model.specs.Steps as steps
+use Rattle.job_model.specs.Steps.{advance_on_answer}
 use Rattle.kernel_model.specs.Given.{Given, Nothing, Buffer, NoBuffer, Reply}
 use Rattle.kernel_model.specs.Kernel.{CallPhase, Runs, Asks, Waits, Ends}
-use Rattle.kernel_model.specs.Resume.{Resumed, onward_in, onward_of, phase_after, phase_on_answer, phase_when_given, still_wakes}
+use Rattle.kernel_model.specs.Resume.{Resumed, onward_in, onward_of, phase_on_answer, phase_when_given, still_wakes}
 use Rattle.kernel_state.specs.Calls.{IsCall, IsInPhase, bytes_of}
 use Rattle.rpc_cont.specs.Answering.{IsAnswered}
 use Rattle.rpc_cont.specs.Conts.{job_of, uuid_of}
@@ -19,6 +17,7 @@ use Rattle.rpc_cont.specs.declared.input.ResumeInput.TheVariants as input
 use Rattle.rpc_cont.specs.declared.phase.Phase.TheVariants as phase
 use Rattle.rpc_msgs.specs.Answer as rpc_answer
 use Rattle.rpc_msgs.specs.Answer.{RpcAnswer}
+use Rattle.kernel_state.proofs.CallPhases.{phase_answered}
 use Rattle.resumed_calls.proofs.Keeping.{Keeps, in_phase}
 use Rattle.resumed_calls.specs.Giving.{given_as}
 use Rattle.resumed_calls.specs.Onward.{HasCome}
@@ -113,14 +112,6 @@ some_answer input.Nothing some = absurd cc
 some_answer (input.Buffer addr cookie) some = absurd cc
 some_answer input.NoBuffer some = (rpc_answer.NoBuffer, refl)
 some_answer (input.Reply reply) some = (rpc_answer.Replied reply, refl)
-
-phase_answered : (cont : Cont (List ℕ)) (before : CallPhase) (next : Option Advance) →
-    IsSomeAnd next (λ next. IsAnswered bytes_of cont next) → IsInPhase cont (option_map_or (phase_after before) next before)
-phase_answered cont before None is = absurd is
-phase_answered cont before (Some (Goes job)) is = is
-phase_answered cont before (Some (Stops (steps.Asks wanted payload left))) is = (is.1, is.0, is.2)
-phase_answered cont before (Some (Stops (steps.Ends end))) is = absurd is
-phase_answered cont before (Some (Stops (steps.Panics code))) is = absurd is
 
 -- what `resume_with` says of an answer
 pub record TakesAnswer (old new : Cont (List ℕ)) (answer : RpcAnswer) : Type 0 where

@@ -23,7 +23,8 @@ use Rattle.rpc_cont.specs.declared.phase.Phase.TheVariants as phase
 use Rattle.ta_isa.specs.Boots.{IsBoot}
 use Rattle.ta_params.specs.declared.copied_params.CopiedParams.{CopiedParams}
 use Rattle.resumed_calls.proofs.Begins.{its_uuid}
-use Rattle.resumed_calls.proofs.Facts.{can_be_answered_prop, in_line_prop}
+use Rattle.kernel_state.proofs.CallFacts.{can_be_answered_prop}
+use Rattle.resumed_calls.proofs.Facts.{in_line_prop}
 use Rattle.resumed_calls.specs.Onward.{HasCome}
 use Rattle.resumed_calls.specs.Resuming.{CanResume}
 use Rattle.resumed_calls.specs.Waiting.{IsAppFor, IsInLine, IsOwnInstance, IsWaitingCall, MayBeItsApp, WaitsInLine, resumed_in}

@@ -27,9 +27,7 @@ use kernel_state::{Application, Setup, Tables};
 use rpc_cont::{CallKind, Cont, Phase};
 use session_table::Session;
 use ta_params::CallResult;
-use ta_params::codes::{
-    TEE_ERROR_BAD_PARAMETERS, TEE_ERROR_OUT_OF_MEMORY, TEE_ERROR_TARGET_DEAD, TEE_ORIGIN_TEE,
-};
+use ta_params::codes::{TEE_ERROR_BAD_PARAMETERS, TEE_ERROR_OUT_OF_MEMORY, TEE_ERROR_TARGET_DEAD};
 
 /// The turn of a call that waited.
 #[derive(Drop)]
@@ -279,10 +277,7 @@ fn ends_with(tables: &mut Tables, cont: &mut Cont<Pages>, slot: u8, code: u32)
     ensures stays { tables.new ≡ record tables.old { waiters = tables.new.waiters } }
 {
     tables.waiters.leave(slot);
-    cont.result = CallResult {
-        result: code,
-        origin: TEE_ORIGIN_TEE,
-    };
+    cont.result = CallResult::of_tee(code);
     cont.params = None;
     cont.phase = Phase::Ends;
     cont.done = false;

@@ -17,12 +17,12 @@ ghost use Rattle.ta_step.specs.Runs.{request_of, runs};
 ghost use Rattle.ta_step.specs.Shape.{SameShape};
 
 use crate::app::ContApp;
-use crate::begin::of_application;
 use crate::cont::Cont;
 use crate::stop::ContStop;
 use job_model::EntryPoint;
 use native_tas::NativeApp;
 use ta_isa::Image;
+use ta_params::CallResult;
 use ta_step::{Machine, Stop, TaMemory};
 use uuid::Uuid;
 
@@ -167,7 +167,7 @@ impl<M: TaMemory + Drop> Cont<M> {
         let mut params = self.take_params();
         let code = native.relation.answer(func, &mut params);
         self.params = Some(params);
-        self.result = of_application(code);
+        self.result = CallResult::of_application(code);
         self.steps += 1;
         ContStop::Ended(self.result)
     }

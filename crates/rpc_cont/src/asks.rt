@@ -141,10 +141,7 @@ impl<M: TaMemory + Drop> Cont<M> {
         }
         self.request = None;
         self.object = None;
-        self.result = CallResult {
-            result: TEE_ERROR_TARGET_DEAD,
-            origin: TEE_ORIGIN_TEE,
-        };
+        self.result = CallResult::of_tee(TEE_ERROR_TARGET_DEAD);
         ContStop::Panicked(code)
     }
 }

@@ -1,8 +1,8 @@
 //! How an entry point begins, and what its return leaves.
 ghost use Rattle.std.specs.Prelude.{◌≡◌, List, ℕ, [], map, length, Some, None, IsSomeAnd};
 ghost use Rattle.job_model.specs.declared.entry_point.EntryPoint.{EntryPoint as AnyPoint};
-ghost use Rattle.job_model.specs.Job.{Nothing, image_job_at, of_application};
-ghost use Rattle.job_model.specs.Point.{first_registers, no_params, params_at, params_beside};
+ghost use Rattle.job_model.specs.Job.{Nothing, image_job_at};
+ghost use Rattle.job_model.specs.Point.{first_registers, params_at, params_beside};
 ghost use Rattle.job_model.specs.Steps.{on_to_next, job_after_return, still_to_come};
 ghost use Rattle.rpc_cont.specs.Conts.{job_at, job_with, kept_params, memory_size};
 ghost use Rattle.rpc_cont.specs.Running.{HasReady, IsIdle, IsTurn, worked};
@@ -14,31 +14,9 @@ use crate::cont::Cont;
 use crate::stop::ContStop;
 use job_model::EntryPoint;
 use ta_isa::Image;
-use ta_params::codes::{TEE_ORIGIN_TRUSTED_APP, TEE_SUCCESS};
-use ta_params::{CallResult, CopiedParams, GpParam};
+use ta_params::codes::TEE_SUCCESS;
+use ta_params::{CallResult, CopiedParams};
 use ta_step::{Machine, TaMemory};
-
-/// Four that are empty.
-fn no_params() -> CopiedParams
-    ensures { result ≡ no_params }
-{
-    CopiedParams {
-        p0: GpParam::Empty,
-        p1: GpParam::Empty,
-        p2: GpParam::Empty,
-        p3: GpParam::Empty,
-    }
-}
-
-/// A result that the application returned.
-pub(crate) fn of_application(code: u32) -> CallResult
-    ensures { result ≡ of_application code }
-{
-    CallResult {
-        result: code,
-        origin: TEE_ORIGIN_TRUSTED_APP,
-    }
-}
 
 impl<M: TaMemory + Drop> Cont<M> {
     /// Begins an entry point of the image over its instance's memory: masked, and with the flag as the call has seen
@@ -92,7 +70,7 @@ impl<M: TaMemory + Drop> Cont<M> {
     {
         match point {
             EntryPoint::Open | EntryPoint::Invoke { .. } => self.take_params(),
-            EntryPoint::Create | EntryPoint::Close | EntryPoint::Destroy => no_params(),
+            EntryPoint::Create | EntryPoint::Close | EntryPoint::Destroy => CopiedParams::none(),
         }
     }
 
@@ -103,7 +81,7 @@ impl<M: TaMemory + Drop> Cont<M> {
     {
         match self.params.take() {
             Some(params) => params,
-            None => no_params(),
+            None => CopiedParams::none(),
         }
     }
 
@@ -119,12 +97,12 @@ impl<M: TaMemory + Drop> Cont<M> {
         match self.point {
             Some(EntryPoint::Create) => {
                 if r0 != TEE_SUCCESS {
-                    self.result = of_application(r0);
+                    self.result = CallResult::of_application(r0);
                     self.points.clear();
                 }
             }
             Some(EntryPoint::Open) => {
-                self.result = of_application(r0);
+                self.result = CallResult::of_application(r0);
                 self.context = r1;
                 self.params = Some(params);
                 if r0 == TEE_SUCCESS {
@@ -132,7 +110,7 @@ impl<M: TaMemory + Drop> Cont<M> {
                 }
             }
             Some(EntryPoint::Invoke { .. }) => {
-                self.result = of_application(r0);
+                self.result = CallResult::of_application(r0);
                 self.params = Some(params);
             }
             Some(EntryPoint::Close | EntryPoint::Destroy) | None => {}

@@ -19,7 +19,7 @@ use crate::phase::Phase;
 use arrayvec::ArrayVec;
 use job_model::EntryPoint;
 use ta_params::CallResult;
-use ta_params::codes::{TEE_ORIGIN_TEE, TEE_SUCCESS};
+use ta_params::codes::TEE_SUCCESS;
 use ta_step::TaMemory;
 use tee_storage::Handles;
 
@@ -80,11 +80,7 @@ impl<M: TaMemory + Drop> Cont<M> {
         ensures phase { result.phase ≡ Phase.Waits }
         ensures shape { IsShaped M.bytes result }
     {
-        let success = CallResult {
-            result: TEE_SUCCESS,
-            origin: TEE_ORIGIN_TEE,
-        };
-        Cont::fresh(entered, success, Phase::Waits)
+        Cont::fresh(entered, CallResult::of_tee(TEE_SUCCESS), Phase::Waits)
     }
 
     /// A call that has come to no entry point yet, with this result so far.

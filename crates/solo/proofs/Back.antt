@@ -1,14 +1,13 @@
 -- A call as data that comes back stands for the machine's that does.
 use Rattle.std.proofs.Common.{◌≡◌, ℕ, true, false, List, Option, Some, None, refl, sym, ap, subst, ◌∙◌}
 use Rattle.std.specs.Prelude.{IsSomeAnd, is_some}
-use Rattle.std.specs.Option.{option_and_then, option_map_or}
+use Rattle.std.specs.Option.{option_and_then}
 use Rattle.job_model.specs.Job.{Job, of_tee}
 use Rattle.job_model.specs.Point.{no_params}
-use Rattle.job_model.specs.Steps.{Advance, Goes, Stops, advance_on_answer}
-use Rattle.job_model.specs.Steps as steps
+use Rattle.job_model.specs.Steps.{advance_on_answer}
 use Rattle.kernel_model.specs.Application.{Application}
 use Rattle.kernel_model.specs.Kernel.{CallPhase, Runs, Asks, Waits, Ends}
-use Rattle.kernel_model.specs.Resume.{phase_after, phase_on_answer}
+use Rattle.kernel_model.specs.Resume.{phase_on_answer}
 use Rattle.kernel_state.specs.Calls.{IsInPhase, bytes_of, woken_slot}
 use Rattle.own_model.specs.Solo.{OwnCall, Solo, comes_back_in, phase_back, wakes_back, with_call}
 use Rattle.own_model.specs.declared.own_event.BackInput.{BackInput}
@@ -21,7 +20,7 @@ use Rattle.rpc_cont.specs.declared.cont.Cont.{Cont}
 use Rattle.rpc_cont.specs.declared.phase.Phase.TheVariants as phase
 use Rattle.rpc_msgs.specs.Answer.{RpcAnswer}
 use Rattle.rpc_msgs.specs.declared.rpc_buffer.RpcBuffer.{RpcBuffer}
-use Rattle.solo.proofs.Labels.{relabelled}
+use Rattle.kernel_state.proofs.CallPhases.{phase_answered, relabelled}
 use Rattle.solo.specs.Calls.{IsCall}
 use Rattle.solo.specs.Standing.{HasCall}
 
@@ -100,14 +99,6 @@ pub record TakesAnswer (old new : Cont (List ℕ)) (answer : RpcAnswer) : Type 0
   pub ends : old.phase ≡ phase.Ends → new ≡ record old { request = None }
   pub buffer : new.buffer ≡ old.buffer
   pub stays : new ≡ record (worked old new) { buffer = new.buffer; phase = new.phase }
-
-phase_answered : (cont : Cont (List ℕ)) (before : CallPhase) (next : Option Advance) →
-    IsSomeAnd next (λ next. IsAnswered bytes_of cont next) → IsInPhase cont (option_map_or (phase_after before) next before)
-phase_answered cont before None is = absurd is
-phase_answered cont before (Some (Goes job)) is = is
-phase_answered cont before (Some (Stops (steps.Asks wanted payload left))) is = (is.1, is.0, is.2)
-phase_answered cont before (Some (Stops (steps.Ends end))) is = absurd is
-phase_answered cont before (Some (Stops (steps.Panics code))) is = absurd is
 
 taken : (old new : Cont (List ℕ)) (answer : RpcAnswer) (call : OwnCall) (at : CallPhase) → TakesAnswer old new answer → IsCall old call →
     IsInPhase new at → IsCall new (record call { phase = at })

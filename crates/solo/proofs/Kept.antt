@@ -12,8 +12,10 @@ use Rattle.rpc_cont.specs.Advancing.{CanAdvance}
 use Rattle.rpc_cont.specs.Answering.{CanBeAnswered}
 use Rattle.rpc_cont.specs.declared.cont.Cont.{Cont}
 use Rattle.rpc_cont.specs.declared.phase.Phase.TheVariants as phase
-use Rattle.solo.proofs.Facts.{asks_by, begins_by, can_advance_prop, can_be_answered_prop, can_begin_prop, runs_by, valid_app_prop}
-use Rattle.solo.proofs.Labels.{answered_so, fresh_so}
+use Rattle.begin_call.proofs.Facts.{can_begin_prop}
+use Rattle.kernel_state.proofs.CallFacts.{can_advance_prop, can_be_answered_prop}
+use Rattle.kernel_state.proofs.CallPhases.{answered_so, fresh_so}
+use Rattle.solo.proofs.Facts.{asks_by, begins_by, runs_by, valid_app_prop}
 use Rattle.solo.proofs.Putting.{was_there}
 use Rattle.solo.specs.Calls.{IsCall}
 use Rattle.solo.specs.Standing.{IsCallAt, IsSomeSolo, app_in}

@@ -14,7 +14,7 @@ use Rattle.own_model.specs.declared.own_reply.OwnReply.{OwnReply}
 use Rattle.own_model.specs.declared.own_reply.OwnReply.TheVariants as reply
 use Rattle.rpc_cont.specs.Conts.{kept_params}
 use Rattle.rpc_cont.specs.declared.cont.Cont.{Cont}
-use Rattle.solo.proofs.Labels.{relabelled}
+use Rattle.kernel_state.proofs.CallPhases.{relabelled}
 use Rattle.solo.proofs.Putting.{aside, comes_with, found_call, put_back, was_there}
 use Rattle.solo.specs.Calls.{IsCall}
 use Rattle.solo.specs.GoingOut.{Ending, IsGoing, asked_in, phase_of}

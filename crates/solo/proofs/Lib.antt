@@ -1,7 +1,6 @@
 pub mod Grants
 pub mod Facts
 pub mod Putting
-pub mod Labels
 pub mod Seen
 pub mod Adding
 pub mod Back

@@ -10,12 +10,12 @@ use Rattle.kernel_state.specs.Calls.{IsInPhase, bytes_of}
 use Rattle.own_model.specs.Solo.{OwnCall, phase_at}
 use Rattle.rpc_cont.specs.Advancing.{CanAdvance}
 use Rattle.rpc_cont.specs.Answering.{CanBeAnswered}
-use Rattle.rpc_cont.specs.Conts.{job_of, uuid_of}
+use Rattle.rpc_cont.specs.Conts.{job_of}
 use Rattle.rpc_cont.specs.Running.{IsWaiting, worked}
 use Rattle.rpc_cont.specs.declared.cont.Cont.{Cont}
 use Rattle.rpc_cont.specs.declared.phase.Phase.TheVariants as phase
 use Rattle.rpc_msgs.specs.declared.rpc_buffer.RpcBuffer.{RpcBuffer}
-use Rattle.solo.proofs.Labels.{relabelled}
+use Rattle.kernel_state.proofs.CallPhases.{relabelled, waiting_seen, working_seen}
 use Rattle.solo.specs.Calls.{IsCall}
 
 -- ---- its job is taken on
@@ -44,52 +44,6 @@ taken_on old new more (Asks job wanted payload) at on is e = rested old new more
 taken_on old new more (Waits params) at on is e = rested old new more (Waits params) at on (λ runs. let waits = is.phase in cc) is e
 taken_on old new more (Ends result params told wakes) at on is e =
     rested old new more (Ends result params told wakes) at on (λ runs. let ends = is.phase in cc) is e
-
--- ---- it sees
-
--- what a call that sees a cancel keeps
-pub record SeesCancel (old new : Cont (List ℕ)) : Type 0 where
-  pub job : job_of bytes_of new ≡ with_cancel_seen (job_of bytes_of old)
-  pub runs : CanAdvance bytes_of old → CanAdvance bytes_of new
-  pub waits : (uuid : List ℕ) (job : Job) → IsWaiting bytes_of uuid old (job_of bytes_of old) job → IsWaiting bytes_of uuid new (job_of bytes_of new) (with_cancel_seen job)
-  pub answers : CanBeAnswered bytes_of old → CanBeAnswered bytes_of new
-  pub stays : new ≡ record old { cancelled = true; machine = new.machine }
-
-working_seen : (old new : Cont (List ℕ)) (at : CallPhase) → SeesCancel old new → (old.phase ≡ phase.Waits → ⊥) → IsInPhase old at → IsInPhase new (phase_seen at)
-working_seen old new (Runs job) so works is = (ap with_cancel_seen is.0 ∙ sym so.job, so.runs is.1)
-working_seen old new (Asks job wanted payload) so works is = (
-  ap (λ (c : Cont (List ℕ)). c.phase) so.stays ∙ is.0,
-  (
-    subst (λ (uuid : List ℕ). IsWaiting bytes_of uuid new (job_of bytes_of new) (with_cancel_seen job))
-        (ap (λ (c : Cont (List ℕ)). uuid_of c.app) (sym so.stays)) (so.waits (uuid_of old.app) job is.1.0),
-    ap (λ (c : Cont (List ℕ)). c.request) so.stays ∙ is.1.1,
-  ),
-  so.answers is.2,
-)
-working_seen old new (Waits params) so works is = absurd (works is.phase)
-working_seen old new (Ends result params told wakes) so works is = subst (λ (c : Cont (List ℕ)). IsInPhase c (Ends result params told wakes)) (sym so.stays)
-    (record { phase = is.phase; result = is.result; params = is.params; told = is.told; wakes = is.wakes })
-
-waiting_seen : (cont : Cont (List ℕ)) (at : CallPhase) → cont.phase ≡ phase.Waits → IsInPhase cont at → IsInPhase (record cont { cancelled = true }) (phase_seen at)
-waiting_seen cont (Runs job) waits is = let runs = is.1.phase in absurd cc
-waiting_seen cont (Asks job wanted payload) waits is = let asks = is.0 in absurd cc
-waiting_seen cont (Waits params) waits is = record {
-  phase = is.phase;
-  app = is.app;
-  fresh = record {
-    idle = record {
-      machine = is.fresh.idle.machine;
-      memory = is.fresh.idle.memory;
-      request = is.fresh.idle.request;
-      object = is.fresh.idle.object;
-    };
-    point = is.fresh.point;
-    points = is.fresh.points;
-  };
-  params = is.params;
-  result = is.result;
-}
-waiting_seen cont (Ends result params told wakes) waits is = let ends = is.phase in absurd cc
 
 -- ---- the call
 

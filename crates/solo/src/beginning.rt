@@ -38,16 +38,6 @@ pub(crate) struct Ready {
     pub empty: Plain,
 }
 
-/// The same application, for a call of it.
-fn shared(app: &Application) -> Result<Application, NoMemory>
-    ensures { IfOk result (λ shared. application_of shared ≡ application_of app.now) }
-{
-    match app {
-        Application::OfImage(app) => Ok(Application::OfImage(app.share()?)),
-        Application::BuiltIn(native) => Ok(Application::BuiltIn(*native)),
-    }
-}
-
 /// An open makes its instance first, and takes it apart again where it fails.
 fn opening_points() -> Points
     ensures { points_of result ≡ EntryPoint.Create ∷ EntryPoint.Open ∷ EntryPoint.Destroy ∷ [] }
@@ -133,7 +123,7 @@ impl SoloSession {
         ensures empty { IfOk result (λ ready. ready.empty ≡ []) }
     {
         Ok(Ready {
-            app: shared(&self.app)?,
+            app: self.app.share()?,
             empty: Plain::new(alloc, 0)?,
         })
     }

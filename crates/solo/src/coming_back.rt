@@ -26,9 +26,7 @@ use own_model::BackInput;
 use rpc_cont::{Cont, Phase, ResumeInput, RpcBuffer};
 use std::alloc::Global;
 use ta_params::CallResult;
-use ta_params::codes::{
-    TEE_ERROR_BAD_PARAMETERS, TEE_ERROR_OUT_OF_MEMORY, TEE_ERROR_TARGET_DEAD, TEE_ORIGIN_TEE,
-};
+use ta_params::codes::{TEE_ERROR_BAD_PARAMETERS, TEE_ERROR_OUT_OF_MEMORY, TEE_ERROR_TARGET_DEAD};
 use ta_step::Plain;
 
 /// The buffer of a call, whose place nothing shows.
@@ -91,10 +89,7 @@ fn ends_with(cont: &mut Cont<Plain>, code: u32)
         → IsCall cont.new (record call { phase = Ends (of_tee code) no_params false None }) }
 {
     cont.phase = Phase::Ends;
-    cont.result = CallResult {
-        result: code,
-        origin: TEE_ORIGIN_TEE,
-    };
+    cont.result = CallResult::of_tee(code);
     cont.params = None;
     cont.request = None;
     cont.done = false;

@@ -24,18 +24,13 @@ use job_model::CallKind;
 use own_model::OwnInput;
 use rpc_cont::{CallEntry, Cont, ContApp};
 use std::alloc::Global;
-use ta_params::codes::{TEE_ERROR_BAD_PARAMETERS, TEE_ERROR_TARGET_DEAD, TEE_ORIGIN_TEE};
+use ta_params::codes::{TEE_ERROR_BAD_PARAMETERS, TEE_ERROR_TARGET_DEAD};
 use ta_params::{CallResult, CopiedParams, Login};
 use ta_step::Plain;
 use uuid::Uuid;
 
-/// Who opened a session is told to a call as it begins.
-const NOBODY: Login = Login {
-    client: [0; 16],
-    kind: 0,
-};
-
-/// What a call has from its entry on. No other session is there, no client and no argument.
+/// What a call has from its entry on. No other session is there, no client and no argument; who opened the session is
+/// told to a call as it begins.
 fn entry_of(alloc: Global, kind: CallKind, params: Option<CopiedParams>) -> CallEntry
     ensures kind { result.kind ≡ kind }
     ensures params { result.params ≡ params }
@@ -43,7 +38,7 @@ fn entry_of(alloc: Global, kind: CallKind, params: Option<CopiedParams>) -> Call
     CallEntry {
         client: 0,
         kind,
-        login: NOBODY,
+        login: Login::public(),
         context: 0,
         params,
         arg: 0,
@@ -73,11 +68,8 @@ fn settled_call(alloc: Global, code: u32) -> Result<Box<Cont<Plain>>, NoMemory>
     ensures { IfOk result (λ call. IsCall call.value (fresh_call CallKind.Settled
         (Ends (of_tee code) no_params false None))) }
 {
-    let outcome = CallResult {
-        result: code,
-        origin: TEE_ORIGIN_TEE,
-    };
-    let cont = Cont::settled(entry_of(alloc, CallKind::Settled, None), outcome);
+    let entered = entry_of(alloc, CallKind::Settled, None);
+    let cont = Cont::settled(entered, CallResult::of_tee(code));
     Ok(Box::new(alloc, cont)?)
 }
 

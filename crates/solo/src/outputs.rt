@@ -1,6 +1,5 @@
 //! What is told of the parameters of a call at its end, in memory that was taken before.
 ghost use Rattle.std.specs.Prelude.{◌≡◌, ◌≤◌, [], length, vec_capacity};
-ghost use Rattle.job_model.specs.Point.{no_params};
 ghost use Rattle.own_model.specs.Own.{ended};
 ghost use Rattle.own_model.specs.Parameters.{bytes_told, output_of, outputs_with};
 ghost use Rattle.rpc_cont.specs.Conts.{kept_params};
@@ -48,18 +47,6 @@ fn output_of(room: Vec<u8>, param: &GpParam) -> GpParam
     }
 }
 
-/// Four that are empty.
-fn no_params() -> CopiedParams
-    ensures { result ≡ no_params }
-{
-    CopiedParams {
-        p0: GpParam::Empty,
-        p1: GpParam::Empty,
-        p2: GpParam::Empty,
-        p3: GpParam::Empty,
-    }
-}
-
 /// The four, which are told only where the application returned the result.
 fn outputs_with(
     room: OutputRoom,
@@ -76,7 +63,7 @@ fn outputs_with(
             p2: output_of(room.p2, &params.p2),
             p3: output_of(room.p3, &params.p3),
         },
-        Some(_) | None => no_params(),
+        Some(_) | None => CopiedParams::none(),
     }
 }
 

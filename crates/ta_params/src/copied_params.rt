@@ -61,6 +61,18 @@ pub struct CopiedParams {
 }
 
 impl CopiedParams {
+    /// Four that are empty.
+    pub fn none() -> CopiedParams
+        ensures { result ≡ record { p0 = GpParam.Empty; p1 = GpParam.Empty; p2 = GpParam.Empty; p3 = GpParam.Empty } }
+    {
+        CopiedParams {
+            p0: GpParam::Empty,
+            p1: GpParam::Empty,
+            p2: GpParam::Empty,
+            p3: GpParam::Empty,
+        }
+    }
+
     /// The types of the four parameters in one word, the first in the lowest four bits, as the macro
     /// `TEE_PARAM_TYPES` of the TEE Internal Core API packs them.
     pub fn type_word(&self) -> u32

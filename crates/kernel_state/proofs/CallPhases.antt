@@ -1,26 +1,32 @@
--- A call as data has come as far with other steps and another buffer.
-use Rattle.std.proofs.Common.{ℕ, List, Option, Some, None}
+-- How far a call as data has come stays so with other steps, with another buffer, and as it sees that it was cancelled;
+-- and what an answer makes of it.
+use Rattle.std.proofs.Common.{◌≡◌, ℕ, true, List, Option, Some, None, sym, ap, subst, ◌∙◌}
 use Rattle.std.specs.Prelude.{IsSomeAnd}
+use Rattle.std.specs.Option.{option_map_or}
 use Rattle.job_model.specs.Asking.{PendingRequest, bytes_at}
-use Rattle.job_model.specs.Job.{Job}
+use Rattle.job_model.specs.Job.{Job, with_cancel_seen}
+use Rattle.job_model.specs.Steps.{Advance, Goes, Stops}
+use Rattle.job_model.specs.Steps as steps
 use Rattle.kernel_model.specs.Kernel.{CallPhase, Runs, Asks, Waits, Ends}
+use Rattle.kernel_model.specs.Resume.{phase_after, phase_seen}
 use Rattle.kernel_state.specs.Calls.{IsInPhase, bytes_of}
 use Rattle.rpc_cont.specs.Advancing.{CanAdvance}
-use Rattle.rpc_cont.specs.Answering.{CanBeAnswered}
+use Rattle.rpc_cont.specs.Answering.{CanBeAnswered, IsAnswered}
 use Rattle.rpc_cont.specs.Beginning.{IsFresh}
-use Rattle.rpc_cont.specs.Running as running
-use Rattle.rpc_cont.specs.Running.{Awaits, HasCome}
+use Rattle.rpc_cont.specs.Conts.{job_of, uuid_of}
+use Rattle.rpc_cont.specs.Running.{Awaits, HasCome, IsWaiting}
 use Rattle.rpc_cont.specs.declared.cont.Asked.{Asked}
 use Rattle.rpc_cont.specs.declared.cont.Cont.{Cont}
+use Rattle.rpc_cont.specs.declared.phase.Phase.TheVariants as phase
 use Rattle.rpc_msgs.specs.declared.rpc_buffer.RpcBuffer.{RpcBuffer}
 use Rattle.ta_step.specs.Machine.{state_of}
 use Rattle.ta_step.specs.Requests.{span_of}
-use Rattle.ta_step.specs.declared.machine.Machine.{Machine as AnyMachine}
+use Rattle.ta_step.specs.declared.machine.Machine.{Machine}
 use Rattle.ta_step.specs.declared.stop.Request.{Request}
 use Rattle.ta_step.specs.declared.stop.Request.TheVariants as request
 use Rattle.tee_storage.specs.declared.state.ObjectState.{ObjectState}
 
--- ---- what a phase doesn't show
+-- ---- with other steps, or another buffer
 
 -- the steps of a call and its buffer
 pub record Label : Type 0 where
@@ -43,7 +49,7 @@ come_so uuid range asked cont label (request.Object call) None object come = abs
 come_so uuid range asked cont label (request.Object call) (Some pending) None come = absurd come
 come_so uuid range asked cont label (request.Object call) (Some pending) (Some state) come = come
 
-awaits_so : (uuid : List ℕ) (cont : Cont (List ℕ)) (label : Label) (asked : Option PendingRequest) (machine : Option (AnyMachine (List ℕ))) →
+awaits_so : (uuid : List ℕ) (cont : Cont (List ℕ)) (label : Label) (asked : Option PendingRequest) (machine : Option (Machine (List ℕ))) →
     IsSomeAnd asked (λ asked. IsSomeAnd machine (λ m. Awaits uuid cont asked (state_of bytes_of m))) →
     IsSomeAnd asked (λ asked. IsSomeAnd machine (λ m. Awaits uuid (labelled cont label) asked (state_of bytes_of m)))
 awaits_so uuid cont label None machine is = absurd is
@@ -56,7 +62,7 @@ awaits_so uuid cont label (Some asked) (Some m) is = record {
 }
 
 waiting_so : (uuid : List ℕ) (cont : Cont (List ℕ)) (label : Label) (plain job : Job) →
-    running.IsWaiting bytes_of uuid cont plain job → running.IsWaiting bytes_of uuid (labelled cont label) plain job
+    IsWaiting bytes_of uuid cont plain job → IsWaiting bytes_of uuid (labelled cont label) plain job
 waiting_so uuid cont label plain job is = record {
   memory = is.memory;
   point = is.point;
@@ -91,3 +97,59 @@ relabelled cont label (Waits params) is =
     record { phase = is.phase; app = is.app; fresh = fresh_so cont label is.fresh; params = is.params; result = is.result }
 relabelled cont label (Ends result params told wakes) is =
     record { phase = is.phase; result = is.result; params = is.params; told = is.told; wakes = is.wakes }
+
+-- ---- a cancel that it sees
+
+-- what a call that sees a cancel keeps
+pub record SeesCancel (old new : Cont (List ℕ)) : Type 0 where
+  pub job : job_of bytes_of new ≡ with_cancel_seen (job_of bytes_of old)
+  pub runs : CanAdvance bytes_of old → CanAdvance bytes_of new
+  pub waits : (uuid : List ℕ) (job : Job) → IsWaiting bytes_of uuid old (job_of bytes_of old) job → IsWaiting bytes_of uuid new (job_of bytes_of new) (with_cancel_seen job)
+  pub answers : CanBeAnswered bytes_of old → CanBeAnswered bytes_of new
+  pub stays : new ≡ record old { cancelled = true; machine = new.machine }
+
+pub working_seen : (old new : Cont (List ℕ)) (at : CallPhase) → SeesCancel old new → (old.phase ≡ phase.Waits → ⊥) → IsInPhase old at → IsInPhase new (phase_seen at)
+working_seen old new (Runs job) so works is = (ap with_cancel_seen is.0 ∙ sym so.job, so.runs is.1)
+working_seen old new (Asks job wanted payload) so works is = (
+  ap (λ (c : Cont (List ℕ)). c.phase) so.stays ∙ is.0,
+  (
+    subst (λ (uuid : List ℕ). IsWaiting bytes_of uuid new (job_of bytes_of new) (with_cancel_seen job))
+        (ap (λ (c : Cont (List ℕ)). uuid_of c.app) (sym so.stays)) (so.waits (uuid_of old.app) job is.1.0),
+    ap (λ (c : Cont (List ℕ)). c.request) so.stays ∙ is.1.1,
+  ),
+  so.answers is.2,
+)
+working_seen old new (Waits params) so works is = absurd (works is.phase)
+working_seen old new (Ends result params told wakes) so works is = subst (λ (c : Cont (List ℕ)). IsInPhase c (Ends result params told wakes)) (sym so.stays)
+    (record { phase = is.phase; result = is.result; params = is.params; told = is.told; wakes = is.wakes })
+
+pub waiting_seen : (cont : Cont (List ℕ)) (at : CallPhase) → cont.phase ≡ phase.Waits → IsInPhase cont at → IsInPhase (record cont { cancelled = true }) (phase_seen at)
+waiting_seen cont (Runs job) waits is = let runs = is.1.phase in absurd cc
+waiting_seen cont (Asks job wanted payload) waits is = let asks = is.0 in absurd cc
+waiting_seen cont (Waits params) waits is = record {
+  phase = is.phase;
+  app = is.app;
+  fresh = record {
+    idle = record {
+      machine = is.fresh.idle.machine;
+      memory = is.fresh.idle.memory;
+      request = is.fresh.idle.request;
+      object = is.fresh.idle.object;
+    };
+    point = is.fresh.point;
+    points = is.fresh.points;
+  };
+  params = is.params;
+  result = is.result;
+}
+waiting_seen cont (Ends result params told wakes) waits is = let ends = is.phase in absurd cc
+
+-- ---- an answer
+
+pub phase_answered : (cont : Cont (List ℕ)) (before : CallPhase) (next : Option Advance) →
+    IsSomeAnd next (λ next. IsAnswered bytes_of cont next) → IsInPhase cont (option_map_or (phase_after before) next before)
+phase_answered cont before None is = absurd is
+phase_answered cont before (Some (Goes job)) is = is
+phase_answered cont before (Some (Stops (steps.Asks wanted payload left))) is = (is.1, is.0, is.2)
+phase_answered cont before (Some (Stops (steps.Ends end))) is = absurd is
+phase_answered cont before (Some (Stops (steps.Panics code))) is = absurd is
