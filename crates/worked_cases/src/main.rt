@@ -81,7 +81,7 @@ fn halves(text: &str) -> Result<(&str, &str)> {
 }
 
 fn number(text: &str) -> Result<u32> {
-    text.parse::<u32>().context("reading a number")
+    text.parse::<u32>().ok().context("reading a number")
 }
 
 fn main(rt: HostRuntime) -> Result<()> {
