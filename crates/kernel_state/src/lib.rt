@@ -37,6 +37,3 @@ pub use setup::{Application, Setup};
 pub use shared_app::SharedApp;
 pub use tables::Tables;
 pub use work::{Ran, Work};
-
-#[cfg(test)]
-mod tests;

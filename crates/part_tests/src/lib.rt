@@ -1,40 +1,13 @@
-//! Tests of the crates below the kernel: what no contract of theirs says, such as that memory isn't wanted needlessly, and
-//! what a compiler makes of them.
+//! Tests of what no contract of the crates below the kernel says and no program shows: how the ports of standard input and
+//! output go on behind short, interrupted and failing calls, what errors print, and that the calls that no program makes
+//! find memory where there is enough.
 //!
 //! They use public calls alone, and stand in a crate of their own, since a crate with tests is proved twice.
 #![tactic(auto)]
 
 #[cfg(test)]
-mod event_journal_tests;
-#[cfg(test)]
-mod frame_pool_tests;
-#[cfg(test)]
-mod msg_args_tests;
-#[cfg(test)]
-mod native_tas_tests;
-#[cfg(test)]
-mod ns_ram_tests;
-#[cfg(test)]
-mod pages_tests;
-#[cfg(test)]
-mod param_copy_tests;
+mod error_texts;
 #[cfg(test)]
 mod ports_tests;
 #[cfg(test)]
-mod rpc_cont_tests;
-#[cfg(test)]
-mod rpc_msgs_tests;
-#[cfg(test)]
-mod session_table_tests;
-#[cfg(test)]
-mod shm_registry_tests;
-#[cfg(test)]
-mod smc_abi_tests;
-#[cfg(test)]
-mod ta_instances_tests;
-#[cfg(test)]
-mod ta_isa_tests;
-#[cfg(test)]
-mod thread_slots_tests;
-#[cfg(test)]
-mod worked_reader;
+mod unreached_calls;

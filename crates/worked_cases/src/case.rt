@@ -146,9 +146,7 @@ impl Case {
         ensures { IfOk result (λ bytes. bytes.items ≡ take cut self.now.input.items) }
     {
         let count = (cut as usize).min(self.input.len());
-        let mut bytes = Vec::with_capacity(alloc, count)?;
-        bytes.extend_from_slice(&self.input.as_slice()[..count])?;
-        Ok(bytes)
+        Vec::from_slice(alloc, &self.input.as_slice()[..count])
     }
 
     /// Runs the case at each of its cuts, beside these built-in applications, and says what came of it.

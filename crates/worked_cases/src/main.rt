@@ -15,14 +15,15 @@ mod case;
 
 use anyhow::{Context, Result, bail};
 use case::Case;
-use native_tas::{Native, Natives, Relation, digest};
+use native_tas::{MAX_NATIVES, Native, Natives, Relation, digest};
 use std::alloc::Global;
 use std::fs;
 use std::io::{BufRead, BufReader};
 use std::rt::Files;
 use uuid::Uuid;
 
-/// The UUID of the digest application, which is built in.
+/// The UUID of the digest application. It is built in, and so is the same under fifteen other UUIDs, with other last octets:
+/// sixteen are as many as can be.
 const DIGEST_UUID: [u8; 16] = [
     0x3f, 0x0c, 0x7a, 0x11, 0x52, 0xb8, 0x4d, 0x6e, 0x9a, 0x40, 0x0e, 0x6b, 0x5d, 0x2c, 0x8f, 0x01,
 ];
@@ -80,19 +81,23 @@ fn halves(text: &str) -> Result<(&str, &str)> {
 }
 
 fn number(text: &str) -> Result<u32> {
-    text.parse::<u32>().context("reading a number")
+    text.parse::<u32>().ok().context("reading a number")
 }
 
 fn main(rt: HostRuntime) -> Result<()> {
     let alloc = rt.alloc();
     let mut natives = Natives::new(alloc);
-    let built_in = natives.add(Native {
-        uuid: Uuid::from_bytes(DIGEST_UUID),
-        relation: Relation::Digest,
-        call: digest,
-    });
-    if built_in.is_err() {
-        bail!("no memory for the application that is built in");
+    for last_octet in 1..=MAX_NATIVES as u8 {
+        let mut uuid = DIGEST_UUID;
+        uuid[15] = last_octet;
+        let built_in = natives.add(Native {
+            uuid: Uuid::from_bytes(uuid),
+            relation: Relation::Digest,
+            call: digest,
+        });
+        if built_in.is_err() {
+            bail!("no memory for the applications that are built in");
+        }
     }
     let mut case = Case::new(alloc, "")?;
     for line in BufReader::new(alloc, rt.reader())?.lines(alloc) {
