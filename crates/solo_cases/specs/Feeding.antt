@@ -1,0 +1,102 @@
+-- What the machine of a session is fed with, and when it can be.
+use Rattle.std.specs.Prelude.{◌≡◌, ℕ, ◌+◌, ◌^◌, ◌&&◌, Bool, true, false, List, [], ◌∷◌, map, nat_le, nat_lt, replicate}
+use Rattle.std.specs.List.{list_all}
+use Rattle.std.specs.Option.{option_map_or}
+use Rattle.job_model.specs.Point.{no_params}
+use Rattle.kernel_model.specs.Application.{Application, OfImage}
+use Rattle.kernel_model.specs.Worked.{app_with, boot_with, image_with, invoked_at_one}
+use Rattle.own_model.specs.Examples.{numbers, opened}
+use Rattle.own_model.specs.declared.own_event.BackInput.TheVariants as back
+use Rattle.own_model.specs.Solo.{Answered, OwnCall, Solo, step}
+use Rattle.own_model.specs.declared.own_event.OwnEvent.{OwnEvent}
+use Rattle.own_model.specs.declared.own_event.OwnEvent.TheVariants.{Open, Invoke, Close, Cancel, Seen, Back, Out, Limited}
+use Rattle.own_model.specs.declared.own_event.OwnInput.{OwnInput}
+use Rattle.own_model.specs.declared.own_event.OwnInput.TheVariants.{Copied, Faulty, Unread}
+use Rattle.rpc_msgs.specs.Answer.{nothing_read}
+use Rattle.solo.specs.Standing.{IsSolo, app_in}
+use Rattle.solo.specs.declared.solo_session.SoloSession.{SoloSession}
+use Rattle.solo_cases.specs.declared.fed.Fed.{Fed}
+use Rattle.solo_cases.specs.declared.fed.Fed.TheVariants as fed
+use Rattle.ta_isa.specs.declared.boot.Boot.{Boot}
+use Rattle.ta_isa.specs.declared.image.Image.{Image}
+use Rattle.ta_isa.specs.declared.image.Instr.{Instr}
+use Rattle.ta_params.specs.declared.copied_params.CopiedParams.{CopiedParams}
+use Rattle.ta_params.specs.declared.copied_params.GpParam.TheVariants.{Memref}
+use Rattle.ta_params.specs.declared.copied_params.Way.TheVariants as way
+use Rattle.ta_step.specs.Shape.{shapes}
+
+-- ---- applications and events
+
+-- the application of this code
+abbrev pub image_in : List Instr → Image
+image_in code = image_with 0 invoked_at_one code
+
+-- the smallest core with an application of this image
+abbrev pub boot_in : Image → Boot
+boot_in image = boot_with 1 1 1 (app_with image ∷ [])
+
+abbrev pub application_in : List Instr → Application
+application_in code = OfImage (app_with (image_in code))
+
+-- the event that an entry of a table is
+abbrev pub event_in : Fed → OwnEvent
+event_in fed.Open = opened
+event_in (fed.Add a b) = Invoke 0 (Copied (numbers a b))
+event_in (fed.Invoke func) = Invoke func (Copied no_params)
+event_in (fed.Fill func len) = Invoke func (Copied (record no_params { p0 = Memref way.Out (replicate len 0) len }))
+event_in (fed.InvokeOfDead func) = Invoke func Unread
+event_in fed.Close = Close
+event_in fed.Cancel = Cancel
+event_in (fed.Seen call steps) = Seen call steps
+event_in (fed.Buffer call) = Back call back.Buffer
+event_in (fed.NoBuffer call) = Back call back.NoBuffer
+event_in (fed.Reply call) = Back call (back.Reply nothing_read)
+event_in (fed.Opened call descriptor) = Back call (back.Reply (record nothing_read { v = descriptor }))
+event_in (fed.Nothing call) = Back call back.Nothing
+event_in (fed.Out call) = Out call
+event_in fed.Limited = Limited
+
+abbrev pub events_in : List Fed → List OwnEvent
+events_in table = map event_in table
+
+-- ---- when they can come
+
+-- by a thousand steps more a call doesn't come to 2^128 of them
+abbrev pub has_room : ℕ × OwnCall → Bool
+has_room kept = nat_lt (kept.1.steps + 1000) (2 ^ 128)
+
+-- no buffer has more than 65536 bytes
+abbrev pub is_short : ℕ × ℕ → Bool
+is_short shape = nat_le shape.1 65536
+
+abbrev pub are_short : CopiedParams → Bool
+are_short params = list_all is_short (shapes params)
+
+abbrev pub is_short_input : OwnInput → Bool
+is_short_input (Copied params) = are_short params
+is_short_input Faulty = true
+is_short_input Unread = true
+
+abbrev pub is_short_event : OwnEvent → Bool
+is_short_event (Open params login) = are_short params
+is_short_event (Invoke func input) = is_short_input input
+is_short_event Close = true
+is_short_event Cancel = true
+is_short_event (Seen call steps) = true
+is_short_event (Back call input) = true
+is_short_event (Out call) = true
+is_short_event Limited = true
+
+-- each of these events can come when those before it have come, with a thousand steps for each stop
+abbrev pub can_be_fed : Application → Solo → List OwnEvent → Bool
+can_be_fed app solo [] = true
+can_be_fed app solo (event ∷ events) =
+    list_all has_room solo.calls
+    && (is_short_event event
+    && option_map_or (λ (answered : Answered). can_be_fed app answered.0 events) (step 1000 app solo event) false)
+
+-- the machine can be fed with these from now on
+pub record IsFed (session : SoloSession) (events : List OwnEvent) : Type 0 where
+  pub solo : Solo
+  pub is : IsSolo session solo
+  pub can : can_be_fed (app_in session) solo events ≡ true
