@@ -1,0 +1,155 @@
+//! Playing items: what comes in and goes out is served by lists.
+use crate::telling::{tell_answers, tell_show, tell_stand};
+use anyhow::{Context, Result, bail};
+use core_machine::{Machine, Smc, Stopped};
+use kernel_entry::Visitor;
+use kernel_state::EnterRefusal;
+use ns_ram::in_ram;
+use smc_abi::Regs;
+use std::alloc::Global;
+use std::fmt::Write;
+use trace_text::{Item, Reg};
+
+/// The registers that a processor comes in with.
+fn registers(regs: &[Reg; 8]) -> Result<Regs> {
+    let [
+        Reg::Num(a0),
+        Reg::Num(a1),
+        Reg::Num(a2),
+        Reg::Num(a3),
+        Reg::Num(a4),
+        Reg::Num(a5),
+        Reg::Num(a6),
+        Reg::Num(a7),
+    ] = *regs
+    else {
+        bail!("a register of an earlier answer");
+    };
+    Ok(Regs {
+        a: [a0, a1, a2, a3, a4, a5, a6, a7],
+    })
+}
+
+/// Adds what comes in or goes out by an item to a list. Whether anything does.
+fn takes(list: &mut Vec<Smc>, item: &Item) -> Result<bool> {
+    match item {
+        Item::Smc { cpu, steps, regs } => {
+            list.push(entry(*cpu, *steps, regs)?)?;
+            list.push(Smc::Leaves(*cpu))?;
+        }
+        Item::Enter { cpu, steps, regs } => list.push(entry(*cpu, *steps, regs)?)?,
+        Item::Leave { cpu } => list.push(Smc::Leaves(*cpu))?,
+        _ => return Ok(false),
+    }
+    Ok(true)
+}
+
+/// The entry of a processor.
+fn entry(cpu: u8, steps: u32, regs: &[Reg; 8]) -> Result<Smc> {
+    let regs = registers(regs)?;
+    Ok(Smc::Comes(Visitor { cpu, regs, steps }))
+}
+
+/// Plays these items, and tells what comes of it.
+pub fn play(alloc: Global, machine: &mut Machine, items: &[Item]) -> Result<String> {
+    let mut told = String::new(alloc);
+    let mut list = Vec::new(alloc);
+    for item in items {
+        if !takes(&mut list, item)? {
+            serve(alloc, machine, list.as_slice(), &mut told)?;
+            list.clear();
+            write_or_show(alloc, machine, item, &mut told)?;
+        }
+    }
+    serve(alloc, machine, list.as_slice(), &mut told)?;
+    tell_stand(machine, &mut told)?;
+    Ok(told)
+}
+
+/// Serves a list. Where an entry of it wants for memory, that and what is behind it come once more.
+fn serve(alloc: Global, machine: &mut Machine, list: &[Smc], told: &mut String) -> Result<()> {
+    if let Some(served) = serve_once(alloc, machine, list, told)? {
+        let rest = list.get(served..).context("less was to be served")?;
+        if serve_once(alloc, machine, rest, told)?.is_some() {
+            bail!("out of memory");
+        }
+    }
+    Ok(())
+}
+
+/// Serves a list up to an entry that is refused, and tells its exits and the refusal. How much of it has come, where an
+/// entry wants for memory.
+fn serve_once(
+    alloc: Global,
+    machine: &mut Machine,
+    list: &[Smc],
+    told: &mut String,
+) -> Result<Option<usize>> {
+    if !machine.can_serve(alloc, list)? {
+        bail!("a processor comes in or goes out twice");
+    }
+    let mut answers = Vec::new(alloc);
+    let served = machine.serve(alloc, list, &mut answers);
+    tell_answers(answers.as_slice(), told)?;
+    match served {
+        Ok(()) => Ok(None),
+        Err(stopped) => refused(stopped, told),
+    }
+}
+
+/// Tells that an entry was refused. How much of its list has come, where it wants for memory.
+fn refused(stopped: Stopped, told: &mut String) -> Result<Option<usize>> {
+    match stopped.why {
+        EnterRefusal::Full { copied, more } => {
+            writeln!(told, "full {copied} {more}")?;
+            Ok(None)
+        }
+        EnterRefusal::Memory => {
+            writeln!(told, "memory")?;
+            Ok(Some(stopped.served))
+        }
+    }
+}
+
+/// Plays an item by which nothing comes in or goes out.
+fn write_or_show(
+    alloc: Global,
+    machine: &mut Machine,
+    item: &Item,
+    told: &mut String,
+) -> Result<()> {
+    match item {
+        Item::Write { cpu, addr, bytes } => write(machine, *cpu, *addr, bytes.as_slice()),
+        Item::Show { cpu, addr, len } => show(alloc, machine, *cpu, *addr, *len, told),
+        _ => Ok(()),
+    }
+}
+
+/// Writes bytes to a processor's RAM.
+fn write(machine: &mut Machine, cpu: u8, addr: u64, bytes: &[u8]) -> Result<()> {
+    if cpu >= machine.cpus() || !in_ram(addr, bytes.len() as u64) {
+        bail!("a write outside of RAM");
+    }
+    machine.write(cpu, addr, bytes);
+    Ok(())
+}
+
+/// Tells so many bytes of a processor's RAM, and where it is one byte, how the core stands.
+fn show(
+    alloc: Global,
+    machine: &Machine,
+    cpu: u8,
+    addr: u64,
+    len: u32,
+    told: &mut String,
+) -> Result<()> {
+    if cpu >= machine.cpus() || !in_ram(addr, u64::from(len)) {
+        bail!("a show outside of RAM");
+    }
+    let bytes = machine.show(cpu, addr, u64::from(len));
+    tell_show(alloc, cpu, addr, bytes, told)?;
+    if len == 1 {
+        tell_stand(machine, told)?;
+    }
+    Ok(())
+}
