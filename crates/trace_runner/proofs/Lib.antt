@@ -5,6 +5,8 @@ pub mod Answers
 pub mod Played
 pub mod Moved
 pub mod Fills
+pub mod Commands
 pub mod Readings
 pub mod Running
 pub mod Playable
+pub mod Digests

@@ -1,6 +1,7 @@
--- What an input spells is one thing, in each grammar, and words ask for one grammar.
+-- What an input spells is one thing, in each grammar, and words ask for one command.
 use Rattle.std.proofs.Common.{◌≡◌, ℕ, List, [], ◌∷◌, length, get_or, ap, refl, sym, ◌∙◌, arith}
-use Rattle.std.specs.Prelude.{String}
+use Rattle.std.specs.Prelude.{◌^◌, String, map, string_bytes}
+use Rattle.std.proofs.lemmas.Fmt.{decimal_injective}
 use Rattle.std.specs.Global.{Global}
 use Rattle.ta_asm.proofs.Meanings as asm
 use Rattle.ta_isa.specs.declared.image.Image.{Image}
@@ -9,11 +10,13 @@ use Rattle.trace_text.proofs.GrammarLaws as text
 use Rattle.trace_text.specs.declared.fault.BadKind.{BadKind}
 use Rattle.trace_text.specs.declared.trace.Trace.{Trace}
 use Rattle.trace_runner.specs.Content.{IsFirstFault, Spells}
-use Rattle.trace_runner.specs.Words.{Asks, word_of}
+use Rattle.trace_runner.specs.Words.{Asks, Say, word_of}
+use Rattle.trace_runner.specs.declared.command.Command.{Command}
+use Rattle.trace_runner.specs.declared.command.Command.TheVariants.{Serve, Work}
 use Rattle.trace_runner.specs.declared.content.Content.{Content}
 use Rattle.trace_runner.specs.declared.content.Content.TheVariants as variant
-use Rattle.trace_runner.specs.declared.grammar.Grammar.{Grammar}
-use Rattle.trace_runner.specs.declared.grammar.Grammar.TheVariants.{Text, Records, Assembler}
+use Rattle.trace_runner.specs.declared.command.Grammar.{Grammar}
+use Rattle.trace_runner.specs.declared.command.Grammar.TheVariants.{Text, Records, Assembler}
 
 -- ---- inputs
 
@@ -65,6 +68,15 @@ every_input grammar natives input = record {
 abbrev first : List ℕ → ℕ
 first word = get_or word 0 0
 
+abbrev first_word : List (List ℕ) → List ℕ
+first_word words = get_or words 0 []
+
+abbrev second_word : List (List ℕ) → List ℕ
+second_word words = get_or words 1 []
+
+abbrev third_word : List (List ℕ) → List ℕ
+third_word words = get_or words 2 []
+
 same_word : (one other : Grammar) → word_of one ≡ word_of other → one ≡ other
 same_word Text Text e = refl
 same_word Text Records e = let length_is : 3 ≡ 10 = ap length e in absurd (omega (arith, length_is))
@@ -76,9 +88,33 @@ same_word Assembler Text e = let first_is : 97 ≡ 114 = ap first e in absurd (o
 same_word Assembler Records e = let length_is : 3 ≡ 10 = ap length e in absurd (omega (arith, length_is))
 same_word Assembler Assembler e = refl
 
--- words ask for one grammar
-pub one_grammar : (words : List (String Global)) (one other : Grammar) → Asks words one → Asks words other → one ≡ other
-one_grammar words one other p q =
-    let both = sym p ∙ q in
-    let same : word_of one ≡ word_of other = cc in
-    same_word one other same
+-- words say one command
+same_command : (texts : List (List ℕ)) (one other : Command) → Say texts one → Say texts other → one ≡ other
+same_command texts (Serve a) (Serve b) p q =
+    let both = sym p.words ∙ q.words in
+    let same : word_of a ≡ word_of b = ap first_word both in
+    ap (λ (grammar : Grammar). Serve grammar) (same_word a b same)
+same_command texts (Serve a) (Work s n) p q =
+    let count_is : 1 ≡ 3 = ap length (sym p.words ∙ q.words) in absurd (omega (arith, count_is))
+same_command texts (Work s n) (Serve b) p q =
+    let count_is : 3 ≡ 1 = ap length (sym p.words ∙ q.words) in absurd (omega (arith, count_is))
+same_command texts (Work s n) (Work t m) p q =
+    let both = sym p.words ∙ q.words in
+    let few = p.within.1 in
+    let few_too = q.within.1 in
+    let seed : s ≡ t = decimal_injective s t p.within.0 q.within.0 (ap second_word both) in
+    let count : n ≡ m = decimal_injective n m (omega (arith, few)) (omega (arith, few_too)) (ap third_word both) in
+    ap (λ (k : ℕ). Work k n) seed ∙ ap (λ (k : ℕ). Work t k) count
+
+-- words ask for one command
+pub one_command : (words : List (String Global)) (one other : Command) → Asks words one → Asks words other → one ≡ other
+one_command words one other p q = same_command (map string_bytes words) one other p q
+
+-- so the grammar is one, or the seed and the number of calls are, and never both
+pub one_grammar : (words : List (String Global)) (one other : Grammar) → Asks words (Serve one) → Asks words (Serve other)
+    → one ≡ other
+one_grammar words one other p q = let same = one_command words (Serve one) (Serve other) p q in cc
+
+pub one_work : (words : List (String Global)) (s n t m : ℕ) → Asks words (Work s n) → Asks words (Work t m)
+    → (s ≡ t) × (n ≡ m)
+one_work words s n t m p q = let same = one_command words (Work s n) (Work t m) p q in (cc, cc)

@@ -9,16 +9,18 @@ use Rattle.play_model.specs.Text.{text_by, text_of, text_of_play}
 use Rattle.ports.specs.Port.{Appends, Moves, Rose}
 use Rattle.ta_isa.specs.declared.boot.Boot.{Boot}
 use Rattle.trace_text.specs.declared.trace.Trace.{Trace}
+use Rattle.made_play.specs.Summary.{made_play, summary_of, summary_of_play}
+use Rattle.made_play.proofs.Ends.{law as made_plays_end}
 use Rattle.trace_runner.specs.Content.{IsTooLarge, Spells, refused_by, refused_for, refused_in, text_for}
 use Rattle.trace_runner.specs.Input.{IsAtEnd}
 use Rattle.trace_runner.specs.Line.{bad_trace_line}
 use Rattle.trace_runner.specs.Output.{AppendsPart}
-use Rattle.trace_runner.specs.Run.{Answered, CanBeServed, IsBad, IsDone, IsServedBy, IsServedWhole, IsTold, IsTooLong, IsTooMuch, Ran, Statuses, Writes, WritesPart, WritesText, status_of, status_of_play, uuids_of}
+use Rattle.trace_runner.specs.Run.{Answered, CanBeServed, IsBad, IsDone, IsServedBy, IsServedWhole, IsTold, IsTooLong, IsTooMuch, Ran, Statuses, WorkStatuses, Worked, Writes, WritesPart, WritesSummary, WritesText, status_of, status_of_play, uuids_of}
 use Rattle.trace_runner.proofs.Played.{some-and}
 use Rattle.trace_runner.proofs.Readings.{EveryInput}
 use Rattle.trace_runner.specs.declared.content.Content.{Content}
 use Rattle.trace_runner.specs.declared.content.Content.TheVariants as variant
-use Rattle.trace_runner.specs.declared.grammar.Grammar.{Grammar}
+use Rattle.trace_runner.specs.declared.command.Grammar.{Grammar}
 use Rattle.trace_runner.specs.declared.player.Stop.{Stop}
 use Rattle.trace_runner.specs.declared.player.Stop.TheVariants.{Full, Failed}
 use Rattle.trace_runner.specs.declared.player.Stop.TheVariants as stop
@@ -367,3 +369,51 @@ failed-only (Ok done) e = absurd cc
 failed-only (Err Full) e = absurd cc
 failed-only (Err Failed) e = refl
 failed-only (Err stop.Memory) e = absurd cc
+
+-- ---- made traces
+
+-- each has a summary
+summary-there : (seed count : ℕ) (P : List ℕ → Type 0) → count ≤ 2 ^ 16 → ((line : List ℕ) → P line)
+    → IsSomeAnd (summary_of seed count) P
+summary-there seed count P few each =
+    let play = some-and (λ (p : Play). p.refused ≡ None) (made_play seed count) (made_plays_end.ends seed count few) in
+    subst (λ (o : Option Play). IsSomeAnd (option_map (summary_of_play seed count) o) P) (sym play.1)
+    (each (summary_of_play seed count play.0))
+
+pub worked-statuses : (seed count : ℕ) (result : Status) (old new : Option (List ℕ)) → count ≤ 2 ^ 16
+    → Worked seed count result old new → WorkStatuses seed count result old new
+worked-statuses seed count result old new few (inl (want, nothing)) = record {
+  ok = λ e. absurd cc;
+  part = λ short. summary-there seed count (AppendsPart old new) few
+      (λ line. record { part = []; rest = line; cut = refl; put = nothing });
+  no_other = inr (inr want);
+}
+worked-statuses seed count result old new few (inr worked) =
+    let line = some-and (λ (l : List ℕ). Writes status.Ok l result old new) (summary_of seed count) worked in
+    record {
+      ok = λ e. subst (λ (o : Option (List ℕ)). IsSomeAnd o (Appends old new)) (sym line.1)
+          (writes-named status.Ok line.0 result old new line.2 (λ f. absurd cc) (λ f. absurd cc)).1;
+      part = λ short. subst (λ (o : Option (List ℕ)). IsSomeAnd o (AppendsPart old new)) (sym line.1)
+          (writes-part status.Ok line.0 result old new line.2 (is-short result short).0);
+      no_other = writes-status line.0 result old new line.2;
+    }
+  where
+    writes-status : (text : List ℕ) (result : Status) (old new : Option (List ℕ)) → Writes status.Ok text result old new
+        → (result ≡ status.Ok) ⊎ ((result ≡ WriteFault) ⊎ (result ≡ Memory))
+    writes-status text result old new (inl whole) = inl whole.0
+    writes-status text result old new (inr part) = inr part.0
+
+pub worked-whole : (seed count : ℕ) (result : Status) (old new : Option (List ℕ)) → (result ≡ WriteFault → ⊥)
+    → Worked seed count result old new
+    → ((result ≡ status.Ok) × WritesSummary seed count old new) ⊎ (result ≡ Memory)
+worked-whole seed count result old new no_fault (inl (want, nothing)) = inr want
+worked-whole seed count result old new no_fault (inr worked) =
+    let line = some-and (λ (l : List ℕ). Writes status.Ok l result old new) (summary_of seed count) worked in
+    by_end line.0 line.1 (writes-whole line.0 result old new line.2 no_fault)
+  where
+    by_end : (text : List ℕ) → summary_of seed count ≡ Some text
+        → ((result ≡ status.Ok) × Appends old new text) ⊎ (result ≡ Memory)
+        → ((result ≡ status.Ok) × WritesSummary seed count old new) ⊎ (result ≡ Memory)
+    by_end text is (inl whole) =
+        inl (whole.0, subst (λ (o : Option (List ℕ)). IsSomeAnd o (Appends old new)) (sym is) whole.1)
+    by_end text is (inr want) = inr want

@@ -24,8 +24,8 @@ use Rattle.trace_text.specs.declared.trace.Trace.{Trace}
 use Rattle.trace_runner.specs.Line.{image_line}
 use Rattle.trace_runner.specs.declared.content.Content.{Content}
 use Rattle.trace_runner.specs.declared.content.Content.TheVariants as content
-use Rattle.trace_runner.specs.declared.grammar.Grammar.{Grammar}
-use Rattle.trace_runner.specs.declared.grammar.Grammar.TheVariants.{Text, Records, Assembler}
+use Rattle.trace_runner.specs.declared.command.Grammar.{Grammar}
+use Rattle.trace_runner.specs.declared.command.Grammar.TheVariants.{Text, Records, Assembler}
 
 -- ---- reading
 

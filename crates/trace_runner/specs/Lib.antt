@@ -6,4 +6,6 @@ pub mod Output
 pub mod Content
 pub mod Playing
 pub mod Run
+pub mod Digesting
+pub mod Counts
 pub mod Examples

@@ -9,11 +9,12 @@ use Rattle.ports.specs.declared.sink.Put.TheVariants.{Done, Failed}
 use Rattle.ports.specs.declared.sink.Put.TheVariants as put
 use Rattle.trace_text.specs.declared.fault.BadKind.{BadKind}
 use Rattle.trace_text.specs.declared.trace.Trace.{Trace}
+use Rattle.made_play.specs.Summary.{summary_of}
 use Rattle.trace_runner.specs.Content.{IsFirstFault, IsTooLarge, Spells, refused_for, refused_in, text_for}
 use Rattle.trace_runner.specs.Line.{bad_trace_line}
 use Rattle.trace_runner.specs.Output.{AppendsPart}
 use Rattle.trace_runner.specs.declared.content.Content.{Content}
-use Rattle.trace_runner.specs.declared.grammar.Grammar.{Grammar}
+use Rattle.trace_runner.specs.declared.command.Grammar.{Grammar}
 use Rattle.trace_runner.specs.declared.player.Stop.{Stop}
 use Rattle.trace_runner.specs.declared.player.Stop.TheVariants as stop
 use Rattle.trace_runner.specs.declared.status.Status.{Status}
@@ -173,3 +174,22 @@ pub record Statuses (grammar : Grammar) (natives : List Native) (input : List �
   pub too_long : result ≡ TooLong → IsTooMuch grammar natives input old new
   pub bad_trace : result ≡ BadTrace → IsBad grammar natives input old new
   pub part : ((result ≡ WriteFault) ⊎ (result ≡ Memory)) → WritesPart grammar natives input old new
+
+-- ---- made traces
+
+-- the summary of a made trace is written, or a part of it where the sink failed or memory ran out; or nothing for want
+-- of memory
+abbrev pub Worked : ℕ → ℕ → Status → Option (List ℕ) → Option (List ℕ) → Type 0
+Worked seed count result old new =
+    ((result ≡ Memory) × Appends old new [])
+    ⊎ IsSomeAnd (summary_of seed count) (λ line. Writes status.Ok line result old new)
+
+-- just the summary is
+abbrev pub WritesSummary : ℕ → ℕ → Option (List ℕ) → Option (List ℕ) → Type 0
+WritesSummary seed count old new = IsSomeAnd (summary_of seed count) (Appends old new)
+
+-- what each status says then
+pub record WorkStatuses (seed count : ℕ) (result : Status) (old new : Option (List ℕ)) : Type 0 where
+  pub ok : result ≡ status.Ok → WritesSummary seed count old new
+  pub part : ((result ≡ WriteFault) ⊎ (result ≡ Memory)) → IsSomeAnd (summary_of seed count) (AppendsPart old new)
+  pub no_other : (result ≡ status.Ok) ⊎ ((result ≡ WriteFault) ⊎ (result ≡ Memory))

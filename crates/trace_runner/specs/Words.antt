@@ -1,26 +1,39 @@
 -- What words ask for.
-use Rattle.std.specs.Prelude.{◌≡◌, List, ℕ, [], ◌∷◌, codes, map, String, string_bytes}
+use Rattle.std.specs.Prelude.{◌≡◌, ℕ, ◌^◌, ◌<◌, ◌≤◌, List, [], ◌∷◌, codes, map, String, string_bytes}
+use Rattle.std.specs.Fmt.{decimal}
 use Rattle.std.specs.Global.{Global}
-use Rattle.trace_runner.specs.declared.grammar.Grammar.{Grammar}
-use Rattle.trace_runner.specs.declared.grammar.Grammar.TheVariants.{Text, Records, Assembler}
+use Rattle.trace_runner.specs.declared.command.Command.{Command}
+use Rattle.trace_runner.specs.declared.command.Command.TheVariants.{Serve, Work}
+use Rattle.trace_runner.specs.declared.command.Grammar.{Grammar}
+use Rattle.trace_runner.specs.declared.command.Grammar.TheVariants.{Text, Records, Assembler}
 
--- the word by which the input is read in each grammar
+-- the word by which an input is read in each grammar
 abbrev pub word_of : Grammar → List ℕ
 word_of Text = codes "run"
 word_of Records = codes "run-binary"
 word_of Assembler = codes "asm"
 
--- the word is that of the grammar, or of none
-abbrev pub Names : List ℕ → Grammar → Type 0
-Names word grammar = word ≡ word_of grammar
+-- the words of each command. A number is its digits in decimal, so it has no leading zero but in `0`
+abbrev pub words_of : Command → List (List ℕ)
+words_of (Serve grammar) = word_of grammar ∷ []
+words_of (Work seed count) = codes "work" ∷ decimal seed ∷ decimal count ∷ []
 
-abbrev pub NamesNothing : List ℕ → Type 0
-NamesNothing word = (grammar : Grammar) → Names word grammar → ⊥
+-- a seed is below 2^64, and there are at most 65,536 calls
+abbrev pub IsWithin : Command → Type 0
+IsWithin (Serve grammar) = Unit {0}
+IsWithin (Work seed count) = (seed < 2 ^ 64) × (count ≤ 2 ^ 16)
 
--- the words are this one word
-abbrev pub Asks : List (String Global) → Grammar → Type 0
-Asks words grammar = map string_bytes words ≡ word_of grammar ∷ []
+-- these texts say the command, or none
+pub record Say (texts : List (List ℕ)) (command : Command) : Type 0 where
+  pub within : IsWithin command
+  pub words : texts ≡ words_of command
 
--- they ask for nothing that is done
+abbrev pub SayNothing : List (List ℕ) → Type 0
+SayNothing texts = (command : Command) → Say texts command → ⊥
+
+-- words ask for what their texts say
+abbrev pub Asks : List (String Global) → Command → Type 0
+Asks words command = Say (map string_bytes words) command
+
 abbrev pub AskNothing : List (String Global) → Type 0
-AskNothing words = (grammar : Grammar) → Asks words grammar → ⊥
+AskNothing words = SayNothing (map string_bytes words)

@@ -5,7 +5,7 @@ ghost use Rattle.trace_text.specs.Sound.{IsSound};
 ghost use Rattle.ta_asm.specs.declared.fault.AsmFault.{AsmFault};
 ghost use Rattle.trace_runner.specs.Content.{IsFaultOf, IsSoundContent, Spells, fault_of};
 
-use crate::grammar::Grammar;
+use crate::command::Grammar;
 use std::alloc::Global;
 use ta_asm::{AsmFault, assemble};
 use ta_isa::Image;

@@ -1,20 +1,24 @@
 //! The top call: words and bytes in, bytes and a status out.
 //!
 //! `run` reads a trace from a source, plays it on one core in the order of its items, and writes each line to a
-//! sink as it comes. Its contract says what is written for every input, and when each status
-//! comes.
+//! sink as it comes; or it assembles a text, or sums up the play of a trace that is made of a number. Its contract
+//! says what is written for every input, and when each status comes.
 #![tactic(auto)]
 
+mod command;
 mod content;
+mod digesting;
 mod examples;
-mod grammar;
 mod input;
+mod item_lines;
 mod line;
 mod output;
 mod play;
 mod player;
 mod status;
+mod summary;
 mod top_call;
+mod work;
 
 pub use examples::worked_examples;
 pub use input::LONGEST_INPUT;

@@ -77,7 +77,7 @@ fn core_of(alloc: Global, boot: Boot, natives: &Natives) -> Result<Core, NoMemor
 }
 
 /// A player before its first item.
-fn first_player(
+pub fn first_player(
     alloc: Global,
     boot: Boot,
     natives: &Natives,

@@ -1,6 +1,7 @@
 //! Playing items: their entries and exits on a core, and the lines that they print.
 ghost use Rattle.std.specs.Prelude.{◌≡◌, ℕ, ◌<◌, ◌≤◌, [], All, Err, OnOk, Some, map, slice_get};
 ghost use Rattle.kernel_model.specs.Application.{Booted};
+ghost use Rattle.kernel_state.specs.Meaning.{events_of};
 ghost use Rattle.trace_text.specs.declared.item.Item.TheVariants as item;
 ghost use Rattle.play_model.specs.Play.{Play, after_item, number_in, visit_of};
 ghost use Rattle.ports.specs.Port.{Rose};
@@ -12,6 +13,7 @@ ghost use Rattle.core_machine.specs.declared.smc.Smc.TheVariants.{Leaves};
 use crate::line::{mem_line, ret_line};
 use crate::output::put_text;
 use core_machine::{Machine, machines_stand, turns_are_taken};
+use event_journal::Event;
 use kernel_entry::Visitor;
 use kernel_state::EnterRefusal;
 use ports::{Put, Sink};
@@ -117,6 +119,13 @@ impl Player {
             machine,
             answers: [Regs { a: [0; 8] }; MAX_CPUS],
         }
+    }
+
+    /// All entries and exits so far.
+    pub fn history(&self) -> &[Event]
+        ensures { result.now ≡ events_of self.now.machine.core }
+    {
+        self.machine.core().journal().as_slice()
     }
 
     /// What a processor was last answered.

@@ -1,6 +1,6 @@
 //! The top call.
 
-ghost use Rattle.std.specs.Prelude.{◌≡◌, ◌⊎◌, ◌≤◌, ◌+◌, ◌^◌, IfSome, Some, None, [], Err, length};
+ghost use Rattle.std.specs.Prelude.{◌≡◌, ℕ, ◌⊎◌, ◌≤◌, ◌+◌, ◌^◌, IfSome, Some, None, [], Err, length};
 ghost use Rattle.native_tas.specs.Table.{entries};
 ghost use Rattle.ports.specs.Port.{Appends, Rose};
 ghost use Rattle.ta_isa.specs.Spelling.{IsValid};
@@ -8,20 +8,22 @@ ghost use Rattle.trace_text.specs.Sound.{IsSound};
 ghost use Rattle.trace_runner.specs.Content.{IsSoundContent};
 ghost use Rattle.trace_runner.specs.Input.{TakesAtMost};
 ghost use Rattle.trace_runner.specs.Line.{bad_trace_line};
-ghost use Rattle.trace_runner.specs.Run.{Answered, CanBeServed, IsServedBy, IsServedWhole, Ran, Statuses, Writes, status_after, status_of, usage_line, uuids_of};
+ghost use Rattle.trace_runner.specs.Run.{Answered, CanBeServed, IsServedBy, IsServedWhole, Ran, Statuses, WorkStatuses, Worked, Writes, WritesSummary, status_after, status_of, usage_line, uuids_of};
 ghost use Rattle.trace_runner.specs.Words.{AskNothing, Asks};
 ghost use Rattle.trace_runner.specs.declared.content.Content.{Content};
 ghost use Rattle.trace_runner.specs.declared.content.Content.TheVariants as content;
-ghost use Rattle.trace_runner.specs.declared.grammar.Grammar.{Grammar};
+ghost use Rattle.trace_runner.specs.declared.command.Command.TheVariants.{Serve, Work};
+ghost use Rattle.trace_runner.specs.declared.command.Grammar.{Grammar};
 
+use crate::command::{Command, Grammar, command_of};
 use crate::content::{Content, read_content};
-use crate::grammar::{Grammar, grammar_of};
 use crate::input::{InputFault, read_input};
 use crate::line::{bad_trace_line, image_line};
 use crate::output::put_text;
 use crate::play::{has_too_many, play};
 use crate::player::Stop;
 use crate::status::Status;
+use crate::work::summary;
 use native_tas::Natives;
 use ports::{Put, Sink, Source};
 use std::alloc::Global;
@@ -165,9 +167,26 @@ fn run_input<S: Source, K: Sink>(
     }
 }
 
+/// Writes the summary of a made trace.
+fn answer_work<K: Sink>(alloc: Global, seed: u64, count: u32, out: &mut K) -> Status
+    requires { count ≤ 65536 }
+    ensures worked { Worked seed count result (K.held out.old) (K.held out.new) }
+    ensures words { result ≡ Status.Usage → ⊥ }
+    ensures reads { result ≡ Status.ReadFault → ⊥ }
+    ensures write_fault { result ≡ Status.WriteFault → Rose (K.faults out.old) (K.faults out.new) }
+    ensures count { K.faults out.old ≤ K.faults out.new }
+{
+    match summary(alloc, seed, count) {
+        Ok(line) => answer_line(out, Status::Ok, line.as_slice()),
+        Err(_) => Status::Memory,
+    }
+}
+
 /// Does what the words ask for. `run` reads a trace as text from the input and plays it on one core, beside the
 /// applications that are built in, `run-binary` reads it as records, and `asm` reads a text of the assembler and prints
-/// its image in hexadecimal. Any other words are answered with the usage line.
+/// its image in hexadecimal. `work SEED COUNT` reads nothing: it plays the trace that the seed makes with so many
+/// calls, without built-in applications, and prints a line that sums it up. Any other words are answered with the
+/// usage line.
 ///
 /// The words are tested first, then the input is read to its end, then its length, its grammar and the number of its
 /// SMC items are tested, then it is played; the first answer met ends the call. Lines are written as they come. Want
@@ -186,22 +205,33 @@ pub fn run<S: Source, K: Sink>(
         Writes Status.Usage usage_line result (K.held out.old) (K.held out.new) × (S.left input.new ≡ S.left input.old) }
 
     // ---- The input: it wasn't read whole, or it is too long, or it is answered by its meaning in the grammar.
-    ensures ran { (grammar : Grammar) → Asks words.now grammar → IfSome (S.left input.old) (λ bytes.
+    ensures ran { (grammar : Grammar) → Asks words.now (Serve grammar) → IfSome (S.left input.old) (λ bytes.
         Ran grammar (entries natives.now) bytes (S.left input.new) result (K.held out.old) (K.held out.new)) }
 
     // ---- Each status, and what was then written.
-    ensures statuses { (grammar : Grammar) → Asks words.now grammar → IfSome (S.left input.old) (λ bytes.
+    ensures statuses { (grammar : Grammar) → Asks words.now (Serve grammar) → IfSome (S.left input.old) (λ bytes.
         Statuses grammar (entries natives.now) bytes (S.left input.new) result (K.held out.old) (K.held out.new)) }
 
     // ---- Each input within the limits is served whole, or there is want of memory.
-    ensures complete { (grammar : Grammar) → Asks words.now grammar → IfSome (S.left input.old) (λ bytes.
+    ensures complete { (grammar : Grammar) → Asks words.now (Serve grammar) → IfSome (S.left input.old) (λ bytes.
         (content : Content) → CanBeServed grammar (entries natives.now) bytes content →
         (Rose (S.faults input.old) (S.faults input.new) → ⊥) → (Rose (K.faults out.old) (K.faults out.new) → ⊥) →
         IsServedWhole (entries natives.now) content result (K.held out.old) (K.held out.new)
         ⊎ (result ≡ Status.Memory)) }
 
+    // ---- A made trace: nothing is read, and its summary is written, whole or in part, at each status.
+    ensures untouched { (seed count : ℕ) → Asks words.now (Work seed count) → input.new ≡ input.old }
+    ensures worked { (seed count : ℕ) → Asks words.now (Work seed count) →
+        Worked seed count result (K.held out.old) (K.held out.new) }
+    ensures work_statuses { (seed count : ℕ) → Asks words.now (Work seed count) →
+        WorkStatuses seed count result (K.held out.old) (K.held out.new) }
+    ensures work_complete { (seed count : ℕ) → Asks words.now (Work seed count) →
+        (Rose (K.faults out.old) (K.faults out.new) → ⊥) →
+        ((result ≡ Status.Ok) × WritesSummary seed count (K.held out.old) (K.held out.new))
+        ⊎ (result ≡ Status.Memory) }
+
     // ---- Faults of the ports.
-    ensures read_fault { result ≡ Status.ReadFault → ((grammar : Grammar) × Asks words.now grammar)
+    ensures read_fault { result ≡ Status.ReadFault → ((grammar : Grammar) × Asks words.now (Serve grammar))
         × Rose (S.faults input.old) (S.faults input.new) × Appends (K.held out.old) (K.held out.new) [] }
     ensures write_fault { result ≡ Status.WriteFault → Rose (K.faults out.old) (K.faults out.new) }
 
@@ -210,8 +240,9 @@ pub fn run<S: Source, K: Sink>(
     ensures input_count { S.faults input.old ≤ S.faults input.new }
     ensures out_count { K.faults out.old ≤ K.faults out.new }
 {
-    match grammar_of(words) {
-        Some(grammar) => run_input(alloc, grammar, input, out, natives),
+    match command_of(words) {
+        Some(Command::Serve(grammar)) => run_input(alloc, grammar, input, out, natives),
+        Some(Command::Work { seed, count }) => answer_work(alloc, seed, count, out),
         None => answer_line(out, Status::Usage, USAGE_LINE),
     }
 }

@@ -1,0 +1,143 @@
+-- Items played one after the other, whose lines go to a digest and aren't kept.
+use Rattle.std.proofs.Common.{◌≡◌, ℕ, ◌+◌, ◌<◌, ◌≤◌, ◌⊎◌, inl, inr, List, [], ◌++◌, length, take, get_or, Option, Some, None, refl, sym, ap, subst, ◌∙◌, arith}
+use Rattle.std.specs.Prelude.{IsSome, IsSomeAnd, Ok, Err}
+use Rattle.std.specs.Option.{option_and_then, option_map}
+use Rattle.std.proofs.lemmas.List.{take_all}
+use Rattle.kernel_model.specs.Application.{Booted, Native, booted}
+use Rattle.made_play.specs.Summary.{made_play, summary_line, summary_of, summary_of_play}
+use Rattle.made_play.proofs.Ends.{law as made_plays_end}
+use Rattle.play_model.specs.Play.{Play, after_item, after_items, first_play, played}
+use Rattle.play_model.specs.Text.{text_of_play}
+use Rattle.base.specs.Zeros.{zeros}
+use Rattle.event_journal.specs.declared.event.Event.{Event}
+use Rattle.ports.specs.Port.{Rose}
+use Rattle.ports.specs.PortLaws.{Appends-nil}
+use Rattle.sha2.specs.Hashers.{Holds256}
+use Rattle.sha2.specs.Sha256.{sha256}
+use Rattle.sha2.specs.declared.Sha256.{Sha256}
+use Rattle.ta_isa.specs.declared.boot.Boot.{Boot}
+use Rattle.trace_text.specs.Sound.{IsSound}
+use Rattle.trace_text.specs.declared.item.Item.{Item}
+use Rattle.trace_text.specs.declared.trace.Trace.{Trace}
+use Rattle.workload.specs.Work.{made_boot, made_trace}
+use Rattle.trace_runner.specs.Content.{refused_by, refused_in}
+use Rattle.trace_runner.specs.Digesting.{IsDigested}
+use Rattle.trace_runner.specs.Playing.{Follows, IsPlayedTo}
+use Rattle.trace_runner.specs.declared.digesting.Digested.{Digested}
+use Rattle.trace_runner.specs.declared.player.Player.{Player}
+use Rattle.trace_runner.specs.declared.player.Stop.{Stop}
+use Rattle.trace_runner.specs.declared.player.Stop.TheVariants.{Full}
+use Rattle.trace_runner.proofs.Playable.{Playing, playing-more, playing-stopped}
+use Rattle.trace_runner.proofs.Played.{some-and}
+
+-- the items so far were played, the hasher holds their text, and no line is held
+pub record Digesting (natives : List Native) (trace : Trace) (items : List Item) (at : ℕ) (player : Player)
+    (hasher : Sha256) (held : List ℕ) : Type 0 where
+  pub text : List ℕ
+  pub playing : Playing natives trace items at player (Some []) (Some text)
+  pub holds : Holds256 hasher text
+  pub empty : held ≡ []
+
+pub digesting-first : (natives : List Native) (trace : Trace) (items : List Item) (player : Player) (hasher : Sha256)
+    (held : List ℕ) → Playing natives trace items 0 player (Some []) (Some []) → Holds256 hasher [] → held ≡ []
+    → Digesting natives trace items 0 player hasher held
+digesting-first natives trace items player hasher held playing holds empty =
+    record { text = []; playing = playing; holds = holds; empty = empty }
+
+-- what an item prints behind nothing it prints behind any text
+printed-behind : (boot : Booted) (play : Play) (after : Option Play) (player : Player) (text line : List ℕ)
+    → Follows boot play after (Ok tt) player (Some []) (Some line)
+    → Follows boot play after (Ok tt) player (Some text) (Some (text ++ line))
+printed-behind boot play after player text line f =
+    (f.0, f.1, f.2, (f.3.0, f.3.1, ap (λ (l : List ℕ). text ++ l) f.3.2))
+
+pub digesting-more : (natives : List Native) (trace : Trace) (items : List Item) (at : ℕ) (i : Item)
+    (before after : Player) (hasher more : Sha256) (held line left : List ℕ) → at < length items
+    → i ≡ get_or items at i → Digesting natives trace items at before hasher held
+    → ((boot : Booted) (play : Play) → IsPlayedTo boot play before
+    → Follows boot play (after_item boot i play) (Ok tt) after (Some held) (Some line))
+    → ((message : List ℕ) → Holds256 hasher message → Holds256 more (message ++ line)) → left ≡ []
+    → Digesting natives trace items (at + 1) after more left
+digesting-more natives trace items at i before after hasher more held line left lt is d follows updated empty = record {
+  text = d.text ++ line;
+  playing = playing-more natives trace items at i before after (Some []) (Some d.text) (Some (d.text ++ line)) lt is
+      d.playing
+      (λ boot play stands. printed-behind boot play (after_item boot i play) after d.text line
+      (subst (λ (h : List ℕ). Follows boot play (after_item boot i play) (Ok tt) after (Some h) (Some line)) d.empty
+      (follows boot play stands)));
+  holds = updated d.text d.holds;
+  empty = empty;
+}
+
+-- an entry was refused
+pub digesting-full : (natives : List Native) (uuids : List (List ℕ)) (trace : Trace) (items : List Item) (at : ℕ)
+    (i : Item) (before after : Player) (stop : Stop) (hasher : Sha256) (held : List ℕ) (old new : Option (List ℕ))
+    → IsSound uuids trace → at < length items → i ≡ get_or items at i
+    → Digesting natives trace items at before hasher held → stop ≡ Full
+    → ((boot : Booted) (play : Play) → IsPlayedTo boot play before
+    → Follows boot play (after_item boot i play) (Err stop) after old new)
+    → IsSome (refused_in natives trace)
+digesting-full natives uuids trace items at i before after stop hasher held old new sound lt is d full follows =
+    (playing-stopped natives uuids trace items at i before after Full (Some []) (Some d.text) (Some d.text) sound lt is
+    d.playing
+    (λ boot play stands.
+    let f = subst (λ (s : Stop). Follows boot play (after_item boot i play) (Err s) after old new) full
+    (follows boot play stands) in
+    (f.0, f.1, Appends-nil (Some d.text)))).0
+
+-- the last item was played
+pub digesting-ended : (natives : List Native) (trace : Trace) (items : List Item) (at : ℕ) (player : Player)
+    (hasher : Sha256) (held digest : List ℕ) → length items ≤ at → Digesting natives trace items at player hasher held
+    → ((message : List ℕ) → Holds256 hasher message → digest ≡ sha256 message)
+    → IsDigested natives trace (record { player = player; digest = digest })
+digesting-ended natives trace items at player hasher held digest whole d told =
+    let p = d.playing in
+    let w = p.written in
+    let on = booted p.boot natives in
+    let all : length trace.items ≤ at = subst (λ (l : List Item). length l ≤ at) p.same whole in
+    record {
+      boot = p.boot;
+      has_boot = p.is;
+      play = w.play;
+      is_play = sym (ap (λ (l : List Item). after_items on l (first_play (zeros 0x400000) on trace.fills))
+          (take_all at trace.items all)) ∙ w.taken;
+      history = w.stands.machine.history;
+      digest = told d.text d.holds ∙ ap sha256 w.put;
+    }
+
+-- ---- counts that stand still
+
+pub never-rose : Rose 0 0 → ⊥
+never-rose (inl less) = absurd (omega (arith, less))
+never-rose (inr most) = absurd (omega (arith, most))
+
+-- ---- made traces
+
+-- their play refuses no entry
+never-refused : (o : Option Play) → IsSomeAnd o (λ play. play.refused ≡ None)
+    → IsSome (option_and_then (λ (play : Play). play.refused) o) → ⊥
+never-refused (Some play) none some = let is = none in absurd cc
+never-refused None none some = absurd none
+
+pub made-goes-on : (seed count : ℕ) (natives : List Native) (trace : Trace) → count ≤ 65536 → natives ≡ []
+    → trace ≡ made_trace seed count → IsSome (refused_in natives trace) → ⊥
+made-goes-on seed count natives trace few none made some =
+    let here = subst (λ (ns : List Native). IsSome (refused_in ns (made_trace seed count))) none
+    (subst (λ (t : Trace). IsSome (refused_in natives t)) made some) in
+    never-refused (made_play seed count) (made_plays_end.ends seed count few) here
+
+pub made-summary : (seed count : ℕ) (natives : List Native) (trace : Trace) (digested : Digested)
+    (history : List Event) (line : List ℕ) → natives ≡ [] → trace ≡ made_trace seed count
+    → (d : IsDigested natives trace digested) → history ≡ d.play.history
+    → line ≡ summary_line seed count history digested.digest → summary_of seed count ≡ Some line
+made-summary seed count natives trace digested history line none made d told is =
+    let boots : Some made_boot ≡ Some d.boot = ap (λ (t : Trace). t.boot) (sym made) ∙ d.has_boot in
+    let boot : d.boot ≡ made_boot = cc in
+    let play : made_play seed count ≡ Some d.play =
+    subst (λ (b : Boot). played [] b (made_trace seed count) ≡ Some d.play) boot
+    (subst (λ (ns : List Native). played ns d.boot (made_trace seed count) ≡ Some d.play) none
+    (subst (λ (t : Trace). played natives d.boot t ≡ Some d.play) made d.is_play)) in
+    let whole : line ≡ summary_of_play seed count d.play =
+    is ∙ ap (λ (h : List Event). summary_line seed count h digested.digest) told
+    ∙ ap (λ (bytes : List ℕ). summary_line seed count d.play.history bytes) d.digest in
+    ap (option_map (summary_of_play seed count)) play ∙ ap (λ (l : List ℕ). Some l) (sym whole)

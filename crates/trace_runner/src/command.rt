@@ -1,0 +1,88 @@
+//! What the words ask for.
+
+ghost use Rattle.std.specs.Prelude.{◌≡◌, ℕ, ◌<◌, ◌^◌, [], ◌∷◌, IfSome, IsNone};
+ghost use Rattle.std.specs.Fmt.{decimal};
+ghost use Rattle.trace_runner.specs.Words.{AskNothing, Asks, Say, SayNothing};
+
+use itoa::Buffer;
+use workload::MOST_CALLS;
+
+/// In which grammar an input is read.
+#[derive(Clone, Copy, Debug, PartialEq, Eq)]
+pub enum Grammar {
+    /// That of traces as text.
+    Text,
+    /// That of traces as records.
+    Records,
+    /// That of the assembler.
+    Assembler,
+}
+
+/// What the words ask for.
+#[derive(Clone, Copy, Debug, PartialEq, Eq)]
+pub enum Command {
+    /// The input is read in this grammar, and what it spells is played or printed.
+    Serve(Grammar),
+    /// The trace that a seed makes with so many calls is played, and its play is summed up.
+    Work { seed: u64, count: u32 },
+}
+
+/// The number that a word says: digits alone, with no leading zero but in `0`.
+fn number_in(word: &str) -> Option<u64>
+    ensures found { IfSome result (λ number. (number < 2 ^ 64) × (word.now ≡ decimal number)) }
+    ensures none { IsNone result → (number : ℕ) → number < 2 ^ 64 → word.now ≡ decimal number → ⊥ }
+{
+    let Ok(number) = word.parse::<u64>() else {
+        return None;
+    };
+    let mut buffer = Buffer::new();
+    if buffer.format(number) == word {
+        Some(number)
+    } else {
+        None
+    }
+}
+
+/// What one word asks for.
+fn command_named(word: &str) -> Option<Command>
+    ensures said { IfSome result (Say (word.now ∷ [])) }
+    ensures nothing { IsNone result → SayNothing (word.now ∷ []) }
+{
+    match word {
+        "run" => Some(Command::Serve(Grammar::Text)),
+        "run-binary" => Some(Command::Serve(Grammar::Records)),
+        "asm" => Some(Command::Serve(Grammar::Assembler)),
+        _ => None,
+    }
+}
+
+/// What a word and two numbers ask for.
+fn work_of(word: &str, seed: &str, count: &str) -> Option<Command>
+    ensures said { IfSome result (Say (word.now ∷ seed.now ∷ count.now ∷ [])) }
+    ensures nothing { IsNone result → SayNothing (word.now ∷ seed.now ∷ count.now ∷ []) }
+{
+    if word != "work" {
+        return None;
+    }
+    let seed = number_in(seed)?;
+    let calls = number_in(count)?;
+    if calls > u64::from(MOST_CALLS) {
+        return None;
+    }
+    Some(Command::Work {
+        seed,
+        count: calls as u32,
+    })
+}
+
+/// What these words ask for.
+pub fn command_of(words: &[String]) -> Option<Command>
+    ensures asked { IfSome result (Asks words.now) }
+    ensures nothing { IsNone result → AskNothing words.now }
+{
+    match words {
+        [word] => command_named(word.as_str()),
+        [word, seed, count] => work_of(word.as_str(), seed.as_str(), count.as_str()),
+        _ => None,
+    }
+}
