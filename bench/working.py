@@ -1,0 +1,59 @@
+#!/usr/bin/env python3
+"""Counts the instructions that a further call of a made trace costs by the word `work`, and the most memory.
+
+Runs `optee_run work 7 N` and `optee_run work 7 2N` under callgrind: a further call costs the difference of both by N. Serving
+is an entry and an exit of the core, printing is what the exit of a trace needs besides, digesting is SHA-256 over the
+lines, and making is the rest: the items and what goes over them. Blocks are counted as in playing.py. Then it prints the
+most bytes that stand on the heap at once while `work 7 65536` runs (massif), the lanes taken off. Build the program
+first, by `rt run` in crates/optee_run.
+Usage: bench/working.py [N..]
+"""
+
+import os
+import re
+import subprocess
+import sys
+import tempfile
+
+from callgrind import costs
+from playing import BY_VECTORS, LANE, PROGRAM, SEED
+
+MOST_CALLS = 65_536
+LANES = 4
+
+
+def measured(count):
+    """What the program needs for so many calls: in all, and for each part of it."""
+    whole, functions, printed = costs(PROGRAM, "work", str(SEED), str(count))
+    assert printed.startswith(f"work {SEED} {count} ".encode()), printed
+    named = lambda part: sum(cost for name, cost in functions.items() if name.split("::<")[0].endswith(part))
+    serving = named("entering::enter") + named("Machine::leave")
+    printing = named("Player::leave") - named("Machine::leave")
+    digesting = named("Core256::update")
+    making = whole - serving - printing - digesting
+    return {"in all": whole, "making": making, "serving": serving, "printing": printing, "digesting": digesting}
+
+
+def most_heap(count):
+    """The most bytes on the heap at once, for so many calls."""
+    with tempfile.TemporaryDirectory() as folder:
+        subprocess.run(
+            ["valgrind", "--tool=massif", f"--massif-out-file={folder}/out", PROGRAM, "work", str(SEED), str(count)],
+            capture_output=True, check=True,
+        )
+        with open(f"{folder}/out") as told:
+            return max(int(taken) for taken in re.findall(r"^mem_heap_B=(\d+)$", told.read(), re.MULTILINE))
+
+
+def main():
+    os.environ["GLIBC_TUNABLES"] = BY_VECTORS
+    for count in [int(word) for word in sys.argv[1:]] or [1000, 32_000]:
+        once, twice = measured(count), measured(2 * count)
+        further = ", ".join(f"{name} {(twice[name] - once[name]) / count:.0f}" for name in once)
+        print(f"{count} calls more behind {count}, for each: {further}", flush=True)
+    most = most_heap(MOST_CALLS)
+    print(f"{MOST_CALLS} calls: at most {most} bytes on the heap, {most - LANES * LANE} of them beside the lanes", flush=True)
+
+
+if __name__ == "__main__":
+    main()
