@@ -1,27 +1,14 @@
--- A core can be booted with what a trace has.
+-- What a sound trace has, a core can be booted with.
 use Rattle.std.proofs.Common.{ℕ, List, Option, Some, None}
 use Rattle.std.specs.Prelude.{IfSome}
-use Rattle.kernel_state.specs.Booting.{IsWithinLimits}
 use Rattle.ta_isa.specs.Boots.{IsBoot}
 use Rattle.ta_isa.specs.declared.boot.Boot.{Boot}
 use Rattle.trace_text.specs.Sound.{IsSound, IsSoundBoot}
 use Rattle.trace_text.specs.declared.trace.Trace.{Trace}
 
-within : (boot : Boot) → IsBoot boot → IsWithinLimits boot
-within boot is = record {
-  some_processor = is.some_processor;
-  few_processors = is.few_processors;
-  some_thread = is.some_thread;
-  few_threads = is.few_threads;
-  some_frame = is.some_frame;
-  few_frames = is.few_frames;
-  few_apps = is.few_apps;
-  valid = is.valid;
-}
+of_boot : (natives : List (List ℕ)) (boot : Option Boot) → IfSome boot (IsSoundBoot natives) → IfSome boot IsBoot
+of_boot natives (Some boot) sound = sound.boots
+of_boot natives None sound = sound
 
-of_boot : (natives : List (List ℕ)) (boot : Option Boot) → IfSome boot (IsSoundBoot natives) → IfSome boot IsWithinLimits
-of_boot natives (Some boot) so = within boot so.boots
-of_boot natives None so = so
-
-pub within_limits : (natives : List (List ℕ)) (trace : Trace) → IsSound natives trace → IfSome trace.boot IsWithinLimits
-within_limits natives trace sound = of_boot natives trace.boot sound.boot
+pub boots : (natives : List (List ℕ)) (trace : Trace) → IsSound natives trace → IfSome trace.boot IsBoot
+boots natives trace sound = of_boot natives trace.boot sound.boot

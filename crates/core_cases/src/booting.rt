@@ -1,9 +1,9 @@
 //! Making a machine.
 ghost use Rattle.std.specs.Prelude.{◌≡◌, [], IfOk, length};
 ghost use Rattle.kernel_model.specs.Application.{booted};
-ghost use Rattle.kernel_state.specs.Booting.{IsWithinLimits};
 ghost use Rattle.kernel_state.specs.Meaning.{booted_of, events_of};
 ghost use Rattle.native_tas.specs.Table.{entries};
+ghost use Rattle.ta_isa.specs.Boots.{IsBoot};
 
 use anyhow::{Result, bail};
 use core_machine::Machine;
@@ -40,7 +40,7 @@ fn lanes_of(alloc: Global, cpus: u8, fills: &[Fill]) -> Result<Vec<Lane>>
 
 /// The core of a boot, where nothing has happened.
 fn core_of(alloc: Global, boot: Boot, natives: &Natives) -> Result<Core>
-    requires { IsWithinLimits boot }
+    requires { IsBoot boot }
     ensures booted { IfOk result (λ core. booted_of core ≡ booted boot (entries natives.now)) }
     ensures events { IfOk result (λ core. events_of core ≡ []) }
 {
@@ -52,7 +52,7 @@ fn core_of(alloc: Global, boot: Boot, natives: &Natives) -> Result<Core>
 
 /// The machine of a boot, beside applications that are built in, with these fills for each of its processors.
 pub fn machine_of(alloc: Global, boot: Boot, natives: &Natives, fills: &[Fill]) -> Result<Machine>
-    requires { IsWithinLimits boot }
+    requires { IsBoot boot }
 {
     let lanes = lanes_of(alloc, boot.cpus, fills)?;
     let core = core_of(alloc, boot, natives)?;

@@ -14,7 +14,7 @@ mod lists;
 mod telling;
 
 ghost use Rattle.std.specs.Prelude.{IfOk, IfSome};
-ghost use Rattle.kernel_state.specs.Booting.{IsWithinLimits};
+ghost use Rattle.ta_isa.specs.Boots.{IsBoot};
 
 use anyhow::{Context, Result, bail};
 use booting::machine_of;
@@ -33,9 +33,9 @@ const DIGEST_UUID: [u8; 16] = [
 const MOST_BYTES: usize = 1 << 24;
 
 /// The trace of a text.
-#[tactic(auto, using(crate::proofs::Sound::within_limits))]
+#[tactic(auto, using(crate::proofs::Sound::boots))]
 fn trace_of(alloc: Global, natives: &Natives, text: &[u8]) -> Result<Trace>
-    ensures { IfOk result (λ trace. IfSome trace.boot IsWithinLimits) }
+    ensures { IfOk result (λ trace. IfSome trace.boot IsBoot) }
 {
     if text.len() > MOST_BYTES {
         bail!("the text is too long");
