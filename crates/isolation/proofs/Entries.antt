@@ -1,0 +1,349 @@
+-- An entry that is done again is the journal's.
+use Rattle.std.proofs.Common.{◌≡◌, ℕ, ◌<◌, ◌≤◌, ◌^◌, Bool, true, false, List, [], ◌∷◌, ◌++◌, length, Option, Some, None, refl, ap, sym, subst, ◌∙◌, arith}
+use Rattle.std.proofs.Math.Logic.{∥∥₁_elim, ∥∥₁_map, ∥∥₁_prop}
+use Rattle.std.proofs.Props.{props}
+use Rattle.std.proofs.lemmas.Bool.Decides.{nat_tests}
+use Rattle.std.proofs.lemmas.List.Sums.{sum_by-append}
+use Rattle.std.proofs.lemmas.Option.{option_and_then_some, slice_get-map, some_pair_parts}
+use Rattle.std.specs.Prelude.{IsSomeAnd, map, nat_le, not, replicate, slice_get, slice_set, ◌&&◌}
+use Rattle.std.specs.Option.{option_and_then, option_map}
+use Rattle.core_machine.proofs.Wholes.{below_works, whole_with_work}
+use Rattle.core_machine.specs.Whole.{IsWhole}
+use Rattle.core_machine.specs.Turns.{insides}
+use Rattle.event_journal.specs.Event.{copied_by}
+use Rattle.event_journal.specs.Journal.{copied_bytes}
+use Rattle.event_journal.specs.declared.event.Event.{Event}
+use Rattle.event_journal.specs.declared.event.Event.TheVariants.{Entry}
+use Rattle.isolation.specs.Arriving.{IsArrival, IsArrivalBy, IsArrivalIn}
+use Rattle.isolation.specs.Noted.{AreNoted}
+use Rattle.isolation.specs.Replaying.{CanBeNext, CanGoOn, HasArrived, HasArrivedFor, HasArrivedIn, HasDone, HasNoted}
+use Rattle.isolation.specs.declared.entering.Arrival.{Arrival}
+use Rattle.isolation.specs.declared.notes.Notes.{Notes}
+use Rattle.isolation.specs.declared.replay.Replay.{Replay}
+use Rattle.isolation.proofs.Further.{Follows, follows}
+use Rattle.kernel_entry.proofs.Arrived.{cpu_there}
+use Rattle.kernel_entry.specs.Visiting.{coming_of}
+use Rattle.kernel_entry.specs.declared.visitor.Visitor.{Visitor}
+use Rattle.kernel_model.proofs.Answered.{outside_of}
+use Rattle.kernel_model.proofs.FixedAnswer.{inside_for, processors_after}
+use Rattle.kernel_model.proofs.Parts.{set_found, set_then_read}
+use Rattle.kernel_model.specs.Application.{Booted}
+use Rattle.kernel_model.specs.Argument.{reg}
+use Rattle.kernel_model.specs.Decision.{Answers, Decision, Taken, Takes}
+use Rattle.kernel_model.specs.Entry.{after_decision, after_entry, decision_of, entry}
+use Rattle.kernel_model.specs.History.{after_event, can_be_granted, entry_from, is_outside, kernel_after}
+use Rattle.kernel_model.specs.Kernel as model
+use Rattle.kernel_model.specs.Kernel.{Active, Fixed, Free, InSlot, Inside, Kernel, Outside, PendingCall, Processor, Suspended, ThreadSlot, Visit, cancelled_slots}
+use Rattle.kernel_model.specs.Laws.{IsOutside}
+use Rattle.kernel_state.proofs.CoreEvents.{journals_legal, some_kernel}
+use Rattle.kernel_state.specs.Entering.{CanEnter, HasEntered, IsTooMuch, bytes_read, visit_of}
+use Rattle.kernel_state.specs.Laws.{CoreEntry}
+use Rattle.kernel_state.specs.Meaning.{booted_of, events_of, kernel_of}
+use Rattle.kernel_state.specs.Replay.{Replays}
+use Rattle.kernel_state.specs.StandsFor.{StandsFor}
+use Rattle.kernel_state.specs.Work.{IsCarriedAs, IsCarriedFor, IsWorkIn, IsWorkOf}
+use Rattle.kernel_state.specs.declared.carried.Carried.{Carried}
+use Rattle.kernel_state.specs.declared.kernel_core.Core.{Core}
+use Rattle.kernel_state.specs.declared.parts.Parts.{Parts}
+use Rattle.kernel_state.specs.declared.work.Work.{Work}
+use Rattle.ns_ram.proofs.ReaderLaws.{over_lane-reading, over_lane-then}
+use Rattle.ns_ram.specs.Reader.{Reader, done, over_lane}
+use Rattle.ns_ram.specs.Reads.{HoldsReads, total_bytes}
+use Rattle.ns_ram.specs.declared.read.Read.{Read}
+use Rattle.own_model.specs.Own as own
+use Rattle.smc_abi.specs.Call.{call_of}
+
+-- ---- that it can come in
+
+-- a processor that was outside, with steps that can be granted, has come in
+record CameIn (boot : Booted) (kernel next : Kernel) (visit : Visit) (reads : List Read) : Type 0 where
+  outside : IsOutside kernel visit
+  granted : can_be_granted visit.steps ≡ true
+  entered : after_entry boot kernel visit reads ≡ Some next
+
+came_in : (boot : Booted) (kernel next : Kernel) (visitor : Visitor) (reads : List Read)
+    → after_event boot kernel (Entry visitor.cpu visitor.regs visitor.steps reads) ≡ Some next
+    → CameIn boot kernel next (visit_of (coming_of visitor)) reads
+came_in boot kernel next visitor reads e =
+    let visit = visit_of (coming_of visitor) in
+    option_and_then_some (entry_from boot kernel visit reads) (slice_get kernel.processors visitor.cpu) next e
+    (λ (processor : Processor) there onward.
+    let allowed = outside_of processor (can_be_granted visitor.steps) (after_entry boot kernel visit reads) next onward in
+    record {
+      outside = there ∙ ap (λ (p : Processor). Some p) allowed.0;
+      granted = allowed.1;
+      entered = allowed.2;
+    })
+
+some_steps : (steps : ℕ) → can_be_granted steps ≡ true → 1 ≤ steps
+some_steps steps e = by_tests (nat_le 1 steps) (nat_le steps 1000000) refl e
+  where
+    by_tests : (some few : Bool) → nat_le 1 steps ≡ some → (some && few) ≡ true → 1 ≤ steps
+    by_tests true few is e = grind (arith, nat_tests)
+    by_tests false few is e = absurd cc
+
+few_steps : (steps : ℕ) → can_be_granted steps ≡ true → steps ≤ 1000000
+few_steps steps e = by_tests (nat_le 1 steps) (nat_le steps 1000000) refl e
+  where
+    by_tests : (some few : Bool) → nat_le steps 1000000 ≡ few → (some && few) ≡ true → steps ≤ 1000000
+    by_tests true true is e = grind (arith, nat_tests)
+    by_tests true false is e = absurd cc
+    by_tests false few is e = absurd cc
+
+-- the kernel that a replay stands for
+pub kernel_done : (boot : Booted) (history : List Event) (replay : Replay) → HasDone boot history replay
+    → kernel_after boot history ≡ Some (some_kernel replay.core).0
+kernel_done boot history replay is =
+    sym (ap (λ (b : Booted). kernel_after b (events_of replay.core)) is.booted ∙ ap (kernel_after boot) is.events)
+    ∙ (some_kernel replay.core).1
+
+module _ (replay : Replay) (visitor : Visitor) (reads : List Read)
+    (can : CanGoOn replay (Entry visitor.cpu visitor.regs visitor.steps reads)) where
+  abbrev found : Kernel
+  found = (some_kernel replay.core).0
+
+  abbrev goes_on : Follows can.boot can.history found (Entry visitor.cpu visitor.regs visitor.steps reads)
+  goes_on =
+      follows can.boot can.history found (Entry visitor.cpu visitor.regs visitor.steps reads)
+      (kernel_done can.boot can.history replay can.done) can.next.follows
+
+  goes : CameIn can.boot found goes_on.next (visit_of (coming_of visitor)) reads
+  goes = came_in can.boot found goes_on.next visitor reads goes_on.gives
+
+  pub goes_here : after_event (booted_of replay.core) found (Entry visitor.cpu visitor.regs visitor.steps reads)
+      ≡ Some goes_on.next
+  goes_here =
+      ap (λ (b : Booted). after_event b found (Entry visitor.cpu visitor.regs visitor.steps reads)) can.done.booted
+      ∙ goes_on.gives
+
+  few_bytes : copied_bytes (events_of replay.core ++ Entry visitor.cpu visitor.regs visitor.steps reads ∷ []) ≤ 2 ^ 28
+  few_bytes =
+      subst (λ (es : List Event). copied_bytes (es ++ Entry visitor.cpu visitor.regs visitor.steps reads ∷ []) ≤ 2 ^ 28)
+      (sym can.done.events) can.next.few
+
+  pub can_enter : CanEnter replay.core (coming_of visitor)
+  can_enter = record {
+    outside = subst (λ (o : Option Kernel). IsSomeAnd o (λ k. slice_get k.processors visitor.cpu ≡ Some Outside))
+        (sym (some_kernel replay.core).1) goes.outside;
+    some_steps = some_steps visitor.steps goes.granted;
+    few_steps = few_steps visitor.steps goes.granted;
+  }
+
+  outside_told : IsSomeAnd (kernel_of replay.core) (λ k. slice_get (insides k) visitor.cpu ≡ Some false)
+  outside_told =
+      subst (λ (o : Option Kernel). IsSomeAnd o (λ k. slice_get (insides k) visitor.cpu ≡ Some false))
+      (sym (some_kernel replay.core).1)
+      (slice_get-map (λ processor. not (is_outside processor)) found.processors visitor.cpu
+      ∙ ap (option_map (λ processor. not (is_outside processor))) goes.outside)
+
+  pub place_there : (place : ℕ) → place ≡ visitor.cpu → place < length replay.works.items
+  place_there place same =
+      below_works replay.core (replicate can.boot.cpus []) replay.works.items can.done.works visitor.cpu false outside_told
+      place same
+
+  pub few_processors : visitor.cpu < 8
+  few_processors =
+      let there = cpu_there replay.core.parts visitor.cpu replay.core.replay can_enter.outside in
+      ∥∥₁_elim replay.core.replay (Prim.hlevel props) (λ (so : Replays replay.core.parts).
+      let few = so.is_boot.few_processors in
+      let cpus = so.stands.cpus in
+      omega (arith, there, few, cpus))
+
+-- ---- what it reads and what it comes to
+
+module _ (old : Core) (visitor : Visitor) (lane : List ℕ) (reads : List Read) (kernel next : Kernel)
+    (was : kernel_of old ≡ Some kernel)
+    (gives : after_event (booted_of old) kernel (Entry visitor.cpu visitor.regs visitor.steps reads) ≡ Some next)
+    (held : HoldsReads lane reads) where
+  abbrev visit : Visit
+  visit = visit_of (coming_of visitor)
+
+  abbrev reader : Reader Kernel
+  reader = entry (booted_of old) kernel visit
+
+  by_journal : over_lane reader lane [] ≡ Some (next, reads)
+  by_journal =
+      (over_lane-reading reader lane reads next).1 ((came_in (booted_of old) kernel next visitor reads gives).entered, held)
+
+  -- its bytes are those of the journal's event
+  bytes_known : (copied more : ℕ) → IsTooMuch old (coming_of visitor) lane copied more → more ≡ total_bytes reads
+  bytes_known copied more full =
+      let told : Some (total_bytes reads) ≡ Some more =
+      sym (ap (λ (o : Option Kernel). option_and_then (bytes_read (booted_of old) lane visit) o) was
+      ∙ ap (λ (o : Option (Kernel × List Read)). option_map (λ (end : Kernel × List Read). total_bytes end.1) o) by_journal)
+      ∙ full.of_entry in
+      cc
+
+  never_full : (copied more : ℕ)
+      → copied_bytes (events_of old ++ Entry visitor.cpu visitor.regs visitor.steps reads ∷ []) ≤ 2 ^ 28
+      → IsTooMuch old (coming_of visitor) lane copied more → ⊥
+  never_full copied more few full =
+      let sum = sum_by-append copied_by (events_of old) (Entry visitor.cpu visitor.regs visitor.steps reads ∷ []) in
+      let known = bytes_known copied more full in
+      let so_far = full.so_far in
+      let above = full.above in
+      omega (arith, sum, known, so_far, above, few)
+
+  inside_so : (decision : Decision) → after_decision kernel visit decision ≡ next
+      → slice_get next.processors visitor.cpu ≡ Some (inside_for visit decision)
+  inside_so decision so =
+      ap (λ (k : Kernel). slice_get k.processors visitor.cpu) (sym so)
+      ∙ ap (λ (ps : List Processor). slice_get ps visitor.cpu) (processors_after kernel visit decision)
+      ∙ set_found kernel.processors visitor.cpu (inside_for visit decision) Outside
+      (came_in (booted_of old) kernel next visitor reads gives).outside
+
+  module _ (new : Core) (work : Work) (has : HasEntered old new (coming_of visitor) lane work) where
+    abbrev core_entry : CoreEntry
+    core_entry = record {
+      old = old;
+      new = new;
+      coming = coming_of visitor;
+      lane = lane;
+      work = work;
+      has_entered = has;
+      kernel = kernel;
+      next = (some_kernel new).0;
+      before = was;
+      after = (some_kernel new).1;
+    }
+
+    by_core : over_lane reader lane [] ≡ Some ((some_kernel new).0, has.reads)
+    by_core = (over_lane-reading reader lane has.reads (some_kernel new).0).1 (journals_legal.entered core_entry, has.from_lane)
+
+    -- one lane gives one list of reads, and one kernel
+    pub same_reads : has.reads ≡ reads
+    same_reads = (some_pair_parts (some_kernel new).0 next has.reads reads (sym by_core ∙ by_journal)).1
+
+    same_next : (some_kernel new).0 ≡ next
+    same_next = (some_pair_parts (some_kernel new).0 next has.reads reads (sym by_core ∙ by_journal)).0
+
+    module _ (came : Arrival) where
+      in_slot : (slot : ℕ) (taken : Taken) → after_decision kernel visit (Takes slot taken) ≡ next
+          → IsArrivalIn kernel visitor.regs.a reads slot taken.call came
+          → slice_get next.processors visitor.cpu ≡ Some (Inside visitor.regs.a visitor.steps (InSlot slot))
+          → (o : Option ThreadSlot) → slice_get next.slots slot ≡ o → IsCarriedFor work.cpu work.call o
+          → HasArrivedIn kernel next visitor reads came work slot
+      in_slot slot taken so by inside (Some (Active worker call)) at carried =
+          let same : Active visitor.cpu taken.call ≡ Active worker call =
+          set_then_read (cancelled_slots kernel.slots taken.cancels) slot (Active visitor.cpu taken.call) (Active worker call)
+          (ap (λ (k : Kernel). slice_get k.slots slot) so ∙ at) in
+          let its : taken.call ≡ call = cc in
+          record {
+            inside = inside;
+            call = taken.call;
+            active = at ∙ ap (λ (held : ThreadSlot). Some held) (sym same);
+            carries = subst (λ (c : PendingCall). IsCarriedAs work.call c c.phase) (sym its) carried.1;
+            is = by;
+          }
+      in_slot slot taken so by inside None at carried = absurd carried
+      in_slot slot taken so by inside (Some Free) at carried = absurd carried
+      in_slot slot taken so by inside (Some (Suspended client call)) at carried = absurd carried
+
+      arrived_by : (decision : Decision) → after_decision kernel visit decision ≡ next
+          → IsArrivalBy kernel visitor.regs.a reads came decision → StandsFor new.parts next → IsWorkOf next work
+          → HasArrived new.parts kernel next visitor reads came work
+      arrived_by (Answers answer) so by stands fits = record {
+        stands = stands;
+        errand = Fixed answer;
+        inside = inside_so (Answers answer) so;
+        arrived = ap (λ (k : Kernel). k.tables) so;
+      }
+      arrived_by (Takes slot taken) so by stands fits =
+          let inside = inside_so (Takes slot taken) so in
+          let worked = subst (IsWorkIn next work) (ap (slice_get next.processors) has.cpu ∙ inside) fits in
+          record {
+            stands = stands;
+            errand = InSlot slot;
+            inside = inside;
+            arrived = in_slot slot taken so by inside (slice_get next.slots slot) refl worked.1;
+          }
+
+      module _ (is : IsArrival (booted_of old) kernel visitor.regs.a lane came) where
+        by_arrival : over_lane reader lane [] ≡ Some (after_decision kernel visit is.decision, is.reads)
+        by_arrival =
+            over_lane-then (decision_of (booted_of old) kernel visit.regs (call_of (reg visit.regs 0)))
+            (λ decision. done (after_decision kernel visit decision)) lane [] is.reads is.reads is.decision
+            (after_decision kernel visit is.decision) is.decides refl
+
+        same_as_decided : (after_decision kernel visit is.decision ≡ next) × (is.reads ≡ reads)
+        same_as_decided =
+            some_pair_parts (after_decision kernel visit is.decision) next is.reads reads (sym by_arrival ∙ by_journal)
+
+        pub has_arrived : ∥ HasArrived new.parts kernel next visitor reads came work ∥₁
+        has_arrived = ∥∥₁_elim new.replay ∥∥₁_prop (λ (so : Replays new.parts).
+            ∥∥₁_map has.fits (λ (fits : IsSomeAnd (kernel_of new) (λ k. IsWorkOf k work)).
+            let comes : kernel_of new ≡ Some next = (some_kernel new).1 ∙ ap (λ (k : Kernel). Some k) same_next in
+            let same : Some so.kernel ≡ Some next = sym so.comes_to ∙ comes in
+            let is_next : so.kernel ≡ next = cc in
+            arrived_by is.decision same_as_decided.0
+            (subst (λ (rs : List Read). IsArrivalBy kernel visitor.regs.a rs came is.decision) same_as_decided.1 is.is)
+            (subst (StandsFor new.parts) is_next so.stands)
+            (subst (λ (o : Option Kernel). IsSomeAnd o (λ k. IsWorkOf k work)) comes fits)))
+
+-- it is never refused as too much
+pub not_full : (replay : Replay) (visitor : Visitor) (reads : List Read)
+    (can : CanGoOn replay (Entry visitor.cpu visitor.regs visitor.steps reads)) (lane : List ℕ) → HoldsReads lane reads
+    → (copied more : ℕ) → IsTooMuch replay.core (coming_of visitor) lane copied more → ⊥
+not_full replay visitor reads can lane held copied more full =
+    never_full replay.core visitor lane reads (found replay visitor reads can) (goes_on replay visitor reads can).next
+    (some_kernel replay.core).1 (goes_here replay visitor reads can) held copied more (few_bytes replay visitor reads can) full
+
+-- ---- and that it is noted
+
+module _ (boot : Booted) (history : List Event) (old new : Replay) (visitor : Visitor) (lane : List ℕ) (reads : List Read)
+    (work : Work) (came : Arrival) (place : ℕ) (put : Option Work) (before after : Notes)
+    (noted : HasNoted boot history old before)
+    (can : CanBeNext boot history (Entry visitor.cpu visitor.regs visitor.steps reads))
+    (held : HoldsReads lane reads) (has : HasEntered old.core new.core (coming_of visitor) lane work) where
+  abbrev event : Event
+  event = Entry visitor.cpu visitor.regs visitor.steps reads
+
+  abbrev known : Kernel
+  known = (some_kernel old.core).0
+
+  abbrev on : Follows boot history known event
+  on = follows boot history known event (kernel_done boot history old noted.done) can.follows
+
+  gives_so : after_event (booted_of old.core) known event ≡ Some on.next
+  gives_so = ap (λ (b : Booted). after_event b known event) noted.done.booted ∙ on.gives
+
+  done_again : place ≡ visitor.cpu → put ≡ Some work → new.works.items ≡ slice_set old.works.items place put
+      → HasDone boot (history ++ event ∷ []) new
+  done_again same is works = record {
+    booted = has.boot ∙ noted.done.booted;
+    events = has.events
+        ∙ ap (λ (es : List Event). es ++ Entry visitor.cpu visitor.regs visitor.steps has.reads ∷ []) noted.done.events
+        ∙ ap (λ (rs : List Read). history ++ Entry visitor.cpu visitor.regs visitor.steps rs ∷ [])
+        (same_reads old.core visitor lane reads known on.next (some_kernel old.core).1 gives_so held new.core work has);
+    works = subst (λ (all : List (Option Work)). ∥ IsWhole new.core (replicate boot.cpus []) all ∥₁) (sym works)
+        (whole_with_work old.core new.core (coming_of visitor) lane work (replicate boot.cpus []) old.works.items place put
+        noted.done.works has same is);
+  }
+
+  noted_again : ((k : Kernel) → StandsFor old.core.parts k → IsArrival (booted_of old.core) k visitor.regs.a lane came)
+      → ((k next : Kernel) (rs : List Read) → HasArrived new.core.parts k next visitor rs came work → (b : own.Notes)
+      → AreNoted before b
+      → AreNoted after (own.event_noted before.session k next b (Entry visitor.cpu visitor.regs visitor.steps rs)))
+      → after.session ≡ before.session → ∥ AreNoted after (own.noted boot (history ++ event ∷ []) after.session) ∥₁
+  noted_again arrives comes session =
+      ∥∥₁_elim old.core.replay ∥∥₁_prop (λ (so : Replays old.core.parts).
+      let both : Some so.kernel ≡ Some known = sym so.comes_to ∙ (some_kernel old.core).1 in
+      let same : so.kernel ≡ known = cc in
+      let is = arrives known (subst (StandsFor old.core.parts) same so.stands) in
+      ∥∥₁_elim (has_arrived old.core visitor lane reads known on.next (some_kernel old.core).1 gives_so held new.core work has
+      came is) ∥∥₁_prop (λ (arrived : HasArrived new.core.parts known on.next visitor reads came work).
+      ∥∥₁_map noted.noted (λ (are : AreNoted before (own.noted boot history before.session)).
+      subst (λ (n : own.Notes). AreNoted after n)
+      (sym (ap (own.noted boot (history ++ event ∷ [])) session ∙ on.noted_more before.session))
+      (comes known on.next reads arrived (own.noted boot history before.session) are))))
+
+  pub comes_again : place ≡ visitor.cpu → put ≡ Some work → new.works.items ≡ slice_set old.works.items place put
+      → ((k : Kernel) → StandsFor old.core.parts k → IsArrival (booted_of old.core) k visitor.regs.a lane came)
+      → ((k next : Kernel) (rs : List Read) → HasArrived new.core.parts k next visitor rs came work → (b : own.Notes)
+      → AreNoted before b
+      → AreNoted after (own.event_noted before.session k next b (Entry visitor.cpu visitor.regs visitor.steps rs)))
+      → after.session ≡ before.session → HasNoted boot (history ++ event ∷ []) new after
+  comes_again same is works arrives comes session = record {
+    done = done_again same is works;
+    noted = noted_again arrives comes session;
+  }

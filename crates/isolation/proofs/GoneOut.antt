@@ -1,0 +1,312 @@
+-- What is noted of a processor that goes out.
+use Rattle.std.proofs.Common.{◌≡◌, ℕ, ◌<◌, ◌≤◌, Bool, List, [], ◌∷◌, ◌++◌, length, Option, Some, None, refl, ap, sym, subst, ◌∙◌, arith}
+use Rattle.std.proofs.Math.Logic.{∥∥₁_elim, ∥∥₁_map, ∥∥₁_map₂}
+use Rattle.std.proofs.Props.{props}
+use Rattle.std.proofs.lemmas.Option.{same_Some, slice_get-map, slice_get_within}
+use Rattle.std.specs.Prelude.{IfOk, IsSomeAnd, Result, Ok, Err, slice_get}
+use Rattle.std.specs.Option.{option_and_then, option_map, option_map_or}
+use Rattle.base.specs.NumberMap.{get}
+use Rattle.base.specs.declared.no_memory.NoMemory.{NoMemory}
+use Rattle.event_journal.specs.declared.event.Event.TheVariants.{Exit}
+use Rattle.isolation.specs.Noted.{AreNoted, HasFinished, IsLeft, ended_in}
+use Rattle.isolation.specs.Replaying.{IsExitNoted, errand_at, left_at}
+use Rattle.isolation.specs.Telling.{told_at_end}
+use Rattle.isolation.specs.declared.notes.Notes.{Notes}
+use Rattle.isolation.proofs.Decided.{noted_out, noted_out_answered}
+use Rattle.isolation.proofs.WentOut.{CodeSlot, carried_told, is_free, is_left, must_end, told_so}
+use Rattle.kernel_exit.proofs.ByLaws.{ExitsFrom, exits_from}
+use Rattle.kernel_exit.proofs.FoundInside.{CarriesIt, GoesOut, carries_it, processors_are, stands_for}
+use Rattle.kernel_model.proofs.Parts.{set_found}
+use Rattle.kernel_model.specs.Exit.{Exited, goes_out_from, progress_held, progress_in_slot, slot_left}
+use Rattle.kernel_model.specs.Kernel.{Active, Kernel, PendingCall, ThreadSlot, Visit}
+use Rattle.kernel_model.specs.Kernel as model
+use Rattle.kernel_model.specs.Leaving.{leaving_of}
+use Rattle.kernel_state.proofs.CoreEvents.{journals_legal, some_kernel}
+use Rattle.kernel_state.specs.Laws.{CoreExit}
+use Rattle.kernel_state.specs.Leaving.{CanLeave, HasLeft}
+use Rattle.kernel_state.specs.Meaning.{booted_of, events_of, kernel_of}
+use Rattle.kernel_state.specs.Processors.{errand_of, processor_of}
+use Rattle.kernel_state.specs.Replay.{Replays}
+use Rattle.kernel_state.specs.StandsFor.{IsSlotAt, StandsFor}
+use Rattle.kernel_state.specs.Work.{IsCarriedIn, IsRanFor, IsWorkIn}
+use Rattle.kernel_state.specs.declared.cancellation.Cancellation.{Cancellation}
+use Rattle.kernel_state.specs.declared.kernel_core.Core.{Core}
+use Rattle.kernel_state.specs.declared.processor.Errand.{Errand}
+use Rattle.kernel_state.specs.declared.processor.Errand.TheVariants.{Fixed, InSlot}
+use Rattle.kernel_state.specs.declared.processor.Processor.{Processor}
+use Rattle.kernel_state.specs.declared.processor.Processor.TheVariants.{Outside, Inside}
+use Rattle.kernel_state.specs.declared.work.Ran.{Ran}
+use Rattle.own_model.specs.Own as own
+use Rattle.own_model.specs.declared.own_reply.OwnReply.{OwnReply}
+use Rattle.rpc_cont.specs.declared.cont.Cont.{Cont}
+use Rattle.smc_abi.specs.declared.answer.Answer.{Answer}
+use Rattle.smc_abi.specs.declared.regs.Regs.{Regs}
+
+-- ---- notes are bare facts
+
+pub logged_set : IsSet own.Logged
+logged_set = Prim.hlevel props
+
+pub noted_prop : (code : Notes) (notes : own.Notes) → IsProp (AreNoted code notes)
+noted_prop code notes = Prim.hlevel (props, logged_set)
+
+-- ---- what a processor came for
+
+-- it is inside, with these registers and steps, for this
+record InsideFor (there : Option model.Processor) (errand : model.Errand) : Type 0 where
+  pub came : List ℕ
+  pub steps : ℕ
+  pub inside : there ≡ Some (model.Inside came steps errand)
+
+inside_as : (there : Option Processor) (errand : Errand) → errand_at there ≡ Some errand
+    → InsideFor (option_map processor_of there) (errand_of errand)
+inside_as None errand e = absurd cc
+inside_as (Some Outside) errand e = absurd cc
+inside_as (Some (Inside regs steps its)) errand e =
+    let same : its ≡ errand = cc in
+    record {
+      came = regs.a;
+      steps = steps;
+      inside = ap (λ (for : Errand). Some (model.Inside regs.a steps (errand_of for))) same;
+    }
+
+-- the kernel's is inside for what the code's is
+inside_for : (core : Core) (kernel : Kernel) (cpu : ℕ) (errand : Errand) → kernel_of core ≡ Some kernel
+    → errand_at (slice_get core.parts.processors.items cpu) ≡ Some errand
+    → InsideFor (slice_get kernel.processors cpu) (errand_of errand)
+inside_for core kernel cpu errand at is =
+    let for = inside_as (slice_get core.parts.processors.items cpu) errand is in
+    record {
+      came = for.came;
+      steps = for.steps;
+      inside = ap (λ (ps : List model.Processor). slice_get ps cpu)
+          (sym (processors_are core.parts kernel (stands_for core.parts kernel core.replay at)))
+          ∙ slice_get-map processor_of core.parts.processors.items cpu ∙ for.inside;
+    }
+
+within_there : (items : List Processor) (cpu : ℕ) (there : Option Processor) (errand : Errand) → slice_get items cpu ≡ there
+    → errand_at there ≡ Some errand → cpu < length items
+within_there items cpu None errand e is = absurd cc
+within_there items cpu (Some one) errand e is = slice_get_within items cpu one e
+
+-- there are eight at most
+pub few_processors : (core : Core) (cpu : ℕ) (errand : Errand) → errand_at (slice_get core.parts.processors.items cpu) ≡ Some errand
+    → cpu < 8
+few_processors core cpu errand is =
+    let there = within_there core.parts.processors.items cpu (slice_get core.parts.processors.items cpu) errand refl is in
+    ∥∥₁_elim core.replay (Prim.hlevel props) (λ (so : Replays core.parts).
+    let few = so.is_boot.few_processors in
+    let cpus = so.stands.cpus in
+    omega (arith, there, few, cpus))
+
+-- one that can leave came for something
+ran_for : (core : Core) (ran : Ran) → IsSomeAnd (kernel_of core) (λ k. IsRanFor k ran) → IsRanFor (some_kernel core).0 ran
+ran_for core ran is = subst (λ (o : Option Kernel). IsSomeAnd o (λ k. IsRanFor k ran)) (some_kernel core).1 is
+
+not_outside : (there : Option Processor) (kernel : Kernel) (ran : Ran) (is : IsRanFor kernel ran)
+    → IsWorkIn kernel is.work (option_map processor_of there) → errand_at there ≡ None → ⊥
+not_outside None kernel ran is fits e = fits
+not_outside (Some Outside) kernel ran is fits e = fits
+not_outside (Some (Inside regs steps errand)) kernel ran is fits e = cc
+
+pub comes_for : (core : Core) (ran : Ran) → CanLeave core ran → errand_at (slice_get core.parts.processors.items ran.cpu) ≡ None → ⊥
+comes_for core ran can none = ∥∥₁_elim can (Prim.hlevel props) (λ (so : IsSomeAnd (kernel_of core) (λ k. IsRanFor k ran)).
+    let kernel : Kernel = (some_kernel core).0 in
+    let is : IsRanFor kernel ran = ran_for core ran so in
+    let there : slice_get kernel.processors is.work.cpu ≡ option_map processor_of (slice_get core.parts.processors.items ran.cpu) =
+    ap (λ (cpu : ℕ). slice_get kernel.processors cpu) (sym is.has_run.cpu)
+    ∙ ap (λ (ps : List model.Processor). slice_get ps ran.cpu)
+    (sym (processors_are core.parts kernel (stands_for core.parts kernel core.replay (some_kernel core).1)))
+    ∙ slice_get-map processor_of core.parts.processors.items ran.cpu in
+    not_outside (slice_get core.parts.processors.items ran.cpu) kernel ran is (subst (IsWorkIn kernel is.work) there is.fits) none)
+
+-- ---- the slot of its call
+
+-- the call of a slot that a processor carries
+carries_there : (kernel : Kernel) (ran : Ran) (slot : ℕ) → IsRanFor kernel ran → (for : InsideFor (slice_get kernel.processors ran.cpu) (model.InSlot slot))
+    → CarriesIt kernel ran slot for.steps
+carries_there kernel ran slot is for =
+    let fits : IsWorkIn kernel is.work (Some (model.Inside for.came for.steps (model.InSlot slot))) =
+    subst (IsWorkIn kernel is.work) (ap (λ (cpu : ℕ). slice_get kernel.processors cpu) (sym is.has_run.cpu) ∙ for.inside) is.fits in
+    let goes : GoesOut kernel ran for.came (model.InSlot slot) = record {
+      steps = for.steps;
+      inside = for.inside;
+      work = is.work;
+      granted = fits.0;
+      carried = subst (λ (cpu : ℕ). IsCarriedIn kernel cpu is.work.call (model.InSlot slot)) (sym is.has_run.cpu) fits.1;
+      has_run = is.has_run;
+    } in
+    carries_it kernel ran for.came slot goes
+
+slot_within : (slots : List CodeSlot) (slot : ℕ) (there : Option CodeSlot) (beside : Option Cancellation) (held : ThreadSlot)
+    → slice_get slots slot ≡ there → IsSlotAt there beside (Some held) → slot < length slots
+slot_within slots slot None None held e is = absurd is
+slot_within slots slot None (Some beside) held e is = absurd is
+slot_within slots slot (Some one) beside held e is = slice_get_within slots slot one e
+
+-- there are sixteen at most
+pub few_slots : (core : Core) (ran : Ran) (slot : ℕ) → CanLeave core ran
+    → errand_at (slice_get core.parts.processors.items ran.cpu) ≡ Some (InSlot slot) → slot < 16
+few_slots core ran slot can is = ∥∥₁_elim can (Prim.hlevel props) (λ (so : IsSomeAnd (kernel_of core) (λ k. IsRanFor k ran)).
+    let kernel : Kernel = (some_kernel core).0 in
+    let for = inside_for core kernel ran.cpu (InSlot slot) (some_kernel core).1 is in
+    let carries = carries_there kernel ran slot (ran_for core ran so) for in
+    ∥∥₁_elim core.replay (Prim.hlevel props) (λ (replays : Replays core.parts).
+    ∥∥₁_elim (stands_for core.parts kernel core.replay (some_kernel core).1) (Prim.hlevel props) (λ (stands : StandsFor core.parts kernel).
+    let there : IsSlotAt (slice_get core.parts.slots slot) (slice_get core.parts.cancellations.items slot) (Some (Active ran.cpu carries.call)) =
+    subst (IsSlotAt (slice_get core.parts.slots slot) (slice_get core.parts.cancellations.items slot)) carries.active (stands.slots slot) in
+    let within = slot_within core.parts.slots slot (slice_get core.parts.slots slot) (slice_get core.parts.cancellations.items slot)
+    (Active ran.cpu carries.call) refl there in
+    let few = replays.is_boot.few_threads in
+    let threads = stands.threads in
+    omega (arith, within, few, threads))))
+
+-- ---- an exit from the call of a slot
+
+module _ (old new : Core) (ran : Ran) (lane now : List ℕ) (told : Regs) (has : HasLeft old new ran lane now told) (can : CanLeave old ran)
+    (slot : ℕ) (for : errand_at (slice_get old.parts.processors.items ran.cpu) ≡ Some (InSlot slot)) where
+  module _ (kernel next : Kernel) (before : kernel_of old ≡ Some kernel) (after : kernel_of new ≡ Some next) where
+    abbrev its : InsideFor (slice_get kernel.processors ran.cpu) (model.InSlot slot)
+    its = inside_for old kernel ran.cpu (InSlot slot) before for
+
+    -- the call that it carried, what that has come to, and what it left in its slot
+    record Gone : Type 0 where
+      pub carries : CarriesIt kernel ran slot its.steps
+      pub exits : ExitsFrom kernel ran.cpu slot its.steps its.came carries.call
+      pub comes : progress_in_slot kernel its.steps slot ≡ Some exits.progress
+      pub left : IsSlotAt (slice_get new.parts.slots slot) (slice_get new.parts.cancellations.items slot)
+          (Some (slot_left exits.progress.call (leaving_of slot exits.progress.call)))
+
+    gone_so : IsRanFor kernel ran → StandsFor new.parts next → Gone
+    gone_so is stands =
+        let carries : CarriesIt kernel ran slot its.steps = carries_there kernel ran slot is its in
+        let exits : ExitsFrom kernel ran.cpu slot its.steps its.came carries.call = exits_from (booted_of old) (events_of old) kernel ran.cpu slot
+        its.steps its.came carries.call (journals_legal.legal old).boots before its.inside carries.active in
+        let visit : Visit = record { cpu = ran.cpu; regs = its.came; steps = its.steps } in
+        let core_exit : CoreExit = record {
+          old = old;
+          new = new;
+          ran = ran;
+          lane = lane;
+          now = now;
+          told = told;
+          has_left = has;
+          kernel = kernel;
+          next = next;
+          before = before;
+          after = after;
+        } in
+        let same : has.exited ≡ goes_out_from kernel visit slot exits.progress =
+        same_Some has.exited (goes_out_from kernel visit slot exits.progress) (sym (journals_legal.exits core_exit) ∙ exits.exits) in
+        let held : ThreadSlot = slot_left exits.progress.call (leaving_of slot exits.progress.call) in
+        let there : slice_get next.slots slot ≡ Some held =
+        ap (λ (k : Kernel). slice_get k.slots slot) (journals_legal.left core_exit ∙ ap (λ (e : Exited). e.kernel) same)
+        ∙ set_found kernel.slots slot held (Active ran.cpu carries.call) carries.active in
+        record {
+          carries = carries;
+          exits = exits;
+          comes = ap (λ (o : Option ThreadSlot). option_and_then (progress_held kernel.tables its.steps) o) carries.active ∙ exits.comes;
+          left = subst (IsSlotAt (slice_get new.parts.slots slot) (slice_get new.parts.cancellations.items slot)) there (stands.slots slot);
+        }
+
+    gone : ∥ Gone ∥₁
+    gone = ∥∥₁_map₂ can (stands_for new.parts next new.replay after)
+        (λ (is : IsSomeAnd (kernel_of old) (λ k. IsRanFor k ran)) (stands : StandsFor new.parts next).
+        gone_so (subst (λ (o : Option Kernel). IsSomeAnd o (λ k. IsRanFor k ran)) before is) stands)
+
+    -- the call has finished, so something is told
+    tells_end : (g : Gone) → told_at_end ran.call ≡ ended_in g.exits.progress.call.phase
+    tells_end g = carried_told ran.call g.carries.cont g.carries.there
+        ∙ told_so kernel.tables g.carries.cont.value g.carries.call its.steps ran.stop g.carries.is g.exits.progress g.exits.comes
+
+    finished : (g : Gone) → left_at (slice_get new.parts.slots slot) ≡ None → slot_left g.exits.progress.call (leaving_of slot g.exits.progress.call) ≡ model.Free
+    finished g left = is_free (slice_get new.parts.slots slot) (slice_get new.parts.cancellations.items slot) slot g.exits.progress.call g.left left
+
+    module _ (session : ℕ) (notes : own.Notes) where
+      abbrev noted_now : own.Notes
+      noted_now = own.event_noted session kernel next notes (Exit ran.cpu told)
+
+      -- what is noted, where the slot has this number
+      noted_is : (g : Gone) (number : Option ℕ) → number ≡ get notes.numbering.in_slots slot
+          → noted_now ≡ option_map_or (own.exit_noted notes slot g.exits.progress.call) number notes
+      noted_is g number has_number =
+          noted_out session kernel next ran.cpu its.steps its.came told notes slot g.exits.progress its.inside g.comes
+          ∙ ap (λ (o : Option ℕ). option_map_or (own.exit_noted notes slot g.exits.progress.call) o notes) (sym has_number)
+
+      -- the slot holds no call of the session
+      noted_of_other : (code : Notes) → AreNoted code notes → None ≡ get notes.numbering.in_slots slot → AreNoted code noted_now
+      noted_of_other code are none = ∥∥₁_elim gone (noted_prop code noted_now)
+          (λ (g : Gone). subst (λ (n : own.Notes). AreNoted code n) (sym (noted_is g None none)) are)
+
+      -- it holds this one
+      noted_of_own : (code : Notes) (number : ℕ) → Some number ≡ get notes.numbering.in_slots slot
+          → ((g : Gone) → AreNoted code (own.exit_noted notes slot g.exits.progress.call number)) → AreNoted code noted_now
+      noted_of_own code number has_number is = ∥∥₁_elim gone (noted_prop code noted_now)
+          (λ (g : Gone). subst (λ (n : own.Notes). AreNoted code n) (sym (noted_is g (Some number) has_number)) (is g))
+
+  -- its number in the code's notes
+  abbrev HasNumber : Notes → Option ℕ → Type 0
+  HasNumber code number = (notes : own.Notes) → AreNoted code notes → number ≡ get notes.numbering.in_slots slot
+
+  pub exit_of_other : (code : Notes) → HasNumber code None → IsExitNoted old new code code ran lane now
+  exit_of_other code number = record {
+    told = told;
+    has_left = has;
+    noted = λ kernel next notes before after are. noted_of_other kernel next before after code.session notes code are (number notes are);
+  }
+
+  pub exit_waiting : (code later : Notes) (result : Result (Unit {0}) NoMemory) (number : ℕ) (cont : Cont (List ℕ)) → HasNumber code (Some number)
+      → left_at (slice_get new.parts.slots slot) ≡ Some cont
+      → ((notes : own.Notes) (call : PendingCall) → AreNoted code notes → IsLeft slot call cont
+      → IfOk result (λ _. AreNoted later (own.exit_noted notes slot call number)))
+      → IfOk result (λ _. IsExitNoted old new code later ran lane now)
+  exit_waiting code later (Err error) number cont has_number left is = tt
+  exit_waiting code later (Ok done) number cont has_number left is = record {
+    told = told;
+    has_left = has;
+    noted = λ kernel next notes before after are. noted_of_own kernel next before after code.session notes later number (has_number notes are)
+        (λ g. is notes g.exits.progress.call are (is_left (slice_get new.parts.slots slot) (slice_get new.parts.cancellations.items slot) slot
+        g.exits.progress.call g.left cont left));
+  }
+
+  pub exit_ended : (code later : Notes) (result : Result (Unit {0}) NoMemory) (number : ℕ) (reply : OwnReply) → HasNumber code (Some number)
+      → left_at (slice_get new.parts.slots slot) ≡ None → told_at_end ran.call ≡ Some reply
+      → ((notes : own.Notes) (call : PendingCall) → AreNoted code notes → HasFinished slot call reply
+      → IfOk result (λ _. AreNoted later (own.exit_noted notes slot call number)))
+      → IfOk result (λ _. IsExitNoted old new code later ran lane now)
+  exit_ended code later (Err error) number reply has_number left tells is = tt
+  exit_ended code later (Ok done) number reply has_number left tells is = record {
+    told = told;
+    has_left = has;
+    noted = λ kernel next notes before after are. noted_of_own kernel next before after code.session notes later number (has_number notes are)
+        (λ g. is notes g.exits.progress.call are (record {
+          free = finished kernel next before after g left;
+          told = sym (tells_end kernel next before after g) ∙ tells;
+        }));
+  }
+
+  -- where it has finished, something is told
+  pub must_tell : left_at (slice_get new.parts.slots slot) ≡ None → told_at_end ran.call ≡ None → ⊥
+  must_tell left none =
+      let kernel = some_kernel old in
+      let next = some_kernel new in
+      ∥∥₁_elim (gone kernel.0 next.0 kernel.1 next.1) (Prim.hlevel props) (λ (g : Gone kernel.0 next.0 kernel.1 next.1).
+      must_end slot g.exits.progress.call g.exits.progress.call.phase (finished kernel.0 next.0 kernel.1 next.1 g left)
+      (sym (tells_end kernel.0 next.0 kernel.1 next.1 g) ∙ none))
+
+-- ---- an exit with an answer that was fixed
+
+pub exit_answered : (old new : Core) (ran : Ran) (lane now : List ℕ) (told : Regs) (answer : Answer) (code later : Notes)
+    (result : Result (Unit {0}) NoMemory) → HasLeft old new ran lane now told
+    → errand_at (slice_get old.parts.processors.items ran.cpu) ≡ Some (Fixed answer)
+    → ((notes : own.Notes) → AreNoted code notes → IfOk result (λ _. AreNoted later (own.limit_noted notes ran.cpu)))
+    → IfOk result (λ _. IsExitNoted old new code later ran lane now)
+exit_answered old new ran lane now told answer code later (Err error) has for is = tt
+exit_answered old new ran lane now told answer code later (Ok done) has for is = record {
+  told = told;
+  has_left = has;
+  noted = λ kernel next notes before after are.
+      (let its = inside_for old kernel ran.cpu (Fixed answer) before for in
+      subst (λ (n : own.Notes). AreNoted later n)
+      (sym (noted_out_answered code.session kernel next ran.cpu its.steps its.came told notes answer its.inside)) (is notes are));
+}

@@ -1,0 +1,16 @@
+pub mod Arrivals
+pub mod Arrived
+pub mod Away
+pub mod CameFor
+pub mod Decided
+pub mod Entries
+pub mod Exits
+pub mod Fronts
+pub mod Further
+pub mod GoneOut
+pub mod HasCome
+pub mod LeftCalls
+pub mod NotesKept
+pub mod OwnLogs
+pub mod Plans
+pub mod WentOut

@@ -1,0 +1,214 @@
+-- The code's notes stay those of the definitions.
+use Rattle.std.proofs.Common.{◌≡◌, ℕ, zero, suc, ◌+◌, ◌<◌, ◌==◌, Bool, true, false, List, [], ◌∷◌, ◌++◌, length, Option, Some, None, refl, ap, sym, subst, ◌∙◌, arith}
+use Rattle.std.specs.Prelude.{is_some, replicate, slice_get, slice_set, not, filter, if◌then◌else◌}
+use Rattle.std.specs.Option.{option_and_then, option_map_or}
+use Rattle.base.specs.NumberMap.{get, insert, remove}
+use Rattle.isolation.specs.Noted.{AreNoted, AreNumbers, HasFinished, IsLeft, is_away, number_at, with_away, with_back, with_seen, with_told, without_slot, woken_as}
+use Rattle.isolation.specs.Telling.{told_by, wakes_as}
+use Rattle.isolation.specs.declared.notes.Notes.{Notes}
+use Rattle.isolation.specs.declared.numbering.Numbering.{Numbering}
+use Rattle.isolation.proofs.Away.{away_now, away_still, drop_number, gone, others_away, put_number, set_at}
+use Rattle.isolation.proofs.LeftCalls.{left_noted, noted_finished, noted_left}
+use Rattle.kernel_model.specs.Kernel.{PendingCall}
+use Rattle.kernel_model.proofs.Parts.{set_other}
+use Rattle.own_model.proofs.InOrder.{by_numbers}
+use Rattle.own_model.specs.Own as own
+use Rattle.own_model.specs.declared.own_event.BackInput.{BackInput}
+use Rattle.own_model.specs.declared.own_event.OwnEvent.{OwnEvent}
+use Rattle.own_model.specs.declared.own_event.OwnEvent.TheVariants.{Out, Limited}
+use Rattle.own_model.specs.declared.own_reply.OwnReply.{OwnReply}
+use Rattle.own_model.specs.declared.own_reply.OwnReply.TheVariants as reply
+use Rattle.rpc_cont.specs.declared.cont.Cont.{Cont}
+
+-- ---- numbers
+
+none_at : (n slot : ℕ) → number_at (replicate n None) slot ≡ None
+none_at zero slot = refl
+none_at (suc n) zero = refl
+none_at (suc n) (suc slot) = none_at n slot
+
+pub first_numbers : (code : Numbering) → code.entered ≡ 0 → code.in_slots ≡ replicate 16 None → code.wakes ≡ replicate 16 None
+    → AreNumbers code (record { entered = 0; in_slots = []; wakes = [] })
+first_numbers code none slots wakes = record {
+  entered = none;
+  in_slots = λ slot. ap (λ (ns : List (Option ℕ)). number_at ns slot) slots ∙ none_at 16 slot;
+  wakes = λ slot. ap (λ (ns : List (Option ℕ)). number_at ns slot) wakes ∙ none_at 16 slot;
+}
+
+module _ (old new : Numbering) (numbers : own.Numbering) (are : AreNumbers old numbers) (slot : ℕ) where
+  pub next_numbers : slot < length old.in_slots → new.entered ≡ old.entered + 1
+      → new.in_slots ≡ slice_set old.in_slots slot (Some old.entered) → new.wakes ≡ old.wakes
+      → AreNumbers new (own.next_in numbers slot)
+  next_numbers below more slots wakes = record {
+    entered = more ∙ ap (λ n. n + 1) are.entered;
+    in_slots = λ at. ap (λ (ns : List (Option ℕ)). number_at ns at) slots
+        ∙ put_number old.in_slots numbers.in_slots slot old.entered below are.in_slots at
+        ∙ ap (λ n. get (insert numbers.in_slots slot n) at) are.entered;
+    wakes = λ at. ap (λ (ns : List (Option ℕ)). number_at ns at) wakes ∙ are.wakes at;
+  }
+
+  pub same_numbers : new ≡ old → AreNumbers new numbers
+  same_numbers same = subst (λ (n : Numbering). AreNumbers n numbers) (sym same) are
+
+  pub woken_numbers : (woken : ℕ) → slot < length old.wakes → new.entered ≡ old.entered → new.in_slots ≡ old.in_slots
+      → new.wakes ≡ slice_set old.wakes slot (Some woken) → AreNumbers new (own.with_wake numbers slot (Some woken))
+  woken_numbers woken below same slots wakes = record {
+    entered = same ∙ are.entered;
+    in_slots = λ at. ap (λ (ns : List (Option ℕ)). number_at ns at) slots ∙ are.in_slots at;
+    wakes = λ at. ap (λ (ns : List (Option ℕ)). number_at ns at) wakes
+        ∙ put_number old.wakes numbers.wakes slot woken below are.wakes at;
+  }
+
+  pub some_woken : (woken : Option ℕ) → is_some woken ≡ true → slot < length old.wakes → new.entered ≡ old.entered
+      → new.in_slots ≡ old.in_slots → new.wakes ≡ slice_set old.wakes slot woken
+      → AreNumbers new (own.with_wake numbers slot woken)
+  some_woken None some below same slots wakes = absurd cc
+  some_woken (Some woken) some below same slots wakes = woken_numbers woken below same slots wakes
+
+  pub numbers_without : slot < length old.in_slots → slot < length old.wakes → new.entered ≡ old.entered
+      → new.in_slots ≡ slice_set old.in_slots slot None → new.wakes ≡ slice_set old.wakes slot None
+      → AreNumbers new (without_slot numbers slot)
+  numbers_without below below_too same slots wakes = record {
+    entered = same ∙ are.entered;
+    in_slots = λ at. ap (λ (ns : List (Option ℕ)). number_at ns at) slots
+        ∙ drop_number old.in_slots numbers.in_slots slot below are.in_slots at;
+    wakes = λ at. ap (λ (ns : List (Option ℕ)). number_at ns at) wakes
+        ∙ drop_number old.wakes numbers.wakes slot below_too are.wakes at;
+  }
+
+-- ---- those that were turned away
+
+abbrev pub AreAway : List Bool → List ℕ → Type 0
+AreAway code away = (cpu : ℕ) → cpu < 8 → slice_get code cpu ≡ Some (is_away away cpu)
+
+none_away : (n cpu : ℕ) → cpu < n → slice_get (replicate n false) cpu ≡ Some false
+none_away zero cpu below = absurd (omega (arith, below))
+none_away (suc n) zero below = refl
+none_away (suc n) (suc cpu) below = none_away n cpu (omega (arith, below))
+
+pub first_away : (code : List Bool) → code ≡ replicate 8 false → AreAway code []
+first_away code is cpu below = ap (λ (bs : List Bool). slice_get bs cpu) is ∙ none_away 8 cpu below
+
+pub away_set : (code : List Bool) (away : List ℕ) (cpu : ℕ) → cpu < length code → AreAway code away
+    → AreAway (slice_set code cpu true) (cpu ∷ away)
+away_set code away cpu below are other under =
+    by_numbers cpu other
+    (λ same. subst (λ n. slice_get (slice_set code cpu true) n ≡ Some (is_away (cpu ∷ away) n)) same
+    (set_at code cpu true below ∙ ap (λ (b : Bool). Some b) (sym (away_now away cpu))))
+    (λ apart. set_other code cpu other true apart ∙ are other under
+    ∙ ap (λ (b : Bool). Some b) (sym (away_still away cpu other apart)))
+
+pub away_unset : (code : List Bool) (away : List ℕ) (cpu : ℕ) → cpu < length code → AreAway code away
+    → AreAway (slice_set code cpu false) (filter (λ one. not (one == cpu)) away)
+away_unset code away cpu below are other under =
+    by_numbers cpu other
+    (λ same. subst (λ n. slice_get (slice_set code cpu false) n ≡ Some (is_away (filter (λ one. not (one == cpu)) away) n)) same
+    (set_at code cpu false below ∙ ap (λ (b : Bool). Some b) (sym (gone away cpu))))
+    (λ apart. set_other code cpu other false apart ∙ are other under
+    ∙ ap (λ (b : Bool). Some b) (sym (others_away away cpu other apart)))
+
+-- ---- notes
+
+pub first_noted : (code : Notes) → AreNumbers code.numbering (record { entered = 0; in_slots = []; wakes = [] })
+    → code.turned_away ≡ replicate 8 false → code.log.items ≡ [] → AreNoted code own.no_notes
+first_noted code are away log = record { numbering = are; turned_away = first_away code.turned_away away; log = log }
+
+module _ (old new : Notes) (notes : own.Notes) (are : AreNoted old notes) where
+  pub in_noted : (slot : ℕ) (call : PendingCall) (came : OwnEvent)
+      → AreNumbers new.numbering (own.next_in notes.numbering slot) → new.turned_away ≡ old.turned_away
+      → new.log.items ≡ old.log.items ++ (came, None) ∷ [] → AreNoted new (own.numbered notes slot call came)
+  in_noted slot call came numbers away log = record {
+    numbering = numbers;
+    turned_away = λ cpu below. ap (λ (bs : List Bool). slice_get bs cpu) away ∙ are.turned_away cpu below;
+    log = log ∙ ap (λ (l : List own.Logged). l ++ (came, None) ∷ []) are.log;
+  }
+
+  pub event_noted : (came : OwnEvent) → new.numbering ≡ old.numbering → new.turned_away ≡ old.turned_away
+      → new.log.items ≡ old.log.items ++ (came, None) ∷ [] → AreNoted new (own.with_event notes came)
+  event_noted came numbers away log = record {
+    numbering = subst (λ (n : Numbering). AreNumbers n notes.numbering) (sym numbers) are.numbering;
+    turned_away = λ cpu below. ap (λ (bs : List Bool). slice_get bs cpu) away ∙ are.turned_away cpu below;
+    log = log ∙ ap (λ (l : List own.Logged). l ++ (came, None) ∷ []) are.log;
+  }
+
+  pub away_noted : (cpu : ℕ) → cpu < length old.turned_away → new.numbering ≡ old.numbering
+      → new.turned_away ≡ slice_set old.turned_away cpu true → new.log.items ≡ old.log.items → AreNoted new (with_away notes cpu)
+  away_noted cpu below numbers away log = record {
+    numbering = subst (λ (n : Numbering). AreNumbers n notes.numbering) (sym numbers) are.numbering;
+    turned_away = λ other under. ap (λ (bs : List Bool). slice_get bs other) away
+        ∙ away_set old.turned_away notes.turned_away cpu below are.turned_away other under;
+    log = log ∙ are.log;
+  }
+
+  -- a processor goes out, which was turned away or not
+  pub limit_noted : (cpu : ℕ) → cpu < 8 → cpu < length old.turned_away → slice_get old.turned_away cpu ≡ Some true
+      → new.numbering ≡ old.numbering → new.turned_away ≡ slice_set old.turned_away cpu false
+      → new.log.items ≡ old.log.items ++ (Limited, Some reply.Limited) ∷ [] → AreNoted new (own.limit_noted notes cpu)
+  limit_noted cpu under below was numbers away log =
+      let is : is_away notes.turned_away cpu ≡ true = let both : Some (is_away notes.turned_away cpu) ≡ Some true =
+      sym (are.turned_away cpu under) ∙ was in cc in
+      let after : own.Notes = record notes {
+        turned_away = filter (λ away. not (away == cpu)) notes.turned_away;
+        log = notes.log ++ (Limited, Some reply.Limited) ∷ [];
+      } in
+      let now : AreNoted new after = record {
+        numbering = subst (λ (n : Numbering). AreNumbers n notes.numbering) (sym numbers) are.numbering;
+        turned_away = λ other beneath. ap (λ (bs : List Bool). slice_get bs other) away
+            ∙ away_unset old.turned_away notes.turned_away cpu below are.turned_away other beneath;
+        log = log ∙ ap (λ (l : List own.Logged). l ++ (Limited, Some reply.Limited) ∷ []) are.log;
+      } in
+      subst (λ (n : own.Notes). AreNoted new n)
+      (sym (ap (λ (b : Bool). if b then after else notes) is)) now
+
+  pub no_limit_noted : (cpu : ℕ) → cpu < 8 → slice_get old.turned_away cpu ≡ Some false → new ≡ old
+      → AreNoted new (own.limit_noted notes cpu)
+  no_limit_noted cpu under was same =
+      let is : is_away notes.turned_away cpu ≡ false = let both : Some (is_away notes.turned_away cpu) ≡ Some false =
+      sym (are.turned_away cpu under) ∙ was in cc in
+      let after : own.Notes = record notes {
+        turned_away = filter (λ away. not (away == cpu)) notes.turned_away;
+        log = notes.log ++ (Limited, Some reply.Limited) ∷ [];
+      } in
+      subst (λ (n : own.Notes). AreNoted new n) (sym (ap (λ (b : Bool). if b then after else notes) is))
+      (subst (λ (code : Notes). AreNoted code notes) (sym same) are)
+
+  -- the log with a reply, or as it was
+  abbrev pub LogsReply : ℕ → Option OwnReply → Type 0
+  LogsReply number told = new.log.items ≡ with_told old.log.items number told
+
+  logs_so : (number : ℕ) (told : Option OwnReply) → LogsReply number told
+      → new.log.items ≡ (option_map_or (own.with_reply number notes) told notes).log
+  logs_so number None log = log ∙ are.log
+  logs_so number (Some told) log = log ∙ ap (λ (l : List own.Logged). l ++ (Out number, Some told) ∷ []) are.log
+
+  away_so : (told : Option OwnReply) (number : ℕ)
+      → (option_map_or (own.with_reply number notes) told notes).turned_away ≡ notes.turned_away
+  away_so None number = refl
+  away_so (Some told) number = refl
+
+  pub out_noted : (slot number : ℕ) (call : PendingCall) (cont : Cont (List ℕ)) → IsLeft slot call cont
+      → (let woken = woken_as notes.numbering slot (wakes_as cont) in
+      AreNumbers new.numbering (own.with_wake notes.numbering slot woken) → LogsReply number (told_by cont woken)
+      → new.turned_away ≡ old.turned_away → AreNoted new (own.exit_noted notes slot call number))
+  out_noted slot number call cont is numbers log away =
+      let woken = woken_as notes.numbering slot (wakes_as cont) in
+      let now : AreNoted new (left_noted notes slot number woken (told_by cont woken)) = record {
+        numbering = numbers;
+        turned_away = λ cpu below. ap (λ (bs : List Bool). slice_get bs cpu) away ∙ are.turned_away cpu below
+            ∙ ap (λ (l : List ℕ). Some (is_away l cpu)) (sym (away_so (told_by cont woken) number));
+        log = logs_so number (told_by cont woken) log;
+      } in
+      subst (λ (n : own.Notes). AreNoted new n) (sym (noted_left notes slot number call cont is)) now
+
+  pub finished_noted : (slot number : ℕ) (call : PendingCall) (told : OwnReply) → HasFinished slot call told
+      → AreNumbers new.numbering (without_slot notes.numbering slot)
+      → new.log.items ≡ old.log.items ++ (Out number, Some told) ∷ [] → new.turned_away ≡ old.turned_away
+      → AreNoted new (own.exit_noted notes slot call number)
+  finished_noted slot number call told is numbers log away =
+      let after : own.Notes = record (own.with_reply number notes told) { numbering = without_slot notes.numbering slot } in
+      let now : AreNoted new after = record {
+        numbering = numbers;
+        turned_away = λ cpu below. ap (λ (bs : List Bool). slice_get bs cpu) away ∙ are.turned_away cpu below;
+        log = log ∙ ap (λ (l : List own.Logged). l ++ (Out number, Some told) ∷ []) are.log;
+      } in
+      subst (λ (n : own.Notes). AreNoted new n) (sym (noted_finished notes slot number call told is)) now

@@ -1,0 +1,19 @@
+use Rattle.std.proofs.Common.{◌∙◌, subst, sym}
+use Rattle.std.specs.Prelude.{IfOk}
+use Rattle.isolation.specs.Noted.{AreNoted}
+use Rattle.isolation.proofs.HasCome.{new_counts, new_of_other}
+use Rattle.own_model.specs.Own.{Notes}
+use Rattle.isolation.proofs.coming.has_come_new.Goals as goal
+
+pub returns-then-is_of_session-clause-noted : goal.returns-then-is_of_session-clause-noted
+returns-then-is_of_session-clause-noted c kernel next visitor reads has before are =
+    subst (λ (n : Notes). IfOk c.comes_in.result (λ _. AreNoted c.comes_in.new.self n))
+    (new_counts c.args.notes.now.session kernel next visitor reads c.args.work.now c.args.slot before c.args.came has
+    (sym c.is_of_session.ensures ∙ c.if-is_of_session.true))
+    (c.comes_in.ensures.noted before has.call are)
+
+pub returns-else-is_of_session-clause-noted : goal.returns-else-is_of_session-clause-noted
+returns-else-is_of_session-clause-noted c kernel next visitor reads has before are =
+    subst (AreNoted c.args.notes.now)
+    (new_of_other c.args.notes.now.session kernel next visitor reads c.args.work.now c.args.slot before c.args.came has
+    (sym c.is_of_session.ensures ∙ c.if-is_of_session.false)) are

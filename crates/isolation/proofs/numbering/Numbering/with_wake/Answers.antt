@@ -1,0 +1,10 @@
+use Rattle.std.proofs.Common.{ℕ, List, Option, refl, ap, sym, arith, rules}
+use Rattle.std.specs.Prelude.{slice_set}
+use Rattle.isolation.proofs.NotesKept.{some_woken}
+use Rattle.isolation.proofs.numbering.Numbering.with_wake.Goals as goal
+
+pub returns-then-is_some : goal.returns-then-is_some
+returns-then-is_some c numbers are =
+    let old = c.args.self.now in
+    some_woken old _ numbers are c.args.slot c.args.woken (sym c.if-is_some.ensures) (search rules) refl refl
+    (ap (λ (n : ℕ). slice_set old.wakes n c.args.woken) c.from.ensures)

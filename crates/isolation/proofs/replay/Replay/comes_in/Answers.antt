@@ -1,0 +1,37 @@
+use Rattle.std.proofs.Common.{◌<◌, Some, arith, length, refl, subst}
+use Rattle.isolation.proofs.Entries.{can_enter, comes_again, few_processors, not_full, place_there}
+use Rattle.ns_ram.specs.Reads.{HoldsReads}
+use Rattle.isolation.proofs.replay.Replay.comes_in.Goals as goal
+
+pub enter-requires : goal.enter-requires
+enter-requires c = can_enter c.args.self.now c.args.visitor c.args.reads.now c.requires
+
+pub has_come-requires-clause-cpu : goal.has_come-requires-clause-cpu
+has_come-requires-clause-cpu c = few_processors c.args.self.now c.args.visitor c.args.reads.now c.requires
+
+pub has_come-requires-clause-work : goal.has_come-requires-clause-work
+has_come-requires-clause-work c = c.in-Ok.ensures.fits
+
+pub has_come-requires-clause-own : goal.has_come-requires-clause-own
+has_come-requires-clause-own c = c.in-Ok.ensures.cpu
+
+pub unreachable-requires : goal.unreachable-requires
+unreachable-requires c =
+    not_full c.args.self.now c.args.visitor c.args.reads.now c.requires c.hold.new.lane
+    (subst (HoldsReads c.hold.new.lane) c.as_slice.ensures c.in_ok-hold.ensures) c.in-Err-Full.field-0-0
+    c.in-Err-Full.field-0-1 (rw c.in-Err-Full.field-0-is at c.in-Err-Full.ensures).1
+
+pub index_mut-requires : goal.index_mut-requires
+index_mut-requires c =
+    let works = c.args.self.now.works in
+    let ok = works.ok.0 in
+    let below : c.from.result < length works.items =
+    place_there c.args.self.now c.args.visitor c.args.reads.now c.requires c.from.result c.from.ensures in
+    omega arith
+
+pub returns-clause-noted : goal.returns-clause-noted
+returns-clause-noted c boot history noted can =
+    comes_again boot history c.args.self.now _ c.args.visitor c.hold.new.lane c.args.reads.now c.in-Ok.work
+    c.in_ok-arrival.arrival c.from.result (Some c.in-Ok.work) c.args.notes.now c.has_come.new.notes noted can
+    (subst (HoldsReads c.hold.new.lane) c.as_slice.ensures c.in_ok-hold.ensures) c.in-Ok.ensures c.from.ensures refl refl
+    c.in_ok-arrival.ensures c.in_ok-has_come.ensures.noted c.has_come.ensures.session

@@ -1,0 +1,19 @@
+-- Nobody is inside yet.
+use Rattle.std.proofs.Common.{ℕ, List, [], None, length, ap, sym, ◌∙◌}
+use Rattle.std.proofs.lemmas.List.{length-replicate}
+use Rattle.std.specs.Prelude.{replicate}
+use Rattle.core_machine.proofs.Wholes.{whole_first}
+use Rattle.kernel_model.specs.Application.{Booted}
+use Rattle.isolation.proofs.replay.Replay.new.Goals as goal
+
+pub returns : goal.returns
+returns g c =
+    let core = c.in-Ok.core in
+    let cpus = c.args.boot.cpus in
+    record {
+      booted = c.in-Ok.ensures.booted;
+      events = c.in-Ok.ensures.events;
+      works = ∣ whole_first core (replicate cpus []) c.in_ok-no_works.field-0.items c.in-Ok.ensures.events
+          (length-replicate cpus [] ∙ sym (ap (λ (b : Booted). b.cpus) c.in-Ok.ensures.booted))
+          (c.in_ok-no_works.ensures ∙ ap (λ (n : ℕ). replicate n None) (sym (length-replicate cpus []))) ∣₁;
+    }

@@ -1,0 +1,4 @@
+pub mod Arriving
+pub mod Noted
+pub mod Replaying
+pub mod Telling

@@ -1,0 +1,129 @@
+-- How far a journal was done again on a core, and what was noted of it.
+use Rattle.std.specs.Prelude.{◌≡◌, ℕ, ◌≤◌, ◌^◌, ◌&&◌, Bool, List, [], ◌∷◌, ◌++◌, replicate, IsSome, IfOk, Result, Option, Some, None, slice_get}
+use Rattle.std.specs.Global.{Box}
+use Rattle.base.specs.declared.no_memory.NoMemory.{NoMemory}
+use Rattle.core_machine.specs.Whole.{IsWhole}
+use Rattle.event_journal.specs.Journal.{copied_bytes}
+use Rattle.event_journal.specs.declared.event.Event.{Event}
+use Rattle.event_journal.specs.declared.event.Event.TheVariants.{Entry, Exit}
+use Rattle.isolation.specs.Arriving.{IsArrivalIn}
+use Rattle.isolation.specs.Noted.{AreNoted}
+use Rattle.isolation.specs.declared.entering.Arrival.{Arrival}
+use Rattle.isolation.specs.declared.notes.Notes.{Notes}
+use Rattle.isolation.specs.declared.replay.Replay.{Replay}
+use Rattle.kernel_model.specs.Application.{Booted}
+use Rattle.kernel_model.specs.History.{kernel_after}
+use Rattle.kernel_entry.specs.declared.visitor.Visitor.{Visitor}
+use Rattle.kernel_model.specs.Kernel as model
+use Rattle.kernel_state.specs.Leaving.{HasLeft}
+use Rattle.kernel_state.specs.Meaning.{booted_of, events_of, kernel_of}
+use Rattle.kernel_state.specs.Reads.{ReadsAgree}
+use Rattle.kernel_state.specs.StandsFor.{StandsFor}
+use Rattle.kernel_state.specs.Work.{IsCarriedAs}
+use Rattle.kernel_state.specs.declared.kernel_core.Core.{Core}
+use Rattle.kernel_state.specs.declared.parts.Parts.{Parts}
+use Rattle.kernel_state.specs.declared.processor.Errand.{Errand}
+use Rattle.kernel_state.specs.declared.processor.Processor.{Processor}
+use Rattle.kernel_state.specs.declared.processor.Processor.TheVariants.{Outside, Inside}
+use Rattle.kernel_state.specs.declared.work.Ran.{Ran}
+use Rattle.kernel_state.specs.declared.work.Work.{Work}
+use Rattle.ns_ram.specs.declared.read.Read.{Read}
+use Rattle.own_model.specs.Own as own
+use Rattle.own_model.specs.Own.{noted}
+use Rattle.rpc_cont.specs.declared.cont.Cont.{Cont}
+use Rattle.smc_abi.specs.declared.answer.Answer.{Answer}
+use Rattle.smc_abi.specs.declared.regs.Regs.{Regs}
+use Rattle.thread_slots.specs.declared.slot.Slot.{Slot}
+use Rattle.thread_slots.specs.declared.slot.Slot.TheVariants.{Suspended}
+
+-- the core has done these events, and each processor that is inside has its work
+pub record HasDone (boot : Booted) (history : List Event) (replay : Replay) : Type 0 where
+  pub booted : booted_of replay.core ≡ boot
+  pub events : events_of replay.core ≡ history
+  pub works : ∥ IsWhole replay.core (replicate boot.cpus []) replay.works.items ∥₁
+
+-- and what happened to the session is noted: a bare fact, as the one that a core keeps
+pub record HasNoted (boot : Booted) (history : List Event) (replay : Replay) (notes : Notes) : Type 0 where
+  pub done : HasDone boot history replay
+  pub noted : ∥ AreNoted notes (noted boot history notes.session) ∥₁
+
+-- the event can be done next: a legal history goes on with it, its reads agree, and not too much was read with them
+pub record CanBeNext (boot : Booted) (history : List Event) (event : Event) : Type 0 where
+  pub follows : IsSome (kernel_after boot (history ++ event ∷ []))
+  pub few : copied_bytes (history ++ event ∷ []) ≤ 2 ^ 28
+  pub agree : ReadsAgree event
+
+-- so many events were done, and this one can be done next
+pub record CanGoOn (replay : Replay) (event : Event) : Type 0 where
+  pub boot : Booted
+  pub history : List Event
+  pub done : HasDone boot history replay
+  pub next : CanBeNext boot history event
+
+-- the event is done and noted, or memory was wanting
+abbrev pub HasGoneOn : Replay → Replay → Notes → Notes → Event → Result (Unit {0}) NoMemory → Type 0
+HasGoneOn old new before after event result = (boot : Booted) (history : List Event) →
+    HasNoted boot history old before → CanBeNext boot history event →
+    IfOk result (λ _. HasNoted boot (history ++ event ∷ []) new after)
+
+-- a processor of this number can go out next
+pub record CanGoOut (replay : Replay) (cpu : ℕ) : Type 0 where
+  pub regs : Regs
+  pub next : CanGoOn replay (Exit cpu regs)
+
+-- ---- what is seen of the parts
+
+-- what a processor came for, if it is inside
+abbrev pub errand_at : Option Processor → Option Errand
+errand_at None = None
+errand_at (Some Outside) = None
+errand_at (Some (Inside regs steps errand)) = Some errand
+
+-- a processor whose answer was fixed comes in with a call of the session's client, and is turned away
+abbrev pub is_turned_away : model.Kernel → ℕ → List ℕ → Answer → Bool
+is_turned_away kernel session regs answer = own.is_limit answer && own.is_of_client kernel session regs
+
+-- the call that waits in a slot, if one does
+abbrev pub left_at : Option (Slot (Box (Cont (List ℕ)))) → Option (Cont (List ℕ))
+left_at (Some (Suspended client cont)) = Some cont.value
+left_at _ = None
+
+-- ---- an entry
+
+-- the work is that of a processor that has come in for this slot, for which the arrival says what happened
+pub record HasArrivedIn (kernel next : model.Kernel) (visitor : Visitor) (reads : List Read) (came : Arrival) (work : Work)
+    (slot : ℕ) : Type 0 where
+  pub inside : slice_get next.processors visitor.cpu ≡ Some (model.Inside visitor.regs.a visitor.steps (model.InSlot slot))
+  pub call : model.PendingCall
+  pub active : slice_get next.slots slot ≡ Some (model.Active visitor.cpu call)
+  pub carries : IsCarriedAs work.call call call.phase
+  pub is : IsArrivalIn kernel visitor.regs.a reads slot call came
+
+-- by what it came for
+abbrev pub HasArrivedFor : model.Kernel → model.Kernel → Visitor → List Read → Arrival → Work → model.Errand → Type 0
+HasArrivedFor kernel next visitor reads came work (model.Fixed answer) = kernel.tables ≡ next.tables
+HasArrivedFor kernel next visitor reads came work (model.InSlot slot) = HasArrivedIn kernel next visitor reads came work slot
+
+-- the parts stand for the kernel after it
+pub record HasArrived (parts : Parts) (kernel next : model.Kernel) (visitor : Visitor) (reads : List Read) (came : Arrival)
+    (work : Work) : Type 0 where
+  pub stands : StandsFor parts next
+  pub errand : model.Errand
+  pub inside : slice_get next.processors visitor.cpu ≡ Some (model.Inside visitor.regs.a visitor.steps errand)
+  pub arrived : HasArrivedFor kernel next visitor reads came work errand
+
+-- where so much was noted, the entry is noted too, or memory was wanting
+abbrev pub IsEntryNoted : Notes → Notes → model.Kernel → model.Kernel → Visitor → List Read → Result (Unit {0}) NoMemory →
+    Type 0
+IsEntryNoted old new kernel next visitor reads result = (before : own.Notes) → AreNoted old before →
+    IfOk result (λ _. AreNoted new
+    (own.event_noted old.session kernel next before (Entry visitor.cpu visitor.regs visitor.steps reads)))
+
+-- ---- an exit
+
+-- a processor has gone out with what it carried, and that is noted
+pub record IsExitNoted (old new : Core) (before after : Notes) (ran : Ran) (lane now : List ℕ) : Type 0 where
+  pub told : Regs
+  pub has_left : HasLeft old new ran lane now told
+  pub noted : (kernel next : model.Kernel) (notes : own.Notes) → kernel_of old ≡ Some kernel → kernel_of new ≡ Some next →
+      AreNoted before notes → AreNoted after (own.event_noted before.session kernel next notes (Exit ran.cpu told))

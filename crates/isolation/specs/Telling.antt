@@ -1,0 +1,63 @@
+-- What is told of a call as data that goes out.
+use Rattle.std.specs.Prelude.{ℕ, Bool, true, false, List, Option, Some, None, is_some}
+use Rattle.std.specs.Option.{option_and_then, option_map}
+use Rattle.kernel_state.specs.Calls.{woken_slot}
+use Rattle.kernel_state.specs.declared.carried.Carried.{Carried}
+use Rattle.kernel_state.specs.declared.carried.Carried.TheVariants.{Nothing, Resting, Running}
+use Rattle.own_model.specs.Own as own
+use Rattle.own_model.specs.declared.own_reply.OwnReply.{OwnReply}
+use Rattle.own_model.specs.declared.own_reply.OwnReply.TheVariants as reply
+use Rattle.rpc_cont.specs.Conts.{kept_params}
+use Rattle.rpc_cont.specs.declared.cont.Asked.{Asked}
+use Rattle.rpc_cont.specs.declared.cont.Cont.{Cont}
+use Rattle.rpc_cont.specs.declared.phase.Phase.{Phase}
+use Rattle.rpc_cont.specs.declared.phase.Phase.TheVariants as phase
+
+-- the slot of the call that one in this phase wakes
+abbrev pub wakes_in : Phase → Option Asked → Option ℕ
+wakes_in phase.Ends request = option_and_then (λ (asked : Asked). woken_slot asked.rpc) request
+wakes_in _ request = None
+
+abbrev pub wakes_as : Cont (List ℕ) → Option ℕ
+wakes_as cont = wakes_in cont.phase cont.request
+
+-- the request of an application
+abbrev pub asked_reply : Asked → OwnReply
+asked_reply asked = reply.Ask asked.rpc asked.payload
+
+-- ---- a call that stays in its slot
+
+-- it has ended: whether it has a call to wake, whether it has a buffer, and the number of the call that it wakes. One that
+-- asks for nothing has given its buffer back
+abbrev pub told_behind : Bool → Bool → Option ℕ → Option OwnReply
+told_behind false has_buffer woken = Some reply.Free
+told_behind true false woken = Some reply.Alloc
+told_behind true true woken = option_map (λ number. reply.Wake number) woken
+
+-- by how far it has come, and whether it has a buffer
+abbrev pub told_in : Cont (List ℕ) → Option ℕ → Phase → Bool → Option OwnReply
+told_in cont woken phase.Runs has_buffer = None
+told_in cont woken phase.Asks false = Some reply.Alloc
+told_in cont woken phase.Asks true = option_map asked_reply cont.request
+told_in cont woken phase.Waits false = Some reply.Alloc
+told_in cont woken phase.Waits true = Some reply.Sleep
+told_in cont woken phase.Ends has_buffer = told_behind (is_some (wakes_as cont)) has_buffer woken
+
+abbrev pub told_by : Cont (List ℕ) → Option ℕ → Option OwnReply
+told_by cont woken = told_in cont woken cont.phase (is_some cont.buffer)
+
+-- ---- a call that has finished
+
+abbrev pub ended_as : Cont (List ℕ) → OwnReply
+ended_as cont = own.ended cont.result (kept_params cont.params)
+
+-- by how far it has come
+abbrev pub ended_in : Cont (List ℕ) → Phase → Option OwnReply
+ended_in cont phase.Ends = Some (ended_as cont)
+ended_in cont _ = None
+
+-- the call that a processor carries, if it goes out ended
+abbrev pub told_at_end : Carried → Option OwnReply
+told_at_end Nothing = None
+told_at_end (Resting cont) = ended_in cont.value cont.value.phase
+told_at_end (Running cont) = ended_in cont.value cont.value.phase

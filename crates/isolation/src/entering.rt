@@ -1,0 +1,186 @@
+//! What an entry is for a session, as far as it can be told before it.
+ghost use Rattle.std.specs.Prelude.{◌≡◌, IfOk};
+ghost use Rattle.isolation.specs.Arriving.{IsArrival, IsArrivalFrom, IsBackIn, arrival_by, back_as, counts, event_by, input_by};
+ghost use Rattle.kernel_entry.specs.Resuming.{IsSuspended};
+ghost use Rattle.kernel_model.specs.Kernel.{Kernel};
+ghost use Rattle.kernel_model.specs.NewCall.{new_call};
+ghost use Rattle.kernel_model.specs.Resume.{resume};
+ghost use Rattle.kernel_state.specs.Meaning.{booted_of};
+ghost use Rattle.kernel_state.specs.StandsFor.{StandsFor};
+ghost use Rattle.own_model.specs.Own.{input_of};
+ghost use Rattle.resumed_calls.specs.Giving.{given_as};
+
+use crate::notes::Back;
+use base::NoMemory;
+use frame_pool::Pages;
+use job_model::CallKind;
+use kernel_state::{Carried, Core};
+use new_calls::{Decided, Found, Plan, Settled, lowest_free, new_call};
+use ns_ram::{Lane, Reads};
+use own_model::{BackInput, OwnEvent, OwnInput};
+use rpc_cont::{Cont, Phase, ResumeInput};
+use smc_abi::{Call, Regs, decode_call};
+use std::alloc::Global;
+use ta_params::codes::TEE_ERROR_TARGET_DEAD;
+
+/// What an entry is for the session of its call.
+#[derive(Drop)]
+pub(crate) enum Arrival {
+    /// Nothing: its answer is fixed, or its call is of no session.
+    Nothing,
+    /// A new call, which is this.
+    New(OwnEvent),
+    /// A call comes back.
+    Back(Back),
+}
+
+/// What came of the parameters of an invoke that was settled with this code.
+fn input_settled(code: u32) -> OwnInput
+    ensures { result ≡ input_by code }
+{
+    if code == TEE_ERROR_TARGET_DEAD {
+        OwnInput::Unread
+    } else {
+        OwnInput::Faulty
+    }
+}
+
+/// What a new call is for its session, by what its slot is taken for; the function is the one that its argument names.
+fn event_by(func: u32, plan: Plan) -> Option<OwnEvent>
+    ensures { result ≡ event_by func plan }
+{
+    match plan {
+        Plan::Settles(Settled::Invoke(code)) => Some(OwnEvent::Invoke {
+            func,
+            input: input_settled(code),
+        }),
+        Plan::Opens { login, copies, .. } => Some(OwnEvent::Open {
+            params: copies.params,
+            login,
+        }),
+        Plan::Invokes { copies, .. } => Some(OwnEvent::Invoke {
+            func,
+            input: OwnInput::Copied(copies.params),
+        }),
+        Plan::Closes { .. } => Some(OwnEvent::Close),
+        Plan::Cancels => Some(OwnEvent::Cancel),
+        Plan::Settles(Settled::Call(_) | Settled::Open(..))
+        | Plan::KeepsBuffer { .. }
+        | Plan::DropsBuffer { .. } => None,
+    }
+}
+
+/// What a new call is, by what was decided of it.
+fn arrival_by(decided: Decided) -> Arrival
+    ensures { result ≡ arrival_by decided }
+{
+    match decided {
+        Decided::Answers(_) => Arrival::Nothing,
+        Decided::Takes(entered, plan) => match event_by(entered.head.func, plan) {
+            Some(came) => Arrival::New(came),
+            None => Arrival::Nothing,
+        },
+    }
+}
+
+/// What a new call is.
+fn new_arrival(alloc: Global, core: &Core, regs: &Regs, lane: &Lane) -> Result<Arrival, NoMemory>
+    ensures { (kernel : Kernel) → StandsFor core.now.parts kernel
+        → IfOk result (IsArrivalFrom kernel regs.now.a lane.now (new_call (booted_of core.now) kernel regs.now.a)) }
+{
+    let free = lowest_free(&core.parts.slots);
+    let found = Found {
+        setup: &core.parts.setup,
+        tables: &core.parts.tables,
+        free,
+    };
+    let mut reads = Reads::new(alloc);
+    let decided = new_call(alloc, &found, regs, lane, &mut reads)?;
+    Ok(arrival_by(decided))
+}
+
+/// What a call is given, without its buffer's place.
+fn input_of(given: ResumeInput) -> BackInput
+    ensures { result ≡ input_of (given_as given) }
+{
+    match given {
+        ResumeInput::Nothing => BackInput::Nothing,
+        ResumeInput::Buffer { .. } => BackInput::Buffer,
+        ResumeInput::NoBuffer => BackInput::NoBuffer,
+        ResumeInput::Reply(reply) => BackInput::Reply(reply),
+    }
+}
+
+/// What a call comes back with that is in this phase, was cancelled or not, and is given this. One that was interrupted had
+/// asked for nothing.
+fn back_of(cont: &Cont<Pages>, marked: bool, given: ResumeInput) -> Back
+    ensures { result ≡ back_as cont.now marked (given_as given) }
+{
+    let seen = if marked && !cont.cancelled {
+        Some(cont.steps)
+    } else {
+        None
+    };
+    let input = match cont.phase {
+        Phase::Runs => None,
+        Phase::Asks | Phase::Waits | Phase::Ends => Some(input_of(given)),
+    };
+    Back { seen, input }
+}
+
+/// What the call comes back with that these registers name, and that is given this.
+fn back_in(core: &Core, regs: &Regs, given: ResumeInput) -> Back
+    requires { IsSuspended core.now.parts.slots regs.now.a }
+    ensures { IsBackIn core.now.parts regs.now.a (given_as given) result }
+{
+    let slot = regs.a[3];
+    let Ok(cont) = core.parts.slots.suspended_call(slot, regs.a[7]) else {
+        unreachable!()
+    };
+    let marked = core.parts.cancellations[slot as usize].marked;
+    back_of(cont, marked, given)
+}
+
+/// What a resume is.
+fn back_arrival(alloc: Global, core: &Core, regs: &Regs, lane: &Lane) -> Result<Arrival, NoMemory>
+    ensures { (kernel : Kernel) → StandsFor core.now.parts kernel
+        → IfOk result (IsArrivalFrom kernel regs.now.a lane.now (resume (booted_of core.now) kernel regs.now.a)) }
+{
+    let mut reads = Reads::new(alloc);
+    let (setup, slots) = (&core.parts.setup, &core.parts.slots);
+    let call = resumed_calls::decide(alloc, setup, slots, regs, lane, &mut reads)?;
+    match call {
+        Some(decided) => Ok(Arrival::Back(back_in(core, regs, decided.given))),
+        None => Ok(Arrival::Nothing),
+    }
+}
+
+/// What an entry with these registers is.
+pub(crate) fn arrives(
+    alloc: Global,
+    core: &Core,
+    regs: &Regs,
+    lane: &Lane,
+) -> Result<Arrival, NoMemory>
+    ensures { (kernel : Kernel) → StandsFor core.now.parts kernel
+        → IfOk result (IsArrival (booted_of core.now) kernel regs.now.a lane.now) }
+{
+    match decode_call(regs) {
+        Call::WithArg => new_arrival(alloc, core, regs, lane),
+        Call::Resume => back_arrival(alloc, core, regs, lane),
+        Call::Fast(_) | Call::Unknown => Ok(Arrival::Nothing),
+    }
+}
+
+/// A new call is one of the session: an open only where it runs at once.
+pub(crate) fn is_of_session(session: u32, call: &Carried) -> bool
+    ensures { result ≡ counts session call.now }
+{
+    match call {
+        Carried::Nothing => false,
+        Carried::Running(cont) => cont.session == session,
+        Carried::Resting(cont) => {
+            cont.session == session && !matches!(cont.kind, CallKind::Open)
+        }
+    }
+}

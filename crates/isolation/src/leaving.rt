@@ -1,0 +1,106 @@
+//! What is told of a call that goes out.
+ghost use Rattle.std.specs.Prelude.{◌≡◌, IfOk, is_some};
+ghost use Rattle.std.specs.Option.{option_and_then, option_map};
+ghost use Rattle.isolation.specs.Telling.{asked_reply, ended_as, told_at_end, told_behind, told_by, wakes_as};
+ghost use Rattle.kernel_state.specs.Calls.{woken_slot};
+
+use crate::copies::{buffer_of, outputs_with};
+use base::NoMemory;
+use frame_pool::Pages;
+use kernel_state::Carried;
+use own_model::OwnReply;
+use rpc_cont::{Asked, Cont, Phase};
+use rpc_msgs::Rpc;
+use std::alloc::Global;
+
+/// The slot that is asked to be woken.
+fn slot_woken(request: &Option<Asked>) -> Option<u32>
+    ensures { result ≡ option_and_then (λ asked. woken_slot asked.rpc) request.now }
+{
+    match request {
+        Some(asked) => match &asked.rpc {
+            Rpc::Wake(slot) => Some(*slot),
+            _ => None,
+        },
+        None => None,
+    }
+}
+
+/// The slot of the call that a call which has ended wakes.
+pub(crate) fn wakes(cont: &Cont<Pages>) -> Option<u32>
+    ensures { result ≡ wakes_as cont.now }
+{
+    match cont.phase {
+        Phase::Ends => slot_woken(&cont.request),
+        Phase::Runs | Phase::Asks | Phase::Waits => None,
+    }
+}
+
+/// What an application asks for.
+fn asked_reply(alloc: Global, request: &Option<Asked>) -> Result<Option<OwnReply>, NoMemory>
+    ensures { IfOk result (λ reply. reply ≡ option_map asked_reply request.now) }
+{
+    match request {
+        Some(asked) => Ok(Some(OwnReply::Ask {
+            rpc: asked.rpc.clone()?,
+            payload: buffer_of(alloc, asked.payload.bytes())?,
+        })),
+        None => Ok(None),
+    }
+}
+
+/// What is told of a call that has ended, may have a call to wake, and may have a buffer. One that has nothing to ask for
+/// has given its buffer back.
+fn told_behind(wakes: bool, has_buffer: bool, woken: Option<u32>) -> Option<OwnReply>
+    ensures { result ≡ told_behind wakes has_buffer woken }
+{
+    match (wakes, has_buffer) {
+        (false, _) => Some(OwnReply::Free),
+        (true, false) => Some(OwnReply::Alloc),
+        (true, true) => match woken {
+            Some(call) => Some(OwnReply::Wake { call }),
+            None => None,
+        },
+    }
+}
+
+/// What is told of a call that was left in its slot, where it wakes the call of this number: nothing of an interrupt.
+pub(crate) fn reply_of(
+    alloc: Global,
+    cont: &Cont<Pages>,
+    woken: Option<u32>,
+) -> Result<Option<OwnReply>, NoMemory>
+    ensures { IfOk result (λ reply. reply ≡ told_by cont.now woken) }
+{
+    match (cont.phase, cont.buffer.is_some()) {
+        (Phase::Runs, _) => Ok(None),
+        (Phase::Asks | Phase::Waits, false) => Ok(Some(OwnReply::Alloc)),
+        (Phase::Asks, true) => asked_reply(alloc, &cont.request),
+        (Phase::Waits, true) => Ok(Some(OwnReply::Sleep)),
+        (Phase::Ends, has_buffer) => Ok(told_behind(wakes(cont).is_some(), has_buffer, woken)),
+    }
+}
+
+/// What is told of a call that goes out ended.
+fn ended(alloc: Global, cont: &Cont<Pages>) -> Result<OwnReply, NoMemory>
+    ensures { IfOk result (λ told. told ≡ ended_as cont.now) }
+{
+    Ok(OwnReply::Ended {
+        result: cont.result.result,
+        origin: cont.result.origin,
+        outputs: outputs_with(alloc, cont.result, &cont.params)?,
+    })
+}
+
+/// What is told of the call that a processor carries, if it goes out ended.
+pub(crate) fn told_at_end(alloc: Global, call: &Carried) -> Result<Option<OwnReply>, NoMemory>
+    ensures { IfOk result (λ told. told ≡ told_at_end call.now) }
+{
+    match call {
+        Carried::Nothing => Ok(None),
+        Carried::Resting(cont) | Carried::Running(cont) => match cont.phase {
+            Phase::Ends => Ok(Some(ended(alloc, cont)?)),
+            Phase::Runs | Phase::Asks | Phase::Waits => Ok(None),
+        },
+    }
+}

@@ -1,0 +1,23 @@
+//! What happened to one session, and what it was answered, read off the journal of a core.
+//!
+//! The journal is done again: a core of the same boot lets the same processors in, each over RAM that has the bytes that
+//! its entry read, and lets them out again. What an entry and an exit are for the session is read off that core, as the
+//! definitions of `own_model` read it off the kernel, and noted.
+//!
+//! `notes` has what is noted, `entering` what is seen of an entry and `coming` what is noted of one, `leaving` what is told
+//! of a call that goes out and `going` what is noted of that, and `replay` the core on which the journal is done again.
+#![tactic(auto)]
+
+mod coming;
+mod copies;
+mod entering;
+mod going;
+mod leaving;
+mod notes;
+mod numbering;
+mod own;
+mod replay;
+
+pub use base::NoMemory;
+pub use own::{own_events, own_replies};
+pub use own_model::{BackInput, OwnEvent, OwnInput, OwnReply};

@@ -1,0 +1,197 @@
+//! What is noted of a session as the journal is done again.
+ghost use Rattle.std.specs.Prelude.{◌≡◌, ◌<◌, ◌∷◌, ◌++◌, [], IfOk, Some, None};
+ghost use Rattle.base.specs.NumberMap.{get};
+ghost use Rattle.isolation.specs.Noted.{AreNoted, HasFinished, IsLeft, with_away, with_back, with_told, woken_as};
+ghost use Rattle.isolation.specs.Telling.{wakes_as};
+ghost use Rattle.kernel_model.specs.Kernel.{PendingCall};
+ghost use Rattle.own_model.specs.Own as own;
+
+use crate::leaving::{reply_of, wakes};
+use crate::numbering::Numbering;
+use base::NoMemory;
+use frame_pool::Pages;
+use own_model::{BackInput, OwnEvent, OwnReply};
+use rpc_cont::Cont;
+use std::alloc::Global;
+
+/// The most processors that a core may have.
+const MOST_CPUS: usize = 8;
+
+/// An event of a session, with its reply, if it has one.
+pub(crate) type Logged = (OwnEvent, Option<OwnReply>);
+
+/// What a call of the session comes back with.
+#[derive(Debug, Drop)]
+pub(crate) struct Back {
+    /// The steps that it had done, where it sees only now that it was cancelled.
+    pub(crate) seen: Option<u128>,
+    /// What it is given. None of a call that was interrupted, which had asked for nothing.
+    pub(crate) input: Option<BackInput>,
+}
+
+/// What is noted of a session.
+#[derive(Debug, Drop)]
+pub(crate) struct Notes {
+    pub(crate) session: u32,
+    numbering: Numbering,
+    /// By its number, whether a processor is inside whose new call, of the session's client, found no slot while the
+    /// session was there.
+    turned_away: [bool; MOST_CPUS],
+    log: Vec<Logged>,
+}
+
+impl Notes {
+    /// Nothing is noted.
+    pub(crate) fn new(alloc: Global, session: u32) -> Notes
+        ensures noted { AreNoted result own.no_notes }
+        ensures session { result.session ≡ session }
+    {
+        Notes {
+            session,
+            numbering: Numbering::new(),
+            turned_away: [false; MOST_CPUS],
+            log: Vec::new(alloc),
+        }
+    }
+
+    /// What has happened to the session, and what it was answered.
+    pub(crate) fn into_log(self) -> Vec<Logged>
+        ensures { (notes : own.Notes) → AreNoted self notes → result.items ≡ notes.log }
+    {
+        let Notes { log, .. } = self;
+        log
+    }
+
+    /// The number of the call in this slot, if it is one of the session.
+    pub(crate) fn number_in(&self, slot: u8) -> Option<u32>
+        ensures { (notes : own.Notes) → AreNoted self.now notes → result ≡ get notes.numbering.in_slots slot }
+    {
+        self.numbering.in_slot(u32::from(slot))
+    }
+
+    /// A call of the session comes into a slot.
+    pub(crate) fn comes_in(&mut self, slot: u8, came: OwnEvent) -> Result<(), NoMemory>
+        requires { slot < 16 }
+        ensures noted { (notes : own.Notes) (call : PendingCall) → AreNoted self.old notes
+            → IfOk result (λ _. AreNoted self.new (own.numbered notes slot call came)) }
+        ensures session { self.new.session ≡ self.old.session }
+    {
+        self.numbering.next_in(slot)?;
+        self.log.push((came, None))?;
+        Ok(())
+    }
+
+    /// The session's call of this number comes back.
+    pub(crate) fn comes_back(&mut self, number: u32, back: Back) -> Result<(), NoMemory>
+        ensures noted { (notes : own.Notes) → AreNoted self.old notes
+            → IfOk result (λ _. AreNoted self.new (with_back notes number back.seen back.input)) }
+        ensures session { self.new.session ≡ self.old.session }
+    {
+        let Back { seen, input } = back;
+        if let Some(steps) = seen {
+            self.log.push((
+                OwnEvent::Seen {
+                    call: number,
+                    steps,
+                },
+                None,
+            ))?;
+        }
+        if let Some(input) = input {
+            self.log.push((
+                OwnEvent::Back {
+                    call: number,
+                    input,
+                },
+                None,
+            ))?;
+        }
+        Ok(())
+    }
+
+    /// A processor comes in with a call of the session's client, and is turned away.
+    pub(crate) fn turns_away(&mut self, cpu: u8)
+        requires { cpu < 8 }
+        ensures noted { (notes : own.Notes) → AreNoted self.old notes → AreNoted self.new (with_away notes cpu) }
+        ensures session { self.new.session ≡ self.old.session }
+    {
+        self.turned_away[usize::from(cpu)] = true;
+    }
+
+    /// A processor whose answer was fixed goes out.
+    pub(crate) fn goes_out_answered(&mut self, cpu: u8) -> Result<(), NoMemory>
+        requires { cpu < 8 }
+        ensures noted { (notes : own.Notes) → AreNoted self.old notes
+            → IfOk result (λ _. AreNoted self.new (own.limit_noted notes cpu)) }
+        ensures session { self.new.session ≡ self.old.session }
+    {
+        if self.turned_away[usize::from(cpu)] {
+            self.turned_away[usize::from(cpu)] = false;
+            self.log.push((OwnEvent::Limited, Some(OwnReply::Limited)))?;
+        }
+        Ok(())
+    }
+
+    /// The number of the call that the call in this slot wakes: that which was kept, or else that of the call in the slot
+    /// now.
+    fn woken_in(&self, slot: u8, cont: &Cont<Pages>) -> Option<u32>
+        ensures { (notes : own.Notes) → AreNoted self.now notes
+            → result ≡ woken_as notes.numbering slot (wakes_as cont.now) }
+    {
+        let woken = wakes(cont)?;
+        match self.numbering.woken_by(u32::from(slot)) {
+            Some(number) => Some(number),
+            None => self.numbering.in_slot(woken),
+        }
+    }
+
+    /// The session's call of this number goes out with this reply, if something is told of it.
+    fn tells(&mut self, number: u32, told: Option<OwnReply>) -> Result<(), NoMemory>
+        ensures log { IfOk result (λ _. self.new.log.items ≡ with_told self.old.log.items number told) }
+        ensures stays { self.new ≡ record self.old { log = self.new.log } }
+    {
+        if let Some(reply) = told {
+            self.log
+                .push((OwnEvent::Out { call: number }, Some(reply)))?;
+        }
+        Ok(())
+    }
+
+    /// The session's call of this number goes out of its slot, in which it was left so.
+    pub(crate) fn goes_out(
+        &mut self,
+        alloc: Global,
+        slot: u8,
+        number: u32,
+        cont: &Cont<Pages>,
+    ) -> Result<(), NoMemory>
+        requires { slot < 16 }
+        ensures noted { (notes : own.Notes) (call : PendingCall) → AreNoted self.old notes → IsLeft slot call cont.now
+            → IfOk result (λ _. AreNoted self.new (own.exit_noted notes slot call number)) }
+        ensures session { self.new.session ≡ self.old.session }
+    {
+        let woken = self.woken_in(slot, cont);
+        let told = reply_of(alloc, cont, woken)?;
+        self.tells(number, told)?;
+        self.numbering.with_wake(slot, woken);
+        Ok(())
+    }
+
+    /// The session's call of this number goes out of its slot ended, with this reply.
+    pub(crate) fn finishes(
+        &mut self,
+        slot: u8,
+        number: u32,
+        ended: OwnReply,
+    ) -> Result<(), NoMemory>
+        requires { slot < 16 }
+        ensures noted { (notes : own.Notes) (call : PendingCall) → AreNoted self.old notes → HasFinished slot call ended
+            → IfOk result (λ _. AreNoted self.new (own.exit_noted notes slot call number)) }
+        ensures session { self.new.session ≡ self.old.session }
+    {
+        self.log
+            .push((OwnEvent::Out { call: number }, Some(ended)))?;
+        self.numbering.forget(slot);
+        Ok(())
+    }
+}

@@ -1,0 +1,126 @@
+//! What happened to a session, and what it was answered.
+ghost use Rattle.std.specs.Prelude.{◌≡◌, ◌≤◌, ◌^◌, ◌++◌, IfOk, Some};
+ghost use Rattle.std.specs.Option.{option_to_list};
+ghost use Rattle.std.specs.List.{AllByRecursion};
+ghost use Rattle.event_journal.specs.Journal.{copied_bytes};
+ghost use Rattle.kernel_model.specs.Application.{Application, booted};
+ghost use Rattle.kernel_model.specs.History.{IsLegal};
+ghost use Rattle.kernel_state.specs.Reads.{ReadsAgree};
+ghost use Rattle.native_tas.specs.Table.{entries};
+ghost use Rattle.own_model.specs.Isolation.{IsSessionOf, steps_in};
+ghost use Rattle.own_model.specs.Own.{events_in, noted, own_events, own_replies, replies_in};
+ghost use Rattle.own_model.specs.Solo.{solo_replies};
+
+use crate::copies::copy_boot;
+use crate::notes::{Logged, Notes};
+use crate::replay::Replay;
+use base::NoMemory;
+use event_journal::Journal;
+use native_tas::Natives;
+use own_model::{OwnEvent, OwnReply};
+use std::alloc::Global;
+use ta_isa::Boot;
+
+/// What has happened to a session, each event beside its reply.
+fn own_log(
+    alloc: Global,
+    boot: &Boot,
+    natives: &Natives,
+    journal: &Journal,
+    session: u32,
+) -> Result<Vec<Logged>, NoMemory>
+    requires legal { IsLegal (booted boot.now (entries natives.now)) journal.now.events }
+    requires few { copied_bytes journal.now.events ≤ 2 ^ 28 }
+    requires agree { AllByRecursion ReadsAgree journal.now.events }
+    ensures { IfOk result (λ log. log.items
+        ≡ (noted (booted boot.now (entries natives.now)) journal.now.events session).log) }
+{
+    let mut replay = Replay::new(alloc, copy_boot(alloc, boot)?, natives)?;
+    let mut notes = Notes::new(alloc, session);
+    for event in journal.as_slice() {
+        replay.again(alloc, event, &mut notes)?;
+    }
+    Ok(notes.into_log())
+}
+
+/// The events of a log.
+fn events_in(alloc: Global, log: Vec<Logged>) -> Result<Vec<OwnEvent>, NoMemory>
+    ensures { IfOk result (λ events. events.items ≡ events_in log.items) }
+{
+    let mut events = Vec::with_capacity(alloc, log.len())?;
+    for (event, _reply) in log {
+        events.push(event)?;
+    }
+    Ok(events)
+}
+
+/// The reply of an event, if it has one.
+fn reply_of(logged: Logged) -> Option<OwnReply>
+    ensures { result ≡ logged.1 }
+{
+    logged.1
+}
+
+/// Adds a reply, if there is one.
+fn add(replies: &mut Vec<OwnReply>, told: Option<OwnReply>) -> Result<(), NoMemory>
+    ensures { IfOk result (λ _. replies.new.items ≡ replies.old.items ++ option_to_list told) }
+{
+    if let Some(reply) = told {
+        replies.push(reply)?;
+    }
+    Ok(())
+}
+
+/// The replies of a log.
+fn replies_in(alloc: Global, log: Vec<Logged>) -> Result<Vec<OwnReply>, NoMemory>
+    ensures { IfOk result (λ replies. replies.items ≡ replies_in log.items) }
+{
+    let mut replies = Vec::with_capacity(alloc, log.len())?;
+    for logged in log {
+        add(&mut replies, reply_of(logged))?;
+    }
+    Ok(replies)
+}
+
+/// What has happened to a session, by the journal of a core of this boot that is legal, whose entries have read at most
+/// 2^28 bytes in all, and each of them the same byte wherever its reads share an address. Only want of memory keeps it
+/// from telling.
+pub fn own_events(
+    alloc: Global,
+    boot: &Boot,
+    natives: &Natives,
+    journal: &Journal,
+    session: u32,
+) -> Result<Vec<OwnEvent>, NoMemory>
+    requires legal { IsLegal (booted boot.now (entries natives.now)) journal.now.events }
+    requires few { copied_bytes journal.now.events ≤ 2 ^ 28 }
+    requires agree { AllByRecursion ReadsAgree journal.now.events }
+    ensures { IfOk result (λ events. events.items
+        ≡ own_events (booted boot.now (entries natives.now)) journal.now.events session) }
+{
+    let log = own_log(alloc, boot, natives, journal, session)?;
+    events_in(alloc, log)
+}
+
+/// What a session was answered, by the same. A session of an application whose sessions share no instance was answered
+/// as the machine of one session answers to its events.
+pub fn own_replies(
+    alloc: Global,
+    boot: &Boot,
+    natives: &Natives,
+    journal: &Journal,
+    session: u32,
+) -> Result<Vec<OwnReply>, NoMemory>
+    requires legal { IsLegal (booted boot.now (entries natives.now)) journal.now.events }
+    requires few { copied_bytes journal.now.events ≤ 2 ^ 28 }
+    requires agree { AllByRecursion ReadsAgree journal.now.events }
+    ensures replies { IfOk result (λ replies. replies.items
+        ≡ own_replies (booted boot.now (entries natives.now)) journal.now.events session) }
+    ensures alone { (app : Application)
+        → IsSessionOf (booted boot.now (entries natives.now)) journal.now.events session app
+        → IfOk result (λ replies. solo_replies (steps_in journal.now.events) app
+        (own_events (booted boot.now (entries natives.now)) journal.now.events session) ≡ Some replies.items) }
+{
+    let log = own_log(alloc, boot, natives, journal, session)?;
+    replies_in(alloc, log)
+}
