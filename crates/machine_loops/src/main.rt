@@ -121,6 +121,11 @@ fn played(alloc: Global, image: &Image, mut machine: Machine<Plain>, steps: u32)
     Ok(told)
 }
 
+/// The number that a word is in decimal digits.
+fn number(word: &str) -> Result<u32> {
+    word.parse::<u32>().ok().context("reading a number")
+}
+
 /// What a line tells of its case.
 fn case(alloc: Global, line: &str) -> Result<String> {
     let words: Vec<&str> = line.split(' ').collect(alloc)?;
@@ -128,8 +133,8 @@ fn case(alloc: Global, line: &str) -> Result<String> {
         bail!("a case has five words");
     };
     let image = image_of(alloc, image)?;
-    let func = func.parse::<u32>().context("reading the function")?;
-    let steps = steps.parse::<u32>().context("reading the steps")?;
+    let func = number(func)?;
+    let steps = number(steps)?;
     let mut machine = invoked(alloc, &image, case_params(alloc)?, func)?;
     if *call == "cancelled" {
         machine.see_cancel();
@@ -151,7 +156,7 @@ fn run(rt: &(impl Env + Input + Print + AllocGlobal)) -> Result<()> {
     let words: Vec<String> = env::args(rt)?.skip(1).collect(alloc)?;
     match words.as_slice() {
         [image, steps] => {
-            let steps = steps.as_str().parse::<u32>().context("reading the steps")?;
+            let steps = number(steps.as_str())?;
             println!(rt; "{}", ran(alloc, image.as_str(), steps)?)?;
         }
         [] => {

@@ -2,6 +2,7 @@
 ghost use Rattle.std.specs.Prelude.{◌≡◌, IfSome};
 ghost use Rattle.tee_storage.specs.ObjectCalls.{range_len};
 
+use crate::number;
 use anyhow::{Context, Result, bail};
 use hex::ToHex;
 use rpc_msgs::{Payload, RpcReply};
@@ -81,8 +82,8 @@ fn reply_of(alloc: Global, word: &str) -> Result<RpcReply> {
         bail!("a reply has too many bytes");
     }
     Ok(RpcReply {
-        ret: ret.parse::<u32>().context("reading the ret")?,
-        v: v.parse::<u64>().context("reading the number")?,
+        ret: number(ret)?,
+        v: u64::from(number(v)?),
         w: 0,
         size: bytes.len() as u64,
         bytes: Payload::of(bytes.as_slice()),
@@ -125,10 +126,12 @@ pub(crate) fn case(alloc: Global, line: &str, handles: &mut Handles) -> Result<S
     let [kind, name, call, handle, position, bytes] = head else {
         bail!("a call has six words");
     };
-    let handle = handle.parse::<u32>().context("reading the handle")?;
-    let position = position.parse::<u32>().context("reading the position")?;
+    let handle = number(handle)?;
+    let position = number(position)?;
     let bytes = bytes_of(alloc, bytes)?;
-    let len = u32::try_from(bytes.len()).context("counting the bytes")?;
+    let len = u32::try_from(bytes.len())
+        .ok()
+        .context("counting the bytes")?;
     let Some(call) = call_of(call, handle, position, len) else {
         bail!("there is no such call");
     };
