@@ -1,27 +1,25 @@
 -- What an entry is for a session is what the kernel's decision makes of it.
 use Rattle.std.proofs.Common.{◌≡◌, ℕ, ◌==◌, ◌<◌, length, Bool, true, false, List, [], Option, Some, None, refl, ap, sym, subst, ◌∙◌}
-use Rattle.std.specs.Prelude.{◌&&◌, not, if◌then◌else◌, slice_get, IsSomeAnd}
+use Rattle.std.specs.Prelude.{◌&&◌, not, if◌then◌else◌, slice_get}
 use Rattle.std.specs.Option.{option_map_or}
 use Rattle.std.proofs.lemmas.List.Quantifiers.{position-Some}
 use Rattle.std.proofs.Math.Logic.{∥∥₁_elim}
 use Rattle.std.proofs.Props.{props}
 use Rattle.std.proofs.lemmas.Option.{slice_get-get_or, slice_get_within}
 use Rattle.base.specs.NumberMap.{get}
-use Rattle.isolation.specs.Arriving.{IsArrivalFrom, IsArrivalIn, IsBack, IsBackIn, IsNew, arrival_by, arrival_of, back_as, event_by, seen_then}
-use Rattle.isolation.specs.declared.entering.Arrival.{Arrival}
+use Rattle.isolation.specs.Arriving.{IsArrivalFrom, IsArrivalIn, IsBackIn, IsNew, arrival_by, arrival_of, back_as, event_by, seen_then}
 use Rattle.isolation.specs.declared.entering.Arrival.TheVariants as arrival
 use Rattle.isolation.specs.declared.notes.Back.{Back as BackWith}
 use Rattle.isolation.proofs.Arrived.{input_is}
 use Rattle.isolation.proofs.Plans.{plan_event_is}
 use Rattle.job_model.specs.declared.call_kind.CallKind.{CallKind}
 use Rattle.job_model.specs.declared.call_kind.CallKind.TheVariants as kind
-use Rattle.job_model.specs.declared.entry_point.EntryPoint.TheVariants.{Invoke}
 use Rattle.kernel_entry.proofs.Decisions.{new_so, resume_refused, same_lowest}
 use Rattle.kernel_entry.proofs.Following.{call_found}
 use Rattle.kernel_entry.specs.Resuming.{IsSuspended}
 use Rattle.kernel_entry.specs.Resuming.{goes_on_as}
 use Rattle.kernel_model.specs.Argument.{client_in, reg, thread_in}
-use Rattle.kernel_model.specs.Begin.{Begun, Opener, begins_on, closing_points, has_pages_for, opens_kept, opens_new}
+use Rattle.kernel_model.specs.Begin.{Opener, has_pages_for, opens_new}
 use Rattle.kernel_model.specs.Application.{Application, Booted}
 use Rattle.kernel_model.specs.Codes.{bad_parameters, eresume, out_of_memory, target_dead, unknown_function}
 use Rattle.kernel_model.specs.Decision as model
@@ -31,7 +29,7 @@ use Rattle.kernel_model.specs.Given.{Given, Nothing, Buffer, NoBuffer, Reply, ca
 use Rattle.kernel_model.specs.Instances.{is_held}
 use Rattle.kernel_model.specs.Kernel.{CallPhase, Runs, Asks, Waits, Ends, Active, Free, Instance, Kernel, PendingCall, Progress, Suspended, Tables, ThreadSlot, is_free, lowest_free}
 use Rattle.kernel_model.specs.NewCall.{new_call, new_call_with}
-use Rattle.kernel_model.specs.Resume.{Resumed, app_of_call, begins, begins_in, begins_open, call_resumed_by, ends_with, goes_on, is_close, is_without_buffer, onward_in, onward_of, phase_seen, resume, resumed_call, sees, sleeps_on, suspended_for, tested_again, who_resumes}
+use Rattle.kernel_model.specs.Resume.{Resumed, app_of_call, begins, begins_in, begins_open, call_resumed_by, ends_with, goes_on, is_without_buffer, onward_in, onward_of, phase_seen, resume, resumed_call, sees, sleeps_on, suspended_for, tested_again, who_resumes}
 use Rattle.kernel_model.proofs.Parts.{if-both, map_or-both}
 use Rattle.kernel_state.specs.Calls.{IsCall}
 use Rattle.kernel_state.specs.Replay.{Replays}
@@ -47,9 +45,8 @@ use Rattle.new_calls.specs.declared.decided.Decided.TheVariants as decided
 use Rattle.new_calls.specs.declared.entered.Entered.{Entered}
 use Rattle.new_calls.specs.declared.plan.Plan.{Plan}
 use Rattle.ns_ram.proofs.ReaderLaws.{over_lane-reading}
-use Rattle.ns_ram.specs.Reader.{over_lane, reading}
+use Rattle.ns_ram.specs.Reader.{over_lane}
 use Rattle.ns_ram.specs.declared.read.Read.{Read}
-use Rattle.own_model.specs.declared.own_event.BackInput.{BackInput}
 use Rattle.own_model.specs.declared.own_event.OwnEvent.{OwnEvent}
 use Rattle.resumed_calls.proofs.Taking.{decision_taken, slot_resumed}
 use Rattle.resumed_calls.specs.Deciding.{IsDecided, IsDecidedFor}

@@ -1,30 +1,27 @@
 -- What is noted of an entry that has come into a slot, by what its arrival said.
-use Rattle.std.proofs.Common.{◌≡◌, ℕ, ◌==◌, Bool, true, false, List, Option, Some, None, refl, ap, sym, subst, ◌∙◌}
-use Rattle.std.specs.Prelude.{◌&&◌, not, if◌then◌else◌, slice_get}
+use Rattle.std.proofs.Common.{◌≡◌, ℕ, ◌==◌, Bool, true, false, List, Option, Some, None, refl, ap, sym, ◌∙◌}
+use Rattle.std.specs.Prelude.{◌&&◌, not, if◌then◌else◌}
 use Rattle.std.specs.Option.{option_map_or}
-use Rattle.base.specs.NumberMap.{get}
-use Rattle.isolation.specs.Arriving.{IsBack, IsNew, counts, event_for, input_at, input_then, is_at_once, is_not_open, seen_then}
+use Rattle.isolation.specs.Arriving.{IsBack, IsNew, counts, input_at, input_then, is_at_once, is_not_open}
 use Rattle.isolation.specs.Noted.{with_back, with_seen}
 use Rattle.isolation.specs.declared.notes.Back.{Back as BackWith}
 use Rattle.isolation.proofs.LeftCalls.{PhaseAs, phase_as}
 use Rattle.job_model.specs.declared.call_kind.CallKind.{CallKind}
 use Rattle.job_model.specs.declared.call_kind.CallKind.TheVariants as kind
-use Rattle.kernel_model.specs.Given.{Given, given_to}
+use Rattle.kernel_model.specs.Given.{Given}
 use Rattle.kernel_model.specs.Kernel.{CallPhase, Runs, Asks, Waits, Ends, Kernel, PendingCall}
 use Rattle.kernel_model.specs.Leaving.{Leaving, Interrupted, WantsBuffer, Requests, FreesBuffer, Finishes, Request, leaving_in, leaving_of}
 use Rattle.kernel_state.specs.Calls.{IsCall}
 use Rattle.kernel_state.specs.Work.{IsCarriedAs}
 use Rattle.kernel_state.specs.declared.carried.Carried.{Carried}
 use Rattle.kernel_state.specs.declared.carried.Carried.TheVariants.{Nothing, Resting, Running}
-use Rattle.ns_ram.specs.Reader.{reading}
 use Rattle.ns_ram.specs.declared.read.Read.{Read}
-use Rattle.own_model.specs.Own.{Notes, Resuming, back_noted, call_noted, event_of, input_of, numbered, resume_noted, seen_noted, with_event}
+use Rattle.own_model.specs.Own.{Notes, back_noted, call_noted, input_of, numbered, resume_noted, seen_noted, with_event}
 use Rattle.own_model.specs.declared.own_event.BackInput.{BackInput}
 use Rattle.own_model.specs.declared.own_event.OwnEvent.{OwnEvent}
 use Rattle.own_model.specs.declared.own_event.OwnEvent.TheVariants.{Seen, Back}
 use Rattle.rpc_cont.specs.declared.cont.Cont.{Cont}
 use Rattle.rpc_cont.specs.declared.phase.Phase.{Phase}
-use Rattle.rpc_cont.specs.declared.phase.Phase.TheVariants as phase
 use Rattle.rpc_msgs.specs.declared.rpc_buffer.RpcBuffer.{RpcBuffer}
 
 -- ---- new calls

@@ -1,7 +1,6 @@
 -- Which processors were turned away, and the numbers at slots.
 use Rattle.std.proofs.Common.{◌≡◌, ℕ, zero, suc, ◌<◌, ◌==◌, ◌||◌, Bool, true, false, List, [], ◌∷◌, length, Option, Some, None, refl, ap, sym, ◌∙◌, subst, arith}
 use Rattle.std.specs.Prelude.{not, filter, slice_get, slice_set, cond}
-use Rattle.std.specs.List.{list_any}
 use Rattle.std.specs.Option.{option_and_then}
 use Rattle.base.specs.NumberMap.{NumberMap, get, insert, remove}
 use Rattle.own_model.proofs.InOrder.{by_numbers}

@@ -1,19 +1,17 @@
 -- What is noted of an entry, by what the kernel decides of it, and of an exit.
-use Rattle.std.proofs.Common.{◌≡◌, ℕ, Bool, true, false, List, Option, Some, None, refl, ap, sym, ◌∙◌}
+use Rattle.std.proofs.Common.{◌≡◌, ℕ, List, Option, Some, ap, sym, ◌∙◌}
 use Rattle.std.specs.Prelude.{slice_get}
-use Rattle.std.specs.Option.{option_and_then, option_map_or}
+use Rattle.std.specs.Option.{option_map_or}
 use Rattle.base.specs.NumberMap.{get}
 use Rattle.event_journal.specs.declared.event.Event.TheVariants.{Entry, Exit}
-use Rattle.kernel_model.specs.Decision.{Answers, Decision, Taken, Takes}
+use Rattle.kernel_model.specs.Decision.{Decision, Taken, Takes}
 use Rattle.kernel_model.specs.Entry.{after_decision}
-use Rattle.kernel_model.specs.Exit.{progress_in_slot, slot_left}
-use Rattle.kernel_model.specs.Kernel.{Active, CallPhase, Runs, Asks, Waits, Ends, Fixed, Free, InSlot, Inside, Kernel, PendingCall, Processor}
+use Rattle.kernel_model.specs.Exit.{progress_in_slot}
+use Rattle.kernel_model.specs.Kernel.{Active, Fixed, Free, InSlot, Inside, Kernel, PendingCall, Processor}
 use Rattle.kernel_model.specs.Kernel.{Progress, Suspended, ThreadSlot, Visit, cancelled_slots}
-use Rattle.kernel_model.specs.Leaving.{leaving_of}
 use Rattle.kernel_model.proofs.FixedAnswer.{inside_for, processors_after}
 use Rattle.kernel_model.proofs.Parts.{set_found}
 use Rattle.ns_ram.specs.declared.read.Read.{Read}
-use Rattle.own_model.proofs.OwnTaken.{free_marked}
 use Rattle.own_model.specs.Own.{Entering, Notes, Resuming, call_noted, entry_noted, event_noted, exit_noted, fixed_noted}
 use Rattle.own_model.specs.Own.{limit_noted, out_noted, resume_noted, slot_noted}
 use Rattle.smc_abi.specs.declared.answer.Answer.{Answer}

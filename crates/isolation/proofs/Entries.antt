@@ -5,7 +5,7 @@ use Rattle.std.proofs.Props.{props}
 use Rattle.std.proofs.lemmas.Bool.Decides.{nat_tests}
 use Rattle.std.proofs.lemmas.List.Sums.{sum_by-append}
 use Rattle.std.proofs.lemmas.Option.{option_and_then_some, slice_get-map, some_pair_parts}
-use Rattle.std.specs.Prelude.{IsSomeAnd, map, nat_le, not, replicate, slice_get, slice_set, ◌&&◌}
+use Rattle.std.specs.Prelude.{IsSomeAnd, nat_le, not, replicate, slice_get, slice_set, ◌&&◌}
 use Rattle.std.specs.Option.{option_and_then, option_map}
 use Rattle.core_machine.proofs.Wholes.{below_works, whole_with_work}
 use Rattle.core_machine.specs.Whole.{IsWhole}
@@ -16,7 +16,7 @@ use Rattle.event_journal.specs.declared.event.Event.{Event}
 use Rattle.event_journal.specs.declared.event.Event.TheVariants.{Entry}
 use Rattle.isolation.specs.Arriving.{IsArrival, IsArrivalBy, IsArrivalIn}
 use Rattle.isolation.specs.Noted.{AreNoted}
-use Rattle.isolation.specs.Replaying.{CanBeNext, CanGoOn, HasArrived, HasArrivedFor, HasArrivedIn, HasDone, HasNoted}
+use Rattle.isolation.specs.Replaying.{CanBeNext, CanGoOn, HasArrived, HasArrivedIn, HasDone, HasNoted}
 use Rattle.isolation.specs.declared.entering.Arrival.{Arrival}
 use Rattle.isolation.specs.declared.notes.Notes.{Notes}
 use Rattle.isolation.specs.declared.replay.Replay.{Replay}
@@ -32,7 +32,6 @@ use Rattle.kernel_model.specs.Argument.{reg}
 use Rattle.kernel_model.specs.Decision.{Answers, Decision, Taken, Takes}
 use Rattle.kernel_model.specs.Entry.{after_decision, after_entry, decision_of, entry}
 use Rattle.kernel_model.specs.History.{after_event, can_be_granted, entry_from, is_outside, kernel_after}
-use Rattle.kernel_model.specs.Kernel as model
 use Rattle.kernel_model.specs.Kernel.{Active, Fixed, Free, InSlot, Inside, Kernel, Outside, PendingCall, Processor, Suspended, ThreadSlot, Visit, cancelled_slots}
 use Rattle.kernel_model.specs.Laws.{IsOutside}
 use Rattle.kernel_state.proofs.CoreEvents.{journals_legal, some_kernel}
@@ -42,9 +41,7 @@ use Rattle.kernel_state.specs.Meaning.{booted_of, events_of, kernel_of}
 use Rattle.kernel_state.specs.Replay.{Replays}
 use Rattle.kernel_state.specs.StandsFor.{StandsFor}
 use Rattle.kernel_state.specs.Work.{IsCarriedAs, IsCarriedFor, IsWorkIn, IsWorkOf}
-use Rattle.kernel_state.specs.declared.carried.Carried.{Carried}
 use Rattle.kernel_state.specs.declared.kernel_core.Core.{Core}
-use Rattle.kernel_state.specs.declared.parts.Parts.{Parts}
 use Rattle.kernel_state.specs.declared.work.Work.{Work}
 use Rattle.ns_ram.proofs.ReaderLaws.{over_lane-reading, over_lane-then}
 use Rattle.ns_ram.specs.Reader.{Reader, done, over_lane}

@@ -13,18 +13,18 @@ use Rattle.core_machine.specs.Whole.{IsWhole}
 use Rattle.event_journal.specs.declared.event.Event.{Event}
 use Rattle.event_journal.specs.declared.event.Event.TheVariants.{Exit}
 use Rattle.isolation.specs.Noted.{AreNoted}
-use Rattle.isolation.specs.Replaying.{CanBeNext, CanGoOn, CanGoOut, HasDone, HasGoneOn, HasNoted, IsExitNoted}
+use Rattle.isolation.specs.Replaying.{CanBeNext, CanGoOut, HasDone, HasGoneOn, HasNoted, IsExitNoted}
 use Rattle.isolation.specs.declared.notes.Notes.{Notes}
 use Rattle.isolation.specs.declared.replay.Replay.{Replay}
 use Rattle.isolation.proofs.Entries.{kernel_done}
 use Rattle.isolation.proofs.Further.{Follows, follows}
 use Rattle.kernel_model.specs.Application.{Booted}
 use Rattle.kernel_model.specs.Exit.{Exited, exit, exit_of}
-use Rattle.kernel_model.specs.History.{after_event, exit_to, is_outside}
+use Rattle.kernel_model.specs.History.{exit_to, is_outside}
 use Rattle.kernel_model.specs.Kernel.{Inside, Kernel, Outside, Processor}
 use Rattle.kernel_state.proofs.CoreEvents.{some_kernel}
 use Rattle.kernel_state.specs.Entering.{HasWork}
-use Rattle.kernel_state.specs.Meaning.{booted_of, events_of, kernel_of}
+use Rattle.kernel_state.specs.Meaning.{kernel_of}
 use Rattle.kernel_state.specs.declared.kernel_core.Core.{Core}
 use Rattle.kernel_state.specs.declared.work.Ran.{Ran}
 use Rattle.kernel_state.specs.declared.work.Work.{Work}

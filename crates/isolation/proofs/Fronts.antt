@@ -10,7 +10,7 @@ use Rattle.event_journal.specs.Journal.{copied_bytes}
 use Rattle.event_journal.specs.declared.event.Event.{Event}
 use Rattle.isolation.specs.Replaying.{CanBeNext}
 use Rattle.kernel_model.proofs.Past.{after_events-append}
-use Rattle.kernel_model.specs.Application.{Application, Booted, BuiltIn, IsBooted, Native, OfImage, booted}
+use Rattle.kernel_model.specs.Application.{Booted, BuiltIn, IsBooted, Native, OfImage, booted}
 use Rattle.kernel_model.specs.History.{IsLegal, after_event, after_events, kernel_after}
 use Rattle.kernel_model.specs.Kernel.{Kernel, first_kernel}
 use Rattle.kernel_state.specs.Booting.{IsWithinLimits}

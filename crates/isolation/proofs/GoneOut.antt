@@ -1,6 +1,6 @@
 -- What is noted of a processor that goes out.
-use Rattle.std.proofs.Common.{◌≡◌, ℕ, ◌<◌, ◌≤◌, Bool, List, [], ◌∷◌, ◌++◌, length, Option, Some, None, refl, ap, sym, subst, ◌∙◌, arith}
-use Rattle.std.proofs.Math.Logic.{∥∥₁_elim, ∥∥₁_map, ∥∥₁_map₂}
+use Rattle.std.proofs.Common.{◌≡◌, ℕ, ◌<◌, List, length, Option, Some, None, refl, ap, sym, subst, ◌∙◌, arith}
+use Rattle.std.proofs.Math.Logic.{∥∥₁_elim, ∥∥₁_map₂}
 use Rattle.std.proofs.Props.{props}
 use Rattle.std.proofs.lemmas.Option.{same_Some, slice_get-map, slice_get_within}
 use Rattle.std.specs.Prelude.{IfOk, IsSomeAnd, Result, Ok, Err, slice_get}

@@ -1,10 +1,9 @@
 -- What is noted of a call that goes out, by what its slot was left with.
-use Rattle.std.proofs.Common.{◌≡◌, ℕ, Bool, true, false, List, [], ◌∷◌, Option, Some, None, refl, ap, sym, subst, ◌∙◌}
+use Rattle.std.proofs.Common.{◌≡◌, ℕ, true, false, List, Option, Some, None, refl, ap, sym, subst, ◌∙◌}
 use Rattle.std.specs.Prelude.{is_some}
 use Rattle.std.specs.Option.{option_and_then, option_map, option_map_or}
-use Rattle.job_model.specs.Job.{Job}
 use Rattle.kernel_model.specs.Exit.{slot_left}
-use Rattle.kernel_model.specs.Kernel.{CallPhase, Runs, Asks, Waits, Ends, Free, PendingCall, Suspended, ThreadSlot}
+use Rattle.kernel_model.specs.Kernel.{CallPhase, Runs, Asks, Waits, Ends, Free, PendingCall, Suspended}
 use Rattle.kernel_model.specs.Leaving.{Leaving, Interrupted, WantsBuffer, Requests, FreesBuffer, Finishes, Request, leaving_in, leaving_of, plain_request}
 use Rattle.kernel_state.specs.Calls.{IsCall, IsInPhase, woken_slot}
 use Rattle.own_model.specs.Own as own

@@ -1,9 +1,9 @@
 -- The code's notes stay those of the definitions.
 use Rattle.std.proofs.Common.{◌≡◌, ℕ, zero, suc, ◌+◌, ◌<◌, ◌==◌, Bool, true, false, List, [], ◌∷◌, ◌++◌, length, Option, Some, None, refl, ap, sym, subst, ◌∙◌, arith}
 use Rattle.std.specs.Prelude.{is_some, replicate, slice_get, slice_set, not, filter, if◌then◌else◌}
-use Rattle.std.specs.Option.{option_and_then, option_map_or}
-use Rattle.base.specs.NumberMap.{get, insert, remove}
-use Rattle.isolation.specs.Noted.{AreNoted, AreNumbers, HasFinished, IsLeft, is_away, number_at, with_away, with_back, with_seen, with_told, without_slot, woken_as}
+use Rattle.std.specs.Option.{option_map_or}
+use Rattle.base.specs.NumberMap.{get, insert}
+use Rattle.isolation.specs.Noted.{AreNoted, AreNumbers, HasFinished, IsLeft, is_away, number_at, with_away, with_told, without_slot, woken_as}
 use Rattle.isolation.specs.Telling.{told_by, wakes_as}
 use Rattle.isolation.specs.declared.notes.Notes.{Notes}
 use Rattle.isolation.specs.declared.numbering.Numbering.{Numbering}
@@ -13,7 +13,6 @@ use Rattle.kernel_model.specs.Kernel.{PendingCall}
 use Rattle.kernel_model.proofs.Parts.{set_other}
 use Rattle.own_model.proofs.InOrder.{by_numbers}
 use Rattle.own_model.specs.Own as own
-use Rattle.own_model.specs.declared.own_event.BackInput.{BackInput}
 use Rattle.own_model.specs.declared.own_event.OwnEvent.{OwnEvent}
 use Rattle.own_model.specs.declared.own_event.OwnEvent.TheVariants.{Out, Limited}
 use Rattle.own_model.specs.declared.own_reply.OwnReply.{OwnReply}

@@ -2,20 +2,20 @@
 use Rattle.std.proofs.Common.{◌≡◌, ℕ, ◌+◌, ◌==◌, Bool, true, false, List, [], ◌∷◌, Option, Some, None, refl, ap, sym, subst, ◌∙◌}
 use Rattle.std.specs.Prelude.{◌&&◌, if◌then◌else◌}
 use Rattle.std.proofs.lemmas.Option.{option_and_then_some}
-use Rattle.std.specs.Option.{option_and_then, option_map, option_map_or}
+use Rattle.std.specs.Option.{option_map, option_map_or}
 use Rattle.base.specs.NumberMap.{get}
-use Rattle.isolation.specs.Arriving.{event_by, event_for, input_by, is_at_once}
+use Rattle.isolation.specs.Arriving.{event_by, event_for, input_by}
 use Rattle.job_model.specs.Beginning.{OfImage, OfRelation, Program, begun_job}
 use Rattle.job_model.specs.declared.call_kind.CallKind.TheVariants as kind
 use Rattle.job_model.specs.declared.entry_point.EntryPoint.{EntryPoint}
 use Rattle.job_model.specs.declared.entry_point.EntryPoint.TheVariants as point
-use Rattle.job_model.specs.Job.{Job, idle_job}
+use Rattle.job_model.specs.Job.{idle_job}
 use Rattle.kernel_model.specs.Application.{Application, BuiltIn}
 use Rattle.kernel_model.specs.Application as application
 use Rattle.kernel_model.specs.Begin.{Begun, begins_on, closing_points, opens_kept, opens_made, opens_new, awaited_number}
 use Rattle.kernel_model.specs.Instances.{is_held, program_on}
-use Rattle.kernel_model.specs.Kernel.{CallPhase, Runs, Waits, Instance, PendingCall}
-use Rattle.kernel_model.specs.NewCall.{NewCall, about_open, about_session, beginner, closes, invokes, named_session, no_copies, opener, opens, opens_or_waits, runs_in, settles, shared_by, waits_in, with_session, works_or_waits}
+use Rattle.kernel_model.specs.Kernel.{Instance}
+use Rattle.kernel_model.specs.NewCall.{NewCall, about_open, about_session, beginner, closes, invokes, named_session, no_copies, opener, opens, opens_or_waits, runs_in, settles, shared_by, waits_in, with_session}
 use Rattle.kernel_model.specs.Codes.{bad_parameters}
 use Rattle.kernel_model.specs.Decision.{Taken}
 use Rattle.kernel_model.specs.Sessions.{opened_by}
@@ -33,7 +33,6 @@ use Rattle.own_model.specs.declared.own_event.OwnEvent.TheVariants as event
 use Rattle.own_model.specs.declared.own_event.OwnInput.TheVariants as input
 use Rattle.param_copy.specs.Copying.{Copies}
 use Rattle.param_copy.specs.Outcome.{copies_in}
-use Rattle.param_copy.specs.declared.taken.TakenParams.{TakenParams}
 use Rattle.session_table.specs.declared.session.Session.{Session}
 use Rattle.ta_params.specs.declared.copied_params.CopiedParams.{CopiedParams}
 use Rattle.ta_params.specs.declared.login.Login.{Login}

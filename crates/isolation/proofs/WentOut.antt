@@ -1,6 +1,6 @@
 -- What is told of a call that a processor carries out, and what its slot is left with.
 use Rattle.std.proofs.Common.{◌≡◌, ℕ, Bool, true, false, List, Option, Some, None, refl, ap, sym, subst, ◌∙◌}
-use Rattle.std.specs.Prelude.{IsSomeAnd, slice_get}
+use Rattle.std.specs.Prelude.{IsSomeAnd}
 use Rattle.std.specs.Global.{Box}
 use Rattle.std.specs.Option.{option_map_or}
 use Rattle.isolation.specs.Noted.{IsLeft, ended_in}

@@ -83,8 +83,8 @@ fn replies_in(alloc: Global, log: Vec<Logged>) -> Result<Vec<OwnReply>, NoMemory
 }
 
 /// What has happened to a session, by the journal of a core of this boot that is legal, whose entries have read at most
-/// 2^28 bytes in all, and each of them the same byte wherever its reads share an address. Only want of memory keeps it
-/// from telling.
+/// 2^28 bytes in all, and each of them the same byte wherever its reads share an address. `NoMemory` where memory is
+/// wanting.
 pub fn own_events(
     alloc: Global,
     boot: &Boot,

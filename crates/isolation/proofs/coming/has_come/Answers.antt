@@ -1,11 +1,10 @@
 use Rattle.std.proofs.Common.{◌≡◌, Some, subst}
-use Rattle.std.specs.Prelude.{IfOk, slice_get}
+use Rattle.std.specs.Prelude.{slice_get}
 use Rattle.isolation.specs.Noted.{AreNoted}
 use Rattle.isolation.specs.Replaying.{errand_at}
 use Rattle.isolation.proofs.CameFor.{came_for, few_slots}
 use Rattle.isolation.proofs.HasCome.{answered_so, arrived_in, same_tables}
 use Rattle.kernel_state.specs.declared.processor.Errand.TheVariants as errand
-use Rattle.own_model.specs.Own.{Notes}
 use Rattle.isolation.proofs.coming.has_come.Goals as goal
 
 pub has_come_for-requires : goal.has_come_for-requires

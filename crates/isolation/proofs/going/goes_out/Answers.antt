@@ -1,5 +1,5 @@
 -- What the processor came for.
-use Rattle.std.proofs.Common.{◌≡◌, ℕ, List, Option, Some, None, ap, sym, ◌∙◌}
+use Rattle.std.proofs.Common.{◌≡◌, List, Some, ap, sym, ◌∙◌}
 use Rattle.std.specs.Prelude.{slice_get}
 use Rattle.isolation.specs.Replaying.{errand_at}
 use Rattle.isolation.proofs.GoneOut.{comes_for, exit_answered, few_processors, few_slots}

@@ -1,5 +1,5 @@
 -- Each event is the next of a legal journal.
-use Rattle.std.proofs.Common.{◌≡◌, ◌≤◌, ◌^◌, List, take, ap, sym, subst, ◌∙◌}
+use Rattle.std.proofs.Common.{◌≤◌, ◌^◌, List, take, sym, subst, ◌∙◌}
 use Rattle.std.proofs.lemmas.List.{take_all}
 use Rattle.std.specs.List.{AllByRecursion}
 use Rattle.event_journal.specs.Journal.{copied_bytes}

@@ -1,5 +1,3 @@
-use Rattle.std.proofs.Common.{◌≡◌, List, ap}
-use Rattle.std.specs.Prelude.{IfOk}
 use Rattle.isolation.proofs.OwnLogs.{alone_so}
 use Rattle.kernel_model.specs.Application.{booted}
 use Rattle.native_tas.specs.Table.{entries}

@@ -1,4 +1,4 @@
-use Rattle.std.proofs.Common.{◌≡◌, List, ◌++◌, Option, ap, sym, ◌∙◌}
+use Rattle.std.proofs.Common.{List, ◌++◌, Option, ap, sym, ◌∙◌}
 use Rattle.std.specs.Option.{option_to_list}
 use Rattle.isolation.proofs.OwnLogs.{replies_more}
 use Rattle.own_model.specs.Own.{replies_in}

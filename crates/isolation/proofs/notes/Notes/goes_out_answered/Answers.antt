@@ -1,4 +1,4 @@
-use Rattle.std.proofs.Common.{ℕ, ◌<◌, List, Bool, Some, false, length, get_or, refl, ap, sym, ◌∙◌, arith, rules}
+use Rattle.std.proofs.Common.{ℕ, ◌<◌, Bool, Some, false, length, get_or, refl, ap, sym, ◌∙◌, rules}
 use Rattle.std.proofs.lemmas.Option.{slice_get-get_or}
 use Rattle.std.specs.Prelude.{slice_set}
 use Rattle.isolation.proofs.NotesKept.{limit_noted, no_limit_noted}

@@ -1,4 +1,4 @@
-use Rattle.std.proofs.Common.{ℕ, List, Option, None, refl, ap, arith, rules}
+use Rattle.std.proofs.Common.{ℕ, None, refl, ap, rules}
 use Rattle.std.specs.Prelude.{slice_set}
 use Rattle.isolation.proofs.NotesKept.{numbers_without}
 use Rattle.isolation.proofs.numbering.Numbering.forget.Goals as goal

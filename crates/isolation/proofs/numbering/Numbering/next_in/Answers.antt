@@ -1,4 +1,4 @@
-use Rattle.std.proofs.Common.{ℕ, List, Option, Some, refl, ap, arith, rules}
+use Rattle.std.proofs.Common.{ℕ, Some, refl, ap, rules}
 use Rattle.std.specs.Prelude.{slice_set}
 use Rattle.isolation.proofs.NotesKept.{next_numbers}
 use Rattle.isolation.proofs.numbering.Numbering.next_in.Goals as goal

@@ -1,4 +1,4 @@
-use Rattle.std.proofs.Common.{ℕ, List, Option, refl, ap, sym, arith, rules}
+use Rattle.std.proofs.Common.{ℕ, refl, ap, sym, rules}
 use Rattle.std.specs.Prelude.{slice_set}
 use Rattle.isolation.proofs.NotesKept.{some_woken}
 use Rattle.isolation.proofs.numbering.Numbering.with_wake.Goals as goal

@@ -1,5 +1,5 @@
 -- Its work is there and its own, and goes out as the journal's processor did.
-use Rattle.std.proofs.Common.{ℕ, Some, None, length, refl, ap, sym, ◌∙◌, arith}
+use Rattle.std.proofs.Common.{Some, length, refl, ap, sym, ◌∙◌, arith}
 use Rattle.std.proofs.lemmas.Option.{slice_get_read}
 use Rattle.core_machine.proofs.Wholes.{can_leave}
 use Rattle.isolation.proofs.Exits.{goes_on_so, has_work, its_work, work_below}

@@ -1,5 +1,5 @@
 -- Nobody is inside yet.
-use Rattle.std.proofs.Common.{ℕ, List, [], None, length, ap, sym, ◌∙◌}
+use Rattle.std.proofs.Common.{ℕ, [], None, ap, sym, ◌∙◌}
 use Rattle.std.proofs.lemmas.List.{length-replicate}
 use Rattle.std.specs.Prelude.{replicate}
 use Rattle.core_machine.proofs.Wholes.{whole_first}
