@@ -1,5 +1,5 @@
 -- What stands at 40000000 once an argument of a made trace was written there, and what a call with it wants.
-use Rattle.std.proofs.Common.{◌≡◌, ℕ, ◌+◌, ◌*◌, ◌≤◌, true, false, List, [], ◌∷◌, ◌++◌, drop, length, map, Option, Some, None, refl, ap, subst, sym, ◌∙◌, arith}
+use Rattle.std.proofs.Common.{◌≡◌, ℕ, ◌+◌, ◌*◌, true, false, List, [], ◌∷◌, Some, refl, ap, subst, sym, ◌∙◌, arith}
 use Rattle.msg_args.specs.Reading.{head_at}
 use Rattle.msg_args.specs.declared.head.MsgHead.{MsgHead}
 use Rattle.msg_args.specs.declared.kind.ParamKind.TheVariants.{ValueIn, ValueInout}
@@ -14,7 +14,7 @@ use Rattle.kernel_model.specs.NewCall.{NewCall, command_of, invoke_command, new_
 use Rattle.workload.specs.Message.{head, param}
 use Rattle.workload.specs.Work.{invoke_argument, open_argument}
 use Rattle.made_play.proofs.AtMost.{AtMost, few_more}
-use Rattle.made_play.proofs.NewCalls.{CommandFew, HasNamesAlone, HasValuesAlone, invoke_few, new_call_few, open_few, param_bytes}
+use Rattle.made_play.proofs.NewCalls.{HasNamesAlone, HasValuesAlone, invoke_few, new_call_few, open_few}
 
 -- RAM where an argument was written
 abbrev pub with_argument : List ℕ → List ℕ → List ℕ

@@ -1,7 +1,7 @@
 -- The play of a made trace comes to its end.
-use Rattle.std.proofs.Common.{◌≡◌, ℕ, zero, suc, ◌+◌, ◌*◌, ◌%◌, ◌^◌, ◌<◌, ◌≤◌, Bool, true, false, List, [], ◌∷◌, ◌++◌, length, append_assoc, append-nil, Option, Some, None, refl, ap, subst, sym, ◌∙◌, arith}
-use Rattle.std.specs.Prelude.{IsSome, IsSomeAnd, map, nat_lt, if◌then◌else◌, slice_index_or, slice_set}
-use Rattle.std.specs.Option.{option_and_then, option_map, option_map_or}
+use Rattle.std.proofs.Common.{◌≡◌, ℕ, zero, suc, ◌+◌, ◌*◌, ◌%◌, ◌^◌, ◌≤◌, Bool, List, [], ◌∷◌, ◌++◌, append_assoc, append-nil, Option, Some, None, refl, ap, subst, sym, ◌∙◌, arith}
+use Rattle.std.specs.Prelude.{IsSome, IsSomeAnd, if◌then◌else◌}
+use Rattle.std.specs.Option.{option_and_then, option_map_or}
 use Rattle.std.proofs.lemmas.Bool.{le-ltb}
 use Rattle.std.proofs.lemmas.List.{get_or-set_same}
 use Rattle.std.proofs.lemmas.List.Sums.{sum_by-append}
@@ -22,12 +22,11 @@ use Rattle.kernel_model.specs.Sound.{call_at}
 use Rattle.kernel_model.specs.SoundRequests.{HaveFittingRequests}
 use Rattle.kernel_model.proofs.Parts.{option_map_some}
 use Rattle.kernel_model.proofs.SoundRequests.{calls_fit}
-use Rattle.ns_ram.specs.Reader.{Reader, over_lane}
+use Rattle.ns_ram.specs.Reader.{over_lane}
 use Rattle.ns_ram.specs.Reads.{total_bytes}
-use Rattle.ns_ram.specs.Writes.{Write}
 use Rattle.ns_ram.specs.declared.read.Read.{Read}
 use Rattle.play_model.specs.Coming as coming
-use Rattle.play_model.specs.Play.{Play, after_item, after_items, enters, enters_with, first_play, lane_of, leaves, number_in, last_answer, reads_of, unless_refused, visit_of, with_event, with_writes}
+use Rattle.play_model.specs.Play.{Play, after_item, after_items, enters, enters_with, first_play, lane_of, leaves, reads_of, unless_refused, visit_of, with_event, with_writes}
 use Rattle.play_model.proofs.Coming.{items_can_come}
 use Rattle.play_model.proofs.Entries.{Left, event_made, left, left_going}
 use Rattle.play_model.proofs.LinesStay.{plays_go_on}

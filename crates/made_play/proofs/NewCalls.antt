@@ -1,22 +1,21 @@
 -- A new call whose parameters name no memory reads its argument alone.
-use Rattle.std.proofs.Common.{◌≡◌, ℕ, ◌+◌, ◌-◌, ◌*◌, ◌≤◌, List, [], ◌∷◌, Option, Some, None, Result, Ok, Err, refl, ap, subst, sym, ◌∙◌, arith}
+use Rattle.std.proofs.Common.{◌≡◌, ℕ, ◌+◌, ◌-◌, ◌*◌, List, [], Some, Result, Ok, Err, subst, sym, arith}
 use Rattle.std.specs.Prelude.{not}
-use Rattle.job_model.specs.declared.entry_point.EntryPoint.TheVariants.{Invoke}
 use Rattle.msg_args.specs.Reading.{head_at}
 use Rattle.msg_args.specs.declared.param.MsgParam.{MsgParam}
 use Rattle.ns_ram.specs.Attempt.{after_pass, passes, read}
 use Rattle.ns_ram.specs.Lane.{bytes_at}
-use Rattle.ns_ram.specs.Reader.{Reader, done}
-use Rattle.param_copy.specs.Copying.{Copies, copying}
+use Rattle.ns_ram.specs.Reader.{done}
+use Rattle.param_copy.specs.Copying.{copying}
 use Rattle.smc_abi.specs.declared.answer.Answer.{Answer}
-use Rattle.kernel_model.specs.Application.{Application, Booted}
+use Rattle.kernel_model.specs.Application.{Booted}
 use Rattle.kernel_model.specs.Argument.{Opening, argument_at, invocation, opening, params_in}
 use Rattle.kernel_model.specs.Codes.{bad_parameters, busy, ebadaddr, ebadcmd, ethread_limit, item_not_found, out_of_memory, target_dead}
 use Rattle.kernel_model.specs.Decision.{Taken, Tested, taken_by, taken_in}
 use Rattle.kernel_model.specs.Instances.{app_of}
-use Rattle.kernel_model.specs.Kernel.{Kernel, Tables, lowest_free}
+use Rattle.kernel_model.specs.Kernel.{Kernel, lowest_free}
 use Rattle.kernel_model.specs.NewCall.{NewCall, command_of, has_argument, has_pages, has_session_room, invoke_command, is_head_address, is_taken, named_session, new_call, new_call_in, new_call_of, new_call_with, open_session, settles, settles_invoke, settles_open, shares_one}
-use Rattle.made_play.proofs.AtMost.{AtMost, faultless_then, known_then, need_then, nothing_then, read_alone, then_nothing}
+use Rattle.made_play.proofs.AtMost.{AtMost, faultless_then, known_then, need_then, read_alone, then_nothing}
 
 -- the bytes of the parameters
 abbrev pub param_bytes : List ℕ → NewCall → List ℕ

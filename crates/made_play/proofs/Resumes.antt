@@ -1,9 +1,8 @@
 -- A resume reads at most the reply to a request that fits a message.
-use Rattle.std.proofs.Common.{◌≡◌, ℕ, ◌-◌, ◌≤◌, Bool, true, false, List, [], ◌∷◌, Option, Some, None, refl, ap, subst, sym, ◌∙◌, arith}
+use Rattle.std.proofs.Common.{◌≡◌, ℕ, ◌≤◌, Bool, true, false, List, [], Option, Some, None, refl, ap, ◌∙◌, arith}
 use Rattle.std.specs.Prelude.{◌==◌, if◌then◌else◌, nat_le, slice_get}
 use Rattle.std.specs.Option.{option_and_then, option_map_or}
 use Rattle.std.proofs.lemmas.Bool.{leb-true}
-use Rattle.job_model.specs.Job.{Job}
 use Rattle.ns_ram.specs.Reader.{done, take_bytes}
 use Rattle.rpc_msgs.specs.Reply.{payload_of, reply_reader}
 use Rattle.rpc_msgs.specs.Request.{IsRequest, payload_at}
@@ -16,7 +15,7 @@ use Rattle.kernel_model.specs.Codes.{eresume}
 use Rattle.kernel_model.specs.Decision.{Answers}
 use Rattle.kernel_model.specs.Given.{given_after, given_to}
 use Rattle.kernel_model.specs.Kernel.{Active, Asks, CallPhase, Ends, Free, Kernel, PendingCall, Runs, Suspended, ThreadSlot, Waits}
-use Rattle.kernel_model.specs.Leaving.{FreesBuffer, Finishes, Interrupted, Leaving, Request, Requests, WantsBuffer, asks_for, leaving_in, leaving_of, plain_request}
+use Rattle.kernel_model.specs.Leaving.{FreesBuffer, Finishes, Interrupted, Leaving, Request, Requests, WantsBuffer, leaving_in, leaving_of, plain_request}
 use Rattle.kernel_model.specs.Resume.{call_resumed_by, resume, resume_call, suspended_for, takes_call}
 use Rattle.kernel_model.specs.Sound.{call_at, call_in, unmarked}
 use Rattle.kernel_model.specs.SoundRequests.{HasFittingRequest, HaveFittingRequests}

@@ -1,5 +1,5 @@
 -- Made traces are within the limits of a trace.
-use Rattle.std.proofs.Common.{◌≡◌, ℕ, zero, suc, ◌+◌, ◌%◌, ◌<◌, ◌≤◌, Bool, true, false, cond, eqb, List, [], ◌∷◌, ◌++◌, length, Option, Some, None, refl, ap, subst, sym, ◌∙◌, arith, rules}
+use Rattle.std.proofs.Common.{◌≡◌, ℕ, zero, suc, ◌+◌, ◌%◌, ◌<◌, ◌≤◌, Bool, true, false, cond, eqb, List, [], ◌∷◌, length, refl, ap, subst, sym, ◌∙◌, arith, rules}
 use Rattle.std.specs.Prelude.{All, IsTrue, not, slice_index_or}
 use Rattle.std.specs.List.{fold}
 use Rattle.std.proofs.lemmas.List.Elements.{All-append, All-from_recursion, All-head, All-nil, All-tail}
@@ -14,7 +14,7 @@ use Rattle.trace_text.specs.declared.item.Item.TheVariants.{Smc, Enter, Leave, W
 use Rattle.trace_text.specs.declared.item.Reg.{Reg}
 use Rattle.trace_text.specs.declared.item.Reg.TheVariants.{Num}
 use Rattle.workload.specs.Message.{head, param}
-use Rattle.workload.specs.Work.{add_image, add_uuid, argument_call, call_registers, cpu_of, fast_registers, invoke_argument, items_of, kind_of, made_boot, made_items, made_trace, next, open_argument, resume_registers, small_of, steps_of}
+use Rattle.workload.specs.Work.{add_image, add_uuid, argument_call, cpu_of, fast_registers, invoke_argument, items_of, kind_of, made_boot, made_items, made_trace, next, open_argument, resume_registers, small_of, steps_of}
 use Rattle.made_play.specs.Laws.{MadeTracesAreSound}
 
 -- ---- the boot

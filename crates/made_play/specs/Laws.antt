@@ -2,7 +2,6 @@
 use Rattle.std.specs.Prelude.{◌≡◌, ℕ, ◌^◌, ◌≤◌, [], None, IsSomeAnd}
 use Rattle.std.specs.Option.{option_map}
 use Rattle.kernel_model.specs.Application.{IsBooted, booted}
-use Rattle.play_model.specs.Play.{Play}
 use Rattle.play_model.specs.Text.{text_of, text_of_play}
 use Rattle.trace_text.specs.Sound.{IsSound}
 use Rattle.workload.specs.Work.{made_boot, made_trace}

@@ -1,14 +1,11 @@
 -- Numbers among words, and which command words ask for.
-use Rattle.std.proofs.Common.{◌≡◌, ℕ, ◌^◌, ◌<◌, ◌≤◌, true, false, List, [], ◌∷◌, Ok, Result, refl, sym, ap, subst, ◌∙◌, arith}
+use Rattle.std.proofs.Common.{◌≡◌, ℕ, ◌^◌, ◌<◌, false, List, [], ◌∷◌, sym, ap, ◌∙◌, arith}
 use Rattle.std.specs.Fmt.{decimal}
 use Rattle.std.specs.Str.{bytes_eq}
 use Rattle.std.proofs.lemmas.Fmt.{decimal_injective}
 use Rattle.std.proofs.lemmas.Slice.Eq.{bytes_eq-Decides}
-use Rattle.trace_runner.specs.Words.{Say, SayNothing}
-use Rattle.trace_runner.specs.declared.command.Command.{Command}
+use Rattle.trace_runner.specs.Words.{SayNothing}
 use Rattle.trace_runner.specs.declared.command.Command.TheVariants.{Serve, Work}
-use Rattle.trace_runner.specs.declared.command.Grammar.{Grammar}
-use Rattle.trace_runner.specs.declared.command.Grammar.TheVariants.{Text, Records, Assembler}
 
 -- texts that differ are not one number's
 pub other_text : (text word : List ℕ) (one other : ℕ) → bytes_eq text word ≡ false → text ≡ decimal one → one ≡ other

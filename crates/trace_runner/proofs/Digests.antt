@@ -1,5 +1,5 @@
 -- Items played one after the other, whose lines go to a digest and aren't kept.
-use Rattle.std.proofs.Common.{◌≡◌, ℕ, ◌+◌, ◌<◌, ◌≤◌, ◌⊎◌, inl, inr, List, [], ◌++◌, length, take, get_or, Option, Some, None, refl, sym, ap, subst, ◌∙◌, arith}
+use Rattle.std.proofs.Common.{◌≡◌, ℕ, ◌+◌, ◌<◌, ◌≤◌, inl, inr, List, [], ◌++◌, length, get_or, Option, Some, None, sym, ap, subst, ◌∙◌, arith}
 use Rattle.std.specs.Prelude.{IsSome, IsSomeAnd, Ok, Err}
 use Rattle.std.specs.Option.{option_and_then, option_map}
 use Rattle.std.proofs.lemmas.List.{take_all}
@@ -7,7 +7,6 @@ use Rattle.kernel_model.specs.Application.{Booted, Native, booted}
 use Rattle.made_play.specs.Summary.{made_play, summary_line, summary_of, summary_of_play}
 use Rattle.made_play.proofs.Ends.{law as made_plays_end}
 use Rattle.play_model.specs.Play.{Play, after_item, after_items, first_play, played}
-use Rattle.play_model.specs.Text.{text_of_play}
 use Rattle.base.specs.Zeros.{zeros}
 use Rattle.event_journal.specs.declared.event.Event.{Event}
 use Rattle.ports.specs.Port.{Rose}
@@ -20,7 +19,7 @@ use Rattle.trace_text.specs.Sound.{IsSound}
 use Rattle.trace_text.specs.declared.item.Item.{Item}
 use Rattle.trace_text.specs.declared.trace.Trace.{Trace}
 use Rattle.workload.specs.Work.{made_boot, made_trace}
-use Rattle.trace_runner.specs.Content.{refused_by, refused_in}
+use Rattle.trace_runner.specs.Content.{refused_in}
 use Rattle.trace_runner.specs.Digesting.{IsDigested}
 use Rattle.trace_runner.specs.Playing.{Follows, IsPlayedTo}
 use Rattle.trace_runner.specs.declared.digesting.Digested.{Digested}
@@ -28,7 +27,6 @@ use Rattle.trace_runner.specs.declared.player.Player.{Player}
 use Rattle.trace_runner.specs.declared.player.Stop.{Stop}
 use Rattle.trace_runner.specs.declared.player.Stop.TheVariants.{Full}
 use Rattle.trace_runner.proofs.Playable.{Playing, playing-more, playing-stopped}
-use Rattle.trace_runner.proofs.Played.{some-and}
 
 -- the items so far were played, the hasher holds their text, and no line is held
 pub record Digesting (natives : List Native) (trace : Trace) (items : List Item) (at : ℕ) (player : Player)

@@ -1,6 +1,6 @@
 -- What an input spells is one thing, in each grammar, and words ask for one command.
-use Rattle.std.proofs.Common.{◌≡◌, ℕ, List, [], ◌∷◌, length, get_or, ap, refl, sym, ◌∙◌, arith}
-use Rattle.std.specs.Prelude.{◌^◌, String, map, string_bytes}
+use Rattle.std.proofs.Common.{◌≡◌, ℕ, List, [], length, get_or, ap, refl, sym, ◌∙◌, arith}
+use Rattle.std.specs.Prelude.{String, map, string_bytes}
 use Rattle.std.proofs.lemmas.Fmt.{decimal_injective}
 use Rattle.std.specs.Global.{Global}
 use Rattle.ta_asm.proofs.Meanings as asm
