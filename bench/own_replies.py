@@ -1,14 +1,18 @@
 #!/usr/bin/env python3
-"""Works out what `solo_cases` has to print.
+"""Works out what `solo_cases` and `isolation_cases` have to print.
 
 A session's own machine, written a second time from its rules (docs/definitions.md) and not from the Rattle code: an
 application is a generator that yields what it asks for, in the place of instructions that are counted. At the top of the
 repository
 
     bench/own_replies.py | diff - crates/solo_cases/stdout
+    bench/own_replies.py histories | diff - crates/isolation_cases/stdout
 
-says nothing. The histories from which the events are read off stand in `specs/Histories.antt` of that crate.
+say nothing. The histories from which the events are read off stand in `specs/Histories.antt` of the one crate and in
+`stdin` of the other; they were read by hand.
 """
+
+import sys
 
 SUCCESS, CANCEL, BAD_PARAMETERS, OUT_OF_MEMORY, TARGET_DEAD = 0, 0xFFFF0002, 0xFFFF0006, 0xFFFF000C, 0xFFFF3024
 
@@ -248,15 +252,51 @@ CASES = [
      "open, out 0, invoke 100, out 1, limited, buffer 1, out 1, reply 1, out 1, nothing 1, out 1, limited, close, out 2"),
 ]
 
+# ---- the histories: a title, the application, and the events of some sessions by their numbers
+
+HISTORIES = [
+    ("open-and-invoke", adds, {1: "open, out 0, add 5 7, out 1"}),
+    ("one-step-at-a-time", adds, {1: "open, out 0, add 5 7, out 1"}),
+    ("open-invoke-close", adds, {1: "open, out 0, add 5 7, out 1, close, out 2"}),
+    ("output-size-within-and-above-the-buffer", fills, {1: "open, out 0, fill 4 4, out 1, fill 5 4, out 2"}),
+    ("create-object-of-format-one", stores,
+     {1: "open, out 0, invoke 0, out 1, buffer 1, out 1, opened 1 3, out 1, reply 1, out 1, nothing 1, out 1"}),
+    ("two-waiting-calls-and-a-wake", waits,
+     {1: "open, out 0, invoke 250, out 1, invoke 250, out 2, buffer 2, out 2, reply 2, out 2, no_buffer 1, out 1,"
+         "buffer 1, out 1, reply 2, out 2, reply 1, out 1, nothing 1, out 1, reply 2, out 2, nothing 2, out 2"}),
+    ("cancel-of-a-masked-call", waits,
+     {1: "open, out 0, invoke 250, out 1, cancel, out 2, seen 1, buffer 1, out 1, reply 1, out 1, nothing 1, out 1"}),
+    ("thread-limit-and-session-numbers", adds,
+     {1: "open, limited, out 0", 2: "open, limited, out 0", 3: "open, out 0"}),
+    ("panic-leaves-other-sessions", panics,
+     {1: "open, out 0, invoke 1, out 1, invoke 1, out 2, close, out 3", 2: "open, out 0, invoke 0, out 1"}),
+    ("two-clients-with-cancels-limits-and-a-panic", waits_and_panics,
+     {1: "open, out 0, invoke 250, out 1, limited, cancel, out 2, invoke 5, out 3, buffer 3, out 3, seen 1, buffer 1, out 1,"
+         "reply 1, out 1, reply 1, out 1, nothing 1, out 1, reply 3, out 3, nothing 3, out 3, invoke 5, out 4,"
+         "cancel, out 5, close, out 6",
+      2: "open, out 0, invoke 100, out 1, limited, buffer 1, out 1, reply 1, out 1, nothing 1, out 1, limited, close, out 2"}),
+]
+
+
+def print_replies(application, events):
+    session = Session(application)
+    for event in events.split(","):
+        reply = session.happens(event)
+        if reply is not None:
+            print(f"  {reply}")
+
 
 def main():
+    if sys.argv[1:] == ["histories"]:
+        for title, application, sessions in HISTORIES:
+            print("case", title, *sessions)
+            for session, events in sessions.items():
+                print(f"session {session}")
+                print_replies(application, events)
+        return
     for title, application, events in CASES:
-        session = Session(application)
         print(title)
-        for event in events.split(","):
-            reply = session.happens(event)
-            if reply is not None:
-                print(f"  {reply}")
+        print_replies(application, events)
 
 
 main()

@@ -7,7 +7,6 @@
 
 mod cases;
 mod fed;
-mod lines;
 mod sessions;
 
 use crate::cases::{

@@ -8,11 +8,11 @@ ghost use Rattle.solo_cases.specs.Feeding.{IsFed, application_in, boot_in, event
 ghost use Rattle.ta_isa.specs.Spelling.{IsValid};
 
 use crate::fed::{Fed, event_of};
-use crate::lines::line_of;
 use anyhow::Result;
 use base::{NoMemory, Sequence};
 use native_tas::Natives;
 use own_model::OwnReply;
+use reply_lines::line_of;
 use solo::SoloSession;
 use std::alloc::Global;
 use ta_isa::{App, Boot, Image, Instr};

@@ -1,4 +1,7 @@
 //! Playing items: what comes in and goes out is served by lists.
+ghost use Rattle.std.specs.Prelude.{◌≡◌};
+ghost use Rattle.kernel_state.specs.Meaning.{booted_of};
+
 use crate::telling::{tell_answers, tell_show, tell_stand};
 use anyhow::{Context, Result, bail};
 use core_machine::{Machine, Smc, Stopped};
@@ -51,7 +54,9 @@ fn entry(cpu: u8, steps: u32, regs: &[Reg; 8]) -> Result<Smc> {
 }
 
 /// Plays these items, and tells what comes of it.
-pub fn play(alloc: Global, machine: &mut Machine, items: &[Item]) -> Result<String> {
+pub fn play(alloc: Global, machine: &mut Machine, items: &[Item]) -> Result<String>
+    ensures { booted_of machine.new.core ≡ booted_of machine.old.core }
+{
     let mut told = String::new(alloc);
     let mut list = Vec::new(alloc);
     for item in items {
@@ -67,7 +72,9 @@ pub fn play(alloc: Global, machine: &mut Machine, items: &[Item]) -> Result<Stri
 }
 
 /// Serves a list. Where an entry of it wants for memory, that and what is behind it come once more.
-fn serve(alloc: Global, machine: &mut Machine, list: &[Smc], told: &mut String) -> Result<()> {
+fn serve(alloc: Global, machine: &mut Machine, list: &[Smc], told: &mut String) -> Result<()>
+    ensures { booted_of machine.new.core ≡ booted_of machine.old.core }
+{
     if let Some(served) = serve_once(alloc, machine, list, told)? {
         let rest = list.get(served..).context("less was to be served")?;
         if serve_once(alloc, machine, rest, told)?.is_some() {
@@ -84,7 +91,9 @@ fn serve_once(
     machine: &mut Machine,
     list: &[Smc],
     told: &mut String,
-) -> Result<Option<usize>> {
+) -> Result<Option<usize>>
+    ensures { booted_of machine.new.core ≡ booted_of machine.old.core }
+{
     if !machine.can_serve(alloc, list)? {
         bail!("a processor comes in or goes out twice");
     }
@@ -112,12 +121,9 @@ fn refused(stopped: Stopped, told: &mut String) -> Result<Option<usize>> {
 }
 
 /// Plays an item by which nothing comes in or goes out.
-fn write_or_show(
-    alloc: Global,
-    machine: &mut Machine,
-    item: &Item,
-    told: &mut String,
-) -> Result<()> {
+fn write_or_show(alloc: Global, machine: &mut Machine, item: &Item, told: &mut String) -> Result<()>
+    ensures { booted_of machine.new.core ≡ booted_of machine.old.core }
+{
     match item {
         Item::Write { cpu, addr, bytes } => write(machine, *cpu, *addr, bytes.as_slice()),
         Item::Show { cpu, addr, len } => show(alloc, machine, *cpu, *addr, *len, told),
@@ -126,7 +132,9 @@ fn write_or_show(
 }
 
 /// Writes bytes to a processor's RAM.
-fn write(machine: &mut Machine, cpu: u8, addr: u64, bytes: &[u8]) -> Result<()> {
+fn write(machine: &mut Machine, cpu: u8, addr: u64, bytes: &[u8]) -> Result<()>
+    ensures { booted_of machine.new.core ≡ booted_of machine.old.core }
+{
     if cpu >= machine.cpus() || !in_ram(addr, bytes.len() as u64) {
         bail!("a write outside of RAM");
     }

@@ -39,6 +39,7 @@ fn lanes_of(alloc: Global, cpus: u8, fills: &[Fill]) -> Result<Vec<Lane>>
 }
 
 /// The core of a boot, where nothing has happened.
+#[tactic(auto, using(crate::proofs::Boots::within))]
 fn core_of(alloc: Global, boot: Boot, natives: &Natives) -> Result<Core>
     requires { IsBoot boot }
     ensures booted { IfOk result (λ core. booted_of core ≡ booted boot (entries natives.now)) }
@@ -51,8 +52,10 @@ fn core_of(alloc: Global, boot: Boot, natives: &Natives) -> Result<Core>
 }
 
 /// The machine of a boot, beside applications that are built in, with these fills for each of its processors.
+#[tactic(auto, using(crate::proofs::Boots::begun_so))]
 pub fn machine_of(alloc: Global, boot: Boot, natives: &Natives, fills: &[Fill]) -> Result<Machine>
     requires { IsBoot boot }
+    ensures { IfOk result (λ machine. booted_of machine.core ≡ booted boot (entries natives.now)) }
 {
     let lanes = lanes_of(alloc, boot.cpus, fills)?;
     let core = core_of(alloc, boot, natives)?;

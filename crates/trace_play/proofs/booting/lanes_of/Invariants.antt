@@ -1,5 +1,5 @@
 use Rattle.std.proofs.Common.{◌≡◌, length}
-use Rattle.core_cases.proofs.booting.lanes_of.Given as goal
+use Rattle.trace_play.proofs.booting.lanes_of.Given as goal
 
 -- each processor so far has its RAM
 abbrev pub invariant-loop : goal.invariant-loop

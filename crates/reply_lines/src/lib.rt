@@ -1,12 +1,13 @@
-//! What is printed of a reply.
-use anyhow::Result;
+//! What is printed of a session's reply.
+#![tactic(auto)]
+
 use own_model::OwnReply;
 use rpc_msgs::Rpc;
-use std::alloc::Global;
+use std::alloc::{AllocError, Global};
 use ta_params::{Buf, CopiedParams, GpParam};
 
 /// These bytes with a blank before them, or nothing.
-fn bytes_text(alloc: Global, bytes: &Buf) -> Result<String> {
+fn bytes_text(alloc: Global, bytes: &Buf) -> Result<String, AllocError> {
     if bytes.bytes().is_empty() {
         return Ok(String::new(alloc));
     }
@@ -15,7 +16,7 @@ fn bytes_text(alloc: Global, bytes: &Buf) -> Result<String> {
 }
 
 /// What comes back in a parameter, with a blank before it, or nothing.
-fn param_text(alloc: Global, param: &GpParam) -> Result<String> {
+fn param_text(alloc: Global, param: &GpParam) -> Result<String, AllocError> {
     Ok(match param {
         GpParam::Empty => String::new(alloc),
         GpParam::Value { a, b, .. } => format!(in alloc; " value {a} {b}")?,
@@ -27,7 +28,7 @@ fn param_text(alloc: Global, param: &GpParam) -> Result<String> {
 }
 
 /// What comes back in four parameters.
-fn outputs_text(alloc: Global, outputs: &CopiedParams) -> Result<String> {
+fn outputs_text(alloc: Global, outputs: &CopiedParams) -> Result<String, AllocError> {
     let mut text = String::new(alloc);
     for param in [&outputs.p0, &outputs.p1, &outputs.p2, &outputs.p3] {
         text.push_str(param_text(alloc, param)?.as_str())?;
@@ -36,7 +37,7 @@ fn outputs_text(alloc: Global, outputs: &CopiedParams) -> Result<String> {
 }
 
 /// What is asked for. The name of a file is the payload, too.
-fn request_text(alloc: Global, rpc: &Rpc) -> Result<String> {
+fn request_text(alloc: Global, rpc: &Rpc) -> Result<String, AllocError> {
     Ok(match rpc {
         Rpc::Time => format!(in alloc; "time")?,
         Rpc::Sleep(key) => format!(in alloc; "sleep {key}")?,
@@ -51,8 +52,9 @@ fn request_text(alloc: Global, rpc: &Rpc) -> Result<String> {
     })
 }
 
-/// The line of a reply.
-pub(crate) fn line_of(alloc: Global, reply: &OwnReply) -> Result<String> {
+/// The line of a reply: `alloc`, `sleep`, `wake CALL`, `ask REQUEST PAYLOAD`, `free`, `ended RESULT ORIGIN OUTPUTS` or
+/// `limited`. Bytes and the result are hexadecimal, other numbers decimal.
+pub fn line_of(alloc: Global, reply: &OwnReply) -> Result<String, AllocError> {
     Ok(match reply {
         OwnReply::Alloc => format!(in alloc; "alloc")?,
         OwnReply::Sleep => format!(in alloc; "sleep")?,

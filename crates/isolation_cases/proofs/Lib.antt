@@ -1,0 +1,5 @@
+pub mod FewSteps
+pub mod Opened
+pub mod Fed
+pub mod Again
+pub mod Tests

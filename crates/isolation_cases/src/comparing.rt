@@ -1,0 +1,107 @@
+//! Comparing what machines of sessions reply with what the sessions were answered.
+ghost use Rattle.isolation_cases.specs.Feeding.{IsJournal};
+ghost use Rattle.native_tas.specs.Table.{entries};
+
+use crate::conditions::can_be_fed;
+use crate::feeding::feed;
+use anyhow::{Result, bail};
+use event_journal::Journal;
+use isolation::{own_events, own_replies};
+use native_tas::Natives;
+use own_model::OwnReply;
+use reply_lines::line_of;
+use solo::SoloSession;
+use std::alloc::Global;
+use std::fmt::Write;
+use ta_isa::Boot;
+
+/// What the machine of a session replies to what has happened to the session.
+#[tactic(auto, using(crate::proofs::Fed::first_is, crate::proofs::Fed::first_there, crate::proofs::Fed::fed_first))]
+fn replies_alone(
+    alloc: Global,
+    boot: &Boot,
+    natives: &Natives,
+    journal: &Journal,
+    session: u32,
+) -> Result<Vec<OwnReply>>
+    requires { IsJournal boot.now (entries natives.now) journal.now.events }
+{
+    let events = own_events(alloc, boot, natives, journal, session)?;
+    if !can_be_fed(boot, journal, events.as_slice()) {
+        bail!("no session of the only application");
+    }
+    let machine = SoloSession::new(alloc, boot, natives, boot.apps.as_slice()[0].uuid)?;
+    feed(alloc, machine, events.as_slice())
+}
+
+/// Tells a reply, and what was answered in its place.
+fn tell_reply(
+    alloc: Global,
+    reply: &OwnReply,
+    answered: &OwnReply,
+    told: &mut String,
+) -> Result<()> {
+    let reply = line_of(alloc, reply)?;
+    let answered = line_of(alloc, answered)?;
+    if reply == answered {
+        writeln!(told, "  {reply}")?;
+    } else {
+        writeln!(told, "  {reply} otherwise {answered}")?;
+    }
+    Ok(())
+}
+
+/// Tells the replies of a machine, and what was answered otherwise.
+fn tell_replies(
+    alloc: Global,
+    replies: &[OwnReply],
+    answered: &[OwnReply],
+    told: &mut String,
+) -> Result<()> {
+    if replies.len() != answered.len() {
+        writeln!(
+            told,
+            "  {} replies otherwise {}",
+            replies.len(),
+            answered.len()
+        )?;
+    }
+    for (reply, answered) in replies.iter().zip(answered) {
+        tell_reply(alloc, reply, answered, told)?;
+    }
+    Ok(())
+}
+
+/// Tells what a session was answered and its machine replies.
+fn tell_session(
+    alloc: Global,
+    boot: &Boot,
+    natives: &Natives,
+    journal: &Journal,
+    session: u32,
+    told: &mut String,
+) -> Result<()>
+    requires { IsJournal boot.now (entries natives.now) journal.now.events }
+{
+    let replies = replies_alone(alloc, boot, natives, journal, session)?;
+    let answered = own_replies(alloc, boot, natives, journal, session)?;
+    writeln!(told, "session {session}")?;
+    tell_replies(alloc, replies.as_slice(), answered.as_slice(), told)
+}
+
+/// Tells that of each of these sessions.
+pub(crate) fn tell_sessions(
+    alloc: Global,
+    boot: &Boot,
+    natives: &Natives,
+    journal: &Journal,
+    sessions: &str,
+) -> Result<String>
+    requires { IsJournal boot.now (entries natives.now) journal.now.events }
+{
+    let mut told = String::new(alloc);
+    for session in sessions.split(' ') {
+        tell_session(alloc, boot, natives, journal, session.parse()?, &mut told)?;
+    }
+    Ok(told)
+}
