@@ -99,9 +99,10 @@ job_is boot tables slot old session instance points app program memory objects f
 
 -- ---- what stays
 
--- the call that is to start there
-abbrev pub placed : Cont (List ℕ) → Session → Cont (List ℕ)
-placed old session = record old { login = session.login; context = session.context; instance = session.instance }
+-- the call that is to start there, with the instance's open objects
+abbrev pub placed : Cont (List ℕ) → Session → NumberMap Handle → Cont (List ℕ)
+placed old session objects =
+    record old { login = session.login; context = session.context; instance = session.instance; objects = objects }
 
 abbrev pub started_from : Cont (List ℕ) → Cont (List ℕ) → Cont (List ℕ)
 started_from old new = record old {
@@ -110,18 +111,20 @@ started_from old new = record old {
   point = new.point;
   machine = new.machine;
   points = new.points;
-  objects = new.objects;
   phase = new.phase;
 }
 
-stays_at : (old new : Cont (List ℕ)) (session : Session) → new ≡ started_from (placed old session) new → new ≡ begun_from old new
-stays_at old new session stays =
+stays_at : (old new : Cont (List ℕ)) (session : Session) (objects : NumberMap Handle) → new ≡ started_from (placed old session objects) new →
+    new ≡ begun_from old new
+stays_at old new session objects stays =
     let login : session.login ≡ new.login = sym (ap (λ (one : Cont (List ℕ)). one.login) stays) in
     let context : session.context ≡ new.context = sym (ap (λ (one : Cont (List ℕ)). one.context) stays) in
     let instance : session.instance ≡ new.instance = sym (ap (λ (one : Cont (List ℕ)). one.instance) stays) in
-    subst (λ (i : ℕ). new ≡ started_from (record old { login = new.login; context = new.context; instance = i }) new) instance
-    (subst (λ (c : ℕ). new ≡ started_from (record old { login = new.login; context = c; instance = session.instance }) new) context
-    (subst (λ (l : Login). new ≡ started_from (record old { login = l; context = session.context; instance = session.instance }) new) login stays))
+    let open_objects : objects ≡ new.objects = sym (ap (λ (one : Cont (List ℕ)). one.objects) stays) in
+    subst (λ (o : NumberMap Handle). new ≡ started_from (record old { login = new.login; context = new.context; instance = new.instance; objects = o }) new) open_objects
+    (subst (λ (i : ℕ). new ≡ started_from (record old { login = new.login; context = new.context; instance = i; objects = objects }) new) instance
+    (subst (λ (c : ℕ). new ≡ started_from (record old { login = new.login; context = c; instance = session.instance; objects = objects }) new) context
+    (subst (λ (l : Login). new ≡ started_from (record old { login = l; context = session.context; instance = session.instance; objects = objects }) new) login stays)))
 
 -- ---- all of it
 
@@ -130,14 +133,14 @@ session_begun : (boot : Booted) (tables after : Tables) (old new : Cont (List �
     app_of boot instance.uuid ≡ Some (application_of app) → program ≡ alive_app instance.dead app → kept_memory bytes_of memory ≡ instance.memory → objects ≡ instance.objects →
     tables_of after ≡ with_instance (tables_of tables) session.instance (held_by slot instance) →
     IsInPhase new (Runs (begun_job (beginning_with program memory old.cancelled) (idle_job instance.uuid session.login session.context objects (kept_params old.params)) points)) →
-    IsAppOf new.app (Some instance.uuid) → new ≡ started_from (placed old session) new →
+    IsAppOf new.app (Some instance.uuid) → new ≡ started_from (placed old session objects) new →
     HasBegun after old new instance.uuid (begins_on (who_begins boot tables slot old) session instance (kept_params old.params) points)
 session_begun boot tables after old new slot session instance points app program memory objects found is kept same held runs of_app stays = record {
   tables = held;
   runs = (sym (job_is boot tables slot old session instance points app program memory objects found is kept same) ∙ runs.0, runs.1);
   app = of_app;
   instance = ap (λ (one : Cont (List ℕ)). one.instance) stays;
-  stays = stays_at old new session stays;
+  stays = stays_at old new session objects stays;
 }
 
 -- by the instance as it is kept
@@ -147,7 +150,7 @@ pub begun_on : (boot : Booted) (tables after : Tables) (old new : Cont (List ℕ
     app_of boot instance.uuid ≡ Some (application_of app) → program ≡ alive_app found.dead app → kept_memory bytes_of memory ≡ instance.memory → objects ≡ instance.objects →
     tables_of after ≡ with_instance (tables_of tables) session.instance (held_by slot instance) →
     IsInPhase new (Runs (begun_job (beginning_with program memory old.cancelled) (idle_job found.uuid session.login session.context objects (kept_params old.params)) points)) →
-    IsAppOf new.app (Some found.uuid) → new ≡ started_from (placed old session) new →
+    IsAppOf new.app (Some found.uuid) → new ≡ started_from (placed old session objects) new →
     HasBegun after old new instance.uuid (begins_on (who_begins boot tables slot old) session instance (kept_params old.params) points)
 begun_on boot tables after old new slot session found instance points app program memory objects is seen of_boot runs_app kept same held runs of_app stays =
     let this : instance_of found ≡ instance = same_found tables.instances session.instance found instance is seen in

@@ -13,7 +13,6 @@ use crate::points::Points;
 use frame_pool::Pages;
 use kernel_state::Application;
 use rpc_cont::{Cont, Held};
-use tee_storage::Handles;
 use uuid::Uuid;
 
 /// What a call finds on the instance that it begins on, and its entry points there.
@@ -24,7 +23,6 @@ pub(crate) struct InstanceFound {
     /// None where it is dead.
     pub program: Option<Application>,
     pub memory: Option<Pages>,
-    pub objects: Handles,
     pub points: Points,
 }
 
@@ -52,7 +50,7 @@ fn held_of(uuid: Uuid, program: Option<Application>, memory: Option<Pages>) -> H
     }
 }
 
-/// Starts the call on what it finds.
+/// Starts the call on what it finds, with the open objects that it has.
 pub(crate) fn starts(cont: &mut Cont<Pages>, found: InstanceFound)
     requires fresh { CanBegin cont.old }
     requires found { CanStart found.program found.memory found.uuid }
@@ -64,7 +62,6 @@ pub(crate) fn starts(cont: &mut Cont<Pages>, found: InstanceFound)
       point = cont.new.point;
       machine = cont.new.machine;
       points = cont.new.points;
-      objects = cont.new.objects;
       phase = cont.new.phase;
     } }
 {
@@ -72,9 +69,8 @@ pub(crate) fn starts(cont: &mut Cont<Pages>, found: InstanceFound)
         uuid,
         program,
         memory,
-        objects,
         points,
     } = found;
     let held = held_of(uuid, program, memory);
-    cont.begin_on(held, objects, points.first, points.behind);
+    cont.start_on(held, points.first, points.behind);
 }

@@ -15,19 +15,24 @@ use frame_pool::{Pages, Pool};
 use kernel_state::{Application, Tables};
 use tee_storage::Handles;
 
-/// Lets the call of a slot hold a kept instance, and gives its memory and its open objects.
-pub(crate) fn holds(tables: &mut Tables, number: u32, slot: u8) -> (Option<Pages>, Handles)
+/// Lets the call of a slot hold a kept instance: gives its memory, and moves its open objects into those of the call.
+pub(crate) fn holds(
+    tables: &mut Tables,
+    number: u32,
+    slot: u8,
+    objects: &mut Handles,
+) -> Option<Pages>
     requires free { IsSomeAnd (get (tables_of tables.old).instances number) (λ instance. instance.holder ≡ None) }
     requires rising { IsRising (tables_of tables.old).instances }
     ensures tables { (instance : AnyInstance) → get (tables_of tables.old).instances number ≡ Some instance
         → tables_of tables.new ≡ with_instance (tables_of tables.old) number (held_by slot instance) }
     ensures memory { (instance : AnyInstance) → get (tables_of tables.old).instances number ≡ Some instance
-        → kept_memory bytes_of result.0 ≡ instance.memory }
-    ensures objects { (instance : AnyInstance) → get (tables_of tables.old).instances number ≡ Some instance → result.1 ≡ instance.objects }
+        → kept_memory bytes_of result ≡ instance.memory }
+    ensures objects { (instance : AnyInstance) → get (tables_of tables.old).instances number ≡ Some instance → objects.new ≡ instance.objects }
     ensures pages { (boot : Booted) → free_pages boot (tables_of tables.new).instances ≡ free_pages boot (tables_of tables.old).instances }
     ensures pool { tables.new.pool ≡ tables.old.pool }
 {
-    tables.instances.hold(number, slot)
+    tables.instances.hold_into(number, slot, objects)
 }
 
 /// The pages of a new instance of the application.
@@ -48,20 +53,22 @@ fn fresh_pages(pool: &mut Pool, app: &Application) -> Option<Pages>
     }
 }
 
-/// Makes an instance of the application that the call of a slot holds, and gives its memory and its open objects.
+/// Makes an instance of the application that the call of a slot holds: gives its memory, and moves its open objects, of
+/// which there are none, into those of the call.
 pub(crate) fn makes(
     tables: &mut Tables,
     number: u32,
     app: &Application,
     slot: u8,
-) -> (Option<Pages>, Handles)
+    objects: &mut Handles,
+) -> Option<Pages>
     requires few { pages_in (application_of app.now) ≤ 64 }
     requires free { pages_in (application_of app.now) ≤ tables.old.pool.free }
     requires absent { get (tables_of tables.old).instances number ≡ None }
     requires room { length (tables_of tables.old).instances < 80 }
     ensures tables { tables_of tables.new ≡ with_instance (tables_of tables.old) number (made_for (uuid_of (application_of app.now)) slot) }
-    ensures memory { kept_memory bytes_of result.0 ≡ fresh_memory (pages_in (application_of app.now)) }
-    ensures objects { result.1 ≡ [] }
+    ensures memory { kept_memory bytes_of result ≡ fresh_memory (pages_in (application_of app.now)) }
+    ensures objects { objects.new ≡ [] }
     ensures pages { (boot : Booted) → free_pages boot (tables_of tables.new).instances
         ≡ free_pages boot (tables_of tables.old).instances - pages_of boot (uuid_of (application_of app.now)) }
     ensures pool { tables.new.pool ≡ record tables.old.pool { free = tables.old.pool.free - pages_in (application_of app.now) } }
@@ -70,5 +77,5 @@ pub(crate) fn makes(
     tables
         .instances
         .make(number, app.uuid(), app.flags(), memory);
-    tables.instances.hold(number, slot)
+    tables.instances.hold_into(number, slot, objects)
 }

@@ -41,7 +41,7 @@ pub fn opens_kept(tables: &mut Tables, cont: &mut Cont<Pages>, call: OpenCall, n
 {
     let OpenCall { slot, app, login } = call;
     let unmakes = destroy_after(&app, &tables.sessions, number);
-    let (memory, objects) = holds(tables, number, slot);
+    let memory = holds(tables, number, slot, &mut cont.objects);
     cont.login = login;
     cont.context = 0;
     cont.instance = number;
@@ -49,7 +49,6 @@ pub fn opens_kept(tables: &mut Tables, cont: &mut Cont<Pages>, call: OpenCall, n
         uuid: app.uuid(),
         program: Some(app),
         memory,
-        objects,
         points: Points::opening(false, unmakes),
     };
     starts(cont, found);
@@ -69,7 +68,7 @@ pub fn opens_new(tables: &mut Tables, cont: &mut Cont<Pages>, call: OpenCall, nu
 {
     let OpenCall { slot, app, login } = call;
     let unmakes = destroy_after(&app, &tables.sessions, number);
-    let (memory, objects) = makes(tables, number, &app, slot);
+    let memory = makes(tables, number, &app, slot, &mut cont.objects);
     cont.login = login;
     cont.context = 0;
     cont.instance = number;
@@ -77,7 +76,6 @@ pub fn opens_new(tables: &mut Tables, cont: &mut Cont<Pages>, call: OpenCall, nu
         uuid: app.uuid(),
         program: Some(app),
         memory,
-        objects,
         points: Points::opening(true, unmakes),
     };
     starts(cont, found);

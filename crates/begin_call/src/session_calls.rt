@@ -62,7 +62,7 @@ pub fn begins_on(tables: &mut Tables, cont: &mut Cont<Pages>, call: SessionCall)
     };
     let uuid = instance.uuid;
     let program = program_on(instance, app);
-    let (memory, objects) = holds(tables, number, slot);
+    let memory = holds(tables, number, slot, &mut cont.objects);
     cont.login = session.login;
     cont.context = session.context;
     cont.instance = number;
@@ -70,7 +70,6 @@ pub fn begins_on(tables: &mut Tables, cont: &mut Cont<Pages>, call: SessionCall)
         uuid,
         program,
         memory,
-        objects,
         points,
     };
     starts(cont, found);

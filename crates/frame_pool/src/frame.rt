@@ -5,7 +5,6 @@ ghost use Rattle.ta_step.specs.Bytes.{word_at};
 
 use base::NoMemory;
 use std::alloc::Global;
-use std::default::MadeWith;
 use std::marker::Model;
 use ta_step::{put_word, word_of};
 
@@ -72,14 +71,5 @@ impl Frame {
         ensures { self.new ≡ overwritten self.old at word }
     {
         put_word(self.bytes.as_mut_slice(), at, word);
-    }
-}
-
-/// A frame of no bytes stands in the unused places of a list of fixed capacity.
-impl MadeWith<Global> for Frame {
-    fn made_with(alloc: Global) -> Frame {
-        Frame {
-            bytes: Vec::new(alloc),
-        }
     }
 }

@@ -1,6 +1,9 @@
 //! The page frames of the instances' memory. All memory is taken at the start; from then on a page is moved
 //! between the pool and its one owner, and comes out of the pool as zeros, whatever was in it.
 //!
+//! The frames of an owner lie in one list. Each frame brings an empty list for 64 frames along, so that taking pages
+//! takes no memory, and an owner moves as a list and a pointer.
+//!
 //! The pool and the size of a page are this project's own.
 #![tactic(auto)]
 
@@ -9,6 +12,7 @@ mod frame;
 mod laws;
 mod pages;
 mod pool;
+mod rooms;
 mod short;
 
 pub use base::NoMemory;

@@ -1,11 +1,11 @@
-ghost use Rattle.std.specs.Prelude.{◌≡◌, ◌+◌, ◌*◌, ◌%◌, ◌^◌, ◌<◌, ◌≤◌, [], ◌++◌, length, nat_lt};
+ghost use Rattle.std.specs.Prelude.{◌≡◌, ◌+◌, ◌*◌, ◌%◌, ◌^◌, ◌<◌, ◌≤◌, [], ◌++◌, length, nat_lt, vec_capacity};
 ghost use Rattle.std.specs.List.{concat};
 ghost use Rattle.base.specs.Bytes.{has_bytes, overwritten, written};
 ghost use Rattle.frame_pool.specs.Pages.{AreWhole, page_count};
 ghost use Rattle.ta_step.specs.Bytes.{word_at};
 
 use crate::frame::{Frame, PAGE_BYTES};
-use arrayvec::ArrayVec;
+use crate::rooms::Lent;
 use std::alloc::Global;
 use std::marker::Model;
 use ta_step::TaMemory;
@@ -20,11 +20,12 @@ const WORD_BYTES: usize = 4;
 /// bytes.
 #[derive(Drop)]
 pub struct Pages {
-    frames: ArrayVec<Frame, MAX_PAGES, Global>,
+    frames: Vec<Frame>,
+    lent: Lent,
 }
 
 impl Model for Pages {
-    ghost use Rattle.std.specs.Prelude.{ℕ, List};
+    ghost use Rattle.std.specs.Prelude.{ℕ, List, ◌<◌, ◌≤◌, length, vec_capacity};
     ghost use Rattle.std.specs.List.{concat};
     ghost use Rattle.frame_pool.specs.Pages.{AreWhole};
 
@@ -32,36 +33,43 @@ impl Model for Pages {
 
     ghost view = { λ pages. concat pages.frames.items };
 
-    ghost invariant = { λ pages. AreWhole pages.frames.items };
+    ghost invariant = { λ pages. AreWhole pages.frames.items × (length pages.frames.items ≤ 64)
+        × (length pages.frames.items ≤ pages.lent) × (0 < pages.lent → 64 ≤ vec_capacity pages.frames) };
 }
 
 impl Pages {
     /// No pages. Takes no memory.
     pub(crate) fn none(alloc: Global) -> Pages
-        ensures { result ≡ [] }
+        ensures bytes { result ≡ [] }
+        ensures count { page_count result ≡ 0 }
     {
         Pages {
-            frames: ArrayVec::new_in(alloc),
+            frames: Vec::new(alloc),
+            lent: Lent::none(),
         }
     }
 
-    /// Puts a page behind the others.
-    pub(crate) fn add(&mut self, frame: Frame)
-        requires room { length self.old < 4096 * 64 }
-        requires whole { length frame ≡ 4096 }
-        ensures { self.new ≡ self.old ++ frame }
+    /// The pages in these frames, whose list is of the first of these rooms.
+    pub(crate) fn of(frames: Vec<Frame>, lent: Lent) -> Pages
+        requires whole { AreWhole frames.items }
+        requires at_most { length frames.items ≤ 64 }
+        requires rooms { length frames.items ≤ lent }
+        requires fits { 64 ≤ vec_capacity frames }
+        ensures bytes { result ≡ concat frames.items }
+        ensures count { page_count result ≡ length frames.items }
     {
-        self.frames.push(frame);
+        Pages { frames, lent }
     }
 
-    /// Gives the frames back.
-    pub(crate) fn into_frames(self) -> ArrayVec<Frame, MAX_PAGES, Global>
-        ensures bytes { concat result.items ≡ self }
-        ensures whole { AreWhole result.items }
-        ensures count { length result.items ≡ page_count self }
+    /// Gives the frames and their rooms back.
+    pub(crate) fn into_parts(self) -> (Vec<Frame>, Lent)
+        ensures whole { AreWhole result.0.items }
+        ensures count { length result.0.items ≡ page_count self }
+        ensures rooms { length result.0.items ≤ result.1 }
+        ensures fits { 0 < result.1 → 64 ≤ vec_capacity result.0 }
     {
-        let Pages { frames } = self;
-        frames
+        let Pages { frames, lent } = self;
+        (frames, lent)
     }
 
     /// How many pages there are.

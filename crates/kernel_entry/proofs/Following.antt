@@ -125,8 +125,8 @@ fits_so parts entered of fact begins = ∥∥₁_elim fact (plan_prop parts.tabl
     (so.stands.slots entered.slot)) in
     fits_plan parts.setup (call_at so.kernel.slots) parts.tables entered of so.is_boot (sound_so parts so) none entered.is_slot so.stands.pages begins.applies)
 
-can_take_slot : (parts : Parts) (entered : Entered) (of : Plan) → ∥ Replays parts ∥₁ → CanBegin parts entered of → CanTakeSlot parts entered of
-can_take_slot parts entered of fact begins = record {
+can_take_slot : (parts : Parts) (entered : Entered) (of : Plan) → ∥ Replays parts ∥₁ → 0 < parts.blanks → CanBegin parts entered of → CanTakeSlot parts entered of
+can_take_slot parts entered of fact blank begins = record {
   begins = begins;
   beside = beside_there parts entered.slot Free fact (free_at_lowest parts.slots entered.slot begins.lowest);
   takes = record {
@@ -134,6 +134,7 @@ can_take_slot parts entered of fact begins = record {
     applies = begins.applies;
     fits = fits_so parts entered of fact begins;
   };
+  blank = blank;
 }
 
 -- ---- a call that is resumed
@@ -235,7 +236,7 @@ call_found slots beside held regs are ok =
 
 -- ---- all of it
 
-pub can_follow : (parts : Parts) (regs : List ℕ) (of : EntryDecision) → ∥ Replays parts ∥₁ → HasFound parts regs of → CanFollow parts regs of
-can_follow parts regs (decision.Answers answer) fact found = tt
-can_follow parts regs (decision.Begins entered plan cont) fact found = (can_take_slot parts entered plan fact found.0, found.1)
-can_follow parts regs (decision.GoesOn decided) fact found = can_go_on parts regs decided.value fact found
+pub can_follow : (parts : Parts) (regs : List ℕ) (of : EntryDecision) → ∥ Replays parts ∥₁ → 0 < parts.blanks → HasFound parts regs of → CanFollow parts regs of
+can_follow parts regs (decision.Answers answer) fact blank found = tt
+can_follow parts regs (decision.Begins entered plan) fact blank found = can_take_slot parts entered plan fact blank found
+can_follow parts regs (decision.GoesOn decided) fact blank found = can_go_on parts regs decided.value fact found

@@ -186,14 +186,14 @@ meant_same c entered (plan.KeepsBuffer cookie buffer) cancels beside is head ses
 meant_same c entered (plan.DropsBuffer cookie) cancels beside is head session number = ap (λ (cancels : Bool). cancels_by cancels beside) is
 
 -- a slot was taken for the plan
-pub new_takes : (old mid new : Parts) (visitor : Visitor) (entered : Entered) (of : Plan) (cancels : Bool) (beside : Cancellation) (after : Tables)
+pub new_takes : (old mid new : Parts) (visitor : Visitor) (entered : Entered) (of : Plan) (cancels : Bool) (beside : Cancellation) (blanks : ℕ) (after : Tables)
     (cont : Cont (List ℕ)) (reads : List Read) → cancels ≡ is_cancel of →
     IsTaken (meant_by entered of) entered after cont (taken_of (call_with (booted_with old.setup) (tables_of old.tables) entered) of) →
     HasFreePages old.setup after → beside ≡ record { session = cont.session; cancel_id = entered.head.cancel_id; marked = false } →
-    HasTaken (record old { tables = after }) mid visitor.cpu entered.slot beside (cancels_by cancels beside) →
+    HasTaken (record old { tables = after; blanks = blanks }) mid visitor.cpu entered.slot beside (cancels_by cancels beside) →
     IsInside mid new visitor (InSlot entered.slot) reads →
     TakesSlot old new visitor entered.slot beside (taken_of (call_with (booted_with old.setup) (tables_of old.tables) entered) of)
-new_takes old mid new visitor entered of cancels beside after cont reads is taken pages beside_is has inside =
+new_takes old mid new visitor entered of cancels beside blanks after cont reads is taken pages beside_is has inside =
     let c = call_with (booted_with old.setup) (tables_of old.tables) entered in
     let session : beside.session ≡ (taken_of c of).call.session = ap (λ (beside : Cancellation). beside.session) beside_is ∙ taken.call.session in
     let meant : cancels_by cancels beside ≡ (taken_of c of).cancels =

@@ -10,7 +10,6 @@ use Rattle.kernel_model.specs.Decision.{Taken}
 use Rattle.kernel_model.specs.Instances.{is_held, shared_instance}
 use Rattle.kernel_model.specs.Kernel as model
 use Rattle.kernel_model.specs.Kernel.{CallPhase, Instance, Runs, Waits}
-use Rattle.rpc_cont.specs.Beginning.{IsFresh}
 use Rattle.rpc_cont.specs.declared.cont.Cont.{Cont}
 use Rattle.rpc_cont.specs.declared.phase.Phase.TheVariants as phase
 use Rattle.session_table.specs.Sessions.{has_room}
@@ -72,14 +71,6 @@ pub record HasCome (after : Tables) (old new : Cont (List ℕ)) (uuid : List ℕ
   pub stays : new ≡ begun_from old new
 
 -- ---- when it can come
-
--- nothing of it is there yet
-pub record IsBlank (cont : Cont (List ℕ)) : Type 0 where
-  pub fresh : IsFresh cont
-  pub buffer : cont.buffer ≡ None
-  pub cancelled : cont.cancelled ≡ false
-  pub steps : cont.steps ≡ 0
-  pub done : cont.done ≡ false
 
 -- as its entry makes it
 pub record IsNew (cont : Cont (List ℕ)) : Type 0 where

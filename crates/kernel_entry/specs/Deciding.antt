@@ -21,7 +21,6 @@ use Rattle.resumed_calls.specs.Deciding.{IsAppIn}
 use Rattle.resumed_calls.specs.declared.deciding.Decided.{Decided}
 use Rattle.smc_abi.specs.Call.{call_of}
 use Rattle.thread_slots.specs.Slots.{lowest_free}
-use Rattle.kernel_entry.specs.Applying.{IsBlank}
 use Rattle.kernel_entry.specs.Resuming.{IsSuspended, goes_on_as}
 use Rattle.kernel_entry.specs.declared.deciding.EntryDecision.{EntryDecision}
 use Rattle.kernel_entry.specs.declared.deciding.EntryDecision.TheVariants as decision
@@ -35,7 +34,7 @@ goes_on_in parts regs decided call = model.Takes (thread_in regs) (works_on (goe
 -- what was decided
 abbrev pub decision_as : Parts → Kernel → List ℕ → EntryDecision → Decision
 decision_as parts kernel regs (decision.Answers answer) = model.Answers answer
-decision_as parts kernel regs (decision.Begins entered plan cont) = model.Takes entered.slot
+decision_as parts kernel regs (decision.Begins entered plan) = model.Takes entered.slot
     (taken_of (call_with (booted_with parts.setup) (tables_of parts.tables) entered) plan)
 decision_as parts kernel regs (decision.GoesOn decided) =
     option_map_or (goes_on_in parts regs decided.value) (call_resumed_by kernel.slots regs) (model.Answers eresume)
@@ -67,5 +66,5 @@ pub record CanContinue (parts : Parts) (regs : List ℕ) (decided : Decided) : T
 -- what was found for what was decided
 abbrev pub HasFound : Parts → List ℕ → EntryDecision → Type 0
 HasFound parts regs (decision.Answers answer) = Unit {0}
-HasFound parts regs (decision.Begins entered plan cont) = CanBegin parts entered plan × IsBlank cont.value
+HasFound parts regs (decision.Begins entered plan) = CanBegin parts entered plan
 HasFound parts regs (decision.GoesOn decided) = CanContinue parts regs decided.value

@@ -15,7 +15,7 @@ use Rattle.new_calls.specs.declared.entered.Entered.{Entered}
 use Rattle.new_calls.specs.declared.plan.Plan.{Plan}
 use Rattle.ns_ram.specs.Reads.{total_bytes}
 use Rattle.ns_ram.specs.declared.read.Read.{Read}
-use Rattle.kernel_entry.specs.Applying.{CanTake, IsBlank}
+use Rattle.kernel_entry.specs.Applying.{CanTake}
 use Rattle.kernel_entry.specs.Deciding.{CanBegin, HasFound, IsDecided}
 use Rattle.kernel_entry.specs.Resuming.{CanGoOn}
 use Rattle.kernel_entry.specs.declared.deciding.EntryDecision.{EntryDecision}
@@ -24,22 +24,23 @@ use Rattle.kernel_entry.specs.declared.preparing.Prepared.{Prepared}
 
 -- ---- before it comes in
 
--- there is room for as many more events, or more; nothing else changes
+-- there is room for as many more events, or more, and for a call; nothing else changes
 pub record HasMoreRoom (old new : Parts) : Type 0 where
   pub events : new.journal.events ≡ old.journal.events
   pub spare : old.journal.spare ≤ new.journal.spare
-  pub stays : new ≡ record old { journal = new.journal }
+  pub stays : new ≡ record old { journal = new.journal; blanks = new.blanks }
 
 -- it was decided by the lane's bytes, which are listed
 abbrev pub IsDecidedBy : Parts → List ℕ → List ℕ → List Read → EntryDecision → Type 0
 IsDecidedBy parts regs lane reads decided =
     (kernel : Kernel) → StandsFor parts kernel → IsDecided parts kernel regs lane [] reads decided
 
--- the event of an entry has room, and the bytes that it has read are few enough
+-- the event of an entry and its call have room, and the bytes that it has read are few enough
 pub record IsPrepared (parts : Parts) (regs lane : List ℕ) (prepared : Prepared) : Type 0 where
   pub decides : IsDecidedBy parts regs lane prepared.reads prepared.decision
   pub found : HasFound parts regs prepared.decision
   pub room : parts.setup.cpus < parts.journal.spare
+  pub blank : 0 < parts.blanks
   pub few : copied_bytes parts.journal.events + total_bytes prepared.reads ≤ 2 ^ 28
 
 -- the entry would read so many bytes more than those that were copied so far, and more than 2^28 with them
@@ -64,11 +65,12 @@ pub record CanTakeSlot (parts : Parts) (entered : Entered) (plan : Plan) : Type 
   pub begins : CanBegin parts entered plan
   pub beside : entered.slot < length parts.cancellations.items
   pub takes : CanTake parts.tables entered plan
+  pub blank : 0 < parts.blanks
 
 -- what was decided can be done
 abbrev pub CanFollow : Parts → List ℕ → EntryDecision → Type 0
 CanFollow parts regs (decision.Answers answer) = Unit {0}
-CanFollow parts regs (decision.Begins entered plan cont) = CanTakeSlot parts entered plan × IsBlank cont.value
+CanFollow parts regs (decision.Begins entered plan) = CanTakeSlot parts entered plan
 CanFollow parts regs (decision.GoesOn decided) = CanGoOn parts regs decided.value
 
 -- what is carried is the call that the slot was taken for, or nothing

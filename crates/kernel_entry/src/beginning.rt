@@ -10,18 +10,16 @@ ghost use Rattle.new_calls.specs.Applying.{CanApply};
 ghost use Rattle.new_calls.specs.Deciding.{call_with, taken_of};
 ghost use Rattle.ns_ram.specs.Reads.{total_bytes};
 ghost use Rattle.thread_slots.specs.Slots.{lowest_free};
-ghost use Rattle.kernel_entry.specs.Applying.{CanTake, IsBlank, is_cancel};
+ghost use Rattle.kernel_entry.specs.Applying.{CanTake, is_cancel};
 ghost use Rattle.kernel_entry.specs.Visiting.{HasComeIn, StandsAfter};
 
 use crate::carrying::carried;
 use crate::plans::apply;
 use crate::taking::takes_slot;
 use crate::visitor::{Visitor, lets_in};
-use frame_pool::Pages;
 use kernel_state::{Cancellation, Carried, Errand, Parts};
 use new_calls::{Entered, Plan};
 use ns_ram::Reads;
-use rpc_cont::Cont;
 use std::alloc::Global;
 
 /// The plan is one to cancel.
@@ -31,7 +29,7 @@ fn is_cancel(plan: &Plan) -> bool
     matches!(plan, Plan::Cancels)
 }
 
-/// Lets a processor in for a new call, which takes the lowest free slot and fills this box. The parts stand for the
+/// Lets a processor in for a new call, which takes the lowest free slot and fills a box. The parts stand for the
 /// kernel after it, and the processor carries the call that its slot works on.
 pub fn enters_new(
     alloc: Global,
@@ -39,7 +37,6 @@ pub fn enters_new(
     visitor: Visitor,
     entered: Entered,
     plan: Plan,
-    mut cont: Box<Cont<Pages>>,
     reads: Reads,
 ) -> Carried
     requires cpu { visitor.cpu < length parts.old.processors.items }
@@ -48,7 +45,7 @@ pub fn enters_new(
     requires slot { lowest_free parts.old.slots ≡ Some entered.slot }
     requires beside { entered.slot < length parts.old.cancellations.items }
     requires plan { CanTake parts.old.tables entered plan }
-    requires blank { IsBlank cont.value }
+    requires blank { 0 < parts.old.blanks }
     ensures come { HasComeIn parts.old parts.new visitor reads }
     ensures stands { CanApply (call_with (booted_with parts.old.setup) (tables_of parts.old.tables) entered) plan
         → (kernel : Kernel) → StandsAfter parts.old parts.new visitor kernel (Takes entered.slot
@@ -59,6 +56,7 @@ pub fn enters_new(
 {
     let slot = entered.slot;
     let cancels = is_cancel(&plan);
+    let mut cont = parts.blanks.take();
     apply(alloc, &mut parts.tables, &entered, plan, &mut cont);
     let beside = Cancellation {
         session: cont.session,

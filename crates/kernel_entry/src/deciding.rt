@@ -10,13 +10,10 @@ ghost use Rattle.new_calls.specs.Applying.{HaveApps};
 ghost use Rattle.resumed_calls.specs.Deciding.{CanDecide};
 ghost use Rattle.kernel_entry.specs.Deciding.{ComesTo, HasFound, IsDecided};
 
-use crate::filling::blank;
 use base::NoMemory;
-use frame_pool::Pages;
 use kernel_state::Parts;
 use new_calls::{Entered, Found, Plan, lowest_free, new_call};
 use ns_ram::{Lane, Reads};
-use rpc_cont::Cont;
 use smc_abi::{Answer, Call, ERESUME, Regs, UNKNOWN_FUNCTION, decode_call, fast_answer};
 use std::alloc::Global;
 
@@ -25,8 +22,8 @@ use std::alloc::Global;
 pub(crate) enum EntryDecision {
     /// This answer, which takes no slot and changes nothing.
     Answers(Answer),
-    /// A new call takes its slot for this plan, and fills the box, in which nothing of it is there yet.
-    Begins(Entered, Plan, Box<Cont<Pages>>),
+    /// A new call takes its slot for this plan.
+    Begins(Entered, Plan),
     /// The call that the registers name goes on with this.
     GoesOn(Box<resumed_calls::Decided>),
 }
@@ -57,7 +54,7 @@ pub(crate) fn decide(
     }
 }
 
-/// What is decided of a new call. The box of one that takes a slot is made here.
+/// What is decided of a new call.
 fn decide_new(
     alloc: Global,
     parts: &Parts,
@@ -81,10 +78,7 @@ fn decide_new(
     let decided = new_call(alloc, &found, regs, lane, reads)?;
     match decided {
         new_calls::Decided::Answers(answer) => Ok(EntryDecision::Answers(answer)),
-        new_calls::Decided::Takes(entered, plan) => {
-            let cont = Box::new(alloc, blank(alloc))?;
-            Ok(EntryDecision::Begins(entered, plan, cont))
-        }
+        new_calls::Decided::Takes(entered, plan) => Ok(EntryDecision::Begins(entered, plan)),
     }
 }
 
@@ -105,7 +99,9 @@ fn decide_resume(
     let call = resumed_calls::decide(alloc, &parts.setup, &parts.slots, regs, lane, reads)?;
     match call {
         Some(decided) => {
-            let boxed = Box::new(alloc, decided)?;
+            let Ok(boxed) = Box::new(alloc, decided) else {
+                return Err(NoMemory);
+            };
             Ok(EntryDecision::GoesOn(boxed))
         }
         None => Ok(EntryDecision::Answers(code(ERESUME))),

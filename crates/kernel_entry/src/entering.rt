@@ -52,12 +52,10 @@ fn comes_in(
             enters_fixed(parts, visitor, answer, reads);
             Carried::Nothing
         }
-        EntryDecision::Begins(entered, plan, cont) => {
-            enters_new(alloc, parts, visitor, entered, plan, cont, reads)
+        EntryDecision::Begins(entered, plan) => {
+            enters_new(alloc, parts, visitor, entered, plan, reads)
         }
-        EntryDecision::GoesOn(decided) => {
-            enters_resumed(parts, visitor, Box::into_inner(decided), reads)
-        }
+        EntryDecision::GoesOn(decided) => enters_resumed(parts, visitor, decided, reads),
     }
 }
 

@@ -1,35 +1,13 @@
-//! A call that is filled where it stays: its box is made before anything is changed, and filling it takes no memory.
+//! A call that is filled where it stays, in a box of which nothing of a call is there. That takes no memory.
 ghost use Rattle.std.specs.Prelude.{◌≡◌, None};
 ghost use Rattle.rpc_cont.specs.Beginning.{IsEntered, IsFresh};
-ghost use Rattle.kernel_entry.specs.Applying.{IsBlank, IsNew};
+ghost use Rattle.kernel_state.specs.Blanks.{IsBlank};
+ghost use Rattle.kernel_entry.specs.Applying.{IsNew};
 
-use arrayvec::ArrayVec;
 use frame_pool::Pages;
-use job_model::CallKind;
 use rpc_cont::{CallEntry, Cont, Phase};
-use std::alloc::Global;
+use ta_params::CallResult;
 use ta_params::codes::TEE_SUCCESS;
-use ta_params::{CallResult, Login};
-
-/// A call of which nothing is there yet.
-pub(crate) fn blank(alloc: Global) -> Cont<Pages>
-    ensures { IsBlank result }
-{
-    Cont::settled(
-        CallEntry {
-            client: 0,
-            kind: CallKind::Settled,
-            login: Login::public(),
-            context: 0,
-            params: None,
-            arg: 0,
-            places: ArrayVec::new_in(alloc),
-            session: 0,
-            instance: 0,
-        },
-        CallResult::of_tee(TEE_SUCCESS),
-    )
-}
 
 /// The call is the one of this entry, with this result so far.
 fn fills(cont: &mut Cont<Pages>, entered: CallEntry, outcome: CallResult, phase: Phase)

@@ -15,7 +15,8 @@ ghost use Rattle.new_calls.specs.Applying.{AreRegistered};
 ghost use Rattle.new_calls.specs.Deciding.{call_with};
 ghost use Rattle.param_copy.specs.Outcome.{copies_in};
 ghost use Rattle.rpc_cont.specs.Conts.{kept_params};
-ghost use Rattle.kernel_entry.specs.Applying.{HasCome, IsBlank, IsNew, IsTaken, KeepsSession, MayCome, MayWork, session_comes};
+ghost use Rattle.kernel_state.specs.Blanks.{IsBlank};
+ghost use Rattle.kernel_entry.specs.Applying.{HasCome, IsNew, IsTaken, KeepsSession, MayCome, MayWork, session_comes};
 
 use crate::filling::waits_as;
 use crate::pinning::pins;

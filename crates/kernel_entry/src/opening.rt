@@ -13,7 +13,8 @@ ghost use Rattle.new_calls.specs.Deciding.{asked_by, call_with};
 ghost use Rattle.param_copy.specs.Outcome.{copies_in};
 ghost use Rattle.session_table.specs.Session.{reserved_for};
 ghost use Rattle.session_table.specs.Sessions.{has_room};
-ghost use Rattle.kernel_entry.specs.Applying.{HasCome, IsBlank, IsNew, IsTaken, MayCome, MayOpen, open_comes};
+ghost use Rattle.kernel_state.specs.Blanks.{IsBlank};
+ghost use Rattle.kernel_entry.specs.Applying.{HasCome, IsNew, IsTaken, MayCome, MayOpen, open_comes};
 
 use crate::filling::waits_as;
 use crate::pinning::pins;

@@ -5,7 +5,8 @@ ghost use Rattle.kernel_state.specs.Tables.{HasFreePages, tables_of};
 ghost use Rattle.kernel_state.specs.declared.setup.Setup.{Setup as AnySetup};
 ghost use Rattle.new_calls.specs.Applying.{CanApply};
 ghost use Rattle.new_calls.specs.Deciding.{call_with, taken_of};
-ghost use Rattle.kernel_entry.specs.Applying.{CanTake, IsBlank, IsTaken, meant_by};
+ghost use Rattle.kernel_state.specs.Blanks.{IsBlank};
+ghost use Rattle.kernel_entry.specs.Applying.{CanTake, IsTaken, meant_by};
 
 use crate::buffers::{drops_buffer, keeps_buffer};
 use crate::in_session::{closes, invokes};

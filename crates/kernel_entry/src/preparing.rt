@@ -25,7 +25,8 @@ pub(crate) struct Prepared {
     pub(crate) reads: Reads,
 }
 
-/// Decides an entry, and makes room for it and for the exits of all processors. All memory of an entry is taken here.
+/// Decides an entry, and makes room for it, for its call and for the exits of all processors. All memory of an entry is
+/// taken here.
 pub(crate) fn prepare(
     alloc: Global,
     parts: &mut Parts,
@@ -40,6 +41,9 @@ pub(crate) fn prepare(
     ensures room { HasMoreRoom parts.old parts.new }
 {
     let Ok(()) = make_room(&mut parts.journal, parts.setup.cpus) else {
+        return Err(EnterRefusal::Memory);
+    };
+    let Ok(()) = parts.blanks.make_one(alloc) else {
         return Err(EnterRefusal::Memory);
     };
     let mut reads = Reads::new(alloc);

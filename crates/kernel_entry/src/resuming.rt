@@ -57,17 +57,17 @@ fn is_marked(besides: &[Cancellation], slot: u8) -> bool
 
 /// Resumes the call that the registers name: it is out with this processor, and has come as far as its resume takes
 /// it.
-fn goes_on(parts: &mut Parts, regs: &Regs, cpu: u8, decided: Decided) -> Box<Cont<Pages>>
-    requires { CanGoOn parts.old regs.now.a decided }
+fn goes_on(parts: &mut Parts, regs: &Regs, cpu: u8, decided: Box<Decided>) -> Box<Cont<Pages>>
+    requires { CanGoOn parts.old regs.now.a decided.value }
     ensures slots { parts.new.slots ≡ slice_set parts.old.slots (thread_in regs.now.a) (Active cpu) }
-    ensures call { HasGoneOn parts.old regs.now.a decided parts.new.tables result.value }
+    ensures call { HasGoneOn parts.old regs.now.a decided.value parts.new.tables result.value }
     ensures pages { HasFreePages parts.old.setup parts.new.tables }
     ensures stays { parts.new ≡ record parts.old { slots = parts.new.slots; tables = parts.new.tables } }
 {
     let slot = slot_named(&parts.slots, regs);
     let marked = is_marked(parts.cancellations.as_slice(), slot);
     let mut cont = hands_out(&mut parts.slots, regs, cpu);
-    let Decided { given, app } = decided;
+    let Decided { given, app } = Box::into_inner(decided);
     let resumed = Resumed {
         slot,
         marked,
@@ -83,20 +83,20 @@ fn goes_on(parts: &mut Parts, regs: &Regs, cpu: u8, decided: Decided) -> Box<Con
 pub fn enters_resumed(
     parts: &mut Parts,
     visitor: Visitor,
-    decided: Decided,
+    decided: Box<Decided>,
     reads: Reads,
 ) -> Carried
     requires cpu { visitor.cpu < length parts.old.processors.items }
     requires room { parts.old.setup.cpus < parts.old.journal.spare }
     requires few { copied_bytes parts.old.journal.events + total_bytes reads < 2 ^ 64 }
-    requires goes_on { CanGoOn parts.old visitor.regs.a decided }
+    requires goes_on { CanGoOn parts.old visitor.regs.a decided.value }
     ensures come { HasComeIn parts.old parts.new visitor reads }
     ensures stands { (kernel : Kernel) (call : PendingCall) → call_resumed_by kernel.slots visitor.regs.a ≡ Some call
         → StandsAfter parts.old parts.new visitor kernel
-        (Takes (thread_in visitor.regs.a) (works_on (goes_on_as parts.old visitor.regs.a decided call))) }
+        (Takes (thread_in visitor.regs.a) (works_on (goes_on_as parts.old visitor.regs.a decided.value call))) }
     ensures carries { (kernel : Kernel) (call : PendingCall) → StandsFor parts.old kernel
         → call_resumed_by kernel.slots visitor.regs.a ≡ Some call
-        → (let progress = goes_on_as parts.old visitor.regs.a decided call in
+        → (let progress = goes_on_as parts.old visitor.regs.a decided.value call in
         IsCarriedAs result progress.call progress.call.phase) }
 {
     let slot = slot_named(&parts.slots, &visitor.regs);

@@ -5,7 +5,7 @@ ghost use Rattle.kernel_model.specs.Kernel.{SettledCall, Tables as AnyTables};
 ghost use Rattle.kernel_model.specs.NewCall.{settled_call};
 ghost use Rattle.kernel_state.specs.Calls.{IsCall};
 ghost use Rattle.new_calls.specs.Deciding.{call_with, settled_of};
-ghost use Rattle.kernel_entry.specs.Applying.{IsBlank};
+ghost use Rattle.kernel_state.specs.Blanks.{IsBlank};
 
 use crate::filling::ends_as;
 use arrayvec::ArrayVec;

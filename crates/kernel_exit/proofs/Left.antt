@@ -234,7 +234,7 @@ gone_progress old mid ran came slot so lane now answer gone =
 
 slot_replays : (old mid new : Parts) (ran : Ran) (came told : Regs) (slot : ℕ) (lane now : List ℕ) (answer : Answer) →
     ∥ Replays old ∥₁ → (so : GoesFromSlot old ran came slot) → HasGoneFrom old mid slot so.carries.cont.value ran.stop lane now answer →
-    mid ≡ record old { slots = mid.slots; tables = mid.tables } → told.a ≡ registers_of answer came.a → IsOut mid new ran.cpu told → ∥ Replays new ∥₁
+    mid ≡ record old { slots = mid.slots; tables = mid.tables; blanks = mid.blanks } → told.a ≡ registers_of answer came.a → IsOut mid new ran.cpu told → ∥ Replays new ∥₁
 slot_replays old mid new ran came told slot lane now answer fact so left stays encoded out = ∥∥₁_map₂ fact so.its.stands (λ (was : Replays old) (stands : StandsFor old so.its.kernel).
     let visit : model.Visit = record { cpu = ran.cpu; regs = came.a; steps = so.its.goes.steps } in
     let progress = so.exits.progress in
@@ -251,7 +251,7 @@ slot_replays old mid new ran came told slot lane now answer fact so left stays e
 
 slot_left_so : (old new : Core) (mid : Parts) (ran : Ran) (came told : Regs) (slot : ℕ) (lane now : List ℕ) (answer : Answer) →
     (so : GoesFromSlot old.parts ran came slot) → HasGoneFrom old.parts mid slot so.carries.cont.value ran.stop lane now answer →
-    mid ≡ record old.parts { slots = mid.slots; tables = mid.tables } → told.a ≡ registers_of answer came.a → IsOut mid new.parts ran.cpu told →
+    mid ≡ record old.parts { slots = mid.slots; tables = mid.tables; blanks = mid.blanks } → told.a ≡ registers_of answer came.a → IsOut mid new.parts ran.cpu told →
     HasLeft old new ran lane now told
 slot_left_so old new mid ran came told slot lane now answer so left stays encoded out =
     let gone = gone_progress old.parts mid ran came slot so lane now answer left in
@@ -273,7 +273,7 @@ its_own old mid ran came slot so lane now answer exited =
 
 replays_by : (old mid new : Parts) (ran : Ran) (came told : Regs) (errand : Errand) (lane now : List ℕ) (answer : Answer) →
     ∥ Replays old ∥₁ → Goes old ran came errand → HasExitedWith old mid errand ran.call ran.stop lane now answer →
-    mid ≡ record old { slots = mid.slots; tables = mid.tables } → told.a ≡ registers_of answer came.a → IsOut mid new ran.cpu told → ∥ Replays new ∥₁
+    mid ≡ record old { slots = mid.slots; tables = mid.tables; blanks = mid.blanks } → told.a ≡ registers_of answer came.a → IsOut mid new ran.cpu told → ∥ Replays new ∥₁
 replays_by old mid new ran came told (Fixed fixed) lane now answer fact its exited stays encoded out =
     fixed_replays old new ran came told fixed fact its (encoded ∙ ap (λ (a : Answer). registers_of a came.a) exited.0)
     (subst (λ (p : Parts). IsOut p new ran.cpu told) exited.1 out)
@@ -283,7 +283,7 @@ replays_by old mid new ran came told (InSlot slot) lane now answer fact its exit
 
 left_by : (old new : Core) (mid : Parts) (ran : Ran) (came told : Regs) (errand : Errand) (lane now : List ℕ) (answer : Answer) →
     Goes old.parts ran came errand → HasExitedWith old.parts mid errand ran.call ran.stop lane now answer →
-    mid ≡ record old.parts { slots = mid.slots; tables = mid.tables } → told.a ≡ registers_of answer came.a → IsOut mid new.parts ran.cpu told →
+    mid ≡ record old.parts { slots = mid.slots; tables = mid.tables; blanks = mid.blanks } → told.a ≡ registers_of answer came.a → IsOut mid new.parts ran.cpu told →
     HasLeft old new ran lane now told
 left_by old new mid ran came told (Fixed fixed) lane now answer its exited stays encoded out =
     subst (λ (l : List ℕ). HasLeft old new ran lane l told) (sym exited.2)
@@ -295,7 +295,7 @@ left_by old new mid ran came told (InSlot slot) lane now answer its exited stays
 
 pub replays_after : (old mid new : Parts) (ran : Ran) (came told : Regs) (errand : Errand) (lane now : List ℕ) (answer : Answer) →
     ∥ Replays old ∥₁ → ∥ Goes old ran came errand ∥₁ → HasExitedWith old mid errand ran.call ran.stop lane now answer →
-    mid ≡ record old { slots = mid.slots; tables = mid.tables } → told.a ≡ registers_of answer came.a → IsOut mid new ran.cpu told → ∥ Replays new ∥₁
+    mid ≡ record old { slots = mid.slots; tables = mid.tables; blanks = mid.blanks } → told.a ≡ registers_of answer came.a → IsOut mid new ran.cpu told → ∥ Replays new ∥₁
 replays_after old mid new ran came told errand lane now answer fact its exited stays encoded out = ∥∥₁_elim its ∥∥₁_prop (λ (goes : Goes old ran came errand).
     replays_by old mid new ran came told errand lane now answer fact goes exited stays encoded out)
 
@@ -320,7 +320,7 @@ left_so old new ran lane now told boot events left = by (exit_after (booted_of o
 
 pub left_after : (old new : Core) (mid : Parts) (ran : Ran) (came told : Regs) (errand : Errand) (lane now : List ℕ) (answer : Answer) →
     ∥ Goes old.parts ran came errand ∥₁ → HasExitedWith old.parts mid errand ran.call ran.stop lane now answer →
-    mid ≡ record old.parts { slots = mid.slots; tables = mid.tables } → told.a ≡ registers_of answer came.a → IsOut mid new.parts ran.cpu told →
+    mid ≡ record old.parts { slots = mid.slots; tables = mid.tables; blanks = mid.blanks } → told.a ≡ registers_of answer came.a → IsOut mid new.parts ran.cpu told →
     HasLeft old new ran lane now told
 left_after old new mid ran came told errand lane now answer its exited stays encoded out =
     left_so old new ran lane now told (ap (λ (p : Parts). booted_with p.setup) out.stays ∙ ap (λ (p : Parts). booted_with p.setup) stays)

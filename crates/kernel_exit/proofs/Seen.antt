@@ -1,9 +1,8 @@
 -- The tables of a core, seen as the kernel's: instances.
-use Rattle.std.proofs.Common.{◌≡◌, ℕ, ◌+◌, ◌-◌, ◌*◌, ◌/◌, ◌≤◌, Bool, true, false, List, [], ◌∷◌, length, Option, Some, None, IsSome, refl, sym, ap, subst, ◌∙◌, arith}
+use Rattle.std.proofs.Common.{◌≡◌, ℕ, true, false, List, [], ◌∷◌, length, Option, Some, None, refl, sym, ap, subst, ◌∙◌, arith}
 use Rattle.std.specs.Prelude.{IsSomeAnd, is_some, is_none}
 use Rattle.std.specs.Option.{option_map, option_map_or}
-use Rattle.base.specs.NumberMap.{NumberMap, get, insert, remove, IsRising, IsRising-insert}
-use Rattle.frame_pool.specs.Pages.{page_count}
+use Rattle.base.specs.NumberMap.{NumberMap, get, insert}
 use Rattle.kernel_model.specs.Application.{Booted}
 use Rattle.kernel_model.specs.Instances.{given_back, killed}
 use Rattle.kernel_model.specs.Instances as model
@@ -14,7 +13,7 @@ use Rattle.rpc_cont.specs.Conts.{kept_memory}
 use Rattle.ta_instances.specs.declared.instance.Instance.{Instance as Kept}
 use Rattle.ta_instances.specs.Instances as low
 use Rattle.kernel_exit.specs.Ending.{CanBeGivenBack, CanBeRemoved, IsFreeWith, IsHeldWith, is_dead}
-use Rattle.kernel_exit.proofs.Maps.{get_inserted, get_seen, insert_seen, remove_seen, seen_as}
+use Rattle.kernel_exit.proofs.Maps.{get_seen, insert_seen, seen_as}
 use Rattle.kernel_exit.proofs.GivenBack.{changed}
 
 -- the instances as the kernel sees them

@@ -82,7 +82,7 @@ slots_set slots beside held slot was now its before after are there by_it kept i
 pub left_stands : (old new : Parts) (kernel : model.Kernel) (slot cpu : ℕ) (call : model.PendingCall) (progress : model.Progress)
     (lane now : List ℕ) (answer : Answer) → StandsFor old kernel → slice_get kernel.slots slot ≡ Some (model.Active cpu call) → Stays call progress.call →
     HasGoneOut old new slot lane now answer progress → HasFreePages old.setup new.tables →
-    new ≡ record old { slots = new.slots; tables = new.tables } → StandsFor new (kernel_left kernel slot progress (leaving_of slot progress.call))
+    new ≡ record old { slots = new.slots; tables = new.tables; blanks = new.blanks } → StandsFor new (kernel_left kernel slot progress (leaving_of slot progress.call))
 left_stands old new kernel slot cpu call progress lane now answer stands active stays gone pages same =
     let left : model.ThreadSlot = slot_left progress.call (leaving_of slot progress.call) in
     let was = active_beside (slice_get old.slots slot) (slice_get old.cancellations.items slot) cpu call

@@ -66,12 +66,12 @@ fn goes_out_from(
 ) -> Answer
     requires { CanGoFrom parts.old slot cont.value why }
     ensures gone { HasGoneFrom parts.old parts.new slot cont.value why lane.old lane.new result }
-    ensures stays { parts.new ≡ record parts.old { slots = parts.new.slots; tables = parts.new.tables } }
+    ensures stays { parts.new ≡ record parts.old { slots = parts.new.slots; tables = parts.new.tables; blanks = parts.new.blanks } }
 {
     comes_to(&parts.setup, &mut parts.tables, &mut cont, why);
     let leaving = Leaving::of(u32::from(slot), &cont);
     tell(lane, &cont, leaving);
-    slot_left(&mut parts.slots, slot, cont, leaving);
+    slot_left(&mut parts.slots, &mut parts.blanks, slot, cont, leaving);
     tables_left(&mut parts.tables, slot, leaving);
     answer_of(slot, leaving)
 }
@@ -86,7 +86,7 @@ fn exit_with(
 ) -> Answer
     requires { CanExitWith parts.old errand call why }
     ensures exited { HasExitedWith parts.old parts.new errand call why lane.old lane.new result }
-    ensures stays { parts.new ≡ record parts.old { slots = parts.new.slots; tables = parts.new.tables } }
+    ensures stays { parts.new ≡ record parts.old { slots = parts.new.slots; tables = parts.new.tables; blanks = parts.new.blanks } }
 {
     match errand {
         Errand::Fixed(answer) => answer,

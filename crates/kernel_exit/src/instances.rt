@@ -1,5 +1,5 @@
 //! What the end of a call makes of its instance, and its pages.
-ghost use Rattle.std.specs.Prelude.{◌≡◌, ◌+◌, ◌-◌, ◌≤◌, ◌&&◌, ◌||◌, false, not, length};
+ghost use Rattle.std.specs.Prelude.{◌≡◌, ◌+◌, ◌-◌, ◌≤◌, ◌&&◌, ◌||◌, [], false, not, length};
 ghost use Rattle.std.specs.Option.{option_map_or};
 ghost use Rattle.base.specs.NumberMap.{get};
 ghost use Rattle.frame_pool.specs.Pages.{page_count};
@@ -65,19 +65,20 @@ fn put_back(
     tables: &mut Tables,
     number: u32,
     memory: Option<Pages>,
-    objects: Handles,
+    objects: &mut Handles,
 )
     requires held { CanBeGivenBack (booted_with setup.now) (tables_of tables.old).instances number (length (kept_memory bytes_of memory)) }
     requires pages { HasFreePages setup.now tables.old }
-    ensures tables { tables_of tables.new ≡ with_changed (tables_of tables.old) number (given_back (kept_memory bytes_of memory) objects) }
+    ensures tables { tables_of tables.new ≡ with_changed (tables_of tables.old) number (given_back (kept_memory bytes_of memory) objects.old) }
+    ensures objects { objects.new ≡ [] }
     ensures pages { HasFreePages setup.now tables.new }
     ensures free { CanBeRemoved (booted_with setup.now) (tables_of tables.new).instances number }
 {
     if is_dead(tables, number) {
         release(&mut tables.pool, memory);
-        tables.instances.give_back(number, None, objects);
+        tables.instances.give_back_from(number, None, objects);
     } else {
-        tables.instances.give_back(number, memory, objects);
+        tables.instances.give_back_from(number, memory, objects);
     }
 }
 
@@ -108,12 +109,13 @@ pub(crate) fn give_back(
     number: u32,
     is_last: bool,
     memory: Option<Pages>,
-    objects: Handles,
+    objects: &mut Handles,
 )
     requires held { CanBeGivenBack (booted_with setup.now) (tables_of tables.old).instances number (length (kept_memory bytes_of memory)) }
     requires pages { HasFreePages setup.now tables.old }
     ensures tables { (call : PendingCall) → call.instance ≡ number → tables_of tables.new
-        ≡ gives_back (tables_of tables.old) call (tables_of tables.old).sessions is_last (given_back (kept_memory bytes_of memory) objects) }
+        ≡ gives_back (tables_of tables.old) call (tables_of tables.old).sessions is_last (given_back (kept_memory bytes_of memory) objects.old) }
+    ensures objects { objects.new ≡ [] }
     ensures pages { HasFreePages setup.now tables.new }
 {
     let is_dead = is_dead(tables, number);

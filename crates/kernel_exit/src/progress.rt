@@ -33,15 +33,25 @@ fn woken_by(tables: &Tables, kind: CallKind, instance: u32) -> Option<u8>
     }
 }
 
-/// What asks for the call of a slot to be woken, if one is.
-fn asked_wake(woken: Option<u8>) -> Option<Asked>
-    ensures { option_and_then (λ asked. woken_slot asked.rpc) result ≡ woken }
+/// The call asks for the one of a slot to be woken, if one is, and else for nothing. What it asked for, with room for many
+/// bytes, is touched only where something changes.
+fn asks_wake(cont: &mut Cont<Pages>, woken: Option<u8>)
+    ensures wakes { option_and_then (λ asked. woken_slot asked.rpc) cont.new.request ≡ woken }
+    ensures stays { cont.new ≡ record cont.old { request = cont.new.request } }
 {
-    let slot = woken?;
-    Some(Asked {
-        rpc: Rpc::Wake(u32::from(slot)),
-        payload: Payload::new(),
-    })
+    match woken {
+        Some(slot) => {
+            cont.request = Some(Asked {
+                rpc: Rpc::Wake(u32::from(slot)),
+                payload: Payload::new(),
+            });
+        }
+        None => {
+            if cont.request.is_some() {
+                cont.request = None;
+            }
+        }
+    }
 }
 
 /// The result of a call is told from now on; whom it wakes is fixed now.
@@ -50,7 +60,8 @@ fn shows_result(tables: &Tables, cont: &mut Cont<Pages>)
         → option_and_then (λ asked. woken_slot asked.rpc) cont.new.request ≡ woken_by (tables_of tables.now) call call.kind }
     ensures stays { cont.new ≡ record cont.old { request = cont.new.request; done = true } }
 {
-    cont.request = asked_wake(woken_by(tables, cont.kind, cont.instance));
+    let woken = woken_by(tables, cont.kind, cont.instance);
+    asks_wake(cont, woken);
     cont.done = true;
 }
 

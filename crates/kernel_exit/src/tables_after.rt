@@ -15,8 +15,6 @@ use frame_pool::Pages;
 use job_model::{CallKind, EntryPoint};
 use kernel_state::{Setup, Tables};
 use rpc_cont::Cont;
-use std::mem;
-use ta_instances::Handles;
 
 /// Whether a call that has ended so leaves its instance at its end.
 fn is_at_its_end(point: Option<EntryPoint>, points: &[EntryPoint]) -> bool
@@ -48,8 +46,14 @@ pub fn tables_after_end(setup: &Setup, tables: &mut Tables, cont: &mut Cont<Page
     );
     let is_last = is_at_its_end(cont.point, cont.points.as_slice());
     let memory = cont.memory.take();
-    let objects = mem::replace(&mut cont.objects, Handles::new());
-    give_back(setup, tables, cont.instance, is_last, memory, objects);
+    give_back(
+        setup,
+        tables,
+        cont.instance,
+        is_last,
+        memory,
+        &mut cont.objects,
+    );
 }
 
 /// After it has panicked, in any entry point: its instance is dead.

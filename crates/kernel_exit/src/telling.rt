@@ -20,7 +20,7 @@ ghost use Rattle.kernel_exit.specs.Telling.{CanBeAsked, CanBeTold, HasRoomForRes
 use call_leaving::{Leaving, Wanted};
 use frame_pool::Pages;
 use job_model::CallKind;
-use kernel_state::Tables;
+use kernel_state::{Blanks, Tables};
 use msg_args::{origin_at, ret_at, session_at};
 use ns_ram::Lane;
 use param_copy::copy_out;
@@ -138,9 +138,10 @@ pub fn tell(lane: &mut Lane, cont: &Cont<Pages>, leaving: Leaving)
     }
 }
 
-/// Leaves the slot with its call, suspended for its client, until that has finished.
+/// Leaves the slot with its call, suspended for its client, until that has finished. Its box is kept for a new call then.
 pub fn slot_left(
     slots: &mut Slots<Box<Cont<Pages>>>,
+    blanks: &mut Blanks,
     slot: u8,
     mut cont: Box<Cont<Pages>>,
     leaving: Leaving,
@@ -157,7 +158,10 @@ pub fn slot_left(
             cont.buffer = None;
             slots.suspend(slot, cont.client, cont);
         }
-        Leaving::Finishes => slots.leave(slot),
+        Leaving::Finishes => {
+            slots.leave(slot);
+            blanks.put(cont);
+        }
     }
 }
 

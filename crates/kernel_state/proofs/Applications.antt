@@ -1,7 +1,7 @@
 -- How the application of a UUID is found: among those of the boot, and then among those that are built in.
 use Rattle.std.proofs.Common.{◌≡◌, ◌∙◌, List, map, Option, Some, None, refl, sym, ap, ap₂}
 use Rattle.std.specs.List.{find}
-use Rattle.std.specs.Option.{option_copied, option_map, option_or}
+use Rattle.std.specs.Option.{option_map, option_or}
 use Rattle.std.specs.Str.{bytes_eq}
 use Rattle.std.proofs.lemmas.List.Folds.{find-append}
 use Rattle.kernel_model.specs.Application.{Application, BuiltIn, Native, OfImage, uuid_of}
@@ -9,8 +9,7 @@ use Rattle.kernel_model.specs.Instances as instances
 use Rattle.native_tas.proofs.Mapped.{find_mapped}
 use Rattle.native_tas.specs.declared.native_app.NativeApp.{NativeApp}
 use Rattle.ta_isa.specs.declared.boot.App.{App}
-use Rattle.kernel_state.specs.Setup.{app_of, application_of, boot_of, booted_with, natives_of}
-use Rattle.kernel_state.specs.declared.setup.Application.TheVariants as any
+use Rattle.kernel_state.specs.Setup.{app_of, boot_of, booted_with, natives_of}
 use Rattle.kernel_state.specs.declared.setup.Setup.{Setup}
 use Rattle.kernel_state.specs.declared.shared_app.SharedApp.{SharedApp}
 

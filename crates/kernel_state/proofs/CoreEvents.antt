@@ -51,13 +51,12 @@ pub record CameIn (boot : Booted) (kernel next : Kernel) (visit : Visit) (reads 
   pub granted : can_be_granted visit.steps ≡ true
   pub entered : after_entry boot kernel visit reads ≡ Some next
 
-came_in : (boot : Booted) (kernel next : Kernel) (cpu count : ℕ) (regs : Regs) (reads : List Read) →
-    after_events boot kernel (event.Entry cpu regs count reads ∷ []) ≡ Some next →
+pub came_in : (boot : Booted) (kernel next : Kernel) (cpu count : ℕ) (regs : Regs) (reads : List Read) →
+    after_event boot kernel (event.Entry cpu regs count reads) ≡ Some next →
     CameIn boot kernel next (record { cpu = cpu; regs = regs.a; steps = count }) reads
 came_in boot kernel next cpu count regs reads e =
     let visit : Visit = record { cpu = cpu; regs = regs.a; steps = count } in
-    option_and_then_some (entry_from boot kernel visit reads) (slice_get kernel.processors cpu) next
-    (only_one (after_event boot kernel (event.Entry cpu regs count reads)) next e)
+    option_and_then_some (entry_from boot kernel visit reads) (slice_get kernel.processors cpu) next e
     (λ (processor : Processor) there onward.
     let allowed = outside_of processor (can_be_granted count) (after_entry boot kernel visit reads) next onward in
     record {
@@ -72,18 +71,19 @@ entry_came_in entry =
     let coming = entry.coming in
     let reads = entry.has_entered.reads in
     came_in (booted_of entry.old) entry.kernel entry.next coming.cpu coming.steps coming.regs reads
+    (only_one (after_event (booted_of entry.old) entry.kernel (event.Entry coming.cpu coming.regs coming.steps reads)) entry.next
     (events_onward (booted_of entry.old) (booted_of entry.new) (events_of entry.old)
     (event.Entry coming.cpu coming.regs coming.steps reads ∷ []) (events_of entry.new) entry.kernel entry.next
-    entry.has_entered.boot entry.has_entered.events entry.before entry.after)
+    entry.has_entered.boot entry.has_entered.events entry.before entry.after))
 
-some_steps : (steps : ℕ) → can_be_granted steps ≡ true → 1 ≤ steps
+pub some_steps : (steps : ℕ) → can_be_granted steps ≡ true → 1 ≤ steps
 some_steps steps e = by_tests (nat_le 1 steps) (nat_le steps 1000000) refl e
   where
     by_tests : (some few : Bool) → nat_le 1 steps ≡ some → (some && few) ≡ true → 1 ≤ steps
     by_tests true few is e = grind (arith, nat_tests)
     by_tests false few is e = absurd cc
 
-few_steps : (steps : ℕ) → can_be_granted steps ≡ true → steps ≤ 1000000
+pub few_steps : (steps : ℕ) → can_be_granted steps ≡ true → steps ≤ 1000000
 few_steps steps e = by_tests (nat_le 1 steps) (nat_le steps 1000000) refl e
   where
     by_tests : (some few : Bool) → nat_le steps 1000000 ≡ few → (some && few) ≡ true → steps ≤ 1000000

@@ -1,5 +1,5 @@
 -- The parts of a core where nothing has happened.
-use Rattle.std.proofs.Common.{◌≡◌, ℕ, ◌≤◌, List, [], ◌∷◌, length, Some, refl, sym, ◌∙◌, ap, subst, arith, zero, suc, lit≤}
+use Rattle.std.proofs.Common.{◌≡◌, ℕ, List, [], ◌∷◌, length, Some, refl, sym, ◌∙◌, ap, subst, arith, zero, suc, lit≤}
 use Rattle.std.specs.Prelude.{map, replicate, slice_get, count_by, not, ◌-◌}
 use Rattle.std.specs.Global.{Box}
 use Rattle.std.proofs.Math.ListN.{length-replicate}

@@ -3,12 +3,10 @@ use Rattle.std.proofs.Common.{◌≡◌, List, [], ◌∷◌, ◌++◌, length, 
 use Rattle.std.specs.Prelude.{slice_get}
 use Rattle.event_journal.specs.declared.event.Event.{Event}
 use Rattle.event_journal.specs.declared.event.Event.TheVariants as event
-use Rattle.kernel_state.specs.Laws.{ChangedByOthers, CoreEntry}
+use Rattle.kernel_state.specs.Laws.{CoreEntry}
 use Rattle.kernel_state.specs.Meaning.{events_of}
 use Rattle.kernel_state.specs.Placing.{EntriesStandAtTheirPlaces, StandsAt}
-use Rattle.kernel_state.specs.Work.{IsRanOf}
 use Rattle.kernel_state.specs.declared.kernel_core.Core.{Core}
-use Rattle.kernel_state.specs.declared.work.Ran.{Ran}
 
 behind_all : (before behind : List Event) (one : Event) → slice_get (before ++ one ∷ behind) (length before) ≡ Some one
 behind_all [] behind one = refl

@@ -1,3 +1,4 @@
+pub mod Blanks
 pub mod Booting
 pub mod Calls
 pub mod Cancelling

@@ -1,5 +1,5 @@
 -- What a processor carries from its entry to its exit, and when that fits a kernel.
-use Rattle.std.specs.Prelude.{◌≡◌, ℕ, ◌+◌, List, Option, Some, None, IsSomeAnd, slice_get}
+use Rattle.std.specs.Prelude.{◌≡◌, ℕ, List, Option, Some, None, IsSomeAnd, slice_get}
 use Rattle.job_model.specs.Steps.{grant_of}
 use Rattle.kernel_model.specs.Kernel as model
 use Rattle.rpc_cont.specs.Advancing.{IsAdvance, phase_after}

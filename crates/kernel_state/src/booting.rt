@@ -12,6 +12,7 @@ ghost use Rattle.native_tas.specs.Table.{entries};
 ghost use Rattle.ta_isa.specs.Boots.{IsBoot};
 ghost use Rattle.thread_slots.specs.declared.slot.Slot.TheVariants.{Free};
 
+use crate::blanks::Blanks;
 use crate::boot_fault::BootFault;
 use crate::cancellation::Cancellation;
 use crate::kernel_core::Core;
@@ -130,6 +131,7 @@ fn first_parts(alloc: Global, boot: Boot, natives: &Natives) -> Result<Parts, No
         cancellations: free_cancellations(alloc, threads)?,
         processors: outside_processors(alloc, cpus)?,
         tables: first_tables(alloc, frames)?,
+        blanks: Blanks::new(alloc, threads)?,
         journal: Journal::new(alloc),
     })
 }

@@ -5,6 +5,7 @@
 //! that kernel, table by table, is a fact of the type: a core that breaks it can't be made.
 #![tactic(auto)]
 
+mod blanks;
 mod boot_fault;
 mod booting;
 mod cancellation;
@@ -22,6 +23,7 @@ mod shared_app;
 mod tables;
 mod work;
 
+pub use blanks::Blanks;
 pub use boot_fault::BootFault;
 pub use cancellation::{Cancellation, mark_calls};
 pub use carried::Carried;

@@ -1,3 +1,4 @@
+use crate::blanks::Blanks;
 use crate::cancellation::Cancellation;
 use crate::processor::Processor;
 use crate::setup::Setup;
@@ -18,6 +19,8 @@ pub struct Parts {
     /// The processors, by their numbers.
     pub processors: Vec<Processor>,
     pub tables: Tables,
+    /// Boxes for new calls.
+    pub blanks: Blanks,
     /// All events, with room for the exits of the processors that are inside.
     pub journal: Journal,
 }

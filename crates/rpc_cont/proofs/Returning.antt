@@ -1,6 +1,6 @@
 -- What the return of an entry point leaves.
 use Rattle.std.proofs.Common.{◌≡◌, ℕ, Bool, List, [], ◌∷◌, Some, None, refl, ap, sym, subst, ◌∙◌}
-use Rattle.std.specs.Prelude.{map, remove, slice_get}
+use Rattle.std.specs.Prelude.{remove, slice_get}
 use Rattle.job_model.specs.Job.{Nothing, Job, image_job_at}
 use Rattle.job_model.specs.Steps.{Advance, Goes, on_to_next}
 use Rattle.rpc_cont.specs.Conts.{job_at, job_with}

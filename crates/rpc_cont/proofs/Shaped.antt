@@ -1,7 +1,6 @@
 -- What a grant leaves has the shape of its phase.
 use Rattle.std.proofs.Common.{◌≡◌, ◌∙◌, ℕ, List, Option, Some, None, refl, sym, subst}
 use Rattle.std.specs.Prelude.{IsSomeAnd}
-use Rattle.job_model.specs.Job.{Job}
 use Rattle.job_model.specs.Steps.{Ends, Panics, Asks, Grant, Left, Stopped}
 use Rattle.rpc_cont.specs.Advancing.{CanRun, IsAdvance, phase_after}
 use Rattle.rpc_cont.specs.Answering.{CanBeAnswered}

@@ -1,5 +1,5 @@
 -- Bytes stored in a machine, and those that stand there: what a store keeps, and what it leaves.
-use Rattle.std.proofs.Common.{◌≡◌, ℕ, zero, suc, ◌+◌, ◌%◌, ◌/◌, ◌<◌, ◌≤◌, Bool, true, false, List, [], ◌∷◌, length, take, drop, set, get_or, Option, Some, refl, ap, sym, ◌∙◌, arith, length-drop}
+use Rattle.std.proofs.Common.{◌≡◌, ℕ, zero, suc, ◌+◌, ◌%◌, ◌/◌, ◌<◌, ◌≤◌, Bool, true, List, [], ◌∷◌, length, take, drop, set, get_or, Option, Some, refl, ap, sym, ◌∙◌, arith, length-drop}
 use Rattle.std.specs.Prelude.{◌==◌, ◌&&◌, ◌||◌, nat_le, slice_index_or, slice_get, unwrap_or}
 use Rattle.std.proofs.lemmas.Bool.{leb-true}
 use Rattle.std.proofs.lemmas.Bool.Decides.{nat_tests}
@@ -9,7 +9,7 @@ use Rattle.base.specs.Zeros.{zeros}
 use Rattle.base.proofs.ZeroLemmas.{length-zeros}
 use Rattle.job_model.specs.Asking.{bytes_at}
 use Rattle.job_model.proofs.Ranges.{inside, is_range-fits, length-bytes_at}
-use Rattle.ta_step.specs.Addresses.{ranges, range_at, with_range, is_inside, load, store}
+use Rattle.ta_step.specs.Addresses.{ranges, range_at, with_range, load, store}
 use Rattle.ta_step.specs.Bytes.{has_bytes, written}
 use Rattle.ta_step.specs.State.{State}
 use Rattle.ta_step.specs.SystemCalls.{is_range}

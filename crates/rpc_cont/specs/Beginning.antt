@@ -1,6 +1,6 @@
 -- How a call begins on its instance.
-use Rattle.std.specs.Prelude.{◌≡◌, ℕ, Bool, false, if◌then◌else◌, List, [], ◌∷◌, length, Option, Some, None}
-use Rattle.job_model.specs.Beginning.{Program, OfImage, OfRelation, Beginning}
+use Rattle.std.specs.Prelude.{◌≡◌, ℕ, Bool, false, if◌then◌else◌, List, [], ◌∷◌, Some, None}
+use Rattle.job_model.specs.Beginning.{OfImage, OfRelation, Beginning}
 use Rattle.job_model.specs.declared.entry_point.EntryPoint.{EntryPoint}
 use Rattle.job_model.specs.declared.entry_point.EntryPoint.TheVariants as entry
 use Rattle.rpc_cont.specs.Running.{IsIdle}

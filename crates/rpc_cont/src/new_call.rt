@@ -216,6 +216,27 @@ impl<M: TaMemory + Drop> Cont<M> {
         } }
     {
         self.objects = objects;
+        self.start_on(held, first, behind);
+    }
+
+    /// Begins on its instance, whose open objects it has: at this entry point, with those behind it.
+    pub fn start_on(&mut self, held: Held<M>, first: EntryPoint, behind: ArrayVec<EntryPoint, 3>)
+        requires fresh { IsFresh self.old }
+        requires image { HasValidImage held }
+        ensures begins { job_of M.bytes self.new ≡ begun_job (beginning_on M.bytes held self.old.cancelled)
+            (job_with Nothing (held_uuid held) self.old) (first ∷ behind.items) }
+        ensures runs { CanAdvance M.bytes self.new }
+        ensures shape { IsShaped M.bytes self.new }
+        ensures size { memory_size M.bytes self.new ≡ length (beginning_on M.bytes held self.old.cancelled).memory }
+        ensures stays { self.new ≡ record self.old {
+          app = self.new.app;
+          params = self.new.params;
+          point = self.new.point;
+          machine = self.new.machine;
+          points = self.new.points;
+          phase = Phase.Runs;
+        } }
+    {
         self.phase = Phase::Runs;
         match held {
             Held::Image {

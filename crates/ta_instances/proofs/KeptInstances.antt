@@ -1,8 +1,6 @@
 -- Each change keeps what holds of the instances.
-use Rattle.std.proofs.Common.{◌≡◌, ℕ, ◌<◌, ◌^◌, true, false, List, [], Option, Some, None, IsSome, refl}
-use Rattle.std.specs.List.{All}
-use Rattle.std.specs.Option.{IsSomeAnd}
-use Rattle.base.specs.NumberMap.{NumberMap, get, insert, remove}
+use Rattle.std.proofs.Common.{◌≡◌, ℕ, ◌<◌, ◌^◌, true, false, List, Option, Some, None, IsSome, refl}
+use Rattle.base.specs.NumberMap.{NumberMap, insert, remove}
 use Rattle.base.proofs.MapLemmas.{All-insert, All-remove}
 use Rattle.tee_storage.specs.declared.handle.Handle.{Handle}
 use Rattle.ta_instances.specs.declared.instance.Instance.{Instance}

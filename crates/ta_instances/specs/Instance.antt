@@ -13,6 +13,10 @@ made uuid flags memory =
 abbrev pub held_by : ℕ → Instance → Instance
 held_by slot instance = record instance { holder = Some slot; memory = None; objects = [] }
 
+-- its memory and open objects, which move to the call that comes to hold it
+abbrev pub moved_from : Instance → Option (List ℕ) × NumberMap Handle
+moved_from instance = (instance.memory, instance.objects)
+
 -- the instance with memory and open objects, and nobody holds it
 abbrev pub given_back : Option (List ℕ) → NumberMap Handle → Instance → Instance
 given_back memory objects instance = record instance { holder = None; memory = memory; objects = objects }

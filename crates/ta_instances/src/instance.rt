@@ -1,8 +1,7 @@
-ghost use Rattle.std.specs.Prelude.{◌≡◌};
+ghost use Rattle.std.specs.Prelude.{◌≡◌, []};
 ghost use Rattle.ta_instances.specs.Instance.{given_back, held_by, killed, made};
 
 use frame_pool::Pages;
-use std::mem;
 use tee_storage::Handles;
 use uuid::Uuid;
 
@@ -38,24 +37,25 @@ impl Instance {
         }
     }
 
-    /// Lets the call of a slot hold it, and moves the memory and the open objects out.
-    pub(crate) fn hold(&mut self, slot: u8) -> (Option<Pages>, Handles)
-        ensures moved { result ≡ (self.old.memory, self.old.objects) }
+    /// Lets the call of a slot hold it: gives the memory, and moves the open objects into those of the call.
+    pub(crate) fn hold(&mut self, slot: u8, objects: &mut Handles) -> Option<Pages>
+        ensures memory { result ≡ self.old.memory }
+        ensures objects { objects.new ≡ self.old.objects }
         ensures after { self.new ≡ held_by slot self.old }
     {
         self.holder = Some(slot);
-        let memory = self.memory.take();
-        let objects = mem::replace(&mut self.objects, Handles::new());
-        (memory, objects)
+        self.objects.move_to(objects);
+        self.memory.take()
     }
 
     /// Puts memory and open objects back, and nobody holds it.
-    pub(crate) fn give_back(&mut self, memory: Option<Pages>, objects: Handles)
-        ensures { self.new ≡ given_back memory objects self.old }
+    pub(crate) fn give_back(&mut self, memory: Option<Pages>, objects: &mut Handles)
+        ensures after { self.new ≡ given_back memory objects.old self.old }
+        ensures objects { objects.new ≡ [] }
     {
         self.holder = None;
         self.memory = memory;
-        self.objects = objects;
+        objects.move_to(&mut self.objects);
     }
 
     /// What is left of it after a panic: nobody holds it, and it has neither memory nor open objects.
@@ -63,6 +63,8 @@ impl Instance {
         ensures { self.new ≡ killed self.old }
     {
         self.dead = true;
-        self.give_back(None, Handles::new());
+        self.holder = None;
+        self.memory = None;
+        self.objects.clear();
     }
 }

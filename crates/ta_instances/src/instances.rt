@@ -2,7 +2,7 @@ ghost use Rattle.std.specs.Prelude.{◌≡◌, ◌<◌, [], true, None, Some, If
 ghost use Rattle.std.specs.Option.{IsSomeAnd, option_copied, option_map};
 ghost use Rattle.std.specs.Str.{bytes_eq};
 ghost use Rattle.base.specs.NumberMap.{get, insert, remove};
-ghost use Rattle.ta_instances.specs.Instance.{given_back, held_by, killed, made};
+ghost use Rattle.ta_instances.specs.Instance.{given_back, held_by, killed, made, moved_from};
 ghost use Rattle.ta_instances.specs.Instances.{AreInstances, changed, is_free, is_held, least_with};
 
 use crate::instance::Instance;
@@ -72,20 +72,41 @@ impl Instances {
     /// Lets the call of a slot hold an instance that no call holds, and moves its memory and open objects out.
     pub fn hold(&mut self, number: u32, slot: u8) -> (Option<Pages>, Handles)
         requires { is_free self.old number ≡ true }
-        ensures moved { option_map (λ instance. (instance.memory, instance.objects))
-            (get self.old number) ≡ Some result }
+        ensures moved { option_map moved_from (get self.old number) ≡ Some result }
+        ensures after { self.new ≡ changed self.old number (held_by slot) }
+    {
+        let mut objects = Handles::new();
+        let memory = self.hold_into(number, slot, &mut objects);
+        (memory, objects)
+    }
+
+    /// The same, with the open objects moved into those of the call.
+    pub fn hold_into(&mut self, number: u32, slot: u8, objects: &mut Handles) -> Option<Pages>
+        requires { is_free self.old number ≡ true }
+        ensures moved { option_map moved_from (get self.old number) ≡ Some (result, objects.new) }
         ensures after { self.new ≡ changed self.old number (held_by slot) }
     {
         let instance = self.kept.get_mut(u64::from(number));
-        instance.hold(slot)
+        instance.hold(slot, objects)
     }
 
     /// Puts memory and open objects of an instance that a call holds back, and nobody holds it.
-    pub fn give_back(&mut self, number: u32, memory: Option<Pages>, objects: Handles)
+    pub fn give_back(&mut self, number: u32, memory: Option<Pages>, mut objects: Handles)
         requires held { is_held self.old number ≡ true }
         requires dead { IsSomeAnd (get self.old number)
             (λ instance. instance.dead ≡ true → memory ≡ None) }
         ensures { self.new ≡ changed self.old number (given_back memory objects) }
+    {
+        self.give_back_from(number, memory, &mut objects);
+    }
+
+    /// The same, with the open objects moved out of those of the call.
+    pub fn give_back_from(&mut self, number: u32, memory: Option<Pages>, objects: &mut Handles)
+        requires held { is_held self.old number ≡ true }
+        requires dead { IsSomeAnd (get self.old number)
+            (λ instance. instance.dead ≡ true → memory ≡ None) }
+        ensures after { self.new ≡ changed self.old number (given_back memory objects.old) }
+        ensures objects { objects.new ≡ [] }
     {
         let instance = self.kept.get_mut(u64::from(number));
         instance.give_back(memory, objects);

@@ -1,7 +1,7 @@
 -- A list that has at each number an object or none, as a map.
-use Rattle.std.proofs.Common.{◌≡◌, ℕ, zero, suc, ◌+◌, ◌<◌, ◌≤◌, Bool, true, false, cond, not, ◌&&◌, List, [], ◌∷◌, length, get_or, set, Option, Some, None, refl, sym, ap, subst, ◌∙◌, arith}
+use Rattle.std.proofs.Common.{◌≡◌, ◌↔◌, ℕ, zero, suc, ◌+◌, ◌<◌, ◌≤◌, Bool, true, false, cond, not, ◌&&◌, List, [], ◌∷◌, length, get_or, set, Option, Some, None, refl, sym, ap, subst, ◌∙◌, arith}
 use Rattle.std.specs.Option.{is_none, option_and_then}
-use Rattle.std.specs.List.{All, find, position, position_from}
+use Rattle.std.specs.List.{All, find, list_all, position, position_from}
 use Rattle.std.specs.Ordering.{nat_cmp, eq_by_cmp, is_lt}
 use Rattle.std.specs.FinMap.Entries as Entries
 use Rattle.std.proofs.lemmas.Bool.Decides.{nat_tests}
@@ -72,6 +72,13 @@ in_range start end (Some handle ∷ objects) le =
 
 pub are_handles : (objects : List (Option Handle)) → length objects ≡ 8 → AreHandles (numbered_from 0 objects)
 are_handles objects eight = record { rising = rising_numbered 0 objects; in_range = in_range 0 8 objects (omega arith) }
+
+-- ---- it is empty exactly where no place has an object
+
+pub empty_is_all_none : (start : ℕ) (objects : List (Option Handle)) → (list_all is_none objects ≡ true) ↔ (numbered_from start objects ≡ [])
+empty_is_all_none start [] = (λ _. refl, λ _. refl)
+empty_is_all_none start (None ∷ objects) = empty_is_all_none (start + 1) objects
+empty_is_all_none start (Some handle ∷ objects) = (λ all. absurd (cc), λ empty. absurd (cc))
 
 -- ---- a change at a number
 

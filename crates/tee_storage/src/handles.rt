@@ -1,4 +1,5 @@
-ghost use Rattle.std.specs.Prelude.{◌≡◌, ◌<◌, [], None, is_none, IfSome, OnSome, length, position, slice_set};
+ghost use Rattle.std.specs.Prelude.{◌≡◌, ◌<◌, ◌↔◌, true, [], None, is_none, IfSome, OnSome, length, position, slice_set};
+ghost use Rattle.std.specs.List.{list_all};
 ghost use Rattle.std.specs.Option.{option_copied};
 ghost use Rattle.base.specs.NumberMap.{get, insert, remove};
 ghost use Rattle.tee_storage.specs.Handles.{AreHandles, lowest_free, object_at};
@@ -6,6 +7,7 @@ ghost use Rattle.tee_storage.specs.Handles.{AreHandles, lowest_free, object_at};
 use crate::handle::Handle;
 use crate::object_file::copy_of;
 use std::marker::Model;
+use std::mem;
 
 /// The most objects that an instance has open at a time.
 pub const MAX_HANDLES: usize = 8;
@@ -38,6 +40,33 @@ impl Handles {
     {
         Handles {
             objects: [None, None, None, None, None, None, None, None],
+        }
+    }
+
+    /// Whether no object is open.
+    pub fn is_empty(&self) -> bool
+        ensures { (result ≡ true) ↔ (self.now ≡ []) }
+    {
+        are_none(&self.objects)
+    }
+
+    /// Closes all objects.
+    pub fn clear(&mut self)
+        ensures { self.new ≡ [] }
+    {
+        if !self.is_empty() {
+            *self = Handles::new();
+        }
+    }
+
+    /// Moves all objects over to other ones, which are forgotten. None are left.
+    pub fn move_to(&mut self, others: &mut Handles)
+        ensures moved { others.new ≡ self.old }
+        ensures left { self.new ≡ [] }
+    {
+        others.clear();
+        if !self.is_empty() {
+            mem::swap(&mut self.objects, &mut others.objects);
         }
     }
 
@@ -88,6 +117,13 @@ impl Handles {
     {
         take_at(&mut self.objects, number as usize)
     }
+}
+
+/// Whether no place has an object.
+fn are_none(objects: &[Option<Handle>]) -> bool
+    ensures { result ≡ list_all is_none objects.now }
+{
+    objects.iter().all(|object| object.is_none())
 }
 
 /// Where the first place without an object stands.

@@ -5,9 +5,9 @@ use Rattle.begin_call.proofs.found.starts.Goals as goal
 
 pub returns-clause-runs : goal.returns-clause-runs
 returns-clause-runs c = (
-  job_starts c.args.cont.now c.begin_on.new.self c.held_of-held.result
-      (beginning_with c.args.found.program c.args.found.memory c.args.cont.now.cancelled) c.args.found.uuid c.args.found.objects (points_of c.args.found.points)
+  job_starts c.args.cont.now c.start_on.new.self c.held_of-held.result
+      (beginning_with c.args.found.program c.args.found.memory c.args.cont.now.cancelled) c.args.found.uuid c.args.cont.now.objects (points_of c.args.found.points)
       c.requires.fresh c.held_of-held.ensures.uuid
-      (λ job. c.held_of-held.ensures.begins c.args.cont.now.cancelled job (points_of c.args.found.points)) c.begin_on.ensures.begins,
-  c.begin_on.ensures.runs,
+      (λ job. c.held_of-held.ensures.begins c.args.cont.now.cancelled job (points_of c.args.found.points)) c.start_on.ensures.begins,
+  c.start_on.ensures.runs,
 )

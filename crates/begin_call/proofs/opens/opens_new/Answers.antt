@@ -8,5 +8,5 @@ use Rattle.begin_call.proofs.opens.opens_new.Goals as goal
 
 pub starts-requires-clause-found : goal.starts-requires-clause-found
 starts-requires-clause-found c =
-    can_start c.args.call.app c.makes-memory.result.0 c.uuid.result (fresh_memory (pages_in (application_of c.args.call.app)))
+    can_start c.args.call.app c.makes-memory.result c.uuid.result (fresh_memory (pages_in (application_of c.args.call.app)))
     c.requires.valid c.uuid.ensures c.makes-memory.ensures.memory (length-zeros (4096 * pages_in (application_of c.args.call.app)))

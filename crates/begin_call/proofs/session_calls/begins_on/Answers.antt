@@ -13,7 +13,7 @@ unreachable-requires c =
 
 pub starts-requires-clause-found : goal.starts-requires-clause-found
 starts-requires-clause-found c =
-    can_start_on c.in-Some.instance.now c.args.call.app c.program_on-program.result c.holds-memory.result.0 c.requires.valid
+    can_start_on c.in-Some.instance.now c.args.call.app c.program_on-program.result c.holds-memory.result c.requires.valid
     (ready_found c.args.tables.now.instances c.args.call.session.instance c.in-Some.instance.now (application_of c.args.call.app) (sym c.in-Some.ensures.instance) c.requires.kept)
     c.program_on-program.ensures
     (c.holds-memory.ensures.memory (instance_of c.in-Some.instance.now) (found_kept c.args.tables.now.instances c.args.call.session.instance c.in-Some.instance.now (sym c.in-Some.ensures.instance)))
@@ -21,7 +21,7 @@ starts-requires-clause-found c =
 pub returns-clause-begins : goal.returns-clause-begins
 returns-clause-begins c boot instance is found =
     begun_on boot c.args.tables.now c.holds-memory.new.tables c.args.cont.now c.starts.new.cont c.args.call.slot c.args.call.session c.in-Some.instance.now instance
-    (points_of c.args.call.points) c.args.call.app c.program_on-program.result c.holds-memory.result.0 c.holds-memory.result.1
+    (points_of c.args.call.points) c.args.call.app c.program_on-program.result c.holds-memory.result c.holds-memory.new.objects
     (sym c.in-Some.ensures.instance) is found c.program_on-program.ensures
     (c.holds-memory.ensures.memory instance is) (c.holds-memory.ensures.objects instance is) (c.holds-memory.ensures.tables instance is)
     c.starts.ensures.runs c.starts.ensures.app c.starts.ensures.stays

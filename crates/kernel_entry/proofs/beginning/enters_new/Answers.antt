@@ -1,4 +1,4 @@
-use Rattle.std.proofs.Common.{◌≡◌, ◌-◌, ℕ, List, [], ◌∷◌, ◌++◌, false, refl, ap, ◌∙◌}
+use Rattle.std.proofs.Common.{◌≡◌, ◌-◌, ℕ, List, [], ◌∷◌, ◌++◌, false, ap, ◌∙◌}
 use Rattle.std.specs.Prelude.{slice_set}
 use Rattle.kernel_state.specs.Setup.{booted_with}
 use Rattle.kernel_state.specs.Tables.{tables_of}
@@ -33,7 +33,7 @@ returns-clause-stands c applies kernel stands =
     let beside_of : Cont (List ℕ) → Cancellation = λ cont. record { session = cont.session; cancel_id = c.args.entered.head.cancel_id; marked = false } in
     let beside : Cancellation = beside_of c.deref.result.now in
     let shown : c.deref.result.now ≡ c.apply.new.cont = let e = c.deref.ensures in let b = c.deref_mut.ensures.writes_back in cc in
-    let takes = new_takes old mid new c.args.visitor c.args.entered c.args.plan c.is_cancel-cancels.result beside c.apply.new.tables c.apply.new.cont c.args.reads
+    let takes = new_takes old mid new c.args.visitor c.args.entered c.args.plan c.is_cancel-cancels.result beside c.take-cont.new.self c.apply.new.tables c.apply.new.cont c.args.reads
     c.is_cancel-cancels.ensures (c.apply.ensures.taken (booted_with old.setup) applies) (c.apply.ensures.pages old.setup applies stands.pages) (ap beside_of shown)
     c.takes_slot.ensures c.lets_in.ensures in
     let journal : mid.journal ≡ old.journal = ap (λ (parts : Parts). parts.journal) c.takes_slot.ensures.stays in

@@ -1,7 +1,6 @@
-use Rattle.std.proofs.Common.{ap, refl, sym}
+use Rattle.std.proofs.Common.{ap, refl}
 use Rattle.event_journal.specs.Journal.{Contents}
 use Rattle.kernel_state.specs.declared.parts.Parts.{Parts as AnyParts}
-use Rattle.kernel_entry.specs.Applying.{IsBlank}
 use Rattle.kernel_entry.specs.Entering.{CanTakeSlot}
 use Rattle.kernel_entry.specs.Resuming.{CanGoOn}
 use Rattle.kernel_entry.proofs.Following.{call_found}
@@ -21,22 +20,22 @@ returns-in-Answers-clause-carries c kernel stands = rw c.in-Answers.is refl
 
 pub returns-in-Begins-clause-stands : goal.returns-in-Begins-clause-stands
 returns-in-Begins-clause-stands c kernel =
-    let can : CanTakeSlot c.args.parts.now c.in-Begins.entered c.in-Begins.plan × IsBlank c.in-Begins.cont.value = rw c.in-Begins.is at c.requires.follows in
-    rw c.in-Begins.is (c.enters_new.ensures.stands can.0.begins.applies kernel)
+    let can : CanTakeSlot c.args.parts.now c.in-Begins.entered c.in-Begins.plan = rw c.in-Begins.is at c.requires.follows in
+    rw c.in-Begins.is (c.enters_new.ensures.stands can.begins.applies kernel)
 
 pub returns-in-Begins-clause-carries : goal.returns-in-Begins-clause-carries
 returns-in-Begins-clause-carries c kernel stands =
-    let can : CanTakeSlot c.args.parts.now c.in-Begins.entered c.in-Begins.plan × IsBlank c.in-Begins.cont.value = rw c.in-Begins.is at c.requires.follows in
-    rw c.in-Begins.is (c.enters_new.ensures.carries can.0.begins.applies)
+    let can : CanTakeSlot c.args.parts.now c.in-Begins.entered c.in-Begins.plan = rw c.in-Begins.is at c.requires.follows in
+    rw c.in-Begins.is (c.enters_new.ensures.carries can.begins.applies)
 
 pub returns-in-GoesOn-clause-stands : goal.returns-in-GoesOn-clause-stands
 returns-in-GoesOn-clause-stands c kernel stands =
     let can : CanGoOn c.args.parts.now c.args.visitor.regs.a c.in-GoesOn.decided.value = rw c.in-GoesOn.is at c.requires.follows in
     let found = call_found c.args.parts.now.slots c.args.parts.now.cancellations.items kernel.slots c.args.visitor.regs.a stands.slots can.suspended in
-    rw (c.in-GoesOn.is, found.1, sym c.into_inner.ensures) (c.enters_resumed.ensures.stands kernel found.0 found.1 stands)
+    rw (c.in-GoesOn.is, found.1) (c.enters_resumed.ensures.stands kernel found.0 found.1 stands)
 
 pub returns-in-GoesOn-clause-carries : goal.returns-in-GoesOn-clause-carries
 returns-in-GoesOn-clause-carries c kernel stands =
     let can : CanGoOn c.args.parts.now c.args.visitor.regs.a c.in-GoesOn.decided.value = rw c.in-GoesOn.is at c.requires.follows in
     let found = call_found c.args.parts.now.slots c.args.parts.now.cancellations.items kernel.slots c.args.visitor.regs.a stands.slots can.suspended in
-    rw (c.in-GoesOn.is, found.1, sym c.into_inner.ensures) (c.enters_resumed.ensures.carries kernel found.0 stands found.1)
+    rw (c.in-GoesOn.is, found.1) (c.enters_resumed.ensures.carries kernel found.0 stands found.1)

@@ -36,7 +36,8 @@ comes_in-call-requires-clause-cpu c =
 pub comes_in-call-requires-clause-follows : goal.comes_in-call-requires-clause-follows
 comes_in-call-requires-clause-follows c =
     can_follow c.prepare.new.parts c.args.visitor.regs.a c.in_ok-prepared.prepared.decision
-    (roomier_replays c.args.core.now.parts c.prepare.new.parts c.prepare.ensures.room c.args.core.now.replay) c.in_ok-prepared.ensures.prepares.found
+    (roomier_replays c.args.core.now.parts c.prepare.new.parts c.prepare.ensures.room c.args.core.now.replay)
+    c.in_ok-prepared.ensures.prepares.blank c.in_ok-prepared.ensures.prepares.found
 
 pub invariant_of-core-2 : goal.invariant_of-core-2
 invariant_of-core-2 c =

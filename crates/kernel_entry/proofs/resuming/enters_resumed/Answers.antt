@@ -28,18 +28,18 @@ returns-clause-stands c kernel call found stands =
     let mid = c.goes_on-cont.new.parts in
     let new = c.lets_in.new.parts in
     let regs = c.args.visitor.regs.a in
-    let goes : GoesOn old mid regs c.args.visitor.cpu c.args.decided c.goes_on-cont.result.value = record {
+    let goes : GoesOn old mid regs c.args.visitor.cpu c.args.decided.value c.goes_on-cont.result.value = record {
       slots = c.goes_on-cont.ensures.slots;
       call = c.goes_on-cont.ensures.call;
       pages = c.goes_on-cont.ensures.pages;
       stays = c.goes_on-cont.ensures.stays;
     } in
-    let takes = resume_takes old mid new c.args.visitor c.slot_named-slot.result c.args.decided c.goes_on-cont.result.value c.args.reads kernel.slots call
+    let takes = resume_takes old mid new c.args.visitor c.slot_named-slot.result c.args.decided.value c.goes_on-cont.result.value c.args.reads kernel.slots call
     goes stands.slots found c.lets_in.ensures in
     let journal : mid.journal ≡ old.journal = ap (λ (parts : Parts). parts.journal) c.goes_on-cont.ensures.stays in
     let processors : mid.processors.items ≡ old.processors.items = ap (λ (parts : Parts). parts.processors.items) c.goes_on-cont.ensures.stays in
     let slot : c.slot_named-slot.result ≡ thread_in regs = c.slot_named-slot.ensures in
-    slot_stands old new kernel c.args.visitor (thread_in regs) takes.0 (works_on (goes_on_as old regs c.args.decided call)) stands takes.1
+    slot_stands old new kernel c.args.visitor (thread_in regs) takes.0 (works_on (goes_on_as old regs c.args.decided.value call)) stands takes.1
     (c.lets_in.ensures.processors
     ∙ ap (λ (processors : List Processor). slice_set processors c.args.visitor.cpu (Inside c.args.visitor.regs c.args.visitor.steps (InSlot c.slot_named-slot.result))) processors
     ∙ ap (λ (slot : ℕ). slice_set old.processors.items c.args.visitor.cpu (Inside c.args.visitor.regs c.args.visitor.steps (InSlot slot))) slot)
@@ -48,12 +48,12 @@ returns-clause-stands c kernel call found stands =
 
 pub returns-clause-carries : goal.returns-clause-carries
 returns-clause-carries c kernel call stands found =
-    let goes : GoesOn c.args.parts.now c.goes_on-cont.new.parts c.args.visitor.regs.a c.args.visitor.cpu c.args.decided c.goes_on-cont.result.value = record {
+    let goes : GoesOn c.args.parts.now c.goes_on-cont.new.parts c.args.visitor.regs.a c.args.visitor.cpu c.args.decided.value c.goes_on-cont.result.value = record {
       slots = c.goes_on-cont.ensures.slots;
       call = c.goes_on-cont.ensures.call;
       pages = c.goes_on-cont.ensures.pages;
       stays = c.goes_on-cont.ensures.stays;
     } in
-    let has = has_come c.args.parts.now c.goes_on-cont.new.parts c.args.visitor.regs.a c.args.visitor.cpu c.args.decided c.goes_on-cont.result.value kernel.slots call
+    let has = has_come c.args.parts.now c.goes_on-cont.new.parts c.args.visitor.regs.a c.args.visitor.cpu c.args.decided.value c.goes_on-cont.result.value kernel.slots call
     goes stands.slots found in
-    c.carried.ensures (goes_on_as c.args.parts.now c.args.visitor.regs.a c.args.decided call).call has.call
+    c.carried.ensures (goes_on_as c.args.parts.now c.args.visitor.regs.a c.args.decided.value call).call has.call

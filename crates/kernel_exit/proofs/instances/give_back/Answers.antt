@@ -1,6 +1,6 @@
 -- Where it goes, it is removed behind having been put back.
-use Rattle.std.proofs.Common.{◌≡◌, ap, sym, ◌∙◌, length, not, ◌&&◌, ◌||◌, Bool}
-use Rattle.kernel_model.specs.Instances.{given_back, killed}
+use Rattle.std.proofs.Common.{ap, sym, ◌∙◌, length, not, ◌&&◌, ◌||◌, Bool}
+use Rattle.kernel_model.specs.Instances.{given_back}
 use Rattle.kernel_model.specs.Kernel.{Tables}
 use Rattle.kernel_model.specs.Sessions.{has_opened}
 use Rattle.kernel_state.specs.Calls.{bytes_of}
@@ -20,4 +20,4 @@ returns-then-goes-clause-tables c = λ call same.
     let dead = ap (λ (b : Bool). c.args.is_last || (b && not opened)) c.is_dead-is_dead.ensures in
     let goes = sym dead ∙ sym c.is_removed-goes.ensures ∙ c.if-goes.true in
     c.remove_instance.ensures.tables ∙ ap (λ (t : Tables). without_instance t c.args.number) c.put_back.ensures.tables
-    ∙ given_away (tables_of c.args.tables.now) call c.args.number c.args.is_last (given_back memory c.args.objects) same goes there
+    ∙ given_away (tables_of c.args.tables.now) call c.args.number c.args.is_last (given_back memory c.args.objects.now) same goes there

@@ -1,5 +1,5 @@
 -- Where it goes, it is removed behind having been put back.
-use Rattle.std.proofs.Common.{◌≡◌, ap, sym, ◌∙◌, length, not, ◌&&◌, ◌||◌, Bool}
+use Rattle.std.proofs.Common.{ap, sym, ◌∙◌, length, not, ◌&&◌, ◌||◌, Bool}
 use Rattle.kernel_model.specs.Instances.{killed}
 use Rattle.kernel_model.specs.Kernel.{Tables}
 use Rattle.kernel_model.specs.Sessions.{has_opened}

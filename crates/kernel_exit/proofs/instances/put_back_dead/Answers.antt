@@ -1,13 +1,13 @@
 -- It is seen as killed, and its pages are those that the pool lacks for it.
-use Rattle.std.proofs.Common.{◌≡◌, ℕ, ◌+◌, ap, sym, refl, ◌∙◌, arith, List, [], length, None, subst}
+use Rattle.std.proofs.Common.{ap, sym, refl, ◌∙◌, arith, length, subst}
 use Rattle.base.specs.NumberMap.{NumberMap}
 use Rattle.frame_pool.specs.Pages.{page_count}
 use Rattle.frame_pool.specs.Pool.{Frames}
-use Rattle.kernel_model.specs.Instances.{free_pages, given_back, killed}
+use Rattle.kernel_model.specs.Instances.{free_pages, killed}
 use Rattle.kernel_model.specs.Kernel.{Instance}
 use Rattle.kernel_state.specs.Calls.{bytes_of}
 use Rattle.kernel_state.specs.Setup.{booted_with}
-use Rattle.kernel_state.specs.Tables.{instance_of, tables_of}
+use Rattle.kernel_state.specs.Tables.{tables_of}
 use Rattle.rpc_cont.specs.Conts.{kept_memory}
 use Rattle.ta_instances.specs.Instance as low
 use Rattle.kernel_exit.specs.Ending.{CanBeRemoved}

@@ -1,5 +1,5 @@
 -- Its pages are those that the pool lacks for it.
-use Rattle.std.proofs.Common.{◌≡◌, ℕ, ◌+◌, ap, sym, ◌∙◌, arith, List, subst}
+use Rattle.std.proofs.Common.{◌+◌, ap, sym, ◌∙◌, arith}
 use Rattle.base.specs.NumberMap.{NumberMap}
 use Rattle.frame_pool.specs.Pages.{page_count}
 use Rattle.frame_pool.specs.Pool.{Frames}

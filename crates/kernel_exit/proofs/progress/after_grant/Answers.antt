@@ -1,4 +1,3 @@
-use Rattle.std.proofs.Common.{List, ℕ}
 use Rattle.kernel_state.specs.Tables.{tables_of}
 use Rattle.kernel_exit.proofs.ComesTo.{ended_by, panicked_by}
 use Rattle.kernel_exit.proofs.progress.after_grant.Goals as goal

@@ -1,4 +1,4 @@
-use Rattle.std.proofs.Common.{◌≡◌, map, ℕ, ◌++◌}
+use Rattle.std.proofs.Common.{◌≡◌, map, ◌++◌}
 use Rattle.std.specs.Prelude.{take, drop}
 use Rattle.kernel_state.specs.Cancelling.{marked_by}
 use Rattle.kernel_state.proofs.cancellation.mark_calls.Given as goal

@@ -7,4 +7,5 @@ invariant-loop-i l = record {
   len : vec_len l.free ≡ l._i;
   room : vec_capacity l.free ≡ l.frames;
   whole : AreWhole l.free.items;
+  rooms : l.rooms ≡ l._i;
 }

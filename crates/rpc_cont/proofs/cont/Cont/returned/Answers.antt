@@ -1,4 +1,4 @@
-use Rattle.std.proofs.Common.{ap, subst, sym, ◌∙◌, map}
+use Rattle.std.proofs.Common.{ap, subst, sym, ◌∙◌}
 use Rattle.job_model.specs.Job.{Nothing}
 use Rattle.job_model.specs.Steps.{Advance, on_to_next, job_after_return, still_to_come}
 use Rattle.rpc_cont.specs.Conts.{job_with}

@@ -2,7 +2,6 @@ use Rattle.job_model.specs.Job.{Nothing}
 use Rattle.job_model.specs.Steps.{Advance}
 use Rattle.rpc_cont.specs.Conts.{body_at, job_with}
 use Rattle.rpc_cont.specs.Running.{IsTurn}
-use Rattle.rpc_cont.specs.Stopped.{IsStoppedFor}
 use Rattle.std.proofs.Common.{◌≡◌, Some}
 use Rattle.ta_step.specs.Machine.{state_of}
 use Rattle.ta_step.specs.declared.stop.Stop.TheVariants as stop

@@ -1,22 +1,22 @@
-use Rattle.std.proofs.Common.{◌≡◌, ◌∷◌, List, ℕ, sym, subst}
+use Rattle.std.proofs.Common.{◌≡◌, ◌∷◌, sym, subst}
 use Rattle.job_model.specs.Beginning.{begun_job}
 use Rattle.job_model.specs.Job.{Job, Nothing, image_job_at}
 use Rattle.rpc_cont.specs.Beginning.{beginning_on, held_uuid}
 use Rattle.rpc_cont.specs.Conts.{job_at, job_with}
 use Rattle.rpc_cont.specs.declared.held.Held.{Held}
 use Rattle.ta_isa.specs.declared.image.Image.{Image}
-use Rattle.rpc_cont.proofs.cont.Cont.begin_on.Goals as goal
+use Rattle.rpc_cont.proofs.cont.Cont.start_on.Goals as goal
 
 pub returns-in-Image-clause-begins : goal.returns-in-Image-clause-begins
 returns-in-Image-clause-begins g c =
     let bytes = g.M.TaMemory.bytes in
     let old = c.args.self.now in
     let uuid = c.in-Image.uuid in
-    let job : Job = record (job_with Nothing uuid old) { objects = c.args.objects } in
+    let job : Job = job_with Nothing uuid old in
     let begins =
     subst (λ (i : Image). job_at bytes uuid i c.begin.new.self ≡ image_job_at i (bytes c.in-Image.memory) old.cancelled job c.args.first c.args.behind.items)
     c.deref.ensures (c.begin.ensures.begins uuid)
     in
     let left = job_at bytes uuid c.in-Image.image.value c.begin.new.self in
-    subst (λ (h : Held _). left ≡ begun_job (beginning_on bytes h old.cancelled) (record (job_with Nothing (held_uuid h) old) { objects = c.args.objects }) (c.args.first ∷ c.args.behind.items))
+    subst (λ (h : Held _). left ≡ begun_job (beginning_on bytes h old.cancelled) (job_with Nothing (held_uuid h) old) (c.args.first ∷ c.args.behind.items))
     (sym c.in-Image.is) begins

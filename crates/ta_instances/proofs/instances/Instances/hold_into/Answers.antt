@@ -1,6 +1,6 @@
 use Rattle.std.proofs.Common.{arith}
 use Rattle.ta_instances.proofs.KeptInstances.{held_is_instance, numbered_with}
-use Rattle.ta_instances.proofs.instances.Instances.hold.Goals as goal
+use Rattle.ta_instances.proofs.instances.Instances.hold_into.Goals as goal
 
 pub invariant_of-self : goal.invariant_of-self
 invariant_of-self c =

@@ -1,0 +1,125 @@
+ghost use Rattle.std.specs.Prelude.{◌≡◌, ◌+◌, ◌<◌, ◌≤◌, None, OnOk, OnErr, IfOk};
+ghost use Rattle.kernel_state.specs.Blanks.{IsBlank};
+
+use arrayvec::ArrayVec;
+use base::NoMemory;
+use frame_pool::Pages;
+use job_model::CallKind;
+use rpc_cont::{CallEntry, Cont};
+use std::alloc::Global;
+use std::marker::Model;
+use ta_params::codes::TEE_SUCCESS;
+use ta_params::{CallResult, Login};
+
+/// Boxes of calls that have finished, kept for new ones, so that a call is neither moved nor cleared as it begins. Contracts
+/// see how many there are.
+#[derive(Drop)]
+pub struct Blanks {
+    boxes: Vec<Box<Cont<Pages>>>,
+}
+
+impl Model for Blanks {
+    ghost use Rattle.std.specs.Prelude.{ℕ, vec_len};
+    ghost use Rattle.kernel_state.specs.Blanks.{AreBlank};
+
+    ghost Value = { ℕ };
+
+    ghost view = { λ blanks. vec_len blanks.boxes };
+
+    ghost invariant = { λ blanks. AreBlank blanks.boxes.items };
+}
+
+impl Blanks {
+    /// No box, and room for so many.
+    pub fn new(alloc: Global, room: u8) -> Result<Blanks, NoMemory>
+        ensures { IfOk result (λ blanks. blanks ≡ 0) }
+    {
+        Ok(Blanks {
+            boxes: Vec::with_capacity(alloc, usize::from(room))?,
+        })
+    }
+
+    /// Makes a box where there is none.
+    pub fn make_one(&mut self, alloc: Global) -> Result<(), NoMemory>
+        ensures one { OnOk result (0 < self.new) }
+        ensures none { OnErr result (self.new ≡ self.old) }
+    {
+        if self.boxes.is_empty() {
+            let cont = Box::new(alloc, blank(alloc))?;
+            self.boxes.push(cont)?;
+        }
+        Ok(())
+    }
+
+    /// Takes a box, in which nothing of a call is there yet. Takes no memory.
+    pub fn take(&mut self) -> Box<Cont<Pages>>
+        requires { 0 < self.old }
+        ensures blank { IsBlank result.value }
+        ensures left { self.new + 1 ≡ self.old }
+    {
+        self.boxes.pop().unwrap()
+    }
+
+    /// Keeps the box of a call that has finished, where there is room for it. Takes no memory.
+    pub fn put(&mut self, mut cont: Box<Cont<Pages>>)
+        ensures kept { self.old ≤ self.new }
+        ensures one { self.new ≤ self.old + 1 }
+    {
+        wipe(&mut cont);
+        if self.boxes.len() < self.boxes.capacity() {
+            self.boxes.push_reserved(cont);
+        }
+    }
+}
+
+/// A call of which nothing is there yet.
+fn blank(alloc: Global) -> Cont<Pages>
+    ensures { IsBlank result }
+{
+    Cont::settled(
+        CallEntry {
+            client: 0,
+            kind: CallKind::Settled,
+            login: Login::public(),
+            context: 0,
+            params: None,
+            arg: 0,
+            places: ArrayVec::new_in(alloc),
+            session: 0,
+            instance: 0,
+        },
+        CallResult::of_tee(TEE_SUCCESS),
+    )
+}
+
+/// Nothing of the call is left, and all memory of it but its box is free. What is large is touched only where it is there.
+fn wipe(cont: &mut Cont<Pages>)
+    ensures { IsBlank cont.new }
+{
+    cont.app = None;
+    cont.params = None;
+    cont.memory = None;
+    cont.point = None;
+    cont.points.clear();
+    cont.objects.clear();
+    cont.buffer = None;
+    cont.cancelled = false;
+    cont.steps = 0;
+    cont.done = false;
+    wipe_work(cont);
+}
+
+/// Nothing is left of what the call has worked on.
+fn wipe_work(cont: &mut Cont<Pages>)
+    ensures { cont.new ≡ record cont.old { machine = None; object = None; request = None } }
+{
+    if cont.machine.is_some() {
+        cont.machine = None;
+    }
+    if cont.object.is_some() {
+        cont.object = None;
+    }
+    if cont.request.is_some() {
+        cont.request = None;
+    }
+}
