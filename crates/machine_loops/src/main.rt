@@ -126,20 +126,31 @@ fn number(word: &str) -> Result<u32> {
     word.parse::<u32>().ok().context("reading a number")
 }
 
+/// Invokes a function of an image, cancelled or not, by grants of so many steps, and says how that went.
+fn invoke(
+    alloc: Global,
+    image: &str,
+    func: &str,
+    steps: &str,
+    is_cancelled: bool,
+) -> Result<String> {
+    let image = image_of(alloc, image)?;
+    let func = number(func)?;
+    let steps = number(steps)?;
+    let mut machine = invoked(alloc, &image, case_params(alloc)?, func)?;
+    if is_cancelled {
+        machine.see_cancel();
+    }
+    played(alloc, &image, machine, steps)
+}
+
 /// What a line tells of its case.
 fn case(alloc: Global, line: &str) -> Result<String> {
     let words: Vec<&str> = line.split(' ').collect(alloc)?;
     let [name, image, func, steps, call] = words.as_slice() else {
         bail!("a case has five words");
     };
-    let image = image_of(alloc, image)?;
-    let func = number(func)?;
-    let steps = number(steps)?;
-    let mut machine = invoked(alloc, &image, case_params(alloc)?, func)?;
-    if *call == "cancelled" {
-        machine.see_cancel();
-    }
-    let told = played(alloc, &image, machine, steps)?;
+    let told = invoke(alloc, image, func, steps, *call == "cancelled")?;
     Ok(format!(in alloc; "{name}: {told}")?)
 }
 

@@ -1,5 +1,5 @@
 //! Cases of calls on objects, whose requests are answered by what stands in the case.
-ghost use Rattle.std.specs.Prelude.{◌≡◌, IfSome};
+ghost use Rattle.std.specs.Prelude.{◌≡◌, IfOk, IfSome, length};
 ghost use Rattle.tee_storage.specs.ObjectCalls.{range_len};
 
 use crate::number;
@@ -115,6 +115,72 @@ fn tell_open(told: &mut String, handles: &Handles, handle: u32) -> Result<()> {
     Ok(())
 }
 
+/// The call of this name, over a range of so many bytes, or what is wrong with it.
+fn call_at(name: &str, handle: u32, position: u32, len: usize) -> Result<ObjectCall>
+    ensures { IfOk result (λ call. range_len call ≡ len) }
+{
+    let len = u32::try_from(len).ok().context("counting the bytes")?;
+    call_of(name, handle, position, len).context("there is no such call")
+}
+
+/// Serves a call over a range, tells its steps, and gives how it stands behind the last reply.
+fn served(
+    alloc: Global,
+    told: &mut String,
+    call: ObjectCall,
+    replies: &[&str],
+    range: &mut Range,
+    handles: &mut Handles,
+) -> Result<ObjectState>
+    requires { length range.old.bytes.items ≡ range_len call }
+{
+    let uuid = Uuid::parse_str(APPLICATION)?;
+    let (mut state, step) = ObjectState::start(call, uuid, range, handles);
+    tell(alloc, told, &step)?;
+    'replies: for word in replies {
+        let reply = reply_of(alloc, word)?;
+        let step = state.answer(&reply, range, handles);
+        tell(alloc, told, &step)?;
+    }
+    Ok(state)
+}
+
+/// Tells what a call leaves: the range, and what is open of the handle.
+fn tell_end(
+    alloc: Global,
+    told: &mut String,
+    range: &Range,
+    handles: &Handles,
+    handle: u32,
+) -> Result<()> {
+    write!(told, "over {}", range.bytes.as_slice().encode_hex(alloc)?)?;
+    tell_open(told, handles, handle)
+}
+
+/// What the first six words of a line and its replies tell.
+fn told_of(
+    alloc: Global,
+    head: &[&str],
+    replies: &[&str],
+    handles: &mut Handles,
+) -> Result<String> {
+    let [kind, name, call, handle, position, bytes] = head else {
+        bail!("a call has six words");
+    };
+    let handle = number(handle)?;
+    let position = number(position)?;
+    let bytes = bytes_of(alloc, bytes)?;
+    let call = call_at(call, handle, position, bytes.len())?;
+    let mut told = format!(in alloc; "{name}: ")?;
+    let mut range = Range { bytes };
+    let state = served(alloc, &mut told, call, replies, &mut range, handles)?;
+    if *kind == "unbuffered" {
+        write!(told, "{:08x} without a buffer, ", state.no_buffer())?;
+    }
+    tell_end(alloc, &mut told, &range, handles, handle)?;
+    Ok(told)
+}
+
 /// What a line tells of its case: `object` or `unbuffered`, its name, the call, a handle, a position, the bytes of
 /// the range, and the replies. `unbuffered` where no buffer comes for the last request.
 pub(crate) fn case(alloc: Global, line: &str, handles: &mut Handles) -> Result<String> {
@@ -123,32 +189,5 @@ pub(crate) fn case(alloc: Global, line: &str, handles: &mut Handles) -> Result<S
         bail!("a call has six words and its replies");
     }
     let (head, replies) = words.as_slice().split_at(6);
-    let [kind, name, call, handle, position, bytes] = head else {
-        bail!("a call has six words");
-    };
-    let handle = number(handle)?;
-    let position = number(position)?;
-    let bytes = bytes_of(alloc, bytes)?;
-    let len = u32::try_from(bytes.len())
-        .ok()
-        .context("counting the bytes")?;
-    let Some(call) = call_of(call, handle, position, len) else {
-        bail!("there is no such call");
-    };
-    let mut told = format!(in alloc; "{name}: ")?;
-    let mut range = Range { bytes };
-    let uuid = Uuid::parse_str(APPLICATION)?;
-    let (mut state, step) = ObjectState::start(call, uuid, &range, handles);
-    tell(alloc, &mut told, &step)?;
-    'replies: for word in replies {
-        let reply = reply_of(alloc, word)?;
-        let step = state.answer(&reply, &mut range, handles);
-        tell(alloc, &mut told, &step)?;
-    }
-    if *kind == "unbuffered" {
-        write!(told, "{:08x} without a buffer, ", state.no_buffer())?;
-    }
-    write!(told, "over {}", range.bytes.as_slice().encode_hex(alloc)?)?;
-    tell_open(&mut told, handles, handle)?;
-    Ok(told)
+    told_of(alloc, head, replies, handles)
 }

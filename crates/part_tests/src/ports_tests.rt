@@ -116,19 +116,23 @@ fn takes_from_a_reader(rt: HostRuntime) {
     let mut source = StdSource::new(reader);
     let mut buf = [0; 5];
     // The short reads are joined; the fault in mid-stream is answered once, behind an empty buffer, and the
-    // bytes go on after it; the end is answered without a read, and more may come behind it.
-    assert_eq!(rt; take_from(&mut source, &mut buf), Taken::Bytes(3));
-    assert!(rt; buf.starts_with(b"abc"));
-    assert_eq!(rt; take_from(&mut source, &mut []), Taken::End);
-    assert_eq!(rt; source.faults(), 0);
-    assert_eq!(rt; take_from(&mut source, &mut buf), Taken::Failed);
-    assert_eq!(rt; source.faults(), 1);
-    assert_eq!(rt; take_from(&mut source, &mut buf), Taken::Bytes(4));
-    assert!(rt; buf.starts_with(b"defg"));
-    assert_eq!(rt; take_from(&mut source, &mut buf), Taken::End);
-    assert_eq!(rt; take_from(&mut source, &mut buf), Taken::Bytes(1));
-    assert_eq!(rt; take_from(&mut source, &mut buf), Taken::End);
-    assert_eq!(rt; source.faults(), 1);
+    // bytes go on after it; the end is answered without a read, and more may come behind it. Of each call: the room in
+    // its buffer, its answer, what stands at the buffer's front, and the faults by then.
+    let calls: [(usize, Taken, &[u8], u64); 7] = [
+        (5, Taken::Bytes(3), b"abc", 0),
+        (0, Taken::End, b"", 0),
+        (5, Taken::Failed, b"", 1),
+        (5, Taken::Bytes(4), b"defg", 1),
+        (5, Taken::End, b"", 1),
+        (5, Taken::Bytes(1), b"h", 1),
+        (5, Taken::End, b"", 1),
+    ];
+    for (room, taken, front, faults) in calls {
+        let buf = &mut buf[..room.min(5)];
+        assert_eq!(rt; take_from(&mut source, buf), taken);
+        assert!(rt; buf.starts_with(front));
+        assert_eq!(rt; source.faults(), faults);
+    }
 }
 
 // What a put of six bytes comes to, and the writer after it.

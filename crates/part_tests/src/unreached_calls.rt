@@ -3,15 +3,23 @@ use param_copy::copy_in;
 use shm_registry::Registry;
 use std::test::Fail;
 
-/// The kernel calls `take_pages` and `take_params` in their place.
+/// The kernel calls `take_pages` in its place.
 #[test]
-fn calls_without_a_list_of_reads_find_memory(rt: HostRuntime) -> Result<(), Fail> {
+fn pages_without_a_list_of_reads_find_memory(rt: HostRuntime) -> Result<(), Fail> {
     let alloc = rt.alloc();
     let mut lane = Lane::new(alloc)?;
     lane.write(0x4000_0000, &0x4000_1000u64.to_le_bytes());
     let pages = walk_pages(alloc, &lane, 0x4000_0000, 1)?;
     assert_eq!(rt; pages.as_slice(), [0x4000_1000].as_slice());
-    let copied = copy_in(alloc, &lane, &Registry::new(alloc)?, &[], 0)?;
+    Ok(())
+}
+
+/// The kernel calls `take_params` in its place.
+#[test]
+fn copies_without_a_list_of_reads_find_memory(rt: HostRuntime) -> Result<(), Fail> {
+    let alloc = rt.alloc();
+    let (lane, registry) = (Lane::new(alloc)?, Registry::new(alloc)?);
+    let copied = copy_in(alloc, &lane, &registry, &[], 0)?;
     assert!(rt; copied.reads.is_empty());
     Ok(())
 }

@@ -19,6 +19,14 @@ enum Difference {
     Output,
 }
 
+/// What a run of a case at a cut came to.
+#[derive(Drop)]
+struct Outcome {
+    cut: u32,
+    status: u32,
+    sink: MemSink,
+}
+
 /// What the top call is given, and the output that it is to write.
 #[derive(Drop)]
 pub struct Case {
@@ -165,6 +173,19 @@ impl Case {
         format!(in alloc; "{name} ok")
     }
 
+    /// Runs the case at a cut.
+    fn run_at(&self, alloc: Global, natives: &Natives, cut: u32) -> Result<Outcome, AllocError> {
+        let mut source = MemSource::new(self.input_to(alloc, cut)?, self.failing_takes.clone()?);
+        let mut sink = MemSink::new(alloc, self.failing_puts.clone()?);
+        let words = self.words.as_slice();
+        let status = run(alloc, words, &mut source, &mut sink, natives).number();
+        Ok(Outcome {
+            cut,
+            status: u32::from(status),
+            sink,
+        })
+    }
+
     /// Runs the case at a cut, and says what differs from the case, if anything does.
     fn fault_at(
         &self,
@@ -173,21 +194,33 @@ impl Case {
         cut: u32,
         wanted: u32,
     ) -> Result<Option<String>, AllocError> {
-        let mut source = MemSource::new(self.input_to(alloc, cut)?, self.failing_takes.clone()?);
-        let mut sink = MemSink::new(alloc, self.failing_puts.clone()?);
-        let words = self.words.as_slice();
-        let status = run(alloc, words, &mut source, &mut sink, natives).number();
+        let outcome = self.run_at(alloc, natives, cut)?;
+        let told = match self.difference(outcome.status, wanted, outcome.sink.bytes()) {
+            None => return Ok(None),
+            Some(Difference::Status) => self.status_told(alloc, &outcome, wanted)?,
+            Some(Difference::Output) => self.output_told(alloc, &outcome)?,
+        };
+        Ok(Some(told))
+    }
+
+    /// Says that a run ended with another status.
+    fn status_told(
+        &self,
+        alloc: Global,
+        outcome: &Outcome,
+        wanted: u32,
+    ) -> Result<String, AllocError> {
         let name = self.name.as_str();
-        match self.difference(u32::from(status), wanted, sink.bytes()) {
-            None => Ok(None),
-            Some(Difference::Status) => Ok(Some(format!(in alloc;
-                "{name} at cut {cut} ended with {status}, and not with {wanted}"
-            )?)),
-            Some(Difference::Output) => {
-                let text = String::from_utf8_lossy(alloc, sink.bytes())?;
-                Ok(Some(format!(in alloc; "{name} at cut {cut} wrote {text}")?))
-            }
-        }
+        let (cut, status) = (outcome.cut, outcome.status);
+        format!(in alloc; "{name} at cut {cut} ended with {status}, and not with {wanted}")
+    }
+
+    /// Says what a run wrote that is another output.
+    fn output_told(&self, alloc: Global, outcome: &Outcome) -> Result<String, AllocError> {
+        let name = self.name.as_str();
+        let cut = outcome.cut;
+        let text = String::from_utf8_lossy(alloc, outcome.sink.bytes())?;
+        format!(in alloc; "{name} at cut {cut} wrote {text}")
     }
 
     /// In what a run with this status and output is not what the case says, if in anything.

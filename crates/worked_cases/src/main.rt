@@ -28,6 +28,87 @@ const DIGEST_UUID: [u8; 16] = [
     0x3f, 0x0c, 0x7a, 0x11, 0x52, 0xb8, 0x4d, 0x6e, 0x9a, 0x40, 0x0e, 0x6b, 0x5d, 0x2c, 0x8f, 0x01,
 ];
 
+/// Adds the bytes of a file.
+fn push_file(rt: &(impl Files + AllocGlobal), case: &mut Case, path: &str) -> Result<()> {
+    let bytes = fs::read(rt, path).context("reading a file")?;
+    case.push_bytes(bytes.as_slice())?;
+    Ok(())
+}
+
+/// Adds the bytes that a line gives as they are or from a file, and says whether it does.
+fn takes_bytes(rt: &(impl Files + AllocGlobal), case: &mut Case, line: &str) -> Result<bool> {
+    if let Some(text) = line.strip_prefix('|') {
+        case.push_lines(1, text)?;
+    } else if let Some(text) = line.strip_prefix('=') {
+        case.push_bytes(text.as_bytes())?;
+    } else if let Some(path) = line.strip_prefix('<') {
+        push_file(rt, case, path)?;
+    } else {
+        return Ok(false);
+    }
+    Ok(true)
+}
+
+/// Takes a line that begins a case, gives its words, or says which bytes come, and says whether it does.
+fn begins(alloc: Global, case: &mut Case, word: &str, rest: &str) -> Result<bool> {
+    match word {
+        "case" => *case = Case::new(alloc, rest)?,
+        "again" => case.begin_again(alloc, rest)?,
+        "words" => case.push_words(alloc, rest)?,
+        "input" => case.begin_input(),
+        "output" => case.begin_output(),
+        _ => return Ok(false),
+    }
+    Ok(true)
+}
+
+/// Takes a line that gives bytes otherwise, a cut, or a call that fails, and says whether it does.
+fn takes_numbers(alloc: Global, case: &mut Case, word: &str, rest: &str) -> Result<bool> {
+    match word {
+        "hex" => push_digits(alloc, case, rest)?,
+        "comment" => case.push_comment(number(rest)?)?,
+        "lines" => push_lines(case, rest)?,
+        "cut" => cut(case, rest)?,
+        "take" => case.fail_take(number(rest)?)?,
+        "put" => case.fail_put(number(rest)?)?,
+        _ => return Ok(false),
+    }
+    Ok(true)
+}
+
+/// Adds the bytes of hexadecimal digits.
+fn push_digits(alloc: Global, case: &mut Case, digits: &str) -> Result<()> {
+    case.push_bytes(hex::decode(alloc, digits)?.as_slice())?;
+    Ok(())
+}
+
+/// Adds so many lines of a text.
+fn push_lines(case: &mut Case, rest: &str) -> Result<()> {
+    let (count, text) = halves(rest)?;
+    case.push_lines(number(count)?, text)?;
+    Ok(())
+}
+
+/// Has the case run at the cuts from a first one to a last one.
+fn cut(case: &mut Case, rest: &str) -> Result<()> {
+    let (first, last) = halves(rest)?;
+    case.cut(number(first)?, number(last)?);
+    Ok(())
+}
+
+/// Runs a case that is to end with this status, and prints what came of it.
+fn tell_verdict(
+    rt: &impl Print,
+    alloc: Global,
+    natives: &Natives,
+    case: &Case,
+    status: &str,
+) -> Result<()> {
+    let told = case.verdict(alloc, natives, number(status)?)?;
+    println!(rt; "{told}")?;
+    Ok(())
+}
+
 /// Takes one line of a case. At its last line the case runs, and what came of it is printed.
 fn take_line(
     rt: &(impl Files + AllocGlobal + Print),
@@ -36,43 +117,17 @@ fn take_line(
     case: &mut Case,
     line: &str,
 ) -> Result<()> {
-    if let Some(text) = line.strip_prefix('|') {
-        case.push_bytes(text.as_bytes())?;
-        case.push_bytes(b"\n")?;
-        return Ok(());
-    }
-    if let Some(text) = line.strip_prefix('=') {
-        case.push_bytes(text.as_bytes())?;
-        return Ok(());
-    }
-    if let Some(path) = line.strip_prefix('<') {
-        let bytes = fs::read(rt, path).context("reading a file")?;
-        case.push_bytes(bytes.as_slice())?;
+    if takes_bytes(rt, case, line)? {
         return Ok(());
     }
     let (word, rest) = line.split_once(' ').unwrap_or((line, ""));
-    match word {
-        "case" => *case = Case::new(alloc, rest)?,
-        "again" => case.begin_again(alloc, rest)?,
-        "words" => case.push_words(alloc, rest)?,
-        "input" => case.begin_input(),
-        "output" => case.begin_output(),
-        "hex" => case.push_bytes(hex::decode(alloc, rest)?.as_slice())?,
-        "comment" => case.push_comment(number(rest)?)?,
-        "lines" => {
-            let (count, text) = halves(rest)?;
-            case.push_lines(number(count)?, text)?;
-        }
-        "cut" => {
-            let (first, last) = halves(rest)?;
-            case.cut(number(first)?, number(last)?);
-        }
-        "take" => case.fail_take(number(rest)?)?,
-        "put" => case.fail_put(number(rest)?)?,
-        "status" => println!(rt; "{}", case.verdict(alloc, natives, number(rest)?)?)?,
-        _ => bail!("no line of a case: {line}"),
+    if word == "status" {
+        return tell_verdict(rt, alloc, natives, case, rest);
     }
-    Ok(())
+    if begins(alloc, case, word, rest)? || takes_numbers(alloc, case, word, rest)? {
+        return Ok(());
+    }
+    bail!("no line of a case: {line}")
 }
 
 /// What stands before the first space, and what stands behind it.
