@@ -2,10 +2,9 @@
 use Rattle.std.proofs.Common.{◌≡◌, ℕ, ◌==◌, ◌<◌, length, Bool, true, false, List, [], Option, Some, None, refl, ap, sym, subst, ◌∙◌}
 use Rattle.std.specs.Prelude.{◌&&◌, not, if◌then◌else◌, slice_get}
 use Rattle.std.specs.Option.{option_map_or}
-use Rattle.std.proofs.lemmas.List.Quantifiers.{position-Some}
 use Rattle.std.proofs.Math.Logic.{∥∥₁_elim}
 use Rattle.std.proofs.Props.{props}
-use Rattle.std.proofs.lemmas.Option.{slice_get-get_or, slice_get_within}
+use Rattle.std.proofs.lemmas.Option.{slice_get_within}
 use Rattle.base.specs.NumberMap.{get}
 use Rattle.isolation.specs.Arriving.{IsArrivalFrom, IsArrivalIn, IsBackIn, IsNew, arrival_by, arrival_of, back_as, event_by, seen_then}
 use Rattle.isolation.specs.declared.entering.Arrival.TheVariants as arrival
@@ -23,14 +22,14 @@ use Rattle.kernel_model.specs.Begin.{Opener, has_pages_for, opens_new}
 use Rattle.kernel_model.specs.Application.{Application, Booted}
 use Rattle.kernel_model.specs.Codes.{bad_parameters, eresume, out_of_memory, target_dead, unknown_function}
 use Rattle.kernel_model.specs.Decision as model
-use Rattle.kernel_model.specs.Decision.{Decision}
 use Rattle.kernel_model.specs.Entry.{decision_of}
 use Rattle.kernel_model.specs.Given.{Given, Nothing, Buffer, NoBuffer, Reply, call_given, given_to}
 use Rattle.kernel_model.specs.Instances.{is_held}
-use Rattle.kernel_model.specs.Kernel.{CallPhase, Runs, Asks, Waits, Ends, Active, Free, Instance, Kernel, PendingCall, Progress, Suspended, Tables, ThreadSlot, is_free, lowest_free}
+use Rattle.kernel_model.specs.Kernel.{CallPhase, Runs, Asks, Waits, Ends, Active, Free, Instance, Kernel, PendingCall, Progress, Suspended, Tables, ThreadSlot}
 use Rattle.kernel_model.specs.NewCall.{new_call, new_call_with}
 use Rattle.kernel_model.specs.Resume.{Resumed, app_of_call, begins, begins_in, begins_open, call_resumed_by, ends_with, goes_on, is_without_buffer, onward_in, onward_of, phase_seen, resume, resumed_call, sees, sleeps_on, suspended_for, tested_again, who_resumes}
 use Rattle.kernel_model.proofs.Parts.{if-both, map_or-both}
+use Rattle.kernel_model.proofs.SoundSlots.{free_there}
 use Rattle.kernel_state.specs.Calls.{IsCall}
 use Rattle.kernel_state.specs.Replay.{Replays}
 use Rattle.kernel_state.specs.Setup.{booted_with}
@@ -88,16 +87,6 @@ answered_unknown boot k regs lane is =
     subst (λ (named : Call). IsArrivalFrom k regs lane (decision_of boot k regs named) arrival.Nothing) (sym is) found
 
 -- ---- new calls
-
-is_free_slot : (held : ThreadSlot) → is_free held ≡ true → held ≡ Free
-is_free_slot Free e = refl
-is_free_slot (Active cpu call) e = absurd cc
-is_free_slot (Suspended client call) e = absurd cc
-
-pub free_there : (slots : List ThreadSlot) (slot : ℕ) → lowest_free slots ≡ Some slot → slice_get slots slot ≡ Some Free
-free_there slots slot lowest =
-    let found = position-Some is_free slots slot Free lowest in
-    slice_get-get_or slots slot Free found.0 ∙ ap (λ (held : ThreadSlot). Some held) (is_free_slot _ found.1)
 
 -- a call is answered: nothing happens to a session
 pub answered_new : (parts : Parts) (k : Kernel) (regs lane : List ℕ) (reads : List Read) (answer : _) → StandsFor parts k

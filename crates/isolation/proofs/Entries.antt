@@ -1,11 +1,10 @@
 -- An entry that is done again is the journal's.
-use Rattle.std.proofs.Common.{◌≡◌, ℕ, ◌<◌, ◌≤◌, ◌^◌, Bool, true, false, List, [], ◌∷◌, ◌++◌, length, Option, Some, None, refl, ap, sym, subst, ◌∙◌, arith}
+use Rattle.std.proofs.Common.{◌≡◌, ℕ, ◌<◌, ◌≤◌, ◌^◌, false, List, [], ◌∷◌, ◌++◌, length, Option, Some, None, refl, ap, sym, subst, ◌∙◌, arith}
 use Rattle.std.proofs.Math.Logic.{∥∥₁_elim, ∥∥₁_map, ∥∥₁_prop}
 use Rattle.std.proofs.Props.{props}
-use Rattle.std.proofs.lemmas.Bool.Decides.{nat_tests}
 use Rattle.std.proofs.lemmas.List.Sums.{sum_by-append}
-use Rattle.std.proofs.lemmas.Option.{option_and_then_some, slice_get-map, some_pair_parts}
-use Rattle.std.specs.Prelude.{IsSomeAnd, nat_le, not, replicate, slice_get, slice_set, ◌&&◌}
+use Rattle.std.proofs.lemmas.Option.{slice_get-map, some_pair_parts}
+use Rattle.std.specs.Prelude.{IsSomeAnd, not, replicate, slice_get, slice_set}
 use Rattle.std.specs.Option.{option_and_then, option_map}
 use Rattle.core_machine.proofs.Wholes.{below_works, whole_with_work}
 use Rattle.core_machine.specs.Whole.{IsWhole}
@@ -24,17 +23,15 @@ use Rattle.isolation.proofs.Further.{Follows, follows}
 use Rattle.kernel_entry.proofs.Arrived.{cpu_there}
 use Rattle.kernel_entry.specs.Visiting.{coming_of}
 use Rattle.kernel_entry.specs.declared.visitor.Visitor.{Visitor}
-use Rattle.kernel_model.proofs.Answered.{outside_of}
 use Rattle.kernel_model.proofs.FixedAnswer.{inside_for, processors_after}
 use Rattle.kernel_model.proofs.Parts.{set_found, set_then_read}
 use Rattle.kernel_model.specs.Application.{Booted}
 use Rattle.kernel_model.specs.Argument.{reg}
 use Rattle.kernel_model.specs.Decision.{Answers, Decision, Taken, Takes}
-use Rattle.kernel_model.specs.Entry.{after_decision, after_entry, decision_of, entry}
-use Rattle.kernel_model.specs.History.{after_event, can_be_granted, entry_from, is_outside, kernel_after}
+use Rattle.kernel_model.specs.Entry.{after_decision, decision_of, entry}
+use Rattle.kernel_model.specs.History.{after_event, is_outside, kernel_after}
 use Rattle.kernel_model.specs.Kernel.{Active, Fixed, Free, InSlot, Inside, Kernel, Outside, PendingCall, Processor, Suspended, ThreadSlot, Visit, cancelled_slots}
-use Rattle.kernel_model.specs.Laws.{IsOutside}
-use Rattle.kernel_state.proofs.CoreEvents.{journals_legal, some_kernel}
+use Rattle.kernel_state.proofs.CoreEvents.{CameIn, came_in, few_steps, journals_legal, some_kernel, some_steps}
 use Rattle.kernel_state.specs.Entering.{CanEnter, HasEntered, IsTooMuch, bytes_read, visit_of}
 use Rattle.kernel_state.specs.Laws.{CoreEntry}
 use Rattle.kernel_state.specs.Meaning.{booted_of, events_of, kernel_of}
@@ -51,41 +48,6 @@ use Rattle.own_model.specs.Own as own
 use Rattle.smc_abi.specs.Call.{call_of}
 
 -- ---- that it can come in
-
--- a processor that was outside, with steps that can be granted, has come in
-record CameIn (boot : Booted) (kernel next : Kernel) (visit : Visit) (reads : List Read) : Type 0 where
-  outside : IsOutside kernel visit
-  granted : can_be_granted visit.steps ≡ true
-  entered : after_entry boot kernel visit reads ≡ Some next
-
-came_in : (boot : Booted) (kernel next : Kernel) (visitor : Visitor) (reads : List Read)
-    → after_event boot kernel (Entry visitor.cpu visitor.regs visitor.steps reads) ≡ Some next
-    → CameIn boot kernel next (visit_of (coming_of visitor)) reads
-came_in boot kernel next visitor reads e =
-    let visit = visit_of (coming_of visitor) in
-    option_and_then_some (entry_from boot kernel visit reads) (slice_get kernel.processors visitor.cpu) next e
-    (λ (processor : Processor) there onward.
-    let allowed = outside_of processor (can_be_granted visitor.steps) (after_entry boot kernel visit reads) next onward in
-    record {
-      outside = there ∙ ap (λ (p : Processor). Some p) allowed.0;
-      granted = allowed.1;
-      entered = allowed.2;
-    })
-
-some_steps : (steps : ℕ) → can_be_granted steps ≡ true → 1 ≤ steps
-some_steps steps e = by_tests (nat_le 1 steps) (nat_le steps 1000000) refl e
-  where
-    by_tests : (some few : Bool) → nat_le 1 steps ≡ some → (some && few) ≡ true → 1 ≤ steps
-    by_tests true few is e = grind (arith, nat_tests)
-    by_tests false few is e = absurd cc
-
-few_steps : (steps : ℕ) → can_be_granted steps ≡ true → steps ≤ 1000000
-few_steps steps e = by_tests (nat_le 1 steps) (nat_le steps 1000000) refl e
-  where
-    by_tests : (some few : Bool) → nat_le steps 1000000 ≡ few → (some && few) ≡ true → steps ≤ 1000000
-    by_tests true true is e = grind (arith, nat_tests)
-    by_tests true false is e = absurd cc
-    by_tests false few is e = absurd cc
 
 -- the kernel that a replay stands for
 pub kernel_done : (boot : Booted) (history : List Event) (replay : Replay) → HasDone boot history replay
@@ -105,7 +67,7 @@ module _ (replay : Replay) (visitor : Visitor) (reads : List Read)
       (kernel_done can.boot can.history replay can.done) can.next.follows
 
   goes : CameIn can.boot found goes_on.next (visit_of (coming_of visitor)) reads
-  goes = came_in can.boot found goes_on.next visitor reads goes_on.gives
+  goes = came_in can.boot found goes_on.next visitor.cpu visitor.steps visitor.regs reads goes_on.gives
 
   pub goes_here : after_event (booted_of replay.core) found (Entry visitor.cpu visitor.regs visitor.steps reads)
       ≡ Some goes_on.next
@@ -160,7 +122,7 @@ module _ (old : Core) (visitor : Visitor) (lane : List ℕ) (reads : List Read) 
 
   by_journal : over_lane reader lane [] ≡ Some (next, reads)
   by_journal =
-      (over_lane-reading reader lane reads next).1 ((came_in (booted_of old) kernel next visitor reads gives).entered, held)
+      (over_lane-reading reader lane reads next).1 ((came_in (booted_of old) kernel next visitor.cpu visitor.steps visitor.regs reads gives).entered, held)
 
   -- its bytes are those of the journal's event
   bytes_known : (copied more : ℕ) → IsTooMuch old (coming_of visitor) lane copied more → more ≡ total_bytes reads
@@ -187,7 +149,7 @@ module _ (old : Core) (visitor : Visitor) (lane : List ℕ) (reads : List Read) 
       ap (λ (k : Kernel). slice_get k.processors visitor.cpu) (sym so)
       ∙ ap (λ (ps : List Processor). slice_get ps visitor.cpu) (processors_after kernel visit decision)
       ∙ set_found kernel.processors visitor.cpu (inside_for visit decision) Outside
-      (came_in (booted_of old) kernel next visitor reads gives).outside
+      (came_in (booted_of old) kernel next visitor.cpu visitor.steps visitor.regs reads gives).outside
 
   module _ (new : Core) (work : Work) (has : HasEntered old new (coming_of visitor) lane work) where
     abbrev core_entry : CoreEntry

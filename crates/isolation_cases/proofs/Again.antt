@@ -1,5 +1,5 @@
 -- A text has one trace.
-use Rattle.std.proofs.Common.{◌≡◌, ◌∙◌, ℕ, List, Option, Some, ap}
+use Rattle.std.proofs.Common.{◌≡◌, ◌∙◌, ℕ, List, Some, ap}
 use Rattle.ta_isa.specs.declared.boot.Boot.{Boot}
 use Rattle.trace_text.proofs.GrammarLaws.{every_text}
 use Rattle.trace_text.specs.Grammar.{Spells}

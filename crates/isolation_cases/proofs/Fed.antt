@@ -3,23 +3,21 @@ use Rattle.std.proofs.Common.{◌≡◌, ◌∙◌, ℕ, suc, ◌+◌, ◌*◌, 
 use Rattle.std.proofs.Common.{refl, sym, ap, subst, arith, drop, get_or, add-one}
 use Rattle.std.proofs.Math.Seq.{drop-cons}
 use Rattle.std.specs.Prelude.{IsSome, bytes_eq, find, if◌then◌else◌}
-use Rattle.std.specs.Option.{option_and_then, option_map}
 use Rattle.std.proofs.lemmas.Option.{option_and_then_some}
 use Rattle.std.proofs.lemmas.Slice.Eq.{bytes_eq-Decides}
-use Rattle.base.specs.NumberMap.{get}
 use Rattle.event_journal.specs.declared.event.Event.{Event}
 use Rattle.isolation_cases.proofs.FewSteps.{few_then}
 use Rattle.isolation_cases.proofs.Opened.{opened_app}
-use Rattle.isolation_cases.specs.Feeding.{BeginWithOpen, CanBeFed, HasOneApp, HaveDone, IsFed, IsFine, IsJournal, SeesBy}
+use Rattle.isolation_cases.specs.Feeding.{BeginWithOpen, CanBeFed, HaveDone, IsFed, IsFine, IsJournal, SeesBy}
 use Rattle.kernel_model.proofs.Parts.{option_map_some, some_of}
 use Rattle.kernel_model.specs.Application.{Application, Native, OfImage, booted, uuid_of}
 use Rattle.kernel_model.specs.History.{IsLegal}
 use Rattle.kernel_model.specs.Instances.{app_of, is_single}
-use Rattle.own_model.proofs.MoreSteps.{Ended, behind}
+use Rattle.own_model.proofs.MoreSteps.{behind}
 use Rattle.own_model.proofs.WholeHistories.{answered_as_alone}
 use Rattle.own_model.specs.Isolation.{steps_in}
 use Rattle.own_model.specs.Own.{own_app, own_events, own_replies}
-use Rattle.own_model.specs.Solo.{Answered, OwnCall, Solo, run, solo_replies, step, unopened}
+use Rattle.own_model.specs.Solo.{Answered, Solo, run, step, unopened}
 use Rattle.own_model.specs.declared.own_event.OwnEvent.{OwnEvent}
 use Rattle.own_model.specs.declared.own_event.OwnEvent.TheVariants.{Open, Invoke, Close, Cancel, Seen, Back, Out, Limited}
 use Rattle.own_model.specs.declared.own_reply.OwnReply.{OwnReply}

@@ -1,5 +1,5 @@
 -- The steps of a session's calls stay few, whatever happens to its machine.
-use Rattle.std.proofs.Common.{◌≡◌, ℕ, ◌+◌, ◌-◌, ◌≤◌, true, false, Option, Some, None, refl, subst, sym, arith}
+use Rattle.std.proofs.Common.{◌≡◌, ℕ, ◌+◌, ◌-◌, ◌≤◌, true, false, Option, Some, None, subst, arith}
 use Rattle.std.specs.Prelude.{◌==◌, ◌&&◌, not}
 use Rattle.std.specs.Option.{option_and_then, option_map}
 use Rattle.base.specs.NumberMap.{NumberMap, get, insert, remove}
@@ -16,7 +16,7 @@ use Rattle.kernel_model.specs.Codes.{bad_parameters, out_of_memory, success, tar
 use Rattle.kernel_model.specs.Instances.{is_held}
 use Rattle.kernel_model.specs.Kernel.{Asks, CallPhase, Ends, Instance, Runs, Waits}
 use Rattle.kernel_model.specs.Resume.{is_close}
-use Rattle.own_model.proofs.InOrder.{IfAny, if_any_of}
+use Rattle.own_model.proofs.InOrder.{IfAny, if_any_map, if_any_of, if_any_then}
 use Rattle.own_model.proofs.Maps.{get-inserted, get-removed}
 use Rattle.own_model.specs.Own.{ended}
 use Rattle.own_model.specs.Solo.{Answered, Going, OwnCall, OwnSession, Solo, Start, Waiting, begins, closes, comes_back}
@@ -34,18 +34,6 @@ use Rattle.own_model.specs.declared.own_reply.OwnReply.TheVariants as reply
 use Rattle.isolation_cases.specs.Feeding.{HaveDone, SeesBy}
 use Rattle.ta_params.specs.declared.copied_params.CopiedParams.{CopiedParams}
 use Rattle.ta_params.specs.declared.login.Login.{Login}
-
--- ---- what may be there
-
-if_any_then : {A B : Type 0} (P : B → Type 0) (f : A → Option B) (o : Option A) → ((a : A) → o ≡ Some a → IfAny P (f a))
-    → IfAny P (option_and_then f o)
-if_any_then P f None holds = tt
-if_any_then P f (Some a) holds = holds a refl
-
-if_any_map : {A B : Type 0} (P : B → Type 0) (f : A → B) (o : Option A) → ((a : A) → o ≡ Some a → P (f a))
-    → IfAny P (option_map f o)
-if_any_map P f None holds = tt
-if_any_map P f (Some a) holds = holds a refl
 
 -- ---- calls by their numbers
 

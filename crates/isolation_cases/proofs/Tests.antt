@@ -1,5 +1,5 @@
 -- What the tests of a boot and of a core's journal say.
-use Rattle.std.proofs.Common.{◌≡◌, ◌∙◌, ℕ, ◌≤◌, ◌^◌, false, List, [], ◌∷◌, Option, Some, None, length, get_or, refl, sym, ap, subst}
+use Rattle.std.proofs.Common.{◌≡◌, ◌≤◌, ◌^◌, false, List, [], ◌∷◌, Option, Some, None, length, get_or, refl, sym, subst}
 use Rattle.std.specs.Prelude.{IfSome}
 use Rattle.std.specs.List.{AllByRecursion}
 use Rattle.event_journal.specs.Journal.{copied_bytes}

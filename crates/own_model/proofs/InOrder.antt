@@ -320,12 +320,12 @@ abbrev pub IfAny : {A : Type 0} → (A → Type 0) → Option A → Type 0
 IfAny P None = Unit {0}
 IfAny P (Some a) = P a
 
-if_any_then : {A B : Type 0} (P : B → Type 0) (f : A → Option B) (o : Option A) → ((a : A) → o ≡ Some a → IfAny P (f a))
+pub if_any_then : {A B : Type 0} (P : B → Type 0) (f : A → Option B) (o : Option A) → ((a : A) → o ≡ Some a → IfAny P (f a))
     → IfAny P (option_and_then f o)
 if_any_then P f None holds = tt
 if_any_then P f (Some a) holds = holds a refl
 
-if_any_map : {A B : Type 0} (P : B → Type 0) (f : A → B) (o : Option A) → ((a : A) → o ≡ Some a → P (f a))
+pub if_any_map : {A B : Type 0} (P : B → Type 0) (f : A → B) (o : Option A) → ((a : A) → o ≡ Some a → P (f a))
     → IfAny P (option_map f o)
 if_any_map P f None holds = tt
 if_any_map P f (Some a) holds = holds a refl
