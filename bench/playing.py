@@ -75,13 +75,13 @@ def trace(count):
 
 def measured(count):
     """What the program needs for so many calls: in all, and for each part of it."""
-    _, functions, printed = costs(PROGRAM, "run", given=trace(count).encode())
+    whole, functions, printed = costs(PROGRAM, "run", given=trace(count).encode())
     assert printed.count(b"ret ") == count, printed
     named = lambda part: sum(cost for name, cost in functions.items() if name.split("::<")[0].endswith(part))
-    all_of_it, going_out = named("top_call::run_input"), named("Player::leave")
+    going_out = named("Player::leave")
     serving = named("entering::enter") + named("Machine::leave")
     printing = going_out - named("Machine::leave")
-    return {"in all": all_of_it, "reading": all_of_it - serving - printing, "serving": serving, "printing": printing}
+    return {"in all": whole, "reading": whole - serving - printing, "serving": serving, "printing": printing}
 
 
 def most_memory(count):
