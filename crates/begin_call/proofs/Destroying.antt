@@ -10,9 +10,9 @@ use Rattle.job_model.specs.declared.entry_point.EntryPoint.TheVariants.{Destroy}
 use Rattle.kernel_model.specs.Application.{Application, Booted}
 use Rattle.kernel_model.specs.Instances.{app_of, destroy_after, destroy_of, keeps_alive}
 use Rattle.kernel_model.specs.Sessions.{has_opened}
-use Rattle.rpc_cont.specs.Beginning.{destroy_where}
 use Rattle.session_table.specs.Session.{is_opened_of}
 use Rattle.session_table.specs.declared.session.Session.{Session}
+use Rattle.begin_call.specs.Points.{destroy_where}
 use Rattle.begin_call.proofs.Maps.{count_without, none_counted, one_if, some_counted}
 
 -- how many sessions of the instance are opened

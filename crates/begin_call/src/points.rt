@@ -7,8 +7,7 @@ ghost use Rattle.kernel_model.specs.Instances.{app_of, destroy_after, destroy_of
 ghost use Rattle.kernel_model.specs.Kernel.{Instance as AnyInstance};
 ghost use Rattle.kernel_state.specs.Setup.{application_of};
 ghost use Rattle.kernel_state.specs.Tables.{tables_of};
-ghost use Rattle.rpc_cont.specs.Beginning.{destroy_where, opening_points};
-ghost use Rattle.begin_call.specs.Points.{points_of};
+ghost use Rattle.begin_call.specs.Points.{destroy_where, opening_points, points_of};
 
 use arrayvec::ArrayVec;
 use job_model::EntryPoint;

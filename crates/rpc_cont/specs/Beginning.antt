@@ -1,5 +1,5 @@
 -- How a call begins on its instance.
-use Rattle.std.specs.Prelude.{◌≡◌, ℕ, Bool, false, if◌then◌else◌, List, [], ◌∷◌, Some, None}
+use Rattle.std.specs.Prelude.{◌≡◌, ℕ, Bool, false, List, [], Some, None}
 use Rattle.job_model.specs.Beginning.{OfImage, OfRelation, Beginning}
 use Rattle.job_model.specs.declared.entry_point.EntryPoint.{EntryPoint}
 use Rattle.job_model.specs.declared.entry_point.EntryPoint.TheVariants as entry
@@ -52,13 +52,3 @@ pub record IsEntered {M : Type 0} (entered : CallEntry) (cont : Cont M) : Type 0
   pub cancelled : cont.cancelled ≡ false
   pub steps : cont.steps ≡ 0
   pub done : cont.done ≡ false
-
--- ---- entry points
-
--- a destroy, where the instance goes with the call
-abbrev pub destroy_where : Bool → List EntryPoint
-destroy_where unmakes = if unmakes then entry.Destroy ∷ [] else []
-
--- those of an open: its instance is made first where it is new
-abbrev pub opening_points : Bool → Bool → List EntryPoint
-opening_points makes unmakes = if makes then entry.Create ∷ entry.Open ∷ destroy_where unmakes else entry.Open ∷ destroy_where unmakes

@@ -30,7 +30,6 @@ pub use examples::worked_examples;
 pub use held::Held;
 pub use input::ResumeInput;
 pub use job_model::{CallKind, EntryPoint};
-pub use new_call::Around;
 pub use phase::Phase;
 pub use rpc_msgs::RpcBuffer;
 pub use stop::ContStop;

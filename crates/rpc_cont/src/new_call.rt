@@ -1,12 +1,12 @@
 //! A call as its entry makes it, and as it begins on its instance. None of this takes memory.
-ghost use Rattle.std.specs.Prelude.{◌≡◌, ℕ, List, [], ◌∷◌, length, Some, None, true, false, Bool, if◌then◌else◌};
+ghost use Rattle.std.specs.Prelude.{◌≡◌, ℕ, List, ◌∷◌, length, Some, None};
 ghost use Rattle.base.specs.NumberMap.{NumberMap};
 ghost use Rattle.job_model.specs.declared.entry_point.EntryPoint.{EntryPoint as AnyPoint};
 ghost use Rattle.job_model.specs.Beginning.{begun_job};
 ghost use Rattle.job_model.specs.Job.{Nothing, idle_job, native_job_at, of_tee};
 ghost use Rattle.native_tas.specs.declared.relation.Relation.{Relation as AnyRelation};
 ghost use Rattle.rpc_cont.specs.Advancing.{CanAdvance, IsInvoke};
-ghost use Rattle.rpc_cont.specs.Beginning.{HasValidImage, IsEntered, IsFresh, beginning_on, destroy_where, held_uuid, opening_points};
+ghost use Rattle.rpc_cont.specs.Beginning.{HasValidImage, IsEntered, IsFresh, beginning_on, held_uuid};
 ghost use Rattle.tee_storage.specs.declared.handle.Handle.{Handle as AnyHandle};
 ghost use Rattle.rpc_cont.specs.Conts.{job_of, job_with, kept_params, memory_size, native_body};
 ghost use Rattle.rpc_cont.specs.Shapes.{IsShaped};
@@ -22,39 +22,6 @@ use ta_params::CallResult;
 use ta_params::codes::TEE_SUCCESS;
 use ta_step::TaMemory;
 use tee_storage::Handles;
-
-/// What comes with an open: its instance is made first, and taken apart again where it fails.
-#[derive(Clone, Copy, Debug, PartialEq, Eq)]
-pub struct Around {
-    pub makes: bool,
-    pub unmakes: bool,
-}
-
-/// The first entry point of an open, and those behind it.
-fn opening_points(around: Around) -> (EntryPoint, ArrayVec<EntryPoint, 3>)
-    ensures { result.0 ∷ result.1.items ≡ opening_points around.makes around.unmakes }
-{
-    if !around.makes {
-        return (EntryPoint::Open, destroy_where(around.unmakes));
-    }
-    let mut behind = ArrayVec::new();
-    behind.push(EntryPoint::Open);
-    if around.unmakes {
-        behind.push(EntryPoint::Destroy);
-    }
-    (EntryPoint::Create, behind)
-}
-
-/// A destroy, where the instance goes with the call.
-fn destroy_where(unmakes: bool) -> ArrayVec<EntryPoint, 3>
-    ensures { result.items ≡ destroy_where unmakes }
-{
-    let mut points = ArrayVec::new();
-    if unmakes {
-        points.push(EntryPoint::Destroy);
-    }
-    points
-}
 
 impl<M: TaMemory + Drop> Cont<M> {
     /// A call that was settled at its entry, with this result.
@@ -118,105 +85,6 @@ impl<M: TaMemory + Drop> Cont<M> {
             phase,
             done: false,
         }
-    }
-
-    /// An open that begins on its instance.
-    pub fn opening(entered: CallEntry, held: Held<M>, objects: Handles, around: Around) -> Self
-        requires image { HasValidImage held }
-        ensures begins { job_of M.bytes result ≡ begun_job (beginning_on M.bytes held false)
-            (idle_job (held_uuid held) entered.login entered.context objects (kept_params entered.params))
-            (opening_points around.makes around.unmakes) }
-        ensures runs { CanAdvance M.bytes result }
-        ensures shape { IsShaped M.bytes result }
-        ensures entered { IsEntered entered result }
-    {
-        Cont::begun(entered, held, objects, opening_points(around))
-    }
-
-    /// An invoke of this function that begins on its instance.
-    pub fn invoking(entered: CallEntry, held: Held<M>, objects: Handles, func: u32) -> Self
-        requires image { HasValidImage held }
-        ensures begins { job_of M.bytes result ≡ begun_job (beginning_on M.bytes held false)
-            (idle_job (held_uuid held) entered.login entered.context objects (kept_params entered.params))
-            (EntryPoint.Invoke func ∷ []) }
-        ensures runs { CanAdvance M.bytes result }
-        ensures shape { IsShaped M.bytes result }
-        ensures entered { IsEntered entered result }
-    {
-        Cont::begun(
-            entered,
-            held,
-            objects,
-            (EntryPoint::Invoke { func }, ArrayVec::new()),
-        )
-    }
-
-    /// A close that begins on its instance, and takes that apart where nothing else keeps it.
-    pub fn closing(entered: CallEntry, held: Held<M>, objects: Handles, unmakes: bool) -> Self
-        requires image { HasValidImage held }
-        ensures begins { job_of M.bytes result ≡ begun_job (beginning_on M.bytes held false)
-            (idle_job (held_uuid held) entered.login entered.context objects (kept_params entered.params))
-            (EntryPoint.Close ∷ destroy_where unmakes) }
-        ensures runs { CanAdvance M.bytes result }
-        ensures shape { IsShaped M.bytes result }
-        ensures entered { IsEntered entered result }
-    {
-        Cont::begun(
-            entered,
-            held,
-            objects,
-            (EntryPoint::Close, destroy_where(unmakes)),
-        )
-    }
-
-    /// A call that begins on its instance, at the first of these entry points.
-    fn begun(
-        entered: CallEntry,
-        held: Held<M>,
-        objects: Handles,
-        points: (EntryPoint, ArrayVec<EntryPoint, 3>),
-    ) -> Self
-        requires image { HasValidImage held }
-        ensures begins { job_of M.bytes result ≡ begun_job (beginning_on M.bytes held false)
-            (idle_job (held_uuid held) entered.login entered.context objects (kept_params entered.params))
-            (points.0 ∷ points.1.items) }
-        ensures runs { CanAdvance M.bytes result }
-        ensures shape { IsShaped M.bytes result }
-        ensures entered { IsEntered entered result }
-    {
-        let mut cont = Cont::waiting(entered);
-        let (first, behind) = points;
-        cont.begin_on(held, objects, first, behind);
-        cont
-    }
-
-    /// Begins on its instance, which has these open objects: at this entry point, with those behind it.
-    pub fn begin_on(
-        &mut self,
-        held: Held<M>,
-        objects: Handles,
-        first: EntryPoint,
-        behind: ArrayVec<EntryPoint, 3>,
-    )
-        requires fresh { IsFresh self.old }
-        requires image { HasValidImage held }
-        ensures begins { job_of M.bytes self.new ≡ begun_job (beginning_on M.bytes held self.old.cancelled)
-            (record (job_with Nothing (held_uuid held) self.old) { objects = objects }) (first ∷ behind.items) }
-        ensures runs { CanAdvance M.bytes self.new }
-        ensures shape { IsShaped M.bytes self.new }
-        ensures size { memory_size M.bytes self.new ≡ length (beginning_on M.bytes held self.old.cancelled).memory }
-        ensures stays { self.new ≡ record self.old {
-          app = self.new.app;
-          params = self.new.params;
-          point = self.new.point;
-          machine = self.new.machine;
-          points = self.new.points;
-          objects = objects;
-          phase = Phase.Runs;
-        } }
-    {
-        self.objects = objects;
-        self.start_on(held, first, behind);
     }
 
     /// Begins on its instance, whose open objects it has: at this entry point, with those behind it.

@@ -113,7 +113,8 @@ fn starts(cont: &mut Cont<Plain>, held: Held<Plain>, objects: Handles)
     ensures stays { cont.new ≡ begun_from cont.old cont.new }
 {
     let Points { first, behind } = entry_points(cont.kind);
-    cont.begin_on(held, objects, first, behind);
+    cont.objects = objects;
+    cont.start_on(held, first, behind);
 }
 
 impl SoloSession {
