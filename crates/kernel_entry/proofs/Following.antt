@@ -44,7 +44,7 @@ use Rattle.thread_slots.specs.declared.slot.Slot.{Slot}
 use Rattle.thread_slots.specs.declared.slot.Slot.TheVariants.{Free, Active, Suspended}
 use Rattle.kernel_entry.specs.Applying.{CanComeIn, CanMake, CanShare, FitsOpen, FitsPlan, FitsSession, MayCome}
 use Rattle.kernel_entry.specs.Deciding.{CanBegin, CanContinue, HasFound}
-use Rattle.kernel_entry.specs.Entering.{CanFollow, CanTakeSlot}
+use Rattle.kernel_entry.specs.Entering.{CanFollow, CanTakeSlot, HasBox}
 use Rattle.kernel_entry.specs.Resuming.{CanGoOn, resumed_as}
 use Rattle.kernel_entry.specs.declared.deciding.EntryDecision.{EntryDecision}
 use Rattle.kernel_entry.specs.declared.deciding.EntryDecision.TheVariants as decision
@@ -125,7 +125,7 @@ fits_so parts entered of fact begins = ∥∥₁_elim fact (plan_prop parts.tabl
     (so.stands.slots entered.slot)) in
     fits_plan parts.setup (call_at so.kernel.slots) parts.tables entered of so.is_boot (sound_so parts so) none entered.is_slot so.stands.pages begins.applies)
 
-can_take_slot : (parts : Parts) (entered : Entered) (of : Plan) → ∥ Replays parts ∥₁ → 0 < parts.blanks → CanBegin parts entered of → CanTakeSlot parts entered of
+can_take_slot : (parts : Parts) (entered : Entered) (of : Plan) → ∥ Replays parts ∥₁ → 0 < parts.blanks.kept → CanBegin parts entered of → CanTakeSlot parts entered of
 can_take_slot parts entered of fact blank begins = record {
   begins = begins;
   beside = beside_there parts entered.slot Free fact (free_at_lowest parts.slots entered.slot begins.lowest);
@@ -236,7 +236,7 @@ call_found slots beside held regs are ok =
 
 -- ---- all of it
 
-pub can_follow : (parts : Parts) (regs : List ℕ) (of : EntryDecision) → ∥ Replays parts ∥₁ → 0 < parts.blanks → HasFound parts regs of → CanFollow parts regs of
+pub can_follow : (parts : Parts) (regs : List ℕ) (of : EntryDecision) → ∥ Replays parts ∥₁ → HasBox parts.blanks of → HasFound parts regs of → CanFollow parts regs of
 can_follow parts regs (decision.Answers answer) fact blank found = tt
 can_follow parts regs (decision.Begins entered plan) fact blank found = can_take_slot parts entered plan fact blank found
 can_follow parts regs (decision.GoesOn decided) fact blank found = can_go_on parts regs decided.value fact found

@@ -8,12 +8,13 @@ use Rattle.kernel_model.specs.Decision.{Answers, Taken, Takes}
 use Rattle.kernel_model.specs.Entry.{after_decision}
 use Rattle.kernel_model.specs.History.{is_outside}
 use Rattle.kernel_model.specs.Kernel as model
-use Rattle.kernel_model.specs.Kernel.{Cancel, Kernel, ThreadSlot, Visit, cancelled_slots, with_visitor}
+use Rattle.kernel_model.specs.Kernel.{Cancel, Kernel, ThreadSlot, cancelled_slots}
 use Rattle.rpc_cont.specs.declared.cont.Cont.{Cont}
 use Rattle.smc_abi.specs.declared.answer.Answer.{Answer}
 use Rattle.thread_slots.specs.declared.slot.Slot.{Slot}
 use Rattle.thread_slots.specs.declared.slot.Slot.TheVariants.{Active}
 use Rattle.kernel_state.proofs.Cancelling.{are_slots_marked}
+use Rattle.kernel_state.specs.Blanks.{Boxes}
 use Rattle.kernel_state.specs.Entering.{visit_of}
 use Rattle.kernel_state.specs.Processors.{errand_of, processor_of}
 use Rattle.kernel_state.specs.StandsFor.{AreSlots, IsBeside, IsSlot, StandsFor}
@@ -186,7 +187,7 @@ meant_same c entered (plan.KeepsBuffer cookie buffer) cancels beside is head ses
 meant_same c entered (plan.DropsBuffer cookie) cancels beside is head session number = ap (λ (cancels : Bool). cancels_by cancels beside) is
 
 -- a slot was taken for the plan
-pub new_takes : (old mid new : Parts) (visitor : Visitor) (entered : Entered) (of : Plan) (cancels : Bool) (beside : Cancellation) (blanks : ℕ) (after : Tables)
+pub new_takes : (old mid new : Parts) (visitor : Visitor) (entered : Entered) (of : Plan) (cancels : Bool) (beside : Cancellation) (blanks : Boxes) (after : Tables)
     (cont : Cont (List ℕ)) (reads : List Read) → cancels ≡ is_cancel of →
     IsTaken (meant_by entered of) entered after cont (taken_of (call_with (booted_with old.setup) (tables_of old.tables) entered) of) →
     HasFreePages old.setup after → beside ≡ record { session = cont.session; cancel_id = entered.head.cancel_id; marked = false } →

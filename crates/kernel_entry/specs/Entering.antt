@@ -4,6 +4,7 @@ use Rattle.event_journal.specs.Journal.{copied_bytes}
 use Rattle.kernel_model.specs.Decision as model
 use Rattle.kernel_model.specs.Decision.{Decision}
 use Rattle.kernel_model.specs.Kernel.{Kernel}
+use Rattle.kernel_state.specs.Blanks.{Boxes}
 use Rattle.kernel_state.specs.StandsFor.{StandsFor}
 use Rattle.kernel_state.specs.Work.{IsCarriedAs}
 use Rattle.kernel_state.specs.declared.carried.Carried.{Carried}
@@ -24,7 +25,7 @@ use Rattle.kernel_entry.specs.declared.preparing.Prepared.{Prepared}
 
 -- ---- before it comes in
 
--- there is room for as many more events, or more, and for a call; nothing else changes
+-- there is room for as many more events, or more; but for boxes nothing else changes
 pub record HasMoreRoom (old new : Parts) : Type 0 where
   pub events : new.journal.events ≡ old.journal.events
   pub spare : old.journal.spare ≤ new.journal.spare
@@ -35,12 +36,18 @@ abbrev pub IsDecidedBy : Parts → List ℕ → List ℕ → List Read → Entry
 IsDecidedBy parts regs lane reads decided =
     (kernel : Kernel) → StandsFor parts kernel → IsDecided parts kernel regs lane [] reads decided
 
+-- there is a box for a call that begins
+abbrev pub HasBox : Boxes → EntryDecision → Type 0
+HasBox boxes (decision.Answers answer) = Unit {0}
+HasBox boxes (decision.Begins entered plan) = 0 < boxes.kept
+HasBox boxes (decision.GoesOn decided) = Unit {0}
+
 -- the event of an entry and its call have room, and the bytes that it has read are few enough
 pub record IsPrepared (parts : Parts) (regs lane : List ℕ) (prepared : Prepared) : Type 0 where
   pub decides : IsDecidedBy parts regs lane prepared.reads prepared.decision
   pub found : HasFound parts regs prepared.decision
   pub room : parts.setup.cpus < parts.journal.spare
-  pub blank : 0 < parts.blanks
+  pub blank : HasBox parts.blanks prepared.decision
   pub few : copied_bytes parts.journal.events + total_bytes prepared.reads ≤ 2 ^ 28
 
 -- the entry would read so many bytes more than those that were copied so far, and more than 2^28 with them
@@ -65,7 +72,7 @@ pub record CanTakeSlot (parts : Parts) (entered : Entered) (plan : Plan) : Type 
   pub begins : CanBegin parts entered plan
   pub beside : entered.slot < length parts.cancellations.items
   pub takes : CanTake parts.tables entered plan
-  pub blank : 0 < parts.blanks
+  pub blank : 0 < parts.blanks.kept
 
 -- what was decided can be done
 abbrev pub CanFollow : Parts → List ℕ → EntryDecision → Type 0

@@ -45,7 +45,7 @@ pub fn enters_new(
     requires slot { lowest_free parts.old.slots ≡ Some entered.slot }
     requires beside { entered.slot < length parts.old.cancellations.items }
     requires plan { CanTake parts.old.tables entered plan }
-    requires blank { 0 < parts.old.blanks }
+    requires blank { 0 < parts.old.blanks.kept }
     ensures come { HasComeIn parts.old parts.new visitor reads }
     ensures stands { CanApply (call_with (booted_with parts.old.setup) (tables_of parts.old.tables) entered) plan
         → (kernel : Kernel) → StandsAfter parts.old parts.new visitor kernel (Takes entered.slot

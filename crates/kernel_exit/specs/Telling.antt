@@ -7,6 +7,7 @@ use Rattle.call_leaving.specs.declared.leaving.Leaving.TheVariants.{Interrupted,
 use Rattle.call_leaving.specs.declared.leaving.Wanted.{Wanted}
 use Rattle.call_leaving.specs.declared.leaving.Wanted.TheVariants.{Asked}
 use Rattle.kernel_model.specs.Kernel as model
+use Rattle.kernel_state.specs.Blanks.{Boxes, with_box}
 use Rattle.kernel_state.specs.StandsFor.{IsSlot}
 use Rattle.kernel_state.specs.declared.cancellation.Cancellation.{Cancellation}
 use Rattle.ns_ram.specs.Lane.{IsInRam}
@@ -49,3 +50,11 @@ pub record HoldsNow (old new : List (Slot (Box (Cont (List ℕ))))) (slot : ℕ)
   pub now : Slot (Box (Cont (List ℕ)))
   pub set : new ≡ slice_set old slot now
   pub is : IsSlot now beside held
+
+-- the boxes kept for new calls: that of a call that has finished is one more, where there is room for it
+abbrev pub boxes_left : Leaving → Boxes → Boxes
+boxes_left Interrupted boxes = boxes
+boxes_left WantsBuffer boxes = boxes
+boxes_left (Requests place wanted) boxes = boxes
+boxes_left (FreesBuffer buffer) boxes = boxes
+boxes_left Finishes boxes = with_box boxes

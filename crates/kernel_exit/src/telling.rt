@@ -15,7 +15,7 @@ ghost use Rattle.rpc_cont.specs.Conts.{kept_params};
 ghost use Rattle.rpc_cont.specs.declared.cont.Cont.{Cont as AnyCont};
 ghost use Rattle.rpc_msgs.specs.Request.{request_writes};
 ghost use Rattle.thread_slots.specs.Slots.{IsActiveAt};
-ghost use Rattle.kernel_exit.specs.Telling.{CanBeAsked, CanBeTold, HasRoomForResult, HoldsNow};
+ghost use Rattle.kernel_exit.specs.Telling.{CanBeAsked, CanBeTold, HasRoomForResult, HoldsNow, boxes_left};
 
 use call_leaving::{Leaving, Wanted};
 use frame_pool::Pages;
@@ -147,8 +147,9 @@ pub fn slot_left(
     leaving: Leaving,
 )
     requires { IsActiveAt slots.old slot }
-    ensures { (call : PendingCall) (beside : AnyCancellation) → IsCall cont.value call → IsBeside beside call
+    ensures slot { (call : PendingCall) (beside : AnyCancellation) → IsCall cont.value call → IsBeside beside call
         → HoldsNow slots.old slots.new slot beside (slot_left call (leaving_as cont.value leaving)) }
+    ensures boxes { blanks.new ≡ boxes_left leaving blanks.old }
 {
     match leaving {
         Leaving::Interrupted | Leaving::WantsBuffer | Leaving::Requests { .. } => {

@@ -1,6 +1,6 @@
 -- Boxes of calls of which nothing is there.
-use Rattle.std.specs.Prelude.{◌≡◌, ℕ, false, List, All, None}
-use Rattle.std.specs.Global.{Box}
+use Rattle.std.specs.Prelude.{◌≡◌, ℕ, ◌+◌, ◌<◌, false, if◌then◌else◌, List, All, None, nat_lt, vec_capacity}
+use Rattle.std.specs.Global.{Box, Vec}
 use Rattle.rpc_cont.specs.Beginning.{IsFresh}
 use Rattle.rpc_cont.specs.declared.cont.Cont.{Cont}
 
@@ -12,6 +12,16 @@ pub record IsBlank (cont : Cont (List ℕ)) : Type 0 where
   pub steps : cont.steps ≡ 0
   pub done : cont.done ≡ false
 
--- nothing is there of any of these
-abbrev pub AreBlank : List (Box (Cont (List ℕ))) → Type 0
-AreBlank boxes = All (λ box. IsBlank box.value) boxes
+-- nothing is there of any of these, and there is room for one
+pub record HoldsBlanks (boxes : Vec (Box (Cont (List ℕ)))) : Type 0 where
+  pub blank : All (λ box. IsBlank box.value) boxes.items
+  pub room : 0 < vec_capacity boxes
+
+-- how many boxes are kept, and for how many there is room
+pub record Boxes : Type 0 where
+  pub kept : ℕ
+  pub room : ℕ
+
+-- one more, where there is room for it
+abbrev pub with_box : Boxes → Boxes
+with_box boxes = if nat_lt boxes.kept boxes.room then record boxes { kept = boxes.kept + 1 } else boxes

@@ -1,5 +1,5 @@
-ghost use Rattle.std.specs.Prelude.{◌≡◌, ◌+◌, ◌<◌, ◌≤◌, None, OnOk, OnErr, IfOk};
-ghost use Rattle.kernel_state.specs.Blanks.{IsBlank};
+ghost use Rattle.std.specs.Prelude.{◌≡◌, ◌+◌, ◌<◌, ◌==◌, if◌then◌else◌, None, IfOk, OnOk, OnErr};
+ghost use Rattle.kernel_state.specs.Blanks.{IsBlank, with_box};
 
 use arrayvec::ArrayVec;
 use base::NoMemory;
@@ -12,27 +12,28 @@ use ta_params::codes::TEE_SUCCESS;
 use ta_params::{CallResult, Login};
 
 /// Boxes of calls that have finished, kept for new ones, so that a call is neither moved nor cleared as it begins. Contracts
-/// see how many there are.
+/// see how many there are, and how many can be kept.
 #[derive(Drop)]
 pub struct Blanks {
     boxes: Vec<Box<Cont<Pages>>>,
 }
 
 impl Model for Blanks {
-    ghost use Rattle.std.specs.Prelude.{ℕ, vec_len};
-    ghost use Rattle.kernel_state.specs.Blanks.{AreBlank};
+    ghost use Rattle.std.specs.Prelude.{vec_capacity, vec_len};
+    ghost use Rattle.kernel_state.specs.Blanks.{Boxes, HoldsBlanks};
 
-    ghost Value = { ℕ };
+    ghost Value = { Boxes };
 
-    ghost view = { λ blanks. vec_len blanks.boxes };
+    ghost view = { λ blanks. record { kept = vec_len blanks.boxes; room = vec_capacity blanks.boxes } };
 
-    ghost invariant = { λ blanks. AreBlank blanks.boxes.items };
+    ghost invariant = { λ blanks. HoldsBlanks blanks.boxes };
 }
 
 impl Blanks {
     /// No box, and room for so many.
     pub fn new(alloc: Global, room: u8) -> Result<Blanks, NoMemory>
-        ensures { IfOk result (λ blanks. blanks ≡ 0) }
+        requires { 0 < room }
+        ensures { IfOk result (λ blanks. blanks ≡ record { kept = 0; room = room }) }
     {
         Ok(Blanks {
             boxes: Vec::with_capacity(alloc, usize::from(room))?,
@@ -41,29 +42,29 @@ impl Blanks {
 
     /// Makes a box where there is none.
     pub fn make_one(&mut self, alloc: Global) -> Result<(), NoMemory>
-        ensures one { OnOk result (0 < self.new) }
-        ensures none { OnErr result (self.new ≡ self.old) }
+        ensures made { OnOk result (self.new ≡ (if self.old.kept == 0 then record self.old { kept = 1 } else self.old)) }
+        ensures lacks { OnErr result (self.old.kept ≡ 0) }
+        ensures stays { OnErr result (self.new ≡ self.old) }
     {
         if self.boxes.is_empty() {
             let cont = Box::new(alloc, blank(alloc))?;
-            self.boxes.push(cont)?;
+            self.boxes.push_reserved(cont);
         }
         Ok(())
     }
 
     /// Takes a box, in which nothing of a call is there yet. Takes no memory.
     pub fn take(&mut self) -> Box<Cont<Pages>>
-        requires { 0 < self.old }
+        requires { 0 < self.old.kept }
         ensures blank { IsBlank result.value }
-        ensures left { self.new + 1 ≡ self.old }
+        ensures left { self.old ≡ record self.new { kept = self.new.kept + 1 } }
     {
         self.boxes.pop().unwrap()
     }
 
     /// Keeps the box of a call that has finished, where there is room for it. Takes no memory.
     pub fn put(&mut self, mut cont: Box<Cont<Pages>>)
-        ensures kept { self.old ≤ self.new }
-        ensures one { self.new ≤ self.old + 1 }
+        ensures { self.new ≡ with_box self.old }
     {
         wipe(&mut cont);
         if self.boxes.len() < self.boxes.capacity() {

@@ -55,6 +55,6 @@ returns-clause-gone c =
           (subst (λ (slot : ℕ). (call : PendingCall) → IsCall c.deref.result.now call → leaving_of slot call ≡ leaving_as c.deref.result.now c.of-leaving.result) number c.of-leaving.ensures.call))
           c.answer_of.ensures
           (subst (λ (cont : AnyCont (List ℕ)). (call : PendingCall) → IsCall cont call → c.tell.new.lane ≡ lane_after c.args.lane.now (writes_of call (leaving_as cont c.of-leaving.result))) told c.tell.ensures)
-          c.tables_left.ensures.tables c.slot_left.ensures;
+          c.tables_left.ensures.tables c.slot_left.ensures.slot;
       pages = pages_still c.args.parts.now.setup c.comes_to.new.tables c.tables_left.new.tables c.tables_left.ensures.stays c.comes_to.ensures.pages;
     }
