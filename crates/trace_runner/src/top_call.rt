@@ -120,21 +120,23 @@ fn refuse<K: Sink>(alloc: Global, place: u32, kind: BadKind, out: &mut K) -> Sta
     }
 }
 
-/// Serves an input that was read whole, and writes what it is answered with.
+/// Serves an input that was read whole, and writes what it is answered with. Its bytes are free before it is played.
 fn answer<K: Sink>(
     alloc: Global,
     grammar: Grammar,
-    input: &[u8],
+    input: Vec<u8>,
     out: &mut K,
     natives: &Natives,
 ) -> Status
-    requires { length input.now ≤ 2 ^ 24 }
-    ensures answered { Answered grammar (entries natives.now) input.now result (K.held out.old) (K.held out.new) }
+    requires { length input.items ≤ 2 ^ 24 }
+    ensures answered { Answered grammar (entries natives.now) input.items result (K.held out.old) (K.held out.new) }
     ensures words { result ≡ Status.Usage → ⊥ }
     ensures write_fault { result ≡ Status.WriteFault → Rose (K.faults out.old) (K.faults out.new) }
     ensures count { K.faults out.old ≤ K.faults out.new }
 {
-    match read_content(alloc, grammar, input, natives.uuids().as_slice()) {
+    let content = read_content(alloc, grammar, input.as_slice(), natives.uuids().as_slice());
+    drop(input);
+    match content {
         Ok(content) => serve(alloc, natives, content, out),
         Err(TraceFault::Bad { place, kind }) => refuse(alloc, place, kind, out),
         Err(TraceFault::Memory) => Status::Memory,
@@ -160,7 +162,7 @@ fn run_input<S: Source, K: Sink>(
     ensures out_count { K.faults out.old ≤ K.faults out.new }
 {
     match read_input(alloc, input) {
-        Ok(bytes) => answer(alloc, grammar, bytes.as_slice(), out, natives),
+        Ok(bytes) => answer(alloc, grammar, bytes, out, natives),
         Err(InputFault::Failed) => Status::ReadFault,
         Err(InputFault::TooLong) => Status::TooLong,
         Err(InputFault::Memory) => Status::Memory,

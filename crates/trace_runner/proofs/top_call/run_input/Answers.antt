@@ -1,6 +1,4 @@
-use Rattle.std.proofs.Common.{arith, subst, ℕ, List}
-use Rattle.native_tas.specs.Table.{entries}
-use Rattle.trace_runner.specs.Run.{Answered}
+use Rattle.std.proofs.Common.{arith}
 use Rattle.trace_runner.proofs.Running.{Ran-read}
 use Rattle.trace_runner.proofs.top_call.run_input.Goals as goal
 
@@ -8,6 +6,4 @@ pub returns-in-Ok-clause-told : goal.returns-in-Ok-clause-told
 returns-in-Ok-clause-told g c =
     let whole = c.in-Ok.ensures.whole in
     let e = c.answer.ensures in
-    Ran-read c.args.grammar _ _ _ c.in-Ok.bytes.items _ _ _ whole.1 whole.2 (omega (arith, c.in-Ok.bytes.ok.0))
-    (subst (λ (bytes : List ℕ). Answered c.args.grammar (entries c.args.natives.now) bytes c.answer.result
-    (g.K.Sink.held c.args.out.now) (g.K.Sink.held c.answer.new.out)) c.as_slice.ensures.value e.answered)
+    Ran-read c.args.grammar _ _ _ c.in-Ok.bytes.items _ _ _ whole.1 whole.2 (omega (arith, c.in-Ok.bytes.ok.0)) e.answered
