@@ -50,7 +50,7 @@ impl Handles {
         are_none(&self.objects)
     }
 
-    /// Closes all objects.
+    /// Forgets all objects.
     pub fn clear(&mut self)
         ensures { self.new ≡ [] }
     {
