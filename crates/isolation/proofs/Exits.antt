@@ -1,8 +1,8 @@
 -- An exit that is done again is the journal's.
-use Rattle.std.proofs.Common.{◌≡◌, ℕ, ◌<◌, Bool, true, false, List, [], ◌∷◌, ◌++◌, length, Option, Some, None, refl, ap, sym, subst, ◌∙◌}
+use Rattle.std.proofs.Common.{◌≡◌, ℕ, ◌<◌, Bool, true, false, List, [], ◌∷◌, ◌++◌, length, get_or, Option, Some, None, refl, ap, sym, subst, ◌∙◌}
 use Rattle.std.proofs.Math.Logic.{∥∥₁_map}
 use Rattle.std.proofs.lemmas.List.{length-set}
-use Rattle.std.proofs.lemmas.Option.{option_and_then_some, slice_get-map}
+use Rattle.std.proofs.lemmas.Option.{option_and_then_some, slice_get-map, slice_get_read}
 use Rattle.std.proofs.lemmas.Slice.Eq.{bytes_eq-Decides}
 use Rattle.std.specs.Prelude.{IfOk, IsSomeAnd, Result, Ok, Err, bytes_eq, if◌then◌else◌, not, replicate, slice_get, slice_set}
 use Rattle.std.specs.Option.{option_and_then, option_map}
@@ -71,6 +71,13 @@ module _ (replay : Replay) (cpu : ℕ) (can : CanGoOut replay cpu) where
       → (work.cpu ≡ cpu) × HasWork replay.core work
   its_work place work same there =
       own_work replay.core (replicate can.next.boot.cpus []) replay.works.items place cpu work can.next.done.works same there
+
+  -- what was taken from its place
+  pub was_there : (place : ℕ) (now taken found : Option Work) → place ≡ cpu → now ≡ get_or replay.works.items place now → taken ≡ now
+      → taken ≡ found → slice_get replay.works.items place ≡ Some found
+  was_there place now taken found same is takes bound =
+      slice_get_read replay.works.items (length replay.works.items) place now refl (work_below place same) is
+      ∙ ap Some (sym takes ∙ bound)
 
 -- ---- and what it comes to
 
