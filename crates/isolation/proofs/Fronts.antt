@@ -8,10 +8,11 @@ use Rattle.std.specs.Option.{option_and_then}
 use Rattle.event_journal.specs.Event.{copied_by}
 use Rattle.event_journal.specs.Journal.{copied_bytes}
 use Rattle.event_journal.specs.declared.event.Event.{Event}
+use Rattle.isolation.specs.Journals.{IsJournal}
 use Rattle.isolation.specs.Replaying.{CanBeNext}
 use Rattle.kernel_model.proofs.Past.{after_events-append}
 use Rattle.kernel_model.specs.Application.{Booted, BuiltIn, IsBooted, Native, OfImage, booted}
-use Rattle.kernel_model.specs.History.{IsLegal, after_event, after_events, kernel_after}
+use Rattle.kernel_model.specs.History.{after_event, after_events, kernel_after}
 use Rattle.kernel_model.specs.Kernel.{Kernel, first_kernel}
 use Rattle.kernel_state.specs.Booting.{IsWithinLimits}
 use Rattle.kernel_state.specs.Reads.{ReadsAgree}
@@ -49,9 +50,9 @@ module _ (boot : Booted) (done rest : List Event) (event : Event) where
   agrees [] all = all.0
   agrees (first ∷ front) all = agrees front all.1
 
-  one_more : IsSome (kernel_after boot (done ++ event ∷ rest)) → copied_bytes (done ++ event ∷ rest) ≤ 2 ^ 28
-      → AllByRecursion ReadsAgree (done ++ event ∷ rest) → CanBeNext boot done event
-  one_more some all agree = record { follows = follows some; few = few all; agree = agrees done agree }
+  one_more : IsJournal boot (done ++ event ∷ rest) → CanBeNext boot done event
+  one_more journal =
+      record { follows = follows journal.legal.follows; few = few journal.few; agree = agrees done journal.agree }
 
 -- the event at this place
 module _ (events : List Event) (place : ℕ) (event : Event) (below : place < length events) (is : event ≡ get_or events place event) where
@@ -64,13 +65,9 @@ module _ (events : List Event) (place : ℕ) (event : Event) (below : place < le
       ∙ ap (λ (rest : List Event). take place events ++ rest)
       (drop_more events place event below ∙ ap (λ (e : Event). e ∷ drop (place + 1) events) (sym is))
 
-  pub can_be_next : (boot : Booted) → IsLegal boot events → copied_bytes events ≤ 2 ^ 28 → AllByRecursion ReadsAgree events
-      → CanBeNext boot (take place events) event
-  can_be_next boot legal few agree =
-      one_more boot (take place events) (drop (place + 1) events) event
-      (subst (λ (all : List Event). IsSome (kernel_after boot all)) parted legal.follows)
-      (subst (λ (all : List Event). copied_bytes all ≤ 2 ^ 28) parted few)
-      (subst (AllByRecursion ReadsAgree) parted agree)
+  pub can_be_next : (boot : Booted) → IsJournal boot events → CanBeNext boot (take place events) event
+  can_be_next boot journal =
+      one_more boot (take place events) (drop (place + 1) events) event (subst (IsJournal boot) parted journal)
 
 -- ---- boots
 

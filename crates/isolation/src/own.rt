@@ -1,11 +1,8 @@
 //! What happened to a session, and what it was answered.
-ghost use Rattle.std.specs.Prelude.{◌≡◌, ◌≤◌, ◌^◌, ◌++◌, IfOk, Some};
+ghost use Rattle.std.specs.Prelude.{◌≡◌, ◌++◌, IfOk, Some};
 ghost use Rattle.std.specs.Option.{option_to_list};
-ghost use Rattle.std.specs.List.{AllByRecursion};
-ghost use Rattle.event_journal.specs.Journal.{copied_bytes};
+ghost use Rattle.isolation.specs.Journals.{IsJournal};
 ghost use Rattle.kernel_model.specs.Application.{Application, booted};
-ghost use Rattle.kernel_model.specs.History.{IsLegal};
-ghost use Rattle.kernel_state.specs.Reads.{ReadsAgree};
 ghost use Rattle.native_tas.specs.Table.{entries};
 ghost use Rattle.own_model.specs.Isolation.{IsSessionOf, steps_in};
 ghost use Rattle.own_model.specs.Own.{events_in, noted, own_events, own_replies, replies_in};
@@ -29,9 +26,7 @@ fn own_log(
     journal: &Journal,
     session: u32,
 ) -> Result<Vec<Logged>, NoMemory>
-    requires legal { IsLegal (booted boot.now (entries natives.now)) journal.now.events }
-    requires few { copied_bytes journal.now.events ≤ 2 ^ 28 }
-    requires agree { AllByRecursion ReadsAgree journal.now.events }
+    requires { IsJournal (booted boot.now (entries natives.now)) journal.now.events }
     ensures { IfOk result (λ log. log.items
         ≡ (noted (booted boot.now (entries natives.now)) journal.now.events session).log) }
 {
@@ -92,9 +87,7 @@ pub fn own_events(
     journal: &Journal,
     session: u32,
 ) -> Result<Vec<OwnEvent>, NoMemory>
-    requires legal { IsLegal (booted boot.now (entries natives.now)) journal.now.events }
-    requires few { copied_bytes journal.now.events ≤ 2 ^ 28 }
-    requires agree { AllByRecursion ReadsAgree journal.now.events }
+    requires { IsJournal (booted boot.now (entries natives.now)) journal.now.events }
     ensures { IfOk result (λ events. events.items
         ≡ own_events (booted boot.now (entries natives.now)) journal.now.events session) }
 {
@@ -111,9 +104,7 @@ pub fn own_replies(
     journal: &Journal,
     session: u32,
 ) -> Result<Vec<OwnReply>, NoMemory>
-    requires legal { IsLegal (booted boot.now (entries natives.now)) journal.now.events }
-    requires few { copied_bytes journal.now.events ≤ 2 ^ 28 }
-    requires agree { AllByRecursion ReadsAgree journal.now.events }
+    requires { IsJournal (booted boot.now (entries natives.now)) journal.now.events }
     ensures replies { IfOk result (λ replies. replies.items
         ≡ own_replies (booted boot.now (entries natives.now)) journal.now.events session) }
     ensures alone { (app : Application)

@@ -8,7 +8,7 @@ use Rattle.std.proofs.lemmas.Slice.Eq.{bytes_eq-Decides}
 use Rattle.event_journal.specs.declared.event.Event.{Event}
 use Rattle.isolation_cases.proofs.FewSteps.{few_then}
 use Rattle.isolation_cases.proofs.Opened.{opened_app}
-use Rattle.isolation_cases.specs.Feeding.{BeginWithOpen, CanBeFed, HaveDone, IsFed, IsFine, IsJournal, SeesBy}
+use Rattle.isolation_cases.specs.Feeding.{BeginWithOpen, CanBeFed, HaveDone, IsFed, IsFine, IsJournalOf, SeesBy}
 use Rattle.kernel_model.proofs.Parts.{option_map_some, some_of}
 use Rattle.kernel_model.specs.Application.{Application, Native, OfImage, booted, uuid_of}
 use Rattle.kernel_model.specs.History.{IsLegal}
@@ -140,7 +140,7 @@ only_app boot app uuid found only e =
 same_uuid : (uuid : List ℕ) → bytes_eq uuid uuid ≡ true
 same_uuid uuid = (bytes_eq-Decides uuid uuid).1 refl
 
-app_there : (boot : Boot) (natives : List Native) (history : List Event) (app : App) → IsJournal boot natives history
+app_there : (boot : Boot) (natives : List Native) (history : List Event) (app : App) → IsJournalOf boot natives history
     → boot.apps ≡ app ∷ [] → IsSome (app_of (booted boot natives) app.uuid)
 app_there boot natives history app journal only =
     subst (λ (none : List Native). IsSome (app_of (booted boot none) app.uuid)) (sym journal.none)
@@ -177,7 +177,7 @@ alone boot history session app (Open params login ∷ events) legal opens own on
 
 -- the machine of a session of the only application can be fed with what has happened to the session
 pub fed_first : (boot : Boot) (natives : List Native) (history : List Event) (session : ℕ) (events : List OwnEvent)
-    (uuid : List ℕ) (s : SoloSession) → IsJournal boot natives history → CanBeFed boot history events
+    (uuid : List ℕ) (s : SoloSession) → IsJournalOf boot natives history → CanBeFed boot history events
     → events ≡ own_events (booted boot natives) history session
     → app_of (booted boot natives) uuid ≡ Some (app_in s) → IsSolo s unopened → IsFed s events
 fed_first boot natives history session events uuid s journal can own of is = record {
@@ -187,7 +187,7 @@ fed_first boot natives history session events uuid s journal can own of is = rec
   few_steps = steps_few (length history) can.few;
   comes = subst (λ (app : Application). IsSome (run (steps_in history) app unopened events)) (sym same)
       (alone boot history session (OfImage can.one.app) events
-      (subst (λ (none : List Native). IsLegal (booted boot none) history) journal.none journal.legal) can.opens
+      (subst (λ (none : List Native). IsLegal (booted boot none) history) journal.none journal.journal.legal) can.opens
       (sym (own ∙ ap (λ (none : List Native). own_events (booted boot none) history session) journal.none))
       (λ found there. option_and_then_some (app_of (booted boot [])) _ found there
       (λ named named_is onward. only_app boot can.one.app named found can.one.only onward))
@@ -220,7 +220,7 @@ first_is boot history events can = subst (λ (apps : List App). 0 < length apps)
 
 -- which has its UUID
 pub first_there : (boot : Boot) (natives : List Native) (history : List Event) (events : List OwnEvent) (none : App)
-    → IsJournal boot natives history → CanBeFed boot history events
+    → IsJournalOf boot natives history → CanBeFed boot history events
     → IsSome (app_of (booted boot natives) (get_or boot.apps 0 none).uuid)
 first_there boot natives history events none journal can =
     subst (λ (app : App). IsSome (app_of (booted boot natives) app.uuid))

@@ -4,7 +4,8 @@ use Rattle.std.specs.Prelude.{IfSome}
 use Rattle.std.specs.List.{AllByRecursion}
 use Rattle.event_journal.specs.Journal.{copied_bytes}
 use Rattle.event_journal.specs.declared.event.Event.{Event}
-use Rattle.isolation_cases.specs.Feeding.{HasOneApp, IsJournal}
+use Rattle.isolation.specs.Journals.{IsJournal}
+use Rattle.isolation_cases.specs.Feeding.{HasOneApp, IsJournalOf}
 use Rattle.kernel_model.specs.Application.{Booted, Native, OfImage, booted}
 use Rattle.kernel_model.specs.History.{IsLegal}
 use Rattle.kernel_model.specs.Instances.{is_single}
@@ -31,11 +32,10 @@ some_boot (Some other) boot e is = let same : other ≡ boot = cc in subst IsBoo
 pub is_journal : (found : Option Boot) (boot : Boot) (natives : List Native) (on : Booted) (history events : List Event)
     → found ≡ Some boot → IfSome found IsBoot → natives ≡ [] → on ≡ booted boot natives → events ≡ history
     → IsLegal on history → copied_bytes history ≤ 2 ^ 28 → AllByRecursion ReadsAgree history
-    → IsJournal boot natives events
+    → IsJournalOf boot natives events
 is_journal found boot natives on history events is boots none same of legal few agree = record {
   boots = some_boot found boot is boots;
   none = none;
-  legal = subst (λ (b : Booted). IsLegal b events) same (subst (IsLegal on) (sym of) legal);
-  few = subst (λ (h : List Event). copied_bytes h ≤ 2 ^ 28) (sym of) few;
-  agree = subst (AllByRecursion ReadsAgree) (sym of) agree;
+  journal = subst (λ (b : Booted). IsJournal b events) same
+      (subst (IsJournal on) (sym of) (record { legal = legal; few = few; agree = agree }));
 }

@@ -1,13 +1,10 @@
 -- When the machine of a session can be fed with what has happened to it.
 use Rattle.std.specs.Prelude.{◌≡◌, ℕ, ◌+◌, ◌*◌, ◌^◌, ◌<◌, ◌≤◌, false, List, [], ◌∷◌, Some, IsSome, length}
-use Rattle.std.specs.List.{AllByRecursion}
 use Rattle.base.specs.NumberMap.{NumberMap, get}
-use Rattle.event_journal.specs.Journal.{copied_bytes}
 use Rattle.event_journal.specs.declared.event.Event.{Event}
+use Rattle.isolation.specs.Journals.{IsJournal}
 use Rattle.kernel_model.specs.Application.{Native, OfImage, booted}
-use Rattle.kernel_model.specs.History.{IsLegal}
 use Rattle.kernel_model.specs.Instances.{is_single}
-use Rattle.kernel_state.specs.Reads.{ReadsAgree}
 use Rattle.own_model.specs.Solo.{OwnCall, Solo, run}
 use Rattle.own_model.specs.declared.own_event.OwnEvent.{OwnEvent}
 use Rattle.own_model.specs.declared.own_event.OwnEvent.TheVariants.{Open, Invoke, Close, Cancel, Seen, Back, Out, Limited}
@@ -76,10 +73,8 @@ pub record CanBeFed (boot : Boot) (history : List Event) (events : List OwnEvent
   pub few : length history ≤ 2 ^ 32
   pub few_events : length events ≤ 2 ^ 32
 
--- what is known of the journal of a core of this boot, beside which nothing is built in
-pub record IsJournal (boot : Boot) (natives : List Native) (history : List Event) : Type 0 where
+-- a core of this boot, beside which nothing is built in, can have this journal
+pub record IsJournalOf (boot : Boot) (natives : List Native) (history : List Event) : Type 0 where
   pub boots : IsBoot boot
   pub none : natives ≡ []
-  pub legal : IsLegal (booted boot natives) history
-  pub few : copied_bytes history ≤ 2 ^ 28
-  pub agree : AllByRecursion ReadsAgree history
+  pub journal : IsJournal (booted boot natives) history

@@ -1,5 +1,5 @@
 //! Comparing what machines of sessions reply with what the sessions were answered.
-ghost use Rattle.isolation_cases.specs.Feeding.{IsJournal};
+ghost use Rattle.isolation_cases.specs.Feeding.{IsJournalOf};
 ghost use Rattle.native_tas.specs.Table.{entries};
 
 use crate::conditions::can_be_fed;
@@ -24,7 +24,7 @@ fn replies_alone(
     journal: &Journal,
     session: u32,
 ) -> Result<Vec<OwnReply>>
-    requires { IsJournal boot.now (entries natives.now) journal.now.events }
+    requires { IsJournalOf boot.now (entries natives.now) journal.now.events }
 {
     let events = own_events(alloc, boot, natives, journal, session)?;
     if !can_be_fed(boot, journal, events.as_slice()) {
@@ -81,7 +81,7 @@ fn tell_session(
     session: u32,
     told: &mut String,
 ) -> Result<()>
-    requires { IsJournal boot.now (entries natives.now) journal.now.events }
+    requires { IsJournalOf boot.now (entries natives.now) journal.now.events }
 {
     let replies = replies_alone(alloc, boot, natives, journal, session)?;
     let answered = own_replies(alloc, boot, natives, journal, session)?;
@@ -97,7 +97,7 @@ pub(crate) fn tell_sessions(
     journal: &Journal,
     sessions: &str,
 ) -> Result<String>
-    requires { IsJournal boot.now (entries natives.now) journal.now.events }
+    requires { IsJournalOf boot.now (entries natives.now) journal.now.events }
 {
     let mut told = String::new(alloc);
     for session in sessions.split(' ') {

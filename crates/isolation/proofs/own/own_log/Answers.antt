@@ -1,16 +1,13 @@
 -- Each event is the next of a legal journal.
-use Rattle.std.proofs.Common.{◌≤◌, ◌^◌, List, take, sym, subst, ◌∙◌}
+use Rattle.std.proofs.Common.{List, take, sym, subst, ◌∙◌}
 use Rattle.std.proofs.lemmas.List.{take_all}
-use Rattle.std.specs.List.{AllByRecursion}
-use Rattle.event_journal.specs.Journal.{copied_bytes}
 use Rattle.event_journal.specs.declared.event.Event.{Event}
+use Rattle.isolation.specs.Journals.{IsJournal}
 use Rattle.isolation.specs.Replaying.{CanBeNext, HasNoted}
 use Rattle.isolation.proofs.Fronts.{can_be_next, taken_more, within_limits}
 use Rattle.isolation.proofs.OwnLogs.{log_so}
 use Rattle.kernel_model.specs.Application.{booted}
-use Rattle.kernel_model.specs.History.{IsLegal}
 use Rattle.kernel_state.specs.Booting.{IsWithinLimits}
-use Rattle.kernel_state.specs.Reads.{ReadsAgree}
 use Rattle.native_tas.specs.Table.{entries}
 use Rattle.isolation.proofs.own.own_log.Goals as goal
 
@@ -28,9 +25,7 @@ again-requires g c =
       history = take c.loop-event.event-index items;
       done = c.loop-event.invariant.noted.done;
       next = can_be_next items c.loop-event.event-index c.event-item.result c.loop-event-test.true c.event-item.is boot
-          (subst (λ (es : List Event). IsLegal boot es) (sym c.as_slice-event-items.ensures) c.requires.legal)
-          (subst (λ (es : List Event). copied_bytes es ≤ 2 ^ 28) (sym c.as_slice-event-items.ensures) c.requires.few)
-          (subst (AllByRecursion ReadsAgree) (sym c.as_slice-event-items.ensures) c.requires.agree);
+          (subst (IsJournal boot) (sym c.as_slice-event-items.ensures) c.requires);
     }
 
 pub loop-event-preserved : goal.loop-event-preserved
@@ -39,9 +34,7 @@ loop-event-preserved g c =
     let items = c.as_slice-event-items.result.now in
     let next : CanBeNext boot (take c.loop-event.event-index items) c.event-item.result =
     can_be_next items c.loop-event.event-index c.event-item.result c.loop-event-test.true c.event-item.is boot
-    (subst (λ (es : List Event). IsLegal boot es) (sym c.as_slice-event-items.ensures) c.requires.legal)
-    (subst (λ (es : List Event). copied_bytes es ≤ 2 ^ 28) (sym c.as_slice-event-items.ensures) c.requires.few)
-    (subst (AllByRecursion ReadsAgree) (sym c.as_slice-event-items.ensures) c.requires.agree) in
+    (subst (IsJournal boot) (sym c.as_slice-event-items.ensures) c.requires) in
     record {
       noted = subst (λ (h : List Event). HasNoted boot h c.again.new.self c.again.new.notes)
           (sym (taken_more items c.loop-event.event-index c.event-item.result c.loop-event-test.true c.event-item.is))
