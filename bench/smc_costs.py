@@ -2,9 +2,9 @@
 """Counts the host's instructions for an entry and an exit of the core.
 
 Plays traces that do the same N and 2N times, as cases of `worked_cases`, under callgrind, and prints what `enter` and `leave` take for
-each further time, with all that these call; where the compiler has dissolved one into its caller, it counts none. Blocks are moved and
-cleared by vectors here: by `rep` instructions, which is the C library's way with long ones, callgrind counts each byte. Build the program
-first, by `rt run` in crates/worked_cases.
+each further time, with all that these call; where the compiler has dissolved one into its caller, it counts none. A row whose trace
+would have too many entries is left out. Blocks are moved and cleared by vectors here: by `rep` instructions, which is the C library's
+way with long ones, callgrind counts each byte. Build the program first, by `rt run` in crates/worked_cases.
 Usage: bench/smc_costs.py [N..]
 """
 
@@ -17,6 +17,7 @@ from callgrind import costs
 
 PROGRAM = pathlib.Path(__file__).resolve().parent.parent / "crates/worked_cases/out/worked_cases"
 TIMES = [1_000, 32_000]
+MOST_ENTRIES = 65_536
 BY_VECTORS = "glibc.cpu.x86_rep_stosb_threshold=100000000:glibc.cpu.x86_rep_movsb_threshold=100000000"
 
 UUID = "11111111-2222-3333-4444-555555555555"
@@ -84,6 +85,13 @@ def case(code, once, again, times):
     return "".join(line + "\n" for line in lines).encode()
 
 
+def fits(loop, times):
+    """A trace with so many entries isn't too long."""
+    _, once, again = loop
+    entries = [line.startswith("smc ") for line in [CALL, *once]], [line.startswith("smc ") for line in again]
+    return sum(entries[0]) + sum(entries[1]) * times <= MOST_ENTRIES
+
+
 def taken(loop, times):
     """How many instructions `enter` and `leave` take in a whole trace."""
     _, found, printed = costs(PROGRAM, given=case(*loop, times))
@@ -95,6 +103,8 @@ def main():
     os.environ["GLIBC_TUNABLES"] = BY_VECTORS
     for times in [int(word) for word in sys.argv[1:]] or TIMES:
         for name, loop in LOOPS.items():
+            if not fits(loop, 2 * times):
+                continue
             enter, leave = [(twice - once) / times for once, twice in zip(taken(loop, times), taken(loop, 2 * times))]
             print(f"{times:,} times, {name}: enter {enter:.0f}, leave {leave:.0f}, together {enter + leave:.0f}", flush=True)
 
