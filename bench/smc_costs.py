@@ -86,10 +86,9 @@ def case(code, once, again, times):
 
 
 def fits(loop, times):
-    """A trace with so many entries isn't too long."""
+    """A trace that does it so many times isn't too long."""
     _, once, again = loop
-    entries = [line.startswith("smc ") for line in [CALL, *once]], [line.startswith("smc ") for line in again]
-    return sum(entries[0]) + sum(entries[1]) * times <= MOST_ENTRIES
+    return sum(line.startswith("smc ") for line in [CALL, *once, *again * times]) <= MOST_ENTRIES
 
 
 def taken(loop, times):
