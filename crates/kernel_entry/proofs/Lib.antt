@@ -9,7 +9,6 @@ pub mod Following
 pub mod InSession
 pub mod Legal
 pub mod Opens
-pub mod Prepared
 pub mod Replaying
 pub mod Sharing
 pub mod Standing

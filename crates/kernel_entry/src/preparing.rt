@@ -1,17 +1,16 @@
 //! What is prepared before a processor comes in.
-ghost use Rattle.std.specs.Prelude.{◌≡◌, ◌≤◌, ◌^◌, OnOk, OnErr};
+ghost use Rattle.std.specs.Prelude.{◌≤◌, ◌^◌};
 ghost use Rattle.event_journal.specs.Journal.{copied_bytes};
 ghost use Rattle.kernel_state.specs.Setup.{booted_with};
 ghost use Rattle.kernel_state.specs.Tables.{HasFreePages, tables_of};
 ghost use Rattle.new_calls.specs.Applying.{HaveApps};
 ghost use Rattle.resumed_calls.specs.Deciding.{CanDecide};
-ghost use Rattle.kernel_entry.specs.Entering.{HasBox, HasMoreRoom, Prepares};
+ghost use Rattle.kernel_entry.specs.Entering.{HasMoreRoom, Prepares};
 
 use crate::carrying::bytes_in;
 use crate::deciding::{EntryDecision, decide};
 use crate::visitor::make_room;
-use base::NoMemory;
-use kernel_state::{Blanks, EnterRefusal, Parts};
+use kernel_state::{EnterRefusal, Parts};
 use ns_ram::{Lane, Reads};
 use smc_abi::Regs;
 use std::alloc::Global;
@@ -24,18 +23,6 @@ const MOST_BYTES: u64 = 1 << 28;
 pub(crate) struct Prepared {
     pub(crate) decision: EntryDecision,
     pub(crate) reads: Reads,
-}
-
-/// Makes a box where a new call begins and none is kept.
-fn make_box(alloc: Global, blanks: &mut Blanks, decision: &EntryDecision) -> Result<(), NoMemory>
-    ensures made { OnOk result (HasBox blanks.new decision.now) }
-    ensures lacks { OnErr result (HasBox blanks.old decision.now → ⊥) }
-    ensures stays { OnErr result (blanks.new ≡ blanks.old) }
-{
-    match decision {
-        EntryDecision::Begins(..) => blanks.make_one(alloc),
-        EntryDecision::Answers(_) | EntryDecision::GoesOn(_) => Ok(()),
-    }
 }
 
 /// Decides an entry, and makes room for it, for its call and for the exits of all processors. All memory of an entry is
@@ -67,8 +54,5 @@ pub(crate) fn prepare(
     if more > MOST_BYTES - copied {
         return Err(EnterRefusal::Full { copied, more });
     }
-    let Ok(()) = make_box(alloc, &mut parts.blanks, &decision) else {
-        return Err(EnterRefusal::Memory);
-    };
     Ok(Prepared { decision, reads })
 }
