@@ -69,6 +69,15 @@ impl Notes {
         self.numbering.in_slot(u32::from(slot))
     }
 
+    /// Lists an event of the session, with its reply, if it has one.
+    fn lists(&mut self, event: OwnEvent, reply: Option<OwnReply>) -> Result<(), NoMemory>
+        ensures log { IfOk result (λ _. self.new.log.items ≡ self.old.log.items ++ (event, reply) ∷ []) }
+        ensures stays { self.new ≡ record self.old { log = self.new.log } }
+    {
+        self.log.push((event, reply))?;
+        Ok(())
+    }
+
     /// A call of the session comes into a slot.
     pub(crate) fn comes_in(&mut self, slot: u8, came: OwnEvent) -> Result<(), NoMemory>
         requires { slot < 16 }
@@ -77,8 +86,7 @@ impl Notes {
         ensures session { self.new.session ≡ self.old.session }
     {
         self.numbering.next_in(slot)?;
-        self.log.push((came, None))?;
-        Ok(())
+        self.lists(came, None)
     }
 
     /// The session's call of this number comes back.
@@ -87,26 +95,23 @@ impl Notes {
             → IfOk result (λ _. AreNoted self.new (with_back notes number back.seen back.input)) }
         ensures session { self.new.session ≡ self.old.session }
     {
-        let Back { seen, input } = back;
-        if let Some(steps) = seen {
-            self.log.push((
-                OwnEvent::Seen {
-                    call: number,
-                    steps,
-                },
-                None,
-            ))?;
+        if let Some(steps) = back.seen {
+            let seen = OwnEvent::Seen {
+                call: number,
+                steps,
+            };
+            self.lists(seen, None)?;
         }
-        if let Some(input) = input {
-            self.log.push((
+        match back.input {
+            Some(input) => self.lists(
                 OwnEvent::Back {
                     call: number,
                     input,
                 },
                 None,
-            ))?;
+            ),
+            None => Ok(()),
         }
-        Ok(())
     }
 
     /// A processor comes in with a call of the session's client, and is turned away.
@@ -127,7 +132,7 @@ impl Notes {
     {
         if self.turned_away[usize::from(cpu)] {
             self.turned_away[usize::from(cpu)] = false;
-            self.log.push((OwnEvent::Limited, Some(OwnReply::Limited)))?;
+            self.lists(OwnEvent::Limited, Some(OwnReply::Limited))?;
         }
         Ok(())
     }
@@ -151,8 +156,7 @@ impl Notes {
         ensures stays { self.new ≡ record self.old { log = self.new.log } }
     {
         if let Some(reply) = told {
-            self.log
-                .push((OwnEvent::Out { call: number }, Some(reply)))?;
+            self.lists(OwnEvent::Out { call: number }, Some(reply))?;
         }
         Ok(())
     }
@@ -189,8 +193,7 @@ impl Notes {
             → IfOk result (λ _. AreNoted self.new (own.exit_noted notes slot call number)) }
         ensures session { self.new.session ≡ self.old.session }
     {
-        self.log
-            .push((OwnEvent::Out { call: number }, Some(ended)))?;
+        self.lists(OwnEvent::Out { call: number }, Some(ended))?;
         self.numbering.forget(slot);
         Ok(())
     }

@@ -38,13 +38,20 @@ fn own_log(
     Ok(notes.into_log())
 }
 
+/// The event itself.
+fn event_of(logged: Logged) -> OwnEvent
+    ensures { result ≡ logged.0 }
+{
+    logged.0
+}
+
 /// The events of a log.
 fn events_in(alloc: Global, log: Vec<Logged>) -> Result<Vec<OwnEvent>, NoMemory>
     ensures { IfOk result (λ events. events.items ≡ events_in log.items) }
 {
     let mut events = Vec::with_capacity(alloc, log.len())?;
-    for (event, _reply) in log {
-        events.push(event)?;
+    for logged in log {
+        events.push(event_of(logged))?;
     }
     Ok(events)
 }

@@ -1,8 +1,17 @@
-use Rattle.std.proofs.Common.{refl}
+use Rattle.std.proofs.Common.{ap, sym, subst}
+use Rattle.std.proofs.lemmas.Result.{IfOk-weaker}
 use Rattle.isolation.proofs.NotesKept.{in_noted}
+use Rattle.isolation.specs.Noted.{AreNumbers}
+use Rattle.isolation.specs.declared.notes.Notes.{Notes}
+use Rattle.isolation.specs.declared.numbering.Numbering.{Numbering}
+use Rattle.own_model.specs.Own as own
 use Rattle.isolation.proofs.notes.Notes.comes_in.Goals as goal
 
 pub returns-clause-noted : goal.returns-clause-noted
 returns-clause-noted c notes call are =
-    in_noted c.args.self.now _ notes are c.args.slot call c.args.came (c.in_ok-next_in.ensures notes.numbering are.numbering) refl
-    c.in_ok-push.ensures.items
+    let stays = c.lists.ensures.stays in
+    IfOk-weaker c.lists.result _ _
+    (λ done listed. in_noted c.args.self.now _ notes are c.args.slot call c.args.came
+    (subst (λ (n : Numbering). AreNumbers n (own.next_in notes.numbering c.args.slot)) (sym (ap (λ (n : Notes). n.numbering) stays))
+    (c.in_ok-next_in.ensures notes.numbering are.numbering)) (ap (λ (n : Notes). n.turned_away) stays) listed)
+    c.lists.ensures.log
