@@ -150,9 +150,9 @@ impl SoloSession {
         ensures app { self.new.app ≡ self.old.app }
     {
         let number = self.next_number()?;
-        let ready = self.ready(alloc)?;
-        let call = fresh_call(alloc, self.app.uuid(), kind, params)?;
         self.calls.reserve(1)?;
+        let call = fresh_call(alloc, self.app.uuid(), kind, params)?;
+        let ready = self.ready(alloc)?;
         self.begins_last(number, call, ready);
         Ok(())
     }
@@ -193,11 +193,11 @@ impl SoloSession {
         ensures app { self.new.app ≡ self.old.app }
     {
         let number = self.next_number()?;
-        let params = copied_params(alloc, params)?;
-        let instance = made(alloc, &self.app)?;
-        let ready = self.ready(alloc)?;
-        let call = fresh_call(alloc, self.app.uuid(), CallKind::Open, Some(params))?;
         self.calls.reserve(1)?;
+        let params = copied_params(alloc, params)?;
+        let call = fresh_call(alloc, self.app.uuid(), CallKind::Open, Some(params))?;
+        let ready = self.ready(alloc)?;
+        let instance = made(alloc, &self.app)?;
         self.session = Some(KeptSession {
             login,
             context: 0,
