@@ -105,6 +105,26 @@ fn first_tables(alloc: Global, frames: u16) -> Result<Tables, NoMemory>
     })
 }
 
+/// What a core of this boot keeps of it.
+fn setup_of(alloc: Global, boot: Boot, natives: &Natives) -> Result<Setup, NoMemory>
+    ensures boot { IfOk result (λ setup. boot_of setup ≡ boot) }
+    ensures natives { IfOk result (λ setup. natives_of setup ≡ entries natives.now) }
+{
+    let Boot {
+        cpus,
+        threads,
+        frames,
+        apps,
+    } = boot;
+    Ok(Setup {
+        cpus,
+        threads,
+        frames,
+        apps: shared_apps(alloc, apps)?,
+        natives: Sequence::of(natives.apps(alloc)?),
+    })
+}
+
 /// The parts of a core where nothing has happened.
 fn first_parts(alloc: Global, boot: Boot, natives: &Natives) -> Result<Parts, NoMemory>
     requires { IsWithinLimits boot }
@@ -113,26 +133,15 @@ fn first_parts(alloc: Global, boot: Boot, natives: &Natives) -> Result<Parts, No
     ensures events { IfOk result (λ parts. parts.journal.events ≡ []) }
     ensures stands { IfOk result (λ parts. StandsFor parts (first_kernel (booted_with parts.setup))) }
 {
-    let Boot {
-        cpus,
-        threads,
-        frames,
-        apps,
-    } = boot;
+    let setup = setup_of(alloc, boot, natives)?;
     Ok(Parts {
-        setup: Setup {
-            cpus,
-            threads,
-            frames,
-            apps: shared_apps(alloc, apps)?,
-            natives: Sequence::of(natives.apps(alloc)?),
-        },
-        slots: free_slots(alloc, threads)?,
-        cancellations: free_cancellations(alloc, threads)?,
-        processors: outside_processors(alloc, cpus)?,
-        tables: first_tables(alloc, frames)?,
-        blanks: Blanks::new(alloc, threads)?,
+        slots: free_slots(alloc, setup.threads)?,
+        cancellations: free_cancellations(alloc, setup.threads)?,
+        processors: outside_processors(alloc, setup.cpus)?,
+        tables: first_tables(alloc, setup.frames)?,
+        blanks: Blanks::new(alloc, setup.threads)?,
         journal: Journal::new(alloc),
+        setup,
     })
 }
 

@@ -1,7 +1,7 @@
 //! How an entry point begins, and what its return leaves.
 ghost use Rattle.std.specs.Prelude.{◌≡◌, List, ℕ, [], map, length, Some, None, IsSomeAnd};
 ghost use Rattle.job_model.specs.declared.entry_point.EntryPoint.{EntryPoint as AnyPoint};
-ghost use Rattle.job_model.specs.Job.{Nothing, image_job_at};
+ghost use Rattle.job_model.specs.Job.{Nothing, image_job_at, of_application};
 ghost use Rattle.job_model.specs.Point.{first_registers, params_at, params_beside};
 ghost use Rattle.job_model.specs.Steps.{on_to_next, job_after_return, still_to_come};
 ghost use Rattle.rpc_cont.specs.Conts.{job_at, job_with, kept_params, memory_size};
@@ -85,6 +85,14 @@ impl<M: TaMemory + Drop> Cont<M> {
         }
     }
 
+    /// Answers with this code of the application, and the parameters that it leaves.
+    fn answers_with(&mut self, code: u32, params: CopiedParams)
+        ensures { self.new ≡ record self.old { result = of_application code; params = Some params } }
+    {
+        self.result = CallResult::of_application(code);
+        self.params = Some(params);
+    }
+
     /// Takes what its entry point returned: a create that fails, and each open and invoke, give the result, an open
     /// the context too. No entry point comes behind a create that fails, or an open that succeeds.
     fn take_result(&mut self, params: CopiedParams, r0: u32, r1: u32)
@@ -102,17 +110,13 @@ impl<M: TaMemory + Drop> Cont<M> {
                 }
             }
             Some(EntryPoint::Open) => {
-                self.result = CallResult::of_application(r0);
+                self.answers_with(r0, params);
                 self.context = r1;
-                self.params = Some(params);
                 if r0 == TEE_SUCCESS {
                     self.points.clear();
                 }
             }
-            Some(EntryPoint::Invoke { .. }) => {
-                self.result = CallResult::of_application(r0);
-                self.params = Some(params);
-            }
+            Some(EntryPoint::Invoke { .. }) => self.answers_with(r0, params),
             Some(EntryPoint::Close | EntryPoint::Destroy) | None => {}
         }
     }
