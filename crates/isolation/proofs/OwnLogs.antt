@@ -31,6 +31,16 @@ log_so code boot done events session told noted all same tells =
     ∙ ap (λ (h : List Event). (own.noted boot h code.session).log) all
     ∙ ap (λ (n : ℕ). (own.noted boot events n).log) same)
 
+-- a log of events from a boot is one of the same events from the same boot
+pub log_still : {T : Type 0} (result : Result T NoMemory) (items : T → List own.Logged) (at boot : Booted)
+    (done events : List Event) (session : ℕ) → at ≡ boot → done ≡ events
+    → IfOk result (λ x. items x ≡ (own.noted at done session).log)
+    → IfOk result (λ x. items x ≡ (own.noted boot events session).log)
+log_still (Ok x) items at boot done events session same all is =
+    is ∙ ap (λ (b : Booted). (own.noted b done session).log) same
+    ∙ ap (λ (h : List Event). (own.noted boot h session).log) all
+log_still (Err error) items at boot done events session same all is = tt
+
 -- the replies are those of the machine of one session
 pub alone_so : {T : Type 0} (result : Result T NoMemory) (items : T → List OwnReply) (log : List own.Logged) (boot : Booted)
     (history : List Event) (session : ℕ) (app : Application) → log ≡ (own.noted boot history session).log

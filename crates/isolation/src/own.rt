@@ -9,7 +9,7 @@ ghost use Rattle.own_model.specs.Own.{events_in, noted, own_events, own_replies,
 ghost use Rattle.own_model.specs.Solo.{solo_replies};
 
 use crate::copies::copy_boot;
-use crate::notes::{Logged, Notes};
+use crate::notes::Logged;
 use crate::replay::Replay;
 use base::NoMemory;
 use event_journal::Journal;
@@ -31,11 +31,7 @@ fn own_log(
         ≡ (noted (booted boot.now (entries natives.now)) journal.now.events session).log) }
 {
     let mut replay = Replay::new(alloc, copy_boot(alloc, boot)?, natives)?;
-    let mut notes = Notes::new(alloc, session);
-    for event in journal.as_slice() {
-        replay.again(alloc, event, &mut notes)?;
-    }
-    Ok(notes.into_log())
+    replay.log_of(alloc, journal.as_slice(), session)
 }
 
 /// The event itself.

@@ -1,17 +1,20 @@
 //! A core on which a journal is done again.
 ghost use Rattle.std.specs.Prelude.{◌≡◌, [], IfOk, IsTrue, None, replicate};
 ghost use Rattle.event_journal.specs.declared.event.Event.TheVariants.{Entry, Exit};
-ghost use Rattle.isolation.specs.Replaying.{CanGoOn, CanGoOut, HasDone, HasGoneOn};
+ghost use Rattle.isolation.specs.Journals.{IsJournal};
+ghost use Rattle.isolation.specs.Replaying.{CanGoOn, CanGoOut, HasDone, HasGoneOn, HasNoted};
 ghost use Rattle.kernel_model.specs.Application.{booted};
 ghost use Rattle.kernel_state.specs.Booting.{IsWithinLimits};
+ghost use Rattle.kernel_state.specs.Meaning.{booted_of};
 ghost use Rattle.native_tas.specs.Table.{entries};
 ghost use Rattle.ns_ram.specs.Reads.{HoldsRead, HoldsReads};
+ghost use Rattle.own_model.specs.Own.{noted};
 ghost use Rattle.smc_abi.specs.declared.regs.Regs.{Regs as AnyRegs};
 
 use crate::coming::has_come;
 use crate::entering::arrives;
 use crate::going::goes_out;
-use crate::notes::Notes;
+use crate::notes::{Logged, Notes};
 use base::NoMemory;
 use event_journal::Event;
 use kernel_entry::{Visitor, enter};
@@ -91,24 +94,51 @@ impl Replay {
         requires { IsWithinLimits boot }
         ensures { IfOk result (HasDone (booted boot (entries natives.now)) []) }
     {
-        let cpus = boot.cpus;
+        let works = no_works(alloc, boot.cpus)?;
+        let lane = Lane::new(alloc)?;
         let Ok(core) = Core::boot(alloc, boot, natives) else {
             return Err(NoMemory);
         };
-        Ok(Replay {
-            core,
-            works: no_works(alloc, cpus)?,
-            lane: Lane::new(alloc)?,
-        })
+        Ok(Replay { core, works, lane })
+    }
+
+    /// Does the events of a journal again on a core where nothing has happened, and notes them.
+    fn again_from_boot(
+        &mut self,
+        alloc: Global,
+        events: &[Event],
+        notes: &mut Notes,
+    ) -> Result<(), NoMemory>
+        requires journal { IsJournal (booted_of self.old.core) events.now }
+        requires begun { HasNoted (booted_of self.old.core) [] self.old notes.old }
+        ensures noted { IfOk result (λ _. HasNoted (booted_of self.old.core) events.now self.new notes.new) }
+        ensures session { notes.new.session ≡ notes.old.session }
+    {
+        for event in events {
+            self.again(alloc, event, notes)?;
+        }
+        Ok(())
+    }
+
+    /// What happens to a session as the events of a journal are done again on a core where nothing has happened, each
+    /// beside its reply.
+    pub(crate) fn log_of(
+        &mut self,
+        alloc: Global,
+        events: &[Event],
+        session: u32,
+    ) -> Result<Vec<Logged>, NoMemory>
+        requires journal { IsJournal (booted_of self.old.core) events.now }
+        requires begun { HasDone (booted_of self.old.core) [] self.old }
+        ensures { IfOk result (λ log. log.items ≡ (noted (booted_of self.old.core) events.now session).log) }
+    {
+        let mut notes = Notes::new(alloc, session);
+        self.again_from_boot(alloc, events, &mut notes)?;
+        Ok(notes.into_log())
     }
 
     /// Does an event again, and notes it.
-    pub(crate) fn again(
-        &mut self,
-        alloc: Global,
-        event: &Event,
-        notes: &mut Notes,
-    ) -> Result<(), NoMemory>
+    fn again(&mut self, alloc: Global, event: &Event, notes: &mut Notes) -> Result<(), NoMemory>
         requires { CanGoOn self.old event.now }
         ensures noted { HasGoneOn self.old self.new notes.old notes.new event.now result }
         ensures session { notes.new.session ≡ notes.old.session }

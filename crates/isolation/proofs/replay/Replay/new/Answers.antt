@@ -13,7 +13,7 @@ returns g c =
     record {
       booted = c.in-Ok.ensures.booted;
       events = c.in-Ok.ensures.events;
-      works = ∣ whole_first core (replicate cpus []) c.in_ok-no_works.field-0.items c.in-Ok.ensures.events
+      works = ∣ whole_first core (replicate cpus []) c.in_ok-works.works.items c.in-Ok.ensures.events
           (length-replicate cpus [] ∙ sym (ap (λ (b : Booted). b.cpus) c.in-Ok.ensures.booted))
-          (c.in_ok-no_works.ensures ∙ ap (λ (n : ℕ). replicate n None) (sym (length-replicate cpus []))) ∣₁;
+          (c.in_ok-works.ensures ∙ ap (λ (n : ℕ). replicate n None) (sym (length-replicate cpus []))) ∣₁;
     }
