@@ -85,8 +85,8 @@ impl Notes {
             → IfOk result (λ _. AreNoted self.new (own.numbered notes slot call came)) }
         ensures session { self.new.session ≡ self.old.session }
     {
-        self.numbering.next_in(slot)?;
-        self.lists(came, None)
+        self.lists(came, None)?;
+        self.numbering.next_in(slot)
     }
 
     /// The session's call of this number comes back.

@@ -10,8 +10,8 @@ use Rattle.isolation.proofs.notes.Notes.comes_in.Goals as goal
 pub returns-clause-noted : goal.returns-clause-noted
 returns-clause-noted c notes call are =
     let stays = c.lists.ensures.stays in
-    IfOk-weaker c.lists.result _ _
-    (λ done listed. in_noted c.args.self.now _ notes are c.args.slot call c.args.came
-    (subst (λ (n : Numbering). AreNumbers n (own.next_in notes.numbering c.args.slot)) (sym (ap (λ (n : Notes). n.numbering) stays))
-    (c.in_ok-next_in.ensures notes.numbering are.numbering)) (ap (λ (n : Notes). n.turned_away) stays) listed)
-    c.lists.ensures.log
+    IfOk-weaker c.next_in.result _ _
+    (λ done numbers. in_noted c.args.self.now _ notes are c.args.slot call c.args.came numbers
+    (ap (λ (n : Notes). n.turned_away) stays) c.in_ok-lists.ensures.log)
+    (c.next_in.ensures notes.numbering
+    (subst (λ (n : Numbering). AreNumbers n notes.numbering) (sym (ap (λ (n : Notes). n.numbering) stays)) are.numbering))
