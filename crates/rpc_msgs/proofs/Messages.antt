@@ -6,7 +6,7 @@ use Rattle.rpc_msgs.specs.declared.rpc.Rpc.{Rpc}
 use Rattle.rpc_msgs.specs.declared.rpc.Rpc.TheVariants.{Time, Sleep, Wake, Suspend, FsOpen, FsCreate, FsClose, FsRead, FsWrite, FsRemove}
 use Rattle.rpc_msgs.specs.Request.{IsWithinMessage, payload_writes, request_arg, request_writes}
 
-length-spelling : (buffer cookie : ℕ) (rpc : Rpc) → length (spelling (request_arg buffer cookie rpc)) ≤ 128
+pub length-spelling : (buffer cookie : ℕ) (rpc : Rpc) → length (spelling (request_arg buffer cookie rpc)) ≤ 128
 length-spelling buffer cookie Time = omega arith
 length-spelling buffer cookie (Sleep key) = omega arith
 length-spelling buffer cookie (Wake key) = omega arith
