@@ -21,7 +21,7 @@ const MOST_CPUS: usize = 8;
 pub(crate) type Logged = (OwnEvent, Option<OwnReply>);
 
 /// What a call of the session comes back with.
-#[derive(Debug, Drop)]
+#[derive(Drop)]
 pub(crate) struct Back {
     /// The steps that it had done, where it sees only now that it was cancelled.
     pub(crate) seen: Option<u128>,
@@ -30,7 +30,7 @@ pub(crate) struct Back {
 }
 
 /// What is noted of a session.
-#[derive(Debug, Drop)]
+#[derive(Drop)]
 pub(crate) struct Notes {
     pub(crate) session: u32,
     numbering: Numbering,

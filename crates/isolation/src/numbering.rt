@@ -10,7 +10,7 @@ use base::NoMemory;
 const MOST_SLOTS: usize = 16;
 
 /// The numbers of a session's calls, by the slots that they are in.
-#[derive(Debug, Drop)]
+#[derive(Drop)]
 pub(crate) struct Numbering {
     /// How many have come in: the number of the next one.
     pub(crate) entered: u32,
