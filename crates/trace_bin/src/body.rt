@@ -10,6 +10,9 @@ use byteorder::{ByteOrder, LittleEndian};
 use trace_text::Reg;
 use uuid::Uuid;
 
+/// Where the eight registers of an entry stand in its body.
+const REGISTER_PLACES: [usize; 8] = [5, 10, 15, 20, 25, 30, 35, 40];
+
 /// The number of two bytes at a place.
 pub fn short_at(body: &[u8], place: usize) -> u16
     requires { place + 2 ≤ length body.now }
@@ -109,14 +112,9 @@ pub fn registers(body: &[u8]) -> Option<[Reg; 8]>
     requires { 45 ≤ length body.now }
     ensures { Reads result (list_all (is_register body.now) register_places) (map (register body.now) register_places) }
 {
-    Some([
-        register(body, 5)?,
-        register(body, 10)?,
-        register(body, 15)?,
-        register(body, 20)?,
-        register(body, 25)?,
-        register(body, 30)?,
-        register(body, 35)?,
-        register(body, 40)?,
-    ])
+    let mut regs = [Reg::Num(0); 8];
+    for (number, place) in REGISTER_PLACES.iter().enumerate() {
+        regs[number] = register(body, *place)?;
+    }
+    Some(regs)
 }

@@ -2,7 +2,7 @@ ghost use Rattle.std.specs.Prelude.{◌≡◌};
 ghost use Rattle.trace_bin.specs.Record.{fixed_len, has_bytes, kind_tagged};
 
 /// What a record tells, by its tag.
-#[derive(Clone, Copy, Debug, PartialEq, Eq)]
+#[derive(Clone, Copy)]
 pub enum RecordKind {
     Boot,
     Ta,

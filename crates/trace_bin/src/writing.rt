@@ -1,6 +1,6 @@
 //! From a trace to bytes.
 
-ghost use Rattle.std.specs.Prelude.{◌≡◌, ℕ, ◌<◌, ◌^◌, ◌++◌, [], length, All, IfOk, OnOk, IsSome};
+ghost use Rattle.std.specs.Prelude.{◌≡◌, ℕ, ◌<◌, ◌^◌, ◌++◌, [], ◌∷◌, length, All, IfOk, OnOk, IsSome};
 ghost use Rattle.std.specs.List.{flat_map};
 ghost use Rattle.byteorder.specs.Endian.{little_bytes};
 ghost use Rattle.ta_isa.specs.Spelling.{IsValid};
@@ -67,15 +67,24 @@ fn put_register(out: &mut Vec<u8>, reg: Reg) -> Result<(), NoMemory>
     }
 }
 
-fn put_call(out: &mut Vec<u8>, cpu: u8, steps: u32, regs: &[Reg]) -> Result<(), NoMemory>
-    ensures { OnOk result (out.new.items ≡ out.old.items ++ call_bytes cpu steps regs.now) }
+/// A tag, and an entry behind it.
+fn put_call(out: &mut Vec<u8>, tag: u8, cpu: u8, steps: u32, regs: &[Reg]) -> Result<(), NoMemory>
+    ensures { OnOk result (out.new.items ≡ out.old.items ++ tag ∷ call_bytes cpu steps regs.now) }
 {
-    out.push(cpu)?;
+    out.extend_from_slice(&[tag, cpu])?;
     put_word(out, steps)?;
     for reg in regs {
         put_register(out, *reg)?;
     }
     Ok(())
+}
+
+/// A tag, and a processor and an address behind it.
+fn put_place(out: &mut Vec<u8>, tag: u8, cpu: u8, addr: u64) -> Result<(), NoMemory>
+    ensures { OnOk result (out.new.items ≡ out.old.items ++ tag ∷ cpu ∷ little_bytes 8 addr) }
+{
+    out.extend_from_slice(&[tag, cpu])?;
+    put_long(out, addr)
 }
 
 fn put_boot(out: &mut Vec<u8>, boot: &Boot) -> Result<(), NoMemory>
@@ -112,28 +121,19 @@ fn put_item(out: &mut Vec<u8>, item: &Item) -> Result<(), NoMemory>
     ensures { OnOk result (out.new.items ≡ out.old.items ++ item_record item.now) }
 {
     match item {
-        Item::Smc { cpu, steps, regs } => {
-            out.push(0x10)?;
-            put_call(out, *cpu, *steps, regs)
-        }
-        Item::Enter { cpu, steps, regs } => {
-            out.push(0x11)?;
-            put_call(out, *cpu, *steps, regs)
-        }
+        Item::Smc { cpu, steps, regs } => put_call(out, 0x10, *cpu, *steps, regs),
+        Item::Enter { cpu, steps, regs } => put_call(out, 0x11, *cpu, *steps, regs),
         Item::Leave { cpu } => {
             out.extend_from_slice(&[0x12, *cpu])?;
             Ok(())
         }
         Item::Write { cpu, addr, bytes } => {
-            out.extend_from_slice(&[0x13, *cpu])?;
-            put_long(out, *addr)?;
+            put_place(out, 0x13, *cpu, *addr)?;
             put_counted(out, bytes.as_slice())
         }
         Item::Show { cpu, addr, len } => {
-            out.extend_from_slice(&[0x14, *cpu])?;
-            put_long(out, *addr)?;
-            put_word(out, *len)?;
-            Ok(())
+            put_place(out, 0x14, *cpu, *addr)?;
+            put_word(out, *len)
         }
     }
 }

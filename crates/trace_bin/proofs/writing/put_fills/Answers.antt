@@ -1,0 +1,7 @@
+use Rattle.trace_bin.specs.Spelling.{fill_record}
+use Rattle.trace_bin.proofs.Puts.{put_more}
+use Rattle.trace_bin.proofs.writing.put_fills.Goals as goal
+
+pub loop-fill-preserved : goal.loop-fill-preserved
+loop-fill-preserved c =
+    put_more fill_record c.args.fills.now c.loop-fill.fill-index c.fill-item.result _ _ _ _ c.loop-fill-test.true c.fill-item.is c.loop-fill.invariant c.in_ok-put_fill.ensures

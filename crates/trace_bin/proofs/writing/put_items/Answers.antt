@@ -1,0 +1,7 @@
+use Rattle.trace_bin.specs.Spelling.{item_record}
+use Rattle.trace_bin.proofs.Puts.{put_more}
+use Rattle.trace_bin.proofs.writing.put_items.Goals as goal
+
+pub loop-item-preserved : goal.loop-item-preserved
+loop-item-preserved c =
+    put_more item_record c.args.items.now c.loop-item.item-index c.item-item.result _ _ _ _ c.loop-item-test.true c.item-item.is c.loop-item.invariant c.in_ok-put_item.ensures
