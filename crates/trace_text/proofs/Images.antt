@@ -1,5 +1,5 @@
--- Bytes that are no image.
-use Rattle.std.proofs.Common.{◌≡◌, ℕ, false, List, [], ◌∷◌, Option, Some, None, is_none, Result, Err, refl, ⊎_elim}
+-- Bytes that are an image, and bytes that are none.
+use Rattle.std.proofs.Common.{◌≡◌, ℕ, true, false, List, [], ◌∷◌, Option, Some, None, is_none, Result, Ok, Err, refl, ⊎_elim}
 use Rattle.ta_isa.specs.declared.image.Image as image
 use Rattle.ta_isa.specs.declared.image_fault.ImageFault.{ImageFault}
 use Rattle.ta_isa.specs.declared.image_fault.ImageFault.TheVariants.{BadHeader, TooLarge, BadEntry, BadOp, Memory}
@@ -29,3 +29,14 @@ image_fault bytes TooLarge exact = broken bytes (not_image bytes TooLarge exact 
 image_fault bytes (BadEntry n) exact = broken bytes (not_image bytes (BadEntry n) exact (λ h. absurd cc))
 image_fault bytes (BadOp n) exact = broken bytes (not_image bytes (BadOp n) exact (λ h. absurd cc))
 image_fault bytes Memory exact = tt
+
+some_image : (o : Option ImageFault) (wanted found : image.Image) → Ok found ≡ answer o wanted → (is_none o ≡ true) × (found ≡ wanted)
+some_image None wanted found h = (refl, cc)
+some_image (Some fault) wanted found h = absurd cc
+
+an_image : (bytes : List ℕ) (found : image.Image) → IsUnlessMemory (Ok found) (decoded bytes) → (is_image bytes ≡ true) × (found ≡ image_of bytes)
+unfolding is_image
+an_image bytes found exact = ⊎_elim (λ h. some_image (fault_of bytes) (image_of bytes) found h) (λ h. absurd cc) exact
+
+pub image_read : (bytes : List ℕ) (found : image.Image) → IsUnlessMemory (Ok found) (decoded bytes) → Judged {X = image.Image} (λ i. i) (Ok found) ((Image, is_image bytes) ∷ []) (image_of bytes)
+image_read bytes found exact = let is = an_image bytes found exact in (rw is.0 refl, is.1)

@@ -93,7 +93,6 @@ pub fn is_known(natives: &[Uuid], apps: &[App], id: Uuid) -> bool
 }
 
 /// The image of these bytes.
-#[tactic(auto, unfolding(crate::specs::Limits::is_image))]
 pub fn image_of(alloc: Global, image: &[u8]) -> Result<Image, LineFault>
     ensures { Judged (λ i. i) result ((BadKind.Image, is_image image.now) ∷ []) (image_of image.now) }
 {

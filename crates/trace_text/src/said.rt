@@ -21,7 +21,7 @@ use text_lines::Words;
 use uuid::Uuid;
 
 /// What a line `smc` or `enter` says.
-#[derive(Debug, Drop)]
+#[derive(Drop)]
 pub struct Call {
     pub cpu: u8,
     pub steps: u32,
@@ -97,16 +97,11 @@ fn registers_of(mut words: Words) -> Option<[Reg; 8]>
     requires { length words ≡ 8 }
     ensures { Reads result (list_all is_register words.entry) (map register words.entry) }
 {
-    Some([
-        any_register(words.word())?,
-        any_register(words.word())?,
-        any_register(words.word())?,
-        any_register(words.word())?,
-        any_register(words.word())?,
-        any_register(words.word())?,
-        any_register(words.word())?,
-        any_register(words.word())?,
-    ])
+    let mut regs = [Reg::Num(0); 8];
+    for reg in regs.iter_mut() {
+        *reg = any_register(words.word())?;
+    }
+    Some(regs)
 }
 
 /// Reads the words of a line `smc` or `enter`, but for who is inside.
