@@ -1,11 +1,12 @@
 -- A canonical text, written line by line, and the marks of the instructions that have a label.
-use Rattle.std.proofs.Common.{◌≡◌, ◌≢◌, ℕ, ◌+◌, ◌<◌, Bool, true, false, cond, ◌&&◌, ◌||◌, eqb, Option, None, Some, List, [], ◌∷◌, ◌++◌, length, take, get_or, refl, sym, ap, ◌∙◌, ◌⊎◌, inl, inr, arith, append_assoc, eq-eqb}
+use Rattle.std.proofs.Common.{◌≡◌, ◌≢◌, ℕ, suc, ◌+◌, ◌<◌, ◌≤◌, Bool, true, false, cond, ◌&&◌, ◌||◌, eqb, Option, None, Some, List, [], ◌∷◌, ◌++◌, length, take, drop, get_or, add-one, refl, sym, ap, ◌∙◌, ◌⊎◌, inl, inr, arith, append_assoc, eq-eqb}
 use Rattle.std.proofs.Math.ListN.{set}
+use Rattle.std.proofs.Math.Seq.{drop-cons}
 use Rattle.std.specs.Prelude.{codes, decimal}
 use Rattle.std.specs.List.{list_any}
 use Rattle.std.specs.Option.{option_map_or}
 use Rattle.std.proofs.lemmas.Bool.{ne_eqb, eqb-true, ltb-true, and_parts}
-use Rattle.std.proofs.lemmas.List.{append-nil, get_or-set_same, get_or-set_other, take_more}
+use Rattle.std.proofs.lemmas.List.{append-nil, drop_all, get_or-set_same, get_or-set_other, take_more}
 use Rattle.std.proofs.lemmas.List.Folds.{list_any-append}
 use Rattle.ta_isa.specs.declared.image.Image.{Image}
 use Rattle.ta_isa.specs.declared.image.Instr.{Instr}
@@ -156,7 +157,36 @@ header_text image =
     (two_lines words5 lines6 (line_with (codes ".entry close L") (get_or image.entries 3 0)) _ (ap (λ (t : List ℕ). codes ".entry close L" ++ (t ++ 10 ∷ [])) (append-nil (decimal (get_or image.entries 3 0))))
     (two_lines words6 [] (line_with (codes ".entry destroy L") (get_or image.entries 4 0)) [] (ap (λ (t : List ℕ). codes ".entry destroy L" ++ (t ++ 10 ∷ [])) (append-nil (decimal (get_or image.entries 4 0)))) refl))))))
 
-pub seven : (old a b c d e f g la lb lc ld le lf lg : List ℕ) → a ≡ old ++ la → b ≡ a ++ lb → c ≡ b ++ lc → d ≡ c ++ ld → e ≡ d ++ le → f ≡ e ++ lf → g ≡ f ++ lg → g ≡ old ++ (la ++ (lb ++ (lc ++ (ld ++ (le ++ (lf ++ (lg ++ [])))))))
-seven old a b c d e f g la lb lc ld le lf lg pa pb pc pd pe pf pg =
-    pg ∙ ap (λ (t : List ℕ). t ++ lg) (pf ∙ ap (λ (t : List ℕ). t ++ lf) (pe ∙ ap (λ (t : List ℕ). t ++ le) (pd ∙ ap (λ (t : List ℕ). t ++ ld) (pc ∙ ap (λ (t : List ℕ). t ++ lc) (pb ∙ ap (λ (t : List ℕ). t ++ lb) pa)))))
-    ∙ simp (append_assoc, append-nil)
+-- the lines of entry points from this one on, each of the bytes of an element and the number of its entry point
+abbrev pub entry_lines : {B : Type 0} → (B → List ℕ) → List B → ℕ → List ℕ → List ℕ
+entry_lines bytes [] number entries = []
+entry_lines bytes (before ∷ rest) number entries = line_with (bytes before) (get_or entries number 0) ++ entry_lines bytes rest (number + 1) entries
+
+pub entry_line_more : {B : Type 0} (bytes : B → List ℕ) (befores : List B) (number : ℕ) (before : B) (entries out next total : List ℕ)
+    → number < length befores → next ≡ out ++ line_with (bytes (get_or befores number before)) (get_or entries number 0)
+    → out ++ entry_lines bytes (drop number befores) number entries ≡ total → next ++ entry_lines bytes (drop (number + 1) befores) (number + 1) entries ≡ total
+entry_line_more {B} bytes befores number before entries out next total below written so_far =
+    let line = line_with (bytes (get_or befores number before)) (get_or entries number 0) in
+    let rest = entry_lines bytes (drop (suc number) befores) (number + 1) entries in
+    ap (λ (k : ℕ). next ++ entry_lines bytes (drop k befores) (number + 1) entries) (add-one number)
+    ∙ ap (λ (o : List ℕ). o ++ rest) written
+    ∙ append_assoc out line rest
+    ∙ ap (λ (left : List B). out ++ entry_lines bytes left number entries) (sym (drop-cons befores number before below))
+    ∙ so_far
+
+-- two lines, and those of the entry points
+pub header_is : {B : Type 0} (bytes : B → List ℕ) (befores : List B) (old first second out : List ℕ) (image : Image) (number : ℕ)
+    → text_of (header_lines image) ≡ line_with (codes ".flags ") image.flags ++ (line_with (codes ".pages ") image.pages ++ entry_lines bytes befores 0 image.entries)
+    → first ≡ old ++ line_with (codes ".flags ") image.flags → second ≡ first ++ line_with (codes ".pages ") image.pages → length befores ≤ number
+    → out ++ entry_lines bytes (drop number befores) number image.entries ≡ second ++ entry_lines bytes befores 0 image.entries → out ≡ old ++ text_of (header_lines image)
+header_is {B} bytes befores old first second out image number header is_first is_second all so_far =
+    let flags = line_with (codes ".flags ") image.flags in
+    let pages = line_with (codes ".pages ") image.pages in
+    let entries = entry_lines bytes befores 0 image.entries in
+    sym (append-nil out)
+    ∙ ap (λ (left : List B). out ++ entry_lines bytes left number image.entries) (sym (drop_all number befores all))
+    ∙ so_far
+    ∙ ap (λ (o : List ℕ). o ++ entries) (is_second ∙ ap (λ (o : List ℕ). o ++ pages) is_first)
+    ∙ append_assoc (old ++ flags) pages entries
+    ∙ append_assoc old flags (pages ++ entries)
+    ∙ ap (λ (t : List ℕ). old ++ t) (sym header)

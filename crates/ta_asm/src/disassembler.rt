@@ -118,17 +118,24 @@ fn put_line(out: &mut Vec<u8>, before: &[u8], number: u32) -> Result<(), NoMemor
     Ok(())
 }
 
+/// What stands in front of each entry point of the header, in their order.
+const ENTRY_LINES: [&[u8]; 5] = [
+    b".entry create L",
+    b".entry open L",
+    b".entry invoke L",
+    b".entry close L",
+    b".entry destroy L",
+];
+
 /// The lines of the header.
 fn put_header(out: &mut Vec<u8>, image: &Image) -> Result<(), NoMemory>
     ensures { OnOk result (out.new.items ≡ out.old.items ++ text_of (header_lines image.now)) }
 {
     put_line(out, b".flags ", image.flags)?;
     put_line(out, b".pages ", image.pages)?;
-    put_line(out, b".entry create L", image.entries[0])?;
-    put_line(out, b".entry open L", image.entries[1])?;
-    put_line(out, b".entry invoke L", image.entries[2])?;
-    put_line(out, b".entry close L", image.entries[3])?;
-    put_line(out, b".entry destroy L", image.entries[4])?;
+    for (number, before) in ENTRY_LINES.iter().enumerate() {
+        put_line(out, before, image.entries[number])?;
+    }
     Ok(())
 }
 
