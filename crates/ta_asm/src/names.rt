@@ -7,7 +7,7 @@ ghost use Rattle.ta_asm.specs.Lines.{entry_at, found_in, operation_at};
 use crate::word::is;
 
 /// How each operation is written, and its number.
-const OPERATIONS: [(&[u8], u8); 24] = [
+pub const OPERATIONS: [(&[u8], u8); 24] = [
     (b"const", 0x01),
     (b"move", 0x02),
     (b"add", 0x03),
