@@ -10,6 +10,7 @@ use Rattle.trace_bin.specs.Rules.{added, after_record, behind_record, kind_of, r
 abbrev pub piece : List ℕ → ℕ → ℕ → List ℕ
 piece body fixed len = take (len - fixed) (drop fixed body)
 
+-- the bytes begin with a record of this kind: its body, and where its bytes begin and end in it
 pub record Front (bytes body : List ℕ) (kind : RecordKind) (fixed len : ℕ) : Type 0 where
   pub body_is : body ≡ drop 1 bytes
   pub kind_is : Some kind ≡ kind_of bytes
