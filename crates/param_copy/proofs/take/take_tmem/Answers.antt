@@ -4,6 +4,7 @@ use Rattle.ns_ram.specs.Reader.{over_lane}
 use Rattle.param_copy.specs.Copying.{memory}
 use Rattle.param_copy.specs.Memory.{tmem_pieces}
 use Rattle.param_copy.specs.Outcome.{UnlessMemory}
+use Rattle.param_copy.proofs.Appended.{AppendsReads-trans}
 use Rattle.param_copy.proofs.Attempts.{UnlessMemory-map, memory-taken, memory-refused, refused-is}
 use Rattle.param_copy.proofs.take.take_tmem.Goals as goal
 
@@ -21,3 +22,11 @@ pub returns-clause-ok : goal.returns-clause-ok
 returns-clause-ok c =
     rw c.memref.ensures.value
     (memory-taken c.args.number c.args.way None (tmem_pieces c.args.number c.args.param.now) c.args.lane.now c.args.reads.now c.tmem_pieces.new.reads c.take_bytes_of.new.reads c.in_ok-pieces.pieces.items c.in_ok-bytes.bytes.items c.in_ok-pieces.ensures.ok (rw c.as_slice.ensures.value at c.in_ok-bytes.ensures.ok))
+
+pub returns-in_err-bytes-clause-appended : goal.returns-in_err-bytes-clause-appended
+returns-in_err-bytes-clause-appended c =
+    AppendsReads-trans c.args.lane.now c.args.reads.now c.tmem_pieces.new.reads c.take_bytes_of.new.reads c.in_ok-pieces.ensures.appended c.in_err-bytes.ensures.appended
+
+pub returns-clause-appended : goal.returns-clause-appended
+returns-clause-appended c =
+    AppendsReads-trans c.args.lane.now c.args.reads.now c.tmem_pieces.new.reads c.take_bytes_of.new.reads c.in_ok-pieces.ensures.appended c.in_ok-bytes.ensures.appended
