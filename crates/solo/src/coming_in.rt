@@ -1,6 +1,6 @@
 //! Calls that come in.
 ghost use Rattle.std.specs.Prelude.{◌≡◌, ◌≢◌, ◌<◌, [], IfOk, None, OnErr, OnOk, Some, false, vec_capacity, vec_len};
-ghost use Rattle.std.specs.Option.{option_and_then};
+ghost use Rattle.std.specs.Option.{option_and_then, option_copied};
 ghost use Rattle.base.specs.NumberMap.{insert};
 ghost use Rattle.begin_call.specs.Begins.{CanBegin, IsValidApp};
 ghost use Rattle.job_model.specs.Job.{of_tee};
@@ -14,7 +14,7 @@ ghost use Rattle.solo.specs.Calls.{IsCall};
 ghost use Rattle.solo.specs.Standing.{StandsFor, app_in};
 
 use crate::beginning::Ready;
-use crate::copies::copied_params;
+use crate::copies::copied_if_some;
 use crate::kept_session::KeptSession;
 use crate::made::made;
 use crate::solo_session::SoloSession;
@@ -48,16 +48,18 @@ fn entry_of(alloc: Global, kind: CallKind, params: Option<CopiedParams>) -> Call
     }
 }
 
-/// A call that comes in to the application of this UUID, as it waits with these parameters.
+/// A call that comes in to the application of this UUID, as it waits with a copy of these parameters.
 fn fresh_call(
     alloc: Global,
     uuid: Uuid,
     kind: CallKind,
-    params: Option<CopiedParams>,
+    params: Option<&CopiedParams>,
 ) -> Result<Box<Cont<Plain>>, NoMemory>
-    ensures call { IfOk result (λ call. IsCall call.value (fresh_call kind (Waits (kept_params params)))) }
+    ensures call { IfOk result (λ call. IsCall call.value
+        (fresh_call kind (Waits (kept_params (option_copied params.entry))))) }
     ensures fresh { IfOk result (λ call. CanBegin call.value) }
 {
+    let params = copied_if_some(alloc, params)?;
     let mut cont = Cont::waiting(entry_of(alloc, kind, params));
     cont.app = Some(ContApp::Dead { uuid });
     Ok(Box::new(alloc, cont)?)
@@ -100,16 +102,16 @@ impl SoloSession {
         &mut self,
         alloc: Global,
         kind: CallKind,
-        params: Option<CopiedParams>,
+        params: Option<&CopiedParams>,
     ) -> Result<(), NoMemory>
         ensures ok { (solo : AnySolo) → StandsFor self.old solo
-            → OnOk result (StandsFor self.new (waits solo kind (kept_params params))) }
+            → OnOk result (StandsFor self.new (waits solo kind (kept_params (option_copied params.entry)))) }
         ensures err { (solo : AnySolo) → StandsFor self.old solo → OnErr result (StandsFor self.new solo) }
         ensures app { self.new.app ≡ self.old.app }
     {
         let number = self.next_number()?;
-        let call = fresh_call(alloc, self.app.uuid(), kind, params)?;
         self.waiting.reserve(1)?;
+        let call = fresh_call(alloc, self.app.uuid(), kind, params)?;
         self.counted(call)?;
         self.waiting.push_reserved(number);
         Ok(())
@@ -139,13 +141,14 @@ impl SoloSession {
         &mut self,
         alloc: Global,
         kind: CallKind,
-        params: Option<CopiedParams>,
+        params: Option<&CopiedParams>,
     ) -> Result<(), NoMemory>
         requires { IsValidApp (app_in self.old) }
         ensures ok { (solo : AnySolo) (at : AnySession × AnyInstance) → StandsFor self.old solo → home solo ≡ Some at
             → kind ≢ CallKind.Settled
             → OnOk result (StandsFor self.new (begins (app_in self.old) (counted solo) solo.entered
-            (fresh_call kind (Waits (kept_params params))) (start_with at (kept_params params)))) }
+            (fresh_call kind (Waits (kept_params (option_copied params.entry))))
+            (start_with at (kept_params (option_copied params.entry))))) }
         ensures err { (solo : AnySolo) → StandsFor self.old solo → OnErr result (StandsFor self.new solo) }
         ensures app { self.new.app ≡ self.old.app }
     {
@@ -162,12 +165,12 @@ impl SoloSession {
         &mut self,
         alloc: Global,
         kind: CallKind,
-        params: Option<CopiedParams>,
+        params: Option<&CopiedParams>,
     ) -> Result<(), NoMemory>
         requires { IsValidApp (app_in self.old) }
         ensures ok { (solo : AnySolo) (at : AnySession × AnyInstance) → StandsFor self.old solo → home solo ≡ Some at
             → kind ≢ CallKind.Settled → OnOk result (StandsFor self.new
-            (works_or_waits (app_in self.old) solo kind (start_with at (kept_params params)))) }
+            (works_or_waits (app_in self.old) solo kind (start_with at (kept_params (option_copied params.entry))))) }
         ensures err { (solo : AnySolo) → StandsFor self.old solo → OnErr result (StandsFor self.new solo) }
         ensures app { self.new.app ≡ self.old.app }
     {
@@ -194,10 +197,9 @@ impl SoloSession {
     {
         let number = self.next_number()?;
         self.calls.reserve(1)?;
-        let params = copied_params(alloc, params)?;
         let call = fresh_call(alloc, self.app.uuid(), CallKind::Open, Some(params))?;
-        let ready = self.ready(alloc)?;
         let instance = made(alloc, &self.app)?;
+        let ready = self.ready(alloc)?;
         self.session = Some(KeptSession {
             login,
             context: 0,
@@ -231,7 +233,6 @@ impl SoloSession {
         }
         match input {
             OwnInput::Copied(params) => {
-                let params = copied_params(alloc, params)?;
                 self.works_or_waits(alloc, CallKind::Invoke { func }, Some(params))
             }
             OwnInput::Faulty | OwnInput::Unread => self.settles(alloc, TEE_ERROR_BAD_PARAMETERS),

@@ -1,5 +1,6 @@
 //! Copies of what an event brings, and of the image that a session's application runs.
 ghost use Rattle.std.specs.Prelude.{◌≡◌, IfOk};
+ghost use Rattle.std.specs.Option.{option_copied};
 
 use base::{NoMemory, Sequence};
 use rpc_msgs::{FileName, Payload, Rpc, RpcReply};
@@ -27,7 +28,7 @@ fn copied_param(alloc: Global, param: &GpParam) -> Result<GpParam, NoMemory>
 }
 
 /// The four parameters of a call.
-pub(crate) fn copied_params(alloc: Global, params: &CopiedParams) -> Result<CopiedParams, NoMemory>
+fn copied_params(alloc: Global, params: &CopiedParams) -> Result<CopiedParams, NoMemory>
     ensures { IfOk result (λ copy. copy ≡ params.now) }
 {
     Ok(CopiedParams {
@@ -36,6 +37,19 @@ pub(crate) fn copied_params(alloc: Global, params: &CopiedParams) -> Result<Copi
         p2: copied_param(alloc, &params.p2)?,
         p3: copied_param(alloc, &params.p3)?,
     })
+}
+
+/// Those of a call that has any.
+pub(crate) fn copied_if_some(
+    alloc: Global,
+    params: Option<&CopiedParams>,
+) -> Result<Option<CopiedParams>, NoMemory>
+    ensures { IfOk result (λ copy. copy ≡ option_copied params.entry) }
+{
+    match params {
+        Some(params) => Ok(Some(copied_params(alloc, params)?)),
+        None => Ok(None),
+    }
 }
 
 /// A reply. Takes no memory.

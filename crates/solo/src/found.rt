@@ -8,7 +8,7 @@ ghost use Rattle.solo.specs.Standing.{without_calls};
 use crate::solo_session::SoloSession;
 
 /// What a call finds at the instance of its session.
-#[derive(Clone, Copy, Debug)]
+#[derive(Clone, Copy)]
 pub(crate) struct Found {
     pub dead: bool,
     pub held: bool,

@@ -1,4 +1,5 @@
 use Rattle.std.proofs.Common.{refl, subst}
+use Rattle.std.specs.Option.{option_copied}
 use Rattle.kernel_model.specs.Kernel.{Waits}
 use Rattle.own_model.specs.Solo.{fresh_call, start_with}
 use Rattle.rpc_cont.specs.Conts.{kept_params}
@@ -10,7 +11,7 @@ use Rattle.solo.proofs.solo_session.SoloSession.begins_new.Goals as goal
 pub returns-clause-ok : goal.returns-clause-ok
 returns-clause-ok c solo at stands home works =
     let s = c.args.self.now in
-    let params = kept_params c.args.params in
+    let params = kept_params (option_copied c.args.params) in
     let call = fresh_call c.args.kind (Waits params) in
     let next = next_is s solo c.in_ok-number.number c.in_ok-number.ensures stands in
     subst (StandsFor c.begins_last.new.self) (begun_at_once (app_in s) solo call (start_with at params) c.in_ok-number.number next)

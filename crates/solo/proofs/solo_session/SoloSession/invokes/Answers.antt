@@ -1,10 +1,8 @@
-use Rattle.std.proofs.Common.{◌∙◌, sym, ap, subst}
-use Rattle.own_model.specs.declared.own_event.OwnInput.TheVariants as came
+use Rattle.std.proofs.Common.{subst}
 use Rattle.solo.proofs.Adding.{on_ok}
 use Rattle.solo.proofs.Coming.{invoked_alive, invoked_copied, invoked_dead, invoked_faulty, not_copied}
 use Rattle.solo.proofs.Onward.{some_home}
 use Rattle.solo.specs.Standing.{StandsFor, app_in}
-use Rattle.ta_params.specs.declared.copied_params.CopiedParams.{CopiedParams}
 use Rattle.solo.proofs.solo_session.SoloSession.invokes.Goals as goal
 
 pub returns-then-found-clause-ok : goal.returns-then-found-clause-ok
@@ -16,16 +14,14 @@ returns-then-found-clause-ok c solo next stands e =
     (invoked_dead (app_in s) solo next c.args.func c.args.input.now c.in-Some.found home c.if-found.true e) then_stands)
     (c.settles-then-found.ensures.ok solo stands)
 
-pub returns-in_ok-params-in-Copied-clause-ok : goal.returns-in_ok-params-in-Copied-clause-ok
-returns-in_ok-params-in-Copied-clause-ok c solo next stands e =
+pub returns-in-Copied-clause-ok : goal.returns-in-Copied-clause-ok
+returns-in-Copied-clause-ok c solo next stands e =
     let s = c.args.self.now in
-    let copy = c.in_ok-params-in-Copied.params in
     let home = some_home s solo c.in-Some.found c.in-Some.ensures stands.beside in
     let alive = invoked_alive (app_in s) solo next c.args.func c.args.input.now c.in-Some.found home c.if-found.false e in
     on_ok c.works_or_waits.result _ _
     (λ then_stands. subst (StandsFor c.works_or_waits.new.self)
-    (invoked_copied (app_in s) solo next c.args.func c.args.input.now copy home.at
-    (c.in-Copied.is ∙ ap (λ (ps : CopiedParams). came.Copied ps) (sym c.in_ok-params-in-Copied.ensures)) alive) then_stands)
+    (invoked_copied (app_in s) solo next c.args.func c.args.input.now c.in-Copied.params home.at c.in-Copied.is alive) then_stands)
     (c.works_or_waits.ensures.ok solo home.at stands home.home (λ e. absurd cc))
 
 pub returns-in-Faulty-clause-ok : goal.returns-in-Faulty-clause-ok

@@ -1,4 +1,5 @@
 use Rattle.std.proofs.Common.{ℕ, [], ◌∷◌, ◌++◌, refl, ap, subst}
+use Rattle.std.specs.Option.{option_copied}
 use Rattle.base.specs.NumberMap.{insert}
 use Rattle.kernel_model.specs.Kernel.{Waits}
 use Rattle.own_model.specs.Solo.{Solo, counted, fresh_call}
@@ -10,7 +11,7 @@ use Rattle.solo.proofs.solo_session.SoloSession.waits.Goals as goal
 pub returns-clause-ok : goal.returns-clause-ok
 returns-clause-ok c solo stands =
     let s = c.args.self.now in
-    let call = fresh_call c.args.kind (Waits (kept_params c.args.params)) in
+    let call = fresh_call c.args.kind (Waits (kept_params (option_copied c.args.params))) in
     let with_it : Solo = record (counted solo) { calls = insert solo.calls solo.entered call } in
     let number = c.in_ok-number.number in
     let next = next_is s solo number c.in_ok-number.ensures stands in
