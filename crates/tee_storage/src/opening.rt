@@ -38,7 +38,7 @@ fn new_object<M: Span>(uuid: Uuid, len: u32, span: &M, handles: &Handles) -> Res
 }
 
 /// What a call asks of an object's file.
-#[derive(Clone, Copy, Debug, PartialEq, Eq)]
+#[derive(Clone, Copy)]
 pub enum FileCall {
     /// To be created.
     Create,

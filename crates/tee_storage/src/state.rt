@@ -23,7 +23,7 @@ use uuid::Uuid;
 
 /// A call on an object that has asked the normal world for something, as plain data: what it goes on with once a
 /// reply is there. This project's own.
-#[derive(Debug, Drop)]
+#[derive(Drop)]
 pub struct ObjectState {
     pub(crate) waits: Waits,
 }

@@ -7,7 +7,7 @@ use rpc_msgs::{Payload, Rpc};
 use ta_params::codes::*;
 
 /// What a call comes to next, and what it then waits for.
-#[derive(Debug, Drop)]
+#[derive(Drop)]
 pub struct Turn {
     pub(crate) waits: Waits,
     pub(crate) step: StorageStep,

@@ -7,14 +7,14 @@ use crate::object_file::HEADER_BYTES;
 use rpc_msgs::{FileName, MAX_PAYLOAD};
 
 /// An object that is being created or opened, and the number that its handle is to have.
-#[derive(Debug, Drop)]
+#[derive(Drop)]
 pub struct NewObject {
     pub(crate) name: FileName,
     pub(crate) number: u32,
 }
 
 /// Bytes that are being read or written.
-#[derive(Debug, Drop)]
+#[derive(Drop)]
 pub struct Transfer {
     pub(crate) handle: u32,
     /// The object of the handle, as it was at the call.
@@ -52,7 +52,7 @@ impl Transfer {
 }
 
 /// The request of a call whose reply is awaited, with what the call goes on with.
-#[derive(Debug, Drop)]
+#[derive(Drop)]
 pub enum Waits {
     /// None: the call has ended.
     Nothing,
