@@ -8,7 +8,7 @@ use std::alloc::Global;
 use ta_params::{CopiedParams, GpParam};
 
 /// A parameter that is copied.
-#[derive(Debug, Drop)]
+#[derive(Drop)]
 pub(crate) struct CopiedParam {
     pub param: GpParam,
     pub place: Place,
