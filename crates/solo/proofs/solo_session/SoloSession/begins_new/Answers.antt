@@ -5,8 +5,21 @@ use Rattle.own_model.specs.Solo.{fresh_call, start_with}
 use Rattle.rpc_cont.specs.Conts.{kept_params}
 use Rattle.solo.proofs.Adding.{stands_still}
 use Rattle.solo.proofs.Coming.{begun_at_once, next_is}
+use Rattle.solo.proofs.Stepped.{on_err_always}
 use Rattle.solo.specs.Standing.{StandsFor, app_in}
 use Rattle.solo.proofs.solo_session.SoloSession.begins_new.Goals as goal
+
+pub returns-in_err-reserve-clause-err : goal.returns-in_err-reserve-clause-err
+returns-in_err-reserve-clause-err c solo stands =
+    on_err_always _ _ (stands_still c.args.self.now _ solo refl c.reserve.ensures.items stands)
+
+pub returns-in_err-call-clause-err : goal.returns-in_err-call-clause-err
+returns-in_err-call-clause-err c solo stands =
+    on_err_always _ _ (stands_still c.args.self.now _ solo refl c.reserve.ensures.items stands)
+
+pub returns-in_err-ready-clause-err : goal.returns-in_err-ready-clause-err
+returns-in_err-ready-clause-err c solo stands =
+    on_err_always _ _ (stands_still c.args.self.now _ solo refl c.reserve.ensures.items stands)
 
 pub returns-clause-ok : goal.returns-clause-ok
 returns-clause-ok c solo at stands home works =

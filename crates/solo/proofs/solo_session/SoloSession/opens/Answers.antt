@@ -4,10 +4,27 @@ use Rattle.kernel_model.specs.Kernel.{Instance, Waits}
 use Rattle.own_model.specs.Solo.{OwnSession, fresh_call, made}
 use Rattle.solo.proofs.Adding.{stands_still}
 use Rattle.solo.proofs.Coming.{made_stands, next_is, opened_at_once}
+use Rattle.solo.proofs.Stepped.{on_err_always}
 use Rattle.solo.specs.Standing.{StandsFor, app_in}
 use Rattle.solo.specs.declared.kept_session.KeptSession.{KeptSession}
 use Rattle.solo.specs.declared.solo_session.SoloSession.{SoloSession}
 use Rattle.solo.proofs.solo_session.SoloSession.opens.Goals as goal
+
+pub returns-in_err-reserve-clause-err : goal.returns-in_err-reserve-clause-err
+returns-in_err-reserve-clause-err c solo stands =
+    on_err_always _ _ (stands_still c.args.self.now _ solo refl c.reserve.ensures.items stands)
+
+pub returns-in_err-call-clause-err : goal.returns-in_err-call-clause-err
+returns-in_err-call-clause-err c solo stands =
+    on_err_always _ _ (stands_still c.args.self.now _ solo refl c.reserve.ensures.items stands)
+
+pub returns-in_err-instance-clause-err : goal.returns-in_err-instance-clause-err
+returns-in_err-instance-clause-err c solo stands =
+    on_err_always _ _ (stands_still c.args.self.now _ solo refl c.reserve.ensures.items stands)
+
+pub returns-in_err-ready-clause-err : goal.returns-in_err-ready-clause-err
+returns-in_err-ready-clause-err c solo stands =
+    on_err_always _ _ (stands_still c.args.self.now _ solo refl c.reserve.ensures.items stands)
 
 pub returns-clause-ok : goal.returns-clause-ok
 returns-clause-ok c solo stands first =

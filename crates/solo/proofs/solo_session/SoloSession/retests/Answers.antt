@@ -1,10 +1,10 @@
 use Rattle.std.proofs.Common.{rules, ◌≡◌, ◌∙◌, ℕ, false, not, true, sym, ap}
 use Rattle.std.specs.Prelude.{◌&&◌}
 use Rattle.job_model.specs.declared.call_kind.CallKind.{CallKind}
-use Rattle.kernel_model.specs.Codes.{bad_parameters}
+use Rattle.kernel_model.specs.Codes.{bad_parameters, target_dead}
 use Rattle.kernel_model.specs.Resume.{is_close}
 use Rattle.own_model.specs.Solo.{gives_up}
-use Rattle.solo.proofs.Onward.{comes_same, none_home, some_home, tested_free, tested_held, tested_none, waits_as}
+use Rattle.solo.proofs.Onward.{comes_same, none_home, some_home, tested_dead, tested_free, tested_held, tested_none, waits_as}
 use Rattle.solo.specs.Standing.{app_in}
 use Rattle.solo.proofs.solo_session.SoloSession.retests.Goals as goal
 
@@ -14,6 +14,17 @@ returns-in-None-clause-retests c solo w beside is waits number input works =
     comes_same c.gives_up.new.self c.gives_up.new.cont c.args.number solo _ _
     (tested_none (app_in s) solo w (none_home s solo c.in-None.ensures beside) ∙ ap (λ (n : ℕ). gives_up solo n w.call bad_parameters) number)
     (c.gives_up.ensures.gives_up solo w.call beside is)
+
+pub returns-then-lost-clause-retests : goal.returns-then-lost-clause-retests
+returns-then-lost-clause-retests c solo w beside is waits number input works =
+    let s = c.args.self.now in
+    let at = c.in-Some.found in
+    let fails : (at.dead && not (is_close w.call.kind)) ≡ true =
+    ap (λ (k : CallKind). at.dead && not (is_close k)) (sym is.kind) ∙ sym c.is_lost-lost.ensures ∙ c.if-lost.true in
+    comes_same c.gives_up-then-lost.new.self c.gives_up-then-lost.new.cont c.args.number solo _ _
+    (tested_dead (app_in s) solo w at (some_home s solo at c.in-Some.ensures beside) fails
+    ∙ ap (λ (n : ℕ). gives_up solo n w.call target_dead) number)
+    (c.gives_up-then-lost.ensures.gives_up solo w.call beside is)
 
 pub returns-then-found-clause-retests : goal.returns-then-found-clause-retests
 returns-then-found-clause-retests c solo w beside is waits number input works =

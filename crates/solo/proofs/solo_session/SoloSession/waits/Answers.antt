@@ -5,8 +5,21 @@ use Rattle.kernel_model.specs.Kernel.{Waits}
 use Rattle.own_model.specs.Solo.{Solo, counted, fresh_call}
 use Rattle.rpc_cont.specs.Conts.{kept_params}
 use Rattle.solo.proofs.Coming.{line_grows, line_same, next_is}
+use Rattle.solo.proofs.Stepped.{on_err_always}
 use Rattle.solo.specs.Standing.{StandsFor}
 use Rattle.solo.proofs.solo_session.SoloSession.waits.Goals as goal
+
+pub returns-in_err-reserve-clause-err : goal.returns-in_err-reserve-clause-err
+returns-in_err-reserve-clause-err c solo stands =
+    on_err_always _ _ (line_same c.args.self.now _ solo refl c.reserve.ensures.items stands)
+
+pub returns-in_err-call-clause-err : goal.returns-in_err-call-clause-err
+returns-in_err-call-clause-err c solo stands =
+    on_err_always _ _ (line_same c.args.self.now _ solo refl c.reserve.ensures.items stands)
+
+pub returns-in_err-counted-clause-err : goal.returns-in_err-counted-clause-err
+returns-in_err-counted-clause-err c solo stands =
+    on_err_always _ _ (c.in_err-counted.ensures.err solo (line_same c.args.self.now _ solo refl c.reserve.ensures.items stands))
 
 pub returns-clause-ok : goal.returns-clause-ok
 returns-clause-ok c solo stands =
