@@ -22,7 +22,6 @@ use crate::stop::ContStop;
 use job_model::EntryPoint;
 use native_tas::NativeApp;
 use ta_isa::Image;
-use ta_params::CallResult;
 use ta_step::{Machine, Stop, TaMemory};
 use uuid::Uuid;
 
@@ -166,8 +165,7 @@ impl<M: TaMemory + Drop> Cont<M> {
         }
         let mut params = self.take_params();
         let code = native.relation.answer(func, &mut params);
-        self.params = Some(params);
-        self.result = CallResult::of_application(code);
+        self.answers_with(code, params);
         self.steps += 1;
         ContStop::Ended(self.result)
     }

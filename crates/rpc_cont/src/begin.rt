@@ -86,7 +86,7 @@ impl<M: TaMemory + Drop> Cont<M> {
     }
 
     /// Answers with this code of the application, and the parameters that it leaves.
-    fn answers_with(&mut self, code: u32, params: CopiedParams)
+    pub(crate) fn answers_with(&mut self, code: u32, params: CopiedParams)
         ensures { self.new ≡ record self.old { result = of_application code; params = Some params } }
     {
         self.result = CallResult::of_application(code);
