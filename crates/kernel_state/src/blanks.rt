@@ -114,13 +114,16 @@ fn wipe(cont: &mut Cont<Pages>)
 fn wipe_work(cont: &mut Cont<Pages>)
     ensures { cont.new ≡ record cont.old { machine = None; object = None; request = None } }
 {
-    if cont.machine.is_some() {
-        cont.machine = None;
-    }
-    if cont.object.is_some() {
-        cont.object = None;
-    }
-    if cont.request.is_some() {
-        cont.request = None;
+    clear(&mut cont.machine);
+    clear(&mut cont.object);
+    clear(&mut cont.request);
+}
+
+/// Nothing is left there. The place is written only where something is.
+fn clear<T: Drop>(place: &mut Option<T>)
+    ensures { place.new ≡ None }
+{
+    if place.is_some() {
+        *place = None;
     }
 }

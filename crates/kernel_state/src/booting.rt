@@ -95,13 +95,17 @@ fn first_tables(alloc: Global, frames: u16) -> Result<Tables, NoMemory>
     ensures first { IfOk result (λ tables. tables_of tables ≡ first_tables) }
     ensures free { IfOk result (λ tables. tables.pool ≡ record { frames = frames; free = frames }) }
 {
+    let pool = Pool::new(alloc, frames)?;
+    let registry = Registry::new(alloc)?;
+    let sessions = Sessions::new(alloc)?;
+    let instances = Instances::new(alloc)?;
     Ok(Tables {
-        sessions: Sessions::new(alloc)?,
+        sessions,
         waiters: Waiters::new(),
-        instances: Instances::new(alloc)?,
+        instances,
         instances_made: 0,
-        registry: Registry::new(alloc)?,
-        pool: Pool::new(alloc, frames)?,
+        registry,
+        pool,
     })
 }
 
@@ -134,14 +138,29 @@ fn first_parts(alloc: Global, boot: Boot, natives: &Natives) -> Result<Parts, No
     ensures stands { IfOk result (λ parts. StandsFor parts (first_kernel (booted_with parts.setup))) }
 {
     let setup = setup_of(alloc, boot, natives)?;
+    parts_with(alloc, setup)
+}
+
+/// The same, with what the core keeps of its boot.
+fn parts_with(alloc: Global, setup: Setup) -> Result<Parts, NoMemory>
+    requires { IsWithinLimits (boot_of setup) }
+    ensures setup { IfOk result (λ parts. parts.setup ≡ setup) }
+    ensures events { IfOk result (λ parts. parts.journal.events ≡ []) }
+    ensures stands { IfOk result (λ parts. StandsFor parts (first_kernel (booted_with parts.setup))) }
+{
+    let cancellations = free_cancellations(alloc, setup.threads)?;
+    let processors = outside_processors(alloc, setup.cpus)?;
+    let blanks = Blanks::new(alloc, setup.threads)?;
+    let slots = free_slots(alloc, setup.threads)?;
+    let tables = first_tables(alloc, setup.frames)?;
     Ok(Parts {
-        slots: free_slots(alloc, setup.threads)?,
-        cancellations: free_cancellations(alloc, setup.threads)?,
-        processors: outside_processors(alloc, setup.cpus)?,
-        tables: first_tables(alloc, setup.frames)?,
-        blanks: Blanks::new(alloc, setup.threads)?,
-        journal: Journal::new(alloc),
         setup,
+        slots,
+        cancellations,
+        processors,
+        tables,
+        blanks,
+        journal: Journal::new(alloc),
     })
 }
 
