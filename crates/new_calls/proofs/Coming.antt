@@ -1,16 +1,18 @@
 -- What is decided behind the tests of every call.
-use Rattle.std.proofs.Common.{◌≡◌, ℕ, List, Option, Some, None, Result, Ok, Err, refl, ◌∙◌}
+use Rattle.std.proofs.Common.{◌≡◌, ℕ, true, false, List, Option, Some, None, Result, Ok, Err, refl, ◌∙◌}
 use Rattle.kernel_model.specs.Application.{Booted}
-use Rattle.kernel_model.specs.Codes.{ethread_limit}
+use Rattle.kernel_model.specs.Argument.{argument_at}
+use Rattle.kernel_model.specs.Codes.{ebadaddr, ebadcmd, ethread_limit}
 use Rattle.kernel_model.specs.Decision.{Answers, Takes, Taken, Tested, decided_by, decision_in, taken_by, taken_in}
 use Rattle.kernel_model.specs.Kernel.{Tables}
-use Rattle.kernel_model.specs.NewCall.{new_call_in, new_call_with}
-use Rattle.ns_ram.specs.Attempt.{Attempt, passes, read}
-use Rattle.ns_ram.specs.Reader.{done, over_lane}
+use Rattle.kernel_model.specs.NewCall.{NewCall, command_of, has_argument, is_head_address, new_call_in, new_call_of, new_call_with}
+use Rattle.msg_args.specs.Reading.{head_at}
+use Rattle.ns_ram.specs.Attempt.{Attempt, known, need, passes, read, ◌>>=◌, ◌>>◌}
+use Rattle.ns_ram.specs.Reader.{done, over_lane, take_bytes}
 use Rattle.ns_ram.specs.declared.read.Read.{Read}
 use Rattle.param_copy.proofs.PieceReads.{onward}
 use Rattle.smc_abi.specs.declared.answer.Answer.{Answer}
-use Rattle.new_calls.proofs.Steps.{passed_on, refused_at}
+use Rattle.new_calls.proofs.Steps.{passed_on, read_on, refused_at}
 
 -- ---- what the slot is taken for
 
@@ -49,3 +51,44 @@ is_taken boot tables regs free slot lane before between after tests taken at is 
     comes ∙ onward (taken_by tests) passes lane between after taken e in
     rw (is, same) (decides (new_call_with boot tables regs (Some slot)) lane before after (Ok (slot, taken))
     (passed_on (new_call_in boot tables regs slot) (λ taken. passes (slot, taken)) lane before after taken passed))
+
+-- ---- the tests of every call
+
+-- those behind the head
+abbrev behind_head : Booted → Tables → List ℕ → ℕ → List ℕ → Attempt Answer Taken
+behind_head boot tables regs slot bytes = do
+  need (has_argument (argument_at regs) (head_at bytes)) ebadaddr
+  command ← known (command_of (head_at bytes).cmd) ebadcmd
+  read (taken_by (command (new_call_of boot tables regs slot bytes)))
+
+pub bad_address : (boot : Booted) (tables : Tables) (regs lane : List ℕ) (slot : ℕ) (before : List Read) →
+    is_head_address (argument_at regs) ≡ false →
+    over_lane (new_call_in boot tables regs slot) lane before ≡ Some (Err ebadaddr, before)
+bad_address boot tables regs lane slot before bad = rw bad refl
+
+pub bad_count : (boot : Booted) (tables : Tables) (regs lane : List ℕ) (slot : ℕ) (before between : List Read) (bytes : List ℕ) →
+    is_head_address (argument_at regs) ≡ true →
+    over_lane (take_bytes (argument_at regs) 32) lane before ≡ Some (bytes, between) →
+    has_argument (argument_at regs) (head_at bytes) ≡ false →
+    over_lane (new_call_in boot tables regs slot) lane before ≡ Some (Err ebadaddr, between)
+bad_count boot tables regs lane slot before between bytes good e bad =
+    rw good (read_on (take_bytes (argument_at regs) 32) (behind_head boot tables regs slot) lane before between bytes e ∙ rw bad refl)
+
+pub bad_command : (boot : Booted) (tables : Tables) (regs lane : List ℕ) (slot : ℕ) (before between : List Read) (bytes : List ℕ) →
+    is_head_address (argument_at regs) ≡ true →
+    over_lane (take_bytes (argument_at regs) 32) lane before ≡ Some (bytes, between) →
+    has_argument (argument_at regs) (head_at bytes) ≡ true →
+    command_of (head_at bytes).cmd ≡ None →
+    over_lane (new_call_in boot tables regs slot) lane before ≡ Some (Err ebadcmd, between)
+bad_command boot tables regs lane slot before between bytes good e few bad =
+    rw good (read_on (take_bytes (argument_at regs) 32) (behind_head boot tables regs slot) lane before between bytes e ∙ rw (few, bad) refl)
+
+pub comes_in : (boot : Booted) (tables : Tables) (regs lane : List ℕ) (slot : ℕ) (before between : List Read) (bytes : List ℕ) (tests : NewCall → Tested Taken) →
+    is_head_address (argument_at regs) ≡ true →
+    over_lane (take_bytes (argument_at regs) 32) lane before ≡ Some (bytes, between) →
+    has_argument (argument_at regs) (head_at bytes) ≡ true →
+    command_of (head_at bytes).cmd ≡ Some tests →
+    over_lane (new_call_in boot tables regs slot) lane before
+    ≡ over_lane (read (taken_by (tests (new_call_of boot tables regs slot bytes)))) lane between
+comes_in boot tables regs lane slot before between bytes tests good e few found =
+    rw good (read_on (take_bytes (argument_at regs) 32) (behind_head boot tables regs slot) lane before between bytes e ∙ rw (few, found) refl)

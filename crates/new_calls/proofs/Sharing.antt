@@ -1,7 +1,6 @@
 -- What an open asks of the instance that it shares.
-use Rattle.std.proofs.Common.{◌≡◌, ℕ, zero, suc, ◌<◌, Bool, true, false, nat_lt, Option, Some, None, refl, sym, ap, ◌∙◌, subst, arith}
+use Rattle.std.proofs.Common.{◌≡◌, ℕ, zero, suc, ◌<◌, Bool, true, false, nat_lt, Option, Some, None, sym, ap, ◌∙◌, subst, arith}
 use Rattle.std.proofs.lemmas.Bool.Decides.{nat_tests}
-use Rattle.std.specs.Prelude.{is_some}
 use Rattle.std.specs.List.{count_by}
 use Rattle.std.specs.Option.{option_map, option_map_or}
 use Rattle.base.specs.NumberMap.{NumberMap}
@@ -13,23 +12,10 @@ use Rattle.kernel_model.specs.Sessions.{has_session}
 use Rattle.session_table.specs.Session.{is_of}
 use Rattle.session_table.specs.declared.session.Session.{Session}
 
-pub shared_none : (o : Option (ℕ × Instance)) (test : ℕ × Instance → Bool) → None ≡ option_map shown o → option_map_or test o false ≡ false
-shared_none None test e = refl
-shared_none (Some kept) test e = absurd (cc)
-
-pub shared_dead : (o : Option (ℕ × Instance)) (shared : SharedInstance) → Some shared ≡ option_map shown o →
-    option_map_or (λ (kept : ℕ × Instance). kept.1.dead) o false ≡ shared.dead
-shared_dead None shared e = absurd (cc)
-shared_dead (Some kept) shared e = let same : shared ≡ shown kept = cc in ap (λ (s : SharedInstance). s.dead) (sym same)
-
 pub shared_number : (o : Option (ℕ × Instance)) (shared : SharedInstance) (test : ℕ → Bool) → Some shared ≡ option_map shown o →
     option_map_or (λ (kept : ℕ × Instance). test kept.0) o false ≡ test shared.number
 shared_number None shared test e = absurd (cc)
 shared_number (Some kept) shared test e = let same : shared ≡ shown kept = cc in ap (λ (s : SharedInstance). test s.number) (sym same)
-
-pub shared_some : (o : Option (ℕ × Instance)) → is_some (option_map shown o) ≡ is_some o
-shared_some None = refl
-shared_some (Some kept) = refl
 
 positive : (n : ℕ) → nat_lt 0 (suc n) ≡ true
 positive n = grind (arith, nat_tests)

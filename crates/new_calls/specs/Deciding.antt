@@ -14,6 +14,7 @@ use Rattle.kernel_model.specs.NewCall as model
 use Rattle.kernel_model.specs.NewCall.{cancels, closes, drops_buffer, invokes, keeps_buffers, opens_or_waits, settles, settles_invoke, settles_open}
 use Rattle.kernel_state.specs.Setup.{application_of, booted_with}
 use Rattle.kernel_state.specs.Tables.{tables_of}
+use Rattle.msg_args.specs.declared.param.MsgParam.{MsgParam}
 use Rattle.param_copy.specs.Copying.{Copies}
 use Rattle.param_copy.specs.Outcome.{copies_in}
 use Rattle.param_copy.specs.declared.taken.TakenParams.{TakenParams}
@@ -89,6 +90,12 @@ abbrev pub Decides : NewCall → (model.NewCall → Tested Taken) → List ℕ �
     List Read → Result (Plan) (Halt) → Type 0
 Decides call tests lane before after decided =
     ComesTo (call_of call) (tests (call_of call)) (taken_of (call_of call)) lane before after decided
+
+-- the parameters were read from these reads on, and say this
+abbrev pub HaveSaid : {A : Type 0} → model.NewCall → (List MsgParam → Option A) → A → List ℕ → List Read → List Read → Type 0
+HaveSaid c shape said lane before between =
+    (params : List MsgParam) × (over_lane (model.parameters c) lane before ≡ Some (Ok params, between))
+    × (shape params ≡ Some said)
 
 -- the copied parameters, or else the slot is taken so
 abbrev pub copies_or : Taken → Option TakenParams → Result Copies Taken

@@ -2,3 +2,4 @@ pub mod Applying
 pub mod Argument
 pub mod Commands
 pub mod Deciding
+pub mod Faults

@@ -1,14 +1,17 @@
-ghost use Rattle.std.specs.Prelude.{IfOk};
+ghost use Rattle.std.specs.Prelude.{◌≤◌, IfOk, List, length};
+ghost use Rattle.kernel_model.specs.Argument.{invocation};
 ghost use Rattle.kernel_model.specs.NewCall.{invoke_command};
 ghost use Rattle.kernel_state.specs.Setup.{booted_with};
 ghost use Rattle.kernel_state.specs.Tables.{tables_of};
 ghost use Rattle.new_calls.specs.Applying.{CanApply, HaveApps};
-ghost use Rattle.new_calls.specs.Deciding.{Decides, call_of};
+ghost use Rattle.new_calls.specs.Deciding.{Decides, HaveSaid, call_of};
+ghost use Rattle.ns_ram.specs.declared.read.Read.{Read as AnyRead};
 
 use crate::argument::invocation;
 use crate::call::NewCall;
 use crate::halt::{Halt, Settled};
 use crate::plan::Plan;
+use msg_args::MsgParam;
 use ns_ram::{Lane, Reads};
 use std::alloc::Global;
 use ta_params::codes::{TEE_ERROR_BAD_PARAMETERS, TEE_ERROR_TARGET_DEAD};
@@ -29,6 +32,24 @@ impl NewCall<'_> {
         let Some(invoked) = invocation(params.as_slice()) else {
             return Err(Halt::Settled(Settled::Call(TEE_ERROR_BAD_PARAMETERS)));
         };
+        self.invoke_with(alloc, lane, invoked, reads)
+    }
+
+    /// The tests of an invoke behind those of its parameters, which are these, and what it begins.
+    fn invoke_with(
+        &self,
+        alloc: Global,
+        lane: &Lane,
+        invoked: &[MsgParam],
+        reads: &mut Reads,
+    ) -> Result<Plan, Halt>
+        requires apps { HaveApps (booted_with self.now.setup.now) (tables_of self.now.tables.now) }
+        requires few { length invoked.now ≤ 4 }
+        ensures decides { (before : List AnyRead)
+            → HaveSaid (call_of self.now) invocation invoked.now lane.now before reads.old
+            → Decides self.now invoke_command lane.now before reads.new result }
+        ensures can_apply { IfOk result (CanApply (call_of self.now)) }
+    {
         let Some((session, instance)) = self.named_session() else {
             return Err(Halt::Settled(Settled::Call(TEE_ERROR_BAD_PARAMETERS)));
         };

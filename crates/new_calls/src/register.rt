@@ -1,10 +1,13 @@
-ghost use Rattle.std.specs.Prelude.{◌≡◌, ◌<◌, ◌≤◌, IfOk, IfSome, Some};
+ghost use Rattle.std.specs.Prelude.{◌≡◌, ◌<◌, ◌≤◌, IfOk, IfSome, List, Some};
+ghost use Rattle.kernel_model.specs.Argument.{registering};
 ghost use Rattle.kernel_model.specs.Decision.{Taken as AnyTaken};
 ghost use Rattle.kernel_model.specs.NewCall.{listed_pages, offset_in, pages_touched, register_memory};
 ghost use Rattle.new_calls.specs.Applying.{CanApply};
-ghost use Rattle.new_calls.specs.Deciding.{Decides, call_of, pages_or};
+ghost use Rattle.new_calls.specs.Deciding.{Decides, HaveSaid, call_of, pages_or};
+ghost use Rattle.new_calls.specs.Faults.{register_fault};
 ghost use Rattle.ns_ram.specs.Attempt.{faultless};
 ghost use Rattle.ns_ram.specs.Reader.{over_lane};
+ghost use Rattle.ns_ram.specs.declared.read.Read.{Read as AnyRead};
 ghost use Rattle.shm_registry.specs.Pieces.{IsBuffer};
 
 use crate::argument::registering;
@@ -54,30 +57,56 @@ impl NewCall<'_> {
         let Some(param) = registering(params.as_slice()) else {
             return Err(Halt::Settled(Settled::Call(TEE_ERROR_BAD_PARAMETERS)));
         };
-        if self.tables.registry.contains(param.s) {
-            return Err(Halt::Settled(Settled::Call(TEE_ERROR_BAD_PARAMETERS)));
+        self.register_buffer(alloc, lane, &param, reads)
+    }
+
+    /// The tests of a register behind those of its parameters, which say this, and what it changes.
+    fn register_buffer(
+        &self,
+        alloc: Global,
+        lane: &Lane,
+        param: &MsgParam,
+        reads: &mut Reads,
+    ) -> Result<Plan, Halt>
+        ensures decides { (before : List AnyRead)
+            → HaveSaid (call_of self.now) registering param.now lane.now before reads.old
+            → Decides self.now register_memory lane.now before reads.new result }
+        ensures can_apply { IfOk result (CanApply (call_of self.now)) }
+    {
+        if let Some(code) = self.register_fault(param) {
+            return Err(Halt::Settled(Settled::Call(code)));
         }
-        if param.q == 0 {
-            return Err(Halt::Settled(Settled::Call(TEE_ERROR_BAD_PARAMETERS)));
-        }
-        if pages_touched(&param) > MAX_PAGES {
-            return Err(Halt::Settled(Settled::Call(TEE_ERROR_BAD_PARAMETERS)));
-        }
-        if self.tables.registry.len() >= REGISTRY_LIMIT {
-            return Err(Halt::Settled(Settled::Call(TEE_ERROR_OUT_OF_MEMORY)));
-        }
-        let Some(pages) = self.listed_pages(alloc, lane, &param, reads)? else {
+        let Some(pages) = self.listed_pages(alloc, lane, param, reads)? else {
             return Err(Halt::Settled(Settled::Call(TEE_ERROR_BAD_PARAMETERS)));
         };
         let buffer = PageBuffer {
             pages: Sequence::of(pages),
-            offset: offset_in(&param) as u32,
+            offset: offset_in(param) as u32,
             size: param.q,
         };
         Ok(Plan::KeepsBuffer {
             cookie: param.s,
             buffer,
         })
+    }
+
+    /// The code of the first test on the buffer that fails.
+    fn register_fault(&self, param: &MsgParam) -> Option<u32>
+        ensures { result ≡ register_fault (call_of self.now) param.now }
+    {
+        if self.tables.registry.contains(param.s) {
+            return Some(TEE_ERROR_BAD_PARAMETERS);
+        }
+        if param.q == 0 {
+            return Some(TEE_ERROR_BAD_PARAMETERS);
+        }
+        if pages_touched(param) > MAX_PAGES {
+            return Some(TEE_ERROR_BAD_PARAMETERS);
+        }
+        if self.tables.registry.len() >= REGISTRY_LIMIT {
+            return Some(TEE_ERROR_OUT_OF_MEMORY);
+        }
+        None
     }
 
     /// Its pages, by the lists of their addresses. None where one is no page of RAM.

@@ -1,47 +1,5 @@
-use Rattle.std.proofs.Common.{ap, ◌∙◌}
-use Rattle.kernel_model.specs.Codes.{bad_parameters}
-use Rattle.kernel_model.specs.NewCall.{invokes, settles_invoke}
-use Rattle.kernel_state.specs.Tables.{instance_of}
-use Rattle.param_copy.specs.Outcome.{copies_in}
-use Rattle.new_calls.specs.Deciding.{call_of}
-use Rattle.new_calls.proofs.Commands.{invoke_passes, invoke_uncopied, passing}
-use Rattle.new_calls.proofs.Naming.{begins_there, named_kept}
 use Rattle.new_calls.proofs.call.NewCall.invoke_command.Goals as goal
-
-pub returns-in_default-2-clause-decides : goal.returns-in_default-2-clause-decides
-returns-in_default-2-clause-decides c =
-    let call = call_of c.args.self.now in
-    let faulty = settles_invoke call bad_parameters in
-    invoke_uncopied call c.args.lane.now c.args.reads.now c.parameters.new.reads c.copied_params.new.reads c.in_ok-params.params.items c.in-Some.invoked.now
-    c.in-Some-named_session.session (instance_of c.in-Some-named_session.instance.now) faulty
-    c.in_ok-params.ensures (rw c.as_slice.ensures.value at c.in-Some.ensures.0) c.in-Some-named_session.ensures c.if-instance.false
-    (rw c.in_default-2.is at (c.in_ok-copies.ensures.copied faulty))
 
 pub returns-clause-decides : goal.returns-clause-decides
 returns-clause-decides c =
-    let call = call_of c.args.self.now in
-    let session = c.in-Some-named_session.session in
-    let instance = instance_of c.in-Some-named_session.instance.now in
-    let copies = copies_in c.in-Some-2.copies in
-    invoke_passes call c.args.lane.now c.args.reads.now c.parameters.new.reads c.copied_params.new.reads c.in_ok-params.params.items c.in-Some.invoked.now
-    session instance copies
-    c.in_ok-params.ensures (rw c.as_slice.ensures.value at c.in-Some.ensures.0) c.in-Some-named_session.ensures c.if-instance.false
-    (rw c.in-Some-2.is at (c.in_ok-copies.ensures.copied (settles_invoke call bad_parameters)))
-    ∙ ap (passing c.copied_params.new.reads) (begins_there call session instance (λ named. invokes call named copies) c.in-Some-named_session.ensures)
-
-pub app_on-requires : goal.app_on-requires
-app_on-requires c =
-    let session = c.in-Some-named_session.session in
-    let instance = instance_of c.in-Some-named_session.instance.now in
-    c.requires session.instance instance (named_kept (call_of c.args.self.now) session instance c.in-Some-named_session.ensures)
-
-pub returns-clause-can_apply : goal.returns-clause-can_apply
-returns-clause-can_apply c = record {
-  there = record {
-    instance = instance_of c.in-Some-named_session.instance.now;
-    named = c.in-Some-named_session.ensures;
-    known = c.in_ok-app.ensures;
-  };
-  alive = c.if-instance.false;
-  registered = rw c.in-Some-2.is at c.in_ok-copies.ensures.cookies;
-}
+    c.invoke_with.ensures.decides c.args.reads.now (c.in_ok-params.params.items, c.in_ok-params.ensures, rw c.as_slice.ensures.value at c.in-Some.ensures.0)
