@@ -12,3 +12,4 @@ pub mod Opens
 pub mod Replaying
 pub mod Sharing
 pub mod Standing
+pub mod TooMuch

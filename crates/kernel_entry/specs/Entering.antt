@@ -59,6 +59,13 @@ pub record IsTooMuchFor (parts : Parts) (regs lane : List ℕ) (copied more : �
   pub of_entry : more ≡ total_bytes reads
   pub above : 2 ^ 28 < copied + more
 
+-- so many bytes more fit beside those that were copied so far, or there are more than 2^28 with them. Want of memory says
+-- nothing of it
+abbrev pub Fit : {A : Type 0} → ℕ → ℕ → Result A EnterRefusal → Type 0
+Fit copied more (Ok fits) = copied + more ≤ 2 ^ 28
+Fit copied more (Err (Full before read)) = (before ≡ copied) × (read ≡ more) × (2 ^ 28 < before + read)
+Fit copied more (Err Memory) = Unit {0}
+
 -- it is prepared, or refused: want of memory says nothing of it
 abbrev pub Prepares : Parts → List ℕ → List ℕ → Result (Prepared) EnterRefusal → Type 0
 Prepares parts regs lane (Ok prepared) = IsPrepared parts regs lane prepared

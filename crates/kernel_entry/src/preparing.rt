@@ -4,12 +4,14 @@ ghost use Rattle.event_journal.specs.Journal.{copied_bytes};
 ghost use Rattle.kernel_state.specs.Setup.{booted_with};
 ghost use Rattle.kernel_state.specs.Tables.{HasFreePages, tables_of};
 ghost use Rattle.new_calls.specs.Applying.{HaveApps};
+ghost use Rattle.ns_ram.specs.Reads.{total_bytes};
 ghost use Rattle.resumed_calls.specs.Deciding.{CanDecide};
-ghost use Rattle.kernel_entry.specs.Entering.{HasMoreRoom, Prepares};
+ghost use Rattle.kernel_entry.specs.Entering.{Fit, HasMoreRoom, Prepares};
 
 use crate::carrying::bytes_in;
 use crate::deciding::{EntryDecision, decide};
 use crate::visitor::make_room;
+use event_journal::Journal;
 use kernel_state::{EnterRefusal, Parts};
 use ns_ram::{Lane, Reads};
 use smc_abi::Regs;
@@ -47,12 +49,21 @@ pub(crate) fn prepare(
     let Ok(decision) = decide(alloc, parts, regs, lane, &mut reads) else {
         return Err(EnterRefusal::Memory);
     };
-    let Some(more) = bytes_in(&reads) else {
+    fit(&parts.journal, &reads)?;
+    Ok(Prepared { decision, reads })
+}
+
+/// What the entry has read, beside what all entries before it have, is not too much.
+fn fit(journal: &Journal, reads: &Reads) -> Result<(), EnterRefusal>
+    requires { copied_bytes journal.now.events ≤ 2 ^ 28 }
+    ensures { Fit (copied_bytes journal.now.events) (total_bytes reads.now) result }
+{
+    let Some(more) = bytes_in(reads) else {
         return Err(EnterRefusal::Memory);
     };
-    let copied = parts.journal.copied();
+    let copied = journal.copied();
     if more > MOST_BYTES - copied {
         return Err(EnterRefusal::Full { copied, more });
     }
-    Ok(Prepared { decision, reads })
+    Ok(())
 }
