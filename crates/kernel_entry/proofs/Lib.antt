@@ -9,7 +9,7 @@ pub mod Following
 pub mod InSession
 pub mod Legal
 pub mod Opens
+pub mod Readying
 pub mod Replaying
 pub mod Sharing
 pub mod Standing
-pub mod TooMuch

@@ -9,7 +9,6 @@ ghost use Rattle.kernel_state.specs.Tables.{HasFreePages, tables_of};
 ghost use Rattle.new_calls.specs.Applying.{HaveApps};
 ghost use Rattle.resumed_calls.specs.Deciding.{CanDecide};
 ghost use Rattle.kernel_entry.specs.Deciding.{ComesTo, HasFound, IsDecided};
-ghost use Rattle.kernel_entry.specs.Entering.{HasBox};
 
 use base::NoMemory;
 use kernel_state::Parts;
@@ -29,23 +28,20 @@ pub(crate) enum EntryDecision {
     GoesOn(Box<resumed_calls::Decided>),
 }
 
-/// What is decided of a call with these registers. All that it reads is listed, and a box is made where a new call
-/// begins and none is kept; nothing else is changed.
+/// What is decided of a call with these registers. All that it reads is listed.
 pub(crate) fn decide(
     alloc: Global,
-    parts: &mut Parts,
+    parts: &Parts,
     regs: &Regs,
     lane: &Lane,
     reads: &mut Reads,
 ) -> Result<EntryDecision, NoMemory>
-    requires call { ∥ CanDecide parts.old.slots regs.now.a ∥₁ }
-    requires pages { HasFreePages parts.old.setup parts.old.tables }
-    requires apps { HaveApps (booted_with parts.old.setup) (tables_of parts.old.tables) }
-    ensures decides { (kernel : Kernel) → StandsFor parts.new kernel
-        → IfOk result (IsDecided parts.new kernel regs.now.a lane.now reads.old reads.new) }
-    ensures found { IfOk result (HasFound parts.new regs.now.a) }
-    ensures boxed { IfOk result (HasBox parts.new.blanks) }
-    ensures stays { parts.new ≡ record parts.old { blanks = parts.new.blanks } }
+    requires call { ∥ CanDecide parts.now.slots regs.now.a ∥₁ }
+    requires pages { HasFreePages parts.now.setup parts.now.tables }
+    requires apps { HaveApps (booted_with parts.now.setup) (tables_of parts.now.tables) }
+    ensures decides { (kernel : Kernel) → StandsFor parts.now kernel
+        → IfOk result (IsDecided parts.now kernel regs.now.a lane.now reads.old reads.new) }
+    ensures found { IfOk result (HasFound parts.now regs.now.a) }
 {
     match decode_call(regs) {
         Call::Fast(call) => {
@@ -58,22 +54,20 @@ pub(crate) fn decide(
     }
 }
 
-/// What is decided of a new call, with a box for it where it begins.
+/// What is decided of a new call.
 fn decide_new(
     alloc: Global,
-    parts: &mut Parts,
+    parts: &Parts,
     regs: &Regs,
     lane: &Lane,
     reads: &mut Reads,
 ) -> Result<EntryDecision, NoMemory>
-    requires pages { HasFreePages parts.old.setup parts.old.tables }
-    requires apps { HaveApps (booted_with parts.old.setup) (tables_of parts.old.tables) }
-    ensures decides { (kernel : Kernel) → StandsFor parts.new kernel
-        → IfOk result (ComesTo parts.new kernel regs.now.a (new_call (booted_with parts.new.setup) kernel regs.now.a)
+    requires pages { HasFreePages parts.now.setup parts.now.tables }
+    requires apps { HaveApps (booted_with parts.now.setup) (tables_of parts.now.tables) }
+    ensures decides { (kernel : Kernel) → StandsFor parts.now kernel
+        → IfOk result (ComesTo parts.now kernel regs.now.a (new_call (booted_with parts.now.setup) kernel regs.now.a)
         lane.now reads.old reads.new) }
-    ensures found { IfOk result (HasFound parts.new regs.now.a) }
-    ensures boxed { IfOk result (HasBox parts.new.blanks) }
-    ensures stays { parts.new ≡ record parts.old { blanks = parts.new.blanks } }
+    ensures found { IfOk result (HasFound parts.now regs.now.a) }
 {
     let free = lowest_free(&parts.slots);
     let found = Found {
@@ -84,10 +78,7 @@ fn decide_new(
     let decided = new_call(alloc, &found, regs, lane, reads)?;
     match decided {
         new_calls::Decided::Answers(answer) => Ok(EntryDecision::Answers(answer)),
-        new_calls::Decided::Takes(entered, plan) => {
-            parts.blanks.make_one(alloc)?;
-            Ok(EntryDecision::Begins(entered, plan))
-        }
+        new_calls::Decided::Takes(entered, plan) => Ok(EntryDecision::Begins(entered, plan)),
     }
 }
 
@@ -104,7 +95,6 @@ fn decide_resume(
         → IfOk result (ComesTo parts.now kernel regs.now.a (resume (booted_with parts.now.setup) kernel regs.now.a)
         lane.now reads.old reads.new) }
     ensures found { IfOk result (HasFound parts.now regs.now.a) }
-    ensures boxed { IfOk result (HasBox parts.now.blanks) }
 {
     let call = resumed_calls::decide(alloc, &parts.setup, &parts.slots, regs, lane, reads)?;
     match call {

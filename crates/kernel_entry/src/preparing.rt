@@ -1,18 +1,19 @@
 //! What is prepared before a processor comes in.
-ghost use Rattle.std.specs.Prelude.{◌≤◌, ◌^◌};
+ghost use Rattle.std.specs.Prelude.{◌≡◌, ◌≤◌, ◌^◌, OnOk};
 ghost use Rattle.event_journal.specs.Journal.{copied_bytes};
 ghost use Rattle.kernel_state.specs.Setup.{booted_with};
 ghost use Rattle.kernel_state.specs.Tables.{HasFreePages, tables_of};
 ghost use Rattle.new_calls.specs.Applying.{HaveApps};
 ghost use Rattle.ns_ram.specs.Reads.{total_bytes};
 ghost use Rattle.resumed_calls.specs.Deciding.{CanDecide};
-ghost use Rattle.kernel_entry.specs.Entering.{Fit, HasMoreRoom, Prepares};
+ghost use Rattle.kernel_entry.specs.Entering.{Fit, HasBox, HasMoreRoom, Prepares};
 
 use crate::carrying::bytes_in;
 use crate::deciding::{EntryDecision, decide};
 use crate::visitor::make_room;
+use base::NoMemory;
 use event_journal::Journal;
-use kernel_state::{EnterRefusal, Parts};
+use kernel_state::{Blanks, EnterRefusal, Parts};
 use ns_ram::{Lane, Reads};
 use smc_abi::Regs;
 use std::alloc::Global;
@@ -49,8 +50,36 @@ pub(crate) fn prepare(
     let Ok(decision) = decide(alloc, parts, regs, lane, &mut reads) else {
         return Err(EnterRefusal::Memory);
     };
-    fit(&parts.journal, &reads)?;
+    make_ready(alloc, parts, &decision, &reads)?;
     Ok(Prepared { decision, reads })
+}
+
+/// Makes a box for a call that begins, where none is kept, and sees that what the entry has read is not too much.
+fn make_ready(
+    alloc: Global,
+    parts: &mut Parts,
+    decision: &EntryDecision,
+    reads: &Reads,
+) -> Result<(), EnterRefusal>
+    requires { copied_bytes parts.old.journal.events ≤ 2 ^ 28 }
+    ensures fit { Fit (copied_bytes parts.old.journal.events) (total_bytes reads.now) result }
+    ensures boxed { OnOk result (HasBox parts.new.blanks decision.now) }
+    ensures stays { parts.new ≡ record parts.old { blanks = parts.new.blanks } }
+{
+    let Ok(()) = make_box(alloc, &mut parts.blanks, decision) else {
+        return Err(EnterRefusal::Memory);
+    };
+    fit(&parts.journal, reads)
+}
+
+/// Makes a box where a call begins and none is kept.
+fn make_box(alloc: Global, blanks: &mut Blanks, decision: &EntryDecision) -> Result<(), NoMemory>
+    ensures { OnOk result (HasBox blanks.new decision.now) }
+{
+    match decision {
+        EntryDecision::Begins(..) => blanks.make_one(alloc),
+        EntryDecision::Answers(_) | EntryDecision::GoesOn(_) => Ok(()),
+    }
 }
 
 /// What the entry has read, beside what all entries before it have, is not too much.

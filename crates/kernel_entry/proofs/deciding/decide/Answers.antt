@@ -11,7 +11,7 @@ returns-in-Fast-clause-decides c kernel stands =
 
 pub returns-in-WithArg-clause-decides : goal.returns-in-WithArg-clause-decides
 returns-in-WithArg-clause-decides c kernel stands =
-    decided_as c.decide_new.new.parts kernel c.args.regs.now.a c.args.lane.now c.args.reads.now c.decide_new.new.reads c.decide_new.result call.WithArg
+    decided_as c.args.parts.now kernel c.args.regs.now.a c.args.lane.now c.args.reads.now c.decide_new.new.reads c.decide_new.result call.WithArg
     (sym c.decode_call.ensures.row ∙ c.in-WithArg.is) (c.decide_new.ensures.decides kernel stands)
 
 pub returns-in-Resume-clause-decides : goal.returns-in-Resume-clause-decides

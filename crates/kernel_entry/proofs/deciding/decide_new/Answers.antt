@@ -1,11 +1,9 @@
-use Rattle.std.proofs.Common.{◌∙◌, refl, sym, arith}
+use Rattle.std.proofs.Common.{◌∙◌, refl, sym}
 use Rattle.kernel_model.specs.Decision as model
 use Rattle.kernel_state.specs.Setup.{booted_with}
 use Rattle.kernel_state.specs.Tables.{tables_of}
-use Rattle.kernel_state.specs.declared.parts.Parts.{Parts}
 use Rattle.new_calls.specs.Deciding.{call_with, taken_of}
 use Rattle.kernel_entry.proofs.Decisions.{new_so}
-use Rattle.kernel_entry.proofs.Entered.{roomier_stands}
 use Rattle.kernel_entry.proofs.deciding.decide_new.Goals as goal
 
 pub returns-in-Answers-clause-decides : goal.returns-in-Answers-clause-decides
@@ -13,17 +11,15 @@ returns-in-Answers-clause-decides c kernel stands =
     new_so c.args.parts.now kernel c.args.regs.now.a c.args.lane.now c.args.reads.now c.new_call.new.reads c.in_ok-decided.decided c.lowest_free-free.result
     (model.Answers c.in-Answers.answer) c.lowest_free-free.ensures.slot (rw c.in-Answers.is refl) stands c.in_ok-decided.ensures.decides
 
-pub returns-in_ok-make_one-in-Takes-clause-decides : goal.returns-in_ok-make_one-in-Takes-clause-decides
-returns-in_ok-make_one-in-Takes-clause-decides c kernel stands =
+pub returns-in-Takes-clause-decides : goal.returns-in-Takes-clause-decides
+returns-in-Takes-clause-decides c kernel stands =
     let parts = c.args.parts.now in
-    let boxed : Parts = record parts { blanks = c.make_one.new.self } in
-    let before = roomier_stands boxed parts kernel (record { events = refl; spare = omega (arith); stays = refl }) stands in
     let taken = taken_of (call_with (booted_with parts.setup) (tables_of parts.tables) c.in-Takes.entered) c.in-Takes.plan in
     new_so parts kernel c.args.regs.now.a c.args.lane.now c.args.reads.now c.new_call.new.reads c.in_ok-decided.decided c.lowest_free-free.result
-    (model.Takes c.in-Takes.entered.slot taken) c.lowest_free-free.ensures.slot (rw c.in-Takes.is refl) before c.in_ok-decided.ensures.decides
+    (model.Takes c.in-Takes.entered.slot taken) c.lowest_free-free.ensures.slot (rw c.in-Takes.is refl) stands c.in_ok-decided.ensures.decides
 
-pub returns-in_ok-make_one-in-Takes-clause-found : goal.returns-in_ok-make_one-in-Takes-clause-found
-returns-in_ok-make_one-in-Takes-clause-found c = record {
+pub returns-in-Takes-clause-found : goal.returns-in-Takes-clause-found
+returns-in-Takes-clause-found c = record {
   lowest = sym c.lowest_free-free.ensures.slot ∙ (rw c.in-Takes.is at c.in_ok-decided.ensures.slot);
   applies = rw c.in-Takes.is at c.in_ok-decided.ensures.can_apply;
 }
