@@ -15,18 +15,18 @@ use Rattle.sha2.specs.Hashers.{Holds256}
 use Rattle.sha2.specs.Sha256.{sha256}
 use Rattle.sha2.specs.declared.Sha256.{Sha256}
 use Rattle.ta_isa.specs.declared.boot.Boot.{Boot}
-use Rattle.trace_text.specs.Sound.{IsSound}
 use Rattle.trace_text.specs.declared.item.Item.{Item}
 use Rattle.trace_text.specs.declared.trace.Trace.{Trace}
 use Rattle.workload.specs.Work.{made_boot, made_trace}
 use Rattle.trace_runner.specs.Content.{refused_in}
 use Rattle.trace_runner.specs.Digesting.{IsDigested}
 use Rattle.trace_runner.specs.Playing.{Follows, IsPlayedTo}
+use Rattle.trace_runner.specs.Starting.{IsAtStart}
 use Rattle.trace_runner.specs.declared.digesting.Digested.{Digested}
 use Rattle.trace_runner.specs.declared.player.Player.{Player}
 use Rattle.trace_runner.specs.declared.player.Stop.{Stop}
 use Rattle.trace_runner.specs.declared.player.Stop.TheVariants.{Full}
-use Rattle.trace_runner.proofs.Playable.{Playing, playing-more, playing-stopped}
+use Rattle.trace_runner.proofs.Playable.{Playing, playing-first, playing-more, playing-stopped}
 
 -- the items so far were played, the hasher holds their text, and no line is held
 pub record Digesting (natives : List Native) (trace : Trace) (items : List Item) (at : ℕ) (player : Player)
@@ -37,10 +37,14 @@ pub record Digesting (natives : List Native) (trace : Trace) (items : List Item)
   pub empty : held ≡ []
 
 pub digesting-first : (natives : List Native) (trace : Trace) (items : List Item) (player : Player) (hasher : Sha256)
-    (held : List ℕ) → Playing natives trace items 0 player (Some []) (Some []) → Holds256 hasher [] → held ≡ []
+    (held : List ℕ) → IsAtStart natives trace items player → Holds256 hasher [] → held ≡ []
     → Digesting natives trace items 0 player hasher held
-digesting-first natives trace items player hasher held playing holds empty =
-    record { text = []; playing = playing; holds = holds; empty = empty }
+digesting-first natives trace items player hasher held start holds empty = record {
+  text = [];
+  playing = playing-first natives trace items player (Some []) start;
+  holds = holds;
+  empty = empty;
+}
 
 -- what an item prints behind nothing it prints behind any text
 printed-behind : (boot : Booted) (play : Play) (after : Option Play) (player : Player) (text line : List ℕ)
@@ -68,16 +72,15 @@ digesting-more natives trace items at i before after hasher more held line left 
 }
 
 -- an entry was refused
-pub digesting-full : (natives : List Native) (uuids : List (List ℕ)) (trace : Trace) (items : List Item) (at : ℕ)
-    (i : Item) (before after : Player) (stop : Stop) (hasher : Sha256) (held : List ℕ) (old new : Option (List ℕ))
-    → IsSound uuids trace → at < length items → i ≡ get_or items at i
+pub digesting-full : (natives : List Native) (trace : Trace) (items : List Item) (at : ℕ) (i : Item)
+    (before after : Player) (stop : Stop) (hasher : Sha256) (held : List ℕ) (old new : Option (List ℕ))
+    → at < length items → i ≡ get_or items at i
     → Digesting natives trace items at before hasher held → stop ≡ Full
     → ((boot : Booted) (play : Play) → IsPlayedTo boot play before
     → Follows boot play (after_item boot i play) (Err stop) after old new)
     → IsSome (refused_in natives trace)
-digesting-full natives uuids trace items at i before after stop hasher held old new sound lt is d full follows =
-    (playing-stopped natives uuids trace items at i before after Full (Some []) (Some d.text) (Some d.text) sound lt is
-    d.playing
+digesting-full natives trace items at i before after stop hasher held old new lt is d full follows =
+    (playing-stopped natives trace items at i before after Full (Some []) (Some d.text) (Some d.text) lt is d.playing
     (λ boot play stands.
     let f = subst (λ (s : Stop). Follows boot play (after_item boot i play) (Err s) after old new) full
     (follows boot play stands) in

@@ -22,7 +22,8 @@ use Rattle.trace_text.specs.declared.trace.Fill.{Fill}
 use Rattle.trace_text.specs.declared.trace.Trace.{Trace}
 use Rattle.core_machine.specs.Laws.{MachinesStand}
 use Rattle.trace_runner.specs.Playing.{AreLast, CanBeTaken, Follows, IsPlayedTo}
-use Rattle.trace_runner.specs.Run.{IsTold}
+use Rattle.trace_runner.specs.Run.{IsTold, uuids_of}
+use Rattle.trace_runner.specs.Starting.{IsAtStart, trace_of}
 use Rattle.core_machine.specs.Standing.{IsAt, begun}
 use Rattle.core_machine.specs.declared.machine.Machine.{Machine}
 use Rattle.trace_runner.specs.declared.player.Player.{Player}
@@ -139,6 +140,7 @@ module _ (natives : List Native) (uuids : List (List ℕ)) (boot : Boot) (trace 
 -- the items so far were played, on a core of the trace's boot
 pub record Playing (natives : List Native) (trace : Trace) (items : List Item) (at : ℕ) (player : Player)
     (old new : Option (List ℕ)) : Type 0 where
+  pub sound : IsSound (uuids_of natives) trace
   pub boot : Boot
   pub is : trace.boot ≡ Some boot
   pub boots : IsBooted (booted boot natives)
@@ -151,23 +153,31 @@ few-there : (uuids : List (List ℕ)) (trace : Trace) (boot : Boot) → IsSound 
 few-there uuids trace boot sound is =
     (subst (λ (o : Option Boot). IfSome o (IsSoundBoot uuids)) is sound.boot).boots.few_processors
 
-pub playing-first : (natives : List Native) (trace : Trace) (boot : Boot) (items : List Item) (fills : List Fill)
-    (player : Player) (a : Option (List ℕ)) → trace.boot ≡ Some boot
-    → IsBooted (booted boot natives) → items ≡ trace.items → fills ≡ trace.fills
+-- a trace that has a boot is that of its boot, its fills and its items
+pub same-trace : (trace : Trace) (boot : Boot) (fills : List Fill) (items : List Item) → trace.boot ≡ Some boot
+    → fills ≡ trace.fills → items ≡ trace.items → trace_of boot fills items ≡ trace
+same-trace trace boot fills items is filled_by same =
+    ap (λ (fs : List Fill). trace_of boot fs items) filled_by ∙ ap (λ (l : List Item). trace_of boot trace.fills l) same
+    ∙ ap (λ (o : Option Boot). record { boot = o; fills = trace.fills; items = trace.items }) (sym is)
+
+-- a first player stands before the items of its trace
+pub at-start : (natives : List Native) (boot : Boot) (fills : List Fill) (items : List Item) (player : Player)
+    → IsSound (uuids_of natives) (trace_of boot fills items) → IsBooted (booted boot natives)
     → IsPlayedTo (booted boot natives) (first_play (zeros 0x400000) (booted boot natives) fills) player
-    → Playing natives trace items 0 player a a
-playing-first natives trace boot items fills player a is boots same filled_by stands = record {
-  boot = boot;
-  is = is;
-  boots = boots;
-  same = same;
-  written = record {
-    play = first_play (zeros 0x400000) (booted boot natives) trace.fills;
-    taken = refl;
-    stands = subst (λ (fs : List Fill). IsPlayedTo (booted boot natives)
-        (first_play (zeros 0x400000) (booted boot natives) fs) player) filled_by stands;
-    put = Appends-nil a;
-  };
+    → IsAtStart natives (trace_of boot fills items) items player
+at-start natives boot fills items player sound boots stands =
+    record { sound = sound; same = refl; boot = boot; has_boot = refl; boots = boots; stands = stands }
+
+pub playing-first : (natives : List Native) (trace : Trace) (items : List Item) (player : Player)
+    (a : Option (List ℕ)) → IsAtStart natives trace items player → Playing natives trace items 0 player a a
+playing-first natives trace items player a start = record {
+  sound = start.sound;
+  boot = start.boot;
+  is = start.has_boot;
+  boots = start.boots;
+  same = start.same;
+  written = Written-none natives (uuids_of natives) start.boot trace start.boots start.sound start.has_boot player a
+      start.stands;
 }
 
 in-trace : (items all : List Item) (at : ℕ) (i : Item) → items ≡ all → at < length items → i ≡ get_or items at i
@@ -175,14 +185,13 @@ in-trace : (items all : List Item) (at : ℕ) (i : Item) → items ≡ all → a
 in-trace items all at i same lt is =
     (subst (λ (l : List Item). at < length l) same lt, subst (λ (l : List Item). i ≡ get_or l at i) same is)
 
-pub playing-takes : (natives : List Native) (uuids : List (List ℕ)) (trace : Trace) (items : List Item) (at : ℕ)
-    (i : Item) (player : Player) (a b : Option (List ℕ)) → MachinesStand
-    → IsSound uuids trace → at < length items → i ≡ get_or items at i → Playing natives trace items at player a b
-    → CanBeTaken player.machine i
-playing-takes natives uuids trace items at i player a b stand sound lt is p =
+pub playing-takes : (natives : List Native) (trace : Trace) (items : List Item) (at : ℕ) (i : Item) (player : Player)
+    (a b : Option (List ℕ)) → MachinesStand → at < length items → i ≡ get_or items at i
+    → Playing natives trace items at player a b → CanBeTaken player.machine i
+playing-takes natives trace items at i player a b stand lt is p =
     let there = in-trace items trace.items at i p.same lt is in
-    next-taken natives uuids p.boot trace p.boots sound p.is at i player a b stand
-    (few-there uuids trace p.boot sound p.is) there.0 there.1 p.written
+    next-taken natives (uuids_of natives) p.boot trace p.boots p.sound p.is at i player a b stand
+    (few-there (uuids_of natives) trace p.boot p.sound p.is) there.0 there.1 p.written
 
 pub playing-more : (natives : List Native) (trace : Trace) (items : List Item) (at : ℕ) (i : Item)
     (before after : Player) (a b c : Option (List ℕ)) → at < length items → i ≡ get_or items at i
@@ -193,6 +202,7 @@ playing-more natives trace items at i before after a b c lt is p follows =
     let there = in-trace items trace.items at i p.same lt is in
     let next = follows (booted p.boot natives) p.written.play p.written.stands in
     record {
+      sound = p.sound;
       boot = p.boot;
       is = p.is;
       boots = p.boots;
@@ -203,19 +213,19 @@ playing-more natives trace items at i before after a b c lt is p follows =
           p.written next.0 next.1 next.2 next.3;
     }
 
-pub playing-stopped : (natives : List Native) (uuids : List (List ℕ)) (trace : Trace) (items : List Item) (at : ℕ)
-    (i : Item) (before after : Player) (stop : Stop) (a b c : Option (List ℕ))
-    → IsSound uuids trace → at < length items → i ≡ get_or items at i → Playing natives trace items at before a b
+pub playing-stopped : (natives : List Native) (trace : Trace) (items : List Item) (at : ℕ) (i : Item)
+    (before after : Player) (stop : Stop) (a b c : Option (List ℕ))
+    → at < length items → i ≡ get_or items at i → Playing natives trace items at before a b
     → ((boot : Booted) (play : Play) → IsPlayedTo boot play before
     → Follows boot play (after_item boot i play) (Err stop) after b c) → IsTold natives trace (Err stop) a c
-playing-stopped natives uuids trace items at i before after stop a b c sound lt is p follows =
+playing-stopped natives trace items at i before after stop a b c lt is p follows =
     let there = in-trace items trace.items at i p.same lt is in
-    stopped natives uuids p.boot trace p.boots sound p.is at i before after stop a b c there.0 there.1 p.written
-    (follows (booted p.boot natives) p.written.play p.written.stands)
+    stopped natives (uuids_of natives) p.boot trace p.boots p.sound p.is at i before after stop a b c there.0 there.1
+    p.written (follows (booted p.boot natives) p.written.play p.written.stands)
 
-pub playing-ended : (natives : List Native) (uuids : List (List ℕ)) (trace : Trace) (items : List Item) (at : ℕ)
-    (player : Player) (a b : Option (List ℕ)) → IsSound uuids trace
-    → length items ≤ at → Playing natives trace items at player a b → IsTold natives trace (Ok tt) a b
-playing-ended natives uuids trace items at player a b sound whole p =
-    ended natives uuids p.boot trace p.boots sound p.is at player a b
+pub playing-ended : (natives : List Native) (trace : Trace) (items : List Item) (at : ℕ) (player : Player)
+    (a b : Option (List ℕ)) → length items ≤ at → Playing natives trace items at player a b
+    → IsTold natives trace (Ok tt) a b
+playing-ended natives trace items at player a b whole p =
+    ended natives (uuids_of natives) p.boot trace p.boots p.sound p.is at player a b
     (subst (λ (l : List Item). length l ≤ at) p.same whole) p.written

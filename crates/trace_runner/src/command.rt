@@ -8,7 +8,7 @@ use itoa::Buffer;
 use workload::MOST_CALLS;
 
 /// In which grammar an input is read.
-#[derive(Clone, Copy, Debug, PartialEq, Eq)]
+#[derive(Clone, Copy)]
 pub enum Grammar {
     /// That of traces as text.
     Text,
@@ -19,7 +19,7 @@ pub enum Grammar {
 }
 
 /// What the words ask for.
-#[derive(Clone, Copy, Debug, PartialEq, Eq)]
+#[derive(Clone, Copy)]
 pub enum Command {
     /// The input is read in this grammar, and what it spells is played or printed.
     Serve(Grammar),

@@ -1,11 +1,14 @@
 //! Playing a trace of which no line is kept: each goes to a digest as it comes.
 
-ghost use Rattle.std.specs.Prelude.{◌≡◌, ℕ, [], Err, IfOk, IsSome, Some};
+ghost use Rattle.std.specs.Prelude.{◌≡◌, ℕ, List, [], Err, IfOk, IsSome, Some};
+ghost use Rattle.kernel_model.specs.Application.{Native};
 ghost use Rattle.native_tas.specs.Table.{entries};
 ghost use Rattle.trace_text.specs.Sound.{IsSound};
+ghost use Rattle.trace_text.specs.declared.trace.Trace.{Trace};
 ghost use Rattle.trace_runner.specs.Content.{refused_in};
 ghost use Rattle.trace_runner.specs.Digesting.{IsDigested};
 ghost use Rattle.trace_runner.specs.Run.{uuids_of};
+ghost use Rattle.trace_runner.specs.Starting.{IsAtStart, trace_of};
 
 use crate::item_lines::ItemLines;
 use crate::play::first_player;
@@ -14,13 +17,58 @@ use core_machine::machines_stand;
 use native_tas::Natives;
 use sha2::{Digest, Sha256};
 use std::alloc::Global;
-use trace_text::Trace;
+use ta_isa::Boot;
+use trace_text::{Fill, Item, Trace};
 
 /// What is known of a play at its end: the player, and the SHA-256 of the lines that were printed.
 #[derive(Drop)]
 pub struct Digested {
     pub player: Player,
     pub digest: [u8; 32],
+}
+
+/// Plays the items of a trace on a player that stands before the first of them, up to a refused entry or want of memory,
+/// and gives the SHA-256 of the lines that they print.
+fn digest_items(alloc: Global, player: &mut Player, items: &[Item]) -> Result<[u8; 32], Stop>
+    requires { (natives : List Native) × (trace : Trace) × IsAtStart natives trace items.now player.old }
+    ensures told { IfOk result (λ digest. (natives : List Native) (trace : Trace)
+        → IsAtStart natives trace items.now player.old
+        → IsDigested natives trace (record { player = player.new; digest = digest })) }
+    ensures full { result ≡ Err Stop.Full → (natives : List Native) (trace : Trace)
+        → IsAtStart natives trace items.now player.old → IsSome (refused_in natives trace) }
+    ensures failed { result ≡ Err Stop.Failed → ⊥ }
+{
+    machines_stand();
+    let mut lines = ItemLines::new(alloc);
+    let mut hasher = Sha256::new();
+    for item in items {
+        player.play_item(alloc, item, &mut lines)?;
+        hasher.update(lines.bytes());
+        lines.clear();
+    }
+    Ok(hasher.finalize())
+}
+
+/// Plays the trace of this boot, with these fills and items.
+fn digest_booted(
+    alloc: Global,
+    natives: &Natives,
+    boot: Boot,
+    fills: &[Fill],
+    items: &[Item],
+) -> Result<Digested, Stop>
+    requires { IsSound (uuids_of (entries natives.now)) (trace_of boot fills.now items.now) }
+    ensures told { IfOk result (IsDigested (entries natives.now) (trace_of boot fills.now items.now)) }
+    ensures full { result ≡ Err Stop.Full → IsSome (refused_in (entries natives.now) (trace_of boot fills.now items.now)) }
+    ensures failed { result ≡ Err Stop.Failed → ⊥ }
+{
+    let Ok(mut player) = first_player(alloc, boot, natives, fills) else {
+        return Err(Stop::Memory);
+    };
+    match digest_items(alloc, &mut player, items) {
+        Ok(digest) => Ok(Digested { player, digest }),
+        Err(stop) => Err(stop),
+    }
 }
 
 /// Plays a trace that has a boot, up to a refused entry or want of memory.
@@ -33,19 +81,5 @@ pub fn digest_play(alloc: Global, natives: &Natives, trace: Trace) -> Result<Dig
 {
     let Trace { boot, fills, items } = trace;
     let Some(boot) = boot else { unreachable!() };
-    let Ok(mut player) = first_player(alloc, boot, natives, fills.as_slice()) else {
-        return Err(Stop::Memory);
-    };
-    machines_stand();
-    let mut lines = ItemLines::new(alloc);
-    let mut hasher = Sha256::new();
-    for item in items.as_slice() {
-        player.play_item(alloc, item, &mut lines)?;
-        hasher.update(lines.bytes());
-        lines.clear();
-    }
-    Ok(Digested {
-        player,
-        digest: hasher.finalize(),
-    })
+    digest_booted(alloc, natives, boot, fills.as_slice(), items.as_slice())
 }

@@ -15,7 +15,7 @@ pub const LONGEST_INPUT: usize = 1 << 24;
 const CHUNK_BYTES: usize = 1 << 16;
 
 /// Why an input was not read to its end.
-#[derive(Clone, Copy, Debug, PartialEq, Eq)]
+#[derive(Clone, Copy)]
 pub enum InputFault {
     /// The source counted a fault.
     Failed,

@@ -1,16 +1,18 @@
 //! Playing a trace: its boot, its fills, and then its items in their order.
-ghost use Rattle.std.specs.Prelude.{◌≡◌, ◌↔◌, ◌≤◌, [], All, Err, IfOk, IsTrue, replicate};
+ghost use Rattle.std.specs.Prelude.{◌≡◌, ◌↔◌, ◌≤◌, List, [], All, Err, IfOk, IsTrue, replicate};
 ghost use Rattle.base.specs.Zeros.{zeros};
-ghost use Rattle.kernel_model.specs.Application.{IsBooted, booted};
+ghost use Rattle.kernel_model.specs.Application.{IsBooted, Native, booted};
 ghost use Rattle.kernel_state.specs.Meaning.{booted_of, events_of};
 ghost use Rattle.native_tas.specs.Table.{entries};
 ghost use Rattle.play_model.specs.Play.{filled, first_play};
 ghost use Rattle.ports.specs.Port.{Rose};
 ghost use Rattle.ta_isa.specs.Boots.{IsBoot};
 ghost use Rattle.trace_text.specs.Sound.{IsSound, IsSoundFill};
+ghost use Rattle.trace_text.specs.declared.trace.Trace.{Trace};
 ghost use Rattle.trace_runner.specs.Playing.{IsPlayedTo};
 ghost use Rattle.trace_runner.specs.Content.{HasTooMany, is_smc};
 ghost use Rattle.trace_runner.specs.Run.{IsTold, uuids_of};
+ghost use Rattle.trace_runner.specs.Starting.{IsAtStart, trace_of};
 
 use crate::player::{Player, Stop};
 use base::NoMemory;
@@ -95,6 +97,47 @@ pub fn first_player(
     Ok(Player::new(Machine::new(alloc, core, lanes)?))
 }
 
+/// Plays the items of a trace on a player that stands before the first of them, and prints each line as it comes, up to
+/// a refused entry, a fault of the sink or want of memory.
+fn play_items<K: Sink>(
+    alloc: Global,
+    player: &mut Player,
+    items: &[Item],
+    out: &mut K,
+) -> Result<(), Stop>
+    requires { (natives : List Native) × (trace : Trace) × IsAtStart natives trace items.now player.old }
+    ensures told { (natives : List Native) (trace : Trace) → IsAtStart natives trace items.now player.old
+        → IsTold natives trace result (K.held out.old) (K.held out.new) }
+    ensures failed { result ≡ Err Stop.Failed → Rose (K.faults out.old) (K.faults out.new) }
+    ensures count { K.faults out.old ≤ K.faults out.new }
+{
+    machines_stand();
+    for item in items {
+        player.play_item(alloc, item, out)?;
+    }
+    Ok(())
+}
+
+/// Plays the trace of this boot, with these fills and items, and prints each line as it comes.
+fn play_booted<K: Sink>(
+    alloc: Global,
+    natives: &Natives,
+    boot: Boot,
+    fills: &[Fill],
+    items: &[Item],
+    out: &mut K,
+) -> Result<(), Stop>
+    requires { IsSound (uuids_of (entries natives.now)) (trace_of boot fills.now items.now) }
+    ensures told { IsTold (entries natives.now) (trace_of boot fills.now items.now) result (K.held out.old) (K.held out.new) }
+    ensures failed { result ≡ Err Stop.Failed → Rose (K.faults out.old) (K.faults out.new) }
+    ensures count { K.faults out.old ≤ K.faults out.new }
+{
+    let Ok(mut player) = first_player(alloc, boot, natives, fills) else {
+        return Err(Stop::Memory);
+    };
+    play_items(alloc, &mut player, items, out)
+}
+
 /// Plays a trace and prints each line as it comes, up to a refused entry, a fault of the sink or want of memory.
 pub fn play<K: Sink>(
     alloc: Global,
@@ -108,15 +151,15 @@ pub fn play<K: Sink>(
     ensures count { K.faults out.old ≤ K.faults out.new }
 {
     let Trace { boot, fills, items } = trace;
-    let Some(boot) = boot else {
-        return Ok(());
-    };
-    let Ok(mut player) = first_player(alloc, boot, natives, fills.as_slice()) else {
-        return Err(Stop::Memory);
-    };
-    machines_stand();
-    for item in items.as_slice() {
-        player.play_item(alloc, item, out)?;
+    match boot {
+        Some(boot) => play_booted(
+            alloc,
+            natives,
+            boot,
+            fills.as_slice(),
+            items.as_slice(),
+            out,
+        ),
+        None => Ok(()),
     }
-    Ok(())
 }

@@ -1,9 +1,12 @@
 //! The line that sums up the play of a made trace.
 
-ghost use Rattle.std.specs.Prelude.{◌≡◌, ◌++◌, IfOk, OnOk};
-ghost use Rattle.made_play.specs.Summary.{a0_told, answers, answers_in, counted, is_limit, is_ok, is_resume, is_rpc, summary_line};
-ghost use Rattle.trace_runner.specs.Counts.{counts_text};
+ghost use Rattle.std.specs.Prelude.{◌≡◌, ◌∷◌, [], ◌++◌, codes, IfOk, OnOk};
+ghost use Rattle.std.specs.Fmt.{decimal};
+ghost use Rattle.hex.specs.Hex.{encode_lower};
+ghost use Rattle.made_play.specs.Summary.{answers, answers_in, is_limit, is_ok, is_resume, is_rpc, summary_line};
+ghost use Rattle.trace_runner.specs.Counts.{counts_text, is_of_kind};
 
+use crate::line::{push_hex, push_numbered};
 use event_journal::Event;
 use smc_abi::{ERESUME, ETHREAD_LIMIT, OK, UNKNOWN_FUNCTION};
 use std::alloc::{AllocError, Global};
@@ -11,61 +14,51 @@ use std::alloc::{AllocError, Global};
 /// The upper half of each answer that asks the normal world for something.
 const RPC_PREFIX: u32 = 0xffff;
 
-/// The a0 of an event that is an answer.
-fn a0_told(event: &Event) -> Option<u32>
-    ensures { result ≡ a0_told event.now }
-{
-    match event {
-        Event::Entry { .. } => None,
-        Event::Exit { regs, .. } => Some(regs.a[0]),
+/// A kind of answer that is counted.
+#[derive(Clone, Copy)]
+enum AnswerKind {
+    /// `OPTEE_SMC_RETURN_OK`.
+    Ok,
+    /// `OPTEE_SMC_RETURN_ETHREAD_LIMIT`.
+    Limit,
+    /// `OPTEE_SMC_RETURN_ERESUME`.
+    Resume,
+    /// It asks the normal world for something. All ones are the answer to an unknown function.
+    Rpc,
+}
+
+impl AnswerKind {
+    /// Whether an answer with this a0 is of the kind.
+    fn has(self, a0: u32) -> bool
+        ensures { result ≡ is_of_kind self a0 }
+    {
+        match self {
+            AnswerKind::Ok => a0 == OK,
+            AnswerKind::Limit => a0 == ETHREAD_LIMIT,
+            AnswerKind::Resume => a0 == ERESUME,
+            AnswerKind::Rpc => a0 / 0x1_0000 == RPC_PREFIX && a0 != UNKNOWN_FUNCTION,
+        }
     }
-}
 
-/// `OPTEE_SMC_RETURN_OK`.
-fn is_ok(event: &Event) -> bool
-    ensures { result ≡ answers is_ok event.now }
-{
-    matches!(a0_told(event), Some(OK))
-}
-
-/// `OPTEE_SMC_RETURN_ETHREAD_LIMIT`.
-fn is_limit(event: &Event) -> bool
-    ensures { result ≡ answers is_limit event.now }
-{
-    matches!(a0_told(event), Some(ETHREAD_LIMIT))
-}
-
-/// `OPTEE_SMC_RETURN_ERESUME`.
-fn is_resume(event: &Event) -> bool
-    ensures { result ≡ answers is_resume event.now }
-{
-    matches!(a0_told(event), Some(ERESUME))
-}
-
-/// An answer that asks the normal world for something. All ones are the answer to an unknown function.
-fn is_rpc(event: &Event) -> bool
-    ensures { result ≡ answers is_rpc event.now }
-{
-    match a0_told(event) {
-        Some(a0) => a0 / 0x1_0000 == RPC_PREFIX && a0 != UNKNOWN_FUNCTION,
-        None => false,
+    /// Whether an event is an answer of the kind.
+    fn is_told_by(self, event: &Event) -> bool
+        ensures { result ≡ answers (is_of_kind self) event.now }
+    {
+        match event {
+            Event::Entry { .. } => false,
+            Event::Exit { regs, .. } => self.has(regs.a[0]),
+        }
     }
-}
 
-/// Appends a word and a number, each behind a space.
-fn push_counted(
-    alloc: Global,
-    line: &mut Vec<u8>,
-    word: &[u8],
-    count: usize,
-) -> Result<(), AllocError>
-    ensures { OnOk result (line.new.items ≡ line.old.items ++ counted word.now count) }
-{
-    line.push(b' ')?;
-    line.extend_from_slice(word)?;
-    line.push(b' ')?;
-    line.extend_from_slice(count.to_string(alloc)?.as_bytes())?;
-    Ok(())
+    /// How many answers of a history are of the kind.
+    fn count_in(self, history: &[Event]) -> usize
+        ensures { result ≡ answers_in history.now (is_of_kind self) }
+    {
+        history
+            .iter()
+            .filter(|event| self.is_told_by(*event))
+            .count()
+    }
 }
 
 /// How many answers of a history were of each kind.
@@ -85,10 +78,10 @@ impl AnswerCounts {
         ensures rpc { result.rpc ≡ answers_in history.now is_rpc }
     {
         AnswerCounts {
-            ok: history.iter().filter(|event| is_ok(*event)).count(),
-            limit: history.iter().filter(|event| is_limit(*event)).count(),
-            resume: history.iter().filter(|event| is_resume(*event)).count(),
-            rpc: history.iter().filter(|event| is_rpc(*event)).count(),
+            ok: AnswerKind::Ok.count_in(history),
+            limit: AnswerKind::Limit.count_in(history),
+            resume: AnswerKind::Resume.count_in(history),
+            rpc: AnswerKind::Rpc.count_in(history),
         }
     }
 }
@@ -97,10 +90,26 @@ impl AnswerCounts {
 fn push_counts(alloc: Global, line: &mut Vec<u8>, counts: &AnswerCounts) -> Result<(), AllocError>
     ensures { OnOk result (line.new.items ≡ line.old.items ++ counts_text counts.now) }
 {
-    push_counted(alloc, line, b"ok", counts.ok)?;
-    push_counted(alloc, line, b"limit", counts.limit)?;
-    push_counted(alloc, line, b"resume", counts.resume)?;
-    push_counted(alloc, line, b"rpc", counts.rpc)
+    push_numbered(alloc, line, b" ok ", counts.ok as u64)?;
+    push_numbered(alloc, line, b" limit ", counts.limit as u64)?;
+    push_numbered(alloc, line, b" resume ", counts.resume as u64)?;
+    push_numbered(alloc, line, b" rpc ", counts.rpc as u64)
+}
+
+/// Appends the words that ask for the made trace.
+fn push_words(alloc: Global, line: &mut Vec<u8>, seed: u64, count: u32) -> Result<(), AllocError>
+    ensures { OnOk result (line.new.items ≡ line.old.items ++ codes "work " ++ decimal seed ++ 32 ∷ decimal count) }
+{
+    push_numbered(alloc, line, b"work ", seed)?;
+    push_numbered(alloc, line, b" ", u64::from(count))
+}
+
+/// Appends a digest, which ends the line.
+fn push_digest(alloc: Global, line: &mut Vec<u8>, digest: &[u8; 32]) -> Result<(), AllocError>
+    ensures { OnOk result (line.new.items ≡ line.old.items ++ codes " sha256 " ++ encode_lower digest.now ++ 10 ∷ []) }
+{
+    line.extend_from_slice(b" sha256 ")?;
+    push_hex(alloc, line, digest)
 }
 
 /// The summary of a history whose lines have this digest.
@@ -114,13 +123,8 @@ pub fn summary_line(
     ensures { IfOk result (λ line. line.items ≡ summary_line seed count history.now digest.now) }
 {
     let mut line = Vec::new(alloc);
-    line.extend_from_slice(b"work ")?;
-    line.extend_from_slice(seed.to_string(alloc)?.as_bytes())?;
-    line.push(b' ')?;
-    line.extend_from_slice(count.to_string(alloc)?.as_bytes())?;
+    push_words(alloc, &mut line, seed, count)?;
     push_counts(alloc, &mut line, &AnswerCounts::of(history))?;
-    line.extend_from_slice(b" sha256 ")?;
-    line.extend_from_slice(hex::encode(alloc, digest)?.as_bytes())?;
-    line.push(b'\n')?;
+    push_digest(alloc, &mut line, digest)?;
     Ok(line)
 }

@@ -1,55 +1,20 @@
-use Rattle.std.proofs.Common.{arith}
-use Rattle.std.proofs.lemmas.Result.{err_from_is_err_and}
+use Rattle.std.proofs.Common.{subst, sym}
 use Rattle.native_tas.specs.Table.{entries}
-use Rattle.ports.specs.PortLaws.{Rose-earlier}
-use Rattle.trace_runner.specs.Run.{uuids_of}
-use Rattle.trace_runner.proofs.Playable.{playing-ended, playing-first, playing-more, playing-stopped, playing-takes}
+use Rattle.trace_text.specs.Sound.{IsSound}
+use Rattle.trace_text.specs.declared.trace.Trace.{Trace}
+use Rattle.trace_runner.specs.Run.{IsTold, uuids_of}
+use Rattle.trace_runner.proofs.Playable.{same-trace}
 use Rattle.trace_runner.proofs.play.play.Goals as goal
 
-pub loop-item-init : goal.loop-item-init
-loop-item-init g c = record {
-  playing = playing-first
-      (entries c.args.natives.now) c.args.trace c.in-Some.boot _ _ c.in-Ok.player _ c.in-Some.is c.in-Ok.ensures.boots
-      c.as_slice-item-items.ensures c.as_slice.ensures c.in-Ok.ensures.stands;
-  count = omega arith;
-}
+pub play_booted-requires : goal.play_booted-requires
+play_booted-requires g c =
+    subst (IsSound (uuids_of (entries c.args.natives.now)))
+    (sym (same-trace c.args.trace c.in-Some.boot _ _ c.in-Some.is c.as_slice.ensures c.as_slice-in-Some.ensures))
+    c.requires
 
-pub play_item-requires : goal.play_item-requires
-play_item-requires g c =
-    playing-takes (entries c.args.natives.now)
-    (uuids_of (entries c.args.natives.now)) c.args.trace _ _ _ c.loop-item.player _ _ c.machines_stand.ensures
-    c.requires c.loop-item-test.true c.item-item.is
-    c.loop-item.invariant.playing
-
-pub returns-in_err-play_item-clause-told : goal.returns-in_err-play_item-clause-told
-returns-in_err-play_item-clause-told g c =
-    let told = err_from_is_err_and c.from_residual.result c.from_residual.ensures.1 in
-    rw (told.1, told.2) (playing-stopped (entries c.args.natives.now)
-    (uuids_of (entries c.args.natives.now)) c.args.trace _ _ _ c.loop-item.player _ c.in_err-play_item.field-0.0 _
-    _ _ c.requires c.loop-item-test.true c.item-item.is
-    c.loop-item.invariant.playing c.in_err-play_item.ensures.follows)
-
-pub returns-in_err-play_item-clause-failed : goal.returns-in_err-play_item-clause-failed
-returns-in_err-play_item-clause-failed g c = λ e.
-    let told = err_from_is_err_and c.from_residual.result c.from_residual.ensures.1 in
-    let one = told.1 in
-    let two = told.2 in
-    Rose-earlier _ _ _ c.loop-item.invariant.count (c.in_err-play_item.ensures.failed cc)
-
-pub returns-in_err-play_item-clause-count : goal.returns-in_err-play_item-clause-count
-returns-in_err-play_item-clause-count g c = let old = c.loop-item.invariant.count in let more =
-    c.play_item.ensures.count in omega arith
-
-pub loop-item-preserved : goal.loop-item-preserved
-loop-item-preserved g c = record {
-  playing = playing-more
-      (entries c.args.natives.now) c.args.trace _ _ _ c.loop-item.player _ _ _ _ c.loop-item-test.true c.item-item.is
-      c.loop-item.invariant.playing c.in_ok-play_item.ensures.follows;
-  count = let old = c.loop-item.invariant.count in let more = c.play_item.ensures.count in omega arith;
-}
-
-pub returns-clause-told : goal.returns-clause-told
-returns-clause-told g c =
-    playing-ended (entries c.args.natives.now)
-    (uuids_of (entries c.args.natives.now)) c.args.trace _ _ _ _ _ c.requires
-    (omega (arith, c.loop-item-test.false)) c.loop-item.invariant.playing
+pub returns-in-Some-clause-told : goal.returns-in-Some-clause-told
+returns-in-Some-clause-told g c =
+    subst (λ (trace : Trace). IsTold (entries c.args.natives.now) trace c.play_booted.result
+    (g.K.Sink.held c.args.out.now) (g.K.Sink.held c.play_booted.new.out))
+    (same-trace c.args.trace c.in-Some.boot _ _ c.in-Some.is c.as_slice.ensures c.as_slice-in-Some.ensures)
+    c.play_booted.ensures.told

@@ -1,11 +1,9 @@
 use Rattle.std.proofs.Common.{◌≡◌, ◌++◌, take}
-use Rattle.std.specs.Prelude.{codes}
-use Rattle.std.specs.Fmt.{decimal}
 use Rattle.std.specs.List.{flat_map}
 use Rattle.play_model.specs.Line.{register_text}
-use Rattle.trace_runner.proofs.line.ret_line.Given as goal
+use Rattle.trace_runner.proofs.line.push_registers.Given as goal
 
 -- the line holds the registers so far
 abbrev pub invariant-loop-register : goal.invariant-loop-register
 invariant-loop-register l =
-    l.line.items ≡ codes "ret " ++ decimal l.fn.cpu ++ flat_map register_text (take l.register-index l.register-items)
+    l.line.items ≡ l.fn.line.items ++ flat_map register_text (take l.register-index l.register-items)
