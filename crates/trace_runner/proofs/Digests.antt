@@ -1,10 +1,13 @@
 -- Items played one after the other, whose lines go to a digest and aren't kept.
-use Rattle.std.proofs.Common.{◌≡◌, ℕ, ◌+◌, ◌<◌, ◌≤◌, inl, inr, List, [], ◌++◌, length, get_or, Option, Some, None, sym, ap, subst, ◌∙◌, arith}
-use Rattle.std.specs.Prelude.{IsSome, IsSomeAnd, Ok, Err}
+use Rattle.std.proofs.Common.{◌≡◌, ℕ, ◌+◌, ◌<◌, ◌≤◌, inl, inr, List, [], ◌∷◌, ◌++◌, length, get_or, Option, Some, None, refl, sym, ap, subst, ◌∙◌, arith}
+use Rattle.std.specs.Fmt.{decimal}
+use Rattle.std.specs.Prelude.{IsSome, IsSomeAnd, Ok, Err, codes}
 use Rattle.std.specs.Option.{option_and_then, option_map}
 use Rattle.std.proofs.lemmas.List.{take_all}
 use Rattle.kernel_model.specs.Application.{Booted, Native, booted}
-use Rattle.made_play.specs.Summary.{made_play, summary_line, summary_of, summary_of_play}
+use Rattle.hex.specs.Hex.{encode_lower}
+use Rattle.kernel_state.specs.Meaning.{events_of}
+use Rattle.made_play.specs.Summary.{answer_counts, made_play, summary_line, summary_of, summary_of_play}
 use Rattle.made_play.proofs.Ends.{law as made_plays_end}
 use Rattle.play_model.specs.Play.{Play, after_item, after_items, first_play, played}
 use Rattle.base.specs.Zeros.{zeros}
@@ -19,10 +22,12 @@ use Rattle.trace_text.specs.declared.item.Item.{Item}
 use Rattle.trace_text.specs.declared.trace.Trace.{Trace}
 use Rattle.workload.specs.Work.{made_boot, made_trace}
 use Rattle.trace_runner.specs.Content.{refused_in}
+use Rattle.trace_runner.specs.Counts.{AreCounts, counts_text, line_with}
 use Rattle.trace_runner.specs.Digesting.{IsDigested}
 use Rattle.trace_runner.specs.Playing.{Follows, IsPlayedTo}
 use Rattle.trace_runner.specs.Starting.{IsAtStart}
 use Rattle.trace_runner.specs.declared.digesting.Digested.{Digested}
+use Rattle.trace_runner.specs.declared.summary.AnswerCounts.{AnswerCounts}
 use Rattle.trace_runner.specs.declared.player.Player.{Player}
 use Rattle.trace_runner.specs.declared.player.Stop.{Stop}
 use Rattle.trace_runner.specs.declared.player.Stop.TheVariants.{Full}
@@ -88,10 +93,11 @@ digesting-full natives trace items at i before after stop hasher held old new lt
 
 -- the last item was played
 pub digesting-ended : (natives : List Native) (trace : Trace) (items : List Item) (at : ℕ) (player : Player)
-    (hasher : Sha256) (held digest : List ℕ) → length items ≤ at → Digesting natives trace items at player hasher held
-    → ((message : List ℕ) → Holds256 hasher message → digest ≡ sha256 message)
-    → IsDigested natives trace (record { player = player; digest = digest })
-digesting-ended natives trace items at player hasher held digest whole d told =
+    (hasher : Sha256) (held : List ℕ) (digested : Digested) → length items ≤ at
+    → Digesting natives trace items at player hasher held → AreCounts (events_of player.machine.core) digested.counts
+    → ((message : List ℕ) → Holds256 hasher message → digested.digest ≡ sha256 message)
+    → IsDigested natives trace digested
+digesting-ended natives trace items at player hasher held digested whole d counts told =
     let p = d.playing in
     let w = p.written in
     let on = booted p.boot natives in
@@ -102,7 +108,7 @@ digesting-ended natives trace items at player hasher held digest whole d told =
       play = w.play;
       is_play = sym (ap (λ (l : List Item). after_items on l (first_play (zeros 0x400000) on trace.fills))
           (take_all at trace.items all)) ∙ w.taken;
-      history = w.stands.machine.history;
+      counts = subst (λ (history : List Event). AreCounts history digested.counts) w.stands.machine.history counts;
       digest = told d.text d.holds ∙ ap sha256 w.put;
     }
 
@@ -127,11 +133,15 @@ made-goes-on seed count natives trace few none made some =
     (subst (λ (t : Trace). IsSome (refused_in natives t)) made some) in
     never-refused (made_play seed count) (made_plays_end.ends seed count few) here
 
-pub made-summary : (seed count : ℕ) (natives : List Native) (trace : Trace) (digested : Digested)
-    (history : List Event) (line : List ℕ) → natives ≡ [] → trace ≡ made_trace seed count
-    → (d : IsDigested natives trace digested) → history ≡ d.play.history
-    → line ≡ summary_line seed count history digested.digest → summary_of seed count ≡ Some line
-made-summary seed count natives trace digested history line none made d told is =
+-- the counts of a history, as its summary has them
+counts-told : (history : List Event) (counts : AnswerCounts) → AreCounts history counts
+    → counts_text counts ≡ answer_counts history
+counts-told history counts are = rw (are.ok, are.limit, are.resume, are.rpc) refl
+
+pub made-summary : (seed count : ℕ) (natives : List Native) (trace : Trace) (digested : Digested) (line : List ℕ)
+    → natives ≡ [] → trace ≡ made_trace seed count → (d : IsDigested natives trace digested)
+    → line ≡ line_with seed count digested.counts digested.digest → summary_of seed count ≡ Some line
+made-summary seed count natives trace digested line none made d is =
     let boots : Some made_boot ≡ Some d.boot = ap (λ (t : Trace). t.boot) (sym made) ∙ d.has_boot in
     let boot : d.boot ≡ made_boot = cc in
     let play : made_play seed count ≡ Some d.play =
@@ -139,6 +149,8 @@ made-summary seed count natives trace digested history line none made d told is 
     (subst (λ (ns : List Native). played ns d.boot (made_trace seed count) ≡ Some d.play) none
     (subst (λ (t : Trace). played natives d.boot t ≡ Some d.play) made d.is_play)) in
     let whole : line ≡ summary_of_play seed count d.play =
-    is ∙ ap (λ (h : List Event). summary_line seed count h digested.digest) told
+    is
+    ∙ ap (λ (counts : List ℕ). codes "work " ++ decimal seed ++ 32 ∷ decimal count ++ counts ++ codes " sha256 " ++ encode_lower digested.digest ++ 10 ∷ [])
+    (counts-told d.play.history digested.counts d.counts)
     ∙ ap (λ (bytes : List ℕ). summary_line seed count d.play.history bytes) d.digest in
     ap (option_map (summary_of_play seed count)) play ∙ ap (λ (l : List ℕ). Some l) (sym whole)

@@ -7,6 +7,6 @@ pub mod Content
 pub mod Playing
 pub mod Run
 pub mod Starting
-pub mod Digesting
 pub mod Counts
+pub mod Digesting
 pub mod Examples

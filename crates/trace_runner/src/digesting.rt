@@ -13,6 +13,7 @@ ghost use Rattle.trace_runner.specs.Starting.{IsAtStart, trace_of};
 use crate::item_lines::ItemLines;
 use crate::play::first_player;
 use crate::player::{Player, Stop};
+use crate::summary::AnswerCounts;
 use core_machine::machines_stand;
 use native_tas::Natives;
 use sha2::{Digest, Sha256};
@@ -20,20 +21,19 @@ use std::alloc::Global;
 use ta_isa::Boot;
 use trace_text::{Fill, Item, Trace};
 
-/// What is known of a play at its end: the player, and the SHA-256 of the lines that were printed.
-#[derive(Drop)]
+/// What is known of a play at its end: how many answers were of each kind, and the SHA-256 of the lines that were printed.
+#[derive(Clone, Copy)]
 pub struct Digested {
-    pub player: Player,
+    pub counts: AnswerCounts,
     pub digest: [u8; 32],
 }
 
 /// Plays the items of a trace on a player that stands before the first of them, up to a refused entry or want of memory,
-/// and gives the SHA-256 of the lines that they print.
-fn digest_items(alloc: Global, player: &mut Player, items: &[Item]) -> Result<[u8; 32], Stop>
+/// and gives the counts of all answers and the SHA-256 of the lines that they print.
+fn digest_items(alloc: Global, player: &mut Player, items: &[Item]) -> Result<Digested, Stop>
     requires { (natives : List Native) × (trace : Trace) × IsAtStart natives trace items.now player.old }
-    ensures told { IfOk result (λ digest. (natives : List Native) (trace : Trace)
-        → IsAtStart natives trace items.now player.old
-        → IsDigested natives trace (record { player = player.new; digest = digest })) }
+    ensures told { IfOk result (λ digested. (natives : List Native) (trace : Trace)
+        → IsAtStart natives trace items.now player.old → IsDigested natives trace digested) }
     ensures full { result ≡ Err Stop.Full → (natives : List Native) (trace : Trace)
         → IsAtStart natives trace items.now player.old → IsSome (refused_in natives trace) }
     ensures failed { result ≡ Err Stop.Failed → ⊥ }
@@ -46,7 +46,10 @@ fn digest_items(alloc: Global, player: &mut Player, items: &[Item]) -> Result<[u
         hasher.update(lines.bytes());
         lines.clear();
     }
-    Ok(hasher.finalize())
+    Ok(Digested {
+        counts: AnswerCounts::of(player.history()),
+        digest: hasher.finalize(),
+    })
 }
 
 /// Plays the trace of this boot, with these fills and items.
@@ -65,10 +68,7 @@ fn digest_booted(
     let Ok(mut player) = first_player(alloc, boot, natives, fills) else {
         return Err(Stop::Memory);
     };
-    match digest_items(alloc, &mut player, items) {
-        Ok(digest) => Ok(Digested { player, digest }),
-        Err(stop) => Err(stop),
-    }
+    digest_items(alloc, &mut player, items)
 }
 
 /// Plays a trace that has a boot, up to a refused entry or want of memory.

@@ -3,8 +3,8 @@
 ghost use Rattle.std.specs.Prelude.{◌≡◌, ◌∷◌, [], ◌++◌, codes, IfOk, OnOk};
 ghost use Rattle.std.specs.Fmt.{decimal};
 ghost use Rattle.hex.specs.Hex.{encode_lower};
-ghost use Rattle.made_play.specs.Summary.{answers, answers_in, is_limit, is_ok, is_resume, is_rpc, summary_line};
-ghost use Rattle.trace_runner.specs.Counts.{counts_text, is_of_kind};
+ghost use Rattle.made_play.specs.Summary.{answers, answers_in};
+ghost use Rattle.trace_runner.specs.Counts.{AreCounts, counts_text, is_of_kind, line_with};
 
 use crate::line::{push_hex, push_numbered};
 use event_journal::Event;
@@ -63,19 +63,17 @@ impl AnswerKind {
 
 /// How many answers of a history were of each kind.
 #[derive(Clone, Copy)]
-struct AnswerCounts {
-    ok: usize,
-    limit: usize,
-    resume: usize,
-    rpc: usize,
+pub struct AnswerCounts {
+    pub ok: usize,
+    pub limit: usize,
+    pub resume: usize,
+    pub rpc: usize,
 }
 
 impl AnswerCounts {
-    fn of(history: &[Event]) -> AnswerCounts
-        ensures ok { result.ok ≡ answers_in history.now is_ok }
-        ensures limit { result.limit ≡ answers_in history.now is_limit }
-        ensures resume { result.resume ≡ answers_in history.now is_resume }
-        ensures rpc { result.rpc ≡ answers_in history.now is_rpc }
+    /// Those of a history.
+    pub fn of(history: &[Event]) -> AnswerCounts
+        ensures { AreCounts history.now result }
     {
         AnswerCounts {
             ok: AnswerKind::Ok.count_in(history),
@@ -112,19 +110,19 @@ fn push_digest(alloc: Global, line: &mut Vec<u8>, digest: &[u8; 32]) -> Result<(
     push_hex(alloc, line, digest)
 }
 
-/// The summary of a history whose lines have this digest.
+/// The summary of a play, by the counts of its answers and the digest of its lines.
 pub fn summary_line(
     alloc: Global,
     seed: u64,
     count: u32,
-    history: &[Event],
+    counts: &AnswerCounts,
     digest: &[u8; 32],
 ) -> Result<Vec<u8>, AllocError>
-    ensures { IfOk result (λ line. line.items ≡ summary_line seed count history.now digest.now) }
+    ensures { IfOk result (λ line. line.items ≡ line_with seed count counts.now digest.now) }
 {
     let mut line = Vec::new(alloc);
     push_words(alloc, &mut line, seed, count)?;
-    push_counts(alloc, &mut line, &AnswerCounts::of(history))?;
+    push_counts(alloc, &mut line, counts)?;
     push_digest(alloc, &mut line, digest)?;
     Ok(line)
 }

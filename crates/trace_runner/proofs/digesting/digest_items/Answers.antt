@@ -1,6 +1,8 @@
 use Rattle.std.proofs.Common.{◌≡◌, ℕ, List, ◌++◌, subst, sym, ◌∙◌, arith}
 use Rattle.std.proofs.lemmas.Result.{err_from_is_err_and}
+use Rattle.event_journal.specs.declared.event.Event.{Event}
 use Rattle.sha2.specs.Hashers.{Holds256}
+use Rattle.trace_runner.specs.Counts.{AreCounts}
 use Rattle.trace_runner.specs.declared.player.Stop.TheVariants.{Full}
 use Rattle.trace_runner.proofs.Digests.{digesting-ended, digesting-first, digesting-full, digesting-more}
 use Rattle.trace_runner.proofs.Playable.{playing-takes}
@@ -35,4 +37,5 @@ loop-item-preserved c = λ natives trace start.
 pub returns-clause-told : goal.returns-clause-told
 returns-clause-told c = λ natives trace start.
     digesting-ended natives trace _ _ c.loop-item.player _ _ _
-    (omega (arith, c.loop-item-test.false)) (c.loop-item.invariant natives trace start) c.finalize.ensures
+    (omega (arith, c.loop-item-test.false)) (c.loop-item.invariant natives trace start)
+    (subst (λ (history : List Event). AreCounts history c.of.result) c.history.ensures c.of.ensures) c.finalize.ensures
