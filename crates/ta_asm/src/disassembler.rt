@@ -1,37 +1,50 @@
 //! From an image to its canonical text.
 
-ghost use Rattle.std.specs.Prelude.{◌≡◌, ℕ, ◌<◌, ◌++◌, ◌&&◌, ◌||◌, ◌==◌, true, false, ◌≤◌, All, length, slice_index_or, IfOk, OnOk, codes, decimal, map};
+ghost use Rattle.std.specs.Prelude.{◌≡◌, ℕ, ◌<◌, ◌++◌, ◌&&◌, ◌||◌, ◌==◌, true, false, ◌≤◌, All, length, slice_index_or, IfOk, OnOk, codes, decimal};
 ghost use Rattle.std.specs.List.{list_any};
 ghost use Rattle.ta_isa.specs.declared.image.Image.{Image};
 ghost use Rattle.ta_isa.specs.Spelling.{IsValid};
-ghost use Rattle.ta_asm.specs.Canonical.{canonical, code_lines, field_words, header_lines, immediate_words, instruction_words, is_labelled, line_of, operand_words, operation_word, spaced, targets, text_of, word_beside};
+ghost use Rattle.ta_asm.specs.Canonical.{canonical, code_lines, field_words, header_lines, immediate_words, instruction_words, is_labelled, line_of, operand_words, operation_word, spaced, targets, text_of};
 ghost use Rattle.ta_asm.specs.Grammar.{StandsFor};
 ghost use Rattle.ta_asm.specs.Reading.{IsMarked, label_bytes};
 
-use crate::names::OPERATIONS;
 use base::NoMemory;
 use itoa::Buffer;
 use std::alloc::Global;
 use ta_isa::{Image, Immediate, Instr, Operand, Row, row_of};
-
-/// The first word beside this number.
-fn word_beside(rows: &[(&'static [u8], u8)], number: u8) -> &'static [u8]
-    ensures { result.now ≡ word_beside (map (λ row. (row.0.now, row.1)) rows.now) number }
-{
-    for (word, beside) in rows {
-        if *beside == number {
-            return word;
-        }
-    }
-    b""
-}
 
 /// How the operation of this number is written.
 #[tactic(auto, unfolding(crate::specs::Canonical::operation_word))]
 fn operation_word(op: u8) -> &'static [u8]
     ensures { result.now ≡ operation_word op }
 {
-    word_beside(&OPERATIONS, op)
+    match op {
+        0x01 => b"const",
+        0x02 => b"move",
+        0x03 => b"add",
+        0x04 => b"sub",
+        0x05 => b"mul",
+        0x06 => b"div",
+        0x07 => b"rem",
+        0x08 => b"and",
+        0x09 => b"or",
+        0x0a => b"xor",
+        0x0b => b"shl",
+        0x0c => b"shr",
+        0x0d => b"loadb",
+        0x0e => b"loadw",
+        0x0f => b"storeb",
+        0x10 => b"storew",
+        0x11 => b"beq",
+        0x12 => b"bne",
+        0x13 => b"bltu",
+        0x14 => b"bgeu",
+        0x15 => b"jump",
+        0x16 => b"call",
+        0x17 => b"ret",
+        0x18 => b"sys",
+        _ => b"",
+    }
 }
 
 /// Whether an instruction goes on at its field `imm`.

@@ -1,57 +1,89 @@
 //! How operations and entry points are written.
 
-ghost use Rattle.std.specs.Prelude.{◌≡◌, ◌<◌, map};
+ghost use Rattle.std.specs.Prelude.{◌≡◌, ◌<◌};
 ghost use Rattle.ta_asm.specs.Grammar.{number_of};
-ghost use Rattle.ta_asm.specs.Lines.{entry_at, found_in, operation_at};
+ghost use Rattle.ta_asm.specs.Lines.{entry_at, operation_at};
 
 use crate::word::is;
-
-/// How each operation is written, and its number.
-pub const OPERATIONS: [(&[u8], u8); 24] = [
-    (b"const", 0x01),
-    (b"move", 0x02),
-    (b"add", 0x03),
-    (b"sub", 0x04),
-    (b"mul", 0x05),
-    (b"div", 0x06),
-    (b"rem", 0x07),
-    (b"and", 0x08),
-    (b"or", 0x09),
-    (b"xor", 0x0a),
-    (b"shl", 0x0b),
-    (b"shr", 0x0c),
-    (b"loadb", 0x0d),
-    (b"loadw", 0x0e),
-    (b"storeb", 0x0f),
-    (b"storew", 0x10),
-    (b"beq", 0x11),
-    (b"bne", 0x12),
-    (b"bltu", 0x13),
-    (b"bgeu", 0x14),
-    (b"jump", 0x15),
-    (b"call", 0x16),
-    (b"ret", 0x17),
-    (b"sys", 0x18),
-];
-
-/// What stands beside the first row of this word.
-fn found_in(rows: &[(&[u8], u8)], word: &[u8]) -> Option<u8>
-    ensures { result ≡ found_in (map (λ row. (row.0.now, row.1)) rows.now) word.now }
-{
-    for (name, number) in rows {
-        if is(word, name) {
-            return Some(*number);
-        }
-    }
-    None
-}
 
 /// The number of the operation that is written so.
 #[tactic(auto, unfolding(crate::specs::Lines::operation_at))]
 pub fn operation(word: &[u8]) -> Option<u8>
     ensures { result ≡ operation_at word.now }
 {
-    found_in(&OPERATIONS, word)
+    if is(word, b"const") {
+        return Some(0x01);
+    }
+    if is(word, b"move") {
+        return Some(0x02);
+    }
+    if is(word, b"add") {
+        return Some(0x03);
+    }
+    if is(word, b"sub") {
+        return Some(0x04);
+    }
+    if is(word, b"mul") {
+        return Some(0x05);
+    }
+    if is(word, b"div") {
+        return Some(0x06);
+    }
+    if is(word, b"rem") {
+        return Some(0x07);
+    }
+    if is(word, b"and") {
+        return Some(0x08);
+    }
+    if is(word, b"or") {
+        return Some(0x09);
+    }
+    if is(word, b"xor") {
+        return Some(0x0a);
+    }
+    if is(word, b"shl") {
+        return Some(0x0b);
+    }
+    if is(word, b"shr") {
+        return Some(0x0c);
+    }
+    if is(word, b"loadb") {
+        return Some(0x0d);
+    }
+    if is(word, b"loadw") {
+        return Some(0x0e);
+    }
+    if is(word, b"storeb") {
+        return Some(0x0f);
+    }
+    if is(word, b"storew") {
+        return Some(0x10);
+    }
+    if is(word, b"beq") {
+        return Some(0x11);
+    }
+    if is(word, b"bne") {
+        return Some(0x12);
+    }
+    if is(word, b"bltu") {
+        return Some(0x13);
+    }
+    if is(word, b"bgeu") {
+        return Some(0x14);
+    }
+    if is(word, b"jump") {
+        return Some(0x15);
+    }
+    if is(word, b"call") {
+        return Some(0x16);
+    }
+    if is(word, b"ret") {
+        return Some(0x17);
+    }
+    if is(word, b"sys") {
+        return Some(0x18);
+    }
+    None
 }
 
 /// Where an instance is entered.
