@@ -42,6 +42,7 @@ fn name_at<'a>(word: &'a [u8]) -> Option<Name<'a>>
 
 /// A field of an instruction, by what its row says.
 #[tactic(auto, unfolding(crate::specs::Lines::operand_at))]
+#[inline(always)]
 fn operand_at(operand: Operand, words: &mut Words) -> Option<u8>
     ensures { operand_at operand words.old ≡ option_map (λ field. (field, words.new)) result }
 {
@@ -53,6 +54,7 @@ fn operand_at(operand: Operand, words: &mut Words) -> Option<u8>
 
 /// The number that is the last word.
 #[tactic(auto, unfolding(crate::specs::Lines::number_left))]
+#[inline(always)]
 fn number_left(words: &mut Words) -> Option<u32>
     ensures { result ≡ number_left words.old }
 {

@@ -84,6 +84,7 @@ impl<'a> Words<'a> {
     }
 
     /// Takes the one word that is left.
+    #[inline(always)]
     pub fn last_word(&mut self) -> Option<&'a [u8]>
         ensures { last_word self.old ≡ option_map (λ word. word.now) result }
     {
