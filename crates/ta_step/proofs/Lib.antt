@@ -3,6 +3,7 @@ pub mod StepsUsed
 pub mod Present
 pub mod Words
 pub mod RangeLemmas
+pub mod Stores
 pub mod EffectLemmas
 pub mod RunLemmas
 pub mod Kept

@@ -14,14 +14,13 @@ pub const RANGE: u32 = 0x1000_0000;
 impl<M: TaMemory> Machine<M> {
     /// The byte at an address of the instance's memory or of a parameter's buffer, or `None` where the
     /// address is in none of them.
-    #[tactic(auto, using(crate::proofs::RangeLemmas::ranges_of_addresses))]
     pub fn load(&self, addr: u32) -> Option<u8>
         ensures { result ≡ load (state_of M.bytes self.now) addr }
     {
         let place = addr % RANGE;
         match addr / RANGE {
             0 => self.memory.load(place),
-            number => parameters::load(parameters::param_at(&self.params, number - 1)?, place),
+            number => parameters::load(&self.params, number - 1, place),
         }
     }
 
@@ -37,14 +36,13 @@ impl<M: TaMemory> Machine<M> {
     }
 
     /// The word from an address on, its lowest byte first, if its four bytes are all in one range.
-    #[tactic(auto, using(crate::proofs::RangeLemmas::ranges_of_addresses))]
     pub(crate) fn word_at(&self, addr: u32) -> Option<u32>
         ensures { result ≡ load_word (state_of M.bytes self.now) addr }
     {
         let place = addr % RANGE;
         match addr / RANGE {
             0 => self.memory.load_word(place),
-            number => parameters::load_word(parameters::param_at(&self.params, number - 1)?, place),
+            number => parameters::load_word(&self.params, number - 1, place),
         }
     }
 
@@ -61,7 +59,6 @@ impl<M: TaMemory> Machine<M> {
     }
 
     /// Whether so many bytes from an address on are all there, in the range that it names.
-    #[tactic(auto, using(crate::proofs::RangeLemmas::ranges_of_addresses))]
     fn is_inside(&self, addr: u32, count: u32) -> bool
         requires some { 0 < count }
         requires fits { addr % 0x10000000 + count ≤ 0x10000000 }
@@ -70,10 +67,7 @@ impl<M: TaMemory> Machine<M> {
         let place = addr % RANGE;
         match addr / RANGE {
             0 => access::has_bytes(&self.memory, place, count),
-            number => match parameters::param_at(&self.params, number - 1) {
-                Some(param) => parameters::has_bytes(param, place, count),
-                None => false,
-            },
+            number => parameters::has_bytes(&self.params, number - 1, place, count),
         }
     }
 
@@ -94,11 +88,7 @@ impl<M: TaMemory> Machine<M> {
         let place = addr % RANGE;
         match addr / RANGE {
             0 => access::write_bytes(&mut self.memory, place, bytes),
-            1 => parameters::write(&mut self.params.p0, place, bytes),
-            2 => parameters::write(&mut self.params.p1, place, bytes),
-            3 => parameters::write(&mut self.params.p2, place, bytes),
-            4 => parameters::write(&mut self.params.p3, place, bytes),
-            _ => false,
+            number => parameters::write(&mut self.params, number - 1, place, bytes),
         }
     }
 }

@@ -86,11 +86,8 @@ impl<M: TaMemory> Machine<M> {
         ensures { let old = state_of M.bytes self.old in
             Leads old (stored old addr (value ∷ [])) result (state_of M.bytes self.new) }
     {
-        if !self.store(addr, value) {
-            return Err(Stop::Panicked(BAD_ADDRESS));
-        }
-        self.place += 1;
-        Ok(())
+        let stored = self.store(addr, value);
+        self.go_on_if(stored, BAD_ADDRESS)
     }
 
     /// Writes a word to an address, its lowest byte first.
@@ -99,11 +96,8 @@ impl<M: TaMemory> Machine<M> {
         ensures { let old = state_of M.bytes self.old in
             Leads old (stored old addr word) result (state_of M.bytes self.new) }
     {
-        if !self.store_word(addr, word) {
-            return Err(Stop::Panicked(BAD_ADDRESS));
-        }
-        self.place += 1;
-        Ok(())
+        let stored = self.store_word(addr, word);
+        self.go_on_if(stored, BAD_ADDRESS)
     }
 
     /// Goes to a target, or on to the next instruction.

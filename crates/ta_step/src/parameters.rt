@@ -1,9 +1,9 @@
 //! The copied parameters as the machine reaches them: by number, as values, and as buffers.
-ghost use Rattle.std.specs.Prelude.{◌≡◌, ◌+◌, ◌^◌, ◌<◌, length, slice_get, is_some, unwrap_or};
-ghost use Rattle.std.specs.Option.{option_copied};
+ghost use Rattle.std.specs.Prelude.{◌≡◌, ◌+◌, ◌^◌, ◌<◌, [], length, map, option_and_then, slice_get, slice_index_or, is_some, unwrap_or};
+ghost use Rattle.std.specs.Option.{option_copied, option_map_or};
 ghost use Rattle.base.specs.Bytes.{has_bytes, written};
 ghost use Rattle.ta_step.specs.Bytes.{word_at};
-ghost use Rattle.ta_step.specs.Parameters.{buffer, goes_out, param_at, with_buffer, with_size, with_value};
+ghost use Rattle.ta_step.specs.Parameters.{buffer, four, goes_out, param_at, with_buffer, with_param, with_size, with_value};
 
 use crate::memory::TaMemory;
 use crate::{access, word_access};
@@ -47,41 +47,64 @@ pub(crate) fn param_at(params: &CopiedParams, number: u32) -> Option<&GpParam>
     }
 }
 
-/// The byte of a parameter's buffer at a place.
-pub(crate) fn load(param: &GpParam, place: u32) -> Option<u8>
-    ensures { result ≡ slice_get (buffer param.now) place }
+/// The buffer of the parameter of a number, if it has one.
+fn buffer_at(params: &CopiedParams, number: u32) -> Option<&Buf>
+    ensures { unwrap_or (option_copied result) [] ≡ slice_index_or (map buffer (four params.now)) number [] }
 {
-    match param {
-        GpParam::Memref { buf, .. } => buf.load(place),
+    match param_at(params, number)? {
+        GpParam::Memref { buf, .. } => Some(buf),
         _ => None,
     }
+}
+
+/// The byte of a parameter's buffer at a place.
+pub(crate) fn load(params: &CopiedParams, number: u32, place: u32) -> Option<u8>
+    ensures { result ≡ slice_get (slice_index_or (map buffer (four params.now)) number []) place }
+{
+    buffer_at(params, number)?.load(place)
 }
 
 /// The word of a parameter's buffer from a place on.
-pub(crate) fn load_word(param: &GpParam, place: u32) -> Option<u32>
+pub(crate) fn load_word(params: &CopiedParams, number: u32, place: u32) -> Option<u32>
     requires { place + 4 < 2 ^ 32 }
-    ensures { result ≡ word_at (buffer param.now) place }
+    ensures { result ≡ word_at (slice_index_or (map buffer (four params.now)) number []) place }
 {
-    match param {
-        GpParam::Memref { buf, .. } => buf.load_word(place),
-        _ => None,
-    }
+    buffer_at(params, number)?.load_word(place)
 }
 
 /// Whether so many bytes of a parameter's buffer from a place on are all there.
-pub(crate) fn has_bytes(param: &GpParam, place: u32, count: u32) -> bool
+pub(crate) fn has_bytes(params: &CopiedParams, number: u32, place: u32, count: u32) -> bool
     requires some { 0 < count }
     requires fits { place + count < 2 ^ 32 }
-    ensures { result ≡ has_bytes (buffer param.now) place count }
+    ensures { result ≡ has_bytes (slice_index_or (map buffer (four params.now)) number []) place count }
 {
-    match param {
-        GpParam::Memref { buf, .. } => access::has_bytes(buf, place, count),
+    match buffer_at(params, number) {
+        Some(buf) => access::has_bytes(buf, place, count),
+        None => false,
+    }
+}
+
+/// Writes bytes into the buffer of the parameter of a number, or answers `false` where they are not all there.
+pub(crate) fn write(params: &mut CopiedParams, number: u32, place: u32, bytes: &[u8]) -> bool
+    requires some { 0 < length bytes.now }
+    requires fits { place + length bytes.now < 2 ^ 32 }
+    ensures inside { let buffers = map buffer (four params.old) in
+        result ≡ has_bytes (slice_index_or buffers number []) place (length bytes.now) }
+    ensures params { let buffers = map buffer (four params.old) in
+        let param = slice_index_or (four params.old) number params.old.p0 in
+        params.new ≡ with_param params.old number
+        (with_buffer param (written (slice_index_or buffers number []) place bytes.now)) }
+{
+    match number {
+        0 => write_to(&mut params.p0, place, bytes),
+        1 => write_to(&mut params.p1, place, bytes),
+        2 => write_to(&mut params.p2, place, bytes),
+        3 => write_to(&mut params.p3, place, bytes),
         _ => false,
     }
 }
 
-/// Writes bytes into a parameter's buffer, or answers `false` where they are not all there.
-pub(crate) fn write(param: &mut GpParam, place: u32, bytes: &[u8]) -> bool
+fn write_to(param: &mut GpParam, place: u32, bytes: &[u8]) -> bool
     requires some { 0 < length bytes.now }
     requires fits { place + length bytes.now < 2 ^ 32 }
     ensures inside { result ≡ has_bytes (buffer param.old) place (length bytes.now) }
@@ -103,8 +126,23 @@ fn goes_out(way: Way) -> bool
     }
 }
 
-/// Changes the two numbers of a value, or answers `false` where it is none that goes out.
-pub(crate) fn set_value(param: &mut GpParam, first: u32, second: u32) -> bool
+/// Changes the two numbers of the value of a number, or answers `false` where it is none that goes out.
+pub(crate) fn set_value(params: &mut CopiedParams, number: u32, first: u32, second: u32) -> bool
+    ensures done { let changed = option_and_then (λ p. with_value p first second) (param_at params.old number) in
+        result ≡ is_some changed }
+    ensures params { let changed = option_and_then (λ p. with_value p first second) (param_at params.old number) in
+        params.new ≡ option_map_or (with_param params.old number) changed params.old }
+{
+    match number {
+        0 => set_value_of(&mut params.p0, first, second),
+        1 => set_value_of(&mut params.p1, first, second),
+        2 => set_value_of(&mut params.p2, first, second),
+        3 => set_value_of(&mut params.p3, first, second),
+        _ => false,
+    }
+}
+
+fn set_value_of(param: &mut GpParam, first: u32, second: u32) -> bool
     ensures done { result ≡ is_some (with_value param.old first second) }
     ensures param { param.new ≡ unwrap_or (with_value param.old first second) param.old }
 {
@@ -118,8 +156,23 @@ pub(crate) fn set_value(param: &mut GpParam, first: u32, second: u32) -> bool
     }
 }
 
-/// Changes the size of a memory parameter, or answers `false` where it is none that goes out.
-pub(crate) fn set_size(param: &mut GpParam, new_size: u32) -> bool
+/// Changes the size of the memory parameter of a number, or answers `false` where it is none that goes out.
+pub(crate) fn set_size(params: &mut CopiedParams, number: u32, size: u32) -> bool
+    ensures done { let changed = option_and_then (λ p. with_size p size) (param_at params.old number) in
+        result ≡ is_some changed }
+    ensures params { let changed = option_and_then (λ p. with_size p size) (param_at params.old number) in
+        params.new ≡ option_map_or (with_param params.old number) changed params.old }
+{
+    match number {
+        0 => set_size_of(&mut params.p0, size),
+        1 => set_size_of(&mut params.p1, size),
+        2 => set_size_of(&mut params.p2, size),
+        3 => set_size_of(&mut params.p3, size),
+        _ => false,
+    }
+}
+
+fn set_size_of(param: &mut GpParam, new_size: u32) -> bool
     ensures done { result ≡ is_some (with_size param.old new_size) }
     ensures param { param.new ≡ unwrap_or (with_size param.old new_size) param.old }
 {

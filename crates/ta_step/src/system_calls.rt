@@ -58,14 +58,8 @@ impl<M: TaMemory> Machine<M> {
         ensures { let old = state_of M.bytes self.old in Leads old (set_value old) result (state_of M.bytes self.new) }
     {
         let (a, b) = (self.registers[1], self.registers[2]);
-        let done = match self.registers[0] {
-            0 => parameters::set_value(&mut self.params.p0, a, b),
-            1 => parameters::set_value(&mut self.params.p1, a, b),
-            2 => parameters::set_value(&mut self.params.p2, a, b),
-            3 => parameters::set_value(&mut self.params.p3, a, b),
-            _ => false,
-        };
-        self.go_on_if(done)
+        let done = parameters::set_value(&mut self.params, self.registers[0], a, b);
+        self.go_on_if(done, BAD_CALL)
     }
 
     /// Gives the size of a memory parameter.
@@ -88,30 +82,25 @@ impl<M: TaMemory> Machine<M> {
         ensures { let old = state_of M.bytes self.old in Leads old (set_size old) result (state_of M.bytes self.new) }
     {
         let size = self.registers[1];
-        let done = match self.registers[0] {
-            0 => parameters::set_size(&mut self.params.p0, size),
-            1 => parameters::set_size(&mut self.params.p1, size),
-            2 => parameters::set_size(&mut self.params.p2, size),
-            3 => parameters::set_size(&mut self.params.p3, size),
-            _ => false,
-        };
-        self.go_on_if(done)
+        let done = parameters::set_size(&mut self.params, self.registers[0], size);
+        self.go_on_if(done, BAD_CALL)
     }
 
-    /// Goes on where a system call found what it was asked for.
-    fn go_on_if(&mut self, found: bool) -> Result<(), Stop>
+    /// Goes on where there is what was asked for, and else panics with a code.
+    pub(crate) fn go_on_if(&mut self, found: bool, code: u32) -> Result<(), Stop>
         requires { (state_of M.bytes self.old).place + 1 < 2 ^ 32 }
         ensures { let old = state_of M.bytes self.old in
-            Leads old (if found then goes_on old else Panics 5) result (state_of M.bytes self.new) }
+            Leads old (if found then goes_on old else Panics code) result (state_of M.bytes self.new) }
     {
         if !found {
-            return Err(Stop::Panicked(BAD_CALL));
+            return Err(Stop::Panicked(code));
         }
         self.place += 1;
         Ok(())
     }
 
     /// Writes the client's UUID to an address, and gives how it logged in.
+    #[tactic(auto, using(crate::proofs::Stores::not_stored))]
     fn login(&mut self) -> Result<(), Stop>
         requires { (state_of M.bytes self.old).place + 1 < 2 ^ 32 }
         ensures { let old = state_of M.bytes self.old in Leads old (login old) result (state_of M.bytes self.new) }
