@@ -1,7 +1,7 @@
 use rpc_msgs::FileName;
 
 /// One open object.
-#[derive(Clone, Debug, Drop, PartialEq, Eq)]
+#[derive(Debug, Drop)]
 pub struct Handle {
     /// The name of the object's file in the storage of the normal world.
     pub name: FileName,
