@@ -1,6 +1,9 @@
 -- A word or an instruction that is read is the one that is spelled there, and back.
-use Rattle.std.proofs.Common.{◌≡◌, ℕ, ◌+◌, ◌^◌, ◌<◌, ◌≤◌, List, [], ◌∷◌, ◌++◌, length, drop, refl, sym, ap, ◌∙◌, arith}
+use Rattle.std.proofs.Common.{◌≡◌, ℕ, ◌+◌, ◌^◌, ◌<◌, ◌≤◌, List, [], ◌∷◌, ◌++◌, length, take, drop, get_or, refl, sym, ap, ◌∙◌, arith}
 use Rattle.std.specs.Int.{w32, from_le_bytes}
+use Rattle.std.specs.List.{flat_map}
+use Rattle.std.proofs.lemmas.List.{append-nil, append_assoc, take_more}
+use Rattle.std.proofs.lemmas.Grind.{flat_map-append}
 use Rattle.byteorder.specs.Endian.{little_number}
 use Rattle.byteorder.specs.Numbers.{little_number-reads_back}
 use Rattle.base.proofs.Numbers.{IsBytes, u32_back}
@@ -39,3 +42,16 @@ unfolding front_instruction word_at
 instruction-again i rest lt =
     let with_imm : ℕ → Instr = λ n. record { op = i.op; d = i.d; a = i.a; b = i.b; imm = n } in
     ap with_imm (word-again i.imm lt)
+
+-- what has been put in front of one more, and that one
+pub put_next : {X : Type 0} (put : X → List ℕ) (xs : List X) (number : ℕ) (x d : X) (before bytes after : List ℕ) → number < length xs → x ≡ get_or xs number d
+    → bytes ≡ before ++ flat_map put (take number xs) → after ≡ bytes ++ put x → after ≡ before ++ flat_map put (take (number + 1) xs)
+put_next {X = X} put xs number x d before bytes after lt is e f =
+    let one : flat_map put (x ∷ []) ≡ put x = append-nil (put x) in
+    let next : take (number + 1) xs ≡ take number xs ++ x ∷ [] = take_more xs number d lt ∙ ap (λ (y : X). take number xs ++ y ∷ []) (sym is) in
+    f
+    ∙ ap (λ (l : List ℕ). l ++ put x) e
+    ∙ append_assoc before (flat_map put (take number xs)) (put x)
+    ∙ ap (λ (l : List ℕ). before ++ (flat_map put (take number xs) ++ l)) (sym one)
+    ∙ ap (λ (l : List ℕ). before ++ l) (sym (flat_map-append put (take number xs) (x ∷ [])))
+    ∙ ap (λ (l : List X). before ++ flat_map put l) (sym next)

@@ -25,10 +25,10 @@ impl fmt::Display for ImageFault {
     fn fmt<W: fmt::Write>(&self, f: &mut fmt::Formatter<W>) -> fmt::Result {
         match self {
             ImageFault::BadHeader(part) => write!(f, "bad part {part} of the image's header"),
-            ImageFault::TooLarge => write!(f, "too many instructions"),
+            ImageFault::TooLarge => f.write_str("too many instructions"),
             ImageFault::BadEntry(number) => write!(f, "entry point {number} is no instruction"),
             ImageFault::BadOp(number) => write!(f, "bad instruction {number}"),
-            ImageFault::Memory => write!(f, "out of memory"),
+            ImageFault::Memory => f.write_str("out of memory"),
         }
     }
 }
