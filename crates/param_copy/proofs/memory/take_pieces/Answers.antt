@@ -2,7 +2,6 @@ use Rattle.std.proofs.Common.{◌≡◌, ◌∙◌, get_or, length, refl, arith}
 use Rattle.ns_ram.specs.Reader.{take_bytes}
 use Rattle.ns_ram.proofs.PageWalk.{AppendsReads-step}
 use Rattle.shm_registry.specs.declared.piece.Piece.{Piece}
-use Rattle.param_copy.specs.Memory.{take_pieces}
 use Rattle.param_copy.proofs.PieceReads.{PiecesTaken-all, PiecesTaken-in_ram, PiecesTaken-len, PiecesTaken-none, PiecesTaken-next}
 use Rattle.param_copy.proofs.memory.take_pieces.Goals as goal
 
