@@ -45,23 +45,36 @@ impl<T: Logged> CoreLock<T> {
         ensures room { IfOk result (λ r. count ≤ vec_capacity r.1) }
         ensures err { IfErr result (λ e. e.0 ≡ value) }
     {
+        let Ok(passes) = Vec::with_capacity(alloc, count as usize) else {
+            return Err((value, NoMemory));
+        };
+        match CoreLock::lay(alloc, value, count) {
+            Ok((lock, seat)) => {
+                let passes = lock.deal(seat, count, passes);
+                Ok((lock, passes))
+            }
+            Err(refused) => Err(refused),
+        }
+    }
+
+    // Lays the table round the value, with its first seat.
+    fn lay(alloc: Global, value: T, count: u32) -> Result<(CoreLock<T>, LockSeat<T>), (T, NoMemory)>
+        requires entries { T.entries value ≡ [] }
+        requires count { (0 < count) × (count ≤ 64) }
+        ensures lock { IfOk result (λ r. (count_of r.0 ≡ count) × (basis_of T.basis r.0 ≡ T.basis value)) }
+        ensures seat { IfOk result (λ r. (r.1.table_id ≡ r.0.table.shared.table_id) × (r.1.me ≡ (opening_view count (basis_of T.basis r.0), []))) }
+        ensures err { IfErr result (λ e. e.0 ≡ value) }
+    {
+        let Ok(mut slots) = Vec::with_capacity(alloc, 1) else {
+            return Err((value, NoMemory));
+        };
         let terms = Terms {
             count,
             first: Snapshot::of(&value),
         };
-        let Ok(passes) = Vec::with_capacity(alloc, count as usize) else {
-            return Err((value, NoMemory));
-        };
-        let Ok(mut slots) = Vec::with_capacity(alloc, 1) else {
-            return Err((value, NoMemory));
-        };
         slots.push_reserved(Some(value));
         match Table::new(alloc, &[0, 0, 0], slots, &terms) {
-            Ok((table, seat)) => {
-                let lock = CoreLock { table };
-                let passes = lock.deal(seat, count, passes);
-                Ok((lock, passes))
-            }
+            Ok((table, seat)) => Ok((CoreLock { table }, seat)),
             Err(Refused { slots }) => Err((only(slots), NoMemory)),
         }
     }
