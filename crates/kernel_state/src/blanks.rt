@@ -97,9 +97,6 @@ fn blank(alloc: Global) -> Cont<Pages>
 fn wipe(cont: &mut Cont<Pages>)
     ensures { IsBlank cont.new }
 {
-    cont.app = None;
-    cont.params = None;
-    cont.memory = None;
     cont.point = None;
     cont.points.clear();
     cont.objects.clear();
@@ -112,8 +109,11 @@ fn wipe(cont: &mut Cont<Pages>)
 
 /// Nothing is left of what the call has worked on.
 fn wipe_work(cont: &mut Cont<Pages>)
-    ensures { cont.new ≡ record cont.old { machine = None; object = None; request = None } }
+    ensures { cont.new ≡ record cont.old { app = None; params = None; memory = None; machine = None; object = None; request = None } }
 {
+    clear(&mut cont.app);
+    clear(&mut cont.params);
+    clear(&mut cont.memory);
     clear(&mut cont.machine);
     clear(&mut cont.object);
     clear(&mut cont.request);
