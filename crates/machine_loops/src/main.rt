@@ -10,8 +10,8 @@ mod objects;
 ghost use Rattle.std.specs.Prelude.{◌≡◌, None, IfOk};
 ghost use Rattle.ta_isa.specs.Spelling.{IsValid};
 
-use anyhow::{Context, Result, bail};
-use std::alloc::Global;
+use anyhow::{Context, Error, Result, bail};
+use std::alloc::{AllocError, Global};
 use std::env;
 use std::fmt::Write;
 use std::rt::Env;
@@ -34,40 +34,43 @@ fn image_of(alloc: Global, digits: &str) -> Result<Image>
     ensures { IfOk result IsValid }
 {
     let bytes = hex::decode(alloc, digits)?;
-    Ok(decode_image(alloc, bytes.as_slice())?)
+    decode_image(alloc, bytes.as_slice()).context("reading an image")
 }
 
-/// The machine of an invoke of this function, of one page, whose byte 1 is 2, and context 0.
-fn invoked(alloc: Global, image: &Image, params: CopiedParams, func: u32) -> Result<Machine<Plain>>
-    ensures { IfOk result (λ machine. machine.asked ≡ None) }
+/// A page whose byte 1 is 2.
+fn page(alloc: Global) -> Result<Plain> {
+    let mut memory = Plain::new(alloc, PAGE_BYTES)?;
+    memory.store(1, 2);
+    Ok(memory)
+}
+
+/// The machine of an invoke of this function, with context 0.
+fn invoked(image: &Image, memory: Plain, params: CopiedParams, func: u32) -> Machine<Plain>
+    ensures { result.asked ≡ None }
 {
     let login = Login {
         client: [7; 16],
         kind: 4,
     };
-    let types = params.type_word();
-    let mut memory = Plain::new(alloc, PAGE_BYTES)?;
-    memory.store(1, 2);
-    let first = [func, types, 0];
-    Ok(Machine::start(image, memory, params, login, INVOKE, first))
+    let first = [func, params.type_word(), 0];
+    Machine::start(image, memory, params, login, INVOKE, first)
 }
 
-/// Runs the image's invoke with no parameters, and says how it stopped after how many steps.
-fn ran(alloc: Global, image: &str, steps: u32) -> Result<String> {
-    let image = image_of(alloc, image)?;
+/// Runs the image's invoke with no parameters: how it stopped after how many steps.
+fn only_stop(image: &Image, memory: Plain, steps: u32) -> (Stop, u32)
+    requires { IsValid image.now }
+{
     let params = CopiedParams {
         p0: GpParam::Empty,
         p1: GpParam::Empty,
         p2: GpParam::Empty,
         p3: GpParam::Empty,
     };
-    let mut machine = invoked(alloc, &image, params, 0)?;
-    let (stop, used) = machine.run(&image, steps);
-    Ok(format!(in alloc; "{stop:?} after {used}")?)
+    invoked(image, memory, params, 0).run(image, steps)
 }
 
 /// The parameters of a case: two numbers that come in and go out, twenty zeros that do, and two numbers that come in.
-fn case_params(alloc: Global) -> Result<CopiedParams> {
+fn case_params(alloc: Global) -> Result<CopiedParams, AllocError> {
     let zeros = vec![in alloc; 0; 20]?;
     Ok(CopiedParams {
         p0: GpParam::Value {
@@ -102,23 +105,44 @@ fn next_stop(machine: &mut Machine<Plain>, image: &Image, steps: u32) -> (Stop, 
     (stop, used)
 }
 
-/// Runs a case to its end, or to its last grant: its stops, and what it leaves of its first two parameters.
-fn played(alloc: Global, image: &Image, mut machine: Machine<Plain>, steps: u32) -> Result<String>
+/// Runs a case to its end, or to its last grant, and tells its stops.
+fn tell_stops(
+    told: &mut String,
+    machine: &mut Machine<Plain>,
+    image: &Image,
+    steps: u32,
+) -> Result<(), AllocError>
     requires valid { IsValid image.now }
-    requires unasked { machine.asked ≡ None }
+    requires unasked { machine.old.asked ≡ None }
 {
-    let mut told = String::new(alloc);
     'grants: for _ in 0..MOST_GRANTS {
-        let (stop, used) = next_stop(&mut machine, image, steps);
+        let (stop, used) = next_stop(machine, image, steps);
         write!(told, "{stop:?} after {used}")?;
         if matches!(stop, Stop::Ended { .. } | Stop::Panicked(_)) {
             break 'grants;
         }
         told.push_str(", ")?;
     }
-    let (_, params) = machine.finish();
-    write!(told, "; {:?}; {:?}", params.p0, params.p1)?;
-    Ok(told)
+    Ok(())
+}
+
+/// Tells what a case leaves of its first two parameters.
+fn tell_left(told: &mut String, params: &CopiedParams) -> Result<(), AllocError> {
+    write!(told, "; {:?}; {:?}", params.p0, params.p1)
+}
+
+/// Runs a case, and tells its stops and what it leaves.
+fn tell_run(
+    told: &mut String,
+    mut machine: Machine<Plain>,
+    image: &Image,
+    steps: u32,
+) -> Result<(), AllocError>
+    requires valid { IsValid image.now }
+    requires unasked { machine.asked ≡ None }
+{
+    tell_stops(told, &mut machine, image, steps)?;
+    tell_left(told, &machine.finish().1)
 }
 
 /// The number that a word is in decimal digits.
@@ -126,61 +150,82 @@ fn number(word: &str) -> Result<u32> {
     word.parse::<u32>().ok().context("reading a number")
 }
 
-/// Invokes a function of an image, cancelled or not, by grants of so many steps, and says how that went.
-fn invoke(
+/// Invokes a function of an image, cancelled or not, by grants of so many steps, and tells how that went.
+fn tell_invoke(
     alloc: Global,
-    image: &str,
-    func: &str,
-    steps: &str,
+    told: &mut String,
+    image: &Image,
+    func: u32,
+    steps: u32,
     is_cancelled: bool,
-) -> Result<String> {
-    let image = image_of(alloc, image)?;
-    let func = number(func)?;
-    let steps = number(steps)?;
-    let mut machine = invoked(alloc, &image, case_params(alloc)?, func)?;
+) -> Result<()>
+    requires { IsValid image.now }
+{
+    let memory = page(alloc)?;
+    let params = case_params(alloc)?;
+    let mut machine = invoked(image, memory, params, func);
     if is_cancelled {
         machine.see_cancel();
     }
-    played(alloc, &image, machine, steps)
+    Ok(tell_run(told, machine, image, steps)?)
 }
 
-/// What a line tells of its case.
-fn case(alloc: Global, line: &str) -> Result<String> {
-    let words: Vec<&str> = line.split(' ').collect(alloc)?;
-    let [name, image, func, steps, call] = words.as_slice() else {
-        bail!("a case has five words");
+/// Tells the case of five words.
+fn tell_case(alloc: Global, told: &mut String, words: &[&str]) -> Result<()> {
+    let [name, image, func, steps, call] = words else {
+        return Err(Error::msg("a case has five words"));
     };
-    let told = invoke(alloc, image, func, steps, *call == "cancelled")?;
-    Ok(format!(in alloc; "{name}: {told}")?)
+    write!(told, "{name}: ")?;
+    let (func, steps) = (number(func)?, number(steps)?);
+    let image = image_of(alloc, image)?;
+    tell_invoke(alloc, told, &image, func, steps, *call == "cancelled")
 }
 
 /// What a line of the input tells.
 fn told(alloc: Global, line: &str, handles: &mut Handles) -> Result<String> {
+    let words: Vec<&str> = line.split(' ').collect(alloc)?;
+    let mut told = String::new(alloc);
     if line.starts_with("object ") || line.starts_with("unbuffered ") {
-        return objects::case(alloc, line, handles);
+        objects::tell_case(alloc, &mut told, words.as_slice(), handles)?;
+    } else {
+        tell_case(alloc, &mut told, words.as_slice())?;
     }
-    case(alloc, line)
+    Ok(told)
 }
 
-fn run(rt: &(impl Env + Input + Print + AllocGlobal)) -> Result<()> {
-    let alloc = rt.alloc();
-    let words: Vec<String> = env::args(rt)?.skip(1).collect(alloc)?;
-    match words.as_slice() {
-        [image, steps] => {
-            let steps = number(steps.as_str())?;
-            println!(rt; "{}", ran(alloc, image.as_str(), steps)?)?;
-        }
-        [] => {
-            let mut handles = Handles::new();
-            for line in rt.lines(alloc) {
-                println!(rt; "{}", told(alloc, line?.as_str(), &mut handles)?)?;
-            }
-        }
-        _ => bail!("the words are an image and a number of steps, or none"),
+/// Runs an image's invoke by one grant, and prints how it stopped after how many steps.
+fn print_stop(rt: &(impl Print + AllocGlobal), image: &str, steps: &str) -> Result<()> {
+    let steps = number(steps)?;
+    let image = image_of(rt.alloc(), image)?;
+    let (stop, used) = only_stop(&image, page(rt.alloc())?, steps);
+    println!(rt; "{stop:?} after {used}").context("printing how it stopped")
+}
+
+/// Prints what a line of the input tells.
+fn print_case(rt: &(impl Print + AllocGlobal), line: &str, handles: &mut Handles) -> Result<()> {
+    let told = told(rt.alloc(), line, handles)?;
+    println!(rt; "{told}").context("printing a case")
+}
+
+/// Prints what each line of the input tells.
+fn print_cases(rt: &(impl Input + Print + AllocGlobal)) -> Result<()> {
+    let mut handles = Handles::new();
+    for line in rt.lines(rt.alloc()) {
+        print_case(rt, line?.as_str(), &mut handles)?;
     }
     Ok(())
 }
 
+/// The words of the command line behind the program's name.
+fn arguments(rt: &(impl Env + AllocGlobal)) -> Result<Vec<String>> {
+    Ok(env::args(rt)?.skip(1).collect(rt.alloc())?)
+}
+
 fn main(rt: HostRuntime) -> Result<()> {
-    run(&rt)
+    let words = arguments(&rt)?;
+    match words.as_slice() {
+        [image, steps] => print_stop(&rt, image.as_str(), steps.as_str()),
+        [] => print_cases(&rt),
+        _ => bail!("the words are an image and a number of steps, or none"),
+    }
 }

@@ -1,19 +1,22 @@
 //! Cases of calls on objects, whose requests are answered by what stands in the case.
 ghost use Rattle.std.specs.Prelude.{◌≡◌, IfOk, IfSome, length};
 ghost use Rattle.tee_storage.specs.ObjectCalls.{range_len};
+ghost use Rattle.tee_storage.specs.States.{CanGoOn};
 
 use crate::number;
-use anyhow::{Context, Result, bail};
-use hex::ToHex;
-use rpc_msgs::{Payload, RpcReply};
-use std::alloc::Global;
+use anyhow::{Context, Error, Result};
+use hex::{FromHexError, ToHex};
+use rpc_msgs::{Payload, Rpc, RpcReply};
+use std::alloc::{AllocError, Global};
 use std::fmt::Write;
 use ta_params::ObjectCall;
 use tee_storage::{Handles, ObjectState, Span, StorageStep};
 use uuid::Uuid;
 
 /// The application of every case.
-const APPLICATION: &str = "11111111-2222-3333-4444-555555555555";
+const APPLICATION: [u8; 16] = [
+    0x11, 0x11, 0x11, 0x11, 0x22, 0x22, 0x33, 0x33, 0x44, 0x44, 0x55, 0x55, 0x55, 0x55, 0x55, 0x55,
+];
 
 /// The most bytes of a reply.
 const MOST_BYTES: usize = 3584;
@@ -64,66 +67,99 @@ fn call_of(name: &str, handle: u32, position: u32, len: u32) -> Option<ObjectCal
 }
 
 /// The bytes of a word in hexadecimal digits; none are a dash.
-fn bytes_of(alloc: Global, word: &str) -> Result<Vec<u8>> {
-    if word == "-" {
-        return Ok(Vec::new(alloc));
+fn bytes_of(alloc: Global, word: &str) -> Result<Vec<u8>, FromHexError> {
+    let digits = if word == "-" { "" } else { word };
+    hex::decode(alloc, digits)
+}
+
+/// The bytes of a reply in hexadecimal digits.
+fn payload_of(alloc: Global, word: &str) -> Result<Payload> {
+    let bytes = bytes_of(alloc, word)?;
+    if bytes.len() > MOST_BYTES {
+        return Err(Error::msg("a reply has too many bytes"));
     }
-    Ok(hex::decode(alloc, word)?)
+    Ok(Payload::of(bytes.as_slice()))
+}
+
+/// A reply of this ret, this first number and these bytes.
+fn reply_with(ret: u32, v: u32, payload: Payload) -> RpcReply {
+    RpcReply {
+        ret,
+        v: u64::from(v),
+        w: 0,
+        size: payload.bytes().len() as u64,
+        bytes: payload,
+    }
 }
 
 /// The reply that a word says: its ret, its first number and its bytes, with a colon between them.
 fn reply_of(alloc: Global, word: &str) -> Result<RpcReply> {
-    let parts: Vec<&str> = word.split(':').collect(alloc)?;
-    let [ret, v, bytes] = parts.as_slice() else {
-        bail!("a reply has three parts");
-    };
-    let bytes = bytes_of(alloc, bytes)?;
-    if bytes.len() > MOST_BYTES {
-        bail!("a reply has too many bytes");
-    }
-    Ok(RpcReply {
-        ret: number(ret)?,
-        v: u64::from(number(v)?),
-        w: 0,
-        size: bytes.len() as u64,
-        bytes: Payload::of(bytes.as_slice()),
-    })
+    let (ret, rest) = word.split_once(':').context("reading a reply")?;
+    let (v, bytes) = rest.split_once(':').context("reading a reply")?;
+    let (ret, v) = (number(ret)?, number(v)?);
+    Ok(reply_with(ret, v, payload_of(alloc, bytes)?))
+}
+
+/// Tells a request.
+fn tell_request(
+    alloc: Global,
+    told: &mut String,
+    rpc: &Rpc,
+    payload: &Payload,
+) -> Result<(), AllocError> {
+    let digits = payload.bytes().encode_hex(alloc)?;
+    write!(told, "{rpc:?} with {digits}, ")
 }
 
 /// Tells a step of a call.
-fn tell(alloc: Global, told: &mut String, step: &StorageStep) -> Result<()> {
+fn tell(alloc: Global, told: &mut String, step: &StorageStep) -> Result<(), AllocError> {
     match step {
-        StorageStep::Ask { rpc, payload } => {
-            let digits = payload.bytes().encode_hex(alloc)?;
-            write!(told, "{rpc:?} with {digits}, ")?;
-        }
-        StorageStep::Done { result, value } => write!(told, "done {result:08x} {value}, ")?,
-        StorageStep::Panic(code) => write!(told, "panics {code}, ")?,
+        StorageStep::Ask { rpc, payload } => tell_request(alloc, told, rpc, payload),
+        StorageStep::Done { result, value } => write!(told, "done {result:08x} {value}, "),
+        StorageStep::Panic(code) => write!(told, "panics {code}, "),
     }
-    Ok(())
 }
 
 /// Tells what is open of a handle.
-fn tell_open(told: &mut String, handles: &Handles, handle: u32) -> Result<()> {
+fn tell_open(told: &mut String, handles: &Handles, handle: u32) -> Result<(), AllocError> {
     match handles.get(handle) {
         Some(object) => {
             let (fd, len, position) = (object.fd, object.length, object.position);
-            write!(told, "; {handle} is {fd}, {position} of {len}")?;
+            write!(told, "; {handle} is {fd}, {position} of {len}")
         }
-        None => write!(told, "; {handle} is closed")?,
+        None => write!(told, "; {handle} is closed"),
     }
-    Ok(())
 }
 
 /// The call of this name, over a range of so many bytes, or what is wrong with it.
-fn call_at(name: &str, handle: u32, position: u32, len: usize) -> Result<ObjectCall>
+fn call_at(name: &str, handle: u32, position: &str, len: usize) -> Result<ObjectCall>
     ensures { IfOk result (λ call. range_len call ≡ len) }
 {
+    let position = number(position)?;
     let len = u32::try_from(len).ok().context("counting the bytes")?;
     call_of(name, handle, position, len).context("there is no such call")
 }
 
-/// Serves a call over a range, tells its steps, and gives how it stands behind the last reply.
+/// Goes on with a call by one reply after another, and tells its steps.
+fn tell_answers(
+    alloc: Global,
+    told: &mut String,
+    state: &mut ObjectState,
+    replies: &[&str],
+    range: &mut Range,
+    handles: &mut Handles,
+) -> Result<()>
+    requires { CanGoOn state.old range.old.bytes.items }
+{
+    'replies: for word in replies {
+        let reply = reply_of(alloc, word)?;
+        let step = state.answer(&reply, range, handles);
+        tell(alloc, told, &step)?;
+    }
+    Ok(())
+}
+
+/// Serves a call over a range, tells its steps, and gives what it would end with if no buffer came behind the last reply.
 fn served(
     alloc: Global,
     told: &mut String,
@@ -131,63 +167,53 @@ fn served(
     replies: &[&str],
     range: &mut Range,
     handles: &mut Handles,
-) -> Result<ObjectState>
+) -> Result<u32>
     requires { length range.old.bytes.items ≡ range_len call }
 {
-    let uuid = Uuid::parse_str(APPLICATION)?;
+    let uuid = Uuid::from_bytes(APPLICATION);
     let (mut state, step) = ObjectState::start(call, uuid, range, handles);
     tell(alloc, told, &step)?;
-    'replies: for word in replies {
-        let reply = reply_of(alloc, word)?;
-        let step = state.answer(&reply, range, handles);
-        tell(alloc, told, &step)?;
-    }
-    Ok(state)
+    tell_answers(alloc, told, &mut state, replies, range, handles)?;
+    Ok(state.no_buffer())
 }
 
-/// Tells what a call leaves: the range, and what is open of the handle.
-fn tell_end(
+/// Serves a call likewise, and tells its steps and the range that it leaves.
+fn tell_call(
     alloc: Global,
     told: &mut String,
-    range: &Range,
-    handles: &Handles,
-    handle: u32,
-) -> Result<()> {
-    write!(told, "over {}", range.bytes.as_slice().encode_hex(alloc)?)?;
-    tell_open(told, handles, handle)
+    call: ObjectCall,
+    has_buffer: bool,
+    replies: &[&str],
+    range: &mut Range,
+    handles: &mut Handles,
+) -> Result<()>
+    requires { length range.old.bytes.items ≡ range_len call }
+{
+    let code = served(alloc, told, call, replies, range, handles)?;
+    if !has_buffer {
+        write!(told, "{code:08x} without a buffer, ")?;
+    }
+    let digits = range.bytes.as_slice().encode_hex(alloc)?;
+    write!(told, "over {digits}").context("telling a range")
 }
 
-/// What the first six words of a line and its replies tell.
-fn told_of(
+/// Tells the case of the words of a line: `object` or `unbuffered`, its name, the call, a handle, a position, the bytes of
+/// the range, and the replies. `unbuffered` where no buffer comes for the last request.
+pub(crate) fn tell_case(
     alloc: Global,
-    head: &[&str],
-    replies: &[&str],
+    told: &mut String,
+    words: &[&str],
     handles: &mut Handles,
-) -> Result<String> {
-    let [kind, name, call, handle, position, bytes] = head else {
-        bail!("a call has six words");
+) -> Result<()> {
+    let [kind, name, call, handle, position, bytes, replies @ ..] = words else {
+        return Err(Error::msg("a call has six words and its replies"));
     };
+    write!(told, "{name}: ")?;
     let handle = number(handle)?;
-    let position = number(position)?;
     let bytes = bytes_of(alloc, bytes)?;
     let call = call_at(call, handle, position, bytes.len())?;
-    let mut told = format!(in alloc; "{name}: ")?;
     let mut range = Range { bytes };
-    let state = served(alloc, &mut told, call, replies, &mut range, handles)?;
-    if *kind == "unbuffered" {
-        write!(told, "{:08x} without a buffer, ", state.no_buffer())?;
-    }
-    tell_end(alloc, &mut told, &range, handles, handle)?;
-    Ok(told)
-}
-
-/// What a line tells of its case: `object` or `unbuffered`, its name, the call, a handle, a position, the bytes of
-/// the range, and the replies. `unbuffered` where no buffer comes for the last request.
-pub(crate) fn case(alloc: Global, line: &str, handles: &mut Handles) -> Result<String> {
-    let words: Vec<&str> = line.split(' ').collect(alloc)?;
-    if words.len() < 6 {
-        bail!("a call has six words and its replies");
-    }
-    let (head, replies) = words.as_slice().split_at(6);
-    told_of(alloc, head, replies, handles)
+    let has_buffer = *kind != "unbuffered";
+    tell_call(alloc, told, call, has_buffer, replies, &mut range, handles)?;
+    tell_open(told, handles, handle).context("telling a handle")
 }
