@@ -13,12 +13,14 @@
 //! which the names before it may stand.
 #![tactic(auto)]
 
-use anyhow::{Result, bail};
-use hex::FromHexError;
-use std::alloc::Global;
+ghost use Rattle.std.specs.Prelude.{[]};
+ghost use Rattle.trace_text.specs.Sound.{IsSound};
+
+use anyhow::{Context, Error, Result, anyhow};
+use std::alloc::{AllocError, Global};
 use std::env;
-use std::io::{BufRead, BufReader, Read};
-use std::rt::Env;
+use std::fmt::Write;
+use std::io::Read;
 use trace_bin::{read_binary, write_binary};
 use trace_text::{Trace, TraceFault, read_trace};
 use uuid::Uuid;
@@ -26,47 +28,65 @@ use uuid::Uuid;
 /// The bytes that a text may have here.
 const MOST_BYTES: usize = 1 << 25;
 
+/// The UUID of the one built-in application of the table.
+const NATIVE: [u8; 16] = [
+    0x3f, 0x0c, 0x7a, 0x11, 0x52, 0xb8, 0x4d, 0x6e, 0x9a, 0x40, 0x0e, 0x6b, 0x5d, 0x2c, 0x8f, 0x01,
+];
+
+/// The error of a text or of bytes above the limit.
+fn too_long() -> Error {
+    Error::msg("the text is too long")
+}
+
 /// What a trace holds, in numbers.
-fn summary(alloc: Global, trace: &Trace) -> Result<String> {
+fn summary(alloc: Global, trace: &Trace) -> Result<String, AllocError> {
     let fills = trace.fills.len();
     let items = trace.items.len();
     match &trace.boot {
         Some(boot) => {
             let apps = boot.apps.len();
-            Ok(format!(in alloc; "{apps} applications, {fills} fills, {items} items")?)
+            format!(in alloc; "{apps} applications, {fills} fills, {items} items")
         }
-        None => Ok(format!(in alloc; "no boot")?),
+        None => String::from_str(alloc, "no boot"),
+    }
+}
+
+/// The line that tells why no trace was read.
+fn fault_line(alloc: Global, fault: TraceFault) -> Result<String> {
+    match fault {
+        TraceFault::Memory => Err(Error::from(fault)),
+        TraceFault::Bad { .. } => format!(in alloc; "{fault}").context("telling a fault"),
     }
 }
 
 /// The line that tells what the text is.
 fn verdict(alloc: Global, text: &[u8]) -> Result<String> {
     if text.len() > MOST_BYTES {
-        bail!("the text is too long");
+        return Err(too_long());
     }
     match read_trace(alloc, text, &[]) {
-        Ok(trace) => summary(alloc, &trace),
-        Err(TraceFault::Memory) => bail!("out of memory"),
-        Err(fault) => Ok(format!(in alloc; "{fault}")?),
+        Ok(trace) => summary(alloc, &trace).context("telling a trace"),
+        Err(fault) => fault_line(alloc, fault),
     }
 }
 
-/// The UUID of the one built-in application of the table.
-const NATIVE: &str = "3f0c7a11-52b8-4d6e-9a40-0e6b5d2c8f01";
+/// A whole trace, as a line.
+fn shown(alloc: Global, trace: &Trace) -> Result<String, AllocError> {
+    format!(in alloc; "{trace:?}")
+}
 
 /// What reading gave, as a line.
 fn told(alloc: Global, read: Result<Trace, TraceFault>) -> Result<String> {
     match read {
-        Ok(trace) => Ok(format!(in alloc; "{trace:?}")?),
-        Err(TraceFault::Memory) => bail!("out of memory"),
-        Err(fault) => Ok(format!(in alloc; "{fault}")?),
+        Ok(trace) => shown(alloc, &trace).context("telling a trace"),
+        Err(fault) => fault_line(alloc, fault),
     }
 }
 
 /// The line that tells what the text of a row is.
 fn text_verdict(alloc: Global, natives: &[Uuid], text: &[u8]) -> Result<String> {
     if text.len() > MOST_BYTES {
-        bail!("the text is too long");
+        return Err(too_long());
     }
     told(alloc, read_trace(alloc, text, natives))
 }
@@ -74,95 +94,138 @@ fn text_verdict(alloc: Global, natives: &[Uuid], text: &[u8]) -> Result<String> 
 /// The line that tells what the bytes of a row are.
 fn bytes_verdict(alloc: Global, natives: &[Uuid], bytes: &[u8]) -> Result<String> {
     if bytes.len() > MOST_BYTES {
-        bail!("the bytes are too many");
+        return Err(too_long());
     }
     told(alloc, read_binary(alloc, bytes, natives))
 }
 
-/// The bytes that digits write, with blanks anywhere.
-fn digits(alloc: Global, text: &str) -> Result<Vec<u8>> {
-    let packed = text.replace(alloc, " ", "")?;
-    match hex::decode(alloc, packed.as_bytes()) {
-        Ok(bytes) => Ok(bytes),
-        Err(FromHexError::OutOfMemory) => bail!("out of memory"),
-        Err(_) => bail!("no digits"),
-    }
+/// The line that tells what the bytes are that digits write, with blanks anywhere.
+fn digits_verdict(alloc: Global, natives: &[Uuid], text: &str) -> Result<String> {
+    let digits = text.replace(alloc, " ", "")?;
+    let bytes = hex::decode(alloc, digits.as_bytes())?;
+    bytes_verdict(alloc, natives, bytes.as_slice())
 }
 
 /// The names that stand for texts.
 type Names = Vec<(String, String)>;
 
-/// The text of a row.
-fn spelled(alloc: Global, row: &str, names: &Names) -> Result<String> {
-    let mut text = String::from_str(alloc, row)?;
+/// Puts the texts that names stand for in their places.
+fn put_names(alloc: Global, text: &mut String, names: &Names) -> Result<(), AllocError> {
     for (name, piece) in names.iter().rev() {
-        text = text.as_str().replace(alloc, name.as_str(), piece.as_str())?;
+        *text = text.as_str().replace(alloc, name.as_str(), piece.as_str())?;
     }
-    Ok(text.as_str().replace(alloc, "|", "\n")?)
+    Ok(())
+}
+
+/// The text of a row.
+fn spelled(alloc: Global, row: &str, names: &Names) -> Result<String, AllocError> {
+    let mut text = String::from_str(alloc, row)?;
+    put_names(alloc, &mut text, names)?;
+    text.as_str().replace(alloc, "|", "\n")
+}
+
+/// The bytes that are written of a trace.
+fn bytes_of(alloc: Global, trace: &Trace) -> Result<Vec<u8>>
+    requires { IsSound [] trace.now }
+{
+    if trace.boot.is_none() {
+        return Err(Error::msg("a trace without a boot"));
+    }
+    write_binary(alloc, trace).context("writing a trace")
 }
 
 /// The bytes that are written of the trace of a text.
 fn written(alloc: Global, text: &str) -> Result<Vec<u8>> {
     if text.len() > MOST_BYTES {
-        bail!("the text is too long");
+        return Err(too_long());
     }
-    let trace = match read_trace(alloc, text.as_bytes(), &[]) {
-        Ok(trace) => trace,
-        Err(TraceFault::Memory) => bail!("out of memory"),
-        Err(_) => bail!("no text of a trace"),
-    };
-    if trace.boot.is_none() {
-        bail!("a trace without a boot");
+    let trace = read_trace(alloc, text.as_bytes(), &[])?;
+    bytes_of(alloc, &trace)
+}
+
+/// Fails where bytes are not read as the trace of a text.
+fn compare(alloc: Global, natives: &[Uuid], bytes: &[u8], text: &str) -> Result<()> {
+    let read = bytes_verdict(alloc, natives, bytes)?;
+    let given = text_verdict(alloc, natives, text.as_bytes())?;
+    if given.as_str() != read.as_str() {
+        return Err(anyhow!("another trace: {read}"));
     }
-    match write_binary(alloc, &trace) {
-        Ok(bytes) => Ok(bytes),
-        Err(_) => bail!("out of memory"),
-    }
+    Ok(())
 }
 
 /// The bytes of the trace of a text, in digits, where they are read again.
 fn binary_verdict(alloc: Global, natives: &[Uuid], text: &str) -> Result<String> {
     let bytes = written(alloc, text)?;
-    let read = bytes_verdict(alloc, natives, bytes.as_slice())?;
-    let given = text_verdict(alloc, natives, text.as_bytes())?;
-    if given.as_str() != read.as_str() {
-        bail!("another trace: {read}");
+    compare(alloc, natives, bytes.as_slice(), text)?;
+    hex::encode(alloc, bytes.as_slice()).context("telling bytes")
+}
+
+/// What came in a row, and how often the last of it.
+#[derive(Drop)]
+struct Counts {
+    line: String,
+    last: String,
+    count: u64,
+}
+
+impl Counts {
+    fn new(alloc: Global) -> Counts {
+        Counts {
+            line: String::new(alloc),
+            last: String::new(alloc),
+            count: 0,
+        }
     }
-    Ok(hex::encode(alloc, bytes.as_slice())?)
+
+    /// Tells how often the last came, if it did.
+    fn tell_last(&mut self) -> Result<(), AllocError> {
+        if self.count == 0 {
+            return Ok(());
+        }
+        let comma = if self.line.as_str().is_empty() {
+            ""
+        } else {
+            ", "
+        };
+        write!(self.line, "{comma}{} {}", self.count, self.last)
+    }
+
+    /// Counts what comes next.
+    fn add(&mut self, next: String) -> Result<(), AllocError> {
+        if next.as_str() != self.last.as_str() {
+            self.tell_last()?;
+            self.last = next;
+            self.count = 0;
+        }
+        self.count = self.count.saturating_add(1);
+        Ok(())
+    }
+}
+
+/// What a front of the bytes of a text is.
+fn front_verdict(alloc: Global, natives: &[Uuid], front: &[u8]) -> Result<String> {
+    let verdict = bytes_verdict(alloc, natives, front)?;
+    if verdict.as_str().starts_with("Trace") {
+        return String::from_str(alloc, "a trace").context("telling a front");
+    }
+    Ok(verdict)
+}
+
+/// Counts what each shorter front of bytes is.
+fn count_fronts(alloc: Global, natives: &[Uuid], bytes: &[u8], counts: &mut Counts) -> Result<()> {
+    for end in 0..bytes.len() {
+        counts.add(front_verdict(alloc, natives, &bytes[..end])?)?;
+    }
+    Ok(())
 }
 
 /// What each shorter front of the bytes of a text is.
 fn fronts_verdict(alloc: Global, natives: &[Uuid], text: &str) -> Result<String> {
     let bytes = written(alloc, text)?;
-    let mut line = String::new(alloc);
-    let mut last = String::new(alloc);
-    let mut count = 0u64;
-    for end in 0..bytes.len() {
-        let verdict = bytes_verdict(alloc, natives, &bytes.as_slice()[..end])?;
-        let verdict = if verdict.as_str().starts_with("Trace") {
-            String::from_str(alloc, "a trace")?
-        } else {
-            verdict
-        };
-        if verdict.as_str() != last.as_str() {
-            push_count(alloc, &mut line, count, last.as_str())?;
-            last = verdict;
-            count = 0;
-        }
-        count = count.saturating_add(1);
-    }
-    push_count(alloc, &mut line, count, last.as_str())?;
-    Ok(line)
-}
-
-/// Appends how many fronts in a row are this.
-fn push_count(alloc: Global, line: &mut String, count: u64, what: &str) -> Result<()> {
-    if count == 0 {
-        return Ok(());
-    }
-    let comma = if line.as_str().is_empty() { "" } else { ", " };
-    line.push_str(format!(in alloc; "{comma}{count} {what}")?.as_str())?;
-    Ok(())
+    let mut counts = Counts::new(alloc);
+    count_fronts(alloc, natives, bytes.as_slice(), &mut counts)?;
+    counts.tell_last()?;
+    Ok(counts.line)
 }
 
 /// The made trace of a seed and a number of calls.
@@ -170,19 +233,17 @@ fn made_verdict(alloc: Global, words: &str) -> Result<String> {
     let (seed, count) = words.split_once(' ').unwrap_or((words, "0"));
     let (seed, count) = (seed.parse::<u64>()?, count.parse::<u32>()?);
     if count > workload::MOST_CALLS {
-        bail!("too many calls");
+        return Err(Error::msg("too many calls"));
     }
-    match workload::make_work(alloc, seed, count) {
-        Ok(trace) => Ok(format!(in alloc; "{trace:?}")?),
-        Err(_) => bail!("out of memory"),
-    }
+    let trace = workload::make_work(alloc, seed, count)?;
+    shown(alloc, &trace).context("telling a trace")
 }
 
 /// The line that a row prints.
 fn row_verdict(alloc: Global, row: &str) -> Result<String> {
-    let natives = [Uuid::parse_str(NATIVE)?];
+    let natives = [Uuid::from_bytes(NATIVE)];
     if let Some(text) = row.strip_prefix("hex ") {
-        return bytes_verdict(alloc, &natives, digits(alloc, text)?.as_slice());
+        return digits_verdict(alloc, &natives, text);
     }
     if let Some(text) = row.strip_prefix("binary ") {
         return binary_verdict(alloc, &natives, text);
@@ -196,35 +257,55 @@ fn row_verdict(alloc: Global, row: &str) -> Result<String> {
     }
 }
 
+/// Makes a name stand for a text.
+fn add_name(alloc: Global, names: &mut Names, name: &str, piece: &str) -> Result<()> {
+    let name = String::from_str(alloc, name)?;
+    let piece = String::from_str(alloc, piece)?;
+    names.push((name, piece)).context("adding a name")
+}
+
+/// Prints what a row tells.
+fn print_row(rt: &impl Print, alloc: Global, names: &Names, row: &str) -> Result<()> {
+    let text = spelled(alloc, row, names)?;
+    let verdict = row_verdict(alloc, text.as_str())?;
+    println!(rt; "{verdict}").context("printing a row")
+}
+
 /// Takes one line of a table.
 fn take_row(rt: &impl Print, alloc: Global, names: &mut Names, row: &str) -> Result<()> {
     if row.starts_with("##") {
         return Ok(());
     }
-    if let Some(rest) = row.strip_prefix("let ") {
-        let (name, piece) = rest.split_once(' ').unwrap_or((rest, ""));
-        names.push((
-            String::from_str(alloc, name)?,
-            String::from_str(alloc, piece)?,
-        ))?;
-        return Ok(());
+    match row.strip_prefix("let ") {
+        Some(rest) => {
+            let (name, piece) = rest.split_once(' ').unwrap_or((rest, ""));
+            add_name(alloc, names, name, piece)
+        }
+        None => print_row(rt, alloc, names, row),
     }
-    let text = spelled(alloc, row, names)?;
-    println!(rt; "{}", row_verdict(alloc, text.as_str())?)?;
+}
+
+/// Takes each line of a table from standard input.
+fn take_rows(rt: &(impl Input + Print + AllocGlobal)) -> Result<()> {
+    let alloc = rt.alloc();
+    let mut names = Vec::new(alloc);
+    for line in rt.lines(alloc) {
+        take_row(rt, alloc, &mut names, line?.as_str())?;
+    }
     Ok(())
 }
 
-fn main(rt: HostRuntime) -> Result<()> {
-    let alloc = rt.alloc();
-    if env::args(&rt)?.count() > 1 {
-        let mut names = Vec::new(alloc);
-        for line in BufReader::new(alloc, rt.reader())?.lines(alloc) {
-            take_row(&rt, alloc, &mut names, line?.as_str())?;
-        }
-        return Ok(());
-    }
-    let mut text = Vec::new(alloc);
+/// Prints what the text of standard input is.
+fn print_verdict(rt: &(impl Input + Print + AllocGlobal)) -> Result<()> {
+    let mut text = Vec::new(rt.alloc());
     rt.reader().read_to_end(&mut text)?;
-    println!(rt; "{}", verdict(alloc, text.as_slice())?)?;
-    Ok(())
+    let verdict = verdict(rt.alloc(), text.as_slice())?;
+    println!(rt; "{verdict}").context("printing what the text is")
+}
+
+fn main(rt: HostRuntime) -> Result<()> {
+    if env::args(&rt)?.count() > 1 {
+        return take_rows(&rt);
+    }
+    print_verdict(&rt)
 }
