@@ -5,7 +5,7 @@ ghost use Rattle.kernel_state.specs.Meaning.{booted_of, events_of};
 ghost use Rattle.native_tas.specs.Table.{entries};
 ghost use Rattle.ta_isa.specs.Boots.{IsBoot};
 
-use anyhow::{Result, bail};
+use anyhow::{Error, Result, bail};
 use core_machine::Machine;
 use kernel_state::Core;
 use native_tas::Natives;
@@ -47,7 +47,7 @@ fn core_of(alloc: Global, boot: Boot, natives: &Natives) -> Result<Core>
 {
     match Core::boot(alloc, boot, natives) {
         Ok(core) => Ok(core),
-        Err(_) => bail!("no core was booted"),
+        Err(_) => Err(Error::msg("no core was booted")),
     }
 }
 

@@ -14,5 +14,5 @@ mod reading;
 mod telling;
 
 pub use booting::machine_of;
-pub use lists::play;
+pub use lists::{play, play_text};
 pub use reading::trace_of;

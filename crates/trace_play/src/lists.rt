@@ -1,56 +1,86 @@
 //! Playing items: what comes in and goes out is served by lists.
-ghost use Rattle.std.specs.Prelude.{◌≡◌};
+ghost use Rattle.std.specs.Prelude.{◌≡◌, IfSome};
 ghost use Rattle.kernel_state.specs.Meaning.{booted_of};
+ghost use Rattle.ta_isa.specs.Boots.{IsBoot};
 
+use crate::booting::machine_of;
+use crate::reading::trace_of;
 use crate::telling::{tell_answers, tell_show, tell_stand};
-use anyhow::{Context, Result, bail};
+use anyhow::{Context, Error, Result, bail};
 use core_machine::{Machine, Smc, Stopped};
 use kernel_entry::Visitor;
 use kernel_state::EnterRefusal;
+use native_tas::Natives;
 use ns_ram::in_ram;
 use smc_abi::Regs;
 use std::alloc::Global;
 use std::fmt::Write;
-use trace_text::{Item, Reg};
+use trace_text::{Item, Reg, Trace};
+
+/// The number that a register of an entry is.
+fn number_of(reg: Reg) -> Result<u32> {
+    match reg {
+        Reg::Num(number) => Ok(number),
+        Reg::Last(_) => Err(Error::msg("a register of an earlier answer")),
+    }
+}
 
 /// The registers that a processor comes in with.
 fn registers(regs: &[Reg; 8]) -> Result<Regs> {
-    let [
-        Reg::Num(a0),
-        Reg::Num(a1),
-        Reg::Num(a2),
-        Reg::Num(a3),
-        Reg::Num(a4),
-        Reg::Num(a5),
-        Reg::Num(a6),
-        Reg::Num(a7),
-    ] = *regs
-    else {
-        bail!("a register of an earlier answer");
-    };
-    Ok(Regs {
-        a: [a0, a1, a2, a3, a4, a5, a6, a7],
-    })
-}
-
-/// Adds what comes in or goes out by an item to a list. Whether anything does.
-fn takes(list: &mut Vec<Smc>, item: &Item) -> Result<bool> {
-    match item {
-        Item::Smc { cpu, steps, regs } => {
-            list.push(entry(*cpu, *steps, regs)?)?;
-            list.push(Smc::Leaves(*cpu))?;
-        }
-        Item::Enter { cpu, steps, regs } => list.push(entry(*cpu, *steps, regs)?)?,
-        Item::Leave { cpu } => list.push(Smc::Leaves(*cpu))?,
-        _ => return Ok(false),
+    let mut a = [0; 8];
+    for (number, reg) in a.iter_mut().zip(regs) {
+        *number = number_of(*reg)?;
     }
-    Ok(true)
+    Ok(Regs { a })
 }
 
 /// The entry of a processor.
 fn entry(cpu: u8, steps: u32, regs: &[Reg; 8]) -> Result<Smc> {
     let regs = registers(regs)?;
     Ok(Smc::Comes(Visitor { cpu, regs, steps }))
+}
+
+/// Adds the entry of a processor to a list.
+fn comes(list: &mut Vec<Smc>, cpu: u8, steps: u32, regs: &[Reg; 8]) -> Result<()> {
+    list.push(entry(cpu, steps, regs)?)
+        .context("adding an entry")
+}
+
+/// Adds the exit of a processor to a list.
+fn leaves(list: &mut Vec<Smc>, cpu: u8) -> Result<()> {
+    list.push(Smc::Leaves(cpu)).context("adding an exit")
+}
+
+/// Adds what comes in or goes out by an item to a list. Whether anything does.
+fn takes(list: &mut Vec<Smc>, item: &Item) -> Result<bool> {
+    match item {
+        Item::Smc { cpu, steps, regs } => {
+            comes(list, *cpu, *steps, regs)?;
+            leaves(list, *cpu)?;
+        }
+        Item::Enter { cpu, steps, regs } => comes(list, *cpu, *steps, regs)?,
+        Item::Leave { cpu } => leaves(list, *cpu)?,
+        _ => return Ok(false),
+    }
+    Ok(true)
+}
+
+/// Plays one item. What comes in or goes out by it is added to a list, which is served before any other item.
+fn play_item(
+    alloc: Global,
+    machine: &mut Machine,
+    item: &Item,
+    list: &mut Vec<Smc>,
+    told: &mut String,
+) -> Result<()>
+    ensures { booted_of machine.new.core ≡ booted_of machine.old.core }
+{
+    if takes(list, item)? {
+        return Ok(());
+    }
+    serve(alloc, machine, list.as_slice(), told)?;
+    list.clear();
+    write_or_show(alloc, machine, item, told)
 }
 
 /// Plays these items, and tells what comes of it.
@@ -60,15 +90,26 @@ pub fn play(alloc: Global, machine: &mut Machine, items: &[Item]) -> Result<Stri
     let mut told = String::new(alloc);
     let mut list = Vec::new(alloc);
     for item in items {
-        if !takes(&mut list, item)? {
-            serve(alloc, machine, list.as_slice(), &mut told)?;
-            list.clear();
-            write_or_show(alloc, machine, item, &mut told)?;
-        }
+        play_item(alloc, machine, item, &mut list, &mut told)?;
     }
     serve(alloc, machine, list.as_slice(), &mut told)?;
     tell_stand(machine, &mut told)?;
     Ok(told)
+}
+
+/// Plays a trace, whose boot is taken from it, on a machine of its own, and tells what comes of it.
+fn play_trace(alloc: Global, natives: &Natives, trace: &mut Trace) -> Result<String>
+    requires { IfSome trace.old.boot IsBoot }
+{
+    let boot = trace.boot.take().context("a case without a boot")?;
+    let mut machine = machine_of(alloc, boot, natives, trace.fills.as_slice())?;
+    play(alloc, &mut machine, trace.items.as_slice())
+}
+
+/// Plays the trace of a text likewise, beside applications that are built in.
+pub fn play_text(alloc: Global, natives: &Natives, text: &[u8]) -> Result<String> {
+    let mut trace = trace_of(alloc, natives, text)?;
+    play_trace(alloc, natives, &mut trace)
 }
 
 /// Serves a list. Where an entry of it wants for memory, that and what is behind it come once more.

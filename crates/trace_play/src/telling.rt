@@ -1,11 +1,10 @@
 //! The lines that are printed.
-use anyhow::Result;
 use core_machine::{Machine, Told};
-use std::alloc::Global;
+use std::alloc::{AllocError, Global};
 use std::fmt::Write;
 
 /// Tells each of these exits.
-pub fn tell_answers(answers: &[Told], told: &mut String) -> Result<()> {
+pub fn tell_answers(answers: &[Told], told: &mut String) -> Result<(), AllocError> {
     for answer in answers {
         tell_answer(answer, told)?;
     }
@@ -13,30 +12,28 @@ pub fn tell_answers(answers: &[Told], told: &mut String) -> Result<()> {
 }
 
 /// Tells an exit.
-fn tell_answer(answer: &Told, told: &mut String) -> Result<()> {
+fn tell_answer(answer: &Told, told: &mut String) -> Result<(), AllocError> {
     write!(told, "ret {}", answer.cpu)?;
     for register in &answer.regs.a {
-        tell_register(*register, told)?;
+        write!(told, " {register:08x}")?;
     }
-    told.push('\n')?;
-    Ok(())
-}
-
-/// Tells a register of an exit.
-fn tell_register(register: u32, told: &mut String) -> Result<()> {
-    write!(told, " {register:08x}")?;
-    Ok(())
+    told.push('\n')
 }
 
 /// Tells bytes of a processor's RAM.
-pub fn tell_show(alloc: Global, cpu: u8, addr: u64, bytes: &[u8], told: &mut String) -> Result<()> {
+pub fn tell_show(
+    alloc: Global,
+    cpu: u8,
+    addr: u64,
+    bytes: &[u8],
+    told: &mut String,
+) -> Result<(), AllocError> {
     let digits = hex::encode(alloc, bytes)?;
-    writeln!(told, "mem {cpu} {addr:08x} {digits}")?;
-    Ok(())
+    writeln!(told, "mem {cpu} {addr:08x} {digits}")
 }
 
 /// Tells how a core stands.
-pub fn tell_stand(machine: &Machine, told: &mut String) -> Result<()> {
+pub fn tell_stand(machine: &Machine, told: &mut String) -> Result<(), AllocError> {
     let core = machine.core();
     let inside = (0..machine.cpus()).filter(|cpu| core.inside(*cpu)).count();
     writeln!(
@@ -46,6 +43,5 @@ pub fn tell_stand(machine: &Machine, told: &mut String) -> Result<()> {
         core.journal().copied(),
         core.free_slots(),
         core.free_pages()
-    )?;
-    Ok(())
+    )
 }
