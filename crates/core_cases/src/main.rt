@@ -8,22 +8,18 @@ use anyhow::{Context, Result, bail};
 use native_tas::{Native, Natives, Relation, Uuid, digest};
 use std::alloc::Global;
 use std::io;
-use trace_play::{machine_of, play, trace_of};
-use trace_text::Trace;
+use trace_play::play_text;
 
 /// The UUID of the digest application, which is built in.
 const DIGEST_UUID: [u8; 16] = [
     0x3f, 0x0c, 0x7a, 0x11, 0x52, 0xb8, 0x4d, 0x6e, 0x9a, 0x40, 0x0e, 0x6b, 0x5d, 0x2c, 0x8f, 0x01,
 ];
 
-/// What the trace of a text tells.
-fn told(alloc: Global, natives: &Natives, text: &[u8]) -> Result<String> {
-    let Trace { boot, fills, items } = trace_of(alloc, natives, text)?;
-    let Some(boot) = boot else {
-        bail!("a case without a boot");
-    };
-    let mut machine = machine_of(alloc, boot, natives, fills.as_slice())?;
-    play(alloc, &mut machine, items.as_slice())
+/// Prints the name of a case and what its trace tells.
+fn print_case(rt: &impl Print, alloc: Global, natives: &Natives, case: &str) -> Result<()> {
+    let (name, text) = case.split_once('\n').context("reading a name")?;
+    let told = play_text(alloc, natives, text.as_bytes())?;
+    print!(rt; "case {name}\n{told}").context("printing a case")
 }
 
 fn main(rt: HostRuntime) -> Result<()> {
@@ -39,8 +35,7 @@ fn main(rt: HostRuntime) -> Result<()> {
     }
     let input = io::read_to_string(alloc, rt.reader())?;
     for case in input.as_str().split("case ").skip(1) {
-        let (name, text) = case.split_once('\n').context("reading a name")?;
-        print!(rt; "case {name}\n{}", told(alloc, &natives, text.as_bytes())?)?;
+        print_case(&rt, alloc, &natives, case)?;
     }
     Ok(())
 }
