@@ -30,8 +30,8 @@ fn replies_alone(
     if !can_be_fed(boot, journal, events.as_slice()) {
         bail!("no session of the only application");
     }
-    let machine = SoloSession::new(alloc, boot, natives, boot.apps.as_slice()[0].uuid)?;
-    feed(alloc, machine, events.as_slice())
+    let mut machine = SoloSession::new(alloc, boot, natives, boot.apps.as_slice()[0].uuid)?;
+    feed(alloc, &mut machine, events.as_slice())
 }
 
 /// Tells a reply, and what was answered in its place.

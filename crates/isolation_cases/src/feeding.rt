@@ -18,10 +18,10 @@ fn add(replies: &mut Vec<OwnReply>, told: Option<OwnReply>) -> Result<()> {
 /// Feeds the machine of a session with what has happened to the session. What it replies.
 pub(crate) fn feed(
     alloc: Global,
-    mut session: SoloSession,
+    session: &mut SoloSession,
     events: &[OwnEvent],
 ) -> Result<Vec<OwnReply>>
-    requires { IsFed session events.now }
+    requires { IsFed session.old events.now }
 {
     let mut replies = Vec::new(alloc);
     for event in events {
