@@ -33,7 +33,7 @@ const NATIVE: [u8; 16] = [
     0x3f, 0x0c, 0x7a, 0x11, 0x52, 0xb8, 0x4d, 0x6e, 0x9a, 0x40, 0x0e, 0x6b, 0x5d, 0x2c, 0x8f, 0x01,
 ];
 
-/// The error of a text or of bytes above the limit.
+/// The error of a text above the limit.
 fn too_long() -> Error {
     Error::msg("the text is too long")
 }
@@ -94,7 +94,7 @@ fn text_verdict(alloc: Global, natives: &[Uuid], text: &[u8]) -> Result<String> 
 /// The line that tells what the bytes of a row are.
 fn bytes_verdict(alloc: Global, natives: &[Uuid], bytes: &[u8]) -> Result<String> {
     if bytes.len() > MOST_BYTES {
-        return Err(too_long());
+        return Err(Error::msg("the bytes are too many"));
     }
     told(alloc, read_binary(alloc, bytes, natives))
 }
