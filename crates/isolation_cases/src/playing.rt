@@ -39,9 +39,6 @@ pub(crate) fn played(alloc: Global, natives: &Natives, trace: Trace) -> Result<M
         → IfOk result (λ machine. booted_of machine.core ≡ booted boot (entries natives.now)) }
 {
     let Trace { boot, fills, items } = trace;
-    let Some(boot) = boot else {
-        bail!("a case without a boot");
-    };
     let mut machine = machine_of(alloc, boot, natives, fills.as_slice())?;
     play(alloc, &mut machine, items.as_slice())?;
     Ok(machine)

@@ -1,9 +1,10 @@
 //! Making a machine.
-ghost use Rattle.std.specs.Prelude.{◌≡◌, [], IfOk, length};
+ghost use Rattle.std.specs.Prelude.{◌≡◌, [], IfOk, IfSome, Some, length};
 ghost use Rattle.kernel_model.specs.Application.{booted};
 ghost use Rattle.kernel_state.specs.Meaning.{booted_of, events_of};
 ghost use Rattle.native_tas.specs.Table.{entries};
 ghost use Rattle.ta_isa.specs.Boots.{IsBoot};
+ghost use Rattle.ta_isa.specs.declared.boot.Boot.{Boot as AnyBoot};
 
 use anyhow::{Error, Result, bail};
 use core_machine::Machine;
@@ -53,11 +54,28 @@ fn core_of(alloc: Global, boot: Boot, natives: &Natives) -> Result<Core>
 
 /// The machine of a boot, beside applications that are built in, with these fills for each of its processors.
 #[tactic(auto, using(crate::proofs::Boots::begun_so))]
-pub fn machine_of(alloc: Global, boot: Boot, natives: &Natives, fills: &[Fill]) -> Result<Machine>
+fn begun(alloc: Global, boot: Boot, natives: &Natives, fills: &[Fill]) -> Result<Machine>
     requires { IsBoot boot }
     ensures { IfOk result (λ machine. booted_of machine.core ≡ booted boot (entries natives.now)) }
 {
     let lanes = lanes_of(alloc, boot.cpus, fills)?;
     let core = core_of(alloc, boot, natives)?;
     Ok(Machine::new(alloc, core, lanes)?)
+}
+
+/// The machine of a trace's boot, likewise, if it has one.
+pub fn machine_of(
+    alloc: Global,
+    boot: Option<Boot>,
+    natives: &Natives,
+    fills: &[Fill],
+) -> Result<Machine>
+    requires { IfSome boot IsBoot }
+    ensures { (given : AnyBoot) → boot ≡ Some given
+        → IfOk result (λ machine. booted_of machine.core ≡ booted given (entries natives.now)) }
+{
+    match boot {
+        Some(boot) => begun(alloc, boot, natives, fills),
+        None => Err(Error::msg("a case without a boot")),
+    }
 }

@@ -101,7 +101,7 @@ pub fn play(alloc: Global, machine: &mut Machine, items: &[Item]) -> Result<Stri
 fn play_trace(alloc: Global, natives: &Natives, trace: &mut Trace) -> Result<String>
     requires { IfSome trace.old.boot IsBoot }
 {
-    let boot = trace.boot.take().context("a case without a boot")?;
+    let boot = trace.boot.take();
     let mut machine = machine_of(alloc, boot, natives, trace.fills.as_slice())?;
     play(alloc, &mut machine, trace.items.as_slice())
 }
