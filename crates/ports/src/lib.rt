@@ -1,8 +1,8 @@
 //! Where bytes come from and go to, and what a test may do between the two halves of a call.
 //!
 //! The traits say what their implementors mean: what a source has left, what a sink holds, and a count
-//! of faults that never falls. A failure is answered only where that count rose, so that whoever stands
-//! above can tell a fault of the port from one of its own.
+//! of faults that never falls. A failure is answered only where that count rose, and no other answer moves
+//! it, so that whoever stands above can tell a fault of the port from one of its own.
 #![tactic(auto)]
 
 mod fault_plan;

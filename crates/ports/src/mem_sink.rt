@@ -1,4 +1,4 @@
-ghost use Rattle.std.specs.Prelude.{◌≡◌, ℕ, ◌≤◌, ◌↔◌, IsTrue, [], Some, take};
+ghost use Rattle.std.specs.Prelude.{◌≡◌, ◌≢◌, ℕ, ◌≤◌, ◌↔◌, IsTrue, [], Some, take};
 ghost use Rattle.ports.specs.FaultPlan.{is_failing, fresh};
 ghost use Rattle.ports.specs.MemSink.{after_put};
 ghost use Rattle.ports.specs.Port.{Appends, Rose};
@@ -69,9 +69,9 @@ impl Sink for MemSink {
         ensures done { result ≡ Put.Done → Appends (Some self.old.held) (Some self.new.held) bytes.now }
         ensures failed { result ≡ Put.Failed → Rose self.old.plan.faults self.new.plan.faults
             × ((n : ℕ) × Appends (Some self.old.held) (Some self.new.held) (take n bytes.now)) }
-        ensures memory { result ≡ Put.Memory → (self.new.held ≡ self.old.held)
-            × (self.new.plan.faults ≡ self.old.plan.faults) }
+        ensures memory { result ≡ Put.Memory → self.new.held ≡ self.old.held }
         ensures count { self.old.plan.faults ≤ self.new.plan.faults }
+        ensures stays { result ≢ Put.Failed → self.new.plan.faults ≡ self.old.plan.faults }
 
         // Which call fails, and all that a call changes.
         ensures fails { (result ≡ Put.Failed) ↔ IsTrue (is_failing self.old.plan) }

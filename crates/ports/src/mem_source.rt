@@ -1,4 +1,4 @@
-ghost use Rattle.std.specs.Prelude.{◌≡◌, ℕ, ◌<◌, ◌≤◌, ◌↔◌, ◌⊎◌, IsTrue, false, [], Some, length, min, take};
+ghost use Rattle.std.specs.Prelude.{◌≡◌, ◌≢◌, ℕ, ◌<◌, ◌≤◌, ◌↔◌, ◌⊎◌, IsTrue, false, [], Some, length, min, take};
 ghost use Rattle.ports.specs.FaultPlan.{is_failing, fresh};
 ghost use Rattle.ports.specs.MemSource.{after_take};
 ghost use Rattle.ports.specs.Port.{IfBytes, Moves, Rose};
@@ -64,6 +64,7 @@ impl Source for MemSource {
         ensures failed { result ≡ Taken.Failed → (self.new.left ≡ self.old.left)
             × Rose self.old.plan.faults self.new.plan.faults }
         ensures count { self.old.plan.faults ≤ self.new.plan.faults }
+        ensures stays { result ≢ Taken.Failed → self.new.plan.faults ≡ self.old.plan.faults }
 
         // Which answer comes, and all that the call changes.
         ensures fails { (result ≡ Taken.Failed) ↔ IsTrue (is_failing self.old.plan) }

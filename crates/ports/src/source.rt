@@ -1,4 +1,4 @@
-ghost use Rattle.std.specs.Prelude.{◌≡◌, ℕ, ◌<◌, ◌≤◌, ◌⊎◌, List, [], Option, IfSome, length, take};
+ghost use Rattle.std.specs.Prelude.{◌≡◌, ◌≢◌, ℕ, ◌<◌, ◌≤◌, ◌⊎◌, List, [], Option, IfSome, length, take};
 ghost use Rattle.ports.specs.Port.{IfBytes, Moves, Rose};
 
 /// What a call of `take` came to.
@@ -17,7 +17,7 @@ pub trait Source {
     /// What is left, where the source tells it.
     ghost left: { Self → Option (List ℕ) };
 
-    /// How many faults it has counted. A count that has come to 2^64 - 1 stays there.
+    /// How many faults it has counted, each in a call that failed. A count that has come to 2^64 - 1 stays there.
     ghost faults: { Self → ℕ };
 
     /// Moves bytes from the front of what is left to the front of the buffer. What the buffer holds behind
@@ -29,5 +29,6 @@ pub trait Source {
             × IfSome (left self.old) (λ rest. (rest ≡ []) ⊎ (length buf.old ≡ 0)) }
         ensures failed { result ≡ Taken.Failed → (left self.new ≡ left self.old)
             × Rose (faults self.old) (faults self.new) }
-        ensures count { faults self.old ≤ faults self.new };
+        ensures count { faults self.old ≤ faults self.new }
+        ensures stays { result ≢ Taken.Failed → faults self.new ≡ faults self.old };
 }

@@ -58,6 +58,7 @@ impl<W: Write> Sink for StdSink<W> {
         ensures failed { result ≡ Put.Failed → Rose self.old.faults self.new.faults }
         ensures memory { result ≢ Put.Memory }
         ensures count { self.old.faults ≤ self.new.faults }
+        ensures stays { result ≢ Put.Failed → self.new.faults ≡ self.old.faults }
 
         // The count to the last one, and what has come to a writer that tells what it holds.
         ensures faults { self.new.faults ≡ faults_after_put result self.old.faults }

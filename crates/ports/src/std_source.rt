@@ -1,4 +1,4 @@
-ghost use Rattle.std.specs.Prelude.{◌≡◌, ℕ, ◌<◌, ◌≤◌, IsNone, IsSome, IfSome, IfOk, OnErr, Some, None, Err, length, take};
+ghost use Rattle.std.specs.Prelude.{◌≡◌, ◌≢◌, ℕ, ◌<◌, ◌≤◌, IsNone, IsSome, IfSome, IfOk, OnErr, Some, None, Err, length, take};
 ghost use Rattle.std.specs.Io.KnownBytes.{Consumes, IsAtEnd, Keeps};
 ghost use Rattle.ports.specs.Port.{IfBytes, Rose};
 ghost use Rattle.ports.specs.StdSource.{ReadsInto, StopsShort, after_stop, answer_of_stop, faults_after_take};
@@ -89,6 +89,7 @@ impl<R: Read> Source for StdSource<R> {
         ensures bytes { IfBytes result (λ n. (0 < n) × (n ≤ length buf.old)) }
         ensures failed { result ≡ Taken.Failed → Rose self.old.faults self.new.faults }
         ensures count { self.old.faults ≤ self.new.faults }
+        ensures stays { result ≢ Taken.Failed → self.new.faults ≡ self.old.faults }
 
         // The count to the last one, and what is gone from a reader that tells what it has left.
         ensures faults { self.new.faults ≡ faults_after_take result self.old.faults }
