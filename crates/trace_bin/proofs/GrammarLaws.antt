@@ -1,5 +1,5 @@
 -- Bytes have one meaning: the records that keep their rules are the same, however they were found.
-use Rattle.std.proofs.Common.{◌≡◌, ℕ, zero, suc, ◌+◌, ◌-◌, ◌<◌, ◌≤◌, List, [], ◌∷◌, length, drop, Some, None, Result, Ok, Err, ◌⊎◌, inl, inr, refl, sym, subst, ap, ◌∙◌, arith}
+use Rattle.std.proofs.Common.{◌≡◌, ℕ, zero, suc, ◌+◌, ◌-◌, ◌<◌, ◌≤◌, List, [], ◌∷◌, length, drop, length-drop, Option, Some, None, Result, Ok, Err, ◌⊎◌, inl, inr, refl, sym, subst, ap, ◌∙◌, arith}
 use Rattle.std.specs.Prelude.{IfErr, IfOk}
 use Rattle.trace_text.specs.declared.fault.BadKind.{BadKind}
 use Rattle.trace_text.specs.declared.fault.LineFault.{LineFault}
@@ -9,8 +9,9 @@ use Rattle.trace_text.specs.declared.fault.TraceFault.TheVariants.{Bad, Memory}
 use Rattle.trace_text.specs.declared.trace.Trace.{Trace}
 use Rattle.trace_text.specs.Limits.{empty_trace, end_fault, first_broken}
 use Rattle.trace_text.specs.Judging.{placed}
-use Rattle.trace_bin.specs.Record.{kind_tagged}
-use Rattle.trace_bin.specs.Rules.{after_record, behind_record, record_rules}
+use Rattle.trace_bin.specs.declared.record_kind.RecordKind.{RecordKind}
+use Rattle.trace_bin.specs.Record.{body_len, kind_tagged}
+use Rattle.trace_bin.specs.Rules.{after_record, behind_kind, behind_record, kind_of, record_rules}
 use Rattle.trace_text.specs.Sound.{IsSound}
 use Rattle.base.proofs.Numbers.{IsBytes}
 use Rattle.trace_bin.proofs.SoundRecords.{IsSound-spelled}
@@ -84,8 +85,52 @@ not_both natives bytes trace place kind s (inr t) =
     let both : None ≡ Some kind = sym s.no_end_fault ∙ ap (λ (b : Trace). fault_at natives b []) end.trace ∙ ap (λ (r : List ℕ). fault_at natives t.before r) end.bytes ∙ t.fault in
     absurd cc
 
+-- ---- every list of bytes
+
+-- what stands behind a record is shorter than what stands from it on
+shorter : (b : ℕ) (bytes : List ℕ) → length (behind_record (b ∷ bytes)) ≤ length bytes
+unfolding behind_record
+shorter b bytes = by_kind (kind_of (b ∷ bytes)) bytes
+  where
+    by_kind : (kind : Option RecordKind) (body : List ℕ) → length (behind_kind kind body) ≤ length body
+    by_kind None body = omega arith
+    by_kind (Some kind) body = omega (arith, length-drop (body_len kind body) body)
+
+-- the bytes spell a trace, or have a first fault
+abbrev HasMeaning : List (List ℕ) → List ℕ → Type 0
+HasMeaning natives bytes = ((trace : Trace) × Spells natives bytes trace) ⊎ ((place : ℕ) × (kind : BadKind) × IsFirstFault natives bytes place kind)
+
+-- some records keep their rules, and this is the fault of what stands behind them
+faulty : (natives : List (List ℕ)) (bytes : List ℕ) (count : ℕ) (before : Trace) (rest : List ℕ) (kind : BadKind) → magic_fault bytes ≡ None → Leads natives empty_trace (drop 4 bytes) count before rest → fault_at natives before rest ≡ Some kind
+    → HasMeaning natives bytes
+faulty natives bytes count before rest kind begins kept fault =
+    inr (count + 1, kind, inr (record { begins = begins; count = count; before = before; rest = rest; kept = kept; place_is = refl; fault = fault }))
+
+-- nothing stands behind them
+at_end : (natives : List (List ℕ)) (bytes : List ℕ) (count : ℕ) (before : Trace) (end : Option BadKind) → magic_fault bytes ≡ None → Leads natives empty_trace (drop 4 bytes) count before [] → end_fault before ≡ end → HasMeaning natives bytes
+at_end natives bytes count before None begins kept fine = inl (before, record { begins = begins; count = count; spelled = kept; no_end_fault = fine })
+at_end natives bytes count before (Some kind) begins kept fault = faulty natives bytes count before [] kind begins kept fault
+
+-- the records from here on, of which there are at most as many as bytes
+from_here : (natives : List (List ℕ)) (bytes : List ℕ) (most count : ℕ) (before : Trace) (rest : List ℕ) → length rest ≤ most → magic_fault bytes ≡ None → Leads natives empty_trace (drop 4 bytes) count before rest → HasMeaning natives bytes
+from_here natives bytes most count before [] few begins kept = at_end natives bytes count before (end_fault before) begins kept refl
+from_here natives bytes zero count before (b ∷ rest) few begins kept = absurd (omega arith)
+from_here natives bytes (suc most) count before (b ∷ rest) few begins kept =
+    by_rules (λ fine. from_here natives bytes most (suc count) (after_record before (b ∷ rest)) (behind_record (b ∷ rest)) (omega (arith, shorter b rest)) begins
+    (leads_one natives empty_trace (drop 4 bytes) count before (b ∷ rest) kept fine))
+    (first_broken (record_rules natives before (b ∷ rest))) refl
+  where
+    by_rules : (first_broken (record_rules natives before (b ∷ rest)) ≡ None → HasMeaning natives bytes) → (broken : Option BadKind)
+        → first_broken (record_rules natives before (b ∷ rest)) ≡ broken → HasMeaning natives bytes
+    by_rules onward None fine = onward fine
+    by_rules onward (Some kind) fault = faulty natives bytes count before (b ∷ rest) kind begins kept fault
+
+by_magic : (natives : List (List ℕ)) (bytes : List ℕ) (fault : Option BadKind) → magic_fault bytes ≡ fault → HasMeaning natives bytes
+by_magic natives bytes None begins = from_here natives bytes (length (drop 4 bytes)) 0 empty_trace (drop 4 bytes) (omega arith) begins (refl, refl)
+by_magic natives bytes (Some kind) fault = inr (0, kind, inl (refl, fault))
+
 pub meaning : AllBytes
-meaning natives bytes = record { one_trace = one_trace natives bytes; one_fault = one_fault natives bytes; not_both = not_both natives bytes }
+meaning natives bytes = record { spells_or_is_faulty = by_magic natives bytes (magic_fault bytes) refl; one_trace = one_trace natives bytes; one_fault = one_fault natives bytes; not_both = not_both natives bytes }
 
 -- ---- answers
 

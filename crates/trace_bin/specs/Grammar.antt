@@ -57,8 +57,9 @@ abbrev pub IsFaultOf : List (List ℕ) → List ℕ → TraceFault → Type 0
 IsFaultOf natives bytes (Bad place kind) = IsFirstFault natives bytes place kind
 IsFaultOf natives bytes Memory = Unit {0}
 
--- bytes spell at most one trace, or have one first fault, and not both
+-- bytes spell one trace, or have one first fault, and not both
 pub record Meaning (natives : List (List ℕ)) (bytes : List ℕ) : Type 0 where
+  pub spells_or_is_faulty : ((trace : Trace) × Spells natives bytes trace) ⊎ ((place : ℕ) × (kind : BadKind) × IsFirstFault natives bytes place kind)
   pub one_trace : (one other : Trace) → Spells natives bytes one → Spells natives bytes other → one ≡ other
   pub one_fault : (place : ℕ) (kind : BadKind) (other_place : ℕ) (other_kind : BadKind) → IsFirstFault natives bytes place kind → IsFirstFault natives bytes other_place other_kind
       → (place ≡ other_place) × (kind ≡ other_kind)

@@ -4,7 +4,7 @@ ghost use Rattle.trace_bin.specs.Grammar.{AllBytes};
 ghost use Rattle.trace_bin.specs.Spelling.{WrittenIsRead};
 ghost use Rattle.trace_bin.specs.Examples.{Examples};
 
-/// Bytes spell at most one trace, or have one first fault.
+/// Bytes spell one trace, or have one first fault.
 pub fn one_meaning()
     ensures { AllBytes }
 {}
