@@ -140,7 +140,7 @@ lists_pages (suc lists) list count found good =
 pub walk_pages : (list count : ℕ) → Passed AreGoodPages (walk list count)
 walk_pages list count = lists_pages (lists_of count) list count [] refl
 
-abbrev AreOfRam : List Piece → Type 0
+abbrev pub AreOfRam : List Piece → Type 0
 AreOfRam pieces = AllByRecursion IsPieceOfRam pieces
 
 chained : (number : ℕ) (param : MsgParam) → Passed AreOfRam (chained_pieces number param)
@@ -159,7 +159,7 @@ limited : (P : List Piece → Type 0) (number : ℕ) (param : MsgParam) (located
     → Passed P (within_limit number param located)
 limited P number param located all = if_of _ (nat_lt 65536 param.q) _ _ (λ long. tt) (λ short. all)
 
-named : (number : ℕ) (param : MsgParam) → Passed AreOfRam (tmem_pieces number param)
+pub named : (number : ℕ) (param : MsgParam) → Passed AreOfRam (tmem_pieces number param)
 named number param =
     if_of _ param.noncontig _ _ (λ lists. limited AreOfRam number param (chained_pieces number param) (chained number param))
     (λ plain. if_of _ (param.p == 0) _ _ (λ null. tt) (λ some. limited AreOfRam number param (contiguous_pieces number param) (contiguous number param)))
@@ -173,12 +173,12 @@ HaveGoodPages buffers = All HasGoodPages buffers
 abbrev pub IsKept : NumberMap PageBuffer → ℕ → Type 0
 IsKept buffers cookie = IsSome (get buffers cookie)
 
-abbrev HasKeptCookie : NumberMap PageBuffer → Option ℕ → Type 0
+abbrev pub HasKeptCookie : NumberMap PageBuffer → Option ℕ → Type 0
 HasKeptCookie buffers None = Unit {0}
 HasKeptCookie buffers (Some cookie) = IsKept buffers cookie
 
 -- pieces of RAM, and the cookie is registered
-abbrev ArePieces : NumberMap PageBuffer → Option ℕ → List Piece → Type 0
+abbrev pub ArePieces : NumberMap PageBuffer → Option ℕ → List Piece → Type 0
 ArePieces buffers cookie pieces = HasKeptCookie buffers cookie × (HaveGoodPages buffers → AreOfRam pieces)
 
 -- a place of this number, of so many
@@ -196,7 +196,7 @@ record AreGoodCopies (buffers : NumberMap PageBuffer) (number limit : ℕ) (some
   places : AreGoodPlaces buffers number limit some.places
   cookies : AllByRecursion (IsKept buffers) some.cookies
 
-registered : (buffers : NumberMap PageBuffer) (number : ℕ) (param : MsgParam) → Passed (ArePieces buffers (Some param.s)) (rmem_pieces buffers number param)
+pub registered : (buffers : NumberMap PageBuffer) (number : ℕ) (param : MsgParam) → Passed (ArePieces buffers (Some param.s)) (rmem_pieces buffers number param)
 registered buffers number param =
     limited (ArePieces buffers (Some param.s)) number param (registered_pieces buffers number param) (found (get buffers param.s) refl)
   where

@@ -32,10 +32,16 @@ pub mod SoundStarts
 pub mod SoundMemory
 pub mod SoundBodies
 pub mod SoundRunning
+pub mod PagesKept
+pub mod Asking
+pub mod CopiesAsk
 pub mod SoundPages
 pub mod SoundPlaces
 pub mod SoundRequests
 pub mod SoundPins
+pub mod EntriesAsk
+pub mod ReadsOfRam
+pub mod StandingBy
 pub mod SoundCourses
 pub mod SoundDestined
 pub mod SoundReasons

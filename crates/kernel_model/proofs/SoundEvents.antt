@@ -27,16 +27,12 @@ use Rattle.kernel_model.specs.Kernel.{Active, Fixed, Free, InSlot, Inside, Kerne
 use Rattle.kernel_model.specs.Laws.{IsFixed, IsOutside}
 use Rattle.kernel_model.specs.NewCall.{has_argument, new_call_of}
 use Rattle.kernel_model.specs.Resume.{call_resumed_by, onward_of, resumed_call, suspended_for, takes_call}
+use Rattle.kernel_model.specs.Turns.{cpu_of}
 use Rattle.kernel_model.proofs.FixedAnswer.{decides_all}
 use Rattle.kernel_model.proofs.Parts.{AllOf, option_map_some}
 use Rattle.kernel_model.proofs.Past.{after_events-append}
 use Rattle.kernel_model.proofs.SoundNewCalls.{NewCases, cases_onward, new_decides}
 use Rattle.kernel_model.proofs.SoundOffers.{IsOffered, all_offered}
-
--- the processor of an event
-abbrev pub cpu_of : Event → ℕ
-cpu_of (event.Entry cpu regs steps reads) = cpu
-cpu_of (event.Exit cpu regs) = cpu
 
 -- a processor comes in that was outside, with steps that can be granted
 pub record ComesIn (kernel : Kernel) (cpu : ℕ) (visit : Visit) : Type 0 where

@@ -29,7 +29,8 @@ use Rattle.kernel_model.specs.Sessions.{sessions_after, sessions_after_panic}
 use Rattle.kernel_model.specs.Sound.{Always, Calls, call_at, call_in, unmarked}
 use Rattle.kernel_model.specs.SoundNumbers.{AreGivenTo, AreNoLower, AreNumbered, IsGiven, IsNumberedSession, NumbersRise, is_on_instance}
 use Rattle.kernel_model.proofs.Parts.{if-both, option_map_some}
-use Rattle.kernel_model.proofs.SoundEvents.{EventCases, after_one, cpu_of, events_onward, holds_after, resumed_taken}
+use Rattle.kernel_model.specs.Turns.{cpu_of}
+use Rattle.kernel_model.proofs.SoundEvents.{EventCases, after_one, events_onward, holds_after, resumed_taken}
 use Rattle.kernel_model.proofs.SoundExits.{exits_all, left_all, unbuffered}
 use Rattle.kernel_model.proofs.SoundMaps.{after_all, find-all, if_some, named_is, panic_all, shared_all, unrun_all}
 use Rattle.kernel_model.proofs.SoundNewCalls.{NewCases, cases_onward}

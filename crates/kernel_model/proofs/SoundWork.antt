@@ -19,7 +19,8 @@ use Rattle.kernel_model.specs.Laws.{IsOfOther}
 use Rattle.kernel_model.specs.Leaving.{leaving_of}
 use Rattle.kernel_model.specs.Sound.{Always, AreAtWork, IsWorkedOn, OthersStayAway, StaysInside, unmarked}
 use Rattle.kernel_model.proofs.Parts.{set_found, set_other, set_then_read}
-use Rattle.kernel_model.proofs.SoundEvents.{ComesIn, EventCases, after_one, cpu_of, holds_after, resumed_taken}
+use Rattle.kernel_model.specs.Turns.{cpu_of}
+use Rattle.kernel_model.proofs.SoundEvents.{ComesIn, EventCases, after_one, holds_after, resumed_taken}
 use Rattle.kernel_model.proofs.SoundExits.{IsLeft, left_for, left_so}
 use Rattle.kernel_model.proofs.SoundNewCalls.{all_cases}
 use Rattle.kernel_model.proofs.SoundSlots.{by_number, free_there, plain, still_held, was_held}

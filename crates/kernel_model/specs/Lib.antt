@@ -15,6 +15,7 @@ pub mod Entry
 pub mod Exit
 pub mod History
 pub mod Laws
+pub mod Turns
 pub mod Sound
 pub mod SoundNumbers
 pub mod SoundOrder

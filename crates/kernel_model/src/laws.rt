@@ -2,6 +2,7 @@
 ghost use Rattle.kernel_model.specs.Examples.{Examples, LegalHistory};
 ghost use Rattle.kernel_model.specs.Laws.{AnswersExactly, ExitsFollow, FixedAnswers, LimitExactly, ResumesContinue};
 ghost use Rattle.kernel_model.specs.Laws.{ResumesExactly};
+ghost use Rattle.kernel_model.specs.Turns.{HistoriesReadRam, StandByTheirEvents};
 
 /// A fixed answer's entry and its exit change nothing but that processor's part, which is outside again.
 pub fn fixed_answers_change_one_processor()
@@ -33,6 +34,17 @@ pub fn resumes_continue_what_was_left()
 /// What a processor goes out with is a function of the events before, in each legal history.
 pub fn exits_follow_from_the_past()
     ensures { ExitsFollow }
+{}
+
+/// In each legal history a processor is inside exactly where the last of its own events is an entry, and then with that
+/// entry's registers and steps.
+pub fn processors_stand_by_their_events()
+    ensures { StandByTheirEvents }
+{}
+
+/// Each read of each entry of a legal history has at least one byte and lies in RAM.
+pub fn histories_read_ram()
+    ensures { HistoriesReadRam }
 {}
 
 /// Examples of the definitions, worked out by hand.

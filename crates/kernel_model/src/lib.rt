@@ -12,8 +12,8 @@ mod soundness;
 
 pub use laws::{
     answers_come_exactly, exits_follow_from_the_past, fixed_answers_change_one_processor,
-    limit_comes_exactly_without_a_slot, resumes_come_exactly, resumes_continue_what_was_left,
-    some_history_is_legal, worked_examples,
+    histories_read_ram, limit_comes_exactly_without_a_slot, processors_stand_by_their_events,
+    resumes_come_exactly, resumes_continue_what_was_left, some_history_is_legal, worked_examples,
 };
 pub use soundness::{
     calls_fit_their_tables, calls_have_their_places, exits_come, frames_are_free_or_used,

@@ -56,7 +56,7 @@ use Rattle.ta_params.specs.declared.call_result.CallResult.{CallResult}
 use Rattle.ta_params.specs.declared.copied_params.CopiedParams.{CopiedParams}
 use Rattle.play_model.specs.Coming.{IsWhole}
 use Rattle.play_model.proofs.CopiesGiven.{gives_copies}
-use Rattle.play_model.proofs.PagesKept.{pages_kept}
+use Rattle.kernel_model.proofs.PagesKept.{pages_kept}
 use Rattle.play_model.proofs.WholeLanes.{Gives, faultless_so, gives_done, gives_if, gives_on, gives_taken, gives_walk}
 use Rattle.play_model.proofs.WholeLanes.{knows_on, needs_on, passes_on, reads_so}
 

@@ -8,6 +8,5 @@ pub mod EventsCome
 pub mod Coming
 pub mod WholeLanes
 pub mod CopiesGiven
-pub mod PagesKept
 pub mod EntriesGiven
 pub mod PlaysThere
