@@ -7,6 +7,4 @@ pub mod Items
 pub mod EventsCome
 pub mod Coming
 pub mod WholeLanes
-pub mod CopiesGiven
-pub mod EntriesGiven
 pub mod PlaysThere

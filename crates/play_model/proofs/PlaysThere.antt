@@ -35,7 +35,7 @@ use Rattle.play_model.specs.Text.{text_by, text_of_play}
 use Rattle.play_model.proofs.Coming.{Stands, comes_in, comes_more, few_cpus, first_stands, inside_there, is_ready}
 use Rattle.play_model.proofs.Coming.{item_stands}
 use Rattle.play_model.proofs.Entries.{CameIn, Entered, WasRefused, entered}
-use Rattle.play_model.proofs.EntriesGiven.{entry_given}
+use Rattle.play_model.proofs.WholeLanes.{entry_given}
 use Rattle.play_model.proofs.EventsCome.{exits_come}
 
 -- ---- an entry

@@ -1,24 +1,22 @@
--- Readers that have a value over each lane with all of RAM's bytes, since each wish of theirs lies in RAM.
-use Rattle.std.proofs.Common.{◌≡◌, ℕ, zero, suc, ◌+◌, ◌-◌, ◌*◌, ◌/◌, ◌≤◌, Bool, true, false, List, [], ◌∷◌, ◌++◌}
-use Rattle.std.proofs.Common.{length, drop, min, Option, Some, None}
-use Rattle.std.proofs.Common.{Result, Ok, Err, refl, ap, subst, sym, ◌∙◌, arith, length-drop}
-use Rattle.std.specs.Prelude.{IsSome, if◌then◌else◌, nat_le}
-use Rattle.std.specs.Int.{from_le_bytes, w64}
-use Rattle.std.specs.List.{list_all}
+-- What an entry asks for lies in RAM, and so it has a decision over each lane with all of RAM's bytes.
+use Rattle.std.proofs.Common.{◌≡◌, ℕ, zero, suc, ◌-◌, ◌*◌, ◌/◌, ◌≤◌, Bool, true, false, List, [], ◌∷◌, ◌++◌}
+use Rattle.std.proofs.Common.{length, drop, Option, Some, None, refl, ap, subst, sym, ◌∙◌, arith, length-drop}
+use Rattle.std.specs.Prelude.{IsSome, if◌then◌else◌}
 use Rattle.std.specs.Option.{option_and_then, option_map}
 use Rattle.std.proofs.lemmas.List.{length-take-le}
+use Rattle.event_journal.specs.declared.event.Event.{Event}
+use Rattle.kernel_model.specs.Application.{Booted, IsBooted}
+use Rattle.kernel_model.specs.Entry.{entry}
+use Rattle.kernel_model.specs.History.{kernel_after}
+use Rattle.kernel_model.specs.Kernel.{Kernel, Visit}
+use Rattle.kernel_model.proofs.Asking.{LiesInRam}
+use Rattle.kernel_model.proofs.EntriesAsk.{entry_asks}
 use Rattle.kernel_model.proofs.Parts.{some_of}
-use Rattle.ns_ram.specs.Attempt.{Attempt, after_pass, faultless, known, need, passes, read, unless_faulty, ◌>>=◌}
 use Rattle.ns_ram.specs.Lane.{IsInRam, bytes_at, bytes_from}
-use Rattle.ns_ram.specs.Pages.{is_page, lists_of, walk, walk_lists}
-use Rattle.ns_ram.specs.Reader.{Reader, done, lane_words, over_lane, take_bytes, up_to_failing, want_bytes, want_words}
-use Rattle.ns_ram.specs.Reader.{words_in}
-use Rattle.ns_ram.specs.Reader.{◌>>=◌ as read_then}
+use Rattle.ns_ram.specs.Reader.{Reader, done, lane_words, over_lane, up_to_failing, want_bytes, want_words, words_in}
 use Rattle.ns_ram.specs.Reads.{listed}
 use Rattle.ns_ram.specs.declared.read.Read.{Read}
 use Rattle.ns_ram.proofs.LaneBytes.{bytes_at-is, bytes_from-is}
-use Rattle.ns_ram.proofs.PageWalk.{is_page-inside}
-use Rattle.ns_ram.proofs.ReaderLaws.{over_lane-bind}
 use Rattle.ns_ram.proofs.ReaderSteps.{lane_bytes-held}
 use Rattle.ns_ram.proofs.WordList.{length-words_of}
 use Rattle.play_model.specs.Coming.{IsWhole}
@@ -27,12 +25,9 @@ use Rattle.play_model.specs.Coming.{IsWhole}
 pub record Gives {A : Type 0} (lane : List ℕ) (reader : Reader A) : Type 0 where
   pub has : (before : List Read) → IsSome (over_lane reader lane before)
 
-pub gives_done : {A : Type 0} (lane : List ℕ) (value : A) → Gives lane (done value)
-gives_done lane value = record { has = λ before. refl }
-
 -- ---- one wish
 
-pub gives_bytes : {A : Type 0} (lane : List ℕ) (addr len : ℕ) (next : List ℕ → Reader A) → IsWhole lane
+gives_bytes : {A : Type 0} (lane : List ℕ) (addr len : ℕ) (next : List ℕ → Reader A) → IsWhole lane
     → IsInRam addr len
     → ((got : List ℕ) → Gives lane (next got)) → Gives lane (want_bytes addr len next)
 gives_bytes lane addr len next whole inside rest = record {
@@ -51,9 +46,6 @@ gives_bytes lane addr len next whole inside rest = record {
       ((rest got).has (before ++ listed addr got));
 }
 
-pub gives_taken : (lane : List ℕ) (addr len : ℕ) → IsWhole lane → IsInRam addr len → Gives lane (take_bytes addr len)
-gives_taken lane addr len whole inside = gives_bytes lane addr len done whole inside (λ got. gives_done lane got)
-
 enough_words : (test : ℕ → Bool) (words : List ℕ) (most : ℕ) → most ≤ length words
     → IsSome (up_to_failing test words most)
 enough_words test [] zero few = refl
@@ -70,11 +62,10 @@ enough_words test (word ∷ words) (suc most) few = one (test word) (enough_word
         mapped (Some more) some = refl
     one false some = refl
 
--- the words of a page
-pub gives_words : {A : Type 0} (lane : List ℕ) (addr most : ℕ) (test : ℕ → Bool) (next : List ℕ → Reader A)
-    → IsWhole lane → IsInRam addr 4096
-    → most ≤ 512 → ((got : List ℕ) → Gives lane (next got)) → Gives lane (want_words addr most test next)
-gives_words lane addr most test next whole inside few rest = record {
+gives_words : {A : Type 0} (lane : List ℕ) (addr most : ℕ) (test : ℕ → Bool) (next : List ℕ → Reader A)
+    → IsWhole lane → IsInRam addr (8 * most)
+    → ((got : List ℕ) → Gives lane (next got)) → Gives lane (want_words addr most test next)
+gives_words lane addr most test next whole inside rest = record {
   has = λ before.
       let back = length-drop (addr - 0x40000000) lane in
       let low = inside.0 in
@@ -83,7 +74,7 @@ gives_words lane addr most test next whole inside few rest = record {
       let many = length-words_of (length (bytes_from lane addr) / 8) (bytes_from lane addr) in
       let found = some_of (lane_words lane addr most test)
       (enough_words test (words_in (bytes_from lane addr)) most
-      (omega (arith, back, whole, low, high, from, many, few))) in
+      (omega (arith, back, whole, low, high, from, many))) in
       let onward = λ (o : Option (List ℕ)).
       option_and_then (λ words. over_lane (next words) lane
       (before ++ listed addr (bytes_at lane addr (8 * length words)))) o in
@@ -91,82 +82,20 @@ gives_words lane addr most test next whole inside few rest = record {
       ((rest found.0).has (before ++ listed addr (bytes_at lane addr (8 * length found.0))));
 }
 
--- ---- one reader, and then another
+-- ---- a reader
 
-pub gives_then : {A B : Type 0} (lane : List ℕ) (first : Reader A) (onward : A → Reader B) → Gives lane first
-    → ((before after : List Read) (value : A) → over_lane first lane before ≡ Some (value, after)
-    → Gives lane (onward value))
-    → Gives lane (read_then first onward)
-gives_then {A} lane first onward gives rest = record {
-  has = λ before.
-      let end = some_of (over_lane first lane before) (gives.has before) in
-      let both = over_lane-bind first onward lane before
-      ∙ ap (λ (o : Option (A × List Read)). option_and_then (λ step. over_lane (onward step.0) lane step.1) o) end.1 in
-      subst IsSome (sym both) ((rest before end.0.1 end.0.0 end.1).has end.0.1);
-}
+-- of which each wish lies in RAM
+gives_asked : {A : Type 0} (lane : List ℕ) (reader : Reader A) → IsWhole lane → LiesInRam reader → Gives lane reader
+gives_asked lane (done value) whole lies = record { has = λ before. refl }
+gives_asked lane (want_bytes addr len next) whole lies =
+    gives_bytes lane addr len next whole lies.0 (λ got. gives_asked lane (next got) whole (lies.1 got))
+gives_asked lane (want_words addr most test next) whole lies =
+    gives_words lane addr most test next whole lies.0 (λ got. gives_asked lane (next got) whole (lies.1 got))
 
--- the same, where what follows always has a value
-pub gives_on : {A B : Type 0} (lane : List ℕ) (first : Reader A) (onward : A → Reader B) → Gives lane first
-    → ((value : A) → Gives lane (onward value)) → Gives lane (read_then first onward)
-gives_on lane first onward gives rest = gives_then lane first onward gives (λ before after value e. rest value)
+-- ---- entries
 
--- an attempt, and what follows where it passes a value
-pub passes_on : {F A B : Type 0} (lane : List ℕ) (first : Attempt F A) (onward : A → Attempt F B) → Gives lane first
-    → ((before after : List Read) (value : A) → over_lane first lane before ≡ Some (Ok value, after)
-    → Gives lane (onward value))
-    → Gives lane (first >>= onward)
-passes_on {F} {A} lane first onward gives rest = gives_then lane first (after_pass onward) gives by
-  where
-    by : (before after : List Read) (result : Result A F) → over_lane first lane before ≡ Some (result, after)
-        → Gives lane (after_pass onward result)
-    by before after (Ok value) e = rest before after value e
-    by before after (Err refusal) e = gives_done lane (Err refusal)
-
-pub needs_on : {F B : Type 0} (lane : List ℕ) (holds : Bool) (refusal : F) (onward : Unit {0} → Attempt F B)
-    → (holds ≡ true → Gives lane (onward tt)) → Gives lane (need holds refusal >>= onward)
-needs_on lane true refusal onward rest = rest refl
-needs_on lane false refusal onward rest = gives_done lane (Err refusal)
-
-pub knows_on : {F A B : Type 0} (lane : List ℕ) (found : Option A) (refusal : F) (onward : A → Attempt F B)
-    → ((value : A) → found ≡ Some value → Gives lane (onward value)) → Gives lane (known found refusal >>= onward)
-knows_on lane None refusal onward rest = gives_done lane (Err refusal)
-knows_on lane (Some value) refusal onward rest = rest value refl
-
-pub reads_so : {F A : Type 0} (lane : List ℕ) (reader : Reader A) → Gives lane reader → Gives lane (read {F = F} reader)
-reads_so lane reader gives = gives_on lane reader passes gives (λ value. gives_done lane (Ok value))
-
-pub faultless_so : {E F A : Type 0} (lane : List ℕ) (attempt : Attempt E A) (refusal : F) → Gives lane attempt
-    → Gives lane (faultless attempt refusal)
-faultless_so {E} {F} {A} lane attempt refusal gives = gives_on lane attempt (unless_faulty refusal) gives by
-  where
-    by : (result : Result A E) → Gives lane (unless_faulty refusal result)
-    by (Ok value) = gives_done lane (Ok value)
-    by (Err fault) = gives_done lane (Err refusal)
-
--- by a test
-pub gives_if : {A : Type 0} (lane : List ℕ) (test : Bool) (first second : Reader A) → (test ≡ true → Gives lane first)
-    → (test ≡ false → Gives lane second) → Gives lane (if test then first else second)
-gives_if lane true first second on_true on_false = on_true refl
-gives_if lane false first second on_true on_false = on_false refl
-
--- ---- page lists
-
-gives_lists : (lane : List ℕ) (lists list count : ℕ) (found : List ℕ) → IsWhole lane
-    → Gives lane (walk_lists lists list count found)
-gives_lists lane zero list count found whole = gives_done lane (Ok found)
-gives_lists lane (suc lists) list count found whole =
-    gives_if lane (is_page list) _ _
-    (λ page.
-    let inside = is_page-inside list page in
-    let low = inside.0 in
-    let high = inside.1 in
-    gives_words lane list (min count 511) is_page _ whole inside (omega arith) (λ entries.
-    gives_if lane (list_all is_page entries) _ _
-    (λ passed. gives_if lane (nat_le count 511) _ _ (λ last. gives_done lane _)
-    (λ more. gives_bytes lane (list + 8 * 511) 8 _ whole (omega (arith, low), omega (arith, high))
-    (λ word. gives_lists lane lists (from_le_bytes w64 word) (count - 511) (found ++ entries) whole)))
-    (λ bad. gives_done lane _)))
-    (λ bad. gives_done lane _)
-
-pub gives_walk : (lane : List ℕ) (list count : ℕ) → IsWhole lane → Gives lane (walk list count)
-gives_walk lane list count whole = gives_lists lane (lists_of count) list count [] whole
+pub entry_given : (lane : List ℕ) → IsWhole lane → (boot : Booted) (history : List Event) (kernel : Kernel)
+    → IsBooted boot → kernel_after boot history ≡ Some kernel → (visit : Visit)
+    → Gives lane (entry boot kernel visit)
+entry_given lane whole boot history kernel boots comes visit =
+    gives_asked lane (entry boot kernel visit) whole (entry_asks boot history kernel boots comes visit).of_ram
