@@ -1,3 +1,5 @@
+pub mod Driver
+pub mod DriverRelation
 pub mod Examples
 pub mod Native
 pub mod Relation

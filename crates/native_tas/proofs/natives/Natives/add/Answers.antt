@@ -2,6 +2,7 @@ use Rattle.std.proofs.Common.{◌≡◌, ◌≢◌, ◌∙◌, sym, ap, false, i
 use Rattle.std.specs.List.{AllPairs, find}
 use Rattle.std.specs.Result.{is_ok}
 use Rattle.std.specs.Str.{bytes_eq}
+use Rattle.std.proofs.lemmas.Slice.Eq.{bytes_eq-Decides}
 use Rattle.native_tas.specs.Native.{entry_of}
 use Rattle.native_tas.proofs.Apart.{apart_after_try, is_some_mapped}
 use Rattle.native_tas.proofs.Mapped.{find_mapped}
@@ -16,4 +17,4 @@ invariant_of-self-clause-apart g c =
     ∙ ap is_some (sym (find_mapped entry_of (λ e. bytes_eq e.0 c.args.native.uuid) natives))
     ∙ sym c.has.ensures ∙ c.if-has.false in
     subst (λ items. AllPairs (λ earlier later. earlier.uuid ≢ later.uuid) items) (sym c.push.ensures.items)
-    (apart_after_try (λ n. n.uuid) natives c.args.native (is_ok c.push.result) c.args.self.now.apart absent)
+    (apart_after_try bytes_eq (λ a b. (bytes_eq-Decides a b).1) (λ n. n.uuid) natives c.args.native (is_ok c.push.result) c.args.self.now.apart absent)

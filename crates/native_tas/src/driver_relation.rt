@@ -1,0 +1,8 @@
+/// What a driver answers to each number of notifications. This project's own.
+#[derive(Clone, Copy, Debug, PartialEq, Eq)]
+pub enum DriverRelation {
+    /// The number itself.
+    Echo,
+    /// This result, to whatever number.
+    Fixed(u32),
+}
