@@ -1,6 +1,6 @@
 //! Several bytes of a memory at a time.
-ghost use Rattle.std.specs.Prelude.{◌≡◌, ◌+◌, ◌^◌, ◌<◌, ◌≤◌, [], ◌∷◌, length};
-ghost use Rattle.base.specs.Bytes.{has_bytes, overwritten, written};
+ghost use Rattle.std.specs.Prelude.{◌≡◌, ◌+◌, ◌^◌, ◌<◌, [], ◌∷◌, length};
+ghost use Rattle.base.specs.Bytes.{has_bytes, written};
 
 use crate::memory::TaMemory;
 
@@ -24,16 +24,6 @@ pub(crate) fn store_byte<T: TaMemory>(memory: &mut T, place: u32, value: u8) -> 
     memory.store(place, value)
 }
 
-fn overwrite<T: TaMemory>(memory: &mut T, place: u32, bytes: &[u8])
-    requires inside { place + length bytes.now ≤ length (T.bytes memory.old) }
-    requires fits { place + length bytes.now < 2 ^ 32 }
-    ensures { T.bytes memory.new ≡ overwritten (T.bytes memory.old) place bytes.now }
-{
-    for (number, byte) in bytes.iter().enumerate() {
-        memory.store(place + number as u32, *byte);
-    }
-}
-
 /// Writes bytes from a place on, or answers `false` where they are not all there.
 pub(crate) fn write_bytes<T: TaMemory>(memory: &mut T, place: u32, bytes: &[u8]) -> bool
     requires some { 0 < length bytes.now }
@@ -46,7 +36,7 @@ pub(crate) fn write_bytes<T: TaMemory>(memory: &mut T, place: u32, bytes: &[u8])
     }
     let inside = has_bytes(memory, place, bytes.len() as u32);
     if inside {
-        overwrite(memory, place, bytes);
+        memory.write(place, bytes);
     }
     inside
 }

@@ -1,6 +1,6 @@
 //! The addresses of a machine: which bytes stand where.
-ghost use Rattle.std.specs.Prelude.{◌≡◌, ◌+◌, ◌%◌, ◌<◌, ◌≤◌, [], ◌∷◌, length};
-ghost use Rattle.ta_step.specs.Addresses.{is_inside, is_range, load, load_word, store};
+ghost use Rattle.std.specs.Prelude.{◌≡◌, ◌+◌, ◌%◌, ◌<◌, ◌≤◌, [], ◌∷◌, drop, length, take, true};
+ghost use Rattle.ta_step.specs.Addresses.{is_inside, is_range, load, load_word, range_at, store};
 ghost use Rattle.ta_step.specs.Machine.{state_of};
 
 use crate::machine::Machine;
@@ -78,10 +78,24 @@ impl<M: TaMemory> Machine<M> {
         count == 0 || (count <= RANGE - addr % RANGE && self.is_inside(addr, count))
     }
 
+    /// Copies the bytes from an address on out, which are all in one range.
+    pub fn read(&self, addr: u32, out: &mut [u8])
+        requires some { 0 < length out.old }
+        requires inside { is_inside (state_of M.bytes self.now) addr (length out.old) ≡ true }
+        ensures { let place = addr % 0x10000000 in
+            out.new ≡ take (length out.old) (drop place (range_at (state_of M.bytes self.now) addr)) }
+    {
+        let place = addr % RANGE;
+        match addr / RANGE {
+            0 => self.memory.read(place, out),
+            number => parameters::read(&self.params, number - 1, place, out),
+        }
+    }
+
     /// Writes bytes from an address on, or answers `false` where they are not all in one range.
-    pub(crate) fn write(&mut self, addr: u32, bytes: &[u8]) -> bool
+    pub fn write(&mut self, addr: u32, bytes: &[u8]) -> bool
         requires some { 0 < length bytes.now }
-        requires few { length bytes.now ≤ 16 }
+        requires few { length bytes.now ≤ 0x10000000 }
         ensures inside { result ≡ is_inside (state_of M.bytes self.old) addr (length bytes.now) }
         ensures state { state_of M.bytes self.new ≡ store (state_of M.bytes self.old) addr bytes.now }
     {

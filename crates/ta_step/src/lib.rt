@@ -11,6 +11,7 @@ mod machine;
 mod memory;
 pub mod panic_code;
 mod parameters;
+mod part_access;
 mod requests;
 mod run;
 mod stop;
@@ -25,6 +26,7 @@ pub use laws::{
 };
 pub use machine::{Machine, STACK_DEPTH};
 pub use memory::{Plain, TaMemory};
+pub use part_access::{copy_part, put_part};
 pub use requests::object_span;
 pub use stop::{Request, Stop};
 pub use ta_params::{Login, ObjectCall};

@@ -1,7 +1,7 @@
-ghost use Rattle.std.specs.Prelude.{◌≡◌, ℕ, ◌+◌, ◌^◌, ◌<◌, ◌↔◌, List, length, replicate, slice_get, slice_set, IsTrue, IfOk, Option};
-ghost use Rattle.ta_step.specs.Bytes.{has_bytes, word_at, written};
+ghost use Rattle.std.specs.Prelude.{◌≡◌, ℕ, ◌+◌, ◌^◌, ◌<◌, ◌≤◌, ◌↔◌, List, drop, length, replicate, slice_get, slice_set, take, IsTrue, IfOk, Option};
+ghost use Rattle.ta_step.specs.Bytes.{has_bytes, overwritten, word_at, written};
 
-use crate::word_access;
+use crate::{part_access, word_access};
 use base::NoMemory;
 use std::alloc::Global;
 use std::marker::Model;
@@ -31,6 +31,16 @@ pub trait TaMemory {
         requires { addr + 4 < 2 ^ 32 }
         ensures inside { result ≡ has_bytes (bytes self.old) addr 4 }
         ensures bytes { bytes self.new ≡ written (bytes self.old) addr word };
+
+    /// Copies the bytes from an address on out, which are all there.
+    fn read(&self, addr: u32, out: &mut [u8])
+        requires { addr + length out.old ≤ length (bytes self.now) }
+        ensures { out.new ≡ take (length out.old) (drop addr (bytes self.now)) };
+
+    /// Writes a part over the bytes from an address on, which are all there, and over no others.
+    fn write(&mut self, addr: u32, part: &[u8])
+        requires { addr + length part.now ≤ length (bytes self.old) }
+        ensures { bytes self.new ≡ overwritten (bytes self.old) addr part.now };
 }
 
 /// A memory in one list of bytes. Contracts see that list.
@@ -79,5 +89,13 @@ impl TaMemory for Plain {
 
     fn store_word(&mut self, addr: u32, word: [u8; 4]) -> bool {
         word_access::put_word_in(self.bytes.as_mut_slice(), addr, word)
+    }
+
+    fn read(&self, addr: u32, out: &mut [u8]) {
+        part_access::copy_part(self.bytes.as_slice(), addr as usize, out);
+    }
+
+    fn write(&mut self, addr: u32, part: &[u8]) {
+        part_access::put_part(self.bytes.as_mut_slice(), addr as usize, part);
     }
 }

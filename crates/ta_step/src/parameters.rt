@@ -1,12 +1,12 @@
 //! The copied parameters as the machine reaches them: by number, as values, and as buffers.
-ghost use Rattle.std.specs.Prelude.{◌≡◌, ◌+◌, ◌^◌, ◌<◌, [], length, map, option_and_then, slice_get, slice_index_or, is_some, unwrap_or};
+ghost use Rattle.std.specs.Prelude.{◌≡◌, ◌+◌, ◌^◌, ◌<◌, ◌≤◌, [], drop, length, map, take, option_and_then, slice_get, slice_index_or, is_some, unwrap_or};
 ghost use Rattle.std.specs.Option.{option_copied, option_map_or};
 ghost use Rattle.base.specs.Bytes.{has_bytes, written};
 ghost use Rattle.ta_step.specs.Bytes.{word_at};
 ghost use Rattle.ta_step.specs.Parameters.{buffer, four, goes_out, param_at, with_buffer, with_param, with_size, with_value};
 
 use crate::memory::TaMemory;
-use crate::{access, word_access};
+use crate::{access, part_access, word_access};
 use ta_params::{Buf, CopiedParams, GpParam, Way};
 
 impl TaMemory for Buf {
@@ -31,6 +31,14 @@ impl TaMemory for Buf {
 
     fn store_word(&mut self, addr: u32, word: [u8; 4]) -> bool {
         word_access::put_word_in(self.bytes_mut(), addr, word)
+    }
+
+    fn read(&self, addr: u32, out: &mut [u8]) {
+        part_access::copy_part(self.bytes(), addr as usize, out);
+    }
+
+    fn write(&mut self, addr: u32, part: &[u8]) {
+        part_access::put_part(self.bytes_mut(), addr as usize, part);
     }
 }
 
@@ -70,6 +78,19 @@ pub(crate) fn load_word(params: &CopiedParams, number: u32, place: u32) -> Optio
     ensures { result ≡ word_at (slice_index_or (map buffer (four params.now)) number []) place }
 {
     buffer_at(params, number)?.load_word(place)
+}
+
+/// Copies bytes of a parameter's buffer from a place on out, which are all there.
+pub(crate) fn read(params: &CopiedParams, number: u32, place: u32, out: &mut [u8])
+    requires some { 0 < length out.old }
+    requires inside { place + length out.old ≤ length (slice_index_or (map buffer (four params.now)) number []) }
+    ensures { let buffers = map buffer (four params.now) in
+        out.new ≡ take (length out.old) (drop place (slice_index_or buffers number [])) }
+{
+    match buffer_at(params, number) {
+        Some(buf) => buf.read(place, out),
+        None => unreachable!(),
+    }
 }
 
 /// Whether so many bytes of a parameter's buffer from a place on are all there.
