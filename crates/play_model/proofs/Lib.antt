@@ -8,3 +8,4 @@ pub mod EventsCome
 pub mod Coming
 pub mod WholeLanes
 pub mod PlaysThere
+pub mod TrueToKernel

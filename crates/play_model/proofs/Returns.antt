@@ -45,7 +45,7 @@ legal_before boot before behind legal =
 -- ---- returns from RPC
 
 -- the kernel after one event more
-one_more : (boot : Booted) (before : List Event) (happened : Event) (kernel next : Kernel)
+pub one_more : (boot : Booted) (before : List Event) (happened : Event) (kernel next : Kernel)
     → kernel_after boot before ≡ Some kernel
     → kernel_after boot (before ++ happened ∷ []) ≡ Some next → after_event boot kernel happened ≡ Some next
 one_more boot before happened kernel next there after =

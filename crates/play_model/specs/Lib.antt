@@ -5,3 +5,4 @@ pub mod Order
 pub mod Laws
 pub mod Coming
 pub mod Examples
+pub mod TrueToKernel

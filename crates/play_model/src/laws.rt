@@ -2,6 +2,7 @@
 ghost use Rattle.play_model.specs.Coming.{ItemsCanCome, TracesHavePlays};
 ghost use Rattle.play_model.specs.Examples.{Examples};
 ghost use Rattle.play_model.specs.Laws.{EntriesAreRead, ExitsCome, FixedAnswersPass, PlaysGoOn, TracesArePlayed};
+ghost use Rattle.play_model.specs.TrueToKernel.{PlaysAreTrue};
 
 /// The history of each play is legal and holds the items of each processor in their order. In it a return from RPC
 /// resumes exactly the call that is suspended in its slot for its client, or answers ERESUME and changes nothing;
@@ -9,6 +10,13 @@ ghost use Rattle.play_model.specs.Laws.{EntriesAreRead, ExitsCome, FixedAnswersP
 /// instance was answered as its own machine answers to its events.
 pub fn traces_are_played()
     ensures { TracesArePlayed }
+{}
+
+/// In one record, the play of each trace on a boot that a core can have is true to the written kernel: besides what
+/// `traces_are_played` says, each exit is the kernel's at its place, and a return from RPC that finds no call changes
+/// nothing but the history.
+pub fn plays_are_true_to_the_kernel()
+    ensures { PlaysAreTrue }
 {}
 
 /// An entry that can follow on the kernel, with reads that each have the bytes of its processor's RAM, is the one that

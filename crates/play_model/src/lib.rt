@@ -8,6 +8,6 @@
 mod laws;
 
 pub use laws::{
-    entries_are_read, exits_come, fixed_answers_pass, items_can_come, plays_go_on,
-    traces_are_played, traces_have_plays, worked_examples,
+    entries_are_read, exits_come, fixed_answers_pass, items_can_come, plays_are_true_to_the_kernel,
+    plays_go_on, traces_are_played, traces_have_plays, worked_examples,
 };
