@@ -1,0 +1,215 @@
+#!/usr/bin/env python3
+"""Runs the tools over all shipped examples and cases, and compares what they give with the shipped files and expected.py.
+
+It prints each thing that doesn't agree, and at the end how many were compared.
+Status: 0 where all agree, 1 where something doesn't, 2 at words.
+usage: check.py
+"""
+
+import subprocess
+import sys
+
+import annotate
+import answers
+import arg
+import expected
+import formats
+import image
+import lift
+import plays
+import shipped
+from words import BadWords, run
+
+FOLDER = shipped.ROOT / "tools"
+
+
+class Comparison:
+    """Counts what agrees, and prints what doesn't."""
+
+    def __init__(self):
+        self.compared = self.differing = 0
+
+    def same(self, what, given, wanted):
+        self.compared += 1
+        if given != wanted:
+            self.differing += 1
+            print(f"{what}\n  gives  {given!r:.300}\n  wanted {wanted!r:.300}")
+
+
+def tool(name, *words, text=""):
+    """The status and what is printed of a tool that is run as a program."""
+    command = [sys.executable, FOLDER / name, *words]
+    done = subprocess.run(command, input=text, capture_output=True, text=True, check=False)
+    return done.returncode, done.stdout, done.stderr
+
+
+def check_arguments(comparison):
+    """Each argument that stands in an example, and no other, is written by the words of expected.py."""
+    for play in shipped.examples():
+        lines = [line.split(" ") for line in play.trace.splitlines()]
+        stand = {line[-1] for line in lines if line[0] in ("mem", "write") and len(line[-1]) >= 2 * formats.HEAD_BYTES}
+        given = {arg.argument(words.split()).hex() for words in expected.ARGUMENTS[play.name]}
+        comparison.same(f"arguments of {play.name}", sorted(given), sorted(stand))
+    for words, wanted in expected.OTHER_ARGUMENTS.items():
+        comparison.same(f"arg.py {words}", tool("arg.py", *words.split()), (0, wanted.replace(" ", "") + "\n", ""))
+    for words, wanted in expected.REPLIES.items():
+        comparison.same(f"arg.py reply {words}", tool("arg.py", "reply", *words.split()), (0, wanted, ""))
+
+
+def check_images(comparison):
+    """Refusals by hand; images that the shipped tables refuse or take; and the texts of the assembler's tables."""
+    for digits, wanted in expected.REFUSALS.items():
+        status, printed, _ = tool("image.py", text=digits)
+        comparison.same(f"image.py of {digits}", (status, printed.partition(":")[0]), (1, wanted))
+    for digits in expected.EDGES:
+        comparison.same(f"image.py of {digits}", image.refusal(bytes.fromhex(digits)), None)
+    comparison.same("image.py of a good image", tool("image.py", text=expected.GOOD), (0, expected.GOOD_TEXT, ""))
+    for text, wanted in shipped.assembler_rows():
+        word, _, digits = wanted.partition(" ")
+        if word in ("canonical", "other"):
+            comparison.same(f"image.py of {digits} is the text", disassembled(digits) == text, word == "canonical")
+    for name, text, digits in shipped.applications():
+        comparison.same(f"image.py of {name}", disassembled(digits), plain_text(text))
+        commented = tool("image.py", "comments", text=digits)[1]
+        without = [line for line in commented.splitlines(keepends=True) if line[0] != "#"]
+        comparison.same(f"image.py comments of {name}", "".join(without), disassembled(digits))
+
+
+def disassembled(digits):
+    data = bytes.fromhex(digits)
+    return image.refusal(data) or image.canonical(image.decode(data))
+
+
+def plain_text(text):
+    """A good text of the assembler with numbers in decimal, labels by number, and labels alone that something names."""
+    lines = [line.split(" ") for line in text.splitlines() if line and line[0] != "#"]
+    labels, body = {}, []
+    for words in lines[7:]:
+        if words[0].endswith(":"):
+            labels[words[0][:-1]] = f"L{len(body)}"
+        else:
+            body.append(words)
+    plain = [" ".join(plain_word(word, labels) for word in words) for words in lines[:7] + body]
+    named = {word for line in plain for word in line.split(" ") if word in labels.values()}
+    header, body = plain[:7], plain[7:]
+    for number, line in enumerate(body):
+        header += ([f"L{number}:"] if f"L{number}" in named else []) + [line]
+    return "".join(f"{line}\n" for line in header)
+
+
+def plain_word(word, labels):
+    return str(int(word, 16)) if word.startswith("0x") else labels.get(word, word)
+
+
+def check_faults(comparison):
+    """In the table of texts: which images are refused, and that a fault stands under its line."""
+    for text, wanted in shipped.trace_rows():
+        place, kind = wanted.split(" ")[2:] if wanted.startswith("bad trace") else (0, "")
+        for number, line in enumerate(text.splitlines(), 1):
+            if line.startswith("ta ") and kind in ("", "image") and number <= (int(place) or number):
+                refused = image.refusal(bytes.fromhex(line.split(" ")[2])) is not None
+                comparison.same(f"image.py at line {number} of {text[:60]!r}", refused, number == int(place))
+        if kind:
+            entries = plays.lay_out(text, f"{wanted}\n")
+            said = [(entry.number, entry.note.partition(":")[0]) for entry in entries if entry.printed]
+            comparison.same(f"annotate.py at {text[:60]!r}", said, [(int(place), kind)])
+
+
+def check_outputs(comparison):
+    """Each shipped output lies under its trace, with nothing left over; a line less or more, or another one, is found."""
+    for play in [*shipped.examples(), *shipped.worked_cases(), *shipped.core_cases()]:
+        entries = laid_out(play.trace, play.output)
+        is_cut_off = play.status == 7 and items(play.trace) != []
+        comparison.same(f"annotate.py at {play.name} fits", entries is None, is_cut_off)
+        if entries is None:
+            continue
+        printed = "".join(f"{entry.printed}\n" for entry in entries if entry.printed)
+        comparison.same(f"annotate.py at {play.name}", printed, play.output)
+        text = annotate.annotated(entries)
+        kept = "".join(line for line in text.splitlines(keepends=True) if not line.startswith(annotate.INDENT))
+        comparison.same(f"the trace in annotate.py at {play.name}", kept.rstrip("\n"), play.trace.rstrip("\n"))
+        rets = sum(line.startswith("ret ") for line in play.output.splitlines())
+        comparison.same(f"answers.py at {play.name}", answers.counted(entries).splitlines()[0], f"answers {rets}")
+        for output in other_outputs(play):
+            comparison.same(f"annotate.py at {play.name} and {output[:80]!r}..", laid_out(play.trace, output), None)
+
+
+def laid_out(trace, output):
+    try:
+        return plays.lay_out(trace, output)
+    except plays.Mismatch:
+        return None
+
+
+def other_outputs(play):
+    """Outputs that aren't those of a play that has printed answers or bytes."""
+    lines = play.output.splitlines(keepends=True)
+    if not lines or lines[0].startswith("bad trace"):
+        return []
+    changed = [("ret ", "ret 9"), ("mem ", "mem 9"), (" 4000", " 4001")]
+    others = [play.output.replace(old, new, 1) for old, new in changed if old in play.output]
+    return ["".join(lines[1:]), "".join(lines[:-1]), play.output + lines[-1], *others]
+
+
+def check_examples(comparison):
+    """The tools as programs, over the examples: what is said, what is counted, and an output that is another one's."""
+    for play in shipped.examples():
+        files = shipped.EXAMPLES / f"{play.name}.trace", shipped.EXAMPLES / f"{play.name}.out"
+        status, printed, _ = tool("annotate.py", *files)
+        comparison.same(f"annotate.py {play.name}", status, 0)
+        lines = [line.strip() for line in printed.splitlines()]
+        for line, note in expected.NOTES.get(play.name, {}).items():
+            comparison.same(f"annotate.py {play.name} under {line}", f"= {note}" in following(lines, line), True)
+        status, printed, _ = tool("answers.py", *files)
+        counts = [line.strip() for line in printed.splitlines() if line.startswith("  ")]
+        wanted = expected.COUNTS.get(play.name, counts)
+        comparison.same(f"answers.py {play.name}", (status, sorted(counts)), (0, sorted(wanted)))
+    for name in ("annotate.py", "answers.py"):
+        status, printed, said = tool(name, files[0], "-", text="ret 0\n")
+        comparison.same(f"{name} at another output", (status, printed, said.startswith(name)), (1, "", True))
+
+
+def following(lines, line):
+    """The lines that stand behind a line."""
+    return [behind for before, behind in zip(lines, lines[1:]) if before == line]
+
+
+def check_scripts(comparison):
+    """Each script makes the items of its example."""
+    for path in sorted(shipped.SCRIPTS.glob("*.script")):
+        status, printed, _ = tool("lift.py", path)
+        trace = shipped.read(shipped.EXAMPLES / f"{path.stem}.trace")
+        comparison.same(f"lift.py {path.name}", (status, items(printed)), (0, items(trace)))
+    for line in expected.BAD_SCRIPTS:
+        status, _, said = tool("lift.py", "-", text=f"boot 1 1 1\n{line}\n")
+        comparison.same(f"lift.py at {line}", (status, said.startswith("lift.py: line 2:")), (1, True))
+
+
+def items(trace):
+    return [line for line in trace.splitlines() if line and line[0] != "#"]
+
+
+def check_words(comparison):
+    """Other words end with the usage line and 2."""
+    for name, rows in expected.BAD_WORDS.items():
+        for words in rows:
+            status, printed, said = tool(name, *words.split())
+            usage = said.splitlines()[-1:] and said.splitlines()[-1].startswith(f"usage: {name}")
+            comparison.same(f"{name} {words}", (status, printed, usage), (2, "", True))
+
+
+CHECKS = [check_arguments, check_images, check_faults, check_outputs, check_examples, check_scripts, check_words]
+
+
+def main(words):
+    if words:
+        raise BadWords()
+    comparison = Comparison()
+    for check in CHECKS:
+        check(comparison)
+    print(f"{comparison.compared} compared, {comparison.differing} differ")
+    return 1 if comparison.differing else 0
+
+
+if __name__ == "__main__":
+    run(main, __doc__)

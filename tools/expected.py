@@ -1,0 +1,278 @@
+"""What check.py wants, worked out by hand from docs/formats.md and the shipped files. It isn't run by itself."""
+
+FIRST = "11111111-2222-3333-4444-555555555555"
+SECOND = "22222222-3333-4444-5555-666666666666"
+THIRD = "33333333-4444-5555-6666-777777777777"
+DIGEST = "3f0c7a11-52b8-4d6e-9a40-0e6b5d2c8f01"
+
+# The words of arg.py for all arguments of each example.
+ARGUMENTS = {
+    "cancel": [
+        f"open {FIRST}",
+        f"open {SECOND}",
+        "invoke 1 3 id 9 value_out",
+        "cancel 1 8",
+        "cancel 1 9",
+        "invoke 2 250 id 9",
+        "cancel 2 9",
+    ],
+    "digest": [
+        f"open {DIGEST}",
+        "invoke 1 0 tmem_in 40002000 3 tmem_out 40003000 32",
+        "invoke 1 0 tmem_in 40002000 3 tmem_out 40003000 31",
+    ],
+    "fast_calls": [],
+    "one_step_at_a_time": [f"open {FIRST}", "invoke 1 0 value_inout 5 7"],
+    "panic": [f"open {FIRST}", "invoke 1 1", "invoke 1 0", "invoke 2 0", "close 1"],
+    "registered_memory": [
+        f"open {FIRST}",
+        f"open {SECOND}",
+        "register 40100800 0x1000 31",
+        "invoke 1 0 rmem_in 0x7fe 4 31 tmem_out 40002000 8",
+        "invoke 1 0 rmem_in 0x7fe 4 31 tmem_out 40002000 3",
+        "invoke 2 4 rmem_out 0x7fe 4 31",
+        "invoke 2 4 rmem_out 0xffe 4 31",
+        "unregister 31",
+    ],
+    "session": [f"open {FIRST}", "invoke 1 0 value_inout 5 7"],
+    "session_with_a_memref": [f"open {FIRST}", "invoke 1 4 tmem_out 40002000 4"],
+    "single_instance": [f"open {FIRST}", f"open {SECOND}", f"open {THIRD}"]
+    + [f"invoke {session} 0" for session in (2, 3, 4, 5, 6)]
+    + [f"close {session}" for session in (2, 3, 5)],
+    "storage": [
+        f"open {FIRST}",
+        f"open {SECOND}",
+        "invoke 1 0",
+        "invoke 2 0 value_out",
+        "close 2",
+        "invoke 3 0 value_out",
+    ],
+    "thread_limit": [f"open {FIRST}"],
+    "time_and_wait": [f"open {FIRST}", "invoke 1 0xfa value_out value_out"],
+    "wait_and_resume": [f"open {FIRST}", "invoke 1 0xfa"],
+    "wait_and_wake": [f"open {FIRST}", "invoke 1 250"],
+}
+
+# Arguments that no example has: words, and the head and the parameters, each of four words of eight bytes.
+NO_BYTES = "0000000000000000"
+OPEN_WITH_ALL = (
+    "00000000 00000000 00000000 03000000 00000000 00000000 00000000 03000000"
+    "0101000000000000 1111111122223333 4444555555555555 0000000000000000"
+    "0101000000000000 2222222233334444 5555666666666666 0400000000000000"
+    "0100000000000000 0100000000000000 ffffffffffffffff 0000000000000000"
+)
+OTHER_ARGUMENTS = {
+    f"open {FIRST} client {SECOND} login 4 id 3 value_in 1 0xffffffffffffffff": OPEN_WITH_ALL,
+    "invoke 0x10 2 none rmem_inout 1 2 0x3 tmem_inout 0x40002000 16": (
+        "01000000 02000000 10000000 00000000 00000000 00000000 00000000 03000000"
+        + 4 * NO_BYTES
+        + "0700000000000000 0100000000000000 0200000000000000 0300000000000000"
+        + "0b00000000000000 0020004000000000 1000000000000000 0000000000000000"
+    ),
+    "invoke 1 0 list_in 40100004 8 list_out 40100000 9 list_inout 40101000 0": (
+        "01000000 00000000 01000000 00000000 00000000 00000000 00000000 03000000"
+        "0902000000000000 0400104000000000 0800000000000000 0000000000000000"
+        "0a02000000000000 0000104000000000 0900000000000000 0000000000000000"
+        "0b02000000000000 0010104000000000 0000000000000000 0000000000000000"
+    ),
+    "invoke 1 0 null_in null_out null_inout": (
+        "01000000 00000000 01000000 00000000 00000000 00000000 00000000 03000000"
+        + "".join(f"{attribute}00000000000000" + 3 * NO_BYTES for attribute in ("09", "0a", "0b"))
+    ),
+}
+
+REPLIES = {
+    "ret 0": "+14 00000000\n",
+    "ret ITEM_NOT_FOUND": "+14 0800ffff\n",
+    "ret 0xffff0003": "+14 0300ffff\n",
+    "time 1000 900000000": "+14 00000000\n+28 e80300000000000000e9a43500000000\n",
+    "descriptor 3": "+14 00000000\n+68 0300000000000000\n",
+    "bytes 4f544f3104000000": "+14 00000000\n+50 0800000000000000\n+200 4f544f3104000000\n",
+    "bytes -": "+14 00000000\n+50 0000000000000000\n",
+}
+
+# Images in hexadecimal digits, blanks aside, and their refusals. GOOD is one page, entered at instruction 0, with three
+# instructions: const r1 5, beq r0 r1 to 2, and system call 0.
+HEAD = "4f545441 {flags} {pages} {count}" + "{entry}" + 4 * "00000000"
+GOOD_HEAD = {"flags": "00000000", "pages": "01000000", "count": "03000000", "entry": "00000000"}
+CODE = ["01 01 00 00 05000000", "11 00 00 01 02000000", "18 00 00 00 00000000"]
+
+
+def image(instructions=CODE, **fields):
+    return HEAD.format(**GOOD_HEAD | fields) + "".join(instructions)
+
+
+def with_last(instruction):
+    return image(CODE[:2] + [instruction])
+
+
+GOOD = image()
+GOOD_TEXT = """.flags 0
+.pages 1
+.entry create L0
+.entry open L0
+.entry invoke L0
+.entry close L0
+.entry destroy L0
+L0:
+const r1 5
+beq r0 r1 L2
+L2:
+sys 0
+"""
+REFUSALS = {
+    image([])[:-2]: "BadHeader(0)",
+    GOOD.replace("4f545441", "4f545442"): "BadHeader(0)",
+    image(flags="02000000"): "BadHeader(1)",
+    image(flags="20000000"): "BadHeader(1)",
+    image(pages="00000000"): "BadHeader(2)",
+    image(pages="41000000"): "BadHeader(2)",
+    image(count="01200000"): "TooLarge",
+    image([], count="00000000"): "BadHeader(3)",
+    image(count="02000000"): "BadHeader(3)",
+    GOOD + "00": "BadHeader(3)",
+    GOOD[:-2]: "BadHeader(3)",
+    image(entry="03000000"): "BadEntry(0)",
+    GOOD.replace(4 * "00000000" + "01", 3 * "00000000" + "03000000" + "01"): "BadEntry(4)",
+    image(["00 00 00 00 00000000"] + CODE[1:]): "BadOp(0)",
+    image(CODE[:1] + ["19 00 00 00 00000000"] + CODE[2:]): "BadOp(1)",
+    image(CODE[:1] + ["11 00 00 01 03000000"] + CODE[2:]): "BadOp(1)",
+    with_last("18 00 00 00 14000000"): "BadOp(2)",
+    with_last("18 01 00 00 00000000"): "BadOp(2)",
+    with_last("02 10 00 00 00000000"): "BadOp(2)",
+    with_last("03 00 00 10 00000000"): "BadOp(2)",
+    with_last("02 00 00 01 00000000"): "BadOp(2)",
+    with_last("0f 01 00 00 00000000"): "BadOp(2)",
+    with_last("17 00 00 00 01000000"): "BadOp(2)",
+    # The first that fits: each of these has all later faults as well.
+    image(["ff"], flags="01000000", pages="00000000", count="00000000", entry="ffffffff"): "BadHeader(1)",
+    image(["ff"], pages="00000000", count="00000000", entry="ffffffff"): "BadHeader(2)",
+    image(["ff"], count="01200000", entry="ffffffff"): "TooLarge",
+    image(["ff"], count="00000000", entry="ffffffff"): "BadHeader(3)",
+    image(["ff 00 00 00 00000000"] + CODE[1:], entry="ffffffff"): "BadEntry(0)",
+}
+EDGES = [  # good images at their limits
+    image(flags="1c000000"),
+    image(pages="40000000"),
+    image(entry="02000000"),
+    with_last("18 00 00 00 13000000"),
+    with_last("02 0f 0f 00 00000000"),
+    with_last("15 00 00 00 02000000"),
+]
+
+# What annotate.py says under a printed line of an example.
+NOTES = {
+    "cancel": {
+        "ret 0 ffff0004 00000000 00000000 00000000 00000000 00000000 00000000 00000000": "INTERRUPT, thread 0",
+        "mem 0 40000014 0200ffff04000000": "ret CANCEL; origin TRUSTED_APP",
+        "mem 0 40010028 6400000000000000": "parameter 0: p 100",
+    },
+    "digest": {
+        "mem 0 40000014 1000ffff04000000": "ret SHORT_BUFFER; origin TRUSTED_APP",
+        "mem 0 40000050 2000000000000000": "parameter 1: q 32",
+    },
+    "fast_calls": {
+        "ret 0 384fb3e0 e7f811e3 af630002 a5d5c51b 00000000 00000000 00000000 00000000": (
+            "CALLS_UID 384fb3e0-e7f8-11e3-af63-0002a5d5c51b"
+        ),
+        "ret 0 00000002 00000000 00000000 00000000 00000000 00000000 00000000 00000000": "CALLS_REVISION 2.0",
+        "ret 0 00000004 00000000 00000000 00000000 00000000 00000000 00000000 00000000": "GET_OS_REVISION 4.0",
+        "ret 0 00000007 00000014 00000000 00000000 00000000 00000000 00000000 00000000": (
+            "ENOTAVAIL, capabilities: dynamic, null reference"
+        ),
+        "ret 0 00000000 00000004 00000000 00000000 00000000 00000000 00000000 00000000": "OK, threads 4",
+        "ret 0 ffffffff 00000000 00000000 00000000 00000000 00000000 00000000 00000000": "UNKNOWN_FUNCTION",
+        "ret 0 00000003 00000000 00000000 00000000 00000000 00000000 00000000 00000007": "ERESUME",
+    },
+    "panic": {
+        "mem 0 40000014 0c00ffff03000000": "ret OUT_OF_MEMORY; origin TEE",
+        "mem 0 40000014 2430ffff03000000": "ret TARGET_DEAD; origin TEE",
+        "mem 0 40000008 03000000": "session 3",
+    },
+    "registered_memory": {"mem 1 40000014 0d00ffff03000000": "ret BUSY; origin TEE"},
+    "session": {
+        "mem 0 40000008 01000000": "session 1",
+        "mem 0 40000028 0c000000000000000000000000000000": "parameter 0: p 12, q 0",
+        "mem 0 40000014 0600ffff03000000": "ret BAD_PARAMETERS; origin TEE",
+    },
+    "single_instance": {"mem 0 40000014 0500000004000000": "ret 00000005; origin TRUSTED_APP"},
+    "storage": {
+        "mem 0 40010200 31313131313131313232323233333333343434343535353535353535353535352f3431": (
+            f"payload: {FIRST.replace('-', '')}/41"
+        ),
+        "mem 0 40010200 4f544f3104000000": "payload: an object's header, length 4",
+        "mem 0 40010000 02000000000000000000000000000000000000000000ffff0000000002000000"
+        "0100000000000000030000000000000006000000000000000000000000000000"
+        "0a00000000000000000201400000000008000000000000007700000000000000": (
+            "FsRead; cmd FS; ret GENERIC; num_params 2; parameter 0: value_in p 3, q 6, s 0; "
+            "parameter 1: tmem_out p 0x40010200, q 8, s 0x77"
+        ),
+    },
+    "thread_limit": {
+        "ret 2 00000001 00000000 00000000 00000000 00000000 00000000 00000000 00000000": "ETHREAD_LIMIT",
+        "mem 2 40000008 03000000": "session 3",
+    },
+    "wait_and_wake": {
+        "ret 1 ffff0000 00001000 00000000 00000001 00000000 00000000 00000000 00000000": (
+            "ALLOC of 4096 bytes, thread 1"
+        ),
+        "ret 1 ffff0005 00000000 00000088 00000001 00000000 00000000 00000000 00000000": "CMD, cookie 0x88, thread 1",
+        "ret 1 ffff0002 00000000 00000088 00000001 00000000 00000000 00000000 00000000": "FREE, cookie 0x88, thread 1",
+        "mem 1 40020000 04000000": "cmd NOTIFICATION",
+        "mem 1 40020000 05000000": "Suspend; cmd SUSPEND",
+    },
+}
+
+# What answers.py counts, without the totals.
+COUNTS = {
+    "cancel": ["7 OK", "3 CMD", "1 ALLOC", "1 FREE", "1 INTERRUPT", "2 SUCCESS of TEE", "2 CANCEL of TRUSTED_APP"],
+    "fast_calls": ["3 OK", "3 ENOTAVAIL", "1 UNKNOWN_FUNCTION", "1 ERESUME"]
+    + ["1 CALLS_UID", "1 CALLS_REVISION", "1 GET_OS_UUID", "1 GET_OS_REVISION"],
+    "panic": ["9 OK", "1 OUT_OF_MEMORY of TEE", "2 TARGET_DEAD of TEE", "1 SUCCESS of TRUSTED_APP"]
+    + ["1 SUCCESS of TEE", "1 BAD_PARAMETERS of TEE"],
+    "registered_memory": ["11 OK", "2 SUCCESS of TEE", "1 SUCCESS of TRUSTED_APP", "1 SHORT_BUFFER of TRUSTED_APP"]
+    + ["2 BAD_PARAMETERS of TEE", "1 BUSY of TEE"],
+    "wait_and_wake": ["3 OK", "3 ALLOC", "4 CMD", "2 FREE", "1 OUT_OF_MEMORY of TRUSTED_APP"]
+    + ["1 SUCCESS of TRUSTED_APP"],
+}
+
+# Words that each tool has to refuse, and scripts that lift.py has to refuse at their second line.
+BAD_WORDS = {
+    "arg.py": [
+        "",
+        "opens",
+        "open",
+        "open 1111",
+        "close",
+        "close 1 2",
+        "close x",
+        "close 4294967296",
+        "close 01",
+        "cancel 1",
+        "invoke 1 0 value",
+        "invoke 1 0 value_in 1",
+        "invoke 1 0 tmem_in 4000000g 1",
+        "invoke 1 0" + 7 * " none",
+        "register 1 2",
+        "reply",
+        "reply x",
+        "reply time 1",
+        "reply bytes 1",
+        "reply ret WRONG",
+    ],
+    "annotate.py": ["", "a", "a b c", "no_such_file no_such_file"],
+    "answers.py": ["", "a", "a b c", "no_such_file no_such_file"],
+    "image.py": ["x", "comments x"],
+    "lift.py": ["", "a b", "no_such_file"],
+    "check.py": ["x"],
+}
+BAD_SCRIPTS = [
+    "smc 0 1 NO_SUCH=1 x=1",
+    "smc 0 1 CALL_WITH_ARG argument=x",
+    "smc 0 1 RETURN_FROM_RPC thread=last last",
+    "write 0 40000000 $nothing",
+    "argument a opens",
+    "image a no_such_file",
+    "reply 0 40010000 x",
+    "smc 0",
+]

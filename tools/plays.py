@@ -1,0 +1,124 @@
+"""Lays what a play has printed beside its trace: which line an item printed, and what it says. It isn't run by itself."""
+
+import collections
+import re
+
+import formats
+import messages
+
+# A line of the trace; what it printed, and what that says in words; the name of an answer; the result of a call, as
+# (result, origin), where the line shows one.
+Entry = collections.namedtuple("Entry", "number text printed note answer result", defaults=[None, None, None, None])
+
+
+class Mismatch(Exception):
+    """Output that isn't that of the trace."""
+
+
+def lay_out(trace, output):
+    """An Entry for each line of the trace; whole output is used up, or it is a Mismatch."""
+    lines = enumerate(trace.removesuffix("\n").split("\n") if trace else [], 1)
+    bad = re.fullmatch(r"bad trace (\d+) (\w+)\n", output)
+    if bad:
+        return list(with_fault(lines, int(bad[1]), output[:-1], bad[2]))
+    printed = collections.deque(output.splitlines())
+    play = Play()
+    entries = [play.entry(number, text, printed) for number, text in lines]
+    if printed:
+        raise Mismatch(f"behind the last line of the trace is left: {printed[0]}")
+    return entries
+
+
+def with_fault(lines, place, output, kind):
+    """The lines, with the output under the one that has the fault; that of a processor inside is behind the last."""
+    number = 0
+    said = f"{kind}: {formats.FAULTS.get(kind, 'no known kind')}"
+    for number, text in lines:
+        yield Entry(number, text, output, said) if number == place else Entry(number, text)
+    if place > number:
+        yield Entry(place, "", output, said)
+
+
+class Play:
+    """What is known of a run up to a line: each processor's last answer and function, and the arguments in RAM."""
+
+    def __init__(self):
+        self.last_answer = collections.defaultdict(lambda: [0] * 8)
+        self.function = {}
+        self.lends = set()  # the threads whose call asked for a buffer
+        self.places = messages.Places()
+
+    def entry(self, number, text, printed):
+        """The entry of a line, which takes what it printed from the output."""
+        words = text.split(" ")
+        item, operands = words[0], words[1:]
+        if text.startswith("#") or formats.LINES.get(item) != len(words):
+            return Entry(number, text)
+        if item in ("smc", "enter"):
+            self.enter(operands[0], operands[2:])
+        if item in ("smc", "leave"):
+            line = take(printed, number, r"ret {}((?: [0-9a-f]{{8}}){{8}})", operands[0])
+            name, note = self.answer(operands[0], [int(register, 16) for register in line[1].split()])
+            return Entry(number, text, line[0], note, name)
+        if item == "show":
+            cpu, address, length = operands[0], int(operands[1], 16), int(operands[2])
+            line = take(printed, number, r"mem {} {:08x} ([0-9a-f]{{{}}})", cpu, address, 2 * length)
+            note, result = self.places.shown(address, bytes.fromhex(line[1]))
+            return Entry(number, text, line[0], note, None, result)
+        return Entry(number, text)
+
+    def enter(self, cpu, registers):
+        """Reads what an entry brings: its function, and where an argument or a lent buffer lies."""
+        last = self.last_answer[cpu]
+        a0, a1, a2, a3 = (last[int(word[1])] if word[0] == "=" else int(word, 16) for word in registers[:4])
+        address = a1 << 32 | a2
+        self.function[cpu] = a0
+        if a0 == formats.CALL_WITH_ARG:
+            self.places.argument_at(address)
+        if a0 == formats.RETURN_FROM_RPC and a3 in self.lends and address:
+            self.places.buffer_at(address)
+
+    def answer(self, cpu, registers):
+        """The name of an answer, and what it says."""
+        self.last_answer[cpu] = registers
+        a0, a1, a2, a3 = registers[:4]
+        function = formats.FUNCTIONS.get(self.function[cpu])
+        if function in formats.UUID_FUNCTIONS:
+            digits = "".join(f"{register:08x}" for register in registers[:4])
+            return function, f"{function} {'-'.join(re.findall('^.{8}|.{12}$|.{4}', digits))}"
+        if function in formats.REVISION_FUNCTIONS:
+            return function, f"{function} {a0}.{a1}"
+        if a0 in formats.RPCS and function in ("CALL_WITH_ARG", "RETURN_FROM_RPC"):
+            return self.rpc(formats.RPCS[a0], a1, a2, a3)
+        name = formats.CODES.get(a0, f"{a0:08x}")
+        return name, name + said_beside(function, a0, a1)
+
+    def rpc(self, name, a1, a2, thread):
+        """An answer that asks for something."""
+        self.lends.discard(thread)
+        if name == "ALLOC":
+            self.lends.add(thread)
+            return name, f"ALLOC of {a1} bytes, thread {thread}"
+        cookie = f", cookie {a1 << 32 | a2:#x}" if name in ("FREE", "CMD") else ""
+        return name, f"{name}{cookie}, thread {thread}"
+
+
+def said_beside(function, a0, a1):
+    """What an answer with a code says beside it."""
+    if function == "GET_THREAD_COUNT" and a0 == 0:
+        return f", threads {a1}"
+    if function == "EXCHANGE_CAPABILITIES":
+        names = [name for bit, name in enumerate(formats.CAPABILITIES) if a1 >> bit & 1]
+        return f", capabilities: {', '.join(names)}"
+    return ""
+
+
+def take(printed, number, pattern, *values):
+    """The match of the next printed line with the pattern; another line is a Mismatch."""
+    if not printed:
+        raise Mismatch(f"the output ends before what line {number} prints")
+    line = re.fullmatch(pattern.format(*values), printed[0])
+    if not line:
+        raise Mismatch(f"line {number} doesn't print: {printed[0]}")
+    printed.popleft()
+    return line
