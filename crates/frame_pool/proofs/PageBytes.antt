@@ -1,9 +1,9 @@
 -- Where a byte of some pages stands in the one list of their bytes.
-use Rattle.std.proofs.Common.{◌≡◌, ℕ, zero, suc, ◌+◌, ◌-◌, ◌*◌, ◌<◌, ◌≤◌, List, [], ◌∷◌, ◌++◌, length, take, drop, true, false, Some, None, refl, sym, ◌∙◌, ap, arith, length-append, append_assoc}
+use Rattle.std.proofs.Common.{◌≡◌, ℕ, zero, suc, ◌+◌, ◌-◌, ◌*◌, ◌<◌, ◌≤◌, List, [], ◌∷◌, ◌++◌, length, take, drop, true, false, Some, None, refl, sym, ◌∙◌, ap, arith, length-append, append_assoc, length-drop, drop-drop}
 use Rattle.std.proofs.Math.ListN.{set}
 use Rattle.std.proofs.Math.Nat.{mul-le-mul_left}
 use Rattle.std.proofs.Math.Seq.{take-append-add, drop-append-add}
-use Rattle.std.proofs.lemmas.List.{set-append_left, set-append_right, append-nil, take-append-le, drop-append-le}
+use Rattle.std.proofs.lemmas.List.{set-append_left, set-append_right, append-nil, take-append-le, drop-append-le, length-take, take_at, take-take, drop-take, take-append-drop}
 use Rattle.std.proofs.lemmas.Bool.Decides.{nat_tests}
 use Rattle.std.proofs.lemmas.Option.{slice_get_past, slice_get-get_or}
 use Rattle.std.specs.List.{All, concat, slice_get}
@@ -82,7 +82,7 @@ set-concat size (p ∷ ps) (suc q) r n page v all below found e =
 
 -- ---- words of pages
 
-whole_page : (size : ℕ) (pages : List (List ℕ)) (q : ℕ) (page : List ℕ) → Each size pages → slice_get pages q ≡ Some page →
+pub whole_page : (size : ℕ) (pages : List (List ℕ)) (q : ℕ) (page : List ℕ) → Each size pages → slice_get pages q ≡ Some page →
     length page ≡ size
 whole_page size [] q page all found = absurd (cc)
 whole_page size (p ∷ ps) zero page all found = let same : page ≡ p = cc in rw same (first size p ps all)
@@ -158,3 +158,57 @@ pub written-past : (xs new : List ℕ) (n : ℕ) → length xs < n + length new 
 written-past xs new n lt =
     let past : has_bytes xs n (length new) ≡ false = grind (arith, nat_tests, lt) in
     rw past refl
+
+-- ---- parts of pages
+
+-- the part that lies in this page
+pub part_of-concat : (size : ℕ) (pages : List (List ℕ)) (q r n count : ℕ) (page : List ℕ) → Each size pages →
+    r + count ≤ size → slice_get pages q ≡ Some page → n ≡ size * q + r →
+    take count (drop n (concat pages)) ≡ take count (drop r page)
+part_of-concat size [] q r n count page all within found e = absurd (cc)
+part_of-concat size (p ∷ ps) zero r n count page all within found e =
+    let same : p ≡ page = cc in
+    let at : n ≡ r = omega arith in
+    let long : length p ≡ size = first size p ps all in
+    let here : r ≤ length p = omega arith in
+    let rest : count ≤ length (drop r p) = omega (arith, length-drop r p) in
+    ap (λ (k : ℕ). take count (drop k (p ++ concat ps))) at
+    ∙ ap (take count) (drop-append-le r p (concat ps) here)
+    ∙ take-append-le count (drop r p) (concat ps) rest
+    ∙ ap (λ (l : List ℕ). take count (drop r l)) same
+part_of-concat size (p ∷ ps) (suc q) r n count page all within found e =
+    let long : length p ≡ size = first size p ps all in
+    let behind : n ≡ length p + (size * q + r) = omega arith in
+    ap (λ (k : ℕ). take count (drop k (p ++ concat ps))) behind
+    ∙ ap (take count) (drop-append-add p (concat ps) (size * q + r))
+    ∙ part_of-concat size ps q r (size * q + r) count page (others size p ps all) within found refl
+
+-- a part with the next bytes of it
+more_of : (all : List ℕ) (done count : ℕ) → take done all ++ take count (drop done all) ≡ take (done + count) all
+more_of all done count =
+    ap (λ (l : List ℕ). l ++ take count (drop done all)) (sym (take-take done (done + count) all (omega arith)))
+    ∙ ap (λ (l : List ℕ). take done (take (done + count) all) ++ l) (sym (drop-take done count all))
+    ∙ take-append-drop done (take (done + count) all)
+
+-- the next bytes of a part written behind those that are
+pub overwritten-more : (xs all : List ℕ) (place done count at : ℕ) → at ≡ place + done → place + length all ≤ length xs →
+    done + count ≤ length all →
+    overwritten (overwritten xs place (take done all)) at (take count (drop done all)) ≡ overwritten xs place (take (done + count) all)
+overwritten-more xs all place done count at e fits most =
+    let now = take done all in
+    let next = take count (drop done all) in
+    let written = take place xs ++ now in
+    let rest = drop (place + length now) xs in
+    let now_long : length now ≡ done = omega (arith, length-take done all) in
+    let next_long : length next ≡ count = omega (arith, length-take count (drop done all), length-drop done all) in
+    let all_long : length (take (done + count) all) ≡ done + count = omega (arith, length-take (done + count) all) in
+    let long : length written ≡ at = omega (arith, length-append (take place xs) now, length-take place xs) in
+    let front : take at (written ++ rest) ≡ written = take_at written rest at long in
+    let behind : at + length next ≡ length written + count = omega arith in
+    let place_of : place + length now + count ≡ place + length (take (done + count) all) = omega arith in
+    ap (λ (l : List ℕ). l ++ next ++ drop (at + length next) (written ++ rest)) front
+    ∙ ap (λ (k : ℕ). written ++ next ++ drop k (written ++ rest)) behind
+    ∙ ap (λ (l : List ℕ). written ++ next ++ l) (drop-append-add written rest count ∙ drop-drop count (place + length now) xs)
+    ∙ ap (λ (k : ℕ). written ++ next ++ drop k xs) place_of
+    ∙ ap (λ (l : List ℕ). l ++ drop (place + length (take (done + count) all)) xs)
+    (append_assoc (take place xs) now next ∙ ap (λ (l : List ℕ). take place xs ++ l) (more_of all done count))

@@ -1,4 +1,4 @@
-ghost use Rattle.std.specs.Prelude.{◌≡◌, ◌+◌, ◌<◌, ◌≤◌, [], length, slice_get, slice_set, IfOk, Some};
+ghost use Rattle.std.specs.Prelude.{◌≡◌, ◌+◌, ◌<◌, ◌≤◌, [], drop, length, slice_get, slice_set, take, IfOk, Some};
 ghost use Rattle.base.specs.Bytes.{overwritten};
 ghost use Rattle.base.specs.Zeros.{zeros};
 ghost use Rattle.ta_step.specs.Bytes.{word_at};
@@ -6,7 +6,7 @@ ghost use Rattle.ta_step.specs.Bytes.{word_at};
 use base::NoMemory;
 use std::alloc::Global;
 use std::marker::Model;
-use ta_step::{put_word, word_of};
+use ta_step::{copy_part, put_part, put_word, word_of};
 
 /// The bytes of a page.
 pub const PAGE_BYTES: usize = 4096;
@@ -71,5 +71,21 @@ impl Frame {
         ensures { self.new ≡ overwritten self.old at word }
     {
         put_word(self.bytes.as_mut_slice(), at, word);
+    }
+
+    /// Copies the bytes from a place on out, which are all there.
+    pub(crate) fn read(&self, at: usize, out: &mut [u8])
+        requires { at + length out.old ≤ length self.now }
+        ensures { out.new ≡ take (length out.old) (drop at self.now) }
+    {
+        copy_part(self.bytes.as_slice(), at, out);
+    }
+
+    /// Writes a part over the bytes from a place on, which are all there.
+    pub(crate) fn write(&mut self, at: usize, part: &[u8])
+        requires { at + length part.now ≤ length self.old }
+        ensures { self.new ≡ overwritten self.old at part.now }
+    {
+        put_part(self.bytes.as_mut_slice(), at, part);
     }
 }

@@ -1,4 +1,4 @@
-ghost use Rattle.std.specs.Prelude.{◌≡◌, ◌+◌, ◌*◌, ◌%◌, ◌^◌, ◌<◌, ◌≤◌, [], ◌++◌, length, nat_lt, vec_capacity};
+ghost use Rattle.std.specs.Prelude.{◌≡◌, ◌+◌, ◌-◌, ◌*◌, ◌%◌, ◌^◌, ◌<◌, ◌≤◌, [], ◌++◌, drop, length, nat_lt, take, vec_capacity};
 ghost use Rattle.std.specs.List.{concat};
 ghost use Rattle.base.specs.Bytes.{has_bytes, overwritten, written};
 ghost use Rattle.frame_pool.specs.Pages.{AreWhole, page_count};
@@ -120,6 +120,37 @@ impl Pages {
         self.put_bytes(addr, word);
         true
     }
+
+    /// Copies bytes of one page from a place on out.
+    fn read_in_page(&self, at: usize, out: &mut [u8])
+        requires some { 0 < length out.old }
+        requires there { at + length out.old ≤ length self.now }
+        requires page { at % 4096 + length out.old ≤ 4096 }
+        ensures { out.new ≡ take (length out.old) (drop at self.now) }
+    {
+        let frame = &self.frames[at / PAGE_BYTES];
+        frame.read(at % PAGE_BYTES, out);
+    }
+
+    /// Writes a part over the bytes of one page from a place on.
+    fn write_in_page(&mut self, at: usize, part: &[u8])
+        requires some { 0 < length part.now }
+        requires there { at + length part.now ≤ length self.old }
+        requires page { at % 4096 + length part.now ≤ 4096 }
+        ensures { self.new ≡ overwritten self.old at part.now }
+    {
+        let frame = &mut self.frames[at / PAGE_BYTES];
+        frame.write(at % PAGE_BYTES, part);
+    }
+}
+
+/// How many of so many bytes from a place on lie in its page.
+fn in_page(at: usize, len: usize) -> usize
+    ensures page { at % 4096 + result ≤ 4096 }
+    ensures most { result ≤ len }
+    ensures some { 0 < len → 0 < result }
+{
+    len.min(PAGE_BYTES - at % PAGE_BYTES)
 }
 
 /// Whether a word from an address on lies in two pages.
@@ -162,5 +193,25 @@ impl TaMemory for Pages {
         };
         frame.set_word(addr as usize % PAGE_BYTES, word);
         true
+    }
+
+    fn read(&self, addr: u32, out: &mut [u8]) {
+        let mut done = 0;
+        while done < out.len() {
+            let at = addr as usize + done;
+            let end = done + in_page(at, out.len() - done);
+            self.read_in_page(at, &mut out[done..end]);
+            done = end;
+        }
+    }
+
+    fn write(&mut self, addr: u32, part: &[u8]) {
+        let mut done = 0;
+        while done < part.len() {
+            let at = addr as usize + done;
+            let end = done + in_page(at, part.len() - done);
+            self.write_in_page(at, &part[done..end]);
+            done = end;
+        }
     }
 }
