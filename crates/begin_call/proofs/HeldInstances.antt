@@ -77,26 +77,26 @@ pub absent_there : (m : NumberMap CodeInstance) (number : ℕ) → get (kept_as 
 absent_there m number none = none_found (get m number) (sym (get_seen instance_of m number) ∙ none)
 
 -- it is free
-pub made_is_free : (m : NumberMap CodeInstance) (number flags : ℕ) (uuid : List ℕ) (memory : Option (List ℕ)) →
-    is_free (insert m number (code.made uuid flags memory)) number ≡ true
-made_is_free m number flags uuid memory =
-    ap (λ (o : Option CodeInstance). option_map_or (λ instance. is_none instance.holder) o false) (get_inserted m number (code.made uuid flags memory))
+pub made_is_free : (m : NumberMap CodeInstance) (number : ℕ) (uuid : List ℕ) (memory : Option (List ℕ)) →
+    is_free (insert m number (code.made uuid memory)) number ≡ true
+made_is_free m number uuid memory =
+    ap (λ (o : Option CodeInstance). option_map_or (λ instance. is_none instance.holder) o false) (get_inserted m number (code.made uuid memory))
 
 -- it is held then
-pub instances_made : (m : NumberMap CodeInstance) (number slot flags : ℕ) (uuid : List ℕ) (memory : Option (List ℕ)) →
-    kept_as (changed (insert m number (code.made uuid flags memory)) number (code.held_by slot)) ≡ insert (kept_as m) number (made_for uuid slot)
-instances_made m number slot flags uuid memory =
-    let made = code.made uuid flags memory in
+pub instances_made : (m : NumberMap CodeInstance) (number slot : ℕ) (uuid : List ℕ) (memory : Option (List ℕ)) →
+    kept_as (changed (insert m number (code.made uuid memory)) number (code.held_by slot)) ≡ insert (kept_as m) number (made_for uuid slot)
+instances_made m number slot uuid memory =
+    let made = code.made uuid memory in
     ap (λ (o : Option CodeInstance). kept_as (option_map_or (λ found. insert (insert m number made) number (code.held_by slot found)) o (insert m number made))) (get_inserted m number made)
     ∙ ap kept_as (insert_twice m number made (code.held_by slot made))
     ∙ insert_seen instance_of m number (code.held_by slot made)
 
 -- what was moved out of it
-pub moved_out_made : (m : NumberMap CodeInstance) (number flags : ℕ) (uuid : List ℕ) (given memory : Option (List ℕ)) (objects : NumberMap Handle) →
-    option_map moved_from (get (insert m number (code.made uuid flags given)) number) ≡ Some (memory, objects) →
+pub moved_out_made : (m : NumberMap CodeInstance) (number : ℕ) (uuid : List ℕ) (given memory : Option (List ℕ)) (objects : NumberMap Handle) →
+    option_map moved_from (get (insert m number (code.made uuid given)) number) ≡ Some (memory, objects) →
     (memory ≡ given) × (objects ≡ [])
-moved_out_made m number flags uuid given memory objects moved =
-    let made = code.made uuid flags given in
+moved_out_made m number uuid given memory objects moved =
+    let made = code.made uuid given in
     let here : Some (moved_from made) ≡ Some (memory, objects) = sym (ap (option_map moved_from) (get_inserted m number made)) ∙ moved in
     let pair : moved_from made ≡ (memory, objects) = cc in
     let left : given ≡ memory = ap (λ (one : Option (List ℕ) × NumberMap Handle). one.0) pair in
@@ -113,31 +113,31 @@ tables_held tables instances number slot instance after is =
     ap (λ (kept : NumberMap Instance). record (tables_of tables) { instances = kept }) (ap kept_as after ∙ instances_held tables.instances number slot instance is)
 
 -- a new one, which is made and then held
-pub holds_made : (m made instances : NumberMap CodeInstance) (number slot flags : ℕ) (uuid name : List ℕ) (memory : Option (List ℕ)) →
-    made ≡ insert m number (code.made uuid flags memory) → instances ≡ changed made number (code.held_by slot) → uuid ≡ name →
+pub holds_made : (m made instances : NumberMap CodeInstance) (number slot : ℕ) (uuid name : List ℕ) (memory : Option (List ℕ)) →
+    made ≡ insert m number (code.made uuid memory) → instances ≡ changed made number (code.held_by slot) → uuid ≡ name →
     kept_as instances ≡ insert (kept_as m) number (made_for name slot)
-holds_made m made instances number slot flags uuid name memory is after same =
+holds_made m made instances number slot uuid name memory is after same =
     ap kept_as after
     ∙ ap (λ (between : NumberMap CodeInstance). kept_as (changed between number (code.held_by slot))) is
-    ∙ instances_made m number slot flags uuid memory
+    ∙ instances_made m number slot uuid memory
     ∙ ap (λ (name : List ℕ). insert (kept_as m) number (made_for name slot)) same
 
-pub tables_made : (tables : Tables) (made instances : NumberMap CodeInstance) (number slot flags : ℕ) (uuid name : List ℕ) (memory : Option (List ℕ)) →
-    made ≡ insert tables.instances number (code.made uuid flags memory) → instances ≡ changed made number (code.held_by slot) → uuid ≡ name →
+pub tables_made : (tables : Tables) (made instances : NumberMap CodeInstance) (number slot : ℕ) (uuid name : List ℕ) (memory : Option (List ℕ)) →
+    made ≡ insert tables.instances number (code.made uuid memory) → instances ≡ changed made number (code.held_by slot) → uuid ≡ name →
     record (tables_of tables) { instances = kept_as instances } ≡ with_instance (tables_of tables) number (made_for name slot)
-tables_made tables made instances number slot flags uuid name memory is after same =
-    ap (λ (kept : NumberMap Instance). record (tables_of tables) { instances = kept }) (holds_made tables.instances made instances number slot flags uuid name memory is after same)
+tables_made tables made instances number slot uuid name memory is after same =
+    ap (λ (kept : NumberMap Instance). record (tables_of tables) { instances = kept }) (holds_made tables.instances made instances number slot uuid name memory is after same)
 
-pub free_as_made : (m made : NumberMap CodeInstance) (number flags : ℕ) (uuid : List ℕ) (memory : Option (List ℕ)) →
-    made ≡ insert m number (code.made uuid flags memory) → is_free made number ≡ true
-free_as_made m made number flags uuid memory is =
-    ap (λ (instances : NumberMap CodeInstance). is_free instances number) is ∙ made_is_free m number flags uuid memory
+pub free_as_made : (m made : NumberMap CodeInstance) (number : ℕ) (uuid : List ℕ) (memory : Option (List ℕ)) →
+    made ≡ insert m number (code.made uuid memory) → is_free made number ≡ true
+free_as_made m made number uuid memory is =
+    ap (λ (instances : NumberMap CodeInstance). is_free instances number) is ∙ made_is_free m number uuid memory
 
-pub moved_as_made : (m made : NumberMap CodeInstance) (number flags : ℕ) (uuid : List ℕ) (given memory : Option (List ℕ)) (objects : NumberMap Handle) →
-    made ≡ insert m number (code.made uuid flags given) → option_map moved_from (get made number) ≡ Some (memory, objects) →
+pub moved_as_made : (m made : NumberMap CodeInstance) (number : ℕ) (uuid : List ℕ) (given memory : Option (List ℕ)) (objects : NumberMap Handle) →
+    made ≡ insert m number (code.made uuid given) → option_map moved_from (get made number) ≡ Some (memory, objects) →
     (memory ≡ given) × (objects ≡ [])
-moved_as_made m made number flags uuid given memory objects is moved =
-    moved_out_made m number flags uuid given memory objects (ap (λ (instances : NumberMap CodeInstance). option_map moved_from (get instances number)) (sym is) ∙ moved)
+moved_as_made m made number uuid given memory objects is moved =
+    moved_out_made m number uuid given memory objects (ap (λ (instances : NumberMap CodeInstance). option_map moved_from (get instances number)) (sym is) ∙ moved)
 
 -- ---- pages
 
@@ -173,9 +173,9 @@ pages_held boot m instances number slot rising free after =
     ∙ pages_stay boot (kept_as m) number slot there.0 rising there.1
 
 -- a new one takes its own
-pub pages_made : (boot : Booted) (m made instances : NumberMap CodeInstance) (number slot flags : ℕ) (uuid name : List ℕ) (memory : Option (List ℕ)) →
-    get (kept_as m) number ≡ None → made ≡ insert m number (code.made uuid flags memory) → instances ≡ changed made number (code.held_by slot) → uuid ≡ name →
+pub pages_made : (boot : Booted) (m made instances : NumberMap CodeInstance) (number slot : ℕ) (uuid name : List ℕ) (memory : Option (List ℕ)) →
+    get (kept_as m) number ≡ None → made ≡ insert m number (code.made uuid memory) → instances ≡ changed made number (code.held_by slot) → uuid ≡ name →
     free_pages boot (kept_as instances) ≡ free_pages boot (kept_as m) - pages_of boot name
-pages_made boot m made instances number slot flags uuid name memory none is after same =
-    ap (free_pages boot) (holds_made m made instances number slot flags uuid name memory is after same)
+pages_made boot m made instances number slot uuid name memory none is after same =
+    ap (free_pages boot) (holds_made m made instances number slot uuid name memory is after same)
     ∙ pages_taken boot (kept_as m) number slot name none

@@ -74,8 +74,6 @@ pub(crate) fn makes(
     ensures pool { tables.new.pool ≡ record tables.old.pool { free = tables.old.pool.free - pages_in (application_of app.now) } }
 {
     let memory = fresh_pages(&mut tables.pool, app);
-    tables
-        .instances
-        .make(number, app.uuid(), app.flags(), memory);
+    tables.instances.make(number, app.uuid(), memory);
     tables.instances.hold_into(number, slot, objects)
 }

@@ -16,8 +16,8 @@ none_some : {X : Type 0} (o : Option X) → o ≡ None → IsSome o → ⊥
 none_some None none some = absurd (cc)
 none_some (Some x) none some = absurd (cc)
 
-pub made_is_instance : (uuid : List ℕ) (flags : ℕ) (memory : Option (List ℕ)) → IsInstance (made uuid flags memory)
-made_is_instance uuid flags memory = record {
+pub made_is_instance : (uuid : List ℕ) (memory : Option (List ℕ)) → IsInstance (made uuid memory)
+made_is_instance uuid memory = record {
   held = λ some. absurd (none_some {X = ℕ} None refl some);
   dead = λ e. absurd (false_true e);
 }

@@ -14,11 +14,11 @@ object = record { name = 0x31 ∷ 0x2f ∷ 0x41 ∷ []; fd = 70; length = 10; po
 
 -- an instance with two bytes of memory and one open object
 abbrev pub busy : Instance
-busy = given_back (Some (1 ∷ 2 ∷ [])) ((0, object) ∷ []) (made (uuid 5) 4 None)
+busy = given_back (Some (1 ∷ 2 ∷ [])) ((0, object) ∷ []) (made (uuid 5) None)
 
 -- two instances of application 5, and a native one between them
 abbrev pub three : NumberMap Instance
-three = (2, busy) ∷ (3, made (uuid 6) 0 None) ∷ (7, made (uuid 5) 4 (Some [])) ∷ []
+three = (2, busy) ∷ (3, made (uuid 6) None) ∷ (7, made (uuid 5) (Some [])) ∷ []
 
 -- the same after instance 2 is held by the call in slot 1
 abbrev pub one_held : NumberMap Instance
@@ -35,6 +35,6 @@ pub record Examples : Type 0 where
   pub others_free : is_free one_held 7 ≡ true
   pub neither_free : is_free three 4 ≡ false
   pub nor_held : is_held three 4 ≡ false
-  pub moved_out : get one_held 2 ≡ Some (record { uuid = uuid 5; flags = 4; dead = false; holder = Some 1; memory = None; objects = [] })
+  pub moved_out : get one_held 2 ≡ Some (record { uuid = uuid 5; dead = false; holder = Some 1; memory = None; objects = [] })
   pub came_back : changed one_held 2 (given_back (Some (1 ∷ 2 ∷ [])) ((0, object) ∷ [])) ≡ three
-  pub dead : get (changed one_held 2 killed) 2 ≡ Some (record { uuid = uuid 5; flags = 4; dead = true; holder = None; memory = None; objects = [] })
+  pub dead : get (changed one_held 2 killed) 2 ≡ Some (record { uuid = uuid 5; dead = true; holder = None; memory = None; objects = [] })

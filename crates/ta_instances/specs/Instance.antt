@@ -5,9 +5,9 @@ use Rattle.tee_storage.specs.declared.handle.Handle.{Handle}
 use Rattle.ta_instances.specs.declared.instance.Instance.{Instance}
 
 -- an instance that is alive and that no call holds, with no open objects
-abbrev pub made : List ℕ → ℕ → Option (List ℕ) → Instance
-made uuid flags memory =
-    record { uuid = uuid; flags = flags; dead = false; holder = None; memory = memory; objects = [] }
+abbrev pub made : List ℕ → Option (List ℕ) → Instance
+made uuid memory =
+    record { uuid = uuid; dead = false; holder = None; memory = memory; objects = [] }
 
 -- the instance, held by the call of a slot, to which its memory and open objects were moved
 abbrev pub held_by : ℕ → Instance → Instance

@@ -10,8 +10,6 @@ use uuid::Uuid;
 pub struct Instance {
     /// The UUID of its application.
     pub uuid: Uuid,
-    /// The instance flags of its application, as its image has them.
-    pub flags: u32,
     /// Whether one of its entry points has panicked.
     pub dead: bool,
     /// The thread slot of the call that holds it, if one does.
@@ -24,12 +22,11 @@ pub struct Instance {
 
 impl Instance {
     /// An instance that is alive and that no call holds, with no open objects.
-    pub(crate) fn new(uuid: Uuid, flags: u32, memory: Option<Pages>) -> Instance
-        ensures { result ≡ made uuid flags memory }
+    pub(crate) fn new(uuid: Uuid, memory: Option<Pages>) -> Instance
+        ensures { result ≡ made uuid memory }
     {
         Instance {
             uuid,
-            flags,
             dead: false,
             holder: None,
             memory,

@@ -60,12 +60,12 @@ impl Instances {
     }
 
     /// Keeps a new instance, which is alive, and which no call holds.
-    pub fn make(&mut self, number: u32, uuid: Uuid, flags: u32, memory: Option<Pages>)
+    pub fn make(&mut self, number: u32, uuid: Uuid, memory: Option<Pages>)
         requires absent { get self.old number ≡ None }
         requires room { length self.old < 80 }
-        ensures { self.new ≡ insert self.old number (made uuid flags memory) }
+        ensures { self.new ≡ insert self.old number (made uuid memory) }
     {
-        let instance = Instance::new(uuid, flags, memory);
+        let instance = Instance::new(uuid, memory);
         self.kept.insert(u64::from(number), instance);
     }
 
