@@ -1,5 +1,5 @@
 //! A call as its entry makes it, and as it begins on its instance. None of this takes memory.
-ghost use Rattle.std.specs.Prelude.{◌≡◌, ℕ, List, ◌∷◌, length, Some, None};
+ghost use Rattle.std.specs.Prelude.{◌≡◌, ℕ, List, [], ◌∷◌, length, Some, None};
 ghost use Rattle.base.specs.NumberMap.{NumberMap};
 ghost use Rattle.job_model.specs.declared.entry_point.EntryPoint.{EntryPoint as AnyPoint};
 ghost use Rattle.job_model.specs.Beginning.{begun_job};
@@ -30,6 +30,7 @@ impl<M: TaMemory + Drop> Cont<M> {
         ensures entered { IsEntered entered result }
         ensures params { result.params ≡ entered.params }
         ensures outcome { result.result ≡ outcome }
+        ensures objects { result.objects ≡ [] }
         ensures phase { result.phase ≡ Phase.Ends }
         ensures shape { IsShaped M.bytes result }
     {
@@ -58,6 +59,7 @@ impl<M: TaMemory + Drop> Cont<M> {
         ensures outcome { result.result ≡ outcome }
         ensures job { (uuid : List ℕ) (objects : NumberMap AnyHandle) → record (job_with Nothing uuid result) { objects = objects }
             ≡ record (idle_job uuid entered.login entered.context objects (kept_params entered.params)) { result = outcome } }
+        ensures objects { result.objects ≡ [] }
         ensures phase { result.phase ≡ phase }
     {
         Cont {
