@@ -5,6 +5,7 @@ pub mod CallFacts
 pub mod CallPhases
 pub mod Cancelling
 pub mod CoreEvents
+pub mod Crossing
 pub mod Granting
 pub mod Opened
 pub mod Others

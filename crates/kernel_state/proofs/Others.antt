@@ -6,15 +6,16 @@ use Rattle.std.specs.List.{AllByRecursion}
 use Rattle.event_journal.specs.declared.event.Event.{Event}
 use Rattle.event_journal.specs.declared.event.Event.TheVariants as event
 use Rattle.kernel_model.specs.Application.{Booted}
-use Rattle.kernel_model.specs.History.{IsLater, after_events, kernel_after}
+use Rattle.kernel_model.specs.History.{IsLater, IsLegal, after_events, kernel_after}
 use Rattle.kernel_model.specs.Kernel.{Active, Asks, CallPhase, Ends, Fixed, Free, InSlot, Inside, Kernel, Outside, PendingCall, Processor, Runs, Suspended, ThreadSlot, Waits}
 use Rattle.kernel_model.specs.Laws.{IsOfOther}
 use Rattle.kernel_model.proofs.Answered.{events_stay}
+use Rattle.kernel_model.proofs.Parts.{some_of}
 use Rattle.kernel_model.proofs.SoundWork.{others_stay_away}
-use Rattle.kernel_state.specs.Entering.{HasWork}
-use Rattle.kernel_state.specs.Leaving.{CanLeave}
-use Rattle.kernel_state.specs.Laws.{ChangedByOthers, WorkCanLeave, WorkStays}
-use Rattle.kernel_state.specs.Meaning.{booted_of, events_of, kernel_of}
+use Rattle.kernel_state.specs.Entering.{HasWork, HasWorkAfter}
+use Rattle.kernel_state.specs.Leaving.{CanLeave, CanLeaveAfter}
+use Rattle.kernel_state.specs.Laws.{ChangedByOthers, GoesOnByOthers, WorkCanLeave, WorkStays, WorkStaysOnward}
+use Rattle.kernel_state.specs.Meaning.{booted_of, events_of}
 use Rattle.kernel_state.specs.Work.{IsCarriedAs, IsCarriedFor, IsRanFor, IsRanOf, IsWorkIn, IsWorkOf}
 use Rattle.kernel_state.specs.declared.carried.Carried.{Carried}
 use Rattle.kernel_state.specs.declared.carried.Carried.TheVariants.{Nothing, Resting, Running}
@@ -22,7 +23,7 @@ use Rattle.kernel_state.specs.declared.kernel_core.Core.{Core}
 use Rattle.kernel_state.specs.declared.work.Ran.{Ran}
 use Rattle.kernel_state.specs.declared.work.Work.{Work}
 use Rattle.kernel_state.proofs.Cancelling.{is_call_with_mark}
-use Rattle.kernel_state.proofs.CoreEvents.{events_onward, some_kernel}
+use Rattle.kernel_state.proofs.CoreEvents.{core_is_legal, events_onward}
 
 -- ---- what is carried
 
@@ -42,7 +43,7 @@ carried_with_mark Nothing call marked (Waits params) is = absurd is
 carried_with_mark Nothing call marked (Ends result params told wakes) is = absurd is
 
 -- the call may have been cancelled since
-carried_later : (carried : Carried) (call now : PendingCall) → IsLater call now → IsCarriedAs carried call call.phase →
+pub carried_later : (carried : Carried) (call now : PendingCall) → IsLater call now → IsCarriedAs carried call call.phase →
     IsCarriedAs carried now now.phase
 carried_later carried call now later is =
     subst (λ (c : PendingCall). IsCarriedAs carried c c.phase) (sym later.same)
@@ -73,70 +74,94 @@ module _ (boot : Booted) (before between : List Event) (kernel last : Kernel) (w
   in_state (Some (Inside regs steps (InSlot slot))) is fits =
       in_slot steps slot regs (slice_get kernel.slots slot) fits.0 is refl fits.1
 
-  work_of_later : IsWorkOf kernel work → IsWorkOf last work
+  pub work_of_later : IsWorkOf kernel work → IsWorkOf last work
   work_of_later fits = in_state (slice_get kernel.processors work.cpu) refl fits
 
--- ---- cores
+-- ---- histories
 
--- the kernel of a core, to which its work fits
-record Fitting (core : Core) (work : Work) : Type 0 where
+-- the kernel of a history, to which its work fits
+record Fitting (boot : Booted) (history : List Event) (work : Work) : Type 0 where
   kernel : Kernel
-  comes_to : kernel_of core ≡ Some kernel
+  comes_to : kernel_after boot history ≡ Some kernel
   fits : IsWorkOf kernel work
 
-fitting : (core : Core) (work : Work) → IsSomeAnd (kernel_of core) (λ kernel. IsWorkOf kernel work) → Fitting core work
-fitting core work has =
-    let found = some_kernel core in
-    record {
-      kernel = found.0;
-      comes_to = found.1;
-      fits = subst (λ (o : Option Kernel). IsSomeAnd o (λ kernel. IsWorkOf kernel work)) found.1 has;
-    }
+fitting_of : (boot : Booted) (history : List Event) (work : Work) (o : Option Kernel) → kernel_after boot history ≡ o →
+    IsSomeAnd o (λ kernel. IsWorkOf kernel work) → Fitting boot history work
+fitting_of boot history work None is has = absurd has
+fitting_of boot history work (Some kernel) is has = record { kernel = kernel; comes_to = is; fits = has }
 
-fitting_later : (old new : Core) (work : Work) → ChangedByOthers old new work.cpu → Fitting old work → Fitting new work
-fitting_later old new work changed was =
-    let now = some_kernel new in
-    let onward = events_onward (booted_of old) (booted_of new) (events_of old) changed.between (events_of new) was.kernel now.0
-    changed.boot changed.events was.comes_to now.1 in
+has_work : (boot : Booted) (history : List Event) (work : Work) → Fitting boot history work →
+    IsSomeAnd (kernel_after boot history) (λ kernel. IsWorkOf kernel work)
+has_work boot history work fitting =
+    subst (λ (o : Option Kernel). IsSomeAnd o (λ kernel. IsWorkOf kernel work)) (sym fitting.comes_to) fitting.fits
+
+fitting_onward : (boot : Booted) (before history : List Event) (work : Work) → GoesOnByOthers boot before history work.cpu →
+    Fitting boot before work → Fitting boot history work
+fitting_onward boot before history work goes was =
+    let now = some_of (kernel_after boot history) goes.legal.follows in
+    let onward = events_onward boot boot before goes.between history was.kernel now.0 refl goes.is was.comes_to now.1 in
     record {
       kernel = now.0;
       comes_to = now.1;
-      fits = work_of_later (booted_of old) (events_of old) changed.between was.kernel now.0 work was.comes_to changed.others onward was.fits;
+      fits = work_of_later boot before goes.between was.kernel now.0 work was.comes_to goes.others onward was.fits;
     }
 
-has_work : (core : Core) (work : Work) → Fitting core work → IsSomeAnd (kernel_of core) (λ kernel. IsWorkOf kernel work)
-has_work core work fitting =
-    subst (λ (o : Option Kernel). IsSomeAnd o (λ kernel. IsWorkOf kernel work)) (sym fitting.comes_to) fitting.fits
-
-pub work_kept : (old new : Core) (work : Work) → ChangedByOthers old new work.cpu → HasWork old work → HasWork new work
-work_kept old new work changed has =
-    ∥∥₁_map has (λ (is : IsSomeAnd (kernel_of old) (λ kernel. IsWorkOf kernel work)).
-    has_work new work (fitting_later old new work changed (fitting old work is)))
+work_onward : (boot : Booted) (before history : List Event) (work : Work) → GoesOnByOthers boot before history work.cpu →
+    HasWorkAfter boot before work → HasWorkAfter boot history work
+work_onward boot before history work goes has =
+    ∥∥₁_map has (λ (is : IsSomeAnd (kernel_after boot before) (λ kernel. IsWorkOf kernel work)).
+    has_work boot history work (fitting_onward boot before history work goes (fitting_of boot before work (kernel_after boot before) refl is)))
 
 -- a work with its granted steps done can leave
-can_leave_of : (core : Core) (work : Work) (ran : Ran) → IsRanOf work ran → Fitting core work →
-    IsSomeAnd (kernel_of core) (λ kernel. IsRanFor kernel ran)
-can_leave_of core work ran run fitting =
+run_of : (boot : Booted) (history : List Event) (work : Work) (ran : Ran) → IsRanOf work ran → Fitting boot history work →
+    IsSomeAnd (kernel_after boot history) (λ kernel. IsRanFor kernel ran)
+run_of boot history work ran run fitting =
     subst (λ (o : Option Kernel). IsSomeAnd o (λ kernel. IsRanFor kernel ran)) (sym fitting.comes_to)
     (record { work = work; fits = fitting.fits; has_run = run })
 
-can_leave : (core : Core) (work : Work) (ran : Ran) → HasWork core work → IsRanOf work ran → CanLeave core ran
-can_leave core work ran has run =
-    ∥∥₁_map has (λ (is : IsSomeAnd (kernel_of core) (λ kernel. IsWorkOf kernel work)).
-    can_leave_of core work ran run (fitting core work is))
+run_can_leave : (boot : Booted) (history : List Event) (work : Work) (ran : Ran) → HasWorkAfter boot history work →
+    IsRanOf work ran → CanLeaveAfter boot history ran
+run_can_leave boot history work ran has run =
+    ∥∥₁_map has (λ (is : IsSomeAnd (kernel_after boot history) (λ kernel. IsWorkOf kernel work)).
+    run_of boot history work ran run (fitting_of boot history work (kernel_after boot history) refl is))
 
-ran_later : (old new : Core) (ran : Ran) → ChangedByOthers old new ran.cpu → IsSomeAnd (kernel_of old) (λ kernel. IsRanFor kernel ran) →
-    IsSomeAnd (kernel_of new) (λ kernel. IsRanFor kernel ran)
-ran_later old new ran changed can =
-    let was = some_kernel old in
-    let its : IsRanFor was.0 ran = subst (λ (o : Option Kernel). IsSomeAnd o (λ kernel. IsRanFor kernel ran)) was.1 can in
-    can_leave_of new its.work ran its.has_run
-    (fitting_later old new its.work (subst (ChangedByOthers old new) its.has_run.cpu changed)
-    (record { kernel = was.0; comes_to = was.1; fits = its.fits }))
+run_onward : (boot : Booted) (before history : List Event) (ran : Ran) → GoesOnByOthers boot before history ran.cpu →
+    (o : Option Kernel) → kernel_after boot before ≡ o → IsSomeAnd o (λ kernel. IsRanFor kernel ran) →
+    IsSomeAnd (kernel_after boot history) (λ kernel. IsRanFor kernel ran)
+run_onward boot before history ran goes None is can = absurd can
+run_onward boot before history ran goes (Some kernel) is can =
+    run_of boot history can.work ran can.has_run
+    (fitting_onward boot before history can.work (subst (GoesOnByOthers boot before history) can.has_run.cpu goes)
+    (record { kernel = kernel; comes_to = is; fits = can.fits }))
+
+ran_onward : (boot : Booted) (before history : List Event) (ran : Ran) → GoesOnByOthers boot before history ran.cpu →
+    CanLeaveAfter boot before ran → CanLeaveAfter boot history ran
+ran_onward boot before history ran goes can =
+    ∥∥₁_map can (λ (is : IsSomeAnd (kernel_after boot before) (λ kernel. IsRanFor kernel ran)).
+    run_onward boot before history ran goes (kernel_after boot before) refl is)
+
+pub work_stays_onward : WorkStaysOnward
+work_stays_onward = record { work = work_onward; ran = ran_onward; has_run = run_can_leave }
+
+-- ---- cores
+
+goes_on : (old new : Core) (cpu : ℕ) → ChangedByOthers old new cpu → GoesOnByOthers (booted_of old) (events_of old) (events_of new) cpu
+goes_on old new cpu changed = record {
+  legal = subst (λ (boot : Booted). IsLegal boot (events_of new)) changed.boot (core_is_legal new);
+  between = changed.between;
+  others = changed.others;
+  is = changed.events;
+}
+
+work_kept : (old new : Core) (work : Work) → ChangedByOthers old new work.cpu → HasWork old work → HasWork new work
+work_kept old new work changed has =
+    subst (λ (boot : Booted). HasWorkAfter boot (events_of new) work) (sym changed.boot)
+    (work_onward (booted_of old) (events_of old) (events_of new) work (goes_on old new work.cpu changed) has)
 
 ran_kept : (old new : Core) (ran : Ran) → ChangedByOthers old new ran.cpu → CanLeave old ran → CanLeave new ran
 ran_kept old new ran changed can =
-    ∥∥₁_map can (λ (is : IsSomeAnd (kernel_of old) (λ kernel. IsRanFor kernel ran)). ran_later old new ran changed is)
+    subst (λ (boot : Booted). CanLeaveAfter boot (events_of new) ran) (sym changed.boot)
+    (ran_onward (booted_of old) (events_of old) (events_of new) ran (goes_on old new ran.cpu changed) can)
 
 all_append : (cpu : ℕ) (events more : List Event) → AllByRecursion (IsOfOther cpu) events → AllByRecursion (IsOfOther cpu) more →
     AllByRecursion (IsOfOther cpu) (events ++ more)
@@ -173,9 +198,10 @@ works_stay = record {
 
 pub works_can_leave : WorkCanLeave
 works_can_leave = record {
-  at_once = λ entry ran run. can_leave entry.new entry.work ran entry.has_entered.fits run;
+  at_once = λ entry ran run.
+      run_can_leave (booted_of entry.new) (events_of entry.new) entry.work ran entry.has_entered.fits run;
   later = λ entry later ran changed run.
-      can_leave later entry.work ran
+      run_can_leave (booted_of later) (events_of later) entry.work ran
       (work_kept entry.new later entry.work (subst (ChangedByOthers entry.new later) (sym entry.has_entered.cpu) changed) entry.has_entered.fits)
       run;
 }

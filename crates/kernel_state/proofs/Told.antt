@@ -16,6 +16,8 @@ use Rattle.kernel_model.specs.History.{IsLegal, is_outside, kernel_after}
 use Rattle.kernel_model.specs.Instances.{free_pages}
 use Rattle.kernel_model.specs.Kernel.{Kernel}
 use Rattle.kernel_model.specs.Kernel as model
+use Rattle.kernel_model.specs.Turns.{ReadsRam}
+use Rattle.kernel_model.proofs.ReadsOfRam.{histories_read_ram}
 use Rattle.rpc_cont.specs.declared.cont.Cont.{Cont}
 use Rattle.ta_isa.specs.Boots.{IsBoot}
 use Rattle.ta_isa.specs.Spelling.{IsValid}
@@ -69,6 +71,9 @@ agree_prop (Exit cpu regs) = Prim.hlevel props
 
 pub reads_agree : (parts : Parts) → ∥ Replays parts ∥₁ → AllByRecursion ReadsAgree parts.journal.events
 reads_agree parts fact = ∥∥₁_elim fact (AllByRecursion-prop ReadsAgree agree_prop parts.journal.events) (λ (so : Replays parts). so.agree)
+
+pub reads_ram : (parts : Parts) → ∥ Replays parts ∥₁ → AllByRecursion ReadsRam parts.journal.events
+reads_ram parts fact = histories_read_ram (booted_with parts.setup) parts.journal.events (is_legal parts fact)
 
 -- ---- what is asked of the kernel
 

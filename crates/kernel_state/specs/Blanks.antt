@@ -1,16 +1,19 @@
 -- Boxes of calls of which nothing is there.
-use Rattle.std.specs.Prelude.{◌≡◌, ℕ, ◌+◌, ◌<◌, false, if◌then◌else◌, List, All, None, nat_lt, vec_capacity}
+use Rattle.std.specs.Prelude.{◌≡◌, ℕ, ◌+◌, ◌<◌, false, if◌then◌else◌, List, [], All, None, nat_lt, vec_capacity}
 use Rattle.std.specs.Global.{Box, Vec}
 use Rattle.rpc_cont.specs.Beginning.{IsFresh}
 use Rattle.rpc_cont.specs.declared.cont.Cont.{Cont}
 
--- nothing of the call is there yet
+-- nothing of the call is there yet, and no memory of one
 pub record IsBlank (cont : Cont (List ℕ)) : Type 0 where
   pub fresh : IsFresh cont
   pub buffer : cont.buffer ≡ None
   pub cancelled : cont.cancelled ≡ false
   pub steps : cont.steps ≡ 0
   pub done : cont.done ≡ false
+  pub objects : cont.objects ≡ []
+  -- the lists in these have memory of their own
+  pub places : cont.places.items ≡ []
 
 -- nothing is there of any of these, and there is room for one
 pub record HoldsBlanks (boxes : Vec (Box (Cont (List ℕ)))) : Type 0 where

@@ -3,9 +3,11 @@
 use Rattle.std.specs.Prelude.{◌≡◌, ℕ, ◌+◌, ◌<◌, ◌≤◌, ◌^◌, List, [], ◌∷◌, ◌++◌, length, Option, Some, Result, Ok, Err, IsSomeAnd, slice_get}
 use Rattle.std.specs.Option.{option_and_then, option_map}
 use Rattle.event_journal.specs.Journal.{copied_bytes}
+use Rattle.event_journal.specs.declared.event.Event.{Event}
 use Rattle.event_journal.specs.declared.event.Event.TheVariants.{Entry}
 use Rattle.kernel_model.specs.Application.{Booted}
 use Rattle.kernel_model.specs.Entry.{entry}
+use Rattle.kernel_model.specs.History.{kernel_after}
 use Rattle.kernel_model.specs.Kernel.{Kernel, Outside, Visit}
 use Rattle.ns_ram.specs.Reader.{over_lane}
 use Rattle.ns_ram.specs.Reads.{HoldsReads, total_bytes}
@@ -40,9 +42,12 @@ pub record IsAsBefore (old new : Core) : Type 0 where
 
 -- ---- an entry
 
--- the work is that of its processor's open entry: a bare fact, as the one that a core keeps
+-- after this history the work is that of its processor's open entry: a bare fact, as the one that a core keeps
+abbrev pub HasWorkAfter : Booted → List Event → Work → Type 0
+HasWorkAfter boot history work = ∥ IsSomeAnd (kernel_after boot history) (λ kernel. IsWorkOf kernel work) ∥₁
+
 abbrev pub HasWork : Core → Work → Type 0
-HasWork core work = ∥ IsSomeAnd (kernel_of core) (λ kernel. IsWorkOf kernel work) ∥₁
+HasWork core work = HasWorkAfter (booted_of core) (events_of core) work
 
 -- it has come in, and this is its work
 pub record HasEntered (old new : Core) (coming : Coming) (lane : List ℕ) (work : Work) : Type 0 where
@@ -62,11 +67,15 @@ pub record HasEntered (old new : Core) (coming : Coming) (lane : List ℕ) (work
 abbrev pub bytes_read : Booted → List ℕ → Visit → Kernel → Option ℕ
 bytes_read boot lane visit kernel = option_map (λ end. total_bytes end.1) (over_lane (entry boot kernel visit) lane [])
 
--- with the bytes that it would read there are more than 2^28
-pub record IsTooMuch (core : Core) (coming : Coming) (lane : List ℕ) (copied more : ℕ) : Type 0 where
-  pub so_far : copied ≡ copied_bytes (events_of core)
-  pub of_entry : option_and_then (bytes_read (booted_of core) lane (visit_of coming)) (kernel_of core) ≡ Some more
-  pub above : 2 ^ 28 < copied + more
+-- after this history, whose entries have read so many bytes, there are more than 2^28 with those that it would read
+pub record IsTooMuchAfter (boot : Booted) (history : List Event) (coming : Coming) (lane : List ℕ) (copied more : ℕ) : Type 0
+  where
+    pub so_far : copied ≡ copied_bytes history
+    pub of_entry : option_and_then (bytes_read boot lane (visit_of coming)) (kernel_after boot history) ≡ Some more
+    pub above : 2 ^ 28 < copied + more
+
+abbrev pub IsTooMuch : Core → Coming → List ℕ → ℕ → ℕ → Type 0
+IsTooMuch core coming lane copied more = IsTooMuchAfter (booted_of core) (events_of core) coming lane copied more
 
 -- ---- both
 

@@ -4,6 +4,7 @@ use Rattle.std.specs.List.{AllByRecursion}
 use Rattle.event_journal.specs.declared.event.Event.{Event}
 use Rattle.kernel_model.specs.Argument.{client_in, reg, thread_in}
 use Rattle.kernel_model.specs.Codes.{eresume, ethread_limit}
+use Rattle.kernel_model.specs.Application.{Booted}
 use Rattle.kernel_model.specs.Entry.{after_entry}
 use Rattle.kernel_model.specs.Exit.{exit}
 use Rattle.kernel_model.specs.History.{IsLater, IsLegal, Resumes, ResumesCall}
@@ -15,8 +16,8 @@ use Rattle.smc_abi.specs.Call.{call_of}
 use Rattle.smc_abi.specs.declared.answer.Answer.{Answer}
 use Rattle.smc_abi.specs.declared.call.Call.TheVariants.{Resume}
 use Rattle.smc_abi.specs.declared.regs.Regs.{Regs}
-use Rattle.kernel_state.specs.Entering.{CanEnter, Coming, HasEntered, HasWork, IsAsBefore, visit_of}
-use Rattle.kernel_state.specs.Leaving.{CanLeave, HasLeft}
+use Rattle.kernel_state.specs.Entering.{CanEnter, Coming, HasEntered, HasWork, HasWorkAfter, IsAsBefore, visit_of}
+use Rattle.kernel_state.specs.Leaving.{CanLeave, CanLeaveAfter, HasLeft}
 use Rattle.kernel_state.specs.Meaning.{booted_of, events_of, free_slots_in, kernel_of}
 use Rattle.kernel_state.specs.Work.{IsRanOf}
 use Rattle.kernel_state.specs.declared.carried.Carried.TheVariants.{Nothing}
@@ -87,6 +88,23 @@ pub record WorkStays : Type 0 where
   -- before its granted steps, and behind them
   pub work : (old new : Core) (work : Work) → ChangedByOthers old new work.cpu → HasWork old work → HasWork new work
   pub ran : (old new : Core) (ran : Ran) → ChangedByOthers old new ran.cpu → CanLeave old ran → CanLeave new ran
+
+-- a legal history, which goes on behind this beginning with the events of processors other than this one
+pub record GoesOnByOthers (boot : Booted) (before history : List Event) (cpu : ℕ) : Type 0 where
+  pub legal : IsLegal boot history
+  pub between : List Event
+  pub others : AllByRecursion (IsOfOther cpu) between
+  pub is : history ≡ before ++ between
+
+-- the same of histories: the work of a beginning is that of the whole
+pub record WorkStaysOnward : Type 0 where
+  pub work : (boot : Booted) (before history : List Event) (work : Work) → GoesOnByOthers boot before history work.cpu →
+      HasWorkAfter boot before work → HasWorkAfter boot history work
+  pub ran : (boot : Booted) (before history : List Event) (ran : Ran) → GoesOnByOthers boot before history ran.cpu →
+      CanLeaveAfter boot before ran → CanLeaveAfter boot history ran
+  -- with its granted steps done it can leave
+  pub has_run : (boot : Booted) (history : List Event) (work : Work) (ran : Ran) → HasWorkAfter boot history work →
+      IsRanOf work ran → CanLeaveAfter boot history ran
 
 -- the work of an entry, with its granted steps done, can leave, whatever others have done meanwhile
 pub record WorkCanLeave : Type 0 where

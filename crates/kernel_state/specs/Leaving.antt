@@ -1,18 +1,23 @@
 -- What an exit makes of a core and a lane: one event more, the definition's answer, and its writes alone.
 use Rattle.std.specs.Prelude.{◌≡◌, ℕ, List, [], ◌∷◌, ◌++◌, Some, IsSomeAnd}
+use Rattle.event_journal.specs.declared.event.Event.{Event}
 use Rattle.event_journal.specs.declared.event.Event.TheVariants.{Exit}
+use Rattle.kernel_model.specs.Application.{Booted}
 use Rattle.kernel_model.specs.Exit.{Exited}
-use Rattle.kernel_model.specs.History.{exit_after}
+use Rattle.kernel_model.specs.History.{exit_after, kernel_after}
 use Rattle.ns_ram.specs.Writes.{lane_after}
 use Rattle.smc_abi.specs.declared.regs.Regs.{Regs}
-use Rattle.kernel_state.specs.Meaning.{booted_of, events_of, kernel_of}
+use Rattle.kernel_state.specs.Meaning.{booted_of, events_of}
 use Rattle.kernel_state.specs.Work.{IsRanFor}
 use Rattle.kernel_state.specs.declared.kernel_core.Core.{Core}
 use Rattle.kernel_state.specs.declared.work.Ran.{Ran}
 
--- its processor is inside, and this is the work of its open entry with the granted steps done
+-- after this history its processor is inside, and this is the work of its open entry with the granted steps done
+abbrev pub CanLeaveAfter : Booted → List Event → Ran → Type 0
+CanLeaveAfter boot history ran = ∥ IsSomeAnd (kernel_after boot history) (λ kernel. IsRanFor kernel ran) ∥₁
+
 abbrev pub CanLeave : Core → Ran → Type 0
-CanLeave core ran = ∥ IsSomeAnd (kernel_of core) (λ kernel. IsRanFor kernel ran) ∥₁
+CanLeave core ran = CanLeaveAfter (booted_of core) (events_of core) ran
 
 -- it has gone out with these registers. The lane's bytes decide nothing of it
 pub record HasLeft (old new : Core) (ran : Ran) (lane now : List ℕ) (told : Regs) : Type 0 where

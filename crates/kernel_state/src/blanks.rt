@@ -93,12 +93,14 @@ fn blank(alloc: Global) -> Cont<Pages>
     )
 }
 
-/// Nothing of the call is left, and all memory of it but its box is free. What is large is touched only where it is there.
+/// Nothing of the call is left, and all memory of it but its box is free, that of the lists in its places among it. What is
+/// large is touched only where it is there.
 fn wipe(cont: &mut Cont<Pages>)
     ensures { IsBlank cont.new }
 {
     cont.point = None;
     cont.points.clear();
+    cont.places.clear();
     cont.objects.clear();
     cont.buffer = None;
     cont.cancelled = false;

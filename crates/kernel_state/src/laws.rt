@@ -1,5 +1,5 @@
 //! What the contracts of an entry and an exit say, over all cores.
-ghost use Rattle.kernel_state.specs.Laws.{AnswersComeExactly, FixedAnswersPass, JournalsStayLegal, ReturnsContinue, WorkCanLeave, WorkStays};
+ghost use Rattle.kernel_state.specs.Laws.{AnswersComeExactly, FixedAnswersPass, JournalsStayLegal, ReturnsContinue, WorkCanLeave, WorkStays, WorkStaysOnward};
 ghost use Rattle.kernel_state.specs.Placing.{EntriesStandAtTheirPlaces};
 
 /// The journal of each core is a legal history, and an entry and an exit make of its kernel what the kernel's own make.
@@ -10,6 +10,11 @@ pub fn journals_stay_legal()
 /// The entries and exits of other processors leave a processor's work its own.
 pub fn work_stays()
     ensures { WorkStays }
+{}
+
+/// Of a history, and one that goes on with the events of other processors: a processor's work stays its own.
+pub fn work_stays_onward()
+    ensures { WorkStaysOnward }
 {}
 
 /// The work of an entry, with its granted steps done, can leave.

@@ -13,6 +13,7 @@ mod carried;
 mod enter_refusal;
 mod kernel_core;
 mod laws;
+mod logging;
 mod parts;
 mod processor;
 mod reading;
@@ -31,11 +32,13 @@ pub use enter_refusal::EnterRefusal;
 pub use kernel_core::Core;
 pub use laws::{
     answers_come_exactly, entries_stand_at_their_places, fixed_answers_pass, journals_stay_legal,
-    returns_continue, work_can_leave, work_stays,
+    returns_continue, work_can_leave, work_stays, work_stays_onward,
 };
+pub use logging::CoreBasis;
 pub use parts::Parts;
 pub use processor::{Errand, Processor};
 pub use setup::{Application, Setup};
 pub use shared_app::SharedApp;
+pub use ta_isa::{App, Boot};
 pub use tables::Tables;
 pub use work::{Ran, Work};

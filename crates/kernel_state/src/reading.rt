@@ -3,6 +3,7 @@ ghost use Rattle.std.specs.List.{AllByRecursion};
 ghost use Rattle.std.specs.Option.{option_map};
 ghost use Rattle.event_journal.specs.Journal.{copied_bytes};
 ghost use Rattle.kernel_model.specs.History.{IsLegal};
+ghost use Rattle.kernel_model.specs.Turns.{ReadsRam};
 ghost use Rattle.kernel_state.specs.Meaning.{booted_of, events_of, kernel_of, free_slots_in, free_pages_in, is_inside};
 ghost use Rattle.kernel_state.specs.Reads.{ReadsAgree};
 
@@ -10,13 +11,15 @@ use crate::kernel_core::Core;
 use event_journal::Journal;
 
 impl Core {
-    #[tactic(auto, using(crate::proofs::Told::is_legal, crate::proofs::Told::few_bytes, crate::proofs::Told::reads_agree))]
-    /// All events so far.
+    #[tactic(auto, using(crate::proofs::Told::is_legal, crate::proofs::Told::few_bytes, crate::proofs::Told::reads_agree, crate::proofs::Told::reads_ram))]
+    /// All events so far: a legal history, whose entries have together read at most 2^28 bytes. Each read has some, all of them in
+    /// RAM, and those of one entry agree.
     pub fn journal(&self) -> &Journal
         ensures events { result.now.events ≡ events_of self.now }
         ensures legal { IsLegal (booted_of self.now) (events_of self.now) }
         ensures few { copied_bytes (events_of self.now) ≤ 2 ^ 28 }
         ensures agree { AllByRecursion ReadsAgree (events_of self.now) }
+        ensures in_ram { AllByRecursion ReadsRam (events_of self.now) }
     {
         &self.parts.journal
     }
