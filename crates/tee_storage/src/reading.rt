@@ -9,7 +9,7 @@ ghost use Rattle.tee_storage.specs.Transfers.{IsRead};
 
 use crate::handles::Handles;
 use crate::replies::is_whole;
-use crate::span::{Span, overwrite};
+use crate::span::Span;
 use crate::step::BAD_HANDLE;
 use crate::turn::Turn;
 use crate::waits::{Transfer, Waits};
@@ -56,7 +56,7 @@ pub(crate) fn piece_read<M: Span>(
     if !is_whole(reply, transfer.piece_len()) {
         return Turn::failing(TEE_ERROR_CORRUPT_OBJECT);
     }
-    overwrite(span, transfer.done, reply.bytes.bytes());
+    span.write(transfer.done, reply.bytes.bytes());
     next_piece(transfer.after_piece(), handles)
 }
 

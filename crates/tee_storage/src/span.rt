@@ -1,8 +1,7 @@
 //! The memory range that a call on an object names.
-ghost use Rattle.std.specs.Prelude.{◌≡◌, ℕ, ◌<◌, ◌≤◌, ◌+◌, ◌^◌, List, length, take, drop, slice_get, slice_set, Some};
+ghost use Rattle.std.specs.Prelude.{◌≡◌, ℕ, ◌<◌, ◌≤◌, ◌+◌, List, length, take, drop, slice_get, slice_set, Some};
 ghost use Rattle.base.specs.Bytes.{overwritten};
 
-use arrayvec::ArrayVec;
 use rpc_msgs::{MAX_PAYLOAD, Payload};
 
 /// The bytes of a memory range, of which the first stands at 0.
@@ -25,30 +24,27 @@ pub trait Span {
         requires { at < length (bytes self.old) }
         ensures bytes { bytes self.new ≡ slice_set (bytes self.old) at byte }
         ensures rest { rest self.new ≡ rest self.old };
+
+    /// Copies the bytes from a place on out, which are all there.
+    fn read(&self, at: u32, out: &mut [u8])
+        requires { at + length out.old ≤ length (bytes self.now) }
+        ensures { out.new ≡ take (length out.old) (drop at (bytes self.now)) };
+
+    /// Writes a part over the bytes from a place on, which are all there, and over no others.
+    fn write(&mut self, at: u32, part: &[u8])
+        requires { at + length part.now ≤ length (bytes self.old) }
+        ensures bytes { bytes self.new ≡ overwritten (bytes self.old) at part.now }
+        ensures rest { rest self.new ≡ rest self.old };
 }
 
 /// The bytes of a piece of the range.
 pub(crate) fn bytes_of<M: Span>(span: &M, start: u32, len: u32) -> Payload
     requires few { len ≤ 3584 }
     requires within { start + len ≤ length (M.bytes span.now) }
-    requires fits { start + len < 2 ^ 32 }
     ensures { result ≡ take len (drop start (M.bytes span.now)) }
 {
-    let mut bytes = ArrayVec::<u8, MAX_PAYLOAD>::new();
-    for place in 0..len {
-        bytes.push(span.get(start + place));
-    }
-    Payload::of(bytes.as_slice())
-}
-
-/// Writes bytes over the range from a place on.
-pub(crate) fn overwrite<M: Span>(span: &mut M, start: u32, bytes: &[u8])
-    requires within { start + length bytes.now ≤ length (M.bytes span.old) }
-    requires fits { start + length bytes.now < 2 ^ 32 }
-    ensures bytes { M.bytes span.new ≡ overwritten (M.bytes span.old) start bytes.now }
-    ensures rest { M.rest span.new ≡ M.rest span.old }
-{
-    for (number, byte) in bytes.iter().enumerate() {
-        span.set(start + number as u32, *byte);
-    }
+    let mut room = [0; MAX_PAYLOAD];
+    let bytes = &mut room[..len as usize];
+    span.read(start, bytes);
+    Payload::of(bytes)
 }
