@@ -1,0 +1,6 @@
+pub mod Act
+pub mod Seat
+pub mod Ordered
+pub mod Blocks
+pub mod Part
+pub mod Examples
