@@ -3,4 +3,5 @@ pub mod Seat
 pub mod Ordered
 pub mod Blocks
 pub mod Part
+pub mod Laws
 pub mod Examples

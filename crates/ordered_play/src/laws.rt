@@ -1,5 +1,16 @@
 //! What holds of the definitions themselves.
 ghost use Rattle.ordered_play.specs.Examples.{Examples};
+ghost use Rattle.ordered_play.specs.Laws.{PartsAreUnique, PartsStay};
+
+/// A processor has at most one part of a history: over the same RAM the same items end in the same standing.
+pub fn parts_are_unique()
+    ensures { PartsAreUnique }
+{}
+
+/// A processor's part depends on the history only up to its last event: it stays where events of others follow.
+pub fn parts_stay()
+    ensures { PartsStay }
+{}
 
 /// Plays of two processors in several orders, with what they print, and parts of their histories.
 pub fn worked_examples()

@@ -1,0 +1,59 @@
+-- A part stays where events of others follow on its history.
+use Rattle.std.proofs.Common.{ℕ, ◌≤◌, List, [], ◌∷◌, ◌∙◌, ap, arith, length}
+use Rattle.std.proofs.lemmas.List.{take-append-le}
+use Rattle.event_journal.specs.declared.event.Event.{Event}
+use Rattle.kernel_model.specs.History.{exit_after}
+use Rattle.ordered_play.proofs.Events.{next_stands, next_stays, none_stays}
+use Rattle.ordered_play.specs.Act.{Act, Comes, Leaves, Writes, Shows}
+use Rattle.ordered_play.specs.Laws.{PartsStay, longer}
+use Rattle.ordered_play.specs.Part.{AreActsOf, ComesIn, GoesOut, IsActOf, Share, Standing}
+use Rattle.trace_text.specs.declared.item.Reg.{Reg}
+
+module _ (of : Share) (more : List Event) where
+  coming_stays : (steps : ℕ) (regs : List Reg) (old new : Standing) → ComesIn of steps regs old new
+      → ComesIn (longer of more) steps regs old new
+  coming_stays steps regs old new comes = record {
+    at = comes.at;
+    reads = comes.reads;
+    next = next_stays of.cpu old.used of.history more comes.at _ comes.next;
+    holds = comes.holds;
+    stands = comes.stands;
+  }
+
+  going_stays : (old new : Standing) → GoesOut of old new → GoesOut (longer of more) old new
+  going_stays old new goes =
+      let there = next_stands of.cpu old.used of.history goes.at _ goes.next in
+      let within = there.within in
+      let inside : goes.at ≤ length of.history = omega (arith, within) in
+      record {
+        at = goes.at;
+        exited = goes.exited;
+        next = next_stays of.cpu old.used of.history more goes.at _ goes.next;
+        exits = ap (λ (h : List Event). exit_after of.boot h of.cpu) (take-append-le goes.at of.history more inside)
+            ∙ goes.exits;
+        stands = goes.stands;
+      }
+
+  act_stays : (act : Act) (old new : Standing) → IsActOf of act old new → IsActOf (longer of more) act old new
+  act_stays (Comes steps regs) old new is = coming_stays steps regs old new is
+  act_stays Leaves old new is = going_stays old new is
+  act_stays (Writes addr bytes) old new is = is
+  act_stays (Shows addr len) old new is = is
+
+  pub acts_stay : (done : List Act) (old new : Standing) → AreActsOf of done old new
+      → AreActsOf (longer of more) done old new
+  acts_stay [] old new are = are
+  acts_stay (act ∷ done) old new are = (are.0, act_stays act old are.0 are.1, acts_stay done are.0 new are.2)
+
+pub parts_stay : PartsStay
+parts_stay = record {
+  acts = acts_stay;
+  parts = λ of more items lane end others part. record {
+    done = part.done;
+    left = part.left;
+    cut = part.cut;
+    acts = acts_stay of more part.done _ end part.acts;
+    spent = none_stays of.cpu end.used of.history more others part.spent;
+    stops = part.stops;
+  };
+}
