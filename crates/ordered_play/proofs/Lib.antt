@@ -1,3 +1,4 @@
 pub mod Events
 pub mod Unique
 pub mod Longer
+pub mod ExampleParts

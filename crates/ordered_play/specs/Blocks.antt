@@ -1,11 +1,14 @@
 -- What is printed of a play in an order: a block for each processor. This project's own.
-use Rattle.std.specs.Prelude.{ℕ, ◌+◌, Bool, true, false, List, [], ◌∷◌, ◌++◌, codes}
+use Rattle.std.specs.Prelude.{ℕ, ◌+◌, Bool, true, false, List, [], ◌∷◌, ◌++◌, Option, Some, None, codes, if◌then◌else◌}
 use Rattle.std.specs.Fmt.{decimal}
-use Rattle.std.specs.List.{flat_map, list_all}
-use Rattle.std.specs.Option.{option_map_or}
+use Rattle.std.specs.List.{flat_map, list_all, list_any}
+use Rattle.std.specs.Option.{is_some, option_and_then, option_map_or}
+use Rattle.kernel_model.specs.Application.{Native}
 use Rattle.play_model.specs.Line.{mem_line, register_text}
+use Rattle.ta_isa.specs.declared.boot.Boot.{Boot}
+use Rattle.trace_text.specs.declared.trace.Trace.{Trace}
 use Rattle.ordered_play.specs.Act.{Act}
-use Rattle.ordered_play.specs.Ordered.{OrderedPlay}
+use Rattle.ordered_play.specs.Ordered.{OrderedPlay, played_in}
 use Rattle.ordered_play.specs.Seat.{PlacedLine, Refusal, Seat, Told, Shown}
 
 -- `ret CPU A0 .. A7 at ENTRY EXIT`, with the places in decimal
@@ -43,6 +46,23 @@ abbrev pub is_none : List Act → Bool
 is_none [] = true
 is_none (act ∷ acts) = false
 
+-- an entry of some processor was refused
+abbrev pub has_refused : OrderedPlay → Bool
+has_refused play = list_any (λ (seat : Seat). is_some seat.refused) play.seats
+
 -- no processor has anything more to do: each item was taken that doesn't stand behind a refused entry of its processor
 abbrev pub has_ended : OrderedPlay → Bool
 has_ended play = list_all (λ (seat : Seat). is_none seat.acts) play.seats
+
+-- what is printed of a play that has ended
+abbrev pub blocks_of_ended : OrderedPlay → Option (List ℕ)
+blocks_of_ended play = if has_ended play then Some (blocks_of play) else None
+
+-- what is printed of a trace with this boot, in an order that takes all its items; with no boot there is nothing to play
+abbrev pub blocks_by : List Native → Trace → List ℕ → Option Boot → Option (List ℕ)
+blocks_by natives trace order None = Some []
+blocks_by natives trace order (Some boot) = option_and_then blocks_of_ended (played_in natives boot trace order)
+
+-- the blocks of a trace beside built-in applications, in such an order
+abbrev pub blocks_in : List Native → Trace → List ℕ → Option (List ℕ)
+blocks_in natives trace order = blocks_by natives trace order trace.boot

@@ -1,7 +1,9 @@
 -- Plays of two processors in several orders, and what is printed of them.
-use Rattle.std.specs.Prelude.{◌≡◌, ℕ, List, [], ◌∷◌, ◌++◌, Option, Some, None, codes, map, replicate}
-use Rattle.std.specs.Prelude.{slice_get, if◌then◌else◌}
+use Rattle.std.specs.Prelude.{◌≡◌, ℕ, List, [], ◌∷◌, ◌++◌, Option, Some, None, codes, map, replicate, true, false}
+use Rattle.std.specs.Prelude.{slice_get}
 use Rattle.std.specs.Option.{option_and_then, option_map}
+use Rattle.event_journal.specs.declared.event.Event.{Event}
+use Rattle.event_journal.specs.declared.event.Event.TheVariants.{Entry, Exit}
 use Rattle.kernel_model.specs.Application.{booted}
 use Rattle.kernel_model.specs.Worked.{boot_with}
 use Rattle.play_model.specs.Examples.{adding, calls, enter, lines, open_fill, smc, tells_back, uid}
@@ -11,10 +13,11 @@ use Rattle.trace_text.specs.declared.item.Item.TheVariants.{Leave, Write, Show}
 use Rattle.trace_text.specs.declared.trace.Fill.{Fill}
 use Rattle.trace_text.specs.declared.trace.Trace.{Trace}
 use Rattle.ordered_play.specs.Act.{Comes, Leaves, Writes, Shows, acts_for}
-use Rattle.ordered_play.specs.Blocks.{blocks_of, full_line, has_ended, placed_ret_line}
+use Rattle.ordered_play.specs.Blocks.{blocks_in, blocks_of_ended, full_line, has_refused, placed_ret_line}
 use Rattle.ordered_play.specs.Ordered.{OrderedPlay, after_turn, after_turns, first_ordered, played_in_over, refused_seat}
 use Rattle.ordered_play.specs.Ordered.{with_seat}
-use Rattle.ordered_play.specs.Seat.{Seat}
+use Rattle.ordered_play.specs.Part.{IsPart, Share, Standing}
+use Rattle.ordered_play.specs.Seat.{Seat, Shown, Told}
 
 -- ---- scripts
 
@@ -38,9 +41,6 @@ abbrev pub play_in : Boot → List Fill → List Item → List ℕ → Option Or
 play_in boot fills items order = played_in_over (replicate 256 0) [] boot (trace_with boot fills items) order
 
 -- its blocks, where all items were taken
-abbrev pub blocks_of_ended : OrderedPlay → Option (List ℕ)
-blocks_of_ended play = if has_ended play then Some (blocks_of play) else None
-
 abbrev pub prints_in : Boot → List Fill → List Item → List ℕ → Option (List ℕ)
 prints_in boot fills items order = option_and_then blocks_of_ended (play_in boot fills items order)
 
@@ -61,6 +61,48 @@ first_refused =
     let play = first_ordered (replicate 256 0) (booted two_boot []) both_ask in
     option_map (λ (seat : Seat). with_seat 0 (refused_seat seat (record { copied = 268337088; more = 262304 })) play)
     (slice_get play.seats 0)
+
+-- ---- parts
+
+-- an entry that asks who the core is, and its exit
+abbrev pub asks_in : ℕ → Event
+asks_in cpu = Entry cpu (record { a = uid }) 1 []
+
+abbrev pub told_uid : List ℕ
+told_uid = 0x384fb3e0 ∷ 0xe7f811e3 ∷ 0xaf630002 ∷ 0xa5d5c51b ∷ replicate 4 0
+
+abbrev pub told_out : ℕ → Event
+told_out cpu = Exit cpu (record { a = told_uid })
+
+-- the second processor has asked once and is inside again, the first has asked once
+abbrev pub half_way : Share
+half_way = record {
+  boot = booted two_boot [];
+  cpu = 1;
+  history = asks_in 0 ∷ asks_in 1 ∷ told_out 1 ∷ told_out 0 ∷ asks_in 1 ∷ [];
+}
+
+-- the second processor asks three times, and shows a byte behind the first answer
+abbrev pub asks_and_shows : List Item
+asks_and_shows = asks_thrice 0 ++ smc 1 1 uid ∷ Show 1 0x40000000 1 ∷ smc 1 1 uid ∷ smc 1 1 uid ∷ []
+
+-- where it stands then: it has gone out once, and come in again
+abbrev pub half_standing : Standing
+half_standing = record {
+  used = 5;
+  seat = record {
+    acts = [];
+    lane = 7 ∷ 8 ∷ [];
+    answer = told_uid;
+    entry_at = 4;
+    lines = Told told_uid 1 2 ∷ Shown 0x40000000 (7 ∷ []) ∷ [];
+    refused = None;
+  };
+}
+
+-- a processor whose part this is, over two bytes of RAM
+abbrev pub IsHalfPart : List Item → Standing → Type 0
+IsHalfPart items standing = IsPart half_way items (7 ∷ 8 ∷ []) standing
 
 pub record Examples : Type 0 where
   -- an SMC is an entry and an exit, and another processor's items are no acts of this one
@@ -122,6 +164,15 @@ pub record Examples : Type 0 where
       ∷ codes "full 268337088 262304"
       ∷ codes "cpu 1"
       ∷ map (asked (codes "1")) (codes "0 1" ∷ codes "2 3" ∷ codes "4 5" ∷ []))
+  -- which shows in the play, and not where nothing was refused
+  pub refusal_shows : option_map has_refused first_refused ≡ Some true
+  pub none_shows : option_map has_refused (play_in two_boot [] both_ask.items (0 ∷ 1 ∷ [])) ≡ Some false
+  -- with no boot there is nothing to print
+  pub no_boot : blocks_in [] (record { boot = None; fills = []; items = [] }) [] ≡ Some []
+  -- a processor's part of a history: its exit and its two entries, and what it shows up to its next exit
+  pub part : IsHalfPart asks_and_shows half_standing
+  -- one that has another entry next has none
+  pub no_part : (standing : Standing) → IsHalfPart (smc 1 2 uid ∷ []) standing → ⊥
   -- a processor without items has its first line alone
   pub without_items : prints_in two_boot [] (smc 1 1 uid ∷ []) (1 ∷ 1 ∷ [])
       ≡ lines (codes "cpu 0" ∷ codes "cpu 1" ∷ asked (codes "1") (codes "0 1") ∷ [])

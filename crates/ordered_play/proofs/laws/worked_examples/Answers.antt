@@ -2,6 +2,7 @@ use Rattle.std.proofs.Common.{refl}
 use Rattle.base.specs.Zeros.{zeros}
 use Rattle.std.specs.Fmt.{digits}
 use Rattle.hex.proofs.OnLiterals.{hex_on_literals}
+use Rattle.ordered_play.proofs.ExampleParts.{no_part, part}
 use Rattle.ordered_play.proofs.laws.worked_examples.Goals as goal
 
 pub returns : goal.returns
@@ -21,5 +22,10 @@ returns c = record {
   one_thread_in_turn = refl;
   no_more = refl;
   others_go_on = refl;
+  refusal_shows = refl;
+  none_shows = refl;
+  no_boot = refl;
+  part = part;
+  no_part = no_part;
   without_items = refl;
 }
