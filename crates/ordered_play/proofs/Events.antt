@@ -1,9 +1,10 @@
 -- A processor's events in a history: where its next one stands, and that it stays where the history gets longer.
 use Rattle.std.proofs.Common.{◌≡◌, ℕ, ◌+◌, ◌-◌, ◌==◌, ◌<◌, ◌≤◌, Bool, true, false, List, [], ◌∷◌, ◌++◌, Some, None}
 use Rattle.std.proofs.Common.{refl, sym, ◌∙◌, ap, subst, arith, length, drop, length-drop, zero, suc, inl, inr}
+use Rattle.std.proofs.Common.{append_assoc, append-nil, length-append}
 use Rattle.std.specs.Prelude.{if◌then◌else◌, ◌⊎◌}
 use Rattle.std.specs.List.{AllByRecursion}
-use Rattle.std.proofs.Math.Seq.{drop-append-add}
+use Rattle.std.proofs.Math.Seq.{drop-append-add, drop-append_seam}
 use Rattle.std.proofs.lemmas.Bool.Decides.{nat_tests}
 use Rattle.std.proofs.lemmas.List.{drop-append-le}
 use Rattle.event_journal.specs.declared.event.Event.{Event}
@@ -132,3 +133,42 @@ none_stays cpu from history more others e = by (grind arith)
         ap (λ (n : ℕ). first_of cpu from (drop n (history ++ more))) (sym place)
         ∙ ap (first_of cpu from) (drop-append-add history more (from - length history))
         ∙ none_of_others cpu from _ (others_behind cpu from (from - length history) more others)
+
+-- ---- at a seam of the history
+
+pub next_from : (cpu : ℕ) (history before behind : List Event) → history ≡ before ++ behind
+    → next_event history cpu (length before) ≡ first_of cpu (length before) behind
+next_from cpu history before behind cut =
+    ap (λ (h : List Event). first_of cpu (length before) (drop (length before) h)) cut
+    ∙ ap (first_of cpu (length before)) (drop-append_seam before behind)
+
+-- behind the whole history there is none
+pub none_at_end : (cpu : ℕ) (history : List Event) → next_event history cpu (length history) ≡ None
+none_at_end cpu history = next_from cpu history history [] (sym (append-nil history))
+
+-- an event is its processor's next
+pub next_own : (history before behind : List Event) (event : Event) → history ≡ before ++ event ∷ behind
+    → next_event history (cpu_of_event event) (length before) ≡ Some (length before, event)
+next_own history before behind event cut =
+    let cpu = cpu_of_event event in
+    let own : (cpu == cpu) ≡ true = grind (arith, nat_tests) in
+    next_from cpu history before (event ∷ behind) cut
+    ∙ ap (λ (test : Bool). if test then Some (length before, event) else first_of cpu (length before + 1) behind) own
+
+pub one_longer : (before : List Event) (event : Event) → length (before ++ event ∷ []) ≡ length before + 1
+one_longer before event = length-append before (event ∷ [])
+
+pub cut_behind : (history before behind : List Event) (event : Event) → history ≡ before ++ event ∷ behind
+    → history ≡ (before ++ event ∷ []) ++ behind
+cut_behind history before behind event cut = cut ∙ sym (append_assoc before (event ∷ []) behind)
+
+-- and another processor's next one stands behind it
+pub next_other : (cpu : ℕ) (history before behind : List Event) (event : Event) → history ≡ before ++ event ∷ behind
+    → (cpu_of_event event ≡ cpu → ⊥)
+    → next_event history cpu (length before) ≡ next_event history cpu (length (before ++ event ∷ []))
+next_other cpu history before behind event cut apart =
+    let other : (cpu_of_event event == cpu) ≡ false = grind (arith, nat_tests) in
+    next_from cpu history before (event ∷ behind) cut
+    ∙ ap (λ (test : Bool). if test then Some (length before, event) else first_of cpu (length before + 1) behind) other
+    ∙ ap (λ (n : ℕ). first_of cpu n behind) (sym (one_longer before event))
+    ∙ sym (next_from cpu history (before ++ event ∷ []) behind (cut_behind history before behind event cut))

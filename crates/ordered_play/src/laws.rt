@@ -1,6 +1,6 @@
 //! What holds of the definitions themselves.
 ghost use Rattle.ordered_play.specs.Examples.{Examples};
-ghost use Rattle.ordered_play.specs.Laws.{PartsAreUnique, PartsStay};
+ghost use Rattle.ordered_play.specs.Laws.{PartsAreUnique, PartsMerge, PartsStay};
 
 /// A processor has at most one part of a history: over the same RAM the same items end in the same standing.
 pub fn parts_are_unique()
@@ -10,6 +10,13 @@ pub fn parts_are_unique()
 /// A processor's part depends on the history only up to its last event: it stays where events of others follow.
 pub fn parts_stay()
     ensures { PartsStay }
+{}
+
+/// Where each processor has its part of a legal history, whose entries have read at most 2^28 bytes, the play in the
+/// order of the history's events has this history, and for each processor what its part has come to: its RAM, its
+/// lines, and the acts that it leaves.
+pub fn parts_merge()
+    ensures { PartsMerge }
 {}
 
 /// Plays of two processors in several orders, with what they print, and parts of their histories.

@@ -8,4 +8,4 @@
 
 mod laws;
 
-pub use laws::{parts_are_unique, parts_stay, worked_examples};
+pub use laws::{parts_are_unique, parts_merge, parts_stay, worked_examples};
