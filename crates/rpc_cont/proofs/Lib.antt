@@ -1,5 +1,6 @@
 pub mod RangeWrites
 pub mod Spans
+pub mod SpanParts
 pub mod Returning
 pub mod Stopping
 pub mod Runs

@@ -144,10 +144,10 @@ written-one xs place count at byte e lt =
     ∙ sym (written-there xs place (set part at byte) there)
 
 -- the address of a byte of a span
-same_range : (addr count at : ℕ) → addr % 0x10000000 + count ≤ 0x10000000 → at < count → (addr + at) / 0x10000000 ≡ addr / 0x10000000
+pub same_range : (addr count at : ℕ) → addr % 0x10000000 + count ≤ 0x10000000 → at < count → (addr + at) / 0x10000000 ≡ addr / 0x10000000
 same_range addr count at fits lt = omega arith
 
-next_place : (addr count at : ℕ) → addr % 0x10000000 + count ≤ 0x10000000 → at < count → (addr + at) % 0x10000000 ≡ addr % 0x10000000 + at
+pub next_place : (addr count at : ℕ) → addr % 0x10000000 + count ≤ 0x10000000 → at < count → (addr + at) % 0x10000000 ≡ addr % 0x10000000 + at
 next_place addr count at fits lt = omega arith
 
 -- the byte that stands there

@@ -70,4 +70,16 @@ impl<M: TaMemory> Span for MachineSpan<M> {
     fn set(&mut self, at: u32, byte: u8) {
         self.machine.store(self.addr + at, byte);
     }
+
+    fn read(&self, at: u32, out: &mut [u8]) {
+        if !out.is_empty() {
+            self.machine.read(self.addr + at, out);
+        }
+    }
+
+    fn write(&mut self, at: u32, part: &[u8]) {
+        if !part.is_empty() {
+            self.machine.write(self.addr + at, part);
+        }
+    }
 }
