@@ -5,4 +5,7 @@ pub mod ExampleParts
 pub mod Ready
 pub mod Middle
 pub mod Turn
+pub mod Legal
+pub mod Midway
+pub mod Refused
 pub mod Merged

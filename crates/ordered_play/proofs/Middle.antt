@@ -5,7 +5,7 @@ use Rattle.event_journal.specs.declared.event.Event.{Event}
 use Rattle.ns_ram.specs.Lane.{bytes_at}
 use Rattle.ordered_play.proofs.Ready.{ready_stops}
 use Rattle.ordered_play.specs.Act.{Act, Comes, Leaves, Writes, Shows}
-use Rattle.ordered_play.specs.Laws.{seat_left}
+use Rattle.ordered_play.specs.Merge.{seat_left}
 use Rattle.ordered_play.specs.Part.{AreActsOf, ComesIn, GoesOut, IsSpent, Share, Standing, StopsAtEvent, next_event}
 use Rattle.ordered_play.specs.Seat.{Seat, Shown, ready_for, with_line, with_writes}
 use Rattle.trace_text.specs.declared.item.Reg.{Reg}

@@ -2,7 +2,7 @@
 use Rattle.std.proofs.Common.{◌≡◌, List, [], ◌∷◌, refl}
 use Rattle.ns_ram.specs.Lane.{bytes_at}
 use Rattle.ordered_play.specs.Act.{Act, Comes, Leaves, Writes, Shows}
-use Rattle.ordered_play.specs.Laws.{seat_left}
+use Rattle.ordered_play.specs.Merge.{seat_left}
 use Rattle.ordered_play.specs.Part.{StopsAtEvent}
 use Rattle.ordered_play.specs.Seat.{Seat, Shown, ready_for, with_line, with_writes}
 

@@ -1,5 +1,5 @@
 -- What a processor's turn makes of a play, where its next event is one that can follow.
-use Rattle.std.proofs.Common.{◌≡◌, ℕ, ◌+◌, ◌≤◌, Bool, false, List, [], ◌∷◌, ◌++◌, Option, Some, length}
+use Rattle.std.proofs.Common.{◌≡◌, ℕ, ◌+◌, ◌<◌, ◌≤◌, Bool, true, false, List, [], ◌∷◌, ◌++◌, Option, Some, length}
 use Rattle.std.proofs.Common.{◌∙◌, ap, arith}
 use Rattle.std.specs.Prelude.{◌^◌, nat_lt, if◌then◌else◌, slice_get}
 use Rattle.std.specs.Option.{option_and_then, option_map}
@@ -19,9 +19,9 @@ use Rattle.own_model.proofs.FixedAnswers as fixed
 use Rattle.play_model.specs.Play.{entry_event}
 use Rattle.ordered_play.proofs.Ready.{ready_anew}
 use Rattle.ordered_play.specs.Act.{Act, Comes, Leaves}
-use Rattle.ordered_play.specs.Laws.{seat_left}
+use Rattle.ordered_play.specs.Merge.{seat_left}
 use Rattle.ordered_play.specs.Ordered.{OrderedPlay, after_act, after_turn, enters_with, gone_seat, leaves_with}
-use Rattle.ordered_play.specs.Ordered.{refused_seat, visit_with, with_event, with_seat}
+use Rattle.ordered_play.specs.Ordered.{reads_of, refused_seat, visit_with, with_event, with_seat}
 use Rattle.ordered_play.specs.Seat.{Seat, ready_for}
 use Rattle.trace_text.specs.declared.item.Reg.{Reg}
 
@@ -46,6 +46,9 @@ comes_with boot play cpu seat event next came =
 not_above : (n : ℕ) → n ≤ 2 ^ 28 → nat_lt (2 ^ 28) n ≡ false
 not_above n few = grind (arith, nat_tests)
 
+above : (n : ℕ) → 2 ^ 28 < n → nat_lt (2 ^ 28) n ≡ true
+above n many = grind (arith, nat_tests)
+
 -- the events of an entry and of an exit
 abbrev pub entry_by : ℕ → Seat → ℕ → List Reg → List Read → Event
 entry_by cpu seat steps regs reads = entry_event (visit_with cpu seat steps regs) reads
@@ -68,7 +71,7 @@ module _ (boot : Booted) (play : OrderedPlay) (cpu : ℕ) (seat : Seat) (acts : 
       let over = (over_lane-reading (entry boot play.kernel visit) seat.lane reads next).1 (decided, holds) in
       let onward = record now { entry_at = length play.history } in
       turn_of boot play cpu now there
-      ∙ ap (λ (o : Option (Kernel × List Read)). option_and_then (λ end. with_reads end.1) o) over
+      ∙ ap (λ (o : Option (Kernel × List Read)). option_and_then with_reads (option_map (λ end. end.1) o)) over
       ∙ ap (λ (much : Bool). if much
       then Some (with_seat cpu (refused_seat now
       (record { copied = copied_bytes play.history; more = total_bytes reads })) play)
@@ -77,6 +80,26 @@ module _ (boot : Booted) (play : OrderedPlay) (cpu : ℕ) (seat : Seat) (acts : 
       ∙ comes_with boot play cpu (ready_for acts onward) event next came
       ∙ ap (λ (s : Seat). Some (moved_on play cpu s event next))
       (ready_anew acts (Comes steps regs ∷ acts) (record seat { entry_at = length play.history }))
+
+  -- one that would read too much is refused
+  pub refused_turn : (steps : ℕ) (regs : List Reg) (reads : List Read)
+      → slice_get play.seats cpu ≡ Some (seat_left seat (Comes steps regs ∷ acts))
+      → reads_of boot play.kernel seat (visit_with cpu seat steps regs) ≡ Some reads
+      → 2 ^ 28 < copied_bytes play.history + total_bytes reads
+      → after_turn boot cpu play
+      ≡ Some (with_seat cpu (refused_seat (seat_left seat (Comes steps regs ∷ acts))
+      (record { copied = copied_bytes play.history; more = total_bytes reads })) play)
+  refused_turn steps regs reads there would_read many =
+      let visit = visit_with cpu seat steps regs in
+      let now = seat_left seat (Comes steps regs ∷ acts) in
+      turn_of boot play cpu now there
+      ∙ ap (λ (o : Option (List Read)). option_and_then (enters_with boot play now acts visit) o) would_read
+      ∙ ap (λ (much : Bool). if much
+      then Some (with_seat cpu (refused_seat now
+      (record { copied = copied_bytes play.history; more = total_bytes reads })) play)
+      else with_event boot cpu (ready_for acts (record now { entry_at = length play.history }))
+      (entry_by cpu seat steps regs reads) play)
+      (above (copied_bytes play.history + total_bytes reads) many)
 
   pub exit_turn : (exited : Exited)
       → slice_get play.seats cpu ≡ Some (seat_left seat (Leaves ∷ acts))

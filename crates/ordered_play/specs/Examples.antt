@@ -1,6 +1,6 @@
 -- Plays of two processors in several orders, and what is printed of them.
 use Rattle.std.specs.Prelude.{◌≡◌, ℕ, List, [], ◌∷◌, ◌++◌, Option, Some, None, codes, map, replicate, true, false}
-use Rattle.std.specs.Prelude.{slice_get}
+use Rattle.std.specs.Prelude.{slice_get, ◌==◌, if◌then◌else◌}
 use Rattle.std.specs.Option.{option_and_then, option_map}
 use Rattle.event_journal.specs.declared.event.Event.{Event}
 use Rattle.event_journal.specs.declared.event.Event.TheVariants.{Entry, Exit}
@@ -14,6 +14,7 @@ use Rattle.trace_text.specs.declared.trace.Fill.{Fill}
 use Rattle.trace_text.specs.declared.trace.Trace.{Trace}
 use Rattle.ordered_play.specs.Act.{Comes, Leaves, Writes, Shows, acts_for}
 use Rattle.ordered_play.specs.Blocks.{blocks_in, blocks_of_ended, full_line, has_refused, placed_ret_line}
+use Rattle.ordered_play.specs.Merge.{order_with}
 use Rattle.ordered_play.specs.Ordered.{OrderedPlay, after_turn, after_turns, first_ordered, played_in_over, refused_seat}
 use Rattle.ordered_play.specs.Ordered.{with_seat}
 use Rattle.ordered_play.specs.Part.{IsPart, Share, Standing}
@@ -104,6 +105,10 @@ half_standing = record {
 abbrev pub IsHalfPart : List Item → Standing → Type 0
 IsHalfPart items standing = IsPart half_way items (7 ∷ 8 ∷ []) standing
 
+-- the places of two processors' refused entries
+abbrev pub at_places : Option ℕ → Option ℕ → ℕ → Option ℕ
+at_places first second cpu = if cpu == 0 then first else second
+
 pub record Examples : Type 0 where
   -- an SMC is an entry and an exit, and another processor's items are no acts of this one
   pub acts : acts_for 1 (smc 0 1 uid ∷ enter 1 7 [] ∷ Write 1 0x40000000 (9 ∷ []) ∷ Leave 1 ∷ Show 1 0x40000000 2 ∷ [])
@@ -173,6 +178,11 @@ pub record Examples : Type 0 where
   pub part : IsHalfPart asks_and_shows half_standing
   -- one that has another entry next has none
   pub no_part : (standing : Standing) → IsHalfPart (smc 1 2 uid ∷ []) standing → ⊥
+  -- refused entries in the order of a history: before the event at their place, behind all events, and two at one place
+  pub refused_before : order_with (at_places (Some 1) None) 2 0 (asks_in 1 ∷ told_out 1 ∷ []) ≡ 1 ∷ 0 ∷ 1 ∷ []
+  pub refused_behind : order_with (at_places (Some 2) None) 2 0 (asks_in 1 ∷ told_out 1 ∷ []) ≡ 1 ∷ 1 ∷ 0 ∷ []
+  pub both_refused : order_with (at_places (Some 2) (Some 2)) 2 0 (asks_in 1 ∷ told_out 1 ∷ []) ≡ 1 ∷ 1 ∷ 0 ∷ 1 ∷ []
+  pub none_refused : order_with (at_places None None) 2 0 (asks_in 1 ∷ told_out 1 ∷ []) ≡ 1 ∷ 1 ∷ []
   -- a processor without items has its first line alone
   pub without_items : prints_in two_boot [] (smc 1 1 uid ∷ []) (1 ∷ 1 ∷ [])
       ≡ lines (codes "cpu 0" ∷ codes "cpu 1" ∷ asked (codes "1") (codes "0 1") ∷ [])

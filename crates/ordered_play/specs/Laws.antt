@@ -1,18 +1,18 @@
 -- What holds of processors' parts of a history, and of plays in an order.
-use Rattle.std.specs.Prelude.{◌≡◌, ℕ, ◌^◌, ◌<◌, ◌≤◌, List, ◌++◌, Some, length, map, slice_get}
+use Rattle.std.specs.Prelude.{◌≡◌, ℕ, ◌^◌, Option, ◌<◌, ◌≤◌, List, ◌++◌, Some, map}
 use Rattle.std.specs.List.{AllByRecursion}
 use Rattle.event_journal.specs.Journal.{copied_bytes}
 use Rattle.event_journal.specs.declared.event.Event.{Event}
 use Rattle.kernel_model.specs.Application.{Booted}
-use Rattle.kernel_model.specs.History.{IsLegal, kernel_after}
+use Rattle.kernel_model.specs.History.{IsLegal}
 use Rattle.kernel_model.specs.Laws.{IsOfOther}
 use Rattle.play_model.specs.Play.{filled}
 use Rattle.trace_text.specs.declared.item.Item.{Item}
 use Rattle.trace_text.specs.declared.trace.Trace.{Trace}
 use Rattle.ordered_play.specs.Act.{Act}
+use Rattle.ordered_play.specs.Merge.{ComesTo, IsRefusedIf, Parts, order_with, seat_of, seat_with, share_of}
 use Rattle.ordered_play.specs.Ordered.{OrderedPlay, after_turns, first_ordered}
 use Rattle.ordered_play.specs.Part.{AreActsOf, IsPart, Share, Standing, cpu_of_event}
-use Rattle.ordered_play.specs.Seat.{Seat}
 
 -- ---- one processor
 
@@ -37,39 +37,23 @@ pub record PartsStay : Type 0 where
 
 -- ---- all processors
 
--- a processor of this boot, and this history
-abbrev pub share_of : Booted → List Event → ℕ → Share
-share_of boot history cpu = record { boot = boot; cpu = cpu; history = history }
-
--- a processor's part, and where it stands at its end
-pub record Part (of : Share) (items : List Item) (lane : List ℕ) : Type 0 where
-  pub end : Standing
-  pub is_part : IsPart of items lane end
-
--- each processor's part of a history, by the items of the trace and this RAM with its fills
-abbrev pub Parts : Booted → List ℕ → Trace → List Event → Type 0
-Parts boot ram trace history =
-    (cpu : ℕ) → cpu < boot.cpus → Part (share_of boot history cpu) trace.items (filled ram trace.fills)
-
--- what a part comes to, with the acts that it leaves still to come
-abbrev pub seat_left : Seat → List Act → Seat
-seat_left seat acts = record seat { acts = acts }
-
--- the play has this history, the kernel after it, and for each processor what its part has come to
-pub record IsMerged (boot : Booted) (ram : List ℕ) (trace : Trace) (events : List Event)
-    (parts : Parts boot ram trace events) (play : OrderedPlay) : Type 0 where
-  pub history : play.history ≡ events
-  pub kernel : kernel_after boot events ≡ Some play.kernel
-  pub count : length play.seats ≡ boot.cpus
-  pub seats : (cpu : ℕ) (below : cpu < boot.cpus) →
-      (let part = parts cpu below in
-      slice_get play.seats cpu ≡ Some (seat_left part.end.seat part.is_part.left))
-
 -- where each processor has its part of a legal history, whose entries have read at most 2^28 bytes, the play in the
 -- order of the history's events is merged of these parts
 abbrev pub PartsMerge : Type 0
 PartsMerge = (boot : Booted) (ram : List ℕ) (trace : Trace) (history : List Event)
-    (parts : Parts boot ram trace history) →
-    IsLegal boot history → copied_bytes history ≤ 2 ^ 28 →
+    (parts : Parts boot ram trace history) → IsLegal boot history → copied_bytes history ≤ 2 ^ 28 →
     (play : OrderedPlay) × (after_turns boot (map cpu_of_event history) (first_ordered ram boot trace) ≡ Some play)
-    × IsMerged boot ram trace history parts play
+    × ComesTo boot history (λ cpu below. seat_of (parts cpu below)) play
+
+-- and so it is with refused entries, each of which comes at a place behind its processor's last event
+abbrev pub RefusalsMerge : Type 0
+RefusalsMerge = (boot : Booted) (ram : List ℕ) (trace : Trace) (history : List Event)
+    (parts : Parts boot ram trace history) (places : ℕ → Option ℕ)
+    (refusals : (cpu : ℕ) (below : cpu < boot.cpus) →
+    IsRefusedIf (share_of boot history cpu) trace.items (filled ram trace.fills) (parts cpu below) (places cpu)) →
+    IsLegal boot history → copied_bytes history ≤ 2 ^ 28 →
+    (play : OrderedPlay)
+    × (after_turns boot (order_with places boot.cpus 0 history) (first_ordered ram boot trace) ≡ Some play)
+    × ComesTo boot history
+    (λ cpu below. seat_with (share_of boot history cpu) trace.items (filled ram trace.fills) (parts cpu below)
+    (places cpu) (refusals cpu below)) play

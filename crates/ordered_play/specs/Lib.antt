@@ -3,5 +3,6 @@ pub mod Seat
 pub mod Ordered
 pub mod Blocks
 pub mod Part
+pub mod Merge
 pub mod Laws
 pub mod Examples

@@ -71,11 +71,14 @@ enters_with boot play seat acts visit reads =
     else with_event boot visit.cpu (ready_for acts (record seat { entry_at = length play.history }))
     (entry_event visit reads) play
 
--- an entry reads its processor's RAM
+-- what an entry at this kernel reads of its processor's RAM
+abbrev pub reads_of : Booted → Kernel → Seat → Visit → Option (List Read)
+reads_of boot kernel seat visit = option_map (λ end. end.1) (over_lane (entry boot kernel visit) seat.lane [])
+
+-- an entry
 abbrev pub enters : Booted → OrderedPlay → Seat → List Act → Visit → Option OrderedPlay
 enters boot play seat acts visit =
-    option_and_then (λ end. enters_with boot play seat acts visit end.1)
-    (over_lane (entry boot play.kernel visit) seat.lane [])
+    option_and_then (enters_with boot play seat acts visit) (reads_of boot play.kernel seat visit)
 
 -- ---- an exit
 

@@ -1,6 +1,6 @@
 //! What holds of the definitions themselves.
 ghost use Rattle.ordered_play.specs.Examples.{Examples};
-ghost use Rattle.ordered_play.specs.Laws.{PartsAreUnique, PartsMerge, PartsStay};
+ghost use Rattle.ordered_play.specs.Laws.{PartsAreUnique, PartsMerge, PartsStay, RefusalsMerge};
 
 /// A processor has at most one part of a history: over the same RAM the same items end in the same standing.
 pub fn parts_are_unique()
@@ -17,6 +17,12 @@ pub fn parts_stay()
 /// lines, and the acts that it leaves.
 pub fn parts_merge()
     ensures { PartsMerge }
+{}
+
+/// The same with refused entries: each comes at a place behind its processor's last event, where the bytes read would
+/// have come to more than 2^28 with it, and its processor has come to its part with what was refused.
+pub fn refusals_merge()
+    ensures { RefusalsMerge }
 {}
 
 /// Plays of two processors in several orders, with what they print, and parts of their histories.

@@ -3,9 +3,10 @@
 //!
 //! The crate is one of definitions. `specs/` reads in the order of its modules: `Act` has what a trace has one processor
 //! do, `Seat` what a processor has come to, `Ordered` the play in an order of processors, `Blocks` what is printed of
-//! it, and `Part` a processor's part of a history.
+//! it, `Part` a processor's part of a history, `Merge` a history taken apart by its processors, and `Laws` what holds of
+//! parts and plays.
 #![tactic(auto)]
 
 mod laws;
 
-pub use laws::{parts_are_unique, parts_merge, parts_stay, worked_examples};
+pub use laws::{parts_are_unique, parts_merge, parts_stay, refusals_merge, worked_examples};

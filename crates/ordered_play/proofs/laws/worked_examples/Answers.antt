@@ -27,5 +27,9 @@ returns c = record {
   no_boot = refl;
   part = part;
   no_part = no_part;
+  refused_before = refl;
+  refused_behind = refl;
+  both_refused = refl;
+  none_refused = refl;
   without_items = refl;
 }
