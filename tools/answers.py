@@ -3,17 +3,18 @@
 
 TRACE is a trace as text, OUTPUT what `run` has printed for it; `-` is standard input. An answer is named by its code, by
 what it asks for, or, where a0 is part of the UUID or revision that was asked for, by the function. A result is counted at
-each `show` of the field ret of an argument, with its origin where that is shown too.
+each `show` of the field ret of an argument, with its origin where that is shown too. FOLDER has several traces, and OUTPUT
+is then what `rt try --cases FOLDER -- run` has printed.
 
 Status: 0, or 1 where the output isn't that of the trace, or is cut off; 2 at other words.
-usage: answers.py TRACE OUTPUT
+usage: answers.py TRACE OUTPUT | FOLDER OUTPUT
 """
 
 import collections
 import sys
 
 import plays
-from words import BadWords, run, text_of
+from words import BadWords, run
 
 
 def counted(entries):
@@ -31,7 +32,7 @@ def main(words):
     if len(words) != 2:
         raise BadWords()
     try:
-        print(counted(plays.lay_out(*map(text_of, words))), end="")
+        print(counted(plays.of_files(*words)), end="")
     except plays.Mismatch as mismatch:
         print(f"answers.py: {mismatch}", file=sys.stderr)
         return 1

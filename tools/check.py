@@ -1,17 +1,22 @@
 #!/usr/bin/env python3
-"""Runs the tools over all shipped examples and cases, and compares what they give with the shipped files and expected.py.
+"""Runs the tools over all shipped examples and cases, and compares what they give with what is wanted.
 
-It prints each thing that doesn't agree, and at the end how many were compared.
+That are the shipped files, expected.py, and, for the tables that the tools share, those of docs/formats.md. It prints each
+thing that doesn't agree, and at the end how many were compared.
 Status: 0 where all agree, 1 where something doesn't, 2 at words.
 usage: check.py
 """
 
+import pathlib
+import re
 import subprocess
 import sys
+import tempfile
 
 import annotate
 import answers
 import arg
+import documented
 import expected
 import formats
 import image
@@ -164,9 +169,29 @@ def check_examples(comparison):
         counts = [line.strip() for line in printed.splitlines() if line.startswith("  ")]
         wanted = expected.COUNTS.get(play.name, counts)
         comparison.same(f"answers.py {play.name}", (status, sorted(counts)), (0, sorted(wanted)))
+    check_folder(comparison)
+    said = [entry.note for entry in plays.lay_out(expected.TRACE, expected.OUTPUT) if entry.printed]
+    comparison.same("annotate.py at a play of calls that are refused", said, expected.OUTPUT_NOTES)
     for name in ("annotate.py", "answers.py"):
         status, printed, said = tool(name, files[0], "-", text="ret 0\n")
         comparison.same(f"{name} at another output", (status, printed, said.startswith(name)), (1, "", True))
+
+
+def check_folder(comparison):
+    """Several traces at once: the examples, and one that is refused."""
+    with tempfile.TemporaryDirectory() as folder:
+        all_plays = [*shipped.examples(), shipped.Play("refused", "boots\n", "bad trace 1 item\n", 3)]
+        for play in all_plays:
+            pathlib.Path(folder, play.name).write_text(play.trace, encoding="latin-1")
+        output = "".join(f"== {play.name}\n{play.output}" for play in all_plays)
+        status, printed, _ = tool("annotate.py", folder, "-", text=output)
+        laid = [f"== {play.name}\n{annotate.annotated(plays.lay_out(play.trace, play.output))}" for play in all_plays]
+        comparison.same("annotate.py at a folder", (status, printed), (0, "".join(laid)))
+        status, printed, _ = tool("answers.py", folder, "-", text=output)
+        rets = len(re.findall("^ret ", output, flags=re.MULTILINE))
+        comparison.same("answers.py at a folder", (status, printed.splitlines()[0]), (0, f"answers {rets}"))
+        status, *_ = tool("annotate.py", folder, "-", text=output.replace("== refused\nbad trace 1 item\n", ""))
+        comparison.same("annotate.py at a folder with a trace more", status, 1)
 
 
 def following(lines, line):
@@ -198,7 +223,25 @@ def check_words(comparison):
             comparison.same(f"{name} {words}", (status, printed, usage), (2, "", True))
 
 
-CHECKS = [check_arguments, check_images, check_faults, check_outputs, check_examples, check_scripts, check_words]
+def check_tables(comparison):
+    """The tables of formats.py are those of docs/formats.md."""
+    for name, table in documented.tables(shipped.read(shipped.ROOT / "docs/formats.md")).items():
+        given = getattr(formats, name)
+        if name == "FAULTS":
+            given = [kind for kind in given if kind != "asm"]
+        comparison.same(f"formats.py {name}", given, table)
+
+
+CHECKS = [
+    check_tables,
+    check_arguments,
+    check_images,
+    check_faults,
+    check_outputs,
+    check_examples,
+    check_scripts,
+    check_words,
+]
 
 
 def main(words):

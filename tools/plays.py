@@ -1,10 +1,12 @@
 """Lays what a play has printed beside its trace: which line an item printed, and what it says. It isn't run by itself."""
 
 import collections
+import pathlib
 import re
 
 import formats
 import messages
+from words import text_of
 
 # A line of the trace; what it printed, and what that says in words; the name of an answer; the result of a call, as
 # (result, origin), where the line shows one.
@@ -13,6 +15,21 @@ Entry = collections.namedtuple("Entry", "number text printed note answer result"
 
 class Mismatch(Exception):
     """Output that isn't that of the trace."""
+
+
+def of_files(trace, output):
+    """The entries of a trace and its output; or of a folder of traces, and what `rt try --cases` has printed for it."""
+    folder, printed = pathlib.Path(trace), text_of(output)
+    if not folder.is_dir():
+        return lay_out(text_of(trace), printed)
+    before, *cases = re.split("^== ", printed, flags=re.MULTILINE)
+    named = dict(case.split("\n", 1) for case in cases)
+    if before or set(named) != {file.name for file in folder.iterdir()}:
+        raise Mismatch(f"the output isn't a line `== NAME` and what was printed for each file of {trace}")
+    entries = []
+    for name, part in named.items():
+        entries += [Entry(0, f"== {name}"), *lay_out(text_of(folder / name), part)]
+    return entries
 
 
 def lay_out(trace, output):

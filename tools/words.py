@@ -57,6 +57,7 @@ def text_of(name):
 def run(main, doc):
     """Ends with the status of a tool's main, or, at words that it doesn't serve, with the usage line of doc, and 2."""
     signal.signal(signal.SIGPIPE, signal.SIG_DFL)
+    sys.stdout.reconfigure(encoding="latin-1")
     try:
         sys.exit(main(sys.argv[1:]))
     except BadWords as error:
