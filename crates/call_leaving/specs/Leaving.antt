@@ -1,5 +1,5 @@
 -- What a call as data goes out with.
-use Rattle.std.specs.Prelude.{ℕ, List, [], Option, Some, None}
+use Rattle.std.specs.Prelude.{ℕ, List, Option, Some, None}
 use Rattle.std.specs.Option.{option_and_then, option_map}
 use Rattle.call_leaving.specs.declared.leaving.Leaving.{Leaving}
 use Rattle.call_leaving.specs.declared.leaving.Leaving.TheVariants.{Interrupted, WantsBuffer, Requests, FreesBuffer, Finishes}

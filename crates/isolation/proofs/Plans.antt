@@ -55,7 +55,7 @@ some_both false came = refl
 settled_event_is : (session : ℕ) (c : NewCall) (settled : Settled)
     → IsEventOf session (taken_of c (plan.Settles settled)) (event_by c.head.func (plan.Settles settled))
 settled_event_is session c (settled.Call code) = none_both (0 == session) true
-settled_event_is session c (settled.Open app code) = none_both (0 == session) true
+settled_event_is session c (settled.Open app login code) = none_both (0 == session) true
 settled_event_is session c (settled.Invoke code) =
     some_both (c.head.session == session) (Some (event.Invoke c.head.func (input_by code)))
 

@@ -46,7 +46,7 @@ input_by code = if code == target_dead then input.Unread else input.Faulty
 -- what a new call of this function is for its session, by its plan
 abbrev pub event_by : ℕ → Plan → Option OwnEvent
 event_by func (plan.Settles (settled.Call code)) = None
-event_by func (plan.Settles (settled.Open app code)) = None
+event_by func (plan.Settles (settled.Open app login code)) = None
 event_by func (plan.Settles (settled.Invoke code)) = Some (event.Invoke func (input_by code))
 event_by func (plan.Opens app login copies) = Some (event.Open copies.params login)
 event_by func (plan.Invokes session app copies) = Some (event.Invoke func (input.Copied copies.params))
@@ -86,7 +86,7 @@ pub record IsNew (kernel : Kernel) (slot : ℕ) (call : PendingCall) (came : Opt
 abbrev pub seen_then : PendingCall → PendingCall → Option ℕ
 seen_then before now = if now.seen && not before.seen then Some before.steps else None
 
--- what it is given that had gone out so; one that was interrupted had asked for nothing
+-- what it is given that was left so; one that was interrupted had asked for nothing
 abbrev pub input_then : Leaving → Given → Option BackInput
 input_then Interrupted came = None
 input_then _ came = Some (input_of came)

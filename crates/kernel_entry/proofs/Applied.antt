@@ -25,7 +25,7 @@ pub settled_taken : (boot : Booted) (tables : Tables) (entered : Entered) (how :
     IsCall cont (settled_of (call_with boot (tables_of tables) entered) how).call →
     IsTaken None entered tables cont (settled_of (call_with boot (tables_of tables) entered) how)
 settled_taken boot tables entered (settled.Call code) cont is = record { tables = refl; call = is; cancel_id = refl; marked = refl; cancels = refl }
-settled_taken boot tables entered (settled.Open app code) cont is = record { tables = refl; call = is; cancel_id = refl; marked = refl; cancels = refl }
+settled_taken boot tables entered (settled.Open app login code) cont is = record { tables = refl; call = is; cancel_id = refl; marked = refl; cancels = refl }
 settled_taken boot tables entered (settled.Invoke code) cont is = record { tables = refl; call = is; cancel_id = refl; marked = refl; cancels = refl }
 
 -- what begins in a session, on the instance that is found there

@@ -11,5 +11,6 @@ pub mod Legal
 pub mod Opens
 pub mod Readying
 pub mod Replaying
+pub mod SettledCalls
 pub mod Sharing
 pub mod Standing

@@ -16,6 +16,7 @@ use Rattle.session_table.specs.Sessions.{has_room}
 use Rattle.session_table.specs.Waiters.{waits}
 use Rattle.session_table.specs.declared.session.Session.{Session}
 use Rattle.ta_params.specs.declared.copied_params.CopiedParams.{CopiedParams}
+use Rattle.ta_params.specs.declared.login.Login.{Login}
 use Rattle.begin_call.specs.Begins.{CanBegin, IsReady, IsReadyFor, IsValidApp, begun_from, new_number}
 use Rattle.kernel_state.specs.Calls.{IsAppOf, IsCall, IsInPhase}
 use Rattle.kernel_state.specs.Setup.{application_of}
@@ -26,6 +27,22 @@ use Rattle.new_calls.specs.Deciding.{call_with}
 use Rattle.new_calls.specs.declared.entered.Entered.{Entered}
 use Rattle.new_calls.specs.declared.plan.Plan.{Plan}
 use Rattle.new_calls.specs.declared.plan.Plan.TheVariants as plan
+
+-- ---- a call that is settled at its entry
+
+-- it was no open, as far as its tests had come
+abbrev pub IsNoOpen : model.SettledCall → Type 0
+IsNoOpen model.Untold = Unit {0}
+IsNoOpen (model.AnOpen login) = ⊥
+IsNoOpen (model.AnInvoke func) = Unit {0}
+IsNoOpen model.ACancel = Unit {0}
+
+-- where it was an open, it named this login
+abbrev pub HasItsLogin : Login → model.SettledCall → Type 0
+HasItsLogin login model.Untold = Unit {0}
+HasItsLogin login (model.AnOpen named) = login ≡ named
+HasItsLogin login (model.AnInvoke func) = Unit {0}
+HasItsLogin login model.ACancel = Unit {0}
 
 -- ---- a call that comes to an instance
 

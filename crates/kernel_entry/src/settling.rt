@@ -6,6 +6,7 @@ ghost use Rattle.kernel_model.specs.NewCall.{settled_call};
 ghost use Rattle.kernel_state.specs.Calls.{IsCall};
 ghost use Rattle.new_calls.specs.Deciding.{call_with, settled_of};
 ghost use Rattle.kernel_state.specs.Blanks.{IsBlank};
+ghost use Rattle.kernel_entry.specs.Applying.{HasItsLogin, IsNoOpen};
 
 use crate::filling::ends_as;
 use arrayvec::ArrayVec;
@@ -16,25 +17,36 @@ use rpc_cont::{CallEntry, Cont};
 use std::alloc::Global;
 use ta_params::{CallResult, Login};
 
-/// A call in this session that is settled with this result, which no application returned.
-pub(crate) fn settled_call(
-    alloc: Global,
-    cont: &mut Cont<Pages>,
-    entered: &Entered,
+/// What a call is settled with at its entry.
+#[derive(Drop)]
+struct Settling {
+    /// Its session, 0 where it has none.
     session: u32,
+    /// The login that an open's argument named.
+    login: Login,
     code: u32,
-)
+}
+
+/// A call that is settled with this, which no application returned.
+#[tactic(auto, using(crate::proofs::SettledCalls::login_named))]
+fn settled_with(alloc: Global, cont: &mut Cont<Pages>, entered: &Entered, settling: Settling)
     requires { IsBlank cont.old }
-    ensures { (boot : Booted) (tables : AnyTables) (settled : SettledCall) (uuid : Option (List ℕ)) → IsCall cont.new
-        (record (settled_call (call_with boot tables entered.now) code)
-        { settled = settled; uuid = uuid; session = session }) }
+    ensures { (boot : Booted) (tables : AnyTables) (settled : SettledCall) (uuid : Option (List ℕ))
+        → HasItsLogin settling.login settled → IsCall cont.new
+        (record (settled_call (call_with boot tables entered.now) settling.code)
+        { settled = settled; uuid = uuid; session = settling.session }) }
 {
+    let Settling {
+        session,
+        login,
+        code,
+    } = settling;
     ends_as(
         cont,
         CallEntry {
             client: entered.client,
             kind: CallKind::Settled,
-            login: Login::public(),
+            login,
             context: 0,
             params: None,
             arg: entered.arg,
@@ -46,6 +58,33 @@ pub(crate) fn settled_call(
     );
 }
 
+/// A call in this session, other than an open, that is settled with this result, which no application returned.
+pub(crate) fn settled_call(
+    alloc: Global,
+    cont: &mut Cont<Pages>,
+    entered: &Entered,
+    session: u32,
+    code: u32,
+)
+    requires { IsBlank cont.old }
+    ensures { (boot : Booted) (tables : AnyTables) (settled : SettledCall) (uuid : Option (List ℕ))
+        → IsNoOpen settled → IsCall cont.new
+        (record (settled_call (call_with boot tables entered.now) code)
+        { settled = settled; uuid = uuid; session = session }) }
+{
+    let login = Login::public();
+    settled_with(
+        alloc,
+        cont,
+        entered,
+        Settling {
+            session,
+            login,
+            code,
+        },
+    );
+}
+
 /// A call that a test has settled.
 pub(crate) fn settles(alloc: Global, cont: &mut Cont<Pages>, entered: &Entered, settled: &Settled)
     requires { IsBlank cont.old }
@@ -54,7 +93,14 @@ pub(crate) fn settles(alloc: Global, cont: &mut Cont<Pages>, entered: &Entered, 
 {
     match settled {
         Settled::Call(code) => settled_call(alloc, cont, entered, 0, *code),
-        Settled::Open(_, code) => settled_call(alloc, cont, entered, 0, *code),
+        Settled::Open(_, login, code) => {
+            let settling = Settling {
+                session: 0,
+                login: *login,
+                code: *code,
+            };
+            settled_with(alloc, cont, entered, settling);
+        }
         Settled::Invoke(code) => {
             settled_call(alloc, cont, entered, entered.head.session, *code);
         }

@@ -270,6 +270,7 @@ can_come boot history kernel cpu slot call cont None steps booted comes active o
       client = out.0.client;
       kind = out.0.kind;
       app = out.0.app;
+      login = out.0.login;
       arg = out.0.arg;
       places = out.0.places;
       session = out.0.session;

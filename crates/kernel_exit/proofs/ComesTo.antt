@@ -31,6 +31,7 @@ pub record Keeps (before after : Cont (List ℕ)) : Type 0 where
   pub client : after.client ≡ before.client
   pub kind : after.kind ≡ before.kind
   pub app : after.app ≡ before.app
+  pub login : after.login ≡ before.login
   pub arg : after.arg ≡ before.arg
   pub places : after.places ≡ before.places
   pub session : after.session ≡ before.session
@@ -45,6 +46,7 @@ still before after call steps phase keeps is did at = record {
   client = keeps.client ∙ is.client;
   kind = keeps.kind ∙ is.kind;
   app = subst (λ (app : Option ContApp). IsAppOf app call.uuid) (sym keeps.app) is.app;
+  login = λ login settled opens. keeps.login ∙ is.login login (sym keeps.kind ∙ settled) opens;
   arg = keeps.arg ∙ is.arg;
   places = ap (λ p. p.items) keeps.places ∙ is.places;
   session = keeps.session ∙ is.session;
@@ -61,6 +63,7 @@ kept_by_run steps before after why run = record {
   client = ap (λ (c : Cont (List ℕ)). c.client) run.stays;
   kind = ap (λ (c : Cont (List ℕ)). c.kind) run.stays;
   app = ap (λ (c : Cont (List ℕ)). c.app) run.stays;
+  login = ap (λ (c : Cont (List ℕ)). c.login) run.stays;
   arg = ap (λ (c : Cont (List ℕ)). c.arg) run.stays;
   places = ap (λ (c : Cont (List ℕ)). c.places) run.stays;
   session = ap (λ (c : Cont (List ℕ)). c.session) run.stays;
@@ -83,6 +86,7 @@ both one two three first second = record {
   client = second.client ∙ first.client;
   kind = second.kind ∙ first.kind;
   app = second.app ∙ first.app;
+  login = second.login ∙ first.login;
   arg = second.arg ∙ first.arg;
   places = second.places ∙ first.places;
   session = second.session ∙ first.session;
@@ -225,6 +229,7 @@ shows_by ran shown tables objects params is wakes = record {
     client = ap (λ (c : Cont (List ℕ)). c.client) is;
     kind = ap (λ (c : Cont (List ℕ)). c.kind) is;
     app = ap (λ (c : Cont (List ℕ)). c.app) is;
+    login = ap (λ (c : Cont (List ℕ)). c.login) is;
     arg = ap (λ (c : Cont (List ℕ)). c.arg) is;
     places = ap (λ (c : Cont (List ℕ)). c.places) is;
     session = ap (λ (c : Cont (List ℕ)). c.session) is;

@@ -177,12 +177,12 @@ module _ (c : NewCall) (good : HaveGoodPages c.tables.registered.buffers)
       passes_on (parameters c) _ parameters_asks (λ params.
       knows_on (opening params) (settles c bad_parameters) _ (λ wanted shape.
       knows_on (app_of c.boot wanted.uuid) (settles c item_not_found) _ (λ app found.
-      needs_on (not (shares_one c app (λ kept. kept.1.dead))) (settles_open c app target_dead) _ (λ alive.
-      needs_on (not (is_taken c app)) (settles_open c app busy) _ (λ free.
-      needs_on (has_session_room c) (settles_open c app out_of_memory) _ (λ room.
-      needs_on (has_pages c app) (settles_open c app out_of_memory) _ (λ pages.
-      passes_on (copied_params c wanted.params 2 (settles_open c app bad_parameters)) _
-      (copied_asks wanted.params 2 (settles_open c app bad_parameters))
+      needs_on (not (shares_one c app (λ kept. kept.1.dead))) (settles_open c app wanted.login target_dead) _ (λ alive.
+      needs_on (not (is_taken c app)) (settles_open c app wanted.login busy) _ (λ free.
+      needs_on (has_session_room c) (settles_open c app wanted.login out_of_memory) _ (λ room.
+      needs_on (has_pages c app) (settles_open c app wanted.login out_of_memory) _ (λ pages.
+      passes_on (copied_params c wanted.params 2 (settles_open c app wanted.login bad_parameters)) _
+      (copied_asks wanted.params 2 (settles_open c app wanted.login bad_parameters))
       (λ copies. asks_done (Ok (opens_or_waits c wanted app copies))))))))))
 
   invoke_asks : AsksRam (invoke_command c)

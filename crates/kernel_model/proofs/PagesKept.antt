@@ -29,7 +29,7 @@ HasPages kernel = HaveGoodPages kernel.tables.registered.buffers
 new_pages : (c : NewCall) → HaveGoodPages c.tables.registered.buffers → NewCases c KeepPages
 new_pages c pages = record {
   settles = λ code. pages;
-  settles_open = λ app code. pages;
+  settles_open = λ app login code. pages;
   settles_invoke = λ named code is. pages;
   cancels = λ named is. pages;
   registers = λ param listed new room good. All-insert HasGoodPages c.tables.registered.buffers param.s _ pages good;

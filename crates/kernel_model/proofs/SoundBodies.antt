@@ -91,7 +91,7 @@ module _ (So : OfBody) (before : Calls) (c : NewCall) (sound : Before before c.t
   new_bodies : NewCases c (λ taken. HoldsIn So taken.call.phase)
   new_bodies = record {
     settles = λ code. tt;
-    settles_open = λ app code. tt;
+    settles_open = λ app login code. tt;
     settles_invoke = λ named code is. tt;
     cancels = λ named is. tt;
     registers = λ param pages new room good. tt;

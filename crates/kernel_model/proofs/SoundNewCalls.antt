@@ -27,6 +27,7 @@ use Rattle.kernel_model.specs.NewCall.{NewCall, about_open, about_session, begin
 use Rattle.kernel_model.proofs.Copied.{AreCopied, AreGoodPages, Shows, copying_all, faultless-shows, invoked_room, known-shows, opening_room, params_counted, read-shows, shows-then, walk_pages}
 use Rattle.kernel_model.proofs.Parts.{AllOf, option_map_some}
 use Rattle.kernel_model.proofs.Tests.{Ends, Fails, TakenIn, answer_known, answer_need, answer_read, known-fails, known-then, need-by, reads-fails, taken_ends, test-then}
+use Rattle.ta_params.specs.declared.login.Login.{Login}
 
 -- a test, where its refusal needs nothing of it
 need-then : (P : Taken → Type 0) (test : Bool) (refusal : Taken) (onward : Unit {0} → Tested Taken)
@@ -64,7 +65,7 @@ IsCopied c copies = AreCopied c.tables.registered.buffers c.arg c.head.count cop
 -- it holds of each form
 pub record NewCases (c : NewCall) (P : Taken → Type 0) : Type 0 where
   pub settles : (code : ℕ) → P (settles c code)
-  pub settles_open : (app : Application) (code : ℕ) → P (settles_open c app code)
+  pub settles_open : (app : Application) (login : Login) (code : ℕ) → P (settles_open c app login code)
   pub settles_invoke : (named : Session × Instance) (code : ℕ) → named_session c ≡ Some named → P (settles_invoke c code)
   pub cancels : (named : Session × Instance) → named_session c ≡ Some named → P (cancels c)
   pub registers : (param : MsgParam) (pages : List ℕ) → is_none (get c.tables.registered.buffers param.s) ≡ true →
@@ -93,7 +94,7 @@ pub record NewCases (c : NewCall) (P : Taken → Type 0) : Type 0 where
 pub all_cases : (c : NewCall) (P : Taken → Type 0) → ((taken : Taken) → P taken) → NewCases c P
 all_cases c P all = record {
   settles = λ code. all _;
-  settles_open = λ app code. all _;
+  settles_open = λ app login code. all _;
   settles_invoke = λ named code is. all _;
   cancels = λ named is. all _;
   registers = λ param pages new room good. all _;
@@ -112,7 +113,7 @@ all_cases c P all = record {
 pub cases_onward : (c : NewCall) (P Q : Taken → Type 0) → ((taken : Taken) → P taken → Q taken) → NewCases c P → NewCases c Q
 cases_onward c P Q onward cases = record {
   settles = λ code. onward _ (cases.settles code);
-  settles_open = λ app code. onward _ (cases.settles_open app code);
+  settles_open = λ app login code. onward _ (cases.settles_open app login code);
   settles_invoke = λ named code is. onward _ (cases.settles_invoke named code is);
   cancels = λ named is. onward _ (cases.cancels named is);
   registers = λ param pages new room good. onward _ (cases.registers param pages new room good);
@@ -181,13 +182,13 @@ module _ (c : NewCall) (P : Taken → Type 0) (cases : NewCases c P) where
       shows-then P AreCounted (parameters c) _ parameters_show (λ params counted.
       known-then P (opening params) (settles c bad_parameters) _ (cases.settles bad_parameters) (λ wanted shape.
       known-then P (app_of c.boot wanted.uuid) (settles c item_not_found) _ (cases.settles item_not_found) (λ app is.
-      need-then P (not (shares_one c app (λ kept. kept.1.dead))) (settles_open c app target_dead) _ (cases.settles_open app target_dead) (λ alive.
-      need-then P (not (is_taken c app)) (settles_open c app busy) _ (cases.settles_open app busy) (λ free.
-      need-then P (has_session_room c) (settles_open c app out_of_memory) _ (cases.settles_open app out_of_memory) (λ room.
-      need-then P (has_pages c app) (settles_open c app out_of_memory) _ (cases.settles_open app out_of_memory) (λ pages.
-      shows-then P (IsCopied c) (copied_params c wanted.params 2 (settles_open c app bad_parameters)) _
-      (faultless-shows P (IsCopied c) (copying c.tables.registered.buffers wanted.params 2) (settles_open c app bad_parameters)
-      (cases.settles_open app bad_parameters)
+      need-then P (not (shares_one c app (λ kept. kept.1.dead))) (settles_open c app wanted.login target_dead) _ (cases.settles_open app wanted.login target_dead) (λ alive.
+      need-then P (not (is_taken c app)) (settles_open c app wanted.login busy) _ (cases.settles_open app wanted.login busy) (λ free.
+      need-then P (has_session_room c) (settles_open c app wanted.login out_of_memory) _ (cases.settles_open app wanted.login out_of_memory) (λ room.
+      need-then P (has_pages c app) (settles_open c app wanted.login out_of_memory) _ (cases.settles_open app wanted.login out_of_memory) (λ pages.
+      shows-then P (IsCopied c) (copied_params c wanted.params 2 (settles_open c app wanted.login bad_parameters)) _
+      (faultless-shows P (IsCopied c) (copying c.tables.registered.buffers wanted.params 2) (settles_open c app wanted.login bad_parameters)
+      (cases.settles_open app wanted.login bad_parameters)
       (copying_all c.tables.registered.buffers wanted.params 2 c.arg c.head.count
       (opening_room params wanted c.head.count shape counted)))
       (λ copies copied. opens_or_waits_all wanted app copies copied (record {

@@ -290,7 +290,7 @@ module _ (before : Calls) (c : NewCall) (sound : Before before c.tables) (free :
   pub new_fits : NewCases c (NewFits before c)
   new_fits = record {
     settles = λ code after changes. settled_fits after _ _ changes refl refl refl refl refl;
-    settles_open = λ app code after changes. settled_fits after _ _ changes refl refl refl refl refl;
+    settles_open = λ app login code after changes. settled_fits after _ _ changes refl refl refl refl refl;
     settles_invoke = λ named code is after changes. settled_fits after _ _ changes refl refl refl refl refl;
     cancels = λ named is after changes. settled_fits after _ _ changes refl refl refl refl refl;
     registers = λ param pages new room good after changes. settled_fits after _ _ changes refl refl refl refl refl;

@@ -324,7 +324,7 @@ module _ (c : NewCall) (numbers : AreIn c.tables) where
   new_numbers : NewCases c (NewNumbers c)
   new_numbers = record {
     settles = λ code. nothing_new _ refl refl refl (stay c.tables numbers);
-    settles_open = λ app code. nothing_new _ refl refl refl (stay c.tables numbers);
+    settles_open = λ app login code. nothing_new _ refl refl refl (stay c.tables numbers);
     settles_invoke = λ named code is. in_named _ named is refl refl refl refl;
     cancels = λ named is. in_named _ named is refl refl refl refl;
     registers = λ param pages new room good. nothing_new _ refl refl refl (same_numbers c.tables _ refl refl refl refl refl numbers);

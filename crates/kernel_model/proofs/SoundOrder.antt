@@ -110,7 +110,7 @@ first_room c room = first (nat_lt (length c.tables.sessions) 64) _ room
 new_order : (c : NewCall) → AreInOrder c.tables → NewCases c (λ taken. AreInOrder taken.tables)
 new_order c order = record {
   settles = λ code. order;
-  settles_open = λ app code. order;
+  settles_open = λ app login code. order;
   settles_invoke = λ named code is. order;
   cancels = λ named is. order;
   registers = λ param pages new room good.

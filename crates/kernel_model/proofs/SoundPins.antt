@@ -77,7 +77,7 @@ module _ (before : Calls) (c : NewCall) (all : PinsOf before c.tables.registered
   new_pins : NewCases c (NewPins before c)
   new_pins = record {
     settles = λ code after changes. same after _ changes;
-    settles_open = λ app code after changes. same after _ changes;
+    settles_open = λ app login code after changes. same after _ changes;
     settles_invoke = λ named code is after changes. same after _ changes;
     cancels = λ named is after changes. same after _ changes;
     registers = λ param pages new room good after changes. same after _ changes;

@@ -79,7 +79,7 @@ module _ (c : NewCall) (pages : HaveGoodPages c.tables.registered.buffers) (with
   new_places : NewCases c NewPlaces
   new_places = record {
     settles = λ code. (fresh _ refl head_inside tt, pages);
-    settles_open = λ app code. (fresh _ refl head_inside tt, pages);
+    settles_open = λ app login code. (fresh _ refl head_inside tt, pages);
     settles_invoke = λ named code is. (fresh _ refl head_inside tt, pages);
     cancels = λ named is. (fresh _ refl head_inside tt, pages);
     registers = λ param listed new room good.

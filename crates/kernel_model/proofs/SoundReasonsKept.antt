@@ -109,7 +109,7 @@ module _ (before : Calls) (c : NewCall) (sound : Before before c.tables) (order 
   new_reasons : NewCases c (NewReasons before c)
   new_reasons = record {
     settles = λ code after changes. rests after _ _ changes refl refl all_stay;
-    settles_open = λ app code after changes. rests after _ _ changes refl refl all_stay;
+    settles_open = λ app login code after changes. rests after _ _ changes refl refl all_stay;
     settles_invoke = λ named code is after changes. rests after _ _ changes refl refl all_stay;
     cancels = λ named is after changes. rests after _ _ changes refl refl all_stay;
     registers = λ param pages new room good after changes. rests after _ _ changes refl refl all_stay;

@@ -55,7 +55,7 @@ fit_change before after slot held changes all fits at =
 new_fit : (c : NewCall) → NewCases c (λ taken. FitsIn taken.call.phase)
 new_fit c = record {
   settles = λ code. tt;
-  settles_open = λ app code. tt;
+  settles_open = λ app login code. tt;
   settles_invoke = λ named code is. tt;
   cancels = λ named is. tt;
   registers = λ param pages new room good. tt;

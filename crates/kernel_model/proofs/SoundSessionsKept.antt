@@ -271,7 +271,7 @@ module _ (before : Calls) (c : NewCall) (sound : Before before c.tables) (free :
   new_spared : NewCases c (NewSpared before c)
   new_spared = record {
     settles = λ code after changes. rests after _ _ changes refl refl all_were;
-    settles_open = λ app code after changes. rests after _ _ changes refl refl all_were;
+    settles_open = λ app login code after changes. rests after _ _ changes refl refl all_were;
     settles_invoke = λ named code is after changes. rests after _ _ changes refl refl all_were;
     cancels = λ named is after changes. rests after _ _ changes refl refl all_were;
     registers = λ param pages new room good after changes. rests after _ _ changes refl refl all_were;

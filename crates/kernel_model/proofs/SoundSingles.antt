@@ -225,7 +225,7 @@ module _ (before : Calls) (c : NewCall) (sound : Before before c.tables) (free :
   new_one_each : NewCases c (NewOneEach before c)
   new_one_each = record {
     settles = λ code after changes. rests after _ _ changes refl refl;
-    settles_open = λ app code after changes. rests after _ _ changes refl refl;
+    settles_open = λ app login code after changes. rests after _ _ changes refl refl;
     settles_invoke = λ named code is after changes. rests after _ _ changes refl refl;
     cancels = λ named is after changes. rests after _ _ changes refl refl;
     registers = λ param pages new room good after changes. rests after _ _ changes refl refl;

@@ -149,7 +149,7 @@ moved_steps events kernel cpu now never sound = record {
 new_steps : (c : NewCall) → NewCases c (λ taken. taken.call.steps ≡ 0)
 new_steps c = record {
   settles = λ code. refl;
-  settles_open = λ app code. refl;
+  settles_open = λ app login code. refl;
   settles_invoke = λ named code is. refl;
   cancels = λ named is. refl;
   registers = λ param pages new room good. refl;

@@ -167,7 +167,7 @@ NewWaiters before c taken =
 new_waiters : (before : Calls) (c : NewCall) → AreWaiters before c.tables.waiters → before c.slot ≡ None → NewCases c (NewWaiters before c)
 new_waiters before c sound free = record {
   settles = λ code after changes. same after _ changes refl;
-  settles_open = λ app code after changes. same after _ changes refl;
+  settles_open = λ app login code after changes. same after _ changes refl;
   settles_invoke = λ named code is after changes. same after _ changes refl;
   cancels = λ named is after changes. same after _ changes refl;
   registers = λ param pages new room good after changes. same after _ changes refl;

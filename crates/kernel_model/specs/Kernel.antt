@@ -14,6 +14,7 @@ use Rattle.smc_abi.specs.declared.answer.Answer.{Answer}
 use Rattle.kernel_model.specs.Application.{Booted}
 use Rattle.ta_params.specs.declared.call_result.CallResult.{CallResult}
 use Rattle.ta_params.specs.declared.copied_params.CopiedParams.{CopiedParams}
+use Rattle.ta_params.specs.declared.login.Login.{Login}
 use Rattle.tee_storage.specs.declared.handle.Handle.{Handle}
 
 -- ---- calls
@@ -34,8 +35,8 @@ pub data CallPhase : Type 0 where
 pub data SettledCall : Type 0 where
   -- of no application and no session; or a call that isn't settled
   Untold : SettledCall
-  -- an open, of the call's application
-  AnOpen : SettledCall
+  -- an open with this login, of the call's application
+  AnOpen : (login : Login) → SettledCall
   -- an invoke of this function, in the call's session
   AnInvoke : (func : ℕ) → SettledCall
   -- a cancel, in the call's session

@@ -28,6 +28,7 @@ use Rattle.shm_registry.specs.declared.page_buffer.PageBuffer.{PageBuffer}
 use Rattle.shm_registry.specs.Pieces.{page_count}
 use Rattle.shm_registry.specs.Registered.{with_pin, lowest_slot}
 use Rattle.smc_abi.specs.declared.answer.Answer.{Answer}
+use Rattle.ta_params.specs.declared.login.Login.{Login}
 use Rattle.kernel_model.specs.Application.{Application, Booted, uuid_of}
 use Rattle.kernel_model.specs.Begin.{Beginner, Opener, has_pages_for, opens_kept, opens_made, begins_on, closing_points}
 use Rattle.kernel_model.specs.Argument.{argument_at, client_in, params_in, Opening, opening, invocation, registering}
@@ -75,9 +76,10 @@ fresh_call c phase = record {
 abbrev pub settled_call : NewCall → ℕ → PendingCall
 settled_call c code = fresh_call c (Ends (of_tee code) no_params false None)
 
--- the same, of an open of this application, and of an invoke and a cancel in the named session
-abbrev pub settled_open : NewCall → Application → ℕ → PendingCall
-settled_open c app code = record (settled_call c code) { settled = AnOpen; uuid = Some (uuid_of app) }
+-- the same, of an open of this application with this login, and of an invoke and a cancel in the named session
+abbrev pub settled_open : NewCall → Application → Login → ℕ → PendingCall
+settled_open c app login code =
+    record (settled_call c code) { settled = AnOpen login; uuid = Some (uuid_of app) }
 
 abbrev pub settled_invoke : NewCall → ℕ → PendingCall
 settled_invoke c code = record (settled_call c code) { settled = AnInvoke c.head.func; session = c.head.session }
@@ -119,9 +121,9 @@ takes_alone c call = takes c.tables call
 abbrev pub settles : NewCall → ℕ → Taken
 settles c code = takes_alone c (settled_call c code)
 
--- an open of this application, or an invoke in the named session, is
-abbrev pub settles_open : NewCall → Application → ℕ → Taken
-settles_open c app code = takes_alone c (settled_open c app code)
+-- an open of this application with this login, or an invoke in the named session, is
+abbrev pub settles_open : NewCall → Application → Login → ℕ → Taken
+settles_open c app login code = takes_alone c (settled_open c app login code)
 
 abbrev pub settles_invoke : NewCall → ℕ → Taken
 settles_invoke c code = takes_alone c (settled_invoke c code)
@@ -225,11 +227,11 @@ open_session c = do
   params ← parameters c  -- 4, the shape
   wanted ← known (opening params) (settles c bad_parameters)
   app ← known (app_of c.boot wanted.uuid) (settles c item_not_found)  -- 5, the application
-  need (not (shares_one c app (λ kept. kept.1.dead))) (settles_open c app target_dead)  -- 6, a dead instance
-  need (not (is_taken c app)) (settles_open c app busy)  -- 7, a session that has the instance alone
-  need (has_session_room c) (settles_open c app out_of_memory)  -- 8, shared limits
-  need (has_pages c app) (settles_open c app out_of_memory)
-  copies ← copied_params c wanted.params 2 (settles_open c app bad_parameters)  -- 9, copying
+  need (not (shares_one c app (λ kept. kept.1.dead))) (settles_open c app wanted.login target_dead)  -- 6, a dead instance
+  need (not (is_taken c app)) (settles_open c app wanted.login busy)  -- 7, a session that has the instance alone
+  need (has_session_room c) (settles_open c app wanted.login out_of_memory)  -- 8, shared limits
+  need (has_pages c app) (settles_open c app wanted.login out_of_memory)
+  copies ← copied_params c wanted.params 2 (settles_open c app wanted.login bad_parameters)  -- 9, copying
   passes (opens_or_waits c wanted app copies)  -- 10, a held instance
 
 -- ---- invoke and close: OPTEE_MSG_CMD_INVOKE_COMMAND, OPTEE_MSG_CMD_CLOSE_SESSION

@@ -29,6 +29,7 @@ is_call_with_mark marked cont call is = record {
   client = is.client;
   kind = is.kind;
   app = is.app;
+  login = is.login;
   arg = is.arg;
   places = is.places;
   session = is.session;

@@ -2,7 +2,8 @@
 use Rattle.std.specs.Prelude.{◌≡◌, ℕ, Bool, List, Option, Some, None, IsSome}
 use Rattle.std.specs.Option.{option_and_then}
 use Rattle.job_model.specs.Job.{of_tee}
-use Rattle.kernel_model.specs.Kernel.{CallPhase, Runs, Asks, Waits, Ends, PendingCall}
+use Rattle.job_model.specs.declared.call_kind.CallKind.TheVariants.{Settled}
+use Rattle.kernel_model.specs.Kernel.{AnOpen, CallPhase, Runs, Asks, Waits, Ends, PendingCall}
 use Rattle.rpc_cont.specs.Advancing.{CanAdvance}
 use Rattle.rpc_cont.specs.Answering.{CanBeAnswered}
 use Rattle.rpc_cont.specs.Beginning.{IsFresh}
@@ -15,6 +16,7 @@ use Rattle.rpc_msgs.specs.declared.rpc.Rpc.{Rpc}
 use Rattle.rpc_msgs.specs.declared.rpc.Rpc.TheVariants as rpc
 use Rattle.ta_params.specs.declared.call_result.CallResult.{CallResult}
 use Rattle.ta_params.specs.declared.copied_params.CopiedParams.{CopiedParams}
+use Rattle.ta_params.specs.declared.login.Login.{Login}
 
 -- a call over pages, which contracts see as their bytes
 abbrev pub bytes_of : List ℕ → List ℕ
@@ -61,11 +63,17 @@ abbrev pub IsAppOf : Option ContApp → Option (List ℕ) → Type 0
 IsAppOf None uuid = Unit {0}
 IsAppOf (Some app) uuid = uuid ≡ Some (uuid_of (Some app))
 
+-- where a test has settled it as an open, it has the login that its argument named
+abbrev pub KeepsLogin : Cont (List ℕ) → PendingCall → Type 0
+KeepsLogin cont call =
+    (login : Login) → cont.kind ≡ Settled → call.settled ≡ AnOpen login → cont.login ≡ login
+
 -- the call as data is the kernel's, but for what stands beside its slot
 pub record IsCall (cont : Cont (List ℕ)) (call : PendingCall) : Type 0 where
   pub client : cont.client ≡ call.client
   pub kind : cont.kind ≡ call.kind
   pub app : IsAppOf cont.app call.uuid
+  pub login : KeepsLogin cont call
   pub arg : cont.arg ≡ call.arg
   pub places : cont.places.items ≡ call.places
   pub session : cont.session ≡ call.session

@@ -38,11 +38,11 @@ open_few lane c names = (
   known_then lane (params_in c.head.count (param_bytes lane c)) (settles c bad_parameters) _ _ (λ params spelled.
       known_then lane (opening params) (settles c bad_parameters) _ _ (λ wanted shape.
       known_then lane (app_of c.boot wanted.uuid) (settles c item_not_found) _ _ (λ app is.
-      need_then lane (not (shares_one c app (λ kept. kept.1.dead))) (settles_open c app target_dead) _ _ (
-      need_then lane (not (is_taken c app)) (settles_open c app busy) _ _ (
-      need_then lane (has_session_room c) (settles_open c app out_of_memory) _ _ (
-      need_then lane (has_pages c app) (settles_open c app out_of_memory) _ _ (
-      faultless_then lane (copying c.tables.registered.buffers wanted.params 2) (settles_open c app bad_parameters) _ _
+      need_then lane (not (shares_one c app (λ kept. kept.1.dead))) (settles_open c app wanted.login target_dead) _ _ (
+      need_then lane (not (is_taken c app)) (settles_open c app wanted.login busy) _ _ (
+      need_then lane (has_session_room c) (settles_open c app wanted.login out_of_memory) _ _ (
+      need_then lane (has_pages c app) (settles_open c app wanted.login out_of_memory) _ _ (
+      faultless_then lane (copying c.tables.registered.buffers wanted.params 2) (settles_open c app wanted.login bad_parameters) _ _
       (subst (λ (params : List MsgParam). AtMost lane (copying c.tables.registered.buffers params 2) 0)
       (sym (names params wanted spelled shape)) tt)
       (λ copies. tt)))))))),

@@ -15,6 +15,7 @@ use Rattle.ns_ram.specs.declared.read.Read.{Read}
 use Rattle.ns_ram.specs.Reader.{over_lane}
 use Rattle.param_copy.specs.Copying.{Copies}
 use Rattle.session_table.specs.declared.session.Session.{Session}
+use Rattle.ta_params.specs.declared.login.Login.{Login}
 use Rattle.new_calls.specs.Deciding.{HaveSaid}
 use Rattle.new_calls.specs.Faults.{open_fault, register_fault}
 use Rattle.new_calls.proofs.Steps.{passed_on, refused_at}
@@ -122,26 +123,26 @@ register_passes c lane before between after param pages said fault walked =
 -- ---- open
 
 -- the tests on the application, by their outcomes, and the rest
-abbrev open_tests : NewCall → Application → Bool → Bool → Bool → Bool → Tested Taken → Tested Taken
-open_tests c app dead taken room pages rest = do
-  need (not dead) (settles_open c app target_dead)
-  need (not taken) (settles_open c app busy)
-  need room (settles_open c app out_of_memory)
-  need pages (settles_open c app out_of_memory)
+abbrev open_tests : NewCall → Application → Login → Bool → Bool → Bool → Bool → Tested Taken → Tested Taken
+open_tests c app login dead taken room pages rest = do
+  need (not dead) (settles_open c app login target_dead)
+  need (not taken) (settles_open c app login busy)
+  need room (settles_open c app login out_of_memory)
+  need pages (settles_open c app login out_of_memory)
   rest
 
 abbrev open_code : Bool → Bool → Bool → Bool → Option ℕ
 open_code dead taken room pages =
     if dead then Some target_dead else if taken then Some busy else if room && pages then None else Some out_of_memory
 
-open_stops : (c : NewCall) (app : Application) (dead taken room pages : Bool) (rest : Tested Taken) (lane : List ℕ) (reads : List Read) (code : ℕ) →
+open_stops : (c : NewCall) (app : Application) (login : Login) (dead taken room pages : Bool) (rest : Tested Taken) (lane : List ℕ) (reads : List Read) (code : ℕ) →
     open_code dead taken room pages ≡ Some code →
-    over_lane (open_tests c app dead taken room pages rest) lane reads ≡ Some (Err (settles_open c app code), reads)
-open_stops c app true taken room pages rest lane reads code is = cc
-open_stops c app false true room pages rest lane reads code is = cc
-open_stops c app false false false pages rest lane reads code is = cc
-open_stops c app false false true false rest lane reads code is = cc
-open_stops c app false false true true rest lane reads code is = cc
+    over_lane (open_tests c app login dead taken room pages rest) lane reads ≡ Some (Err (settles_open c app login code), reads)
+open_stops c app login true taken room pages rest lane reads code is = cc
+open_stops c app login false true room pages rest lane reads code is = cc
+open_stops c app login false false false pages rest lane reads code is = cc
+open_stops c app login false false true false rest lane reads code is = cc
+open_stops c app login false false true true rest lane reads code is = cc
 
 open_all : (dead taken room pages : Bool) → open_code dead taken room pages ≡ None →
     (dead ≡ false) × (taken ≡ false) × (room ≡ true) × (pages ≡ true)
@@ -164,28 +165,28 @@ open_unfound c lane before between wanted said app_is =
 
 pub open_refused : (c : NewCall) (lane : List ℕ) (before between : List Read) (wanted : Opening) (app : Application) (code : ℕ) →
     HaveSaid c opening wanted lane before between → app_of c.boot wanted.uuid ≡ Some app → open_fault c app ≡ Some code →
-    over_lane (open_session c) lane before ≡ Some (Err (settles_open c app code), between)
+    over_lane (open_session c) lane before ≡ Some (Err (settles_open c app wanted.login code), between)
 open_refused c lane before between wanted app code said app_is fault =
     passed_on (parameters c) _ lane before between said.0 said.1
     ∙ rw (said.2, app_is)
-    (open_stops c app (shares_one c app (λ kept. kept.1.dead)) (is_taken c app) (has_session_room c) (has_pages c app) _ lane between code fault)
+    (open_stops c app wanted.login (shares_one c app (λ kept. kept.1.dead)) (is_taken c app) (has_session_room c) (has_pages c app) _ lane between code fault)
 
 pub open_uncopied : (c : NewCall) (lane : List ℕ) (before between after : List Read) (wanted : Opening) (app : Application) (taken : Taken) →
     HaveSaid c opening wanted lane before between → app_of c.boot wanted.uuid ≡ Some app → open_fault c app ≡ None →
-    over_lane (copied_params c wanted.params 2 (settles_open c app bad_parameters)) lane between ≡ Some (Err taken, after) →
+    over_lane (copied_params c wanted.params 2 (settles_open c app wanted.login bad_parameters)) lane between ≡ Some (Err taken, after) →
     over_lane (open_session c) lane before ≡ Some (Err taken, after)
 open_uncopied c lane before between after wanted app taken said app_is fault uncopied =
     let allowed = open_allowed c app fault in
     passed_on (parameters c) _ lane before between said.0 said.1
     ∙ rw (said.2, app_is, allowed.0, allowed.1, allowed.2, allowed.3)
-    (refused_at (copied_params c wanted.params 2 (settles_open c app bad_parameters)) _ lane between after taken uncopied)
+    (refused_at (copied_params c wanted.params 2 (settles_open c app wanted.login bad_parameters)) _ lane between after taken uncopied)
 
 pub open_passes : (c : NewCall) (lane : List ℕ) (before between after : List Read) (wanted : Opening) (app : Application) (copies : Copies) →
     HaveSaid c opening wanted lane before between → app_of c.boot wanted.uuid ≡ Some app → open_fault c app ≡ None →
-    over_lane (copied_params c wanted.params 2 (settles_open c app bad_parameters)) lane between ≡ Some (Ok copies, after) →
+    over_lane (copied_params c wanted.params 2 (settles_open c app wanted.login bad_parameters)) lane between ≡ Some (Ok copies, after) →
     over_lane (open_session c) lane before ≡ Some (Ok (opens_or_waits c wanted app copies), after)
 open_passes c lane before between after wanted app copies said app_is fault copied =
     let allowed = open_allowed c app fault in
     passed_on (parameters c) _ lane before between said.0 said.1
     ∙ rw (said.2, app_is, allowed.0, allowed.1, allowed.2, allowed.3)
-    (passed_on (copied_params c wanted.params 2 (settles_open c app bad_parameters)) _ lane between after copies copied)
+    (passed_on (copied_params c wanted.params 2 (settles_open c app wanted.login bad_parameters)) _ lane between after copies copied)

@@ -50,7 +50,7 @@ call_of call = call_with (booted_with call.setup.now) (tables_of call.tables.now
 -- how it is settled, by a test that failed
 abbrev pub settled_of : model.NewCall → Settled → Taken
 settled_of c (settled.Call code) = settles c code
-settled_of c (settled.Open app code) = settles_open c (application_of app) code
+settled_of c (settled.Open app login code) = settles_open c (application_of app) login code
 settled_of c (settled.Invoke code) = settles_invoke c code
 
 -- what an open has asked for whose parameters were copied

@@ -1,13 +1,14 @@
 use base::NoMemory;
 use kernel_state::Application;
+use ta_params::Login;
 
 /// What a call is settled as, by a test that failed: with a result that no application returned.
 #[derive(Drop)]
 pub enum Settled {
     /// A call of no application and no session.
     Call(u32),
-    /// An open of this application.
-    Open(Application, u32),
+    /// An open of this application, with the login that its argument named.
+    Open(Application, Login, u32),
     /// An invoke in the named session.
     Invoke(u32),
 }

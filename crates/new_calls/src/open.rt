@@ -55,10 +55,11 @@ impl NewCall<'_> {
             return Err(Halt::Settled(Settled::Call(TEE_ERROR_ITEM_NOT_FOUND)));
         };
         if let Some(code) = self.open_fault(&app) {
-            return Err(Halt::Settled(Settled::Open(app, code)));
+            return Err(Halt::Settled(Settled::Open(app, wanted.login, code)));
         }
         let Some(copies) = self.copied_params(alloc, lane, wanted.params, 2, reads)? else {
-            return Err(Halt::Settled(Settled::Open(app, TEE_ERROR_BAD_PARAMETERS)));
+            let login = wanted.login;
+            return Err(Halt::Settled(Settled::Open(app, login, TEE_ERROR_BAD_PARAMETERS)));
         };
         Ok(Plan::Opens {
             app,

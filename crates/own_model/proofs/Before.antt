@@ -144,7 +144,7 @@ endings_early : (session : ℕ) (slots : List ThreadSlot) (c : NewCall) → Earl
     → OfAllEndings (Coming c.boot session slots c.slot c.tables) c
 endings_early session slots c early = record {
   settled = λ code. untold session slots c (settles c code) early refl refl;
-  settled_open = λ of code. untold session slots c (settles_open c of code) early refl refl;
+  settled_open = λ of login code. untold session slots c (settles_open c of login code) early refl refl;
   opened = λ wanted of copies is.
       let opened = begins_one session slots c wanted of copies early is (c.tables.next_session == session) refl in
       map_or-both (Coming c.boot session slots c.slot c.tables) _ (shared_by c of) (opens c wanted of copies)

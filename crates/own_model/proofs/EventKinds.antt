@@ -81,7 +81,7 @@ decision_for boot kernel regs WithArg is =
     (for_new kernel regs is)
     (call_decides Anything boot kernel regs (lowest_free kernel.slots) refl (λ slot free bytes. record {
       settled = λ code. tt;
-      settled_open = λ of code. tt;
+      settled_open = λ of login code. tt;
       opened = λ wanted of copies named. tt;
       dead = λ named there dead. tt;
       faulty = λ named there alive. tt;

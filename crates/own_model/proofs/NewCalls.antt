@@ -28,13 +28,14 @@ use Rattle.kernel_model.proofs.Parts.{AllOf, option_map_some}
 use Rattle.kernel_model.proofs.Tests.{Ends, Fails, TakenIn, answer_known, answer_need, answer_read, faultless-fails}
 use Rattle.kernel_model.proofs.Tests.{known-fails, known-then, need-by, need-then, reads-fails, taken_ends, test-then}
 use Rattle.own_model.proofs.Lookups.{find-all}
+use Rattle.ta_params.specs.declared.login.Login.{Login}
 
 -- ---- commands
 
 -- it holds of what a slot is taken for, whichever test of a command fails, and where none does
 pub record OfAllEndings (P : Taken → Type 0) (c : NewCall) : Type 0 where
   pub settled : (code : ℕ) → P (settles c code)
-  pub settled_open : (of : Application) (code : ℕ) → P (settles_open c of code)
+  pub settled_open : (of : Application) (login : Login) (code : ℕ) → P (settles_open c of login code)
   pub opened : (wanted : Opening) (of : Application) (copies : Copies) → app_of c.boot wanted.uuid ≡ Some of
       → P (opens_or_waits c wanted of copies)
   pub dead : (named : Session × Instance) → named_session c ≡ Some named → named.1.dead ≡ true
@@ -57,14 +58,14 @@ open_ends P c all =
     test-then P (parameters c) _ (parameters_fails P c all) (λ params.
     known-then P (opening params) (settles c bad_parameters) _ (all.settled bad_parameters) (λ wanted shape.
     known-then P (app_of c.boot wanted.uuid) (settles c item_not_found) _ (all.settled item_not_found) (λ of is.
-    need-then P (not (shares_one c of (λ kept. kept.1.dead))) (settles_open c of target_dead) _
-    (all.settled_open of target_dead) (
-    need-then P (not (is_taken c of)) (settles_open c of busy) _ (all.settled_open of busy) (
-    need-then P (has_session_room c) (settles_open c of out_of_memory) _ (all.settled_open of out_of_memory) (
-    need-then P (has_pages c of) (settles_open c of out_of_memory) _ (all.settled_open of out_of_memory) (
-    test-then P (copied_params c wanted.params 2 (settles_open c of bad_parameters)) _
-    (faultless-fails P (copying c.tables.registered.buffers wanted.params 2) (settles_open c of bad_parameters)
-    (all.settled_open of bad_parameters))
+    need-then P (not (shares_one c of (λ kept. kept.1.dead))) (settles_open c of wanted.login target_dead) _
+    (all.settled_open of wanted.login target_dead) (
+    need-then P (not (is_taken c of)) (settles_open c of wanted.login busy) _ (all.settled_open of wanted.login busy) (
+    need-then P (has_session_room c) (settles_open c of wanted.login out_of_memory) _ (all.settled_open of wanted.login out_of_memory) (
+    need-then P (has_pages c of) (settles_open c of wanted.login out_of_memory) _ (all.settled_open of wanted.login out_of_memory) (
+    test-then P (copied_params c wanted.params 2 (settles_open c of wanted.login bad_parameters)) _
+    (faultless-fails P (copying c.tables.registered.buffers wanted.params 2) (settles_open c of wanted.login bad_parameters)
+    (all.settled_open of wanted.login bad_parameters))
     (λ copies. all.opened wanted of copies is))))))))
 
 is_dead : (dead : Bool) → not dead ≡ false → dead ≡ true

@@ -39,6 +39,7 @@ use Rattle.own_model.proofs.OtherSessions.{AreOnly, other_put}
 use Rattle.own_model.specs.Own.{event_of}
 use Rattle.own_model.specs.declared.own_event.OwnEvent.{OwnEvent}
 use Rattle.own_model.specs.Tied.{AreGiven, AreOf, IsOther, Whose, waiting_for}
+use Rattle.ta_params.specs.declared.login.Login.{Login}
 
 -- a new call beside a session of this application that is tied: what is known of its tables
 pub record Beside (app : Application) (whose : Whose) (c : NewCall) : Type 0 where
@@ -89,10 +90,10 @@ settles_other : (app : Application) (whose : Whose) (c : NewCall) (code : ℕ) �
 settles_other app whose c code b =
     λ none. record { other = nobodys app whose c _ b refl refl; kept = nothing_changed app whose c b }
 
-settles_open_other : (app : Application) (whose : Whose) (c : NewCall) (of : Application) (code : ℕ)
+settles_open_other : (app : Application) (whose : Whose) (c : NewCall) (of : Application) (login : Login) (code : ℕ)
     → Beside app whose c
-    → IfUnnoted whose c (settles_open c of code)
-settles_open_other app whose c of code b =
+    → IfUnnoted whose c (settles_open c of login code)
+settles_open_other app whose c of login code b =
     λ none. record { other = nobodys app whose c _ b refl refl; kept = nothing_changed app whose c b }
 
 -- a call whose event isn't noted, though it would be one, is of another session
@@ -412,7 +413,7 @@ pub endings_other : (app : Application) (whose : Whose) (c : NewCall) → Beside
     → OfAllEndings (IfUnnoted whose c) c
 endings_other app whose c b = record {
   settled = λ code. settles_other app whose c code b;
-  settled_open = λ of code. settles_open_other app whose c of code b;
+  settled_open = λ of login code. settles_open_other app whose c of login code b;
   opened = λ wanted of copies is none. opens_or_waits_other app whose c wanted of copies b is;
   dead = λ named is dead. settles_invoke_other app whose c target_dead b;
   faulty = λ named is alive. settles_invoke_other app whose c bad_parameters b;

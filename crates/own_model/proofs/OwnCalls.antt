@@ -551,7 +551,7 @@ pub endings_own : (app : Application) (most : ℕ) (whose : Whose) (slots : List
     → OfAllEndings (IfNoted app most whose slots z c.slot c.tables) c
 endings_own app most whose slots z c w = record {
   settled = λ code. untold_own app most whose slots z c (new.settles c code) refl;
-  settled_open = λ of code. untold_own app most whose slots z c (settles_open c of code) refl;
+  settled_open = λ of login code. untold_own app most whose slots z c (settles_open c of login code) refl;
   opened = λ wanted of copies is.
       map_or-both (IfNoted app most whose slots z c.slot c.tables) _ (shared_by c of) (opens c wanted of copies)
       (λ kept. if-both (IfNoted app most whose slots z c.slot c.tables) (is_held kept.1)

@@ -67,7 +67,7 @@ never_opens : (session : ℕ) (c : NewCall) → session < c.tables.next_session
     → OfAllEndings (λ (taken : Taken). KeepsNamed session taken.call) c
 never_opens session c given = record {
   settled = λ code. untold session (new.settles c code).call refl;
-  settled_open = λ of code. untold session (settles_open c of code).call refl;
+  settled_open = λ of login code. untold session (settles_open c of login code).call refl;
   opened = λ wanted of copies is.
       map_or-both (λ (taken : Taken). KeepsNamed session taken.call) _ (shared_by c of) (opens c wanted of copies)
       (λ kept. if-both (λ (taken : Taken). KeepsNamed session taken.call) (is_held kept.1)

@@ -80,7 +80,7 @@ input_settled result = if result.result == target_dead then Unread else Faulty
 -- the event of a call that was settled with this result
 abbrev pub settled_event : SettledCall → CallResult → Option OwnEvent
 settled_event Untold result = None
-settled_event AnOpen result = None
+settled_event (AnOpen login) result = None
 settled_event (AnInvoke func) result = Some (Invoke func (input_settled result))
 settled_event ACancel result = Some Cancel
 
@@ -133,7 +133,7 @@ input_of (given.Buffer buffer) = back.Buffer
 input_of given.NoBuffer = back.NoBuffer
 input_of (given.Reply answer) = back.Reply answer
 
--- a call that had gone out so is given this; one that was interrupted had asked for nothing
+-- a call that was left so is given this; one that was interrupted had asked for nothing
 abbrev pub back_noted : Notes → ℕ → Leaving → Given → Notes
 back_noted notes number Interrupted came = notes
 back_noted notes number _ came = with_event notes (Back number (input_of came))

@@ -158,6 +158,15 @@ ends_in r params session kind.Settled found other none = refl
 pub invoke_not_open : (of_kind : CallKind) (func : ℕ) → of_kind ≡ kind.Invoke func → of_kind ≡ kind.Open → ⊥
 invoke_not_open of_kind func invokes opens = absurd cc
 
+pub open_unsettled : (of_kind : CallKind) → of_kind ≡ kind.Open → of_kind ≡ kind.Settled → ⊥
+open_unsettled of_kind opens settled = absurd cc
+
+pub invoke_unsettled : (of_kind : CallKind) (func : ℕ) → of_kind ≡ kind.Invoke func → of_kind ≡ kind.Settled → ⊥
+invoke_unsettled of_kind func invokes settled = absurd cc
+
+pub close_unsettled : (of_kind : CallKind) → of_kind ≡ kind.Close → of_kind ≡ kind.Settled → ⊥
+close_unsettled of_kind closes settled = absurd cc
+
 pub close_not_open : (of_kind : CallKind) → of_kind ≡ kind.Close → of_kind ≡ kind.Open → ⊥
 close_not_open of_kind closes opens = absurd cc
 
@@ -180,14 +189,16 @@ settled left tables cont after slot session found boot is ends given call params
 -- ---- what has begun
 
 begun_call : (left : Tables) (cont after : Cont (List ℕ)) (r : Resumed) (params : CopiedParams) (uuid : List ℕ) (came begun : Begun) →
+    (cont.kind ≡ kind.Settled → ⊥) →
     HasBegun left cont after uuid came → came.tables ≡ without_waiter begun.tables r.slot → came.job ≡ begun.job → came.instance ≡ cont.instance →
     IsWaitingCall cont r.call params → r.call.uuid ≡ Some uuid → HasCome (tables_of left) after (begins r begun)
-begun_call left cont after r params uuid came begun has tables job instance waits its = record {
+begun_call left cont after r params uuid came begun unsettled has tables job instance waits its = record {
   tables = has.tables ∙ tables;
   call = record {
     client = ap (λ (one : Cont (List ℕ)). one.client) has.stays ∙ waits.is.client;
     kind = ap (λ (one : Cont (List ℕ)). one.kind) has.stays ∙ waits.is.kind;
     app = subst (IsAppOf after.app) (sym its) has.app;
+    login = λ login settled opens. absurd (unsettled (sym (ap (λ (one : Cont (List ℕ)). one.kind) has.stays) ∙ settled));
     arg = ap (λ (one : Cont (List ℕ)). one.arg) has.stays ∙ waits.is.arg;
     places = ap (λ (one : Cont (List ℕ)). one.places.items) has.stays ∙ waits.is.places;
     session = ap (λ (one : Cont (List ℕ)). one.session) has.stays ∙ waits.is.session;
@@ -201,11 +212,12 @@ begun_call left cont after r params uuid came begun has tables job instance wait
 
 -- in its session
 pub begun_on : (old mid left : Tables) (cont after : Cont (List ℕ)) (slot : ℕ) (session : Session) (points : List EntryPoint) (app : Application) (boot : Booted) →
+    (cont.kind ≡ kind.Settled → ⊥) →
     mid ≡ without_slot old slot → IsInLine boot (tables_of old) slot cont → IsItsApp boot cont app → get (tables_of old).sessions cont.session ≡ Some session →
     ((boot : Booted) (instance : Instance) → get (tables_of mid).instances session.instance ≡ Some instance → app_of boot instance.uuid ≡ Some app →
     HasBegun left cont after instance.uuid (begins_on (who_begins boot mid slot cont) session instance (kept_params cont.params) points)) →
     BeginsAt (tables_of left) cont after boot slot (tables_of old) session points
-begun_on old mid left cont after slot session points app boot becomes line its there begins given call params instance waits found =
+begun_on old mid left cont after slot session points app boot unsettled becomes line its there begins given call params instance waits found =
     let r = resumed_in boot (tables_of old) slot given call in
     let own = line.instance instance found in
     let uuid : conts.uuid_of cont.app ≡ instance.uuid = same_some (conts.uuid_of cont.app) instance.uuid own.same in
@@ -215,7 +227,7 @@ begun_on old mid left cont after slot session points app boot becomes line its t
     let has : HasBegun left cont after instance.uuid (begins_on (who_begins boot mid slot cont) session instance (kept_params cont.params) points) =
     begins boot instance in_mid (ap (app_of boot) (sym uuid) ∙ its.found) in
     begun_call left cont after r params instance.uuid (begins_on (who_begins boot mid slot cont) session instance (kept_params cont.params) points)
-    (begins_on (who_resumes r) session instance params points) has
+    (begins_on (who_resumes r) session instance params points) unsettled has
     (ap (λ (tables : Tables). (begins_on (who_begins boot tables slot cont) session instance (kept_params cont.params) points).tables) becomes)
     (ap₂ (λ (seen : Bool) (kept : CopiedParams). (begins_on (record { boot = boot; tables = tables_of old; slot = slot; seen = seen }) session instance kept points).job) waits.is.seen
     (its_params cont call params waits))
@@ -244,12 +256,13 @@ ready_in old mid cont slot session app boot becomes line its there some ready =
 
 -- on its instance
 pub opened_kept : (old mid left : Tables) (cont after : Cont (List ℕ)) (slot : ℕ) (opener : Opener) (boot : Booted) →
+    cont.kind ≡ kind.Open →
     mid ≡ without_slot old slot → IsInLine boot (tables_of old) slot cont → IsItsApp boot cont opener.app → is_some (get (tables_of old).instances cont.instance) ≡ true →
     ((boot : Booted) (instance : Instance) → get (tables_of mid).instances cont.instance ≡ Some instance →
     HasBegun left cont after (uuid_of opener.app) (opens_kept (who_begins boot mid slot cont) opener (cont.instance, instance))) →
     (given : Given) (call : PendingCall) (params : CopiedParams) → IsWaitingCall cont call params →
     HasCome (tables_of left) after (begins_open (resumed_in boot (tables_of old) slot given call) opener (get (tables_of old).instances cont.instance))
-opened_kept old mid left cont after slot opener boot becomes line its some begins given call params waits =
+opened_kept old mid left cont after slot opener boot opens becomes line its some begins given call params waits =
     let r = resumed_in boot (tables_of old) slot given call in
     let found : (instance : Instance) × (get (tables_of old).instances cont.instance ≡ Some instance) = found_some (get (tables_of old).instances cont.instance) some in
     let uuid : uuid_of opener.app ≡ conts.uuid_of cont.app = found_uuid boot (conts.uuid_of cont.app) opener.app its.found in
@@ -257,7 +270,7 @@ opened_kept old mid left cont after slot opener boot becomes line its some begin
     ap (λ (tables : Tables). get (tables_of tables).instances cont.instance) becomes ∙ found.1 in
     subst (λ (one : Option Instance). HasCome (tables_of left) after (begins_open r opener one)) (sym found.1)
     (begun_call left cont after r params (uuid_of opener.app) (opens_kept (who_begins boot mid slot cont) opener (cont.instance, found.0))
-    (opens_kept (who_resumes r) opener (call.instance, found.0)) (begins boot found.0 in_mid)
+    (opens_kept (who_resumes r) opener (call.instance, found.0)) (open_unsettled cont.kind opens) (begins boot found.0 in_mid)
     (ap₂ (λ (tables : Tables) (number : ℕ). (opens_kept (who_begins boot tables slot cont) opener (number, found.0)).tables) becomes waits.is.instance)
     (ap (λ (tables : Tables). (opens_kept (who_begins boot tables slot cont) opener (cont.instance, found.0)).job) becomes
     ∙ ap₂ (λ (seen : Bool) (number : ℕ). (opens_kept (record { boot = boot; tables = tables_of old; slot = slot; seen = seen }) opener (number, found.0)).job) waits.is.seen waits.is.instance)
@@ -291,17 +304,18 @@ opened_on r opener None pages gone is =
 opened_on r opener (Some instance) pages gone is = absurd cc
 
 pub opened_new : (old mid left : Tables) (cont after : Cont (List ℕ)) (slot : ℕ) (opener : Opener) (boot : Booted) →
+    cont.kind ≡ kind.Open →
     mid ≡ without_slot old slot → IsInLine boot (tables_of old) slot cont → IsItsApp boot cont opener.app → is_some (get (tables_of old).instances cont.instance) ≡ false →
     has_pages_for boot (tables_of old) opener.app ≡ true →
     ((boot : Booted) → HasBegun left cont after (uuid_of opener.app) (opens_new (who_begins boot mid slot cont) opener cont.instance (tables_of mid).next_instance)) →
     (given : Given) (call : PendingCall) (params : CopiedParams) → IsWaitingCall cont call params →
     HasCome (tables_of left) after (begins_open (resumed_in boot (tables_of old) slot given call) opener (get (tables_of old).instances cont.instance))
-opened_new old mid left cont after slot opener boot becomes line its gone pages begins given call params waits =
+opened_new old mid left cont after slot opener boot opens becomes line its gone pages begins given call params waits =
     let r = resumed_in boot (tables_of old) slot given call in
     let uuid : uuid_of opener.app ≡ conts.uuid_of cont.app = found_uuid boot (conts.uuid_of cont.app) opener.app its.found in
     subst (HasCome (tables_of left) after) (sym (opened_on r opener (get (tables_of old).instances cont.instance) true gone pages))
     (begun_call left cont after r params (uuid_of opener.app) (opens_new (who_begins boot mid slot cont) opener cont.instance (tables_of mid).next_instance)
-    (opens_new (who_resumes r) opener call.instance (tables_of old).next_instance) (begins boot)
+    (opens_new (who_resumes r) opener call.instance (tables_of old).next_instance) (open_unsettled cont.kind opens) (begins boot)
     (ap₂ (λ (tables : Tables) (number : ℕ). (opens_new (who_begins boot tables slot cont) opener number (tables_of tables).next_instance).tables) becomes waits.is.instance)
     (ap (λ (tables : Tables). (opens_new (who_begins boot tables slot cont) opener cont.instance (tables_of tables).next_instance).job) becomes
     ∙ ap₂ (λ (seen : Bool) (number : ℕ). (opens_new (record { boot = boot; tables = tables_of old; slot = slot; seen = seen }) opener number (tables_of old).next_instance).job) waits.is.seen waits.is.instance)

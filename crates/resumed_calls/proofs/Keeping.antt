@@ -12,6 +12,7 @@ pub record Keeps (old new : Cont (List ℕ)) : Type 0 where
   pub client : new.client ≡ old.client
   pub kind : new.kind ≡ old.kind
   pub app : new.app ≡ old.app
+  pub login : new.login ≡ old.login
   pub arg : new.arg ≡ old.arg
   pub places : new.places ≡ old.places
   pub session : new.session ≡ old.session
@@ -26,6 +27,7 @@ in_phase old new call at keeps is phase = record {
   client = keeps.client ∙ is.client;
   kind = keeps.kind ∙ is.kind;
   app = subst (λ (app : Option (ContApp)). IsAppOf app call.uuid) (sym keeps.app) is.app;
+  login = λ login settled opens. keeps.login ∙ is.login login (sym keeps.kind ∙ settled) opens;
   arg = keeps.arg ∙ is.arg;
   places = ap (λ (places : _). places.items) keeps.places ∙ is.places;
   session = keeps.session ∙ is.session;

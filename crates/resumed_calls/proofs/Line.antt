@@ -49,6 +49,7 @@ ended_call cont call code none is = record {
   client = is.client;
   kind = is.kind;
   app = is.app;
+  login = is.login;
   arg = is.arg;
   places = is.places;
   session = is.session;

@@ -253,6 +253,7 @@ fn begins_open(setup: &Setup, tables: &mut Tables, cont: &mut Cont<Pages>, opene
 fn begins(setup: &Setup, tables: &mut Tables, cont: &mut Cont<Pages>, call: SessionCall)
     requires line { IsInLine (booted_with setup.now) (tables_of tables.old) call.slot cont.old }
     requires app { IsItsApp (booted_with setup.now) cont.old (application_of call.app) }
+    requires unsettled { cont.old.kind ≡ CallKind.Settled → ⊥ }
     requires session { get (tables_of tables.old).sessions cont.old.session ≡ Some call.session }
     requires kept { is_some (get (tables_of tables.old).instances cont.old.instance) ≡ true }
     requires ready { (instance : AnyInstance) → get (tables_of tables.old).instances cont.old.instance ≡ Some instance → CanBeginOn cont.old instance }

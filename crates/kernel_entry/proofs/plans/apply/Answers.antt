@@ -41,7 +41,7 @@ pub returns-in-Cancels-clause-taken : goal.returns-in-Cancels-clause-taken
 returns-in-Cancels-clause-taken c boot applies =
     rw c.in-Cancels.is (record {
       tables = refl;
-      call = c.settled_call.ensures boot (tables_of c.args.tables.now) ACancel None;
+      call = c.settled_call.ensures boot (tables_of c.args.tables.now) ACancel None tt;
       cancel_id = refl;
       marked = refl;
       cancels = refl;
@@ -51,7 +51,7 @@ pub returns-in-KeepsBuffer-clause-taken : goal.returns-in-KeepsBuffer-clause-tak
 returns-in-KeepsBuffer-clause-taken c boot applies =
     rw c.in-KeepsBuffer.is (record {
       tables = ap (λ (registry : Registered). tables_of (record c.args.tables.now { registry = registry })) c.keeps_buffer.ensures;
-      call = c.settled_call-in-KeepsBuffer.ensures boot (tables_of c.args.tables.now) Untold None;
+      call = c.settled_call-in-KeepsBuffer.ensures boot (tables_of c.args.tables.now) Untold None tt;
       cancel_id = refl;
       marked = refl;
       cancels = refl;
@@ -61,7 +61,7 @@ pub returns-in-DropsBuffer-clause-taken : goal.returns-in-DropsBuffer-clause-tak
 returns-in-DropsBuffer-clause-taken c boot applies =
     rw c.in-DropsBuffer.is (record {
       tables = ap (λ (registry : Registered). tables_of (record c.args.tables.now { registry = registry })) c.drops_buffer.ensures;
-      call = c.settled_call-in-DropsBuffer.ensures boot (tables_of c.args.tables.now) Untold None;
+      call = c.settled_call-in-DropsBuffer.ensures boot (tables_of c.args.tables.now) Untold None tt;
       cancel_id = refl;
       marked = refl;
       cancels = refl;

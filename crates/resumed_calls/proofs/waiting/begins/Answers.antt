@@ -17,8 +17,8 @@ returns-clause-call c =
     let old = c.args.tables.now in
     let mid : Tables = record old { waiters = c.leave.new.self } in
     begun_on old mid c.begins_on.new.tables c.args.cont.now c.begins_on.new.cont c.args.call.slot c.args.call.session (points_of c.args.call.points)
-    (application_of c.args.call.app) (booted_with c.args.setup.now) (left_line old c.leave.new.self c.args.call.slot c.leave.ensures)
-    c.requires.line c.requires.app c.requires.session c.begins_on.ensures.begins
+    (application_of c.args.call.app) (booted_with c.args.setup.now) c.requires.unsettled
+    (left_line old c.leave.new.self c.args.call.slot c.leave.ensures) c.requires.line c.requires.app c.requires.session c.begins_on.ensures.begins
 
 pub returns-clause-pages : goal.returns-clause-pages
 returns-clause-pages c =

@@ -4,7 +4,8 @@ use Rattle.begin_call.specs.Begins.{brought}
 use Rattle.begin_call.specs.Points.{points_of}
 use Rattle.kernel_state.specs.Setup.{application_of, booted_with}
 use Rattle.kernel_state.specs.Tables.{tables_of}
-use Rattle.resumed_calls.proofs.Begins.{close_not_open, closing, instance_gone, invoke_not_open, invoking, no_app, opening, settled}
+use Rattle.resumed_calls.proofs.Begins.{close_not_open, close_unsettled, closing, instance_gone, invoke_not_open}
+use Rattle.resumed_calls.proofs.Begins.{invoke_unsettled, invoking, no_app, opening, settled}
 use Rattle.resumed_calls.specs.Waiting.{MayBeItsApp}
 use Rattle.resumed_calls.proofs.waiting.begins_in.Goals as goal
 
@@ -22,6 +23,12 @@ returns-in-Open-default-clause-call c =
     (get (tables_of c.args.tables.now).instances c.args.cont.now.instance) (application_of c.in-Some.app)
     (brought (record { slot = turn.slot; app = c.in-Some.app; login = turn.session.login }) c.args.cont.now) boot c.in-Open-default.is-0
     (subst (MayBeItsApp boot c.args.cont.now) c.in-Some.is c.requires.app) c.requires.line.app refl c.begins_open.ensures.call
+
+pub begins-requires-clause-unsettled : goal.begins-requires-clause-unsettled
+begins-requires-clause-unsettled c = invoke_unsettled c.args.cont.now.kind _ c.in-Invoke-true.is-0
+
+pub begins-requires-in-Close-true-clause-unsettled : goal.begins-requires-in-Close-true-clause-unsettled
+begins-requires-in-Close-true-clause-unsettled c = close_unsettled c.args.cont.now.kind c.in-Close-true.is-0
 
 pub returns-in-Invoke-true-clause-call : goal.returns-in-Invoke-true-clause-call
 returns-in-Invoke-true-clause-call c =

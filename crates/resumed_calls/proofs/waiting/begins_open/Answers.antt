@@ -13,7 +13,8 @@ returns-then-is_kept-clause-call c =
     let old = c.args.tables.now in
     let mid : Tables = record old { waiters = c.leave.new.self } in
     opened_kept old mid c.opens_kept.new.tables c.args.cont.now c.opens_kept.new.cont c.args.opener.slot (brought c.args.opener c.args.cont.now)
-    (booted_with c.args.setup.now) (left_line old c.leave.new.self c.args.opener.slot c.leave.ensures) c.requires.line c.requires.app
+    (booted_with c.args.setup.now) c.requires.opens (left_line old c.leave.new.self c.args.opener.slot c.leave.ensures) c.requires.line
+    c.requires.app
     (sym c.is_kept.ensures ∙ c.if-is_kept.true) c.opens_kept.ensures.begins
 
 pub returns-then-is_kept-clause-pages : goal.returns-then-is_kept-clause-pages
@@ -28,7 +29,8 @@ returns-then-has_pages_for-clause-call c =
     let old = c.args.tables.now in
     let mid : Tables = record old { waiters = c.leave-then-has_pages_for.new.self } in
     opened_new old mid c.opens_new.new.tables c.args.cont.now c.opens_new.new.cont c.args.opener.slot (brought c.args.opener c.args.cont.now)
-    (booted_with c.args.setup.now) (left_line old c.leave-then-has_pages_for.new.self c.args.opener.slot c.leave-then-has_pages_for.ensures) c.requires.line c.requires.app
+    (booted_with c.args.setup.now) c.requires.opens
+    (left_line old c.leave-then-has_pages_for.new.self c.args.opener.slot c.leave-then-has_pages_for.ensures) c.requires.line c.requires.app
     (sym c.is_kept.ensures ∙ c.if-is_kept.false) (sym c.has_pages_for.ensures.pages ∙ c.if-has_pages_for.true) c.opens_new.ensures.begins
 
 pub returns-then-has_pages_for-clause-pages : goal.returns-then-has_pages_for-clause-pages
