@@ -1,5 +1,5 @@
 -- What the registers and the message argument of a call say, by optee_smc.h and optee_msg.h.
-use Rattle.std.specs.Prelude.{ℕ, ◌+◌, ◌*◌, ◌%◌, ◌^◌, nat_le, Bool, true, false, not, ◌&&◌, if◌then◌else◌, List, [], ◌∷◌}
+use Rattle.std.specs.Prelude.{◌≡◌, ℕ, ◌+◌, ◌*◌, ◌%◌, ◌^◌, nat_le, Bool, true, false, not, ◌&&◌, if◌then◌else◌, List, [], ◌∷◌}
 use Rattle.std.specs.Prelude.{◌++◌, length, Option, Some, None, slice_index, map}
 use Rattle.std.specs.Int.{w64, to_le_bytes}
 use Rattle.std.specs.List.{list_all}
@@ -9,6 +9,8 @@ use Rattle.msg_args.specs.declared.kind.ParamKind.{ParamKind}
 use Rattle.msg_args.specs.declared.kind.ParamKind.TheVariants.{ValueIn, RmemIn, RmemOut, RmemInout}
 use Rattle.msg_args.specs.declared.param.MsgParam.{MsgParam}
 use Rattle.msg_args.specs.Reading.{has_attribute, param_at}
+use Rattle.smc_abi.specs.Call.{call_of}
+use Rattle.smc_abi.specs.declared.call.Call.TheVariants.{WithArg}
 use Rattle.ta_params.specs.declared.login.Login.{Login}
 
 -- ---- registers
@@ -20,6 +22,10 @@ reg regs number = slice_index regs number
 -- a number in two registers: the upper half in that of this number, the lower half in the next
 abbrev pub pair_at : List ℕ → ℕ → ℕ
 pair_at regs number = reg regs number * 2 ^ 32 + reg regs (number + 1)
+
+-- they bring a new call
+abbrev pub IsNew : List ℕ → Type 0
+IsNew regs = call_of (reg regs 0) ≡ WithArg
 
 -- the address of the argument, in a1 and a2
 abbrev pub argument_at : List ℕ → ℕ

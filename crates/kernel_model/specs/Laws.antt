@@ -6,11 +6,11 @@ use Rattle.event_journal.specs.declared.event.Event.{Event}
 use Rattle.event_journal.specs.declared.event.Event.TheVariants as event
 use Rattle.ns_ram.specs.declared.read.Read.{Read}
 use Rattle.smc_abi.specs.Call.{call_of}
-use Rattle.smc_abi.specs.declared.call.Call.TheVariants.{WithArg, Resume}
+use Rattle.smc_abi.specs.declared.call.Call.TheVariants.{Resume}
 use Rattle.smc_abi.specs.declared.answer.Answer.{Answer}
 use Rattle.smc_abi.specs.declared.regs.Regs.{Regs}
 use Rattle.kernel_model.specs.Application.{Booted}
-use Rattle.kernel_model.specs.Argument.{reg}
+use Rattle.kernel_model.specs.Argument.{IsNew, reg}
 use Rattle.kernel_model.specs.Codes.{eresume, ethread_limit}
 use Rattle.kernel_model.specs.Entry.{after_entry}
 use Rattle.kernel_model.specs.Exit.{exit, goes_out}
@@ -46,7 +46,7 @@ pub record FixedAnswers : Type 0 where
 
 -- a new call, while no slot is free
 abbrev pub FindsNoSlot : Kernel → List ℕ → Type 0
-FindsNoSlot kernel regs = (call_of (reg regs 0) ≡ WithArg) × (lowest_free kernel.slots ≡ None)
+FindsNoSlot kernel regs = IsNew regs × (lowest_free kernel.slots ≡ None)
 
 -- a resume, while no call is suspended in its slot for its client
 abbrev pub FindsNoCall : Kernel → List ℕ → Type 0

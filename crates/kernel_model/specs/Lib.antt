@@ -1,7 +1,6 @@
 pub mod Codes
 pub mod Application
 pub mod Kernel
-pub mod Served
 pub mod Instances
 pub mod Sessions
 pub mod Argument

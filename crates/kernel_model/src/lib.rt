@@ -4,7 +4,7 @@
 //! The crate is one of definitions. `specs/` reads in the order of its modules: `Kernel` has the state, `Entry`
 //! and `Exit` the two kinds of event, each by short functions, one for each kind of call, and `History` what
 //! they make of a whole history. An entry is a reader: it depends on the normal world's RAM only through the
-//! reads that it lists. An exit is a function of the kernel alone. `Served` names what isn't served yet.
+//! reads that it lists. An exit is a function of the kernel alone.
 #![tactic(auto)]
 
 mod laws;

@@ -11,7 +11,7 @@ use Rattle.smc_abi.specs.declared.call.Call.{Call}
 use Rattle.smc_abi.specs.declared.call.Call.TheVariants.{Fast, Resume, Unknown, WithArg}
 use Rattle.smc_abi.specs.declared.regs.Regs.{Regs}
 use Rattle.kernel_model.specs.Application.{Booted}
-use Rattle.kernel_model.specs.Argument.{reg, thread_in}
+use Rattle.kernel_model.specs.Argument.{IsNew, reg, thread_in}
 use Rattle.kernel_model.specs.Codes.{eresume}
 use Rattle.kernel_model.specs.Decision.{Answers, Decision, Taken, Takes, works_on}
 use Rattle.kernel_model.specs.Entry.{after_decision, decision_of}
@@ -33,7 +33,7 @@ use Rattle.own_model.proofs.OwnTaken.{free_marked}
 pub data EntryKind (kernel next : Kernel) (cpu steps : ℕ) (regs : Regs) : Type 0 where
   HasAnswer : (answer : Answer) → slice_get next.processors cpu ≡ Some (Inside regs.a steps (Fixed answer))
       → EntryKind kernel next cpu steps regs
-  IsNewCall : (slot : ℕ) (now : PendingCall) → call_of (reg regs.a 0) ≡ WithArg →
+  IsNewCall : (slot : ℕ) (now : PendingCall) → IsNew regs.a →
       slice_get next.processors cpu ≡ Some (Inside regs.a steps (InSlot slot))
       → slice_get next.slots slot ≡ Some (Active cpu now) →
       EntryKind kernel next cpu steps regs
@@ -43,7 +43,7 @@ pub data EntryKind (kernel next : Kernel) (cpu steps : ℕ) (regs : Regs) : Type
 
 -- why a slot is taken
 data WhyTaken (kernel : Kernel) (regs : List ℕ) (slot : ℕ) : Type 0 where
-  ForNew : call_of (reg regs 0) ≡ WithArg → slice_get kernel.slots slot ≡ Some Free → WhyTaken kernel regs slot
+  ForNew : IsNew regs → slice_get kernel.slots slot ≡ Some Free → WhyTaken kernel regs slot
   ForResumed : (call : PendingCall) → call_of (reg regs 0) ≡ Resume → call_resumed_by kernel.slots regs ≡ Some call
       → slot ≡ thread_in regs →
       WhyTaken kernel regs slot
@@ -55,7 +55,7 @@ IsTakenFor kernel regs (Takes slot taken) = WhyTaken kernel regs slot
 abbrev Anything : ℕ → Taken → Type 0
 Anything slot taken = Unit {0}
 
-for_new : (kernel : Kernel) (regs : List ℕ) → call_of (reg regs 0) ≡ WithArg → (decision : Decision)
+for_new : (kernel : Kernel) (regs : List ℕ) → IsNew regs → (decision : Decision)
     → TakesFree Anything kernel decision
     → IsTakenFor kernel regs decision
 for_new kernel regs is (Answers answer) takes = tt

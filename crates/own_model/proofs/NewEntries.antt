@@ -7,13 +7,11 @@ use Rattle.event_journal.specs.declared.event.Event.TheVariants.{Entry}
 use Rattle.ns_ram.specs.Attempt.{Attempt, passes, ◌>>=◌}
 use Rattle.ns_ram.specs.declared.read.Read.{Read}
 use Rattle.ns_ram.specs.Reader.{done, want_bytes, want_words}
-use Rattle.smc_abi.specs.Call.{call_of}
 use Rattle.smc_abi.specs.declared.answer.Answer.{Answer}
 use Rattle.smc_abi.specs.declared.call.Call.{Call}
-use Rattle.smc_abi.specs.declared.call.Call.TheVariants.{WithArg}
 use Rattle.smc_abi.specs.declared.regs.Regs.{Regs}
 use Rattle.kernel_model.specs.Application.{Booted}
-use Rattle.kernel_model.specs.Argument.{reg}
+use Rattle.kernel_model.specs.Argument.{IsNew}
 use Rattle.kernel_model.specs.Decision.{Answers, Decision, Taken, Takes, decided_by}
 use Rattle.kernel_model.specs.Entry.{after_decision, decision_of}
 use Rattle.kernel_model.specs.History.{after_event}
@@ -106,7 +104,7 @@ decided_taken P kernel next visit slot now (Takes at taken) holds errand gives t
 
 pub new_call_taken : (P : ℕ → Taken → Type 0) (boot : Booted) (kernel next : Kernel) (cpu steps slot : ℕ) (regs : Regs)
     (reads : List Read) (now : PendingCall)
-    → call_of (reg regs.a 0) ≡ WithArg → OfAllCalls P boot kernel regs.a
+    → IsNew regs.a → OfAllCalls P boot kernel regs.a
     → slice_get next.processors cpu ≡ Some (Inside regs.a steps (InSlot slot))
     → slice_get next.slots slot ≡ Some (Active cpu now)
     → after_event boot kernel (Entry cpu regs steps reads) ≡ Some next

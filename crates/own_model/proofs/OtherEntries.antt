@@ -5,11 +5,9 @@ use Rattle.std.specs.Option.{option_map, option_map_or, option_and_then}
 use Rattle.base.specs.NumberMap.{get}
 use Rattle.event_journal.specs.declared.event.Event.TheVariants.{Entry}
 use Rattle.ns_ram.specs.declared.read.Read.{Read}
-use Rattle.smc_abi.specs.Call.{call_of}
-use Rattle.smc_abi.specs.declared.call.Call.TheVariants.{WithArg}
 use Rattle.smc_abi.specs.declared.regs.Regs.{Regs}
 use Rattle.kernel_model.specs.Application.{Booted}
-use Rattle.kernel_model.specs.Argument.{reg}
+use Rattle.kernel_model.specs.Argument.{IsNew}
 use Rattle.kernel_model.specs.Decision.{Taken, Takes}
 use Rattle.kernel_model.specs.Entry.{after_decision}
 use Rattle.kernel_model.specs.History.{after_event}
@@ -109,7 +107,7 @@ taken_tied about kernel visit notes solo slot taken none tied takes =
 
 pub other_call : (boot : Booted) (about : About) (kernel next : Kernel) (cpu steps slot : ℕ) (regs : Regs)
     (reads : List Read) (now : PendingCall)
-    (notes : Notes) (solo : Solo) → SharesNone boot about.app → call_of (reg regs.a 0) ≡ WithArg
+    (notes : Notes) (solo : Solo) → SharesNone boot about.app → IsNew regs.a
     → slice_get next.processors cpu ≡ Some (Inside regs.a steps (InSlot slot))
     → slice_get next.slots slot ≡ Some (Active cpu now)
     → event_of about.session now ≡ None

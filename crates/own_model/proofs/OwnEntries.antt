@@ -5,11 +5,9 @@ use Rattle.std.specs.Option.{option_map_or}
 use Rattle.base.specs.NumberMap.{IsRising, get}
 use Rattle.event_journal.specs.declared.event.Event.TheVariants.{Entry}
 use Rattle.ns_ram.specs.declared.read.Read.{Read}
-use Rattle.smc_abi.specs.Call.{call_of}
-use Rattle.smc_abi.specs.declared.call.Call.TheVariants.{WithArg}
 use Rattle.smc_abi.specs.declared.regs.Regs.{Regs}
 use Rattle.kernel_model.specs.Application.{Booted}
-use Rattle.kernel_model.specs.Argument.{reg}
+use Rattle.kernel_model.specs.Argument.{IsNew}
 use Rattle.kernel_model.specs.History.{after_event}
 use Rattle.kernel_model.specs.Kernel.{Active, Free, InSlot, Inside, Kernel, PendingCall, Visit}
 use Rattle.kernel_model.specs.NewCall.{new_call_of}
@@ -40,7 +38,7 @@ within boot about kernel notes solo regs slot shares rising tied free bytes = re
 
 pub own_call : (boot : Booted) (about : About) (kernel next : Kernel) (cpu steps slot : ℕ) (regs : Regs)
     (reads : List Read) (now : PendingCall)
-    (came : OwnEvent) (notes : Notes) (solo : Solo) → SharesNone boot about.app → call_of (reg regs.a 0) ≡ WithArg
+    (came : OwnEvent) (notes : Notes) (solo : Solo) → SharesNone boot about.app → IsNew regs.a
     → slice_get next.processors cpu ≡ Some (Inside regs.a steps (InSlot slot))
     → slice_get next.slots slot ≡ Some (Active cpu now)
     → event_of about.session now ≡ Some came → IsRising kernel.tables.sessions

@@ -7,9 +7,9 @@ use Rattle.ns_ram.specs.declared.read.Read.{Read}
 use Rattle.smc_abi.specs.declared.answer.Answer.{Answer}
 use Rattle.smc_abi.specs.declared.regs.Regs.{Regs}
 use Rattle.smc_abi.specs.Call.{call_of}
-use Rattle.smc_abi.specs.declared.call.Call.TheVariants.{Resume, WithArg}
+use Rattle.smc_abi.specs.declared.call.Call.TheVariants.{Resume}
 use Rattle.kernel_model.specs.Application.{Application, Booted, uuid_of}
-use Rattle.kernel_model.specs.Argument.{reg, thread_in}
+use Rattle.kernel_model.specs.Argument.{IsNew, reg, thread_in}
 use Rattle.kernel_model.specs.Instances.{app_of, is_single}
 use Rattle.kernel_model.specs.Leaving.{Interrupted, leaving_of}
 use Rattle.kernel_model.specs.Resume.{call_resumed_by}
@@ -95,7 +95,7 @@ pub record SharesNone (boot : Booted) (app : Application) : Type 0 where
 abbrev pub OtherCallsKeepTied : Type 0
 OtherCallsKeepTied =
     (boot : Booted) (about : About) (kernel next : Kernel) (cpu steps slot : ℕ) (regs : Regs) (reads : List Read)
-    (now : PendingCall) (notes : Notes) (solo : Solo) → SharesNone boot about.app → call_of (reg regs.a 0) ≡ WithArg →
+    (now : PendingCall) (notes : Notes) (solo : Solo) → SharesNone boot about.app → IsNew regs.a →
     slice_get next.processors cpu ≡ Some (Inside regs.a steps (InSlot slot)) →
     slice_get next.slots slot ≡ Some (Active cpu now) →
     event_of about.session now ≡ None → GoesAlongWith boot about kernel next (Entry cpu regs steps reads) notes solo
@@ -153,7 +153,7 @@ abbrev pub OwnCallsKeepTied : Type 0
 OwnCallsKeepTied =
     (boot : Booted) (about : About) (kernel next : Kernel) (cpu steps slot : ℕ) (regs : Regs) (reads : List Read)
     (now : PendingCall) (came : OwnEvent) (notes : Notes) (solo : Solo) → SharesNone boot about.app →
-    call_of (reg regs.a 0) ≡ WithArg → slice_get next.processors cpu ≡ Some (Inside regs.a steps (InSlot slot)) →
+    IsNew regs.a → slice_get next.processors cpu ≡ Some (Inside regs.a steps (InSlot slot)) →
     slice_get next.slots slot ≡ Some (Active cpu now) → event_of about.session now ≡ Some came →
     IsRising kernel.tables.sessions → GoesAlongWith boot about kernel next (Entry cpu regs steps reads) notes solo
 
@@ -173,7 +173,7 @@ abbrev pub OwnOpensTie : Type 0
 OwnOpensTie =
     (boot : Booted) (app : Application) (most : ℕ) (kernel next : Kernel) (cpu steps slot : ℕ) (regs : Regs)
     (reads : List Read) (now : PendingCall) (came : OwnEvent) → SharesNone boot app →
-    AreNumbered (call_at kernel.slots) kernel.tables → call_of (reg regs.a 0) ≡ WithArg →
+    AreNumbered (call_at kernel.slots) kernel.tables → IsNew regs.a →
     slice_get next.processors cpu ≡ Some (Inside regs.a steps (InSlot slot)) →
     slice_get next.slots slot ≡ Some (Active cpu now) → event_of kernel.tables.next_session now ≡ Some came →
     now.uuid ≡ Some (uuid_of app) → after_event boot kernel (Entry cpu regs steps reads) ≡ Some next →

@@ -1,3 +1,0 @@
--- What isn't served yet. Nothing else in these definitions will be taken back.
---
--- * Calls that bring a place for their requests along, beside their argument.
