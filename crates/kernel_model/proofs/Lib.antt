@@ -46,7 +46,9 @@ pub mod SoundCourses
 pub mod SoundDestined
 pub mod SoundReasons
 pub mod SoundReasonsKept
+pub mod SoundClaims
 pub mod SoundSingles
+pub mod OfOneApp
 pub mod SoundFew
 pub mod SoundSpared
 pub mod SoundSessionsKept

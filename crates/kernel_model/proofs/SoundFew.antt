@@ -28,7 +28,8 @@ use Rattle.kernel_model.proofs.SoundOrder.{in_order}
 use Rattle.kernel_model.proofs.SoundReasons.{AreReasoned, HasReason, IsKeptAlive}
 use Rattle.kernel_model.proofs.SoundReasonsKept.{all_reasoned}
 use Rattle.kernel_model.proofs.SoundRising.{found_there, none_passes}
-use Rattle.kernel_model.proofs.SoundSingles.{IsSingle, OneEach, all_single}
+use Rattle.kernel_model.proofs.SoundClaims.{IsSingle}
+use Rattle.kernel_model.proofs.SoundSingles.{OneEach, all_single}
 use Rattle.kernel_model.proofs.SoundSums.{sum_remove}
 
 -- ---- a map with one less
