@@ -9,13 +9,11 @@ use Rattle.event_journal.specs.declared.event.Event.TheVariants.{Entry}
 use Rattle.ns_ram.specs.declared.read.Read.{Read}
 use Rattle.param_copy.specs.Copying.{Copies}
 use Rattle.session_table.specs.declared.session.Session.{Session}
-use Rattle.smc_abi.specs.Call.{call_of}
-use Rattle.smc_abi.specs.declared.call.Call.TheVariants.{WithArg}
 use Rattle.smc_abi.specs.declared.regs.Regs.{Regs}
 use Rattle.ta_params.specs.declared.copied_params.CopiedParams.{CopiedParams}
 use Rattle.ta_params.specs.declared.login.Login.{Login}
 use Rattle.kernel_model.specs.Application.{Application, Booted, uuid_of}
-use Rattle.kernel_model.specs.Argument.{Opening, reg}
+use Rattle.kernel_model.specs.Argument.{IsNew, Opening}
 use Rattle.kernel_model.specs.Codes.{bad_parameters, target_dead}
 use Rattle.kernel_model.specs.Decision.{Taken, Takes}
 use Rattle.kernel_model.specs.Entry.{after_decision}
@@ -27,7 +25,10 @@ use Rattle.kernel_model.specs.NewCall.{NewCall, cancels, keeps_buffers, named_se
 use Rattle.kernel_model.specs.NewCall.{settles, settles_invoke, settles_open, shared_by}
 use Rattle.kernel_model.specs.Sound.{call_at}
 use Rattle.kernel_model.specs.SoundNumbers.{AreNumbered}
-use Rattle.kernel_model.proofs.Parts.{if-both, map_or-both}
+use Rattle.kernel_model.specs.SoundCalls.{is_told}
+use Rattle.kernel_model.proofs.Parts.{if-both}
+use Rattle.kernel_model.proofs.SoundMaps.{if_some}
+use Rattle.job_model.specs.declared.call_kind.CallKind.TheVariants as kind
 use Rattle.own_model.proofs.Lookups.{app_named}
 use Rattle.own_model.proofs.NewCalls.{OfAllEndings}
 use Rattle.own_model.proofs.NewEntries.{IsTaken, new_call_noted, new_call_taken}
@@ -44,6 +45,20 @@ use Rattle.own_model.specs.Solo.{unopened}
 
 -- ---- what comes in
 
+-- the call opens the session, and its result wasn't told yet
+pub record IsItsOpen (session : ℕ) (call : PendingCall) : Type 0 where
+  pub kind : call.kind ≡ kind.Open
+  pub untold : is_told call.phase ≡ false
+  pub of_session : call.session ≡ session
+
+-- the open of the session, of an application whose sessions share an instance, for which it waits
+pub record SharesIt (boot : Booted) (session : ℕ) (taken : Taken) : Type 0 where
+  pub of : Application
+  pub of_boot : app_of boot (uuid_of of) ≡ Some of
+  pub shares : is_single of ≡ true
+  pub uuid : taken.call.uuid ≡ Some (uuid_of of)
+  pub opens : IsItsOpen session taken.call
+
 -- the open of the session, of this application
 pub record OpensIt (boot : Booted) (session : ℕ) (slots : List ThreadSlot) (slot : ℕ) (before : Tables)
     (taken : Taken) : Type 0 where
@@ -55,6 +70,7 @@ pub record OpensIt (boot : Booted) (session : ℕ) (slots : List ThreadSlot) (sl
   pub of_boot : app_of boot (uuid_of of) ≡ Some of
   pub uuid : taken.call.uuid ≡ Some (uuid_of of)
   pub noted : event_of session taken.call ≡ Some (Open params login)
+  pub opens : IsItsOpen session taken.call
   pub tied : is_single of ≡ false → TakesOpen of slots slot before taken params login
 
 -- before the open of a session, a new call isn't of it, or is its open, or has it wait for an instance that it shares
@@ -63,7 +79,7 @@ pub data Coming (boot : Booted) (session : ℕ) (slots : List ThreadSlot) (slot 
   Another : event_of session taken.call ≡ None → taken.tables.next_session ≤ session
       → Coming boot session slots slot before taken
   ItsOpen : OpensIt boot session slots slot before taken → Coming boot session slots slot before taken
-  Shares : event_of session taken.call ≡ None → session < taken.tables.next_session
+  Shares : event_of session taken.call ≡ None → session < taken.tables.next_session → SharesIt boot session taken
       → Coming boot session slots slot before taken
 
 -- a new call there: what is known of it
@@ -122,6 +138,7 @@ begins_one session slots c wanted of copies early is true same =
       uuid = refl;
       noted = ap (λ b. if b then Some (Open (params_of (begun_by c wanted of copies).job)
           (begun_by c wanted of copies).job.login) else None) same;
+      opens = record { kind = refl; untold = refl; of_session = tied_numbers c.tables.next_session session same };
       tied = λ alone. opens_tied c wanted of copies slots early.free early.below alone;
     })
 begins_one session slots c wanted of copies early is false other =
@@ -131,13 +148,29 @@ begins_one session slots c wanted of copies early is false other =
 
 waits_one : (session : ℕ) (slots : List ThreadSlot) (c : NewCall) (wanted : Opening) (of : Application)
     (copies : Copies) (kept : ℕ × Instance) → Early session slots c
+    → app_of c.boot wanted.uuid ≡ Some of → shared_by c of ≡ Some kept
     → (test : Bool) → (c.tables.next_session == session) ≡ test
     → Coming c.boot session slots c.slot c.tables (open_waits c wanted of copies kept)
-waits_one session slots c wanted of copies kept early true same =
+waits_one session slots c wanted of copies kept early is shared true same =
     Shares (ap (λ b. if b then None else None) same)
     (next_is_more c.tables.next_session session (tied_numbers c.tables.next_session session same))
-waits_one session slots c wanted of copies kept early false other =
+    (record {
+      of = of;
+      of_boot = ap (λ u. app_of c.boot u) (app_named c.boot wanted.uuid of is) ∙ is;
+      shares = (if_some (is_single of) _ kept shared).0;
+      uuid = refl;
+      opens = record { kind = refl; untold = refl; of_session = tied_numbers c.tables.next_session session same };
+    })
+waits_one session slots c wanted of copies kept early is shared false other =
     Another (ap (λ b. if b then None else None) other) (next_is_less c.tables.next_session session early.before other)
+
+-- by what is found
+found_one : {A : Type 0} (session : ℕ) (slots : List ThreadSlot) (c : NewCall) (other : Taken) (f : A → Taken)
+    (found : Option A) → ((value : A) → found ≡ Some value → Coming c.boot session slots c.slot c.tables (f value))
+    → Coming c.boot session slots c.slot c.tables other
+    → Coming c.boot session slots c.slot c.tables (option_map_or f found other)
+found_one session slots c other f None on_found on_other = on_other
+found_one session slots c other f (Some value) on_found on_other = on_found value refl
 
 -- each way in which it can end
 endings_early : (session : ℕ) (slots : List ThreadSlot) (c : NewCall) → Early session slots c
@@ -147,10 +180,10 @@ endings_early session slots c early = record {
   settled_open = λ of login code. untold session slots c (settles_open c of login code) early refl refl;
   opened = λ wanted of copies is.
       let opened = begins_one session slots c wanted of copies early is (c.tables.next_session == session) refl in
-      map_or-both (Coming c.boot session slots c.slot c.tables) _ (shared_by c of) (opens c wanted of copies)
-      (λ kept. if-both (Coming c.boot session slots c.slot c.tables) (is_held kept.1)
+      found_one session slots c (opens c wanted of copies) _ (shared_by c of)
+      (λ kept shared. if-both (Coming c.boot session slots c.slot c.tables) (is_held kept.1)
       (open_waits c wanted of copies kept) (opens c wanted of copies)
-      (waits_one session slots c wanted of copies kept early (c.tables.next_session == session) refl) opened)
+      (waits_one session slots c wanted of copies kept early is shared (c.tables.next_session == session) refl) opened)
       opened;
   dead = λ named is dead. in_another session slots c named (settles_invoke c target_dead) early is refl refl;
   faulty = λ named is alive. in_another session slots c named (settles_invoke c bad_parameters) early is refl refl;
@@ -168,7 +201,7 @@ endings_early session slots c early = record {
 
 pub early_call : (boot : Booted) (session : ℕ) (kernel next : Kernel) (cpu steps slot : ℕ) (regs : Regs)
     (reads : List Read) (now : PendingCall)
-    → AreBelow kernel.slots kernel.tables → kernel.tables.next_session ≤ session → call_of (reg regs.a 0) ≡ WithArg
+    → AreBelow kernel.slots kernel.tables → kernel.tables.next_session ≤ session → IsNew regs.a
     → slice_get next.processors cpu ≡ Some (Inside regs.a steps (InSlot slot))
     → slice_get next.slots slot ≡ Some (Active cpu now)
     → after_event boot kernel (Entry cpu regs steps reads) ≡ Some next
@@ -213,7 +246,7 @@ open_comes : (boot : Booted) (app : Application) (most : ℕ) (kernel next : Ker
     → GoesAlong (about_next app most kernel) no_notes unopened next (numbered no_notes slot now came)
 open_comes boot app most kernel next visit slot now came taken shares (Another none lower) is gives noted uuid =
     not_both came (sym none ∙ noted)
-open_comes boot app most kernel next visit slot now came taken shares (Shares none more) is gives noted uuid =
+open_comes boot app most kernel next visit slot now came taken shares (Shares none more its) is gives noted uuid =
     not_both came (sym none ∙ noted)
 open_comes boot app most kernel next visit slot now came taken shares (ItsOpen o) is gives noted uuid =
     let same : o.of ≡ app = same_open boot app o.of shares o.of_boot (sym o.uuid ∙ uuid) in
@@ -236,7 +269,7 @@ no_more n = omega arith
 pub own_open : (boot : Booted) (app : Application) (most : ℕ) (kernel next : Kernel) (cpu steps slot : ℕ) (regs : Regs)
     (reads : List Read)
     (now : PendingCall) (came : OwnEvent) → SharesNone boot app → AreNumbered (call_at kernel.slots) kernel.tables
-    → call_of (reg regs.a 0) ≡ WithArg
+    → IsNew regs.a
     → slice_get next.processors cpu ≡ Some (Inside regs.a steps (InSlot slot))
     → slice_get next.slots slot ≡ Some (Active cpu now)
     → event_of kernel.tables.next_session now ≡ Some came → now.uuid ≡ Some (uuid_of app)

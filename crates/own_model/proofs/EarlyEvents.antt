@@ -21,12 +21,15 @@ use Rattle.kernel_model.specs.Instances.{app_of, is_single}
 use Rattle.kernel_model.specs.Kernel.{Active, Free, Kernel, PendingCall, Processor, Progress, Suspended, Tables}
 use Rattle.kernel_model.specs.Kernel.{ThreadSlot, Visit}
 use Rattle.kernel_model.specs.Resume.{onward_of, resumed_call}
+use Rattle.kernel_model.specs.Sound.{call_in, unmarked}
+use Rattle.kernel_model.specs.SoundCalls.{is_told}
 use Rattle.kernel_model.proofs.EntryLaws.{resumes_call}
 use Rattle.kernel_model.proofs.FixedAnswer.{fixed_answers}
+use Rattle.kernel_model.proofs.OfOneApp.{HasOpen}
 use Rattle.kernel_model.proofs.Parts.{anything, reading-all}
 use Rattle.kernel_model.proofs.SoundExits.{exits_all}
 use Rattle.kernel_model.proofs.SoundResumes.{resumes_all}
-use Rattle.own_model.proofs.Before.{Another, Coming, ItsOpen, OpensIt, Shares, early_call, open_along}
+use Rattle.own_model.proofs.Before.{Another, Coming, IsItsOpen, ItsOpen, OpensIt, Shares, early_call, open_along}
 use Rattle.own_model.proofs.EventKinds.{EntryKind, ExitKind, FromCall, HasAnswer, IsNewCall, IsResume, WithAnswer}
 use Rattle.own_model.proofs.EventKinds.{entry_kind, exit_kind}
 use Rattle.own_model.proofs.FixedAnswers.{entered, left}
@@ -50,11 +53,13 @@ pub data EarlyNext (boot : Booted) (session most : ℕ) (kernel next : Kernel) (
   NowOpen : (of : Application) → session ≡ kernel.tables.next_session → app_of boot (uuid_of of) ≡ Some of
       → now.uuid ≡ Some (uuid_of of) →
       is_single of ≡ false → GoesAlong (about_next of most kernel) no_notes unopened next now
-      → EarlyNext boot session most kernel next now
+      → HasOpen session (uuid_of of) next → EarlyNext boot session most kernel next now
   NowShared : (of : Application) → session < next.tables.next_session → app_of boot (uuid_of of) ≡ Some of
       → now.uuid ≡ Some (uuid_of of) →
-      is_single of ≡ true → EarlyNext boot session most kernel next now
-  NowNameless : session < next.tables.next_session → now ≡ no_notes → EarlyNext boot session most kernel next now
+      is_single of ≡ true → HasOpen session (uuid_of of) next → EarlyNext boot session most kernel next now
+  NowNameless : (of : Application) → session < next.tables.next_session → now ≡ no_notes
+      → app_of boot (uuid_of of) ≡ Some of → is_single of ≡ true → HasOpen session (uuid_of of) next
+      → EarlyNext boot session most kernel next now
 
 -- ---- next numbers
 
@@ -129,16 +134,31 @@ fixed_early session kernel visit answer below before =
     (nobody session kernel (get kernel.tables.sessions session) below before refl)
     ∙ ap (λ b. if b then record no_notes { turned_away = visit.cpu ∷ [] } else no_notes) (and_false (is_limit answer))
 
+-- its open is in a slot
+open_there : (session : ℕ) (next : Kernel) (cpu slot : ℕ) (call now : PendingCall) (uuid : List ℕ) → call ≡ now
+    → IsItsOpen session call → call.uuid ≡ Some uuid → slice_get next.slots slot ≡ Some (Active cpu now)
+    → HasOpen session uuid next
+open_there session next cpu slot call now uuid same opens named there = record {
+  slot = slot;
+  call = unmarked now;
+  in_slot = ap (λ (o : Option ThreadSlot). option_and_then call_in o) there;
+  opens = ap (λ (c : PendingCall). c.kind) (sym same) ∙ opens.kind;
+  untold = ap (λ (c : PendingCall). is_told c.phase) (sym same) ∙ opens.untold;
+  of_session = ap (λ (c : PendingCall). c.session) (sym same) ∙ opens.of_session;
+  of_app = ap (λ (c : PendingCall). c.uuid) (sym same) ∙ named;
+}
+
 opens_next : (boot : Booted) (session most : ℕ) (kernel next : Kernel) (visit : Visit) (slot : ℕ)
     (now : PendingCall) (notes : Notes)
     → (found : IsTaken (λ at taken. Coming boot session kernel.slots at kernel.tables taken) kernel next visit slot now)
     → (o : OpensIt boot session kernel.slots slot kernel.tables found.taken)
     → notes ≡ numbered no_notes slot now (Open o.params o.login)
+    → HasOpen session (uuid_of o.of) next
     → (single : Bool) → is_single o.of ≡ single → EarlyNext boot session most kernel next notes
-opens_next boot session most kernel next visit slot now notes found o is true shares =
+opens_next boot session most kernel next visit slot now notes found o is has true shares =
     NowShared o.of (subst (λ (k : Kernel). session < k.tables.next_session) found.gives o.is_now) o.of_boot
-    (ap (λ (n : Notes). n.uuid) is ∙ ap (λ (c : PendingCall). c.uuid) (sym found.call_is) ∙ o.uuid) shares
-opens_next boot session most kernel next visit slot now notes found o is false alone =
+    (ap (λ (n : Notes). n.uuid) is ∙ ap (λ (c : PendingCall). c.uuid) (sym found.call_is) ∙ o.uuid) shares has
+opens_next boot session most kernel next visit slot now notes found o is has false alone =
     NowOpen o.of o.is_next o.of_boot (ap (λ (n : Notes). n.uuid) is ∙ ap (λ (c : PendingCall). c.uuid)
     (sym found.call_is) ∙ o.uuid) alone
     (subst (GoesAlong (about_next o.of most kernel) no_notes unopened next) (sym is)
@@ -146,25 +166,29 @@ opens_next boot session most kernel next visit slot now notes found o is false a
     (numbered no_notes slot call (Open o.params o.login))) found.call_is
     (subst (λ (k : Kernel). GoesAlong (about_next o.of most kernel) no_notes unopened k
     (numbered no_notes slot found.taken.call (Open o.params o.login))) found.gives
-    (open_along o.of most kernel visit slot found.taken o.params o.login (o.tied alone)))))
+    (open_along o.of most kernel visit slot found.taken o.params o.login (o.tied alone))))) has
 
 call_next : (boot : Booted) (session most : ℕ) (kernel next : Kernel) (visit : Visit) (slot : ℕ)
     (now : PendingCall) (notes : Notes)
     → (found : IsTaken (λ at taken. Coming boot session kernel.slots at kernel.tables taken) kernel next visit slot now)
     → notes ≡ option_map_or (numbered no_notes slot now) (event_of session now) no_notes
+    → slice_get next.slots slot ≡ Some (Active visit.cpu now)
     → Coming boot session kernel.slots slot kernel.tables found.taken → EarlyNext boot session most kernel next notes
-call_next boot session most kernel next visit slot now notes found is (Another none lower) =
+call_next boot session most kernel next visit slot now notes found is there (Another none lower) =
     StillEarly (is ∙ ap (λ (o : Option OwnEvent). option_map_or (numbered no_notes slot now) o no_notes)
     (ap (λ (c : PendingCall). event_of session c) (sym found.call_is) ∙ none))
     (subst (λ (k : Kernel). k.tables.next_session ≤ session) found.gives lower)
-call_next boot session most kernel next visit slot now notes found is (Shares none more) =
-    NowNameless (subst (λ (k : Kernel). session < k.tables.next_session) found.gives more)
+call_next boot session most kernel next visit slot now notes found is there (Shares none more its) =
+    NowNameless its.of (subst (λ (k : Kernel). session < k.tables.next_session) found.gives more)
     (is ∙ ap (λ (o : Option OwnEvent). option_map_or (numbered no_notes slot now) o no_notes)
     (ap (λ (c : PendingCall). event_of session c) (sym found.call_is) ∙ none))
-call_next boot session most kernel next visit slot now notes found is (ItsOpen o) =
+    its.of_boot its.shares
+    (open_there session next visit.cpu slot found.taken.call now (uuid_of its.of) found.call_is its.opens its.uuid there)
+call_next boot session most kernel next visit slot now notes found is there (ItsOpen o) =
     opens_next boot session most kernel next visit slot now notes found o
     (is ∙ ap (λ (came : Option OwnEvent). option_map_or (numbered no_notes slot now) came no_notes)
     (ap (λ (c : PendingCall). event_of session c) (sym found.call_is) ∙ o.noted))
+    (open_there session next visit.cpu slot found.taken.call now (uuid_of o.of) found.call_is o.opens o.uuid there)
     (is_single o.of) refl
 
 entry_next : (boot : Booted) (session most : ℕ) (kernel next : Kernel) (cpu steps : ℕ) (regs : Regs) (reads : List Read)
@@ -183,7 +207,7 @@ entry_next boot session most kernel next cpu steps regs reads below before e (Ha
 entry_next boot session most kernel next cpu steps regs reads below before e (IsNewCall slot now is inside there) =
     let found = early_call boot session kernel next cpu steps slot regs reads now below before is inside there e in
     call_next boot session most kernel next (record { cpu = cpu; regs = regs.a; steps = steps }) slot now _ found
-    (new_call_noted session kernel next cpu steps slot regs reads now no_notes inside found.free there) found.holds
+    (new_call_noted session kernel next cpu steps slot regs reads now no_notes inside found.free there) there found.holds
 entry_next boot session most kernel next cpu steps regs reads below before e (IsResume call is some inside) =
     let visit : Visit = record { cpu = cpu; regs = regs.a; steps = steps } in
     let at : Entering = record { kernel = kernel; next = next; visit = visit; reads = reads } in

@@ -34,4 +34,6 @@ pub mod EventKinds
 pub mod UuidKept
 pub mod EarlyEvents
 pub mod TiedEvents
+pub mod RepliesTold
 pub mod WholeHistories
+pub mod KeptSessions

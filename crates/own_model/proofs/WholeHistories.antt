@@ -1,6 +1,7 @@
 -- Isolation: the machine of a session goes along with a whole history.
 use Rattle.std.proofs.Common.{◌≡◌, ℕ, zero, suc, ◌+◌, ◌*◌, ◌<◌, ◌≤◌, true, false, List, [], ◌∷◌, ◌++◌, length, Option}
 use Rattle.std.proofs.Common.{Some, None, refl, ap, subst, sym, ◌∙◌, arith}
+use Rattle.std.specs.Prelude.{is_some, take}
 use Rattle.std.specs.Option.{option_and_then, option_map, option_map_or}
 use Rattle.std.proofs.lemmas.List.{append_assoc, append-nil, length-append, map-append}
 use Rattle.std.proofs.lemmas.List.Elements.{filter_map-append}
@@ -10,7 +11,7 @@ use Rattle.kernel_model.specs.Application.{Application, Booted, uuid_of}
 use Rattle.kernel_model.specs.History.{after_event, after_events, kernel_after}
 use Rattle.kernel_model.specs.Instances.{app_of, is_single}
 use Rattle.kernel_model.specs.Kernel.{Kernel, first_kernel}
-use Rattle.kernel_model.proofs.Parts.{some_of}
+use Rattle.kernel_model.proofs.Parts.{option_map_some, some_of}
 use Rattle.kernel_model.proofs.Past.{after_events-append}
 use Rattle.kernel_model.proofs.SoundNumbers.{numbered, numbers_rise}
 use Rattle.kernel_model.proofs.SoundOrder.{in_order}
@@ -19,12 +20,14 @@ use Rattle.own_model.proofs.BelowNumbers.{below_numbers}
 use Rattle.own_model.proofs.EarlyEvents.{EarlyNext, NowNameless, NowOpen, NowShared, StillEarly, early_next}
 use Rattle.own_model.proofs.InOrder.{stays_in_order}
 use Rattle.own_model.proofs.MoreSteps.{more_steps_agree}
+use Rattle.own_model.proofs.RepliesTold.{AreTold, IsTold, logs_told, steps_told}
 use Rattle.own_model.proofs.TiedEvents.{IsReady, event_along}
 use Rattle.own_model.proofs.UuidKept.{uuid_stays}
 use Rattle.own_model.specs.declared.own_event.OwnEvent.{OwnEvent}
 use Rattle.own_model.specs.declared.own_reply.OwnReply.{OwnReply}
 use Rattle.own_model.specs.InOrder.{IsInOrder}
-use Rattle.own_model.specs.Isolation.{AnsweredAsAlone, IsSessionOf, SameEventsSameReplies, steps_in}
+use Rattle.own_model.specs.Isolation.{AnsweredAsAlone, IsSessionOf, SameBeginningsSameReplies}
+use Rattle.own_model.specs.Isolation.{SameEventsSameReplies, steps_in}
 use Rattle.own_model.specs.Laws.{About, AreTied, SharesNone, about_next}
 use Rattle.own_model.specs.Own.{Logged, Notes, event_noted, events_in, no_notes, noted, noted_from, own_events}
 use Rattle.own_model.specs.Own.{own_replies, replies_in}
@@ -86,7 +89,7 @@ run-append most app solo then last (came ∷ events) more replies others e behin
 -- ---- what holds of the kernels
 
 -- the kernel after one event more
-one_more : (boot : Booted) (past : List Event) (kernel next : Kernel) (happened : Event)
+pub one_more : (boot : Booted) (past : List Event) (kernel next : Kernel) (happened : Event)
     → kernel_after boot past ≡ Some kernel
     → after_event boot kernel happened ≡ Some next → kernel_after boot (past ++ happened ∷ []) ≡ Some next
 one_more boot past kernel next happened there e =
@@ -95,11 +98,11 @@ one_more boot past kernel next happened there e =
     ∙ ap (λ (o : Option Kernel). option_and_then (λ (k : Kernel). Some k) o) e
 
 -- where the history goes on from: the kernel after what has been, and the bound of steps for what is still to come
-record IsAt (boot : Booted) (most : ℕ) (past : List Event) (kernel : Kernel) (events : List Event) : Type 0 where
-  last : Kernel
-  there : kernel_after boot past ≡ Some kernel
-  onward : after_events boot kernel events ≡ Some last
-  bound : 1000000 * (length past + length events) ≤ most
+pub record IsAt (boot : Booted) (most : ℕ) (past : List Event) (kernel : Kernel) (events : List Event) : Type 0 where
+  pub last : Kernel
+  pub there : kernel_after boot past ≡ Some kernel
+  pub onward : after_events boot kernel events ≡ Some last
+  pub bound : 1000000 * (length past + length events) ≤ most
 
 -- after its first event
 record IsOn (boot : Booted) (most : ℕ) (past : List Event) (kernel : Kernel) (happened : Event)
@@ -158,7 +161,7 @@ runs_on most app before between after solo then items logged replies rest = reco
       (sym (filter_map-append (λ (logged : Logged). logged.1) items rest.items));
 }
 
-goes_from : (boot : Booted) (session : ℕ) (kernel next : Kernel) (notes : Notes) (happened : Event)
+pub goes_from : (boot : Booted) (session : ℕ) (kernel next : Kernel) (notes : Notes) (happened : Event)
     (events : List Event) → after_event boot kernel happened ≡ Some next
     → noted_from boot session kernel notes (happened ∷ events)
     ≡ noted_from boot session next (event_noted session kernel next notes happened) events
@@ -192,7 +195,7 @@ tied_on boot about past kernel notes solo (happened ∷ events) shares order tie
 
 -- ---- a session whose application shares an instance, or that has none
 
-uuid_on : (boot : Booted) (session most : ℕ) (past : List Event) (kernel : Kernel) (notes : Notes) (events : List Event)
+pub uuid_on : (boot : Booted) (session most : ℕ) (past : List Event) (kernel : Kernel) (notes : Notes) (events : List Event)
     → session < kernel.tables.next_session → IsAt boot most past kernel events
     → (noted_from boot session kernel notes events).uuid ≡ notes.uuid
 uuid_on boot session most past kernel notes [] given at = refl
@@ -270,14 +273,14 @@ early_on boot session most past kernel (happened ∷ events) before at =
         → IsAnswered boot most (noted_from boot session on.next now events)
     by_next on now (StillEarly same lower) later =
         subst (λ (n : Notes). IsAnswered boot most (noted_from boot session on.next n events)) (sym same) (later lower)
-    by_next on now (NowNameless higher same) later =
+    by_next on now (NowNameless of higher same of_boot shares has) later =
         nameless_answered boot most (noted_from boot session on.next now events)
         (uuid_on boot session most (past ++ happened ∷ []) on.next now events higher on.at
         ∙ ap (λ (n : Notes). n.uuid) same)
-    by_next on now (NowShared of higher of_boot uuid shares) later =
+    by_next on now (NowShared of higher of_boot uuid shares has) later =
         shared_answered boot most (noted_from boot session on.next now events) of
         (uuid_on boot session most (past ++ happened ∷ []) on.next now events higher on.at ∙ uuid) of_boot shares
-    by_next on now (NowOpen of is_next of_boot uuid alone along) later =
+    by_next on now (NowOpen of is_next of_boot uuid alone along has) later =
         let about : About = about_next of most kernel in
         let order = stays_in_order.runs most of unopened along.then (events_in along.items)
         (replies_in along.items) stays_in_order.first along.replies in
@@ -346,3 +349,93 @@ same_replies boot another history other session number app s t same =
   where
     some_end : (a b : Ended) → Some a ≡ Some b → a ≡ b
     some_end a b is = cc
+
+-- ---- beginnings
+
+-- where both have a reply or neither has one, the replies behind are the same, and so is this
+same_front : (a b : Option OwnReply) (replies others : List OwnReply) → is_some a ≡ is_some b
+    → and_reply a replies ≡ and_reply b others → (a ≡ b) × (replies ≡ others)
+same_front None None replies others same e = (refl, e)
+same_front None (Some b) replies others same e = absurd cc
+same_front (Some a) None replies others same e = absurd cc
+same_front (Some a) (Some b) replies others same e =
+    let head : a ≡ b = cc in
+    let tail : replies ≡ others = cc in
+    (ap Some head, tail)
+
+first_reply : (logged : Logged) (log : List Logged) → replies_in (logged ∷ log) ≡ and_reply logged.1 (replies_in log)
+first_reply (came, None) log = refl
+first_reply (came, Some told) log = refl
+
+-- the machine does what the log tells
+abbrev Tells : ℕ → Application → Solo → List Logged → Type 0
+Tells most app solo log = (then : Solo) × (run most app solo (events_in log) ≡ Some (then, replies_in log))
+
+-- at its first event too
+record TellsFirst (most : ℕ) (app : Application) (solo : Solo) (logged : Logged) (log : List Logged) : Type 0 where
+  answered : Answered
+  steps : step most app solo logged.0 ≡ Some answered
+  told : answered.1 ≡ logged.1
+  rest : Tells most app answered.0 log
+
+tells_first : (most : ℕ) (app : Application) (solo : Solo) (logged : Logged) (log : List Logged) → IsTold logged
+    → Tells most app solo (logged ∷ log) → TellsFirst most app solo logged log
+tells_first most app solo logged log told tells =
+    option_and_then_some (goes_on most app (events_in log)) (step most app solo logged.0)
+    (tells.0, replies_in (logged ∷ log)) tells.1
+    (λ (answered : Answered) there onward.
+    let end = option_map_some (and_told answered.1) (run most app answered.0 (events_in log))
+    (tells.0, replies_in (logged ∷ log)) onward in
+    let same = same_front answered.1 logged.1 end.0.1 (replies_in log)
+    (steps_told most app solo logged.0 answered there ∙ sym told)
+    (ap (λ (x : Ended). x.1) end.2 ∙ first_reply logged log) in
+    record {
+      answered = answered;
+      steps = there;
+      told = same.0;
+      rest = (end.0.0, end.1 ∙ ap (λ (rs : List OwnReply). Some (end.0.0, rs)) same.1);
+    })
+
+first_same : (a b : OwnEvent) (events others : List OwnEvent) → a ∷ events ≡ b ∷ others → (a ≡ b) × (events ≡ others)
+first_same a b events others e = (cc, cc)
+
+both_tell : (most : ℕ) (app : Application) (solo : Solo) (count : ℕ) (log other : List Logged)
+    → AreTold log → AreTold other → Tells most app solo log → Tells most app solo other
+    → events_in (take count log) ≡ events_in (take count other) → replies_in (take count log) ≡ replies_in (take count other)
+both_tell most app solo zero log other told others one two same = refl
+both_tell most app solo (suc count) [] [] told others one two same = refl
+both_tell most app solo (suc count) [] (second ∷ other) told others one two same = absurd cc
+both_tell most app solo (suc count) (first ∷ log) [] told others one two same = absurd cc
+both_tell most app solo (suc count) (first ∷ log) (second ∷ other) told others one two same =
+    let events = first_same first.0 second.0 (events_in (take count log)) (events_in (take count other)) same in
+    let a = tells_first most app solo first log told.0 one in
+    let b = tells_first most app solo second other others.0 two in
+    let answers : a.answered ≡ b.answered =
+    some_answered a.answered b.answered
+    (sym a.steps ∙ ap (λ (came : OwnEvent). step most app solo came) events.0 ∙ b.steps) in
+    let replies : first.1 ≡ second.1 = sym a.told ∙ ap (λ (x : Answered). x.1) answers ∙ b.told in
+    let rest = both_tell most app a.answered.0 count log other told.1 others.1 a.rest
+    (subst (λ (x : Answered). Tells most app x.0 other) (sym answers) b.rest) events.1 in
+    first_reply first (take count log)
+    ∙ ap (λ (told : Option OwnReply). and_reply told (replies_in (take count log))) replies
+    ∙ ap (λ (rs : List OwnReply). and_reply second.1 rs) rest
+    ∙ sym (first_reply second (take count other))
+  where
+    some_answered : (x y : Answered) → Some x ≡ Some y → x ≡ y
+    some_answered x y is = cc
+
+pub same_beginnings : SameBeginningsSameReplies
+same_beginnings boot another history other session number count app s t same =
+    let one = session_answered boot history session app s in
+    let two = session_answered another other number app t in
+    let most : ℕ = steps_in history + steps_in other in
+    both_tell most app unopened count (noted boot history session).log (noted another other number).log
+    (logs_told boot history session) (logs_told another other number) (
+      one.0,
+      more_steps_agree app (steps_in history) most unopened one.0 (own_events boot history session)
+          (own_replies boot history session) (first_more (steps_in history) (steps_in other)) one.1,
+    ) (
+      two.0,
+      more_steps_agree app (steps_in other) most unopened two.0 (own_events another other number)
+          (own_replies another other number) (second_more (steps_in history) (steps_in other)) two.1,
+    ) same

@@ -1,5 +1,6 @@
 //! Isolation: what a session is answered depends on its own events alone.
-ghost use Rattle.own_model.specs.Isolation.{AnsweredAsAlone, SameEventsSameReplies};
+ghost use Rattle.own_model.specs.Isolation.{AnsweredAsAlone, KeptSessionsAreKnown, SameBeginningsSameReplies};
+ghost use Rattle.own_model.specs.Isolation.{SameEventsSameReplies};
 
 /// After each legal history a session of an application whose sessions share no instance was answered as its machine
 /// answers to its events.
@@ -11,4 +12,16 @@ pub fn sessions_are_answered_as_alone()
 /// happened, in whichever two boots.
 pub fn same_events_get_same_replies()
     ensures { SameEventsSameReplies }
+{}
+
+/// And wherever the same has happened to two such sessions, not only in the end: as far as their first events are the
+/// same, so are the replies to these.
+pub fn same_beginnings_get_same_replies()
+    ensures { SameBeginningsSameReplies }
+{}
+
+/// After each legal history the application of each session that is kept is known, where its sessions share no instance,
+/// so that the law is about that session; and it stays known, whatever comes then.
+pub fn kept_sessions_are_known()
+    ensures { KeptSessionsAreKnown }
 {}

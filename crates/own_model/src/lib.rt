@@ -11,7 +11,10 @@ mod laws;
 mod own_event;
 mod own_reply;
 
-pub use isolation::{same_events_get_same_replies, sessions_are_answered_as_alone};
+pub use isolation::{
+    kept_sessions_are_known, same_beginnings_get_same_replies, same_events_get_same_replies,
+    sessions_are_answered_as_alone,
+};
 pub use laws::{
     calls_of_others_keep_sessions, exits_of_others_keep_sessions, fixed_answers_keep_sessions,
     interrupts_keep_sessions, machines_stay_in_order, more_steps_agree, opens_tie_sessions,
