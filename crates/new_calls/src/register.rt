@@ -1,4 +1,4 @@
-ghost use Rattle.std.specs.Prelude.{◌≡◌, ◌<◌, ◌≤◌, IfOk, IfSome, List, Some};
+ghost use Rattle.std.specs.Prelude.{◌≡◌, ◌<◌, ◌≤◌, IfErr, IfOk, IfSome, List, Some};
 ghost use Rattle.kernel_model.specs.Argument.{registering};
 ghost use Rattle.kernel_model.specs.Decision.{Taken as AnyTaken};
 ghost use Rattle.kernel_model.specs.NewCall.{listed_pages, offset_in, pages_touched, register_memory};
@@ -109,7 +109,8 @@ impl NewCall<'_> {
         None
     }
 
-    /// Its pages, by the lists of their addresses. None where one is no page of RAM.
+    /// Its pages, by the lists of their addresses. None where one is no page of RAM: that comes before want of memory,
+    /// at which nothing was read.
     fn listed_pages(
         &self,
         alloc: Global,
@@ -123,6 +124,7 @@ impl NewCall<'_> {
             ≡ Some (pages_or faulty pages, reads.new)) }
         ensures good { IfOk result (λ walked. IfSome walked (λ pages.
             IsBuffer (record { pages = pages.items; offset = offset_in param.now; size = param.now.q }))) }
+        ensures memory { IfErr result (λ _. reads.new ≡ reads.old) }
     {
         let first_list = param.p - offset_in(param);
         let count = pages_touched(param) as u32;
