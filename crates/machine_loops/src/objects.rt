@@ -10,6 +10,7 @@ use rpc_msgs::{Payload, Rpc, RpcReply};
 use std::alloc::{AllocError, Global};
 use std::fmt::Write;
 use ta_params::ObjectCall;
+use ta_step::{copy_part, put_part};
 use tee_storage::{Handles, ObjectState, Span, StorageStep};
 use uuid::Uuid;
 
@@ -38,6 +39,14 @@ impl Span for Range {
 
     fn set(&mut self, at: u32, byte: u8) {
         self.bytes[at as usize] = byte;
+    }
+
+    fn read(&self, at: u32, out: &mut [u8]) {
+        copy_part(self.bytes.as_slice(), at as usize, out);
+    }
+
+    fn write(&mut self, at: u32, part: &[u8]) {
+        put_part(self.bytes.as_mut_slice(), at as usize, part);
     }
 }
 
