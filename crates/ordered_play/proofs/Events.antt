@@ -134,6 +134,36 @@ none_stays cpu from history more others e = by (grind arith)
         ∙ ap (first_of cpu from) (drop-append-add history more (from - length history))
         ∙ none_of_others cpu from _ (others_behind cpu from (from - length history) more others)
 
+-- one that comes behind all others is the next, where there was none
+first_last : (cpu from : ℕ) (events : List Event) (event : Event) → cpu_of_event event ≡ cpu
+    → first_of cpu from events ≡ None → first_of cpu from (events ++ event ∷ []) ≡ Some (from + length events, event)
+first_last cpu from [] event own e =
+    let is : (cpu_of_event event == cpu) ≡ true = grind (arith, nat_tests) in
+    let place : from ≡ from + 0 = omega arith in
+    ap (λ (test : Bool). if test then Some (from, event) else None) is ∙ ap (λ (n : ℕ). Some (n, event)) place
+first_last cpu from (first ∷ events) event own e =
+    by (cpu_of_event first == cpu) e (first_last cpu (from + 1) events event own)
+  where
+    by : (test : Bool) → (if test then Some (from, first) else first_of cpu (from + 1) events) ≡ None
+        → (first_of cpu (from + 1) events ≡ None
+        → first_of cpu (from + 1) (events ++ event ∷ []) ≡ Some (from + 1 + length events, event))
+        → (if test then Some (from, first) else first_of cpu (from + 1) (events ++ event ∷ []))
+        ≡ Some (from + length (first ∷ events), event)
+    by true e later = absurd cc
+    by false e later =
+        let place : from + 1 + length events ≡ from + length (first ∷ events) = omega arith in
+        later e ∙ ap (λ (n : ℕ). Some (n, event)) place
+
+pub next_last : (cpu from : ℕ) (history : List Event) (event : Event) → from ≤ length history
+    → cpu_of_event event ≡ cpu → next_event history cpu from ≡ None
+    → next_event (history ++ event ∷ []) cpu from ≡ Some (length history, event)
+next_last cpu from history event inside own e =
+    let rest = length-drop from history in
+    let place : from + length (drop from history) ≡ length history = omega (arith, rest, inside) in
+    ap (first_of cpu from) (drop-append-le from history (event ∷ []) inside)
+    ∙ first_last cpu from (drop from history) event own e
+    ∙ ap (λ (n : ℕ). Some (n, event)) place
+
 -- ---- at a seam of the history
 
 pub next_from : (cpu : ℕ) (history before behind : List Event) → history ≡ before ++ behind

@@ -9,3 +9,5 @@ pub mod Legal
 pub mod Midway
 pub mod Refused
 pub mod Merged
+pub mod Growing
+pub mod PartsOfPlay

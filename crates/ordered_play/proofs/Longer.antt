@@ -1,12 +1,15 @@
 -- A part stays where events of others follow on its history.
-use Rattle.std.proofs.Common.{ℕ, ◌≤◌, List, [], ◌∷◌, ◌∙◌, ap, arith, length}
+use Rattle.std.proofs.Common.{ℕ, ◌≤◌, List, [], ◌∷◌, ◌∙◌, ap, arith, length, refl}
+use Rattle.std.specs.List.{AllByRecursion}
 use Rattle.std.proofs.lemmas.List.{take-append-le}
 use Rattle.event_journal.specs.declared.event.Event.{Event}
 use Rattle.kernel_model.specs.History.{exit_after}
+use Rattle.kernel_model.specs.Laws.{IsOfOther}
+use Rattle.trace_text.specs.declared.item.Item.{Item}
 use Rattle.ordered_play.proofs.Events.{next_stands, next_stays, none_stays}
 use Rattle.ordered_play.specs.Act.{Act, Comes, Leaves, Writes, Shows}
 use Rattle.ordered_play.specs.Laws.{PartsStay, longer}
-use Rattle.ordered_play.specs.Part.{AreActsOf, ComesIn, GoesOut, IsActOf, Share, Standing}
+use Rattle.ordered_play.specs.Part.{AreActsOf, ComesIn, GoesOut, IsActOf, IsPart, Share, Standing, first_standing}
 use Rattle.trace_text.specs.declared.item.Reg.{Reg}
 
 module _ (of : Share) (more : List Event) where
@@ -45,15 +48,20 @@ module _ (of : Share) (more : List Event) where
   acts_stay [] old new are = are
   acts_stay (act ∷ done) old new are = (are.0, act_stays act old are.0 are.1, acts_stay done are.0 new are.2)
 
+-- the part with the same acts
+abbrev pub part_stays : (of : Share) (more : List Event) (items : List Item) (lane : List ℕ) (end : Standing)
+    → AllByRecursion (IsOfOther of.cpu) more → IsPart of items lane end → IsPart (longer of more) items lane end
+part_stays of more items lane end others part = record {
+  done = part.done;
+  left = part.left;
+  cut = part.cut;
+  acts = acts_stay of more part.done (first_standing lane) end part.acts;
+  spent = none_stays of.cpu end.used of.history more others part.spent;
+  stops = part.stops;
+}
+
 pub parts_stay : PartsStay
 parts_stay = record {
   acts = acts_stay;
-  parts = λ of more items lane end others part. record {
-    done = part.done;
-    left = part.left;
-    cut = part.cut;
-    acts = acts_stay of more part.done _ end part.acts;
-    spent = none_stays of.cpu end.used of.history more others part.spent;
-    stops = part.stops;
-  };
+  parts = λ of more items lane end others part. (part_stays of more items lane end others part, refl);
 }

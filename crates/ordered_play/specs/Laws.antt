@@ -3,14 +3,14 @@ use Rattle.std.specs.Prelude.{◌≡◌, ℕ, ◌^◌, Option, ◌<◌, ◌≤�
 use Rattle.std.specs.List.{AllByRecursion}
 use Rattle.event_journal.specs.Journal.{copied_bytes}
 use Rattle.event_journal.specs.declared.event.Event.{Event}
-use Rattle.kernel_model.specs.Application.{Booted}
+use Rattle.kernel_model.specs.Application.{Booted, IsBooted}
 use Rattle.kernel_model.specs.History.{IsLegal}
 use Rattle.kernel_model.specs.Laws.{IsOfOther}
 use Rattle.play_model.specs.Play.{filled}
 use Rattle.trace_text.specs.declared.item.Item.{Item}
 use Rattle.trace_text.specs.declared.trace.Trace.{Trace}
 use Rattle.ordered_play.specs.Act.{Act}
-use Rattle.ordered_play.specs.Merge.{ComesTo, IsRefusedIf, Parts, order_with, seat_of, seat_with, share_of}
+use Rattle.ordered_play.specs.Merge.{ComesTo, IsOfParts, IsRefusedIf, Parts, order_with, seat_of, seat_with, share_of}
 use Rattle.ordered_play.specs.Ordered.{OrderedPlay, after_turns, first_ordered}
 use Rattle.ordered_play.specs.Part.{AreActsOf, IsPart, Share, Standing, cpu_of_event}
 
@@ -31,9 +31,10 @@ pub record PartsStay : Type 0 where
   -- acts that were done stay so where events follow
   pub acts : (of : Share) (more : List Event) (done : List Act) (old new : Standing) → AreActsOf of done old new →
       AreActsOf (longer of more) done old new
-  -- and so does a part where none of them is its processor's
+  -- and so does a part, with the acts that it leaves, where none of them is its processor's
   pub parts : (of : Share) (more : List Event) (items : List Item) (lane : List ℕ) (end : Standing) →
-      AllByRecursion (IsOfOther of.cpu) more → IsPart of items lane end → IsPart (longer of more) items lane end
+      AllByRecursion (IsOfOther of.cpu) more → (part : IsPart of items lane end) →
+      (now : IsPart (longer of more) items lane end) × (now.left ≡ part.left)
 
 -- ---- all processors
 
@@ -57,3 +58,8 @@ RefusalsMerge = (boot : Booted) (ram : List ℕ) (trace : Trace) (history : List
     × ComesTo boot history
     (λ cpu below. seat_with (share_of boot history cpu) trace.items (filled ram trace.fills) (parts cpu below)
     (places cpu) (refusals cpu below)) play
+
+-- each play in an order is one of parts
+abbrev pub PlaysHaveParts : Type 0
+PlaysHaveParts = (boot : Booted) (ram : List ℕ) (trace : Trace) (order : List ℕ) (play : OrderedPlay) → IsBooted boot →
+    after_turns boot order (first_ordered ram boot trace) ≡ Some play → IsOfParts boot ram trace play

@@ -7,7 +7,7 @@ use Rattle.std.specs.Option.{option_map_or}
 use Rattle.event_journal.specs.Journal.{copied_bytes}
 use Rattle.event_journal.specs.declared.event.Event.{Event}
 use Rattle.kernel_model.specs.Application.{Booted}
-use Rattle.kernel_model.specs.History.{kernel_after}
+use Rattle.kernel_model.specs.History.{IsLegal, kernel_after}
 use Rattle.kernel_model.specs.Kernel.{Kernel}
 use Rattle.ns_ram.specs.Reads.{total_bytes}
 use Rattle.ns_ram.specs.declared.read.Read.{Read}
@@ -98,3 +98,22 @@ abbrev pub order_with : (ℕ → Option ℕ) → ℕ → ℕ → List Event → 
 order_with places cpus at [] = refused_at places cpus at
 order_with places cpus at (event ∷ events) =
     refused_at places cpus at ++ cpu_of_event event ∷ order_with places cpus (at + 1) events
+
+-- ---- the parts of a play
+
+-- a processor's part of the play's history, and the place of its refused entry, where it has one: its seat has come to
+-- this
+pub record HasPart (boot : Booted) (ram : List ℕ) (trace : Trace) (play : OrderedPlay) (cpu : ℕ) : Type 0 where
+  pub part : Part (share_of boot play.history cpu) trace.items (filled ram trace.fills)
+  pub place : Option ℕ
+  pub refused : IsRefusedIf (share_of boot play.history cpu) trace.items (filled ram trace.fills) part place
+  pub seat : slice_get play.seats cpu
+      ≡ Some (seat_with (share_of boot play.history cpu) trace.items (filled ram trace.fills) part place refused)
+
+-- the play's history is legal, its entries have read at most 2^28 bytes, and each processor has its part of it
+pub record IsOfParts (boot : Booted) (ram : List ℕ) (trace : Trace) (play : OrderedPlay) : Type 0 where
+  pub legal : IsLegal boot play.history
+  pub kernel : kernel_after boot play.history ≡ Some play.kernel
+  pub few : copied_bytes play.history ≤ 2 ^ 28
+  pub count : length play.seats ≡ boot.cpus
+  pub parts : (cpu : ℕ) → cpu < boot.cpus → HasPart boot ram trace play cpu

@@ -1,6 +1,6 @@
 //! What holds of the definitions themselves.
 ghost use Rattle.ordered_play.specs.Examples.{Examples};
-ghost use Rattle.ordered_play.specs.Laws.{PartsAreUnique, PartsMerge, PartsStay, RefusalsMerge};
+ghost use Rattle.ordered_play.specs.Laws.{PartsAreUnique, PartsMerge, PartsStay, PlaysHaveParts, RefusalsMerge};
 
 /// A processor has at most one part of a history: over the same RAM the same items end in the same standing.
 pub fn parts_are_unique()
@@ -23,6 +23,12 @@ pub fn parts_merge()
 /// have come to more than 2^28 with it, and its processor has come to its part with what was refused.
 pub fn refusals_merge()
     ensures { RefusalsMerge }
+{}
+
+/// The history of each play in an order is legal, its entries have read at most 2^28 bytes, and each processor has come
+/// to its part of it, with its refused entry where it has one.
+pub fn plays_have_parts()
+    ensures { PlaysHaveParts }
 {}
 
 /// Plays of two processors in several orders, with what they print, and parts of their histories.

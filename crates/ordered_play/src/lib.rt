@@ -9,4 +9,6 @@
 
 mod laws;
 
-pub use laws::{parts_are_unique, parts_merge, parts_stay, refusals_merge, worked_examples};
+pub use laws::{
+    parts_are_unique, parts_merge, parts_stay, plays_have_parts, refusals_merge, worked_examples,
+};

@@ -1,0 +1,355 @@
+-- Each play in an order is one of parts: with each turn its processor's part grows, or stays with a refused entry, and
+-- the parts of all others stay.
+use Rattle.std.proofs.Common.{◌≡◌, ℕ, ◌+◌, ◌<◌, ◌≤◌, Bool, true, false, List, [], ◌∷◌, Option, Some, None, length}
+use Rattle.std.proofs.Common.{append-nil, take, refl, sym, ◌∙◌, ap, subst, arith}
+use Rattle.std.specs.Prelude.{◌^◌, IsSome, nat_lt, if◌then◌else◌, slice_get}
+use Rattle.std.specs.List.{AllByRecursion}
+use Rattle.std.specs.Option.{option_and_then}
+use Rattle.std.proofs.Math.Seq.{take-append_seam}
+use Rattle.std.proofs.lemmas.Bool.Decides.{nat_tests}
+use Rattle.std.proofs.lemmas.List.{length-set, take-append-le, length-append}
+use Rattle.std.proofs.lemmas.List.FromFn.{length-map-range_with_len}
+use Rattle.std.proofs.lemmas.List.Sums.{sum_by-append}
+use Rattle.std.proofs.lemmas.Option.{option_and_then_some, slice_get_within}
+use Rattle.event_journal.specs.Event.{copied_by}
+use Rattle.event_journal.specs.Journal.{copied_bytes}
+use Rattle.event_journal.specs.declared.event.Event.{Event}
+use Rattle.event_journal.specs.declared.event.Event.TheVariants.{Entry, Exit}
+use Rattle.kernel_model.proofs.Parts.{option_map_some, set_found, set_other}
+use Rattle.kernel_model.proofs.SoundSlots.{by_number}
+use Rattle.kernel_model.specs.Application.{Booted, IsBooted}
+use Rattle.kernel_model.specs.Entry.{entry}
+use Rattle.kernel_model.specs.Exit.{Exited, exit}
+use Rattle.kernel_model.specs.History.{after_event, kernel_after}
+use Rattle.kernel_model.specs.Kernel.{Kernel}
+use Rattle.kernel_model.specs.Laws.{IsOfOther}
+use Rattle.ns_ram.proofs.ReaderLaws.{over_lane-reading}
+use Rattle.ns_ram.specs.Reader.{over_lane}
+use Rattle.ns_ram.specs.Reads.{HoldsReads, total_bytes}
+use Rattle.ns_ram.specs.declared.read.Read.{Read}
+use Rattle.play_model.specs.Play.{filled}
+use Rattle.trace_text.specs.declared.item.Item.{Item}
+use Rattle.trace_text.specs.declared.item.Reg.{Reg}
+use Rattle.trace_text.specs.declared.trace.Trace.{Trace}
+use Rattle.ordered_play.proofs.Events.{none_at_end, none_stays, one_longer, same_some}
+use Rattle.ordered_play.proofs.Growing.{come_in, go_out, grows, skip}
+use Rattle.ordered_play.proofs.Legal.{one_event_more}
+use Rattle.ordered_play.proofs.Longer.{part_stays}
+use Rattle.ordered_play.proofs.Midway.{first_there}
+use Rattle.ordered_play.proofs.Ready.{ready_anew}
+use Rattle.ordered_play.proofs.Turn.{entry_by, moved_on}
+use Rattle.ordered_play.specs.Act.{Act, Comes, Leaves, Writes, Shows, acts_for}
+use Rattle.ordered_play.specs.Laws.{PlaysHaveParts, longer}
+use Rattle.ordered_play.specs.Merge.{HasPart, IsOfParts, IsRefusedIf, Part, seat_left, seat_of, seat_with, share_of}
+use Rattle.ordered_play.specs.Ordered.{OrderedPlay, after_act, after_turn, after_turns, enters_with, first_ordered}
+use Rattle.ordered_play.specs.Ordered.{leaves_with, reads_of, refused_seat, visit_with, with_event, with_seat}
+use Rattle.ordered_play.specs.Part.{IsActOf, Share, Standing, StopsAtEvent, cpu_of_event, first_standing, next_event}
+use Rattle.ordered_play.specs.Seat.{Seat, Told, first_seat, ready_for, with_line, with_writes}
+
+take_whole : (history : List Event) → take (length history) history ≡ history
+take_whole history = ap (take (length history)) (sym (append-nil history)) ∙ take-append_seam history []
+
+-- ---- parts of others stay
+
+module _ (of : Share) (more : List Event) (items : List Item) (lane : List ℕ) (part : Part of items lane)
+    (others : AllByRecursion (IsOfOther of.cpu) more) where
+  abbrev kept : Part (longer of more) items lane
+  kept = record { end = part.end; is_part = part_stays of more items lane part.end others part.is_part }
+
+  refused_stays : (place : Option ℕ) → IsRefusedIf of items lane part place
+      → IsRefusedIf (longer of more) items lane kept place
+  refused_stays None refused = tt
+  refused_stays (Some place) refused =
+      let front = take-append-le place of.history more refused.within in
+      let long = length-append of.history more in
+      let within = refused.within in
+      record {
+        within = omega (arith, long, within);
+        last = none_stays of.cpu place of.history more others refused.last;
+        steps = refused.steps;
+        regs = refused.regs;
+        rest = refused.rest;
+        left = refused.left;
+        kernel = refused.kernel;
+        before = ap (kernel_after of.boot) front ∙ refused.before;
+        reads = refused.reads;
+        would_read = refused.would_read;
+        many = subst (λ (h : List Event). 2 ^ 28 < copied_bytes h + total_bytes refused.reads) (sym front) refused.many;
+      }
+
+  seat_stays : (place : Option ℕ) (refused : IsRefusedIf of items lane part place)
+      → seat_with of items lane part place refused
+      ≡ seat_with (longer of more) items lane kept place (refused_stays place refused)
+  unfolding refused_stays
+  seat_stays None refused = refl
+  seat_stays (Some place) refused =
+      ap (λ (h : List Event). refused_seat (seat_of part)
+      (record { copied = copied_bytes h; more = total_bytes refused.reads }))
+      (sym (take-append-le place of.history more refused.within))
+
+module _ (boot : Booted) (ram : List ℕ) (trace : Trace) where
+  abbrev HasPartIn : OrderedPlay → ℕ → Type 0
+  HasPartIn play cpu = HasPart boot ram trace play cpu
+
+  -- a processor's seat and part, where another has its event
+  other_kept : (play : OrderedPlay) (event : Event) (seat : Seat) (next : Kernel) (cpu : ℕ)
+      → (cpu_of_event event ≡ cpu → ⊥) → HasPartIn play cpu
+      → HasPartIn (moved_on play (cpu_of_event event) seat event next) cpu
+  other_kept play event seat next cpu apart had =
+      let of = share_of boot play.history cpu in
+      let lane = filled ram trace.fills in
+      let others : AllByRecursion (IsOfOther cpu) (event ∷ []) = (not_its cpu event apart, tt) in
+      record {
+        part = kept of (event ∷ []) trace.items lane had.part others;
+        place = had.place;
+        refused = refused_stays of (event ∷ []) trace.items lane had.part others had.place had.refused;
+        seat = set_other play.seats (cpu_of_event event) cpu seat apart ∙ had.seat
+            ∙ ap Some (seat_stays of (event ∷ []) trace.items lane had.part others had.place had.refused);
+      }
+    where
+      not_its : (cpu : ℕ) (event : Event) → (cpu_of_event event ≡ cpu → ⊥) → IsOfOther cpu event
+      not_its cpu (Entry came regs steps reads) apart = apart
+      not_its cpu (Exit went regs) apart = apart
+
+  -- an event that came, with what its processor's part has come to
+  with_own : (play : OrderedPlay) (event : Event) (seat : Seat) (next : Kernel) → IsOfParts boot ram trace play
+      → after_event boot play.kernel event ≡ Some next → copied_bytes play.history + copied_by event ≤ 2 ^ 28
+      → HasPartIn (moved_on play (cpu_of_event event) seat event next) (cpu_of_event event)
+      → IsOfParts boot ram trace (moved_on play (cpu_of_event event) seat event next)
+  with_own play event seat next of_parts came few own =
+      let kernel = one_event_more boot play.history event play.kernel next of_parts.kernel came in
+      let sum = sum_by-append copied_by play.history (event ∷ []) in
+      record {
+        legal = record { boots = of_parts.legal.boots; follows = subst IsSome (sym kernel) refl };
+        kernel = kernel;
+        few = omega (arith, sum, few);
+        count = length-set play.seats (cpu_of_event event) seat ∙ of_parts.count;
+        parts = λ cpu below. by_number (cpu_of_event event) cpu
+            (λ same. subst (HasPartIn (moved_on play (cpu_of_event event) seat event next)) same own)
+            (λ apart. other_kept play event seat next cpu apart (of_parts.parts cpu below));
+      }
+
+  module _ (play : OrderedPlay) (of_parts : IsOfParts boot ram trace play) (cpu : ℕ) (below : cpu < boot.cpus)
+      (part : Part (share_of boot play.history cpu) trace.items (filled ram trace.fills))
+      (there : slice_get play.seats cpu ≡ Some (seat_of part)) where
+    abbrev of : Share
+    of = share_of boot play.history cpu
+
+    abbrev lane : List ℕ
+    lane = filled ram trace.fills
+
+    -- an entry or an exit of it came, and its seat is ready for the rest of its part
+    goes_on : (act : Act) (rest : List Act) (event : Event) (new : Standing) (seat : Seat) (after : OrderedPlay)
+        → cpu_of_event event ≡ cpu → part.is_part.left ≡ act ∷ rest
+        → IsActOf (longer of (event ∷ [])) act part.end new → new.used ≡ length play.history + 1
+        → seat ≡ ready_for rest new.seat → copied_bytes play.history + copied_by event ≤ 2 ^ 28
+        → with_event boot cpu seat event play ≡ Some after → IsOfParts boot ram trace after
+    goes_on act rest event new seat after own left is used ready few e =
+        let came = option_map_some (moved_on play cpu seat event) (after_event boot play.kernel event) after e in
+        let long = one_longer play.history event in
+        let now = grows of event trace.items lane part.end part.is_part act rest new left is
+        (omega (arith, long, used)) in
+        subst (IsOfParts boot ram trace)
+        (ap (λ (c : ℕ). moved_on play c seat event came.0) own ∙ came.2)
+        (with_own play event seat came.0 of_parts came.1 few
+        (subst (λ (c : ℕ). HasPartIn (moved_on play c seat event came.0) c) (sym own)
+        (record {
+          part = now.now;
+          place = None;
+          refused = tt;
+          seat = set_found play.seats cpu seat (seat_of part) there ∙ ap Some (ready ∙ now.comes_to);
+        })))
+
+    comes_on : (steps : ℕ) (regs : List Reg) (rest : List Act) (reads : List Read) (after : OrderedPlay)
+        → part.is_part.left ≡ Comes steps regs ∷ rest → HoldsReads part.end.seat.lane reads
+        → copied_bytes play.history + total_bytes reads ≤ 2 ^ 28
+        → with_event boot cpu
+        (ready_for rest (record (seat_left part.end.seat (Comes steps regs ∷ rest)) { entry_at = length play.history }))
+        (entry_by cpu part.end.seat steps regs reads) play ≡ Some after
+        → IsOfParts boot ram trace after
+    comes_on steps regs rest reads after left holds few e =
+        goes_on (Comes steps regs) rest (entry_by cpu part.end.seat steps regs reads)
+        (record { used = length play.history + 1; seat = record part.end.seat { entry_at = length play.history } }) _
+        after refl left (come_in of trace.items lane part.end part.is_part steps regs reads holds) refl
+        (ready_anew rest (Comes steps regs ∷ rest) (record part.end.seat { entry_at = length play.history })) few e
+
+    -- its entry was refused
+    is_refused : (steps : ℕ) (regs : List Reg) (rest : List Act) (reads : List Read) (after : OrderedPlay)
+        → part.is_part.left ≡ Comes steps regs ∷ rest
+        → reads_of boot play.kernel part.end.seat (visit_with cpu part.end.seat steps regs) ≡ Some reads
+        → 2 ^ 28 < copied_bytes play.history + total_bytes reads
+        → with_seat cpu (refused_seat (seat_left part.end.seat (Comes steps regs ∷ rest))
+        (record { copied = copied_bytes play.history; more = total_bytes reads })) play ≡ after
+        → IsOfParts boot ram trace after
+    is_refused steps regs rest reads after left would_read many e =
+        let whole = take_whole play.history in
+        let refused : IsRefusedIf of trace.items lane part (Some (length play.history)) = record {
+          within = omega arith;
+          last = none_at_end cpu play.history;
+          steps = steps;
+          regs = regs;
+          rest = rest;
+          left = left;
+          kernel = play.kernel;
+          before = ap (kernel_after boot) whole ∙ of_parts.kernel;
+          reads = reads;
+          would_read = would_read;
+          many = subst (λ (h : List Event). 2 ^ 28 < copied_bytes h + total_bytes reads) (sym whole) many;
+        } in
+        let seat = refused_seat (seat_left part.end.seat (Comes steps regs ∷ rest))
+        (record { copied = copied_bytes play.history; more = total_bytes reads }) in
+        let same = ap (λ (acts : List Act). refused_seat (seat_left part.end.seat acts)
+        (record { copied = copied_bytes play.history; more = total_bytes reads })) (sym left)
+        ∙ ap (λ (h : List Event). refused_seat (seat_of part)
+        (record { copied = copied_bytes h; more = total_bytes reads })) (sym whole) in
+        subst (IsOfParts boot ram trace) e (record {
+          legal = of_parts.legal;
+          kernel = of_parts.kernel;
+          few = of_parts.few;
+          count = length-set play.seats cpu seat ∙ of_parts.count;
+          parts = λ other here. by_number cpu other
+              (λ is. subst (HasPartIn (with_seat cpu seat play)) is (record {
+                part = part;
+                place = Some (length play.history);
+                refused = refused;
+                seat = set_found play.seats cpu seat (seat_of part) there ∙ ap Some same;
+              }))
+              (λ apart.
+              let had = of_parts.parts other here in
+              record {
+                part = had.part;
+                place = had.place;
+                refused = had.refused;
+                seat = set_other play.seats cpu other seat apart ∙ had.seat;
+              });
+        })
+
+    entry_on : (steps : ℕ) (regs : List Reg) (rest : List Act) (after : OrderedPlay)
+        → part.is_part.left ≡ Comes steps regs ∷ rest
+        → after_act boot play cpu (seat_left part.end.seat (Comes steps regs ∷ rest)) (Comes steps regs ∷ rest) ≡ Some after
+        → IsOfParts boot ram trace after
+    entry_on steps regs rest after left e =
+        let seat = seat_left part.end.seat (Comes steps regs ∷ rest) in
+        let visit = visit_with cpu part.end.seat steps regs in
+        option_and_then_some (enters_with boot play seat rest visit) (reads_of boot play.kernel seat visit) after e
+        (λ (reads : List Read) would_read onward.
+        let over = option_map_some (λ end. end.1) (over_lane (entry boot play.kernel visit) part.end.seat.lane []) reads
+        would_read in
+        let holds = ((over_lane-reading (entry boot play.kernel visit) part.end.seat.lane over.0.1 over.0.0).0 over.1).1 in
+        by reads would_read (subst (HoldsReads part.end.seat.lane) over.2 holds)
+        (nat_lt (2 ^ 28) (copied_bytes play.history + total_bytes reads)) refl onward)
+      where
+        by : (reads : List Read)
+            → reads_of boot play.kernel part.end.seat (visit_with cpu part.end.seat steps regs) ≡ Some reads
+            → HoldsReads part.end.seat.lane reads → (much : Bool)
+            → nat_lt (2 ^ 28) (copied_bytes play.history + total_bytes reads) ≡ much
+            → (if much
+            then Some (with_seat cpu (refused_seat (seat_left part.end.seat (Comes steps regs ∷ rest))
+            (record { copied = copied_bytes play.history; more = total_bytes reads })) play)
+            else with_event boot cpu
+            (ready_for rest (record (seat_left part.end.seat (Comes steps regs ∷ rest)) { entry_at = length play.history }))
+            (entry_by cpu part.end.seat steps regs reads) play) ≡ Some after
+            → IsOfParts boot ram trace after
+        by reads would_read holds true is onward =
+            is_refused steps regs rest reads after left would_read (grind (arith, nat_tests))
+            (same_some _ after onward)
+        by reads would_read holds false is onward =
+            comes_on steps regs rest reads after left holds (grind (arith, nat_tests)) onward
+
+    exit_on : (rest : List Act) (after : OrderedPlay) → part.is_part.left ≡ Leaves ∷ rest
+        → after_act boot play cpu (seat_left part.end.seat (Leaves ∷ rest)) (Leaves ∷ rest) ≡ Some after
+        → IsOfParts boot ram trace after
+    exit_on rest after left e =
+        let seat = seat_left part.end.seat (Leaves ∷ rest) in
+        option_and_then_some (leaves_with boot play cpu seat rest) (exit play.kernel cpu) after e
+        (λ (exited : Exited) goes onward.
+        let exits = ap (λ (o : Option Kernel). option_and_then (λ kernel. exit kernel cpu) o) of_parts.kernel ∙ goes in
+        let told = with_line (Told exited.regs part.end.seat.entry_at (length play.history))
+        (with_writes exited.writes (record part.end.seat { answer = exited.regs })) in
+        let few = of_parts.few in
+        goes_on Leaves rest (Exit cpu (record { a = exited.regs }))
+        (record { used = length play.history + 1; seat = told }) _ after refl left
+        (go_out of trace.items lane part.end part.is_part exited exits) refl
+        (ready_anew rest (Leaves ∷ rest) told) (omega (arith, few)) onward)
+
+    turn_on : (left : List Act) (after : OrderedPlay) → part.is_part.left ≡ left → StopsAtEvent left
+        → after_act boot play cpu (seat_left part.end.seat left) left ≡ Some after → IsOfParts boot ram trace after
+    turn_on [] after is stops e = absurd cc
+    turn_on (Comes steps regs ∷ rest) after is stops e = entry_on steps regs rest after is e
+    turn_on (Leaves ∷ rest) after is stops e = exit_on rest after is e
+    turn_on (Writes addr bytes ∷ rest) after is stops e = absurd stops
+    turn_on (Shows addr len ∷ rest) after is stops e = absurd stops
+
+  -- ---- a turn
+
+  turn_by : (play after : OrderedPlay) → IsOfParts boot ram trace play → (cpu : ℕ) → cpu < boot.cpus → (seat : Seat)
+      → slice_get play.seats cpu ≡ Some seat → after_act boot play cpu seat seat.acts ≡ Some after
+      → HasPartIn play cpu → IsOfParts boot ram trace after
+  turn_by play after of_parts cpu below seat there e had = by had.place had.refused had.seat
+    where
+      of : Share
+      of = share_of boot play.history cpu
+
+      by : (place : Option ℕ)
+          (refused : IsRefusedIf (share_of boot play.history cpu) trace.items (filled ram trace.fills) had.part place)
+          → slice_get play.seats cpu
+          ≡ Some (seat_with (share_of boot play.history cpu) trace.items (filled ram trace.fills) had.part place refused)
+          → IsOfParts boot ram trace after
+      by None refused is =
+          let same = same_some seat (seat_of had.part) (sym there ∙ is) in
+          turn_on play of_parts cpu below had.part is had.part.is_part.left after refl had.part.is_part.stops
+          (subst (λ (s : Seat). after_act boot play cpu s s.acts ≡ Some after) same e)
+      by (Some place) refused is =
+          let same = ap (λ (s : Seat). s.acts) (same_some seat _ (sym there ∙ is)) in
+          let none = subst (λ (acts : List Act). after_act boot play cpu seat acts ≡ Some after) same e in
+          absurd cc
+
+  one_turn : (play after : OrderedPlay) (cpu : ℕ) → IsOfParts boot ram trace play
+      → after_turn boot cpu play ≡ Some after → IsOfParts boot ram trace after
+  one_turn play after cpu of_parts e =
+      option_and_then_some (λ (seat : Seat). after_act boot play cpu seat seat.acts) (slice_get play.seats cpu) after e
+      (λ (seat : Seat) there onward.
+      let within = slice_get_within play.seats cpu seat there in
+      let many = of_parts.count in
+      let below : cpu < boot.cpus = omega (arith, within, many) in
+      turn_by play after of_parts cpu below seat there onward (of_parts.parts cpu below))
+
+  -- ---- all turns
+
+  first_of_parts : IsBooted boot → IsOfParts boot ram trace (first_ordered ram boot trace)
+  first_of_parts boots = record {
+    legal = record { boots = boots; follows = refl };
+    kernel = refl;
+    few = omega arith;
+    count = length-map-range_with_len (first_seat (filled ram trace.fills) trace.items) 0 boot.cpus;
+    parts = λ cpu below.
+        let none : List Event = [] in
+        let start = skip (share_of boot none cpu) (acts_for cpu trace.items) (first_standing (filled ram trace.fills)) in
+        record {
+          part = record {
+            end = start.end;
+            is_part = record {
+              done = start.skipped;
+              left = start.left;
+              cut = start.cut;
+              acts = start.are;
+              spent = ap (next_event none cpu) start.used ∙ none_at_end cpu none;
+              stops = start.stops;
+            };
+          };
+          place = None;
+          refused = tt;
+          seat = first_there boot ram trace cpu below ∙ ap Some start.ready;
+        };
+  }
+
+  all_turns : (order : List ℕ) (play after : OrderedPlay) → IsOfParts boot ram trace play
+      → after_turns boot order play ≡ Some after → IsOfParts boot ram trace after
+  all_turns [] play after of_parts e = subst (IsOfParts boot ram trace) (same_some play after e) of_parts
+  all_turns (cpu ∷ order) play after of_parts e =
+      option_and_then_some (after_turns boot order) (after_turn boot cpu play) after e
+      (λ (next : OrderedPlay) there onward. all_turns order next after (one_turn play next cpu of_parts there) onward)
+
+pub plays_have_parts : PlaysHaveParts
+plays_have_parts boot ram trace order play boots e =
+    all_turns boot ram trace order (first_ordered ram boot trace) play (first_of_parts boot ram trace boots) e
