@@ -4,9 +4,11 @@ pub mod PuttingLemmas
 pub mod Answers
 pub mod Played
 pub mod Moved
+pub mod Apart
 pub mod Fills
 pub mod Commands
 pub mod Readings
 pub mod Running
+pub mod Plays
 pub mod Playable
 pub mod Digests

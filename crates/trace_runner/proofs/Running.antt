@@ -15,7 +15,7 @@ use Rattle.trace_runner.specs.Content.{IsTooLarge, Spells, refused_by, refused_f
 use Rattle.trace_runner.specs.Input.{IsAtEnd}
 use Rattle.trace_runner.specs.Line.{bad_trace_line}
 use Rattle.trace_runner.specs.Output.{AppendsPart}
-use Rattle.trace_runner.specs.Run.{Answered, CanBeServed, IsBad, IsDone, IsServedBy, IsServedWhole, IsTold, IsTooLong, IsTooMuch, Ran, Statuses, WorkStatuses, Worked, Writes, WritesPart, WritesSummary, WritesText, status_of, status_of_play, uuids_of}
+use Rattle.trace_runner.specs.Run.{Answered, CanBeRefused, CanBeServed, IsBad, IsDone, IsRefusedWhole, IsServedBy, IsServedWhole, IsTold, IsTooLong, IsTooMuch, Ran, Statuses, WorkStatuses, Worked, Writes, WritesPart, WritesSummary, WritesText, status_of, status_of_play, uuids_of}
 use Rattle.trace_runner.proofs.Played.{some-and}
 use Rattle.trace_runner.proofs.Readings.{EveryInput}
 use Rattle.trace_runner.specs.declared.content.Content.{Content}
@@ -119,7 +119,7 @@ told-writes natives trace (Err stop.Memory) old new (inr told) =
 -- ---- each status
 
 -- the status is one, and no other
-writes-named : (named : Status) (text : List ℕ) (result : Status) (old new : Option (List ℕ))
+pub writes-named : (named : Status) (text : List ℕ) (result : Status) (old new : Option (List ℕ))
     → Writes named text result old new
     → (result ≡ WriteFault → ⊥) → (result ≡ Memory → ⊥) → (result ≡ named) × Appends old new text
 writes-named named text result old new (inl whole) no_fault no_want = whole
@@ -349,6 +349,41 @@ pub told-whole : (grammar : Grammar) (natives : List Native) (told left : Option
 told-whole grammar natives (Some input) left result old new a b c d every read write ran = λ content can no_read no_write.
     ran-whole grammar natives input left result old new content every can (λ e. no_read (read e)) (λ e. no_write (write e)) ran
 told-whole grammar natives None left result old new a b c d every read write ran = tt
+
+-- ---- inputs that leave their grammar
+
+ran-refused : (grammar : Grammar) (natives : List Native) (input : List ℕ) (left : Option (List ℕ)) (result : Status)
+    (old new : Option (List ℕ)) → CanBeRefused grammar natives input
+    → (result ≡ ReadFault → ⊥) → (result ≡ WriteFault → ⊥) → Ran grammar natives input left result old new
+    → IsRefusedWhole grammar natives input result old new ⊎ (result ≡ Memory)
+ran-refused grammar natives input left result old new can no_read no_write (inl ((inl fault), nothing)) =
+    absurd (no_read fault)
+ran-refused grammar natives input left result old new can no_read no_write (inl ((inr want), nothing)) = inr want
+ran-refused grammar natives input left result old new can no_read no_write (inr (inl long)) = absurd (can.short long.1)
+ran-refused grammar natives input left result old new can no_read no_write (inr (inr (short, ended, inl want))) =
+    inr want.0
+ran-refused grammar natives input left result old new can no_read no_write
+    (inr (inr (short, ended, inr (inl refused)))) = by_line refused.line
+  where
+    by_line : Writes BadTrace (bad_trace_line refused.place refused.kind) result old new
+        → IsRefusedWhole grammar natives input result old new ⊎ (result ≡ Memory)
+    by_line (inl whole) = inl (whole.0, (can.short, (refused.place, refused.kind, refused.first, whole.1)))
+    by_line (inr ((inl fault), part)) = absurd (no_write fault)
+    by_line (inr ((inr want), part)) = inr want
+ran-refused grammar natives input left result old new can no_read no_write
+    (inr (inr (short, ended, inr (inr served)))) =
+    absurd (can.spells_nothing served.content served.spelled)
+
+-- an input that leaves its grammar is answered by its first fault, where no port has failed
+pub told-refused : (grammar : Grammar) (natives : List Native) (told left : Option (List ℕ)) (result : Status)
+    (old new : Option (List ℕ)) (a b c d : ℕ)
+    → (result ≡ ReadFault → Rose a b) → (result ≡ WriteFault → Rose c d)
+    → IfSome told (λ input. Ran grammar natives input left result old new)
+    → IfSome told (λ input. CanBeRefused grammar natives input → (Rose a b → ⊥) → (Rose c d → ⊥)
+    → IsRefusedWhole grammar natives input result old new ⊎ (result ≡ Memory))
+told-refused grammar natives (Some input) left result old new a b c d read write ran = λ can no_read no_write.
+    ran-refused grammar natives input left result old new can (λ e. no_read (read e)) (λ e. no_write (write e)) ran
+told-refused grammar natives None left result old new a b c d read write ran = tt
 
 -- ---- statuses that don't come
 

@@ -1,8 +1,8 @@
 -- What an input spells in each grammar, what the first fault of any other input is, and what is written for it.
-use Rattle.std.specs.Prelude.{◌≡◌, ℕ, ◌^◌, ◌<◌, Bool, true, false, List, Option, Some, None}
+use Rattle.std.specs.Prelude.{◌≡◌, ℕ, ◌^◌, ◌<◌, Bool, true, false, List, [], Option, Some, None}
 use Rattle.std.specs.List.{count_by}
 use Rattle.std.specs.Option.{option_and_then}
-use Rattle.kernel_model.specs.Application.{Native}
+use Rattle.kernel_model.specs.Application.{IsBooted, Native, booted}
 use Rattle.play_model.specs.Play.{Play, played}
 use Rattle.play_model.specs.Text as play_text
 use Rattle.ta_asm.specs.Grammar as asm
@@ -61,6 +61,16 @@ IsFaultOf grammar natives input Memory = Unit {0}
 abbrev pub IsSoundContent : List (List ℕ) → Content → Type 0
 IsSoundContent natives (content.Trace trace) = IsSound natives trace
 IsSoundContent natives (content.Image image) = IsValid image
+
+-- a core can be booted with this boot of the trace, beside built-in applications; with none it has no items
+abbrev pub CanBeBooted : List Native → Trace → Option Boot → Type 0
+CanBeBooted natives trace None = trace.items ≡ []
+CanBeBooted natives trace (Some boot) = IsBooted (booted boot natives)
+
+-- so a trace can be played; an image has no play
+abbrev pub CanBePlayed : List Native → Content → Type 0
+CanBePlayed natives (content.Trace trace) = CanBeBooted natives trace trace.boot
+CanBePlayed natives (content.Image image) = Unit {0}
 
 -- ---- limits
 

@@ -6,6 +6,7 @@ pub mod Output
 pub mod Content
 pub mod Playing
 pub mod Run
+pub mod Plays
 pub mod Starting
 pub mod Counts
 pub mod Digesting

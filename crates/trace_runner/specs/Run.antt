@@ -10,7 +10,7 @@ use Rattle.ports.specs.declared.sink.Put.TheVariants as put
 use Rattle.trace_text.specs.declared.fault.BadKind.{BadKind}
 use Rattle.trace_text.specs.declared.trace.Trace.{Trace}
 use Rattle.made_play.specs.Summary.{summary_of}
-use Rattle.trace_runner.specs.Content.{IsFirstFault, IsTooLarge, Spells, refused_for, refused_in, text_for}
+use Rattle.trace_runner.specs.Content.{CanBePlayed, IsFirstFault, IsTooLarge, Spells, refused_for, refused_in, text_for}
 use Rattle.trace_runner.specs.Line.{bad_trace_line}
 use Rattle.trace_runner.specs.Output.{AppendsPart}
 use Rattle.trace_runner.specs.declared.content.Content.{Content}
@@ -110,6 +110,7 @@ pub record IsServed (grammar : Grammar) (natives : List Native) (input : List �
     (old new : Option (List ℕ)) : Type 0 where
   pub content : Content
   pub spelled : Spells grammar (uuids_of natives) input content
+  pub can : CanBePlayed natives content
   pub served : IsServedBy natives content result old new
 
 -- what an input within the limit is answered, and what is written for it
@@ -136,6 +137,11 @@ pub record CanBeServed (grammar : Grammar) (natives : List Native) (input : List
   pub few : IsTooLarge content → ⊥
   pub goes_on : refused_for natives content ≡ None
 
+-- the whole input was read, and it spells nothing in its grammar
+pub record CanBeRefused (grammar : Grammar) (natives : List Native) (input : List ℕ) : Type 0 where
+  pub short : IsTooLong input → ⊥
+  pub spells_nothing : (content : Content) → Spells grammar (uuids_of natives) input content → ⊥
+
 -- just its text is written
 abbrev pub WritesText : List Native → Content → Option (List ℕ) → Option (List ℕ) → Type 0
 WritesText natives content old new = IsSomeAnd (text_for natives content) (Appends old new)
@@ -156,6 +162,9 @@ IsTooMuch grammar natives input old new =
 abbrev pub IsBad : Grammar → List Native → List ℕ → Option (List ℕ) → Option (List ℕ) → Type 0
 IsBad grammar natives input old new = (IsTooLong input → ⊥) × ((place : ℕ) × (kind : BadKind)
     × IsFirstFault grammar (uuids_of natives) input place kind × Appends old new (bad_trace_line place kind))
+
+abbrev pub IsRefusedWhole : Grammar → List Native → List ℕ → Status → Option (List ℕ) → Option (List ℕ) → Type 0
+IsRefusedWhole grammar natives input result old new = (result ≡ BadTrace) × IsBad grammar natives input old new
 
 -- a part of what the input is answered with, also none of it
 abbrev pub WritesPart : Grammar → List Native → List ℕ → Option (List ℕ) → Option (List ℕ) → Type 0

@@ -1,6 +1,6 @@
 //! Reading the whole input.
 
-ghost use Rattle.std.specs.Prelude.{◌≡◌, ◌+◌, ◌<◌, ◌≤◌, length, vec_len, IfOk, IfSome, Err};
+ghost use Rattle.std.specs.Prelude.{◌≡◌, ◌≢◌, ◌+◌, ◌<◌, ◌≤◌, length, vec_len, IfOk, IfSome, Ok, Err};
 ghost use Rattle.ports.specs.Port.{Moves, Rose};
 ghost use Rattle.trace_runner.specs.Input.{IsAtEnd, TakesAtMost, TakesSome};
 ghost use Rattle.trace_runner.specs.declared.input.InputFault.TheVariants.{Memory};
@@ -50,6 +50,7 @@ fn take_some<S: Source>(
     ensures ok { IfOk result (TakesSome (S.left input.old) (S.left input.new) bytes.old.items bytes.new.items (length buffer.old)) }
     ensures failed { IfOk result (λ taken. taken ≡ Taken.Failed → Rose (S.faults input.old) (S.faults input.new)) }
     ensures count { S.faults input.old ≤ S.faults input.new }
+    ensures stays { result ≢ Ok Taken.Failed → S.faults input.new ≡ S.faults input.old }
 {
     let taken = input.take(buffer);
     if let Taken::Bytes(count) = taken {
@@ -66,6 +67,7 @@ pub fn read_input<S: Source>(alloc: Global, input: &mut S) -> Result<Vec<u8>, In
     ensures failed { result ≡ Err InputFault.Failed → Rose (S.faults input.old) (S.faults input.new) }
     ensures too_long { result ≡ Err InputFault.TooLong → IfSome (S.left input.old) (λ bytes. 16777216 < length bytes) }
     ensures count { S.faults input.old ≤ S.faults input.new }
+    ensures stays { result ≢ Err InputFault.Failed → S.faults input.new ≡ S.faults input.old }
 {
     let mut bytes = Vec::new(alloc);
     let mut chunk = buffer_of(alloc, CHUNK_BYTES)?;

@@ -2,7 +2,8 @@
 //!
 //! `run` reads a trace from a source, plays it on one core in the order of its items, and writes each line to a
 //! sink as it comes; or it assembles a text, or sums up the play of a trace that is made of a number. Its contract
-//! says what is written for every input, and when each status comes.
+//! says what is written for every input, when each status comes, and that what is printed of a trace is its play on the
+//! written kernel.
 #![tactic(auto)]
 
 mod command;

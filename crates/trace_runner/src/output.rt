@@ -1,6 +1,6 @@
 //! Writing a text to a sink.
 
-ghost use Rattle.std.specs.Prelude.{◌≡◌, ◌≤◌};
+ghost use Rattle.std.specs.Prelude.{◌≡◌, ◌≢◌, ◌≤◌};
 ghost use Rattle.ports.specs.Port.{Rose};
 ghost use Rattle.trace_runner.specs.Output.{Puts};
 
@@ -11,6 +11,7 @@ pub fn put_text<K: Sink>(out: &mut K, text: &[u8]) -> Put
     ensures text { Puts text.now result (K.held out.old) (K.held out.new) }
     ensures failed { result ≡ Put.Failed → Rose (K.faults out.old) (K.faults out.new) }
     ensures count { K.faults out.old ≤ K.faults out.new }
+    ensures stays { result ≢ Put.Failed → K.faults out.new ≡ K.faults out.old }
 {
     out.put(text)
 }

@@ -1,13 +1,12 @@
 //! Playing a trace: its boot, its fills, and then its items in their order.
-ghost use Rattle.std.specs.Prelude.{◌≡◌, ◌↔◌, ◌≤◌, List, [], All, Err, IfOk, IsTrue, replicate};
+ghost use Rattle.std.specs.Prelude.{◌≡◌, ◌≢◌, ◌↔◌, ◌≤◌, List, [], All, Err, IfOk, IsTrue, replicate};
 ghost use Rattle.base.specs.Zeros.{zeros};
 ghost use Rattle.kernel_model.specs.Application.{IsBooted, Native, booted};
 ghost use Rattle.kernel_state.specs.Meaning.{booted_of, events_of};
 ghost use Rattle.native_tas.specs.Table.{entries};
 ghost use Rattle.play_model.specs.Play.{filled, first_play};
 ghost use Rattle.ports.specs.Port.{Rose};
-ghost use Rattle.ta_isa.specs.Boots.{IsBoot};
-ghost use Rattle.trace_text.specs.Sound.{IsSound, IsSoundFill};
+ghost use Rattle.trace_text.specs.Sound.{IsSound, IsSoundBoot, IsSoundFill};
 ghost use Rattle.trace_text.specs.declared.trace.Trace.{Trace};
 ghost use Rattle.trace_runner.specs.Playing.{IsPlayedTo};
 ghost use Rattle.trace_runner.specs.Content.{HasTooMany, is_smc};
@@ -17,7 +16,7 @@ ghost use Rattle.trace_runner.specs.Starting.{IsAtStart, trace_of};
 use crate::player::{Player, Stop};
 use base::NoMemory;
 use core_machine::{Machine, machines_stand};
-use kernel_state::{Core, journals_stay_legal};
+use kernel_state::{BootFault, Core, journals_stay_legal};
 use native_tas::Natives;
 use ns_ram::Lane;
 use ports::Sink;
@@ -69,13 +68,17 @@ fn first_lanes(alloc: Global, cpus: u8, fills: &[Fill]) -> Result<Vec<Lane>, NoM
 
 /// A core of this boot. Its applications have UUIDs of their own, so want of memory alone can refuse it.
 fn core_of(alloc: Global, boot: Boot, natives: &Natives) -> Result<Core, NoMemory>
-    requires { IsBoot boot }
+    requires { IsSoundBoot (uuids_of (entries natives.now)) boot }
     ensures booted { IfOk result (λ core. booted_of core ≡ booted boot (entries natives.now)) }
     ensures events { IfOk result (λ core. events_of core ≡ []) }
     ensures boots { IfOk result (λ core. IsBooted (booted boot (entries natives.now))) }
 {
     journals_stay_legal();
-    Core::boot(alloc, boot, natives).map_err(|_refused| NoMemory)
+    match Core::boot(alloc, boot, natives) {
+        Ok(core) => Ok(core),
+        Err(BootFault::Repeated(_)) => unreachable!(),
+        Err(BootFault::Memory) => Err(NoMemory),
+    }
 }
 
 /// A player before its first item.
@@ -85,7 +88,7 @@ pub fn first_player(
     natives: &Natives,
     fills: &[Fill],
 ) -> Result<Player, NoMemory>
-    requires boot { IsBoot boot }
+    requires boot { IsSoundBoot (uuids_of (entries natives.now)) boot }
     requires fills { All IsSoundFill fills.now }
     ensures stands { IfOk result (λ player.
         IsPlayedTo (booted boot (entries natives.now))
@@ -110,6 +113,7 @@ fn play_items<K: Sink>(
         → IsTold natives trace result (K.held out.old) (K.held out.new) }
     ensures failed { result ≡ Err Stop.Failed → Rose (K.faults out.old) (K.faults out.new) }
     ensures count { K.faults out.old ≤ K.faults out.new }
+    ensures stays { result ≢ Err Stop.Failed → K.faults out.new ≡ K.faults out.old }
 {
     machines_stand();
     for item in items {
@@ -131,6 +135,7 @@ fn play_booted<K: Sink>(
     ensures told { IsTold (entries natives.now) (trace_of boot fills.now items.now) result (K.held out.old) (K.held out.new) }
     ensures failed { result ≡ Err Stop.Failed → Rose (K.faults out.old) (K.faults out.new) }
     ensures count { K.faults out.old ≤ K.faults out.new }
+    ensures stays { result ≢ Err Stop.Failed → K.faults out.new ≡ K.faults out.old }
 {
     let Ok(mut player) = first_player(alloc, boot, natives, fills) else {
         return Err(Stop::Memory);
@@ -149,6 +154,7 @@ pub fn play<K: Sink>(
     ensures told { IsTold (entries natives.now) trace result (K.held out.old) (K.held out.new) }
     ensures failed { result ≡ Err Stop.Failed → Rose (K.faults out.old) (K.faults out.new) }
     ensures count { K.faults out.old ≤ K.faults out.new }
+    ensures stays { result ≢ Err Stop.Failed → K.faults out.new ≡ K.faults out.old }
 {
     let Trace { boot, fills, items } = trace;
     match boot {

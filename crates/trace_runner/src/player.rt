@@ -1,5 +1,5 @@
 //! Playing items: their entries and exits on a core, and the lines that they print.
-ghost use Rattle.std.specs.Prelude.{◌≡◌, ℕ, ◌<◌, ◌≤◌, [], All, Err, OnOk, Some, map, slice_get};
+ghost use Rattle.std.specs.Prelude.{◌≡◌, ◌≢◌, ℕ, ◌<◌, ◌≤◌, [], All, Err, OnOk, Some, map, slice_get};
 ghost use Rattle.kernel_model.specs.Application.{Booted};
 ghost use Rattle.kernel_state.specs.Meaning.{events_of};
 ghost use Rattle.trace_text.specs.declared.item.Item.TheVariants as item;
@@ -94,6 +94,7 @@ fn print<K: Sink>(line: Vec<u8>, out: &mut K) -> Result<(), Stop>
     ensures line { PutsLine line.items result (K.held out.old) (K.held out.new) }
     ensures failed { result ≡ Err Stop.Failed → Rose (K.faults out.old) (K.faults out.new) }
     ensures count { K.faults out.old ≤ K.faults out.new }
+    ensures stays { result ≢ Err Stop.Failed → K.faults out.new ≡ K.faults out.old }
 {
     match put_text(out, line.as_slice()) {
         Put::Done => Ok(()),
@@ -159,6 +160,7 @@ impl Player {
             → GoesOut boot play cpu result self.new (K.held out.old) (K.held out.new) }
         ensures failed { result ≡ Err Stop.Failed → Rose (K.faults out.old) (K.faults out.new) }
         ensures count { K.faults out.old ≤ K.faults out.new }
+        ensures stays { result ≢ Err Stop.Failed → K.faults out.new ≡ K.faults out.old }
     {
         let told = self.machine.leave(cpu);
         self.answers[usize::from(cpu)] = told;
@@ -181,6 +183,7 @@ impl Player {
             (K.held out.old) (K.held out.new) }
         ensures failed { result ≡ Err Stop.Failed → Rose (K.faults out.old) (K.faults out.new) }
         ensures count { K.faults out.old ≤ K.faults out.new }
+        ensures stays { result ≢ Err Stop.Failed → K.faults out.new ≡ K.faults out.old }
     {
         let bytes = self.machine.show(cpu, addr, u64::from(len));
         print(mem_line(alloc, cpu, addr, bytes)?, out)
@@ -201,6 +204,7 @@ impl Player {
             (K.held out.old) (K.held out.new) }
         ensures failed { result ≡ Err Stop.Failed → Rose (K.faults out.old) (K.faults out.new) }
         ensures count { K.faults out.old ≤ K.faults out.new }
+        ensures stays { result ≢ Err Stop.Failed → K.faults out.new ≡ K.faults out.old }
     {
         self.enter(alloc, cpu, steps, regs)?;
         self.leave(alloc, cpu, out)
@@ -218,6 +222,7 @@ impl Player {
             → Follows boot play (after_item boot item.now play) result self.new (K.held out.old) (K.held out.new) }
         ensures failed { result ≡ Err Stop.Failed → Rose (K.faults out.old) (K.faults out.new) }
         ensures count { K.faults out.old ≤ K.faults out.new }
+        ensures stays { result ≢ Err Stop.Failed → K.faults out.new ≡ K.faults out.old }
     {
         match item {
             Item::Smc { cpu, steps, regs } => self.call(alloc, *cpu, *steps, regs, out),

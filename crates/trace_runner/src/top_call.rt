@@ -1,6 +1,6 @@
 //! The top call.
 
-ghost use Rattle.std.specs.Prelude.{◌≡◌, ℕ, ◌⊎◌, ◌≤◌, ◌+◌, ◌^◌, IfSome, Some, None, [], Err, length};
+ghost use Rattle.std.specs.Prelude.{◌≡◌, ◌≢◌, ℕ, ◌⊎◌, ◌≤◌, ◌+◌, ◌^◌, IfSome, Some, None, [], Err, length};
 ghost use Rattle.native_tas.specs.Table.{entries};
 ghost use Rattle.ports.specs.Port.{Appends, Rose};
 ghost use Rattle.ta_isa.specs.Spelling.{IsValid};
@@ -8,7 +8,8 @@ ghost use Rattle.trace_text.specs.Sound.{IsSound};
 ghost use Rattle.trace_runner.specs.Content.{IsSoundContent};
 ghost use Rattle.trace_runner.specs.Input.{TakesAtMost};
 ghost use Rattle.trace_runner.specs.Line.{bad_trace_line};
-ghost use Rattle.trace_runner.specs.Run.{Answered, CanBeServed, IsServedBy, IsServedWhole, Ran, Statuses, WorkStatuses, Worked, Writes, WritesSummary, status_after, status_of, usage_line, uuids_of};
+ghost use Rattle.trace_runner.specs.Plays.{IsSummedUp, Plays, SpellsTraces};
+ghost use Rattle.trace_runner.specs.Run.{Answered, CanBeRefused, CanBeServed, IsRefusedWhole, IsServedBy, IsServedWhole, Ran, Statuses, WorkStatuses, Worked, Writes, WritesSummary, status_after, status_of, usage_line, uuids_of};
 ghost use Rattle.trace_runner.specs.Words.{AskNothing, Asks};
 ghost use Rattle.trace_runner.specs.declared.content.Content.{Content};
 ghost use Rattle.trace_runner.specs.declared.content.Content.TheVariants as content;
@@ -49,6 +50,7 @@ fn answer_line<K: Sink>(out: &mut K, named: Status, line: &[u8]) -> Status
     ensures write_fault { result ≡ Status.WriteFault →
         (named ≡ Status.WriteFault) ⊎ Rose (K.faults out.old) (K.faults out.new) }
     ensures count { K.faults out.old ≤ K.faults out.new }
+    ensures stays { result ≢ Status.WriteFault → K.faults out.new ≡ K.faults out.old }
 {
     status_after(named, put_text(out, line))
 }
@@ -72,6 +74,7 @@ fn answer_trace<K: Sink>(alloc: Global, natives: &Natives, trace: Trace, out: &m
     ensures words { result ≡ Status.Usage → ⊥ }
     ensures write_fault { result ≡ Status.WriteFault → Rose (K.faults out.old) (K.faults out.new) }
     ensures count { K.faults out.old ≤ K.faults out.new }
+    ensures stays { result ≢ Status.WriteFault → K.faults out.new ≡ K.faults out.old }
 {
     if has_too_many(trace.items.as_slice()) {
         return Status::TooLong;
@@ -86,6 +89,7 @@ fn answer_image<K: Sink>(alloc: Global, natives: &Natives, image: &Image, out: &
     ensures words { result ≡ Status.Usage → ⊥ }
     ensures write_fault { result ≡ Status.WriteFault → Rose (K.faults out.old) (K.faults out.new) }
     ensures count { K.faults out.old ≤ K.faults out.new }
+    ensures stays { result ≢ Status.WriteFault → K.faults out.new ≡ K.faults out.old }
 {
     match image_line(alloc, image) {
         Ok(line) => answer_line(out, Status::Ok, line.as_slice()),
@@ -100,6 +104,7 @@ fn serve<K: Sink>(alloc: Global, natives: &Natives, content: Content, out: &mut 
     ensures words { result ≡ Status.Usage → ⊥ }
     ensures write_fault { result ≡ Status.WriteFault → Rose (K.faults out.old) (K.faults out.new) }
     ensures count { K.faults out.old ≤ K.faults out.new }
+    ensures stays { result ≢ Status.WriteFault → K.faults out.new ≡ K.faults out.old }
 {
     match content {
         Content::Trace(trace) => answer_trace(alloc, natives, trace, out),
@@ -113,6 +118,7 @@ fn refuse<K: Sink>(alloc: Global, place: u32, kind: BadKind, out: &mut K) -> Sta
     ensures words { result ≡ Status.Usage → ⊥ }
     ensures write_fault { result ≡ Status.WriteFault → Rose (K.faults out.old) (K.faults out.new) }
     ensures count { K.faults out.old ≤ K.faults out.new }
+    ensures stays { result ≢ Status.WriteFault → K.faults out.new ≡ K.faults out.old }
 {
     match bad_trace_line(alloc, place, kind) {
         Ok(line) => answer_line(out, Status::BadTrace, line.as_slice()),
@@ -133,6 +139,7 @@ fn answer<K: Sink>(
     ensures words { result ≡ Status.Usage → ⊥ }
     ensures write_fault { result ≡ Status.WriteFault → Rose (K.faults out.old) (K.faults out.new) }
     ensures count { K.faults out.old ≤ K.faults out.new }
+    ensures stays { result ≢ Status.WriteFault → K.faults out.new ≡ K.faults out.old }
 {
     let content = read_content(alloc, grammar, input.as_slice(), natives.uuids().as_slice());
     drop(input);
@@ -160,6 +167,8 @@ fn run_input<S: Source, K: Sink>(
     ensures taken { TakesAtMost (2 ^ 24 + 1) (S.left input.old) (S.left input.new) }
     ensures input_count { S.faults input.old ≤ S.faults input.new }
     ensures out_count { K.faults out.old ≤ K.faults out.new }
+    ensures input_stays { result ≢ Status.ReadFault → S.faults input.new ≡ S.faults input.old }
+    ensures out_stays { result ≢ Status.WriteFault → K.faults out.new ≡ K.faults out.old }
 {
     match read_input(alloc, input) {
         Ok(bytes) => answer(alloc, grammar, bytes, out, natives),
@@ -177,6 +186,7 @@ fn answer_work<K: Sink>(alloc: Global, seed: u64, count: u32, out: &mut K) -> St
     ensures reads { result ≡ Status.ReadFault → ⊥ }
     ensures write_fault { result ≡ Status.WriteFault → Rose (K.faults out.old) (K.faults out.new) }
     ensures count { K.faults out.old ≤ K.faults out.new }
+    ensures stays { result ≢ Status.WriteFault → K.faults out.new ≡ K.faults out.old }
 {
     match summary(alloc, seed, count) {
         Ok(line) => answer_line(out, Status::Ok, line.as_slice()),
@@ -214,6 +224,12 @@ pub fn run<S: Source, K: Sink>(
     ensures statuses { (grammar : Grammar) → Asks words.now (Serve grammar) → IfSome (S.left input.old) (λ bytes.
         Statuses grammar (entries natives.now) bytes (S.left input.new) result (K.held out.old) (K.held out.new)) }
 
+    // ---- The play of a trace, where just its text was written: each printed return is the written kernel's at its place
+    // in one history, and what holds of resumes, of the thread limit and of isolation holds of that very play.
+    ensures plays { (grammar : Grammar) → Asks words.now (Serve grammar) → SpellsTraces grammar →
+        IfSome (S.left input.old) (λ bytes.
+        Plays grammar (entries natives.now) bytes result (K.held out.old) (K.held out.new)) }
+
     // ---- Each input within the limits is served whole, or there is want of memory.
     ensures complete { (grammar : Grammar) → Asks words.now (Serve grammar) → IfSome (S.left input.old) (λ bytes.
         (content : Content) → CanBeServed grammar (entries natives.now) bytes content →
@@ -221,12 +237,22 @@ pub fn run<S: Source, K: Sink>(
         IsServedWhole (entries natives.now) content result (K.held out.old) (K.held out.new)
         ⊎ (result ≡ Status.Memory)) }
 
-    // ---- A made trace: nothing is read, and its summary is written, whole or in part, at each status.
+    // ---- Each input of at most 2^24 bytes that leaves its grammar is answered by its first fault, or there is want of
+    // memory.
+    ensures refuses { (grammar : Grammar) → Asks words.now (Serve grammar) → IfSome (S.left input.old) (λ bytes.
+        CanBeRefused grammar (entries natives.now) bytes →
+        (Rose (S.faults input.old) (S.faults input.new) → ⊥) → (Rose (K.faults out.old) (K.faults out.new) → ⊥) →
+        IsRefusedWhole grammar (entries natives.now) bytes result (K.held out.old) (K.held out.new)
+        ⊎ (result ≡ Status.Memory)) }
+
+    // ---- A made trace: nothing is read, and the summary of its play is written, whole or in part, at each status.
     ensures untouched { (seed count : ℕ) → Asks words.now (Work seed count) → input.new ≡ input.old }
     ensures worked { (seed count : ℕ) → Asks words.now (Work seed count) →
         Worked seed count result (K.held out.old) (K.held out.new) }
     ensures work_statuses { (seed count : ℕ) → Asks words.now (Work seed count) →
         WorkStatuses seed count result (K.held out.old) (K.held out.new) }
+    ensures work_plays { (seed count : ℕ) → Asks words.now (Work seed count) → result ≡ Status.Ok →
+        IsSummedUp seed count (K.held out.old) (K.held out.new) }
     ensures work_complete { (seed count : ℕ) → Asks words.now (Work seed count) →
         (Rose (K.faults out.old) (K.faults out.new) → ⊥) →
         ((result ≡ Status.Ok) × WritesSummary seed count (K.held out.old) (K.held out.new))
@@ -241,6 +267,8 @@ pub fn run<S: Source, K: Sink>(
     ensures taken { TakesAtMost (2 ^ 24 + 1) (S.left input.old) (S.left input.new) }
     ensures input_count { S.faults input.old ≤ S.faults input.new }
     ensures out_count { K.faults out.old ≤ K.faults out.new }
+    ensures input_stays { result ≢ Status.ReadFault → S.faults input.new ≡ S.faults input.old }
+    ensures out_stays { result ≢ Status.WriteFault → K.faults out.new ≡ K.faults out.old }
 {
     match command_of(words) {
         Some(Command::Serve(grammar)) => run_input(alloc, grammar, input, out, natives),

@@ -1,4 +1,4 @@
-use Rattle.std.proofs.Common.{ℕ, arith, length-take}
+use Rattle.std.proofs.Common.{ℕ, arith, length-take, sym, ◌∙◌}
 use Rattle.trace_runner.proofs.ReadingLemmas.{TakesAtMost-then, TakesSome-then}
 use Rattle.trace_runner.proofs.input.read_input.Goals as goal
 
@@ -8,7 +8,7 @@ loop-bytes-preserved g c =
     let step = TakesSome-then _ _ _ _ _ _ c.in-Bytes.field-0 _ c.in-Bytes.is now.moved c.in_ok-take_some.ensures.ok in
     record {
       moved = step.0;
-      count = omega arith;
+      stays = c.in_ok-take_some.ensures.stays (λ e. let taken = sym c.in-Bytes.is in absurd cc) ∙ now.stays;
       limit = omega (arith, length-take {A = ℕ});
       whole = omega arith;
     }

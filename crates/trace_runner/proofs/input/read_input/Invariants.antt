@@ -7,7 +7,7 @@ use Rattle.trace_runner.proofs.input.read_input.Given as goal
 abbrev pub invariant-loop-bytes : goal.invariant-loop-bytes
 invariant-loop-bytes g l = record {
   moved : Moves (g.S.Source.left l.fn.input) (g.S.Source.left l.input) l.bytes.items;
-  count : g.S.Source.faults l.fn.input ≤ g.S.Source.faults l.input;
+  stays : g.S.Source.faults l.input ≡ g.S.Source.faults l.fn.input;
   limit : vec_len l.bytes ≤ LONGEST_INPUT + 1;
   whole : vec_len l.chunk ≡ CHUNK_BYTES;
 }

@@ -4,4 +4,4 @@ use Rattle.trace_runner.proofs.output.put_text.Goals as goal
 pub returns-clause-text : goal.returns-clause-text
 returns-clause-text g c =
     let e = c.put.ensures in
-    Puts-of _ _ _ _ e.done (λ h. (e.failed h).1) (λ h. (e.memory h).0)
+    Puts-of _ _ _ _ e.done (λ h. (e.failed h).1) e.memory

@@ -1,11 +1,11 @@
-use Rattle.std.proofs.Common.{arith}
+use Rattle.std.proofs.Common.{◌≡◌, Err, refl, ◌∙◌, arith}
 use Rattle.std.proofs.lemmas.Result.{err_from_is_err_and}
-use Rattle.ports.specs.PortLaws.{Rose-earlier}
+use Rattle.trace_runner.specs.declared.player.Stop.TheVariants.{Failed}
 use Rattle.trace_runner.proofs.Playable.{playing-ended, playing-first, playing-more, playing-stopped, playing-takes}
 use Rattle.trace_runner.proofs.play.play_items.Goals as goal
 
 pub loop-item-init : goal.loop-item-init
-loop-item-init g c = record { playing = λ natives trace start. playing-first natives trace _ _ _ start; count = omega arith }
+loop-item-init g c = record { playing = λ natives trace start. playing-first natives trace _ _ _ start; stays = refl }
 
 pub play_item-requires : goal.play_item-requires
 play_item-requires g c =
@@ -24,18 +24,26 @@ returns-in_err-play_item-clause-failed g c = λ e.
     let told = err_from_is_err_and c.from_residual.result c.from_residual.ensures.1 in
     let one = told.1 in
     let two = told.2 in
-    Rose-earlier _ _ _ c.loop-item.invariant.count (c.in_err-play_item.ensures.failed cc)
+    rw c.loop-item.invariant.stays at (c.in_err-play_item.ensures.failed cc)
 
 pub returns-in_err-play_item-clause-count : goal.returns-in_err-play_item-clause-count
-returns-in_err-play_item-clause-count g c = let old = c.loop-item.invariant.count in let more =
+returns-in_err-play_item-clause-count g c = let old = c.loop-item.invariant.stays in let more =
     c.play_item.ensures.count in omega arith
+
+pub returns-in_err-play_item-clause-stays : goal.returns-in_err-play_item-clause-stays
+returns-in_err-play_item-clause-stays g c = λ other.
+    let told = err_from_is_err_and c.from_residual.result c.from_residual.ensures.1 in
+    let one = told.1 in
+    let two = told.2 in
+    c.in_err-play_item.ensures.stays (λ failed. let is : c.from_residual.result ≡ Err Failed = cc in other is)
+    ∙ c.loop-item.invariant.stays
 
 pub loop-item-preserved : goal.loop-item-preserved
 loop-item-preserved g c = record {
   playing = λ natives trace start.
       playing-more natives trace _ _ _ c.loop-item.player _ _ _ _ c.loop-item-test.true c.item-item.is
       (c.loop-item.invariant.playing natives trace start) c.in_ok-play_item.ensures.follows;
-  count = let old = c.loop-item.invariant.count in let more = c.play_item.ensures.count in omega arith;
+  stays = c.in_ok-play_item.ensures.stays (λ e. absurd cc) ∙ c.loop-item.invariant.stays;
 }
 
 pub returns-clause-told : goal.returns-clause-told

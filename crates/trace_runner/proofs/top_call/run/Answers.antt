@@ -6,8 +6,10 @@ use Rattle.trace_runner.specs.Words.{Asks}
 use Rattle.trace_runner.specs.declared.command.Command.{Command}
 use Rattle.trace_runner.specs.declared.command.Command.TheVariants.{Serve, Work}
 use Rattle.trace_runner.specs.declared.command.Grammar.{Grammar}
+use Rattle.trace_runner.specs.declared.status.Status.{Status}
+use Rattle.trace_runner.proofs.Plays.{told-plays, worked-plays}
 use Rattle.trace_runner.proofs.Readings.{every_input, one_grammar, one_work}
-use Rattle.trace_runner.proofs.Running.{told-statuses, told-whole, worked-statuses, worked-whole}
+use Rattle.trace_runner.proofs.Running.{told-refused, told-statuses, told-whole, worked-statuses, worked-whole}
 use Rattle.trace_runner.proofs.top_call.run.Goals as goal
 
 -- ---- an input
@@ -27,9 +29,19 @@ pub returns-in-Some-Serve-clause-statuses : goal.returns-in-Some-Serve-clause-st
 returns-in-Some-Serve-clause-statuses g c = λ grammar asks.
     told-statuses grammar _ _ _ _ _ _ (returns-in-Some-Serve-clause-ran g c grammar asks)
 
+pub returns-in-Some-Serve-clause-plays : goal.returns-in-Some-Serve-clause-plays
+returns-in-Some-Serve-clause-plays g c = λ grammar asks traces.
+    told-plays grammar _ _ _ _ _ _ traces (returns-in-Some-Serve-clause-ran g c grammar asks)
+
 pub returns-in-Some-Serve-clause-complete : goal.returns-in-Some-Serve-clause-complete
 returns-in-Some-Serve-clause-complete g c = λ grammar asks.
     told-whole grammar _ _ _ _ _ _ _ _ _ _ every_input
+    (λ e. (c.run_input.ensures.read_fault e).0) c.run_input.ensures.write_fault
+    (returns-in-Some-Serve-clause-ran g c grammar asks)
+
+pub returns-in-Some-Serve-clause-refuses : goal.returns-in-Some-Serve-clause-refuses
+returns-in-Some-Serve-clause-refuses g c = λ grammar asks.
+    told-refused grammar _ _ _ _ _ _ _ _ _ _
     (λ e. (c.run_input.ensures.read_fault e).0) c.run_input.ensures.write_fault
     (returns-in-Some-Serve-clause-ran g c grammar asks)
 
@@ -50,6 +62,12 @@ pub returns-in-Some-Work-clause-work_statuses : goal.returns-in-Some-Work-clause
 returns-in-Some-Work-clause-work_statuses g c = λ seed count asks.
     worked-statuses seed count _ _ _ asks.within.1 (returns-in-Some-Work-clause-worked g c seed count asks)
 
+pub returns-in-Some-Work-clause-work_plays : goal.returns-in-Some-Work-clause-work_plays
+returns-in-Some-Work-clause-work_plays g c = λ seed count asks is.
+    worked-plays seed count _ _ asks.within.1
+    (subst (λ (s : Status). Worked seed count s (g.K.Sink.held c.args.out.now) (g.K.Sink.held c.answer_work.new.out)) is
+    (returns-in-Some-Work-clause-worked g c seed count asks))
+
 pub returns-in-Some-Work-clause-work_complete : goal.returns-in-Some-Work-clause-work_complete
 returns-in-Some-Work-clause-work_complete g c = λ seed count asks quiet.
     worked-whole seed count _ _ _ (λ e. quiet (c.answer_work.ensures.write_fault e))
@@ -63,14 +81,24 @@ returns-in-None-clause-ran g c = λ grammar asks. absurd (c.in-None.ensures.noth
 pub returns-in-None-clause-statuses : goal.returns-in-None-clause-statuses
 returns-in-None-clause-statuses g c = λ grammar asks. absurd (c.in-None.ensures.nothing refl (Serve grammar) asks)
 
+pub returns-in-None-clause-plays : goal.returns-in-None-clause-plays
+returns-in-None-clause-plays g c = λ grammar asks traces. absurd (c.in-None.ensures.nothing refl (Serve grammar) asks)
+
 pub returns-in-None-clause-complete : goal.returns-in-None-clause-complete
 returns-in-None-clause-complete g c = λ grammar asks. absurd (c.in-None.ensures.nothing refl (Serve grammar) asks)
+
+pub returns-in-None-clause-refuses : goal.returns-in-None-clause-refuses
+returns-in-None-clause-refuses g c = λ grammar asks. absurd (c.in-None.ensures.nothing refl (Serve grammar) asks)
 
 pub returns-in-None-clause-worked : goal.returns-in-None-clause-worked
 returns-in-None-clause-worked g c = λ seed count asks. absurd (c.in-None.ensures.nothing refl (Work seed count) asks)
 
 pub returns-in-None-clause-work_statuses : goal.returns-in-None-clause-work_statuses
 returns-in-None-clause-work_statuses g c = λ seed count asks.
+    absurd (c.in-None.ensures.nothing refl (Work seed count) asks)
+
+pub returns-in-None-clause-work_plays : goal.returns-in-None-clause-work_plays
+returns-in-None-clause-work_plays g c = λ seed count asks is.
     absurd (c.in-None.ensures.nothing refl (Work seed count) asks)
 
 pub returns-in-None-clause-work_complete : goal.returns-in-None-clause-work_complete
