@@ -11,3 +11,4 @@ pub mod Refused
 pub mod Merged
 pub mod Growing
 pub mod PartsOfPlay
+pub mod BlocksOfSeats

@@ -1,6 +1,7 @@
 -- What holds of processors' parts of a history, and of plays in an order.
-use Rattle.std.specs.Prelude.{◌≡◌, ℕ, ◌^◌, Option, ◌<◌, ◌≤◌, List, ◌++◌, Some, map}
-use Rattle.std.specs.List.{AllByRecursion}
+use Rattle.std.specs.Prelude.{◌≡◌, ℕ, ◌^◌, Option, ◌<◌, ◌≤◌, true, false, List, [], ◌++◌, Some, None, length, map, slice_get}
+use Rattle.std.specs.List.{AllByRecursion, flat_map}
+use Rattle.std.specs.Option.{is_some}
 use Rattle.event_journal.specs.Journal.{copied_bytes}
 use Rattle.event_journal.specs.declared.event.Event.{Event}
 use Rattle.kernel_model.specs.Application.{Booted, IsBooted}
@@ -10,9 +11,11 @@ use Rattle.play_model.specs.Play.{filled}
 use Rattle.trace_text.specs.declared.item.Item.{Item}
 use Rattle.trace_text.specs.declared.trace.Trace.{Trace}
 use Rattle.ordered_play.specs.Act.{Act}
+use Rattle.ordered_play.specs.Blocks.{block_of, blocks_of, has_ended, has_refused}
 use Rattle.ordered_play.specs.Merge.{ComesTo, IsOfParts, IsRefusedIf, Parts, order_with, seat_of, seat_with, share_of}
 use Rattle.ordered_play.specs.Ordered.{OrderedPlay, after_turns, first_ordered}
 use Rattle.ordered_play.specs.Part.{AreActsOf, IsPart, Share, Standing, cpu_of_event}
+use Rattle.ordered_play.specs.Seat.{Seat}
 
 -- ---- one processor
 
@@ -63,3 +66,22 @@ RefusalsMerge = (boot : Booted) (ram : List ℕ) (trace : Trace) (history : List
 abbrev pub PlaysHaveParts : Type 0
 PlaysHaveParts = (boot : Booted) (ram : List ℕ) (trace : Trace) (order : List ℕ) (play : OrderedPlay) → IsBooted boot →
     after_turns boot order (first_ordered ram boot trace) ≡ Some play → IsOfParts boot ram trace play
+
+-- what is printed of a play that has come to these seats
+pub record BlocksAreOfSeats : Type 0 where
+  -- one text behind the other, the block of each seat
+  pub blocks : (boot : Booted) (events : List Event) (seat_for : (cpu : ℕ) → cpu < boot.cpus → Seat)
+      (play : OrderedPlay) (texts : List (List ℕ)) → ComesTo boot events seat_for play → length texts ≡ boot.cpus →
+      ((cpu : ℕ) (below : cpu < boot.cpus) → slice_get texts cpu ≡ Some (block_of cpu (seat_for cpu below))) →
+      blocks_of play ≡ flat_map (λ text. text) texts
+  -- all is done where no seat has an act to come
+  pub ended : (boot : Booted) (events : List Event) (seat_for : (cpu : ℕ) → cpu < boot.cpus → Seat)
+      (play : OrderedPlay) → ComesTo boot events seat_for play →
+      ((cpu : ℕ) (below : cpu < boot.cpus) → (seat_for cpu below).acts ≡ []) → has_ended play ≡ true
+  -- an entry was refused just where one of a seat was
+  pub one_refused : (boot : Booted) (events : List Event) (seat_for : (cpu : ℕ) → cpu < boot.cpus → Seat)
+      (play : OrderedPlay) (cpu : ℕ) (below : cpu < boot.cpus) → ComesTo boot events seat_for play →
+      is_some (seat_for cpu below).refused ≡ true → has_refused play ≡ true
+  pub none_refused : (boot : Booted) (events : List Event) (seat_for : (cpu : ℕ) → cpu < boot.cpus → Seat)
+      (play : OrderedPlay) → ComesTo boot events seat_for play →
+      ((cpu : ℕ) (below : cpu < boot.cpus) → (seat_for cpu below).refused ≡ None) → has_refused play ≡ false

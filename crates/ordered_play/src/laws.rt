@@ -1,6 +1,6 @@
 //! What holds of the definitions themselves.
 ghost use Rattle.ordered_play.specs.Examples.{Examples};
-ghost use Rattle.ordered_play.specs.Laws.{PartsAreUnique, PartsMerge, PartsStay, PlaysHaveParts, RefusalsMerge};
+ghost use Rattle.ordered_play.specs.Laws.{BlocksAreOfSeats, PartsAreUnique, PartsMerge, PartsStay, PlaysHaveParts, RefusalsMerge};
 
 /// A processor has at most one part of a history: over the same RAM the same items end in the same standing.
 pub fn parts_are_unique()
@@ -29,6 +29,12 @@ pub fn refusals_merge()
 /// to its part of it, with its refused entry where it has one.
 pub fn plays_have_parts()
     ensures { PlaysHaveParts }
+{}
+
+/// What is printed of a play is the blocks of its seats, one behind the other; it has ended where no seat has an act to
+/// come; and an entry was refused just where one of a seat was.
+pub fn blocks_are_of_seats()
+    ensures { BlocksAreOfSeats }
 {}
 
 /// Plays of two processors in several orders, with what they print, and parts of their histories.
