@@ -21,3 +21,4 @@ pub mod Applications
 pub mod FreshMemory
 pub mod Leaving
 pub mod Unopened
+pub mod Feeding

@@ -5,3 +5,4 @@ pub mod GoingOut
 pub mod Stepping
 pub mod Short
 pub mod Rooms
+pub mod Feeding

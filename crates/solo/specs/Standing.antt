@@ -38,6 +38,10 @@ instance_of uuid kept = record {
 abbrev pub app_in : SoloSession → Application
 app_in s = application_of s.app
 
+-- how many calls have come in
+abbrev pub entered_in : SoloSession → ℕ
+entered_in s = length s.calls.items
+
 -- all of it but the calls
 abbrev pub without_calls : SoloSession → Solo
 without_calls s = record {
@@ -45,7 +49,7 @@ without_calls s = record {
   instance = option_map (instance_of (uuid_of (app_in s))) s.instance;
   waiting = s.waiting.items;
   calls = [];
-  entered = length s.calls.items;
+  entered = entered_in s;
 }
 
 -- ---- all of it

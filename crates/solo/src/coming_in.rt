@@ -1,5 +1,5 @@
 //! Calls that come in.
-ghost use Rattle.std.specs.Prelude.{◌≡◌, ◌≢◌, ◌<◌, [], IfOk, None, OnErr, OnOk, Some, false, vec_capacity, vec_len};
+ghost use Rattle.std.specs.Prelude.{◌≡◌, ◌≢◌, ◌<◌, ◌^◌, [], IfOk, None, OnErr, OnOk, Some, false, vec_capacity, vec_len};
 ghost use Rattle.std.specs.Option.{option_and_then, option_copied};
 ghost use Rattle.base.specs.NumberMap.{insert};
 ghost use Rattle.begin_call.specs.Begins.{CanBegin, IsValidApp};
@@ -11,7 +11,7 @@ ghost use Rattle.ta_params.specs.declared.copied_params.CopiedParams.{CopiedPara
 ghost use Rattle.own_model.specs.Solo.{OwnCall as AnyCall, OwnSession as AnySession, Solo as AnySolo, counted, fresh_call, home, invokes, opens, settles, start_with, waits, works_or_waits, begins, closes};
 ghost use Rattle.rpc_cont.specs.Conts.{kept_params};
 ghost use Rattle.solo.specs.Calls.{IsCall};
-ghost use Rattle.solo.specs.Standing.{StandsFor, app_in};
+ghost use Rattle.solo.specs.Standing.{StandsFor, app_in, entered_in};
 
 use crate::beginning::Ready;
 use crate::copies::copied_if_some;
@@ -104,12 +104,13 @@ impl SoloSession {
         kind: CallKind,
         params: Option<&CopiedParams>,
     ) -> Result<(), NoMemory>
+        requires { entered_in self.old < 2 ^ 32 }
         ensures ok { (solo : AnySolo) → StandsFor self.old solo
             → OnOk result (StandsFor self.new (waits solo kind (kept_params (option_copied params.entry)))) }
         ensures err { (solo : AnySolo) → StandsFor self.old solo → OnErr result (StandsFor self.new solo) }
         ensures app { self.new.app ≡ self.old.app }
     {
-        let number = self.next_number()?;
+        let number = self.next_number();
         self.waiting.reserve(1)?;
         let call = fresh_call(alloc, self.app.uuid(), kind, params)?;
         self.counted(call)?;
@@ -143,7 +144,8 @@ impl SoloSession {
         kind: CallKind,
         params: Option<&CopiedParams>,
     ) -> Result<(), NoMemory>
-        requires { IsValidApp (app_in self.old) }
+        requires valid { IsValidApp (app_in self.old) }
+        requires number { entered_in self.old < 2 ^ 32 }
         ensures ok { (solo : AnySolo) (at : AnySession × AnyInstance) → StandsFor self.old solo → home solo ≡ Some at
             → kind ≢ CallKind.Settled
             → OnOk result (StandsFor self.new (begins (app_in self.old) (counted solo) solo.entered
@@ -152,7 +154,7 @@ impl SoloSession {
         ensures err { (solo : AnySolo) → StandsFor self.old solo → OnErr result (StandsFor self.new solo) }
         ensures app { self.new.app ≡ self.old.app }
     {
-        let number = self.next_number()?;
+        let number = self.next_number();
         self.calls.reserve(1)?;
         let call = fresh_call(alloc, self.app.uuid(), kind, params)?;
         let ready = self.ready(alloc)?;
@@ -167,7 +169,8 @@ impl SoloSession {
         kind: CallKind,
         params: Option<&CopiedParams>,
     ) -> Result<(), NoMemory>
-        requires { IsValidApp (app_in self.old) }
+        requires valid { IsValidApp (app_in self.old) }
+        requires number { entered_in self.old < 2 ^ 32 }
         ensures ok { (solo : AnySolo) (at : AnySession × AnyInstance) → StandsFor self.old solo → home solo ≡ Some at
             → kind ≢ CallKind.Settled → OnOk result (StandsFor self.new
             (works_or_waits (app_in self.old) solo kind (start_with at (kept_params (option_copied params.entry))))) }
@@ -189,13 +192,14 @@ impl SoloSession {
         params: &CopiedParams,
         login: Login,
     ) -> Result<(), NoMemory>
-        requires { IsValidApp (app_in self.old) }
+        requires valid { IsValidApp (app_in self.old) }
+        requires number { entered_in self.old < 2 ^ 32 }
         ensures ok { (solo : AnySolo) → StandsFor self.old solo → solo.entered ≡ 0
             → OnOk result (StandsFor self.new (opens (app_in self.old) solo params.now login)) }
         ensures err { (solo : AnySolo) → StandsFor self.old solo → OnErr result (StandsFor self.new solo) }
         ensures app { self.new.app ≡ self.old.app }
     {
-        let number = self.next_number()?;
+        let number = self.next_number();
         self.calls.reserve(1)?;
         let call = fresh_call(alloc, self.app.uuid(), CallKind::Open, Some(params))?;
         let instance = made(alloc, &self.app)?;
@@ -218,7 +222,8 @@ impl SoloSession {
         func: u32,
         input: &OwnInput,
     ) -> Result<(), NoMemory>
-        requires { IsValidApp (app_in self.old) }
+        requires valid { IsValidApp (app_in self.old) }
+        requires number { entered_in self.old < 2 ^ 32 }
         ensures ok { (solo next : AnySolo) → StandsFor self.old solo
             → option_and_then (invokes (app_in self.old) solo func input.now) (home solo) ≡ Some next
             → OnOk result (StandsFor self.new next) }
@@ -241,7 +246,8 @@ impl SoloSession {
 
     /// A close comes in: it begins or waits, also where the instance is dead.
     pub(crate) fn closes(&mut self, alloc: Global) -> Result<(), NoMemory>
-        requires { IsValidApp (app_in self.old) }
+        requires valid { IsValidApp (app_in self.old) }
+        requires number { entered_in self.old < 2 ^ 32 }
         ensures ok { (solo : AnySolo) (at : AnySession × AnyInstance) → StandsFor self.old solo → home solo ≡ Some at
             → OnOk result (StandsFor self.new (closes (app_in self.old) solo at)) }
         ensures err { (solo : AnySolo) → StandsFor self.old solo → OnErr result (StandsFor self.new solo) }

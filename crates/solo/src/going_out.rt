@@ -13,6 +13,7 @@ ghost use Rattle.solo.specs.Calls.{IsCall};
 ghost use Rattle.solo.specs.GoingOut.{Ending as AnyEnding, IsGoing, asked_in, phase_of};
 ghost use Rattle.solo.specs.Rooms.{IsOutputRoom, IsRoom};
 ghost use Rattle.solo.specs.Short.{AreShort, IsShortPhase, IsShortSolo};
+ghost use Rattle.solo.specs.Stepping.{HasRoomIn};
 ghost use Rattle.solo.specs.Standing.{IsAside, IsBeside, IsSomeSolo, StandsFor};
 
 use crate::copies::copied_rpc;
@@ -109,7 +110,7 @@ impl SoloSession {
     fn going_in(&mut self, cont: &mut Cont<Plain>)
         requires { cont.old.phase ≡ Phase.Runs → CanAdvance bytes_of cont.old }
         ensures going { (most : ℕ) (solo : AnySolo) (call : AnyCall) (going : AnyGoing) → IsBeside self.old solo
-            → IsCall cont.old call → call.steps + most < 2 ^ 128 → going_in most solo call call.phase ≡ Some going
+            → IsCall cont.old call → HasRoomIn most call.steps call.phase → going_in most solo call call.phase ≡ Some going
             → IsGoing self.new cont.new solo going }
         ensures app { self.new.app ≡ self.old.app }
         ensures calls { self.new.calls ≡ self.old.calls }
@@ -145,7 +146,7 @@ impl SoloSession {
         requires { ∥ IsSomeSolo self.old ∥₁ }
         ensures ok { (most : ℕ) (solo next : AnySolo) (call : AnyCall) (told : Option AnyReply)
             → StandsFor self.old solo
-            → get solo.calls number ≡ Some call → call.steps + most < 2 ^ 128 → IsShortSolo solo
+            → get solo.calls number ≡ Some call → HasRoomIn most call.steps call.phase → IsShortSolo solo
             → goes_out most solo number call ≡ Some (next, told)
             → IfOk result (λ answer. (answer ≡ told) × StandsFor self.new next) }
         ensures err { (solo : AnySolo) → StandsFor self.old solo → OnErr result (StandsFor self.new solo) }

@@ -1,6 +1,7 @@
 //! The calls by their numbers, and the line of those that wait.
-ghost use Rattle.std.specs.Prelude.{◌≡◌, ◌==◌, ◌++◌, ◌∷◌, [], not, filter, length, slice_get, slice_set, None, Some, IfOk, OnErr, OnOk};
+ghost use Rattle.std.specs.Prelude.{◌≡◌, ◌==◌, ◌<◌, ◌^◌, ◌++◌, ◌∷◌, [], not, filter, slice_get, slice_set, None, Some, OnErr, OnOk};
 ghost use Rattle.std.specs.Option.{option_and_then};
+ghost use Rattle.solo.specs.Standing.{entered_in};
 
 use crate::solo_session::SoloSession;
 use base::NoMemory;
@@ -45,14 +46,12 @@ impl SoloSession {
         put_at(self.calls.as_mut_slice(), number as usize, call);
     }
 
-    /// The number of the next call that comes in. There is no memory for more calls than have numbers.
-    pub(crate) fn next_number(&self) -> Result<u32, NoMemory>
-        ensures { IfOk result (λ number. number ≡ length self.now.calls.items) }
+    /// The number of the next call that comes in.
+    pub(crate) fn next_number(&self) -> u32
+        requires { entered_in self.now < 2 ^ 32 }
+        ensures { result ≡ entered_in self.now }
     {
-        match u32::try_from(self.calls.len()) {
-            Ok(number) => Ok(number),
-            Err(_) => Err(NoMemory),
-        }
+        self.calls.len() as u32
     }
 
     /// A call comes in with the next number.

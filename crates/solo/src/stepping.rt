@@ -3,8 +3,8 @@ ghost use Rattle.std.specs.Prelude.{◌≡◌, ℕ, IfOk, None, OnErr, OnOk, Opt
 ghost use Rattle.own_model.specs.Solo.{Solo as AnySolo, step};
 ghost use Rattle.own_model.specs.declared.own_reply.OwnReply.{OwnReply as AnyReply};
 ghost use Rattle.solo.specs.Short.{IsShortEvent};
-ghost use Rattle.solo.specs.Standing.{IsSolo, IsSomeSolo, StandsFor, app_in};
-ghost use Rattle.solo.specs.Stepping.{HasRoom, HasStepped, IsSilent};
+ghost use Rattle.solo.specs.Standing.{IsSolo, IsSomeSolo, StandsFor, app_in, entered_in};
+ghost use Rattle.solo.specs.Stepping.{HasNumber, HasRoom, HasStepped, IsSilent};
 
 use crate::solo_session::SoloSession;
 use base::NoMemory;
@@ -13,10 +13,12 @@ use std::alloc::Global;
 use ta_params::codes::TEE_SUCCESS;
 
 impl SoloSession {
-    /// What the machine does at an event: its reply, if it has one. Nothing is said of an event that can't come to the
+    /// What the machine does at an event: its reply, if it has one. A call that comes in has to be among the first 2^32 of
+    /// the session, since events name calls by numbers of 32 bits. Nothing else is said of an event that can't come to the
     /// session.
     pub fn step(&mut self, alloc: Global, event: &OwnEvent) -> Result<Option<OwnReply>, NoMemory>
-        requires { ∥ IsSomeSolo self.old ∥₁ }
+        requires some { ∥ IsSomeSolo self.old ∥₁ }
+        requires number { HasNumber (entered_in self.old) event.now }
         ensures ok { (most : ℕ) (solo next : AnySolo) (told : Option AnyReply) → IsSolo self.old solo
             → HasRoom most solo event.now
             → IsShortEvent event.now → step most (app_in self.old) solo event.now ≡ Some (next, told)
@@ -41,7 +43,8 @@ impl SoloSession {
 
     /// The same at an event that isn't answered.
     fn changes(&mut self, alloc: Global, event: &OwnEvent) -> Result<(), NoMemory>
-        requires { ∥ IsSomeSolo self.old ∥₁ }
+        requires some { ∥ IsSomeSolo self.old ∥₁ }
+        requires number { HasNumber (entered_in self.old) event.now }
         ensures ok { (most : ℕ) (solo next : AnySolo) (told : Option AnyReply) → IsSolo self.old solo
             → IsSilent event.now
             → step most (app_in self.old) solo event.now ≡ Some (next, told)

@@ -1,27 +1,24 @@
--- The machine of a session is fed with one event after the other.
+-- When the machine of a session can be fed with the events of a table.
 use Rattle.std.proofs.Common.{◌≡◌, ◌∙◌, ℕ, ◌+◌, ◌<◌, ◌≤◌, ◌^◌, Bool, true, false, List, [], ◌∷◌, Option, Some, None}
 use Rattle.std.proofs.Common.{length, drop, get_or, refl, sym, ap, arith, add-one}
-use Rattle.std.specs.Prelude.{◌&&◌, IfOk, Result, nat_le, nat_lt}
+use Rattle.std.specs.Prelude.{◌&&◌, IsSomeAnd, nat_le, nat_lt}
 use Rattle.std.specs.List.{AllByRecursion, list_all}
 use Rattle.std.specs.Option.{option_map_or}
 use Rattle.std.proofs.Math.Seq.{drop-cons}
 use Rattle.std.proofs.lemmas.Bool.Decides.{nat_tests}
 use Rattle.std.proofs.lemmas.List.Sums.{AllPass-from_list_all}
-use Rattle.std.proofs.lemmas.Result.{IfOk-weaker}
 use Rattle.base.proofs.MapLemmas.{All-get}
 use Rattle.base.specs.NumberMap.{NumberMap, get}
-use Rattle.base.specs.declared.no_memory.NoMemory.{NoMemory}
 use Rattle.kernel_model.specs.Application.{Application}
+use Rattle.kernel_model.specs.Kernel.{Asks, CallPhase, Ends, Runs, Waits}
 use Rattle.own_model.specs.Solo.{Answered, OwnCall, Solo, step}
 use Rattle.own_model.specs.declared.own_event.OwnEvent.{OwnEvent}
 use Rattle.own_model.specs.declared.own_event.OwnEvent.TheVariants.{Open, Invoke, Close, Cancel, Seen, Back, Out, Limited}
 use Rattle.own_model.specs.declared.own_event.OwnInput.TheVariants.{Copied, Faulty, Unread}
-use Rattle.own_model.specs.declared.own_reply.OwnReply.{OwnReply}
+use Rattle.solo.specs.Feeding.{CanBeFed}
 use Rattle.solo.specs.Short.{IsShort, IsShortEvent}
-use Rattle.solo.specs.Standing.{IsSolo, app_in}
-use Rattle.solo.specs.Stepping.{HasRoom, HasStepped}
-use Rattle.solo.specs.declared.solo_session.SoloSession.{SoloSession}
-use Rattle.solo_cases.specs.Feeding.{IsFed, can_be_fed, event_in, events_in, has_room, is_short, is_short_event}
+use Rattle.solo.specs.Stepping.{HasNumber, HasRoom, HasRoomIn}
+use Rattle.solo_cases.specs.Feeding.{can_be_fed, event_in, events_in, has_number, has_room, is_short, is_short_event}
 use Rattle.solo_cases.specs.declared.fed.Fed.{Fed}
 use Rattle.ta_step.specs.Shape.{shapes}
 
@@ -39,6 +36,15 @@ rooms : (calls : NumberMap OwnCall) → list_all has_room calls ≡ true → (nu
 rooms calls e number call there =
     below call.steps (All-get (λ (kept : ℕ × OwnCall). has_room kept ≡ true) calls number call (AllPass-from_list_all has_room calls e) there)
 
+room_in : (steps : ℕ) (phase : CallPhase) → steps + 1000 < 2 ^ 128 → HasRoomIn 1000 steps phase
+room_in steps (Runs job) room = room
+room_in steps (Asks job wanted payload) room = tt
+room_in steps (Waits params) room = tt
+room_in steps (Ends result params told wakes) room = tt
+
+few : (n : ℕ) → nat_lt n (2 ^ 32) ≡ true → n < 2 ^ 32
+few n e = grind (arith, nat_tests)
+
 has_room_at : (solo : Solo) → list_all has_room solo.calls ≡ true → (event : OwnEvent) → HasRoom 1000 solo event
 has_room_at solo e (Open params login) = tt
 has_room_at solo e (Invoke func input) = tt
@@ -46,7 +52,7 @@ has_room_at solo e Close = tt
 has_room_at solo e Cancel = tt
 has_room_at solo e (Seen number steps) = tt
 has_room_at solo e (Back number input) = tt
-has_room_at solo e (Out number) = λ call there. rooms solo.calls e number call there
+has_room_at solo e (Out number) = λ call there. room_in call.steps call.phase (rooms solo.calls e number call there)
 has_room_at solo e Limited = tt
 
 within : (n : ℕ) → nat_le n 65536 ≡ true → n ≤ 65536
@@ -68,36 +74,53 @@ short_event (Back call input) e = tt
 short_event (Out call) e = tt
 short_event Limited e = tt
 
--- ---- one event
+-- ---- events in a row
 
--- what is said of a step
-abbrev pub Steps : SoloSession → SoloSession → OwnEvent → Result (Option OwnReply) NoMemory → Type 0
-Steps s new event result = (most : ℕ) (solo next : Solo) (told : Option OwnReply) → IsSolo s solo → HasRoom most solo event →
-    IsShortEvent event → step most (app_in s) solo event ≡ Some (next, told) → IfOk result (λ answer. HasStepped new answer next told)
+number_at : (entered : ℕ) (event : OwnEvent) → entered < 2 ^ 32 → HasNumber entered event
+number_at entered (Open params login) few = few
+number_at entered (Invoke func input) few = few
+number_at entered Close few = few
+number_at entered Cancel few = few
+number_at entered (Seen number steps) few = tt
+number_at entered (Back number input) few = tt
+number_at entered (Out number) few = tt
+number_at entered Limited few = tt
 
-by_step : (s new : SoloSession) (solo : Solo) (event : OwnEvent) (events : List OwnEvent) (result : Result (Option OwnReply) NoMemory)
-    (o : Option Answered) →
-    step 1000 (app_in s) solo event ≡ o → option_map_or (λ (answered : Answered). can_be_fed (app_in s) answered.0 events) o false ≡ true →
-    app_in new ≡ app_in s → IsSolo s solo → HasRoom 1000 solo event → IsShortEvent event → Steps s new event result →
-    IfOk result (λ _. IsFed new events)
-by_step s new solo event events result None does can same is room short steps = absurd cc
-by_step s new solo event events result (Some answered) does can same is room short steps =
-    IfOk-weaker result (λ answer. HasStepped new answer answered.0 answered.1) (λ _. IsFed new events)
-    (λ answer so. record {
-      solo = answered.0;
-      is = so.1;
-      can = ap (λ (app : Application). can_be_fed app answered.0 events) same ∙ can;
-    })
-    (steps 1000 solo answered.0 answered.1 is room short does)
+comes : (app : Application) (events : List OwnEvent) (o : Option Answered)
+    → ((answered : Answered) → can_be_fed app answered.0 events ≡ true → CanBeFed 1000 app answered.0 events)
+    → option_map_or (λ (answered : Answered). can_be_fed app answered.0 events) o false ≡ true
+    → IsSomeAnd o (λ (answered : Answered). CanBeFed 1000 app answered.0 events)
+comes app events None rest e = absurd cc
+comes app events (Some answered) rest e = rest answered e
 
--- after it the rest can be fed
-pub fed_on : (s new : SoloSession) (event : OwnEvent) (events : List OwnEvent) (result : Result (Option OwnReply) NoMemory) →
-    IsFed s (event ∷ events) → app_in new ≡ app_in s → Steps s new event result → IfOk result (λ _. IsFed new events)
-fed_on s new event events result fed same steps =
-    let first = both (list_all has_room fed.solo.calls) _ fed.can in
-    let second = both (is_short_event event) _ first.1 in
-    by_step s new fed.solo event events result (step 1000 (app_in s) fed.solo event) refl second.1 same fed.is
-    (has_room_at fed.solo first.0 event) (short_event event second.0) steps
+pub can_be : (app : Application) (solo : Solo) (events : List OwnEvent) → can_be_fed app solo events ≡ true
+    → CanBeFed 1000 app solo events
+can_be app solo [] e = tt
+can_be app solo (event ∷ events) e =
+    let first = both (list_all has_room solo.calls) _ e in
+    let second = both (has_number solo.entered) _ first.1 in
+    let third = both (is_short_event event) _ second.1 in (
+      record {
+        number = number_at solo.entered event (few solo.entered second.0);
+        room = has_room_at solo first.0 event;
+      },
+      comes app events (step 1000 app solo event) (λ answered can. can_be app answered.0 events can) third.1,
+    )
+
+shorts : (app : Application) (events : List OwnEvent) (o : Option Answered)
+    → ((answered : Answered) → can_be_fed app answered.0 events ≡ true → AllByRecursion IsShortEvent events)
+    → option_map_or (λ (answered : Answered). can_be_fed app answered.0 events) o false ≡ true → AllByRecursion IsShortEvent events
+shorts app events None rest e = absurd cc
+shorts app events (Some answered) rest e = rest answered e
+
+pub are_short : (app : Application) (solo : Solo) (events : List OwnEvent) → can_be_fed app solo events ≡ true
+    → AllByRecursion IsShortEvent events
+are_short app solo [] e = tt
+are_short app solo (event ∷ events) e =
+    let third = both (is_short_event event) _ (both (has_number solo.entered) _ (both (list_all has_room solo.calls) _ e).1).1 in (
+      short_event event third.0,
+      shorts app events (step 1000 app solo event) (λ answered can. are_short app answered.0 events can) third.1,
+    )
 
 -- ---- a table
 

@@ -1,5 +1,5 @@
 -- What the machine of a session is fed with, and when it can be.
-use Rattle.std.specs.Prelude.{◌≡◌, ℕ, ◌+◌, ◌^◌, ◌&&◌, Bool, true, false, List, [], ◌∷◌, map, nat_le, nat_lt, replicate}
+use Rattle.std.specs.Prelude.{ℕ, ◌+◌, ◌^◌, ◌&&◌, Bool, true, false, List, [], ◌∷◌, map, nat_le, nat_lt, replicate}
 use Rattle.std.specs.List.{list_all}
 use Rattle.std.specs.Option.{option_map_or}
 use Rattle.job_model.specs.Point.{no_params}
@@ -13,8 +13,6 @@ use Rattle.own_model.specs.declared.own_event.OwnEvent.TheVariants.{Open, Invoke
 use Rattle.own_model.specs.declared.own_event.OwnInput.{OwnInput}
 use Rattle.own_model.specs.declared.own_event.OwnInput.TheVariants.{Copied, Faulty, Unread}
 use Rattle.rpc_msgs.specs.Answer.{nothing_read}
-use Rattle.solo.specs.Standing.{IsSolo, app_in}
-use Rattle.solo.specs.declared.solo_session.SoloSession.{SoloSession}
 use Rattle.solo_cases.specs.declared.fed.Fed.{Fed}
 use Rattle.solo_cases.specs.declared.fed.Fed.TheVariants as fed
 use Rattle.ta_isa.specs.declared.boot.Boot.{Boot}
@@ -87,16 +85,15 @@ is_short_event (Back call input) = true
 is_short_event (Out call) = true
 is_short_event Limited = true
 
+-- a call that comes in gets a number of 32 bits
+abbrev pub has_number : ℕ → Bool
+has_number entered = nat_lt entered (2 ^ 32)
+
 -- each of these events can come when those before it have come, with a thousand steps for each stop
 abbrev pub can_be_fed : Application → Solo → List OwnEvent → Bool
 can_be_fed app solo [] = true
 can_be_fed app solo (event ∷ events) =
     list_all has_room solo.calls
+    && (has_number solo.entered
     && (is_short_event event
-    && option_map_or (λ (answered : Answered). can_be_fed app answered.0 events) (step 1000 app solo event) false)
-
--- the machine can be fed with these from now on
-pub record IsFed (session : SoloSession) (events : List OwnEvent) : Type 0 where
-  pub solo : Solo
-  pub is : IsSolo session solo
-  pub can : can_be_fed (app_in session) solo events ≡ true
+    && option_map_or (λ (answered : Answered). can_be_fed app answered.0 events) (step 1000 app solo event) false))

@@ -2,9 +2,10 @@
 ghost use Rattle.std.specs.Prelude.{◌≡◌, ◌∷◌, IfOk, List};
 ghost use Rattle.own_model.specs.Solo.{unopened};
 ghost use Rattle.own_model.specs.declared.own_event.OwnEvent.{OwnEvent as AnyEvent};
-ghost use Rattle.solo.specs.Standing.{IsSolo, IsSomeSolo, app_in};
+ghost use Rattle.solo.specs.Feeding.{IsFed, IsFedWith};
+ghost use Rattle.solo.specs.Standing.{IsSolo, app_in};
 ghost use Rattle.solo_cases.specs.Cases.{IsCase};
-ghost use Rattle.solo_cases.specs.Feeding.{IsFed, application_in, boot_in, event_in, image_in};
+ghost use Rattle.solo_cases.specs.Feeding.{application_in, boot_in, event_in, image_in};
 ghost use Rattle.ta_isa.specs.Spelling.{IsValid};
 
 use crate::fed::{Fed, event_of};
@@ -62,7 +63,7 @@ fn session_of(alloc: Global, code: &[Instr]) -> Result<SoloSession, NoMemory>
 
 /// Feeds it with one event.
 fn answer(alloc: Global, session: &mut SoloSession, fed: Fed) -> Result<Option<OwnReply>, NoMemory>
-    requires { ∥ IsSomeSolo session.old ∥₁ }
+    requires { ∥ IsFedWith session.old (event_in fed) ∥₁ }
     ensures { (events : List AnyEvent) → IsFed session.old (event_in fed ∷ events)
         → IfOk result (λ _. IsFed session.new events) }
 {

@@ -1,5 +1,6 @@
 use Rattle.std.proofs.Common.{drop}
-use Rattle.solo_cases.specs.Feeding.{IsFed, events_in}
+use Rattle.solo.specs.Feeding.{IsFed}
+use Rattle.solo_cases.specs.Feeding.{events_in}
 use Rattle.solo_cases.proofs.sessions.answers.Given as goal
 
 -- the rest of the table can come

@@ -5,14 +5,14 @@ use Rattle.solo.proofs.Stepped.{came_back, cancelled, closed, invoked, opened, s
 use Rattle.solo.specs.Standing.{StandsFor, app_in}
 use Rattle.solo.proofs.solo_session.SoloSession.changes.Goals as goal
 
-pub opens-requires : goal.opens-requires
-opens-requires c = valid_when_kept c.args.self.now c.requires
+pub opens-requires-clause-valid : goal.opens-requires-clause-valid
+opens-requires-clause-valid c = valid_when_kept c.args.self.now c.requires.some
 
-pub invokes-requires : goal.invokes-requires
-invokes-requires c = valid_when_kept c.args.self.now c.requires
+pub invokes-requires-clause-valid : goal.invokes-requires-clause-valid
+invokes-requires-clause-valid c = valid_when_kept c.args.self.now c.requires.some
 
-pub closes-requires : goal.closes-requires
-closes-requires c = valid_when_kept c.args.self.now c.requires
+pub closes-requires-clause-valid : goal.closes-requires-clause-valid
+closes-requires-clause-valid c = valid_when_kept c.args.self.now c.requires.some
 
 pub returns-in-Open-clause-ok : goal.returns-in-Open-clause-ok
 returns-in-Open-clause-ok c most solo next told is silent e =

@@ -2,12 +2,14 @@ use Rattle.std.proofs.Common.{◌≡◌, Some, subst}
 use Rattle.kernel_model.specs.Kernel.{CallPhase}
 use Rattle.own_model.specs.Solo.{going_in}
 use Rattle.solo.proofs.Outgoing.{not_working, rests_so, runs_as}
+use Rattle.solo.specs.Stepping.{HasRoomIn}
 use Rattle.solo.proofs.solo_session.SoloSession.going_in.Goals as goal
 
 pub returns-in-Runs-clause-going : goal.returns-in-Runs-clause-going
 returns-in-Runs-clause-going c most solo call going beside is room e =
     let runs = runs_as c.args.cont.now call.phase c.in-Runs.is is.phase in
-    c.taken_on.ensures.going most solo call going runs.0 beside is runs.1 room
+    c.taken_on.ensures.going most solo call going runs.0 beside is runs.1
+    (subst (HasRoomIn most call.steps) runs.1 room)
     (subst (λ (p : CallPhase). going_in most solo call p ≡ Some going) runs.1 e)
 
 pub returns-in-Ends-clause-going : goal.returns-in-Ends-clause-going

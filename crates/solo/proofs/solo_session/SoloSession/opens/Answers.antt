@@ -29,12 +29,12 @@ returns-in_err-ready-clause-err c solo stands =
 pub returns-clause-ok : goal.returns-clause-ok
 returns-clause-ok c solo stands first =
     let s = c.args.self.now in
-    let number = c.in_ok-number.number in
+    let number = c.next_number-number.result in
     let session : OwnSession = record { login = c.args.login; context = 0; opened = false } in
     let own : KeptSession = record { login = c.args.login; context = 0; opened = false } in
     let roomy : SoloSession = record s { calls = c.reserve.new.self } in
     let now : SoloSession = record roomy { session = Some own; instance = Some c.in_ok-instance.instance } in
-    let next = next_is s solo number c.in_ok-number.ensures stands in
+    let next = next_is s solo number c.next_number-number.ensures stands in
     let kept = made_stands roomy now solo own c.in_ok-instance.instance refl (stands_still s roomy solo refl c.reserve.ensures.items stands) in
     subst (StandsFor c.begins_last.new.self) (opened_at_once (app_in s) solo c.args.params.now c.args.params.now c.args.login number next refl)
     (c.begins_last.ensures.begins (record solo { session = Some session; instance = Some (made (app_in s)) }) (fresh_call kind.Open (Waits c.args.params.now))

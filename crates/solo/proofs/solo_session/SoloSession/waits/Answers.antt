@@ -26,8 +26,8 @@ returns-clause-ok c solo stands =
     let s = c.args.self.now in
     let call = fresh_call c.args.kind (Waits (kept_params (option_copied c.args.params))) in
     let with_it : Solo = record (counted solo) { calls = insert solo.calls solo.entered call } in
-    let number = c.in_ok-number.number in
-    let next = next_is s solo number c.in_ok-number.ensures stands in
+    let number = c.next_number-number.result in
+    let next = next_is s solo number c.next_number-number.ensures stands in
     subst (StandsFor _) (ap (λ (n : ℕ). record with_it { waiting = solo.waiting ++ n ∷ [] }) next)
     (line_grows c.counted.new.self _ with_it number refl c.push_reserved.ensures.items
     (c.in_ok-counted.ensures.ok solo call (line_same s _ solo refl c.reserve.ensures.items stands) c.in_ok-call.ensures.call))

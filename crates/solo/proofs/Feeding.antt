@@ -1,0 +1,70 @@
+-- A session's code is fed with one event after the other.
+use Rattle.std.proofs.Common.{◌≡◌, ◌∙◌, ℕ, ◌+◌, ◌<◌, List, ◌∷◌, Option, Some, length, drop, get_or, sym, ap, subst, add-one}
+use Rattle.std.proofs.Math.Logic.{∥∥₁_elim}
+use Rattle.std.proofs.Math.Seq.{drop-cons}
+use Rattle.std.proofs.Props.{props}
+use Rattle.std.specs.Prelude.{IfOk, Result}
+use Rattle.std.proofs.lemmas.Result.{IfOk-weaker}
+use Rattle.base.specs.declared.no_memory.NoMemory.{NoMemory}
+use Rattle.kernel_model.specs.Application.{Application}
+use Rattle.own_model.specs.Solo.{Answered, Solo, step}
+use Rattle.own_model.specs.declared.own_event.OwnEvent.{OwnEvent}
+use Rattle.own_model.specs.declared.own_event.OwnEvent.TheVariants.{Open, Invoke, Close, Cancel, Seen, Back, Out, Limited}
+use Rattle.own_model.specs.declared.own_reply.OwnReply.{OwnReply}
+use Rattle.rpc_cont.proofs.Asking.{from_there}
+use Rattle.solo.specs.Feeding.{CanBeFed, IsFed, IsFedWith}
+use Rattle.solo.specs.Short.{IsShortEvent}
+use Rattle.solo.specs.Standing.{IsSolo, IsSomeSolo, app_in, entered_in}
+use Rattle.solo.specs.Stepping.{HasNumber, HasRoom, HasStepped}
+use Rattle.solo.specs.declared.solo_session.SoloSession.{SoloSession}
+
+-- ---- what a step asks for
+
+number_prop : (entered : ℕ) (event : OwnEvent) → IsProp (HasNumber entered event)
+number_prop entered (Open params login) = Prim.hlevel props
+number_prop entered (Invoke func input) = Prim.hlevel props
+number_prop entered Close = Prim.hlevel props
+number_prop entered Cancel = Prim.hlevel props
+number_prop entered (Seen number steps) = Prim.hlevel props
+number_prop entered (Back number input) = Prim.hlevel props
+number_prop entered (Out number) = Prim.hlevel props
+number_prop entered Limited = Prim.hlevel props
+
+pub has_number : (s : SoloSession) (event : OwnEvent) → ∥ IsFedWith s event ∥₁ → HasNumber (entered_in s) event
+has_number s event fact =
+    ∥∥₁_elim fact (number_prop (entered_in s) event)
+    (λ (with : IsFedWith s event).
+    subst (λ entered. HasNumber entered event) (ap (λ (z : Solo). z.entered) with.fed.is.stands.beside) with.fed.can.0.number)
+
+pub is_some_solo : (s : SoloSession) (event : OwnEvent) → IsFedWith s event → IsSomeSolo s
+is_some_solo s event with = record { solo = with.fed.solo; is = with.fed.is }
+
+-- ---- what it leaves
+
+-- what is said of a step
+abbrev pub Steps : SoloSession → SoloSession → OwnEvent → Result (Option OwnReply) NoMemory → Type 0
+Steps s new event result = (most : ℕ) (solo next : Solo) (told : Option OwnReply) → IsSolo s solo → HasRoom most solo event
+    → IsShortEvent event → step most (app_in s) solo event ≡ Some (next, told)
+    → IfOk result (λ answer. HasStepped new answer next told)
+
+-- after it the rest can be fed
+pub fed_on : (s new : SoloSession) (event : OwnEvent) (events : List OwnEvent) (result : Result (Option OwnReply) NoMemory)
+    → IsFed s (event ∷ events) → app_in new ≡ app_in s → Steps s new event result → IfOk result (λ _. IsFed new events)
+fed_on s new event events result fed same steps =
+    from_there (step fed.most (app_in s) fed.solo event) (λ (answered : Answered). CanBeFed fed.most (app_in s) answered.0 events) fed.can.1
+    (λ answered does can.
+    IfOk-weaker result (λ answer. HasStepped new answer answered.0 answered.1) (λ _. IsFed new events)
+    (λ answer so. record {
+      solo = answered.0;
+      is = so.1;
+      most = fed.most;
+      can = subst (λ (app : Application). CanBeFed fed.most app answered.0 events) (sym same) can;
+      short = fed.short.1;
+    })
+    (steps fed.most fed.solo answered.0 answered.1 fed.is fed.can.0.room fed.short.0 does))
+
+-- some events, from one of them on
+pub front : (events : List OwnEvent) (i : ℕ) (none : OwnEvent) → i < length events
+    → drop i events ≡ get_or events i none ∷ drop (i + 1) events
+front events i none below =
+    drop-cons events i none below ∙ ap (λ k. get_or events i none ∷ drop k events) (sym (add-one i))
