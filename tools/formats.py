@@ -168,7 +168,7 @@ FAULTS = {
     "cut": "the last line has no line feed",
     "item": "a first word that is no kind of line: misspelt, in capitals, or behind a blank",
     "count": "too few or too many words, two blanks, or a blank at the end",
-    "place": "no boot line before, a second one, or a ta or mem line behind the first call",
+    "place": "no boot line before, a second one, or a ta or mem line behind a line of another kind",
     "number": "a decimal with a leading zero or a letter, 0x before hexadecimal digits, or too many of them",
     "uuid": "a UUID without its hyphens, or with other digits",
     "hex": "an odd number of hexadecimal digits, 0x before them, or another character",
