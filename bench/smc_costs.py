@@ -26,7 +26,11 @@ VALUE_INOUT, MEMREF_OUT, META = 3, 10, 0x101
 
 CALL = "smc 0 1000 32000004 0 40000000 0 0 0 0 0"
 BRIEF_CALL = "smc 0 1 32000004 0 40000000 0 0 0 0 0"
+RESUME = "smc 0 1000 32000003 0 0 0 0 0 0 0"
 BRIEF_RESUME = "smc 0 1 32000003 0 0 0 0 0 0 0"
+LENDS = "smc 0 1000 32000003 0 40010000 0 0 77 0 0"
+REPLIES = "write 0 40010014 00000000"
+HAS_FILE = "write 0 40010068 0300000000000000"
 OPENS, CLOSES = "write 0 40000000 00000000", "write 0 40000000 02000000"
 
 # op, d, a, b, imm. At each image's instruction 0 its entry points begin, but for the invoke's at 1
@@ -42,11 +46,30 @@ ADDS = [
     (0x18, 0, 0, 0, 4),  # set value
     RETURN,
 ]
+WAITS = [RETURN, (0x01, 0, 0, 0, 5), (0x18, 0, 0, 0, 12), RETURN]  # const r0 5, wait
+OBJECT_BYTES, OBJECT_AT, OBJECT_PAGES = 32_256, 4096, 9
+PIECES = OBJECT_BYTES // 3584
+SEEKS = [(0x01, 0, 0, 0, 0), (0x01, 1, 0, 0, 0), (0x18, 0, 0, 0, 17)]  # to 0 in handle 0
+MOVES = [(0x01, 0, 0, 0, 0), (0x01, 1, 0, 0, OBJECT_AT), (0x01, 2, 0, 0, OBJECT_BYTES)]
+# the id is the byte at 0; then all bytes are written and read, again and again
+STORES = [
+    RETURN,
+    (0x01, 0, 0, 0, 0),
+    (0x01, 1, 0, 0, 1),
+    (0x18, 0, 0, 0, 13),  # create
+    *SEEKS,
+    *MOVES,
+    (0x18, 0, 0, 0, 16),  # write
+    *SEEKS,
+    *MOVES,
+    (0x18, 0, 0, 0, 15),  # read
+    (0x15, 0, 0, 0, 4),
+]
 
 
-def image(code):
-    """An image of one page."""
-    header = b"OTTA" + struct.pack("<8I", 0, 1, len(code), 0, 0, 1, 0, 0)
+def image(code, pages=1):
+    """An image of so many pages."""
+    header = b"OTTA" + struct.pack("<8I", 0, pages, len(code), 0, 0, 1, 0, 0)
     return (header + b"".join(struct.pack("<4BI", *instruction) for instruction in code)).hex()
 
 
@@ -68,19 +91,28 @@ CLIENT = param(META, *struct.unpack("<2Q", bytes.fromhex(UUID.replace("-", "")))
 VALUES = invoking(param(VALUE_INOUT, 5, 7))
 MEMREFS = invoking(param(MEMREF_OUT, 0x40001000, 4096), param(MEMREF_OUT, 0x40002000, 4096))
 
+# the file is there, and its header written
+CREATED = [invoking(), CALL, LENDS, REPLIES, HAS_FILE, RESUME]
+# the first time a new header is written behind the pieces, since the object grows
+GROWN = [REPLIES, RESUME] * (1 + PIECES + 1 + PIECES)
+
 # an image, what comes once behind an open, and what comes again and again
 LOOPS = {
-    "a fast call": (RETURNS, [], ["smc 0 1 bf00ff01 0 0 0 0 0 0 0"]),
-    "an open with its close": (RETURNS, [CLOSES, CALL], [OPENS, CALL, CLOSES, CALL]),
-    "an invoke with values (ADD)": (ADDS, [VALUES], [CALL]),
-    "an invoke with two memrefs of 4,096 bytes": (RETURNS, [MEMREFS], [CALL]),
-    "a suspend with its resume": (JUMPS, [invoking(), BRIEF_CALL], [BRIEF_RESUME]),
+    "a fast call": (image(RETURNS), [], ["smc 0 1 bf00ff01 0 0 0 0 0 0 0"]),
+    "an open with its close": (image(RETURNS), [CLOSES, CALL], [OPENS, CALL, CLOSES, CALL]),
+    "an invoke with values (ADD)": (image(ADDS), [VALUES], [CALL]),
+    "an invoke with two memrefs of 4,096 bytes": (image(RETURNS), [MEMREFS], [CALL]),
+    "a suspend with its resume": (image(JUMPS), [invoking(), BRIEF_CALL], [BRIEF_RESUME]),
+    "a wait with its four SMCs": (image(WAITS), [invoking()], [CALL, LENDS, REPLIES, RESUME, RESUME]),
+    "an object of 32,256 bytes, written and read": (
+        image(STORES, OBJECT_PAGES), CREATED + GROWN, [REPLIES, RESUME] * (2 * PIECES),
+    ),
 }
 
 
-def case(code, once, again, times):
+def case(app, once, again, times):
     """The case of a trace. It names a wrong status, so that one line is printed."""
-    head = ["boot 1 1 2", f"ta {UUID} {image(code)}", f"mem 40000000 {argument(OPEN, CLIENT, param(META, 0, 0))}", CALL]
+    head = ["boot 1 1 16", f"ta {UUID} {app}", f"mem 40000000 {argument(OPEN, CLIENT, param(META, 0, 0))}", CALL]
     lines = ["case loop", "words run", "input", *("|" + line for line in head + once + again * times), "output", "status 1"]
     return "".join(line + "\n" for line in lines).encode()
 
