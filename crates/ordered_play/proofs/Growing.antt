@@ -12,12 +12,13 @@ use Rattle.ns_ram.specs.Reads.{HoldsReads}
 use Rattle.ns_ram.specs.declared.read.Read.{Read}
 use Rattle.trace_text.specs.declared.item.Item.{Item}
 use Rattle.trace_text.specs.declared.item.Reg.{Reg}
-use Rattle.ordered_play.proofs.Events.{next_last, next_stands, none_at_end}
+use Rattle.ordered_play.proofs.Events.{next_last, next_stands, none_at_end, one_longer}
 use Rattle.ordered_play.proofs.Longer.{acts_stay}
+use Rattle.ordered_play.proofs.Ready.{ready_anew}
 use Rattle.ordered_play.proofs.Turn.{entry_by}
-use Rattle.ordered_play.specs.Act.{Act, Comes, Leaves, Writes, Shows}
-use Rattle.ordered_play.specs.Laws.{longer}
-use Rattle.ordered_play.specs.Merge.{Part, seat_left, seat_of}
+use Rattle.ordered_play.specs.Act.{Act, Comes, Leaves, Writes, Shows, acts_for}
+use Rattle.ordered_play.specs.Laws.{PartsGrow, longer}
+use Rattle.ordered_play.specs.Merge.{Part, seat_left, seat_of, share_of}
 use Rattle.ordered_play.specs.Part.{AreActsOf, ComesIn, GoesOut, IsActOf, IsPart, Share, Standing, StopsAtEvent}
 use Rattle.ordered_play.specs.Part.{first_standing, next_event}
 use Rattle.ordered_play.specs.Seat.{Shown, Told, ready_for, with_line, with_writes}
@@ -190,3 +191,38 @@ go_out of items lane end part exited exits =
       exits = ap (λ (h : List Event). exit_after of.boot h of.cpu) (take-append_seam of.history (event ∷ [])) ∙ exits;
       stands = refl;
     }
+
+pub parts_grow : PartsGrow
+parts_grow = record {
+  begins = λ boot cpu items lane.
+      let none : List Event = [] in
+      let start = skip (share_of boot none cpu) (acts_for cpu items) (first_standing lane) in (
+        record {
+          end = start.end;
+          is_part = record {
+            done = start.skipped;
+            left = start.left;
+            cut = start.cut;
+            acts = start.are;
+            spent = ap (next_event none cpu) start.used ∙ none_at_end cpu none;
+            stops = start.stops;
+          };
+        },
+        start.ready,
+      );
+  comes = λ of items lane part steps regs rest reads left holds.
+      let event = entry_by of.cpu part.end.seat steps regs reads in
+      let entered = record part.end.seat { entry_at = length of.history } in
+      let grown = grows of event items lane part.end part.is_part (Comes steps regs) rest
+      (record { used = length of.history + 1; seat = entered }) left
+      (come_in of items lane part.end part.is_part steps regs reads holds) (sym (one_longer of.history event)) in
+      (grown.now, ready_anew rest part.is_part.left entered ∙ grown.comes_to);
+  goes = λ of items lane part rest exited left exits.
+      let event : Event = Exit of.cpu (record { a = exited.regs }) in
+      let gone = with_line (Told exited.regs part.end.seat.entry_at (length of.history))
+      (with_writes exited.writes (record part.end.seat { answer = exited.regs })) in
+      let grown = grows of event items lane part.end part.is_part Leaves rest
+      (record { used = length of.history + 1; seat = gone }) left
+      (go_out of items lane part.end part.is_part exited exits) (sym (one_longer of.history event)) in
+      (grown.now, ready_anew rest part.is_part.left gone ∙ grown.comes_to);
+}

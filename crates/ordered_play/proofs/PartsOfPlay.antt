@@ -7,7 +7,7 @@ use Rattle.std.specs.List.{AllByRecursion}
 use Rattle.std.specs.Option.{option_and_then}
 use Rattle.std.proofs.Math.Seq.{take-append_seam}
 use Rattle.std.proofs.lemmas.Bool.Decides.{nat_tests}
-use Rattle.std.proofs.lemmas.List.{length-set, take-append-le, length-append}
+use Rattle.std.proofs.lemmas.List.{length-set}
 use Rattle.std.proofs.lemmas.List.FromFn.{length-map-range_with_len}
 use Rattle.std.proofs.lemmas.List.Sums.{sum_by-append}
 use Rattle.std.proofs.lemmas.Option.{option_and_then_some, slice_get_within}
@@ -28,64 +28,25 @@ use Rattle.ns_ram.specs.Reader.{over_lane}
 use Rattle.ns_ram.specs.Reads.{HoldsReads, total_bytes}
 use Rattle.ns_ram.specs.declared.read.Read.{Read}
 use Rattle.play_model.specs.Play.{filled}
-use Rattle.trace_text.specs.declared.item.Item.{Item}
 use Rattle.trace_text.specs.declared.item.Reg.{Reg}
 use Rattle.trace_text.specs.declared.trace.Trace.{Trace}
-use Rattle.ordered_play.proofs.Events.{none_at_end, none_stays, one_longer, same_some}
-use Rattle.ordered_play.proofs.Growing.{come_in, go_out, grows, skip}
+use Rattle.ordered_play.proofs.Events.{none_at_end, same_some}
+use Rattle.ordered_play.proofs.Growing.{parts_grow}
 use Rattle.ordered_play.proofs.Legal.{one_event_more}
-use Rattle.ordered_play.proofs.Longer.{part_stays}
+use Rattle.ordered_play.proofs.Longer.{kept, refused_stays, seat_stays}
 use Rattle.ordered_play.proofs.Midway.{first_there}
 use Rattle.ordered_play.proofs.Ready.{ready_anew}
 use Rattle.ordered_play.proofs.Turn.{entry_by, moved_on}
-use Rattle.ordered_play.specs.Act.{Act, Comes, Leaves, Writes, Shows, acts_for}
+use Rattle.ordered_play.specs.Act.{Act, Comes, Leaves, Writes, Shows}
 use Rattle.ordered_play.specs.Laws.{PlaysHaveParts, longer}
 use Rattle.ordered_play.specs.Merge.{HasPart, IsOfParts, IsRefusedIf, Part, seat_left, seat_of, seat_with, share_of}
 use Rattle.ordered_play.specs.Ordered.{OrderedPlay, after_act, after_turn, after_turns, enters_with, first_ordered}
 use Rattle.ordered_play.specs.Ordered.{leaves_with, reads_of, refused_seat, visit_with, with_event, with_seat}
-use Rattle.ordered_play.specs.Part.{IsActOf, Share, Standing, StopsAtEvent, cpu_of_event, first_standing, next_event}
+use Rattle.ordered_play.specs.Part.{Share, StopsAtEvent, cpu_of_event}
 use Rattle.ordered_play.specs.Seat.{Seat, Told, first_seat, ready_for, with_line, with_writes}
 
 take_whole : (history : List Event) → take (length history) history ≡ history
 take_whole history = ap (take (length history)) (sym (append-nil history)) ∙ take-append_seam history []
-
--- ---- parts of others stay
-
-module _ (of : Share) (more : List Event) (items : List Item) (lane : List ℕ) (part : Part of items lane)
-    (others : AllByRecursion (IsOfOther of.cpu) more) where
-  abbrev kept : Part (longer of more) items lane
-  kept = record { end = part.end; is_part = part_stays of more items lane part.end others part.is_part }
-
-  refused_stays : (place : Option ℕ) → IsRefusedIf of items lane part place
-      → IsRefusedIf (longer of more) items lane kept place
-  refused_stays None refused = tt
-  refused_stays (Some place) refused =
-      let front = take-append-le place of.history more refused.within in
-      let long = length-append of.history more in
-      let within = refused.within in
-      record {
-        within = omega (arith, long, within);
-        last = none_stays of.cpu place of.history more others refused.last;
-        steps = refused.steps;
-        regs = refused.regs;
-        rest = refused.rest;
-        left = refused.left;
-        kernel = refused.kernel;
-        before = ap (kernel_after of.boot) front ∙ refused.before;
-        reads = refused.reads;
-        would_read = refused.would_read;
-        many = subst (λ (h : List Event). 2 ^ 28 < copied_bytes h + total_bytes refused.reads) (sym front) refused.many;
-      }
-
-  seat_stays : (place : Option ℕ) (refused : IsRefusedIf of items lane part place)
-      → seat_with of items lane part place refused
-      ≡ seat_with (longer of more) items lane kept place (refused_stays place refused)
-  unfolding refused_stays
-  seat_stays None refused = refl
-  seat_stays (Some place) refused =
-      ap (λ (h : List Event). refused_seat (seat_of part)
-      (record { copied = copied_bytes h; more = total_bytes refused.reads }))
-      (sym (take-append-le place of.history more refused.within))
 
 module _ (boot : Booted) (ram : List ℕ) (trace : Trace) where
   abbrev HasPartIn : OrderedPlay → ℕ → Type 0
@@ -138,26 +99,21 @@ module _ (boot : Booted) (ram : List ℕ) (trace : Trace) where
     abbrev lane : List ℕ
     lane = filled ram trace.fills
 
-    -- an entry or an exit of it came, and its seat is ready for the rest of its part
-    goes_on : (act : Act) (rest : List Act) (event : Event) (new : Standing) (seat : Seat) (after : OrderedPlay)
-        → cpu_of_event event ≡ cpu → part.is_part.left ≡ act ∷ rest
-        → IsActOf (longer of (event ∷ [])) act part.end new → new.used ≡ length play.history + 1
-        → seat ≡ ready_for rest new.seat → copied_bytes play.history + copied_by event ≤ 2 ^ 28
+    -- an event of it came, and its seat is that of the part which has grown by it
+    goes_on : (event : Event) (seat : Seat) (after : OrderedPlay) (now : Part (longer of (event ∷ [])) trace.items lane)
+        → cpu_of_event event ≡ cpu → seat ≡ seat_of now → copied_bytes play.history + copied_by event ≤ 2 ^ 28
         → with_event boot cpu seat event play ≡ Some after → IsOfParts boot ram trace after
-    goes_on act rest event new seat after own left is used ready few e =
+    goes_on event seat after now own ready few e =
         let came = option_map_some (moved_on play cpu seat event) (after_event boot play.kernel event) after e in
-        let long = one_longer play.history event in
-        let now = grows of event trace.items lane part.end part.is_part act rest new left is
-        (omega (arith, long, used)) in
         subst (IsOfParts boot ram trace)
         (ap (λ (c : ℕ). moved_on play c seat event came.0) own ∙ came.2)
         (with_own play event seat came.0 of_parts came.1 few
         (subst (λ (c : ℕ). HasPartIn (moved_on play c seat event came.0) c) (sym own)
         (record {
-          part = now.now;
+          part = now;
           place = None;
           refused = tt;
-          seat = set_found play.seats cpu seat (seat_of part) there ∙ ap Some (ready ∙ now.comes_to);
+          seat = set_found play.seats cpu seat (seat_of part) there ∙ ap Some ready;
         })))
 
     comes_on : (steps : ℕ) (regs : List Reg) (rest : List Act) (reads : List Read) (after : OrderedPlay)
@@ -168,10 +124,10 @@ module _ (boot : Booted) (ram : List ℕ) (trace : Trace) where
         (entry_by cpu part.end.seat steps regs reads) play ≡ Some after
         → IsOfParts boot ram trace after
     comes_on steps regs rest reads after left holds few e =
-        goes_on (Comes steps regs) rest (entry_by cpu part.end.seat steps regs reads)
-        (record { used = length play.history + 1; seat = record part.end.seat { entry_at = length play.history } }) _
-        after refl left (come_in of trace.items lane part.end part.is_part steps regs reads holds) refl
-        (ready_anew rest (Comes steps regs ∷ rest) (record part.end.seat { entry_at = length play.history })) few e
+        let now = parts_grow.comes of trace.items lane part steps regs rest reads left holds in
+        let entered = record part.end.seat { entry_at = length play.history } in
+        goes_on (entry_by cpu part.end.seat steps regs reads) _ after now.0 refl
+        (ready_anew rest (Comes steps regs ∷ rest) entered ∙ sym (ready_anew rest part.is_part.left entered) ∙ now.1) few e
 
     -- its entry was refused
     is_refused : (steps : ℕ) (regs : List Reg) (rest : List Act) (reads : List Read) (after : OrderedPlay)
@@ -264,13 +220,13 @@ module _ (boot : Booted) (ram : List ℕ) (trace : Trace) where
         option_and_then_some (leaves_with boot play cpu seat rest) (exit play.kernel cpu) after e
         (λ (exited : Exited) goes onward.
         let exits = ap (λ (o : Option Kernel). option_and_then (λ kernel. exit kernel cpu) o) of_parts.kernel ∙ goes in
+        let now = parts_grow.goes of trace.items lane part rest exited left exits in
         let told = with_line (Told exited.regs part.end.seat.entry_at (length play.history))
         (with_writes exited.writes (record part.end.seat { answer = exited.regs })) in
         let few = of_parts.few in
-        goes_on Leaves rest (Exit cpu (record { a = exited.regs }))
-        (record { used = length play.history + 1; seat = told }) _ after refl left
-        (go_out of trace.items lane part.end part.is_part exited exits) refl
-        (ready_anew rest (Leaves ∷ rest) told) (omega (arith, few)) onward)
+        goes_on (Exit cpu (record { a = exited.regs })) _ after now.0 refl
+        (ready_anew rest (Leaves ∷ rest) told ∙ sym (ready_anew rest part.is_part.left told) ∙ now.1)
+        (omega (arith, few)) onward)
 
     turn_on : (left : List Act) (after : OrderedPlay) → part.is_part.left ≡ left → StopsAtEvent left
         → after_act boot play cpu (seat_left part.end.seat left) left ≡ Some after → IsOfParts boot ram trace after
@@ -323,23 +279,12 @@ module _ (boot : Booted) (ram : List ℕ) (trace : Trace) where
     few = omega arith;
     count = length-map-range_with_len (first_seat (filled ram trace.fills) trace.items) 0 boot.cpus;
     parts = λ cpu below.
-        let none : List Event = [] in
-        let start = skip (share_of boot none cpu) (acts_for cpu trace.items) (first_standing (filled ram trace.fills)) in
+        let start = parts_grow.begins boot cpu trace.items (filled ram trace.fills) in
         record {
-          part = record {
-            end = start.end;
-            is_part = record {
-              done = start.skipped;
-              left = start.left;
-              cut = start.cut;
-              acts = start.are;
-              spent = ap (next_event none cpu) start.used ∙ none_at_end cpu none;
-              stops = start.stops;
-            };
-          };
+          part = start.0;
           place = None;
           refused = tt;
-          seat = first_there boot ram trace cpu below ∙ ap Some start.ready;
+          seat = first_there boot ram trace cpu below ∙ ap Some start.1;
         };
   }
 

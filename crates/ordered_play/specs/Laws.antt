@@ -1,21 +1,26 @@
 -- What holds of processors' parts of a history, and of plays in an order.
-use Rattle.std.specs.Prelude.{◌≡◌, ℕ, ◌^◌, Option, ◌<◌, ◌≤◌, true, false, List, [], ◌++◌, Some, None, length, map, slice_get}
+use Rattle.std.specs.Prelude.{◌≡◌, ℕ, ◌^◌, Option, ◌<◌, ◌≤◌, true, false, List, [], ◌∷◌, ◌++◌, Some, None, length, map, slice_get}
 use Rattle.std.specs.List.{AllByRecursion, flat_map}
 use Rattle.std.specs.Option.{is_some}
 use Rattle.event_journal.specs.Journal.{copied_bytes}
 use Rattle.event_journal.specs.declared.event.Event.{Event}
 use Rattle.kernel_model.specs.Application.{Booted, IsBooted}
-use Rattle.kernel_model.specs.History.{IsLegal}
+use Rattle.event_journal.specs.declared.event.Event.TheVariants.{Exit}
+use Rattle.kernel_model.specs.Exit.{Exited}
+use Rattle.kernel_model.specs.History.{IsLegal, exit_after}
 use Rattle.kernel_model.specs.Laws.{IsOfOther}
-use Rattle.play_model.specs.Play.{filled}
+use Rattle.ns_ram.specs.Reads.{HoldsReads}
+use Rattle.ns_ram.specs.declared.read.Read.{Read}
+use Rattle.play_model.specs.Play.{entry_event, filled}
 use Rattle.trace_text.specs.declared.item.Item.{Item}
+use Rattle.trace_text.specs.declared.item.Reg.{Reg}
 use Rattle.trace_text.specs.declared.trace.Trace.{Trace}
-use Rattle.ordered_play.specs.Act.{Act}
+use Rattle.ordered_play.specs.Act.{Act, Comes, Leaves}
 use Rattle.ordered_play.specs.Blocks.{block_of, blocks_of, has_ended, has_refused}
-use Rattle.ordered_play.specs.Merge.{ComesTo, IsOfParts, IsRefusedIf, Parts, order_with, seat_of, seat_with, share_of}
-use Rattle.ordered_play.specs.Ordered.{OrderedPlay, after_turns, first_ordered}
+use Rattle.ordered_play.specs.Merge.{ComesTo, IsOfParts, IsRefusedIf, Part, Parts, order_with, seat_of, seat_with, share_of}
+use Rattle.ordered_play.specs.Ordered.{OrderedPlay, after_turns, first_ordered, gone_seat, visit_with}
 use Rattle.ordered_play.specs.Part.{AreActsOf, IsPart, Share, Standing, cpu_of_event}
-use Rattle.ordered_play.specs.Seat.{Seat}
+use Rattle.ordered_play.specs.Seat.{Seat, first_seat, ready_for}
 
 -- ---- one processor
 
@@ -38,6 +43,30 @@ pub record PartsStay : Type 0 where
   pub parts : (of : Share) (more : List Event) (items : List Item) (lane : List ℕ) (end : Standing) →
       AllByRecursion (IsOfOther of.cpu) more → (part : IsPart of items lane end) →
       (now : IsPart (longer of more) items lane end) × (now.left ≡ part.left)
+  -- and its refused entry
+  pub refusals : (of : Share) (more : List Event) (items : List Item) (lane : List ℕ) (part : Part of items lane)
+      (place : Option ℕ) (refused : IsRefusedIf of items lane part place) →
+      AllByRecursion (IsOfOther of.cpu) more →
+      (now : Part (longer of more) items lane) × (later : IsRefusedIf (longer of more) items lane now place)
+      × (seat_with of items lane part place refused ≡ seat_with (longer of more) items lane now place later)
+
+-- a part grows with its processor's events
+pub record PartsGrow : Type 0 where
+  -- against no events it is what is written and shown before the first
+  pub begins : (boot : Booted) (cpu : ℕ) (items : List Item) (lane : List ℕ) →
+      (part : Part (share_of boot [] cpu) items lane) × (first_seat lane items cpu ≡ seat_of part)
+  -- the entry that it leaves comes, behind all events, with reads that its RAM holds
+  pub comes : (of : Share) (items : List Item) (lane : List ℕ) (part : Part of items lane) (steps : ℕ) (regs : List Reg)
+      (rest : List Act) (reads : List Read) →
+      part.is_part.left ≡ Comes steps regs ∷ rest → HoldsReads (seat_of part).lane reads →
+      (now : Part (longer of (entry_event (visit_with of.cpu (seat_of part) steps regs) reads ∷ [])) items lane)
+      × (ready_for rest (record (seat_of part) { entry_at = length of.history }) ≡ seat_of now)
+  -- the exit that it leaves comes, behind all events, as the kernel's exit there
+  pub goes : (of : Share) (items : List Item) (lane : List ℕ) (part : Part of items lane) (rest : List Act)
+      (exited : Exited) →
+      part.is_part.left ≡ Leaves ∷ rest → exit_after of.boot of.history of.cpu ≡ Some exited →
+      (now : Part (longer of (Exit of.cpu (record { a = exited.regs }) ∷ [])) items lane)
+      × (gone_seat (seat_of part) rest (length of.history) exited ≡ seat_of now)
 
 -- ---- all processors
 

@@ -1,6 +1,6 @@
 //! What holds of the definitions themselves.
 ghost use Rattle.ordered_play.specs.Examples.{Examples};
-ghost use Rattle.ordered_play.specs.Laws.{BlocksAreOfSeats, PartsAreUnique, PartsMerge, PartsStay, PlaysHaveParts, RefusalsMerge};
+ghost use Rattle.ordered_play.specs.Laws.{BlocksAreOfSeats, PartsAreUnique, PartsGrow, PartsMerge, PartsStay, PlaysHaveParts, RefusalsMerge};
 
 /// A processor has at most one part of a history: over the same RAM the same items end in the same standing.
 pub fn parts_are_unique()
@@ -10,6 +10,12 @@ pub fn parts_are_unique()
 /// A processor's part depends on the history only up to its last event: it stays where events of others follow.
 pub fn parts_stay()
     ensures { PartsStay }
+{}
+
+/// A part grows with its processor's events: the entry or exit that it leaves comes behind all others, and then RAM is
+/// written and shown up to the next.
+pub fn parts_grow()
+    ensures { PartsGrow }
 {}
 
 /// Where each processor has its part of a legal history, whose entries have read at most 2^28 bytes, the play in the
