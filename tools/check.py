@@ -172,6 +172,8 @@ def check_examples(comparison):
     check_folder(comparison)
     said = [entry.note for entry in plays.lay_out(expected.TRACE, expected.OUTPUT) if entry.printed]
     comparison.same("annotate.py at a play of calls that are refused", said, expected.OUTPUT_NOTES)
+    for trace, output in expected.NO_PLAYS:
+        comparison.same(f"annotate.py at {trace!r}", laid_out(trace, output), None)
     for name in ("annotate.py", "answers.py"):
         status, printed, said = tool(name, files[0], "-", text="ret 0\n")
         comparison.same(f"{name} at another output", (status, printed, said.startswith(name)), (1, "", True))

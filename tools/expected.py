@@ -252,6 +252,14 @@ OUTPUT_NOTES = [
     "cmd CANCEL; session 9; ret BAD_PARAMETERS; origin TEE",
 ]
 
+# Traces that are none, with outputs that aren't theirs.
+NO_PLAYS = [
+    ("boot 1 1 1\nshow 0 x 1\n", "mem 0 40000000 00\n"),
+    ("boot 1 1 1\nshow 0 40000000 x\n", "mem 0 40000000 00\n"),
+    ("boot 1 1 1\nleave 0\n", "ret 0" + 8 * " 00000000" + "\n"),
+    ("boot 1 1 1\nsmc * 1 x 0 0 0 0 0 0 0\n", "ret *" + 8 * " 00000000" + "\n"),
+]
+
 # What answers.py counts, without the totals.
 COUNTS = {
     "cancel": ["7 OK", "3 CMD", "1 ALLOC", "1 FREE", "1 INTERRUPT", "2 SUCCESS of TEE", "2 CANCEL of TRUSTED_APP"],
@@ -296,7 +304,8 @@ BAD_WORDS = {
     "check.py": ["x"],
 }
 BAD_SCRIPTS = [
-    "smc 0 1 NO_SUCH=1 x=1",
+    "smc 0 1 GET_THREADS",
+    "smc 0 1 CALL_WITH_ARG x=1",
     "smc 0 1 CALL_WITH_ARG argument=x",
     "smc 0 1 RETURN_FROM_RPC thread=last last",
     "write 0 40000000 $nothing",

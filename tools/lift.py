@@ -103,6 +103,8 @@ FORMS = {form: getattr(Script, form) for form in ["name", "argument", "image", "
 def call(cpu, steps, function, *operands):
     """The words of a call: processor, steps and the eight registers."""
     a0 = f"{FUNCTIONS[function]:x}" if function in FUNCTIONS else function
+    if not re.fullmatch("[0-9a-fA-F]{1,8}|=[0-7]", a0):
+        raise BadWords(f"{function} is no function")
     if len(operands) == 7 and not any(operand.partition("=")[0] in OPERANDS for operand in operands):
         return [cpu, steps, a0, *operands]
     registers = [a0] + ["0"] * 7

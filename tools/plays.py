@@ -23,7 +23,7 @@ def of_files(trace, output):
     if not folder.is_dir():
         return lay_out(text_of(trace), printed)
     before, *cases = re.split("^== ", printed, flags=re.MULTILINE)
-    named = dict(case.split("\n", 1) for case in cases)
+    named = {name: part for name, _, part in (case.partition("\n") for case in cases)}
     if before or set(named) != {file.name for file in folder.iterdir()}:
         raise Mismatch(f"the output isn't a line `== NAME` and what was printed for each file of {trace}")
     entries = []
@@ -33,7 +33,7 @@ def of_files(trace, output):
 
 
 def lay_out(trace, output):
-    """An Entry for each line of the trace; whole output is used up, or it is a Mismatch."""
+    """An Entry for each line of the trace; between them they use up the output, or it is a Mismatch."""
     lines = enumerate(trace.removesuffix("\n").split("\n") if trace else [], 1)
     bad = re.fullmatch(r"bad trace (\d+) (\w+)\n", output)
     if bad:
@@ -71,18 +71,25 @@ class Play:
         item, operands = words[0], words[1:]
         if text.startswith("#") or formats.LINES.get(item) != len(words):
             return Entry(number, text)
+        try:
+            return Entry(number, text, *self.item(number, item, operands, printed))
+        except (ValueError, KeyError) as error:
+            raise Mismatch(f"line {number} isn't of its form") from error
+
+    def item(self, number, item, operands, printed):
+        """What an item has printed, and what that says, as further fields of an Entry."""
         if item in ("smc", "enter"):
             self.enter(operands[0], operands[2:])
         if item in ("smc", "leave"):
-            line = take(printed, number, r"ret {}((?: [0-9a-f]{{8}}){{8}})", operands[0])
+            line = take(printed, number, f"ret {re.escape(operands[0])}((?: [0-9a-f]{{8}}){{8}})")
             name, note = self.answer(operands[0], [int(register, 16) for register in line[1].split()])
-            return Entry(number, text, line[0], note, name)
+            return line[0], note, name
         if item == "show":
-            cpu, address, length = operands[0], int(operands[1], 16), int(operands[2])
-            line = take(printed, number, r"mem {} {:08x} ([0-9a-f]{{{}}})", cpu, address, 2 * length)
+            address, length = int(operands[1], 16), int(operands[2])
+            line = take(printed, number, f"mem {re.escape(operands[0])} {address:08x} ([0-9a-f]{{{2 * length}}})")
             note, result = self.places.shown(address, bytes.fromhex(line[1]))
-            return Entry(number, text, line[0], note, None, result)
-        return Entry(number, text)
+            return line[0], note, None, result
+        return ()
 
     def enter(self, cpu, registers):
         """Reads what an entry brings: its function, and where an argument or a lent buffer lies."""
@@ -130,11 +137,11 @@ def said_beside(function, a0, a1):
     return ""
 
 
-def take(printed, number, pattern, *values):
+def take(printed, number, pattern):
     """The match of the next printed line with the pattern; another line is a Mismatch."""
     if not printed:
         raise Mismatch(f"the output ends before what line {number} prints")
-    line = re.fullmatch(pattern.format(*values), printed[0])
+    line = re.fullmatch(pattern, printed[0])
     if not line:
         raise Mismatch(f"line {number} doesn't print: {printed[0]}")
     printed.popleft()
