@@ -10,7 +10,8 @@ use Rattle.std.proofs.lemmas.List.{drop-append-le}
 use Rattle.event_journal.specs.declared.event.Event.{Event}
 use Rattle.event_journal.specs.declared.event.Event.TheVariants.{Entry, Exit}
 use Rattle.kernel_model.specs.Laws.{IsOfOther}
-use Rattle.ordered_play.specs.Part.{cpu_of_event, first_of, next_event}
+use Rattle.kernel_model.specs.Turns.{cpu_of}
+use Rattle.ordered_play.specs.Part.{first_of, next_event}
 
 pub same_some : {A : Type 0} (one other : A) → Some one ≡ Some other → one ≡ other
 same_some one other e = cc
@@ -21,15 +22,15 @@ same_some one other e = cc
 pub record StandsAmong (cpu from : ℕ) (events : List Event) (at : ℕ) (event : Event) : Type 0 where
   pub behind : from ≤ at
   pub within : at < from + length events
-  pub own : cpu_of_event event ≡ cpu
+  pub own : cpu_of event ≡ cpu
 
 pub first_stands : (cpu from : ℕ) (events : List Event) (at : ℕ) (event : Event)
     → first_of cpu from events ≡ Some (at, event) → StandsAmong cpu from events at event
 first_stands cpu from [] at event e = absurd cc
 first_stands cpu from (first ∷ events) at event e =
-    by (cpu_of_event first == cpu) refl e (first_stands cpu (from + 1) events at event)
+    by (cpu_of first == cpu) refl e (first_stands cpu (from + 1) events at event)
   where
-    by : (test : Bool) → (cpu_of_event first == cpu) ≡ test
+    by : (test : Bool) → (cpu_of first == cpu) ≡ test
         → (if test then Some (from, first) else first_of cpu (from + 1) events) ≡ Some (at, event)
         → (first_of cpu (from + 1) events ≡ Some (at, event) → StandsAmong cpu (from + 1) events at event)
         → StandsAmong cpu from (first ∷ events) at event
@@ -40,7 +41,7 @@ first_stands cpu from (first ∷ events) at event e =
         record {
           behind = omega (arith, place);
           within = omega (arith, place);
-          own = subst (λ (x : Event). cpu_of_event x ≡ cpu) same (grind (arith, nat_tests));
+          own = subst (λ (x : Event). cpu_of x ≡ cpu) same (grind (arith, nat_tests));
         }
     by false is e later =
         let there = later e in
@@ -51,7 +52,7 @@ pub first_stays : (cpu from : ℕ) (events more : List Event) (found : ℕ × Ev
     → first_of cpu from events ≡ Some found → first_of cpu from (events ++ more) ≡ Some found
 first_stays cpu from [] more found e = absurd cc
 first_stays cpu from (first ∷ events) more found e =
-    by (cpu_of_event first == cpu) e (first_stays cpu (from + 1) events more found)
+    by (cpu_of first == cpu) e (first_stays cpu (from + 1) events more found)
   where
     by : (test : Bool) → (if test then Some (from, first) else first_of cpu (from + 1) events) ≡ Some found
         → (first_of cpu (from + 1) events ≡ Some found → first_of cpu (from + 1) (events ++ more) ≡ Some found)
@@ -60,7 +61,7 @@ first_stays cpu from (first ∷ events) more found e =
     by false e later = later e
 
 -- an event of another is no event of the processor
-pub not_own : (cpu : ℕ) (event : Event) → IsOfOther cpu event → (cpu_of_event event == cpu) ≡ false
+pub not_own : (cpu : ℕ) (event : Event) → IsOfOther cpu event → (cpu_of event == cpu) ≡ false
 not_own cpu (Entry came regs steps reads) other = grind (arith, nat_tests)
 not_own cpu (Exit went regs) other = grind (arith, nat_tests)
 
@@ -78,7 +79,7 @@ pub none_more : (cpu from : ℕ) (events more : List Event) → AllByRecursion (
     → first_of cpu from events ≡ None → first_of cpu from (events ++ more) ≡ None
 none_more cpu from [] more others e = none_of_others cpu from more others
 none_more cpu from (first ∷ events) more others e =
-    by (cpu_of_event first == cpu) e (none_more cpu (from + 1) events more others)
+    by (cpu_of first == cpu) e (none_more cpu (from + 1) events more others)
   where
     by : (test : Bool) → (if test then Some (from, first) else first_of cpu (from + 1) events) ≡ None
         → (first_of cpu (from + 1) events ≡ None → first_of cpu (from + 1) (events ++ more) ≡ None)
@@ -92,7 +93,7 @@ none_more cpu from (first ∷ events) more others e =
 pub record StandsIn (cpu from : ℕ) (history : List Event) (at : ℕ) (event : Event) : Type 0 where
   pub behind : from ≤ at
   pub within : at < length history
-  pub own : cpu_of_event event ≡ cpu
+  pub own : cpu_of event ≡ cpu
 
 pub next_stands : (cpu from : ℕ) (history : List Event) (at : ℕ) (event : Event)
     → next_event history cpu from ≡ Some (at, event) → StandsIn cpu from history at event
@@ -135,14 +136,14 @@ none_stays cpu from history more others e = by (grind arith)
         ∙ none_of_others cpu from _ (others_behind cpu from (from - length history) more others)
 
 -- one that comes behind all others is the next, where there was none
-first_last : (cpu from : ℕ) (events : List Event) (event : Event) → cpu_of_event event ≡ cpu
+first_last : (cpu from : ℕ) (events : List Event) (event : Event) → cpu_of event ≡ cpu
     → first_of cpu from events ≡ None → first_of cpu from (events ++ event ∷ []) ≡ Some (from + length events, event)
 first_last cpu from [] event own e =
-    let is : (cpu_of_event event == cpu) ≡ true = grind (arith, nat_tests) in
+    let is : (cpu_of event == cpu) ≡ true = grind (arith, nat_tests) in
     let place : from ≡ from + 0 = omega arith in
     ap (λ (test : Bool). if test then Some (from, event) else None) is ∙ ap (λ (n : ℕ). Some (n, event)) place
 first_last cpu from (first ∷ events) event own e =
-    by (cpu_of_event first == cpu) e (first_last cpu (from + 1) events event own)
+    by (cpu_of first == cpu) e (first_last cpu (from + 1) events event own)
   where
     by : (test : Bool) → (if test then Some (from, first) else first_of cpu (from + 1) events) ≡ None
         → (first_of cpu (from + 1) events ≡ None
@@ -155,7 +156,7 @@ first_last cpu from (first ∷ events) event own e =
         later e ∙ ap (λ (n : ℕ). Some (n, event)) place
 
 pub next_last : (cpu from : ℕ) (history : List Event) (event : Event) → from ≤ length history
-    → cpu_of_event event ≡ cpu → next_event history cpu from ≡ None
+    → cpu_of event ≡ cpu → next_event history cpu from ≡ None
     → next_event (history ++ event ∷ []) cpu from ≡ Some (length history, event)
 next_last cpu from history event inside own e =
     let rest = length-drop from history in
@@ -178,9 +179,9 @@ none_at_end cpu history = next_from cpu history history [] (sym (append-nil hist
 
 -- an event is its processor's next
 pub next_own : (history before behind : List Event) (event : Event) → history ≡ before ++ event ∷ behind
-    → next_event history (cpu_of_event event) (length before) ≡ Some (length before, event)
+    → next_event history (cpu_of event) (length before) ≡ Some (length before, event)
 next_own history before behind event cut =
-    let cpu = cpu_of_event event in
+    let cpu = cpu_of event in
     let own : (cpu == cpu) ≡ true = grind (arith, nat_tests) in
     next_from cpu history before (event ∷ behind) cut
     ∙ ap (λ (test : Bool). if test then Some (length before, event) else first_of cpu (length before + 1) behind) own
@@ -194,10 +195,10 @@ cut_behind history before behind event cut = cut ∙ sym (append_assoc before (e
 
 -- and another processor's next one stands behind it
 pub next_other : (cpu : ℕ) (history before behind : List Event) (event : Event) → history ≡ before ++ event ∷ behind
-    → (cpu_of_event event ≡ cpu → ⊥)
+    → (cpu_of event ≡ cpu → ⊥)
     → next_event history cpu (length before) ≡ next_event history cpu (length (before ++ event ∷ []))
 next_other cpu history before behind event cut apart =
-    let other : (cpu_of_event event == cpu) ≡ false = grind (arith, nat_tests) in
+    let other : (cpu_of event == cpu) ≡ false = grind (arith, nat_tests) in
     next_from cpu history before (event ∷ behind) cut
     ∙ ap (λ (test : Bool). if test then Some (length before, event) else first_of cpu (length before + 1) behind) other
     ∙ ap (λ (n : ℕ). first_of cpu n behind) (sym (one_longer before event))

@@ -16,11 +16,11 @@ use Rattle.kernel_model.specs.Exit.{exit, exit_of}
 use Rattle.kernel_model.specs.History.{after_event, after_events, exit_to, kernel_after}
 use Rattle.kernel_model.specs.Kernel.{Kernel, Processor, first_kernel}
 use Rattle.own_model.proofs.OtherResumes.{visitor_there}
-use Rattle.ordered_play.specs.Part.{cpu_of_event}
+use Rattle.kernel_model.specs.Turns.{cpu_of}
 
 -- an event's processor is there
 processor_there : (boot : Booted) (kernel next : Kernel) (event : Event) → after_event boot kernel event ≡ Some next
-    → (processor : Processor) × (slice_get kernel.processors (cpu_of_event event) ≡ Some processor)
+    → (processor : Processor) × (slice_get kernel.processors (cpu_of event) ≡ Some processor)
 processor_there boot kernel next (Entry cpu regs steps reads) e = visitor_there boot kernel next cpu steps regs reads e
 processor_there boot kernel next (Exit cpu regs) e =
     option_and_then_some (exit_to regs.a) (exit kernel cpu) next e
@@ -31,10 +31,10 @@ processor_there boot kernel next (Exit cpu regs) e =
 -- so its number is below the count of the boot
 pub processor_below : (boot : Booted) (before : List Event) (kernel next : Kernel) (event : Event) → IsBooted boot
     → kernel_after boot before ≡ Some kernel → after_event boot kernel event ≡ Some next
-    → cpu_of_event event < boot.cpus
+    → cpu_of event < boot.cpus
 processor_below boot before kernel next event boots comes came =
     let there = processor_there boot kernel next event came in
-    let within = slice_get_within kernel.processors (cpu_of_event event) there.0 there.1 in
+    let within = slice_get_within kernel.processors (cpu_of event) there.0 there.1 in
     let many = (as_many boot before kernel boots comes).processors in
     omega (arith, within, many)
 

@@ -19,6 +19,7 @@ use Rattle.kernel_model.specs.History.{IsLegal, after_event, kernel_after}
 use Rattle.kernel_model.specs.Kernel.{Kernel}
 use Rattle.play_model.specs.Play.{filled}
 use Rattle.trace_text.specs.declared.trace.Trace.{Trace}
+use Rattle.kernel_model.specs.Turns.{cpu_of}
 use Rattle.ordered_play.proofs.Events.{cut_behind, next_other, next_own, none_at_end, one_longer, same_some}
 use Rattle.ordered_play.proofs.Legal.{few_with, follows, one_event_more, processor_below}
 use Rattle.ordered_play.proofs.Midway.{IsMidway, Turned, below_once, ended, first_midway, first_there, turn}
@@ -28,7 +29,7 @@ use Rattle.ordered_play.specs.Laws.{PartsMerge, RefusalsMerge}
 use Rattle.ordered_play.specs.Merge.{ComesTo, IsRefusedIf, Parts, is_refused_at, order_with, refused_at, seat_of}
 use Rattle.ordered_play.specs.Merge.{seat_with, share_of}
 use Rattle.ordered_play.specs.Ordered.{OrderedPlay, after_turn, after_turns, first_ordered, with_seat}
-use Rattle.ordered_play.specs.Part.{cpu_of_event, next_event}
+use Rattle.ordered_play.specs.Part.{next_event}
 use Rattle.ordered_play.specs.Seat.{Seat, first_seat}
 
 module _ (boot : Booted) (ram : List ℕ) (trace : Trace) (history : List Event) (parts : Parts boot ram trace history)
@@ -239,7 +240,7 @@ module _ (boot : Booted) (ram : List ℕ) (trace : Trace) (history : List Event)
         → IsToCome (length (before ++ event ∷ [])) 0 cpu place
     longer_place cpu below place to_come = let long = one_longer before event in grind arith
 
-    goes_further : (cpu : ℕ) (below : cpu < boot.cpus) (seat : Seat) → (cpu_of_event event ≡ cpu → ⊥)
+    goes_further : (cpu : ℕ) (below : cpu < boot.cpus) (seat : Seat) → (cpu_of event ≡ cpu → ⊥)
         → Stage (length before) boot.cpus cpu below seat → Stage (length (before ++ event ∷ [])) 0 cpu below seat
     goes_further cpu below seat apart (GoesOn to_come midway) =
         GoesOn (λ place is. longer_place cpu below place (to_come place is))
@@ -253,17 +254,17 @@ module _ (boot : Booted) (ram : List ℕ) (trace : Trace) (history : List Event)
         Stopped place is (grind arith) (sym (next_other cpu history before behind event cut apart) ∙ none) same
 
     module _ (next : Kernel) (came : after_event boot play.kernel event ≡ Some next)
-        (below : cpu_of_event event < boot.cpus) (few : copied_bytes before + copied_by event ≤ 2 ^ 28) where
+        (below : cpu_of event < boot.cpus) (few : copied_bytes before + copied_by event ≤ 2 ^ 28) where
       record Happens : Type 0 where
         after : OrderedPlay
-        turned : after_turn boot (cpu_of_event event) play ≡ Some after
+        turned : after_turn boot (cpu_of event) play ≡ Some after
         onward : IsMiddle (before ++ event ∷ []) 0 after
 
-      moved : (to_come : (place : ℕ) → places (cpu_of_event event) ≡ Some place →
-          IsToCome (length before) boot.cpus (cpu_of_event event) place)
+      moved : (to_come : (place : ℕ) → places (cpu_of event) ≡ Some place →
+          IsToCome (length before) boot.cpus (cpu_of event) place)
           → Turned boot ram trace history parts before behind event cut play next came middle.same middle.comes → Happens
       moved to_come turned =
-          let cpu = cpu_of_event event in
+          let cpu = cpu_of event in
           record {
             after = moved_on play cpu turned.seat event next;
             turned = turned.turned;
@@ -284,26 +285,26 @@ module _ (boot : Booted) (ram : List ℕ) (trace : Trace) (history : List Event)
           }
         where
           after : OrderedPlay
-          after = moved_on play (cpu_of_event event) turned.seat event next
+          after = moved_on play (cpu_of event) turned.seat event next
 
-          own : (cpu : ℕ) → cpu_of_event event ≡ cpu → (here : cpu < boot.cpus)
+          own : (cpu : ℕ) → cpu_of event ≡ cpu → (here : cpu < boot.cpus)
               → HasSeat after (length (before ++ event ∷ [])) 0 cpu here
           own cpu same = subst (λ (c : ℕ). (here : c < boot.cpus) →
               HasSeat after (length (before ++ event ∷ [])) 0 c here) same
               (λ here. record {
                 seat = turned.seat;
-                there = set_found play.seats (cpu_of_event event) turned.seat
-                    (middle.seats (cpu_of_event event) below).seat
-                    (middle.seats (cpu_of_event event) below).there;
+                there = set_found play.seats (cpu_of event) turned.seat
+                    (middle.seats (cpu_of event) below).seat
+                    (middle.seats (cpu_of event) below).there;
                 stage = GoesOn
-                    (λ place is. longer_place (cpu_of_event event) below place (to_come place is))
+                    (λ place is. longer_place (cpu_of event) below place (to_come place is))
                     (turned.midway here);
               })
 
-      happens_at : Stage (length before) boot.cpus (cpu_of_event event) below
-          (middle.seats (cpu_of_event event) below).seat → Happens
+      happens_at : Stage (length before) boot.cpus (cpu_of event) below
+          (middle.seats (cpu_of event) below).seat → Happens
       happens_at (GoesOn to_come midway) =
-          let had = middle.seats (cpu_of_event event) below in
+          let had = middle.seats (cpu_of event) below in
           moved to_come
           (turn boot ram trace history parts before behind event cut play next came middle.same middle.comes below few
           had.seat had.there midway)
@@ -311,7 +312,7 @@ module _ (boot : Booted) (ram : List ℕ) (trace : Trace) (history : List Event)
           let both = sym none ∙ next_own history before behind event cut in absurd cc
 
       happens : Happens
-      happens = happens_at (middle.seats (cpu_of_event event) below).stage
+      happens = happens_at (middle.seats (cpu_of event) below).stage
 
   -- ---- all events
 
@@ -363,8 +364,8 @@ module _ (boot : Booted) (ram : List ℕ) (trace : Trace) (history : List Event)
       record {
         end = onward.end;
         turns = stops_then before (event ∷ behind) cut (refused_at places boot.cpus (length before)) play stopped
-            (cpu_of_event event ∷ others) onward.end
-            (turns_then (cpu_of_event event) others now happened.after onward.end happened.turned then);
+            (cpu_of event ∷ others) onward.end
+            (turns_then (cpu_of event) others now happened.after onward.end happened.turned then);
         middle = onward.middle;
       }
 
@@ -409,12 +410,12 @@ no_numbers : (numbers : List ℕ) → filter (λ (cpu : ℕ). false) numbers ≡
 no_numbers [] = refl
 no_numbers (cpu ∷ numbers) = no_numbers numbers
 
-plain_order : (cpus at : ℕ) (events : List Event) → order_with (λ cpu. None) cpus at events ≡ map cpu_of_event events
+plain_order : (cpus at : ℕ) (events : List Event) → order_with (λ cpu. None) cpus at events ≡ map cpu_of events
 plain_order cpus at [] = no_numbers (range_with_len 0 cpus)
 plain_order cpus at (event ∷ events) =
-    ap (λ (numbers : List ℕ). numbers ++ cpu_of_event event ∷ order_with (λ cpu. None) cpus (at + 1) events)
+    ap (λ (numbers : List ℕ). numbers ++ cpu_of event ∷ order_with (λ cpu. None) cpus (at + 1) events)
     (no_numbers (range_with_len 0 cpus))
-    ∙ ap (λ (order : List ℕ). cpu_of_event event ∷ order) (plain_order cpus (at + 1) events)
+    ∙ ap (λ (order : List ℕ). cpu_of event ∷ order) (plain_order cpus (at + 1) events)
 
 pub parts_merge : PartsMerge
 parts_merge boot ram trace history parts legal few =

@@ -21,13 +21,14 @@ use Rattle.ns_ram.specs.Reads.{total_bytes}
 use Rattle.play_model.specs.Play.{filled}
 use Rattle.trace_text.specs.declared.item.Reg.{Reg}
 use Rattle.trace_text.specs.declared.trace.Trace.{Trace}
+use Rattle.kernel_model.specs.Turns.{cpu_of}
 use Rattle.ordered_play.proofs.Events.{next_own, one_longer, same_some}
 use Rattle.ordered_play.proofs.Middle.{Coming, Going, IsReady, NextAct, at_end, next_act}
 use Rattle.ordered_play.proofs.Turn.{entry_by, entry_turn, exit_turn, moved_on}
 use Rattle.ordered_play.specs.Act.{Act, Comes, Leaves}
 use Rattle.ordered_play.specs.Merge.{Part, Parts, seat_left, seat_of, share_of}
 use Rattle.ordered_play.specs.Ordered.{OrderedPlay, after_turn, first_ordered, gone_seat}
-use Rattle.ordered_play.specs.Part.{AreActsOf, ComesIn, GoesOut, Share, Standing, cpu_of_event, first_standing}
+use Rattle.ordered_play.specs.Part.{AreActsOf, ComesIn, GoesOut, Share, Standing, first_standing}
 use Rattle.ordered_play.specs.Part.{next_event}
 use Rattle.ordered_play.specs.Seat.{Seat, first_seat, fresh_seat, ready_for}
 
@@ -88,44 +89,44 @@ module _ (boot : Booted) (ram : List ℕ) (trace : Trace) (history : List Event)
       -- the turn of its processor
       pub record Turned : Type 0 where
         pub seat : Seat
-        pub turned : after_turn boot (cpu_of_event event) play
-            ≡ Some (moved_on play (cpu_of_event event) seat event next)
-        pub midway : (below : cpu_of_event event < boot.cpus)
-            → IsMidway (cpu_of_event event) below (length (before ++ event ∷ [])) seat
+        pub turned : after_turn boot (cpu_of event) play
+            ≡ Some (moved_on play (cpu_of event) seat event next)
+        pub midway : (below : cpu_of event < boot.cpus)
+            → IsMidway (cpu_of event) below (length (before ++ event ∷ [])) seat
 
-      module _ (below : cpu_of_event event < boot.cpus) (few : copied_bytes before + copied_by event ≤ 2 ^ 28)
-          (had : Seat) (there : slice_get play.seats (cpu_of_event event) ≡ Some had)
-          (midway : IsMidway (cpu_of_event event) below (length before) had) where
+      module _ (below : cpu_of event < boot.cpus) (few : copied_bytes before + copied_by event ≤ 2 ^ 28)
+          (had : Seat) (there : slice_get play.seats (cpu_of event) ≡ Some had)
+          (midway : IsMidway (cpu_of event) below (length before) had) where
         abbrev of : Share
-        of = share_of boot history (cpu_of_event event)
+        of = share_of boot history (cpu_of event)
 
-        abbrev part : Part (share_of boot history (cpu_of_event event)) trace.items (filled ram trace.fills)
-        part = parts (cpu_of_event event) below
+        abbrev part : Part (share_of boot history (cpu_of event)) trace.items (filled ram trace.fills)
+        part = parts (cpu_of event) below
 
         -- an act of its has come to this, with these acts behind
         now_midway : (at : ℕ) (new : Standing) (rest : List Act) (seat : Seat) → length before ≡ at → new.used ≡ at + 1
             → AreActsOf of rest new part.end → seat ≡ ready_for (rest ++ part.is_part.left) new.seat
-            → (here : cpu_of_event event < boot.cpus)
-            → IsMidway (cpu_of_event event) here (length (before ++ event ∷ [])) seat
+            → (here : cpu_of event < boot.cpus)
+            → IsMidway (cpu_of event) here (length (before ++ event ∷ [])) seat
         now_midway at new rest seat place used acts ready here =
             let long = one_longer before event in
             let is_used : new.used ≡ length (before ++ event ∷ []) = omega (arith, long, place, used) in
-            subst (λ (b : cpu_of_event event < boot.cpus). IsMidway (cpu_of_event event) b
+            subst (λ (b : cpu_of event < boot.cpus). IsMidway (cpu_of event) b
             (length (before ++ event ∷ [])) seat)
-            (below_once (cpu_of_event event) boot.cpus below here)
+            (below_once (cpu_of event) boot.cpus below here)
             (record {
               mid = new;
               is = record { rest = rest; acts = acts; ready = ready };
-              next = ap (next_event history (cpu_of_event event)) is_used;
+              next = ap (next_event history (cpu_of event)) is_used;
             })
 
         -- what its next act finds is the event
         found_is : (old : Standing) (at : ℕ) (happened : Event) → old.used ≡ midway.mid.used
-            → next_event history (cpu_of_event event) old.used ≡ Some (at, happened)
+            → next_event history (cpu_of event) old.used ≡ Some (at, happened)
             → (length before ≡ at) × (event ≡ happened)
         found_is old at happened used found =
             let here = sym (next_own history before behind event cut) ∙ sym midway.next
-            ∙ ap (next_event history (cpu_of_event event)) (sym used) ∙ found in
+            ∙ ap (next_event history (cpu_of event)) (sym used) ∙ found in
             let both = same_some (length before, event) (at, happened) here in
             (ap (λ (f : ℕ × Event). f.0) both, ap (λ (f : ℕ × Event). f.1) both)
 
@@ -133,7 +134,7 @@ module _ (boot : Booted) (ram : List ℕ) (trace : Trace) (history : List Event)
             → ComesIn of steps regs old new → AreActsOf of rest new part.end
             → had ≡ seat_left old.seat (Comes steps regs ∷ rest ++ part.is_part.left) → Turned
         comes_turn steps regs old new rest used comes_in acts ready =
-            let cpu = cpu_of_event event in
+            let cpu = cpu_of event in
             let behind_it = rest ++ part.is_part.left in
             let happened = entry_by cpu old.seat steps regs comes_in.reads in
             let found = found_is old comes_in.at happened used comes_in.next in
@@ -157,7 +158,7 @@ module _ (boot : Booted) (ram : List ℕ) (trace : Trace) (history : List Event)
         goes_turn : (old new : Standing) (rest : List Act) → old.used ≡ midway.mid.used → GoesOut of old new
             → AreActsOf of rest new part.end → had ≡ seat_left old.seat (Leaves ∷ rest ++ part.is_part.left) → Turned
         goes_turn old new rest used goes acts ready =
-            let cpu = cpu_of_event event in
+            let cpu = cpu_of event in
             let behind_it = rest ++ part.is_part.left in
             let happened : Event = Exit cpu (record { a = goes.exited.regs }) in
             let found = found_is old goes.at happened used goes.next in

@@ -30,6 +30,7 @@ use Rattle.ns_ram.specs.declared.read.Read.{Read}
 use Rattle.play_model.specs.Play.{filled}
 use Rattle.trace_text.specs.declared.item.Reg.{Reg}
 use Rattle.trace_text.specs.declared.trace.Trace.{Trace}
+use Rattle.kernel_model.specs.Turns.{cpu_of}
 use Rattle.ordered_play.proofs.Events.{none_at_end, same_some}
 use Rattle.ordered_play.proofs.Growing.{parts_grow}
 use Rattle.ordered_play.proofs.Legal.{one_event_more}
@@ -42,7 +43,7 @@ use Rattle.ordered_play.specs.Laws.{PlaysHaveParts, longer}
 use Rattle.ordered_play.specs.Merge.{HasPart, IsOfParts, IsRefusedIf, Part, seat_left, seat_of, seat_with, share_of}
 use Rattle.ordered_play.specs.Ordered.{OrderedPlay, after_act, after_turn, after_turns, enters_with, first_ordered}
 use Rattle.ordered_play.specs.Ordered.{leaves_with, reads_of, refused_seat, visit_with, with_event, with_seat}
-use Rattle.ordered_play.specs.Part.{Share, StopsAtEvent, cpu_of_event}
+use Rattle.ordered_play.specs.Part.{Share, StopsAtEvent}
 use Rattle.ordered_play.specs.Seat.{Seat, Told, first_seat, ready_for, with_line, with_writes}
 
 take_whole : (history : List Event) → take (length history) history ≡ history
@@ -54,8 +55,8 @@ module _ (boot : Booted) (ram : List ℕ) (trace : Trace) where
 
   -- a processor's seat and part, where another has its event
   other_kept : (play : OrderedPlay) (event : Event) (seat : Seat) (next : Kernel) (cpu : ℕ)
-      → (cpu_of_event event ≡ cpu → ⊥) → HasPartIn play cpu
-      → HasPartIn (moved_on play (cpu_of_event event) seat event next) cpu
+      → (cpu_of event ≡ cpu → ⊥) → HasPartIn play cpu
+      → HasPartIn (moved_on play (cpu_of event) seat event next) cpu
   other_kept play event seat next cpu apart had =
       let of = share_of boot play.history cpu in
       let lane = filled ram trace.fills in
@@ -64,19 +65,19 @@ module _ (boot : Booted) (ram : List ℕ) (trace : Trace) where
         part = kept of (event ∷ []) trace.items lane had.part others;
         place = had.place;
         refused = refused_stays of (event ∷ []) trace.items lane had.part others had.place had.refused;
-        seat = set_other play.seats (cpu_of_event event) cpu seat apart ∙ had.seat
+        seat = set_other play.seats (cpu_of event) cpu seat apart ∙ had.seat
             ∙ ap Some (seat_stays of (event ∷ []) trace.items lane had.part others had.place had.refused);
       }
     where
-      not_its : (cpu : ℕ) (event : Event) → (cpu_of_event event ≡ cpu → ⊥) → IsOfOther cpu event
+      not_its : (cpu : ℕ) (event : Event) → (cpu_of event ≡ cpu → ⊥) → IsOfOther cpu event
       not_its cpu (Entry came regs steps reads) apart = apart
       not_its cpu (Exit went regs) apart = apart
 
   -- an event that came, with what its processor's part has come to
   with_own : (play : OrderedPlay) (event : Event) (seat : Seat) (next : Kernel) → IsOfParts boot ram trace play
       → after_event boot play.kernel event ≡ Some next → copied_bytes play.history + copied_by event ≤ 2 ^ 28
-      → HasPartIn (moved_on play (cpu_of_event event) seat event next) (cpu_of_event event)
-      → IsOfParts boot ram trace (moved_on play (cpu_of_event event) seat event next)
+      → HasPartIn (moved_on play (cpu_of event) seat event next) (cpu_of event)
+      → IsOfParts boot ram trace (moved_on play (cpu_of event) seat event next)
   with_own play event seat next of_parts came few own =
       let kernel = one_event_more boot play.history event play.kernel next of_parts.kernel came in
       let sum = sum_by-append copied_by play.history (event ∷ []) in
@@ -84,9 +85,9 @@ module _ (boot : Booted) (ram : List ℕ) (trace : Trace) where
         legal = record { boots = of_parts.legal.boots; follows = subst IsSome (sym kernel) refl };
         kernel = kernel;
         few = omega (arith, sum, few);
-        count = length-set play.seats (cpu_of_event event) seat ∙ of_parts.count;
-        parts = λ cpu below. by_number (cpu_of_event event) cpu
-            (λ same. subst (HasPartIn (moved_on play (cpu_of_event event) seat event next)) same own)
+        count = length-set play.seats (cpu_of event) seat ∙ of_parts.count;
+        parts = λ cpu below. by_number (cpu_of event) cpu
+            (λ same. subst (HasPartIn (moved_on play (cpu_of event) seat event next)) same own)
             (λ apart. other_kept play event seat next cpu apart (of_parts.parts cpu below));
       }
 
@@ -101,7 +102,7 @@ module _ (boot : Booted) (ram : List ℕ) (trace : Trace) where
 
     -- an event of it came, and its seat is that of the part which has grown by it
     goes_on : (event : Event) (seat : Seat) (after : OrderedPlay) (now : Part (longer of (event ∷ [])) trace.items lane)
-        → cpu_of_event event ≡ cpu → seat ≡ seat_of now → copied_bytes play.history + copied_by event ≤ 2 ^ 28
+        → cpu_of event ≡ cpu → seat ≡ seat_of now → copied_bytes play.history + copied_by event ≤ 2 ^ 28
         → with_event boot cpu seat event play ≡ Some after → IsOfParts boot ram trace after
     goes_on event seat after now own ready few e =
         let came = option_map_some (moved_on play cpu seat event) (after_event boot play.kernel event) after e in

@@ -15,11 +15,12 @@ use Rattle.play_model.specs.Play.{entry_event, filled}
 use Rattle.trace_text.specs.declared.item.Item.{Item}
 use Rattle.trace_text.specs.declared.item.Reg.{Reg}
 use Rattle.trace_text.specs.declared.trace.Trace.{Trace}
+use Rattle.kernel_model.specs.Turns.{cpu_of}
 use Rattle.ordered_play.specs.Act.{Act, Comes, Leaves}
 use Rattle.ordered_play.specs.Blocks.{block_of, blocks_of, has_ended, has_refused}
 use Rattle.ordered_play.specs.Merge.{ComesTo, IsOfParts, IsRefusedIf, Part, Parts, order_with, seat_of, seat_with, share_of}
 use Rattle.ordered_play.specs.Ordered.{OrderedPlay, after_turns, first_ordered, gone_seat, visit_with}
-use Rattle.ordered_play.specs.Part.{AreActsOf, IsPart, Share, Standing, cpu_of_event}
+use Rattle.ordered_play.specs.Part.{AreActsOf, IsPart, Share, Standing}
 use Rattle.ordered_play.specs.Seat.{Seat, first_seat, ready_for}
 
 -- ---- one processor
@@ -75,7 +76,7 @@ pub record PartsGrow : Type 0 where
 abbrev pub PartsMerge : Type 0
 PartsMerge = (boot : Booted) (ram : List ℕ) (trace : Trace) (history : List Event)
     (parts : Parts boot ram trace history) → IsLegal boot history → copied_bytes history ≤ 2 ^ 28 →
-    (play : OrderedPlay) × (after_turns boot (map cpu_of_event history) (first_ordered ram boot trace) ≡ Some play)
+    (play : OrderedPlay) × (after_turns boot (map cpu_of history) (first_ordered ram boot trace) ≡ Some play)
     × ComesTo boot history (λ cpu below. seat_of (parts cpu below)) play
 
 -- and so it is with refused entries, each of which comes at a place behind its processor's last event

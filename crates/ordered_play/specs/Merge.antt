@@ -15,9 +15,10 @@ use Rattle.play_model.specs.Play.{filled}
 use Rattle.trace_text.specs.declared.item.Item.{Item}
 use Rattle.trace_text.specs.declared.item.Reg.{Reg}
 use Rattle.trace_text.specs.declared.trace.Trace.{Trace}
+use Rattle.kernel_model.specs.Turns.{cpu_of}
 use Rattle.ordered_play.specs.Act.{Act, Comes}
 use Rattle.ordered_play.specs.Ordered.{OrderedPlay, reads_of, refused_seat, visit_with}
-use Rattle.ordered_play.specs.Part.{IsPart, Share, Standing, cpu_of_event, next_event}
+use Rattle.ordered_play.specs.Part.{IsPart, Share, Standing, next_event}
 use Rattle.ordered_play.specs.Seat.{Seat}
 
 -- ---- the parts of a history
@@ -97,7 +98,7 @@ refused_at places cpus at = filter (is_refused_at places at) (range_with_len 0 c
 abbrev pub order_with : (ℕ → Option ℕ) → ℕ → ℕ → List Event → List ℕ
 order_with places cpus at [] = refused_at places cpus at
 order_with places cpus at (event ∷ events) =
-    refused_at places cpus at ++ cpu_of_event event ∷ order_with places cpus (at + 1) events
+    refused_at places cpus at ++ cpu_of event ∷ order_with places cpus (at + 1) events
 
 -- ---- the parts of a play
 

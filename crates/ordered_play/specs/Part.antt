@@ -6,6 +6,7 @@ use Rattle.event_journal.specs.declared.event.Event.TheVariants.{Entry, Exit}
 use Rattle.kernel_model.specs.Application.{Booted}
 use Rattle.kernel_model.specs.Exit.{Exited}
 use Rattle.kernel_model.specs.History.{exit_after}
+use Rattle.kernel_model.specs.Turns.{cpu_of}
 use Rattle.ns_ram.specs.Lane.{bytes_at}
 use Rattle.ns_ram.specs.Reads.{HoldsReads}
 use Rattle.ns_ram.specs.declared.read.Read.{Read}
@@ -17,16 +18,11 @@ use Rattle.ordered_play.specs.Seat.{Seat, Told, Shown, fresh_seat, with_line, wi
 
 -- ---- a processor's events
 
--- the processor of an event
-abbrev pub cpu_of_event : Event → ℕ
-cpu_of_event (Entry cpu regs steps reads) = cpu
-cpu_of_event (Exit cpu regs) = cpu
-
 -- the first event of a processor among these, which stand from this place on, and its place
 abbrev pub first_of : ℕ → ℕ → List Event → Option (ℕ × Event)
 first_of cpu at [] = None
 first_of cpu at (event ∷ events) =
-    if cpu_of_event event == cpu then Some (at, event) else first_of cpu (at + 1) events
+    if cpu_of event == cpu then Some (at, event) else first_of cpu (at + 1) events
 
 -- the first from this place of a history on
 abbrev pub next_event : List Event → ℕ → ℕ → Option (ℕ × Event)
