@@ -12,3 +12,4 @@ pub mod Merged
 pub mod Growing
 pub mod PartsOfPlay
 pub mod BlocksOfSeats
+pub mod BlocksMerged

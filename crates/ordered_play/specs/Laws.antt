@@ -2,9 +2,10 @@
 use Rattle.std.specs.Prelude.{◌≡◌, ℕ, ◌^◌, Option, ◌<◌, ◌≤◌, true, false, List, [], ◌∷◌, ◌++◌, Some, None, length, map, slice_get}
 use Rattle.std.specs.List.{AllByRecursion, flat_map}
 use Rattle.std.specs.Option.{is_some}
+use Rattle.base.specs.Zeros.{zeros}
 use Rattle.event_journal.specs.Journal.{copied_bytes}
 use Rattle.event_journal.specs.declared.event.Event.{Event}
-use Rattle.kernel_model.specs.Application.{Booted, IsBooted}
+use Rattle.kernel_model.specs.Application.{Booted, IsBooted, Native, booted}
 use Rattle.event_journal.specs.declared.event.Event.TheVariants.{Exit}
 use Rattle.kernel_model.specs.Exit.{Exited}
 use Rattle.kernel_model.specs.History.{IsLegal, exit_after}
@@ -12,12 +13,13 @@ use Rattle.kernel_model.specs.Laws.{IsOfOther}
 use Rattle.ns_ram.specs.Reads.{HoldsReads}
 use Rattle.ns_ram.specs.declared.read.Read.{Read}
 use Rattle.play_model.specs.Play.{entry_event, filled}
+use Rattle.ta_isa.specs.declared.boot.Boot.{Boot}
 use Rattle.trace_text.specs.declared.item.Item.{Item}
 use Rattle.trace_text.specs.declared.item.Reg.{Reg}
 use Rattle.trace_text.specs.declared.trace.Trace.{Trace}
 use Rattle.kernel_model.specs.Turns.{cpu_of}
 use Rattle.ordered_play.specs.Act.{Act, Comes, Leaves}
-use Rattle.ordered_play.specs.Blocks.{block_of, blocks_of, has_ended, has_refused}
+use Rattle.ordered_play.specs.Blocks.{block_of, blocks_in, blocks_of, has_ended, has_refused}
 use Rattle.ordered_play.specs.Merge.{ComesTo, IsOfParts, IsRefusedIf, Part, Parts, order_with, seat_of, seat_with, share_of}
 use Rattle.ordered_play.specs.Ordered.{OrderedPlay, after_turns, first_ordered, gone_seat, visit_with}
 use Rattle.ordered_play.specs.Part.{AreActsOf, IsPart, Share, Standing}
@@ -115,3 +117,23 @@ pub record BlocksAreOfSeats : Type 0 where
   pub none_refused : (boot : Booted) (events : List Event) (seat_for : (cpu : ℕ) → cpu < boot.cpus → Seat)
       (play : OrderedPlay) → ComesTo boot events seat_for play →
       ((cpu : ℕ) (below : cpu < boot.cpus) → (seat_for cpu below).refused ≡ None) → has_refused play ≡ false
+
+-- the part leaves nothing, unless it stops at a refused entry
+abbrev pub IsDone : List Act → Option ℕ → Type 0
+IsDone left None = left ≡ []
+IsDone left (Some place) = Unit {0}
+
+-- the blocks of a trace are those of its processors' parts of one legal history, all of which are done
+abbrev pub BlocksMerge : Type 0
+BlocksMerge = (natives : List Native) (boot : Boot) (trace : Trace) (history : List Event)
+    (parts : Parts (booted boot natives) (zeros 0x400000) trace history) (places : ℕ → Option ℕ)
+    (refusals : (cpu : ℕ) (below : cpu < boot.cpus) →
+    IsRefusedIf (share_of (booted boot natives) history cpu) trace.items (filled (zeros 0x400000) trace.fills)
+    (parts cpu below) (places cpu)) (texts : List (List ℕ)) →
+    trace.boot ≡ Some boot → IsLegal (booted boot natives) history → copied_bytes history ≤ 2 ^ 28 →
+    ((cpu : ℕ) (below : cpu < boot.cpus) → IsDone (parts cpu below).is_part.left (places cpu)) →
+    length texts ≡ boot.cpus →
+    ((cpu : ℕ) (below : cpu < boot.cpus) → slice_get texts cpu ≡ Some (block_of cpu
+    (seat_with (share_of (booted boot natives) history cpu) trace.items (filled (zeros 0x400000) trace.fills)
+    (parts cpu below) (places cpu) (refusals cpu below)))) →
+    blocks_in natives trace (order_with places boot.cpus 0 history) ≡ Some (flat_map (λ text. text) texts)

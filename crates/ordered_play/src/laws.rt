@@ -1,6 +1,6 @@
 //! What holds of the definitions themselves.
 ghost use Rattle.ordered_play.specs.Examples.{Examples};
-ghost use Rattle.ordered_play.specs.Laws.{BlocksAreOfSeats, PartsAreUnique, PartsGrow, PartsMerge, PartsStay, PlaysHaveParts, RefusalsMerge};
+ghost use Rattle.ordered_play.specs.Laws.{BlocksAreOfSeats, BlocksMerge, PartsAreUnique, PartsGrow, PartsMerge, PartsStay, PlaysHaveParts, RefusalsMerge};
 
 /// A processor has at most one part of a history: over the same RAM the same items end in the same standing.
 pub fn parts_are_unique()
@@ -41,6 +41,12 @@ pub fn plays_have_parts()
 /// come; and an entry was refused just where one of a seat was.
 pub fn blocks_are_of_seats()
     ensures { BlocksAreOfSeats }
+{}
+
+/// Where the processors of a trace have their parts of one legal history, and all of these are done or stop at a refused
+/// entry, the blocks of the trace in that history's order are theirs, one behind the other.
+pub fn blocks_merge()
+    ensures { BlocksMerge }
 {}
 
 /// Plays of two processors in several orders, with what they print, and parts of their histories.

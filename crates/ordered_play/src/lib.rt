@@ -10,6 +10,6 @@
 mod laws;
 
 pub use laws::{
-    blocks_are_of_seats, parts_are_unique, parts_grow, parts_merge, parts_stay, plays_have_parts,
-    refusals_merge, worked_examples,
+    blocks_are_of_seats, blocks_merge, parts_are_unique, parts_grow, parts_merge, parts_stay,
+    plays_have_parts, refusals_merge, worked_examples,
 };
