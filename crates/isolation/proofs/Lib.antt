@@ -14,3 +14,6 @@ pub mod NotesKept
 pub mod OwnLogs
 pub mod Plans
 pub mod WentOut
+pub mod CallsRead
+pub mod FewCalls
+pub mod FedAlong

@@ -1,5 +1,5 @@
 -- What the code's notes of a session stand for, and what is noted of a call that comes back or goes out.
-use Rattle.std.specs.Prelude.{◌≡◌, ℕ, ◌<◌, ◌==◌, Bool, List, [], ◌∷◌, ◌++◌, Option, Some, None, slice_get}
+use Rattle.std.specs.Prelude.{◌≡◌, ℕ, ◌+◌, ◌^◌, ◌<◌, ◌==◌, Bool, List, [], ◌∷◌, ◌++◌, Option, Some, None, slice_get}
 use Rattle.std.specs.List.{list_any}
 use Rattle.std.specs.Option.{option_and_then, option_map_or, option_or}
 use Rattle.base.specs.NumberMap.{get, remove}
@@ -26,6 +26,10 @@ pub record AreNumbers (code : Numbering) (numbers : own.Numbering) : Type 0 wher
   pub entered : code.entered ≡ numbers.entered
   pub in_slots : (slot : ℕ) → number_at code.in_slots slot ≡ get numbers.in_slots slot
   pub wakes : (slot : ℕ) → number_at code.wakes slot ≡ get numbers.wakes slot
+
+-- the next call of the session gets a number of 32 bits, and so would the one behind it
+abbrev pub HasNumbersLeft : Notes → Type 0
+HasNumbersLeft notes = notes.numbering.entered + 1 < 2 ^ 32
 
 -- the slot holds no call of the session any more
 abbrev pub without_slot : own.Numbering → ℕ → own.Numbering

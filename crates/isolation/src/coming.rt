@@ -2,7 +2,7 @@
 ghost use Rattle.std.specs.Prelude.{◌≡◌, ◌<◌, ◌==◌, false, List, slice_get};
 ghost use Rattle.std.specs.Option.{option_map_or};
 ghost use Rattle.base.specs.NumberMap.{get};
-ghost use Rattle.isolation.specs.Noted.{AreNoted};
+ghost use Rattle.isolation.specs.Noted.{AreNoted, HasNumbersLeft};
 ghost use Rattle.isolation.specs.Replaying.{HasArrived, HasArrivedIn, IsEntryNoted, errand_at, is_turned_away};
 ghost use Rattle.kernel_entry.specs.Visiting.{coming_of};
 ghost use Rattle.kernel_entry.specs.declared.visitor.Visitor.{Visitor as AnyVisitor};
@@ -76,7 +76,8 @@ fn has_come_answered(notes: &mut Notes, tables: &Tables, visitor: Visitor, answe
 
 /// Notes a new call that has come into a slot.
 fn has_come_new(notes: &mut Notes, slot: u8, came: OwnEvent, work: &Work) -> Result<(), NoMemory>
-    requires { slot < 16 }
+    requires slot { slot < 16 }
+    requires few { HasNumbersLeft notes.old }
     ensures noted { (kernel next : Kernel) (visitor : AnyVisitor) (reads : List AnyRead)
         → HasArrivedIn kernel next visitor reads (Arrival.New came) work.now slot
         → IsEntryNoted notes.old notes.new kernel next visitor reads result }
@@ -104,7 +105,8 @@ fn has_come_back(notes: &mut Notes, slot: u8, back: Back, work: &Work) -> Result
 
 /// Notes what has come into a slot.
 fn has_come_for(notes: &mut Notes, slot: u8, arrival: Arrival, work: &Work) -> Result<(), NoMemory>
-    requires { slot < 16 }
+    requires slot { slot < 16 }
+    requires few { HasNumbersLeft notes.old }
     ensures noted { (kernel next : Kernel) (visitor : AnyVisitor) (reads : List AnyRead)
         → HasArrivedIn kernel next visitor reads arrival work.now slot
         → IsEntryNoted notes.old notes.new kernel next visitor reads result }
@@ -128,6 +130,7 @@ pub(crate) fn has_come(
     requires cpu { visitor.cpu < 8 }
     requires work { HasWork core.now work.now }
     requires own { work.now.cpu ≡ visitor.cpu }
+    requires few { HasNumbersLeft notes.old }
     ensures noted { (kernel next : Kernel) (reads : List AnyRead)
         → HasArrived core.now.parts kernel next visitor reads arrival work.now
         → IsEntryNoted notes.old notes.new kernel next visitor reads result }

@@ -1,7 +1,7 @@
 //! What is noted of a session as the journal is done again.
 ghost use Rattle.std.specs.Prelude.{◌≡◌, ◌<◌, ◌∷◌, ◌++◌, [], IfOk, Some, None};
 ghost use Rattle.base.specs.NumberMap.{get};
-ghost use Rattle.isolation.specs.Noted.{AreNoted, HasFinished, IsLeft, with_away, with_back, with_told, woken_as};
+ghost use Rattle.isolation.specs.Noted.{AreNoted, HasFinished, HasNumbersLeft, IsLeft, with_away, with_back, with_told, woken_as};
 ghost use Rattle.isolation.specs.Telling.{wakes_as};
 ghost use Rattle.kernel_model.specs.Kernel.{PendingCall};
 ghost use Rattle.own_model.specs.Own as own;
@@ -80,13 +80,15 @@ impl Notes {
 
     /// A call of the session comes into a slot.
     pub(crate) fn comes_in(&mut self, slot: u8, came: OwnEvent) -> Result<(), NoMemory>
-        requires { slot < 16 }
+        requires slot { slot < 16 }
+        requires few { HasNumbersLeft self.old }
         ensures noted { (notes : own.Notes) (call : PendingCall) → AreNoted self.old notes
             → IfOk result (λ _. AreNoted self.new (own.numbered notes slot call came)) }
         ensures session { self.new.session ≡ self.old.session }
     {
         self.lists(came, None)?;
-        self.numbering.next_in(slot)
+        self.numbering.next_in(slot);
+        Ok(())
     }
 
     /// The session's call of this number comes back.

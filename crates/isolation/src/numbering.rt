@@ -1,10 +1,8 @@
 //! The numbers of a session's calls.
-ghost use Rattle.std.specs.Prelude.{◌≡◌, ◌<◌, [], IfOk, Some, slice_set};
+ghost use Rattle.std.specs.Prelude.{◌≡◌, ◌+◌, ◌^◌, ◌<◌, [], Some, slice_set};
 ghost use Rattle.base.specs.NumberMap.{get};
 ghost use Rattle.isolation.specs.Noted.{AreNumbers, number_at, without_slot};
 ghost use Rattle.own_model.specs.Own as own;
-
-use base::NoMemory;
 
 /// The most slots that a core may have.
 const MOST_SLOTS: usize = 16;
@@ -56,20 +54,16 @@ impl Numbering {
         number_at(&self.wakes, slot)
     }
 
-    /// A call comes into a slot, and gets the next number. Want of memory where 32 bits don't have the number behind it,
-    /// since no memory has so many calls.
-    pub(crate) fn next_in(&mut self, slot: u8) -> Result<(), NoMemory>
-        requires { slot < 16 }
+    /// A call comes into a slot, and gets the next number.
+    pub(crate) fn next_in(&mut self, slot: u8)
+        requires slot { slot < 16 }
+        requires few { self.old.entered + 1 < 2 ^ 32 }
         ensures { (numbers : own.Numbering) → AreNumbers self.old numbers
-            → IfOk result (λ _. AreNumbers self.new (own.next_in numbers slot)) }
+            → AreNumbers self.new (own.next_in numbers slot) }
     {
         let number = self.entered;
-        let Some(entered) = number.checked_add(1) else {
-            return Err(NoMemory);
-        };
-        self.entered = entered;
+        self.entered = number + 1;
         self.in_slots[usize::from(slot)] = Some(number);
-        Ok(())
     }
 
     /// Whom the call of the slot wakes is kept.

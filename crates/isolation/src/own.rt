@@ -6,7 +6,8 @@ ghost use Rattle.kernel_model.specs.Application.{Application, booted};
 ghost use Rattle.native_tas.specs.Table.{entries};
 ghost use Rattle.own_model.specs.Isolation.{IsSessionOf, steps_in};
 ghost use Rattle.own_model.specs.Own.{events_in, noted, own_events, own_replies, replies_in};
-ghost use Rattle.own_model.specs.Solo.{solo_replies};
+ghost use Rattle.own_model.specs.Solo.{solo_replies, unopened};
+ghost use Rattle.solo.specs.Feeding.{CanBeFed};
 
 use crate::copies::copy_boot;
 use crate::notes::Logged;
@@ -82,7 +83,8 @@ fn replies_in(alloc: Global, log: Vec<Logged>) -> Result<Vec<OwnReply>, NoMemory
 
 /// What has happened to a session, by the journal of a core of this boot that is legal, whose entries have read at most
 /// 2^28 bytes in all, and each of them the same byte wherever its reads share an address. `NoMemory` where memory is
-/// wanting.
+/// wanting. The machine of a session of an application whose sessions share no instance can be fed with them, one after
+/// the other.
 pub fn own_events(
     alloc: Global,
     boot: &Boot,
@@ -91,9 +93,14 @@ pub fn own_events(
     session: u32,
 ) -> Result<Vec<OwnEvent>, NoMemory>
     requires { IsJournal (booted boot.now (entries natives.now)) journal.now.events }
-    ensures { IfOk result (λ events. events.items
+    ensures events { IfOk result (λ events. events.items
         ≡ own_events (booted boot.now (entries natives.now)) journal.now.events session) }
+    ensures feeds { (app : Application)
+        → IsSessionOf (booted boot.now (entries natives.now)) journal.now.events session app
+        → IfOk result (λ events. CanBeFed (steps_in journal.now.events) app unopened events.items) }
 {
+    // for the proof: no slice has 2^64 elements, so that the steps of all entries fit 128 bits
+    let _events = journal.as_slice();
     let log = own_log(alloc, boot, natives, journal, session)?;
     events_in(alloc, log)
 }

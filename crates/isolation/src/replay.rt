@@ -2,6 +2,7 @@
 ghost use Rattle.std.specs.Prelude.{◌≡◌, [], IfOk, IsTrue, None, replicate};
 ghost use Rattle.event_journal.specs.declared.event.Event.TheVariants.{Entry, Exit};
 ghost use Rattle.isolation.specs.Journals.{IsJournal};
+ghost use Rattle.isolation.specs.Noted.{HasNumbersLeft};
 ghost use Rattle.isolation.specs.Replaying.{CanGoOn, CanGoOut, HasDone, HasGoneOn, HasNoted};
 ghost use Rattle.kernel_model.specs.Application.{booted};
 ghost use Rattle.kernel_state.specs.Booting.{IsWithinLimits};
@@ -139,7 +140,8 @@ impl Replay {
 
     /// Does an event again, and notes it.
     fn again(&mut self, alloc: Global, event: &Event, notes: &mut Notes) -> Result<(), NoMemory>
-        requires { CanGoOn self.old event.now }
+        requires can { CanGoOn self.old event.now }
+        requires few { HasNumbersLeft notes.old }
         ensures noted { HasGoneOn self.old self.new notes.old notes.new event.now result }
         ensures session { notes.new.session ≡ notes.old.session }
     {
@@ -169,7 +171,8 @@ impl Replay {
         reads: &Reads,
         notes: &mut Notes,
     ) -> Result<(), NoMemory>
-        requires { CanGoOn self.old (Entry visitor.cpu visitor.regs visitor.steps reads.now) }
+        requires can { CanGoOn self.old (Entry visitor.cpu visitor.regs visitor.steps reads.now) }
+        requires few { HasNumbersLeft notes.old }
         ensures noted { HasGoneOn self.old self.new notes.old notes.new (Entry visitor.cpu visitor.regs visitor.steps reads.now) result }
         ensures session { notes.new.session ≡ notes.old.session }
     {

@@ -7,8 +7,8 @@ use Rattle.isolation.proofs.HasCome.{answered_so, arrived_in, same_tables}
 use Rattle.kernel_state.specs.declared.processor.Errand.TheVariants as errand
 use Rattle.isolation.proofs.coming.has_come.Goals as goal
 
-pub has_come_for-requires : goal.has_come_for-requires
-has_come_for-requires c =
+pub has_come_for-requires-clause-slot : goal.has_come_for-requires-clause-slot
+has_come_for-requires-clause-slot c =
     few_slots c.args.core.now c.args.work.now c.requires.work c.args.visitor.cpu c.requires.own c.in-Some-InSlot.slot
     (cc (c.errand_of.ensures, c.as_slice.ensures.value, c.in-Some-InSlot.is, c.in-Some-InSlot.field-0-is))
 

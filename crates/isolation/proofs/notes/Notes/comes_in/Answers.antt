@@ -1,17 +1,14 @@
 use Rattle.std.proofs.Common.{ap, sym, subst}
-use Rattle.std.proofs.lemmas.Result.{IfOk-weaker}
 use Rattle.isolation.proofs.NotesKept.{in_noted}
 use Rattle.isolation.specs.Noted.{AreNumbers}
 use Rattle.isolation.specs.declared.notes.Notes.{Notes}
 use Rattle.isolation.specs.declared.numbering.Numbering.{Numbering}
-use Rattle.own_model.specs.Own as own
 use Rattle.isolation.proofs.notes.Notes.comes_in.Goals as goal
 
 pub returns-clause-noted : goal.returns-clause-noted
 returns-clause-noted c notes call are =
-    let stays = c.lists.ensures.stays in
-    IfOk-weaker c.next_in.result _ _
-    (λ done numbers. in_noted c.args.self.now _ notes are c.args.slot call c.args.came numbers
-    (ap (λ (n : Notes). n.turned_away) stays) c.in_ok-lists.ensures.log)
+    let stays = c.in_ok-lists.ensures.stays in
+    in_noted c.args.self.now _ notes are c.args.slot call c.args.came
     (c.next_in.ensures notes.numbering
     (subst (λ (n : Numbering). AreNumbers n notes.numbering) (sym (ap (λ (n : Notes). n.numbering) stays)) are.numbering))
+    (ap (λ (n : Notes). n.turned_away) stays) c.in_ok-lists.ensures.log

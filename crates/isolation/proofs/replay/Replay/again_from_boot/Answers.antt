@@ -3,12 +3,13 @@ use Rattle.std.proofs.Common.{List, take, sym, subst, ◌∙◌}
 use Rattle.std.proofs.lemmas.List.{take_all}
 use Rattle.event_journal.specs.declared.event.Event.{Event}
 use Rattle.isolation.specs.Replaying.{CanBeNext, HasNoted}
+use Rattle.isolation.proofs.FewCalls.{numbers_left}
 use Rattle.isolation.proofs.Fronts.{can_be_next, taken_more}
 use Rattle.kernel_state.specs.Meaning.{booted_of}
 use Rattle.isolation.proofs.replay.Replay.again_from_boot.Goals as goal
 
-pub again-requires : goal.again-requires
-again-requires c =
+pub again-requires-clause-can : goal.again-requires-clause-can
+again-requires-clause-can c =
     let boot = booted_of c.args.self.now.core in
     let items = c.args.events.now in
     record {
@@ -17,6 +18,13 @@ again-requires c =
       done = c.loop-event.invariant.noted.done;
       next = can_be_next items c.loop-event.event-index c.event-item.result c.loop-event-test.true c.event-item.is boot c.requires.journal;
     }
+
+pub again-requires-clause-few : goal.again-requires-clause-few
+again-requires-clause-few c =
+    numbers_left (booted_of c.args.self.now.core) (take c.loop-event.event-index c.args.events.now) c.event-item.result c.loop-event.self
+    c.loop-event.notes c.loop-event.invariant.noted
+    (can_be_next c.args.events.now c.loop-event.event-index c.event-item.result c.loop-event-test.true c.event-item.is
+    (booted_of c.args.self.now.core) c.requires.journal)
 
 pub loop-event-preserved : goal.loop-event-preserved
 loop-event-preserved c =

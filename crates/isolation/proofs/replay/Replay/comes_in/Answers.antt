@@ -4,10 +4,10 @@ use Rattle.ns_ram.specs.Reads.{HoldsReads}
 use Rattle.isolation.proofs.replay.Replay.comes_in.Goals as goal
 
 pub enter-requires : goal.enter-requires
-enter-requires c = can_enter c.args.self.now c.args.visitor c.args.reads.now c.requires
+enter-requires c = can_enter c.args.self.now c.args.visitor c.args.reads.now c.requires.can
 
 pub has_come-requires-clause-cpu : goal.has_come-requires-clause-cpu
-has_come-requires-clause-cpu c = few_processors c.args.self.now c.args.visitor c.args.reads.now c.requires
+has_come-requires-clause-cpu c = few_processors c.args.self.now c.args.visitor c.args.reads.now c.requires.can
 
 pub has_come-requires-clause-work : goal.has_come-requires-clause-work
 has_come-requires-clause-work c = c.in-Ok.ensures.fits
@@ -17,7 +17,7 @@ has_come-requires-clause-own c = c.in-Ok.ensures.cpu
 
 pub unreachable-requires : goal.unreachable-requires
 unreachable-requires c =
-    not_full c.args.self.now c.args.visitor c.args.reads.now c.requires c.hold.new.lane
+    not_full c.args.self.now c.args.visitor c.args.reads.now c.requires.can c.hold.new.lane
     (subst (HoldsReads c.hold.new.lane) c.as_slice.ensures c.in_ok-hold.ensures) c.in-Err-Full.field-0-0
     c.in-Err-Full.field-0-1 (rw c.in-Err-Full.field-0-is at c.in-Err-Full.ensures).1
 
@@ -26,7 +26,7 @@ index_mut-requires c =
     let works = c.args.self.now.works in
     let ok = works.ok.0 in
     let below : c.from.result < length works.items =
-    place_there c.args.self.now c.args.visitor c.args.reads.now c.requires c.from.result c.from.ensures in
+    place_there c.args.self.now c.args.visitor c.args.reads.now c.requires.can c.from.result c.from.ensures in
     omega arith
 
 pub returns-clause-noted : goal.returns-clause-noted

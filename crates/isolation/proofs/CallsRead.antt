@@ -1,0 +1,286 @@
+-- The entry of each call of a session has read at least the 32 bytes of its argument's head, so that a session has few calls.
+use Rattle.std.proofs.Common.{◌⊎◌, inl, inr, ◌≡◌, ℕ, zero, suc, ◌+◌, ◌*◌, ◌≤◌, Bool, true, false, ◌&&◌, List, [], ◌∷◌, length, Option, Some, None, refl, ap, sym, subst, ◌∙◌, arith}
+use Rattle.std.specs.Prelude.{IsSome, ◌==◌, if◌then◌else◌, not, slice_get}
+use Rattle.std.specs.List.{list_any}
+use Rattle.std.specs.Option.{option_map_or}
+use Rattle.std.proofs.lemmas.Bool.Decides.{nat_tests}
+use Rattle.std.proofs.lemmas.List.Sums.{sum_by-cons}
+use Rattle.std.proofs.lemmas.Option.{option_and_then_some}
+use Rattle.base.specs.NumberMap.{get}
+use Rattle.event_journal.specs.Event.{copied_by}
+use Rattle.event_journal.specs.Journal.{copied_bytes}
+use Rattle.event_journal.specs.declared.event.Event.{Event}
+use Rattle.event_journal.specs.declared.event.Event.TheVariants.{Entry, Exit}
+use Rattle.kernel_model.proofs.FixedAnswer.{decided_errand}
+use Rattle.kernel_model.proofs.Parts.{if-both, map_or-both, some_of}
+use Rattle.kernel_model.specs.Application.{Booted}
+use Rattle.kernel_model.specs.Argument.{argument_at, client_in, reg, thread_in}
+use Rattle.kernel_model.specs.Codes.{ebadaddr}
+use Rattle.kernel_model.specs.Decision.{Answers, Decision, Taken, decided_by}
+use Rattle.kernel_model.specs.Entry.{after_decision, decision_of, entry}
+use Rattle.kernel_model.specs.Exit.{progress_in_slot}
+use Rattle.kernel_model.specs.Given.{Given, given_to}
+use Rattle.kernel_model.specs.History.{after_event, after_events, kernel_after}
+use Rattle.kernel_model.specs.Kernel.{Active, Fixed, Free, InSlot, Inside, Kernel, Outside, PendingCall, Processor}
+use Rattle.kernel_model.specs.Kernel.{Progress, Suspended, ThreadSlot, Visit, first_kernel, lowest_free}
+use Rattle.kernel_model.specs.Leaving.{FreesBuffer, Finishes, Interrupted, Leaving, Requests, WantsBuffer, leaving_of}
+use Rattle.kernel_model.specs.NewCall.{is_head_address, new_call_with}
+use Rattle.kernel_model.specs.Resume.{suspended_for}
+use Rattle.ns_ram.specs.Attempt.{Attempt, need, passes, ◌>>=◌ as attempt_then}
+use Rattle.ns_ram.specs.Reader.{Reader, done, if_used_up, next_bytes, over_reads, reading, want_bytes, want_words, ◌>>=◌}
+use Rattle.ns_ram.specs.Reads.{total_bytes}
+use Rattle.ns_ram.specs.declared.read.Read.{Read}
+use Rattle.own_model.proofs.EventKinds.{EntryKind, HasAnswer, IsNewCall, IsResume, entry_kind}
+use Rattle.own_model.proofs.FixedAnswers.{entered}
+use Rattle.own_model.specs.Own.{Entering, Notes, Numbering, Resuming, back_noted, call_noted, entry_noted, event_noted, event_of, exit_noted, is_limit}
+use Rattle.own_model.specs.Own.{is_of_client, no_notes, noted, noted_from, numbered, out_noted, resume_noted, seen_noted, slot_kept, slot_noted}
+use Rattle.own_model.specs.Own.{with_wake, woken_in}
+use Rattle.smc_abi.specs.Call.{call_of}
+use Rattle.smc_abi.specs.declared.answer.Answer.{Answer}
+use Rattle.smc_abi.specs.declared.call.Call.{Call}
+use Rattle.smc_abi.specs.declared.call.Call.TheVariants.{WithArg}
+use Rattle.smc_abi.specs.declared.regs.Regs.{Regs}
+
+-- ---- a reader whose first wish is for at least 32 bytes
+
+-- unless it wishes for so many at once, its value is such
+abbrev IsHeadFirst : {A : Type 0} → (A → Type 0) → Reader A → Type 0
+IsHeadFirst P (done value) = P value
+IsHeadFirst P (want_bytes addr len next) = 32 ≤ len
+IsHeadFirst P (want_words addr most test next) = ⊥
+
+-- what is left behind a read, where it fits
+abbrev left_behind : Read → List Read → Bool → Option (List ℕ × List Read)
+left_behind read reads test = if test then Some (read.bytes, reads) else None
+
+taken_first : (addr len : ℕ) (reads : List Read) (step : List ℕ × List Read) → 32 ≤ len → next_bytes addr len reads ≡ Some step → 32 ≤ total_bytes reads
+taken_first addr zero reads step wide e = absurd (omega (arith, wide))
+taken_first addr (suc len) [] step wide e = absurd cc
+taken_first addr (suc len) (read ∷ reads) step wide e = fits ((read.addr == addr) && (length read.bytes == suc len)) refl e
+  where
+    second : (a b : Bool) → (a && b) ≡ true → b ≡ true
+    second true b e = e
+    second false b e = absurd cc
+
+    same : (a b : ℕ) → (a == b) ≡ true → a ≡ b
+    same a b is = grind (arith, nat_tests)
+
+    fits : (test : Bool) → ((read.addr == addr) && (length read.bytes == suc len)) ≡ test
+        → left_behind read reads test ≡ Some step → 32 ≤ total_bytes (read ∷ reads)
+    fits true is e =
+        let long : length read.bytes ≡ suc len = same _ _ (second (read.addr == addr) _ is) in
+        let whole = sum_by-cons (λ (r : Read). length r.bytes) read reads in
+        omega (arith, long, whole, wide)
+    fits false is e = absurd cc
+
+first_read : {A : Type 0} (P : A → Type 0) (reader : Reader A) (reads : List Read) (end : A × List Read) → IsHeadFirst P reader
+    → over_reads reader reads ≡ Some end → P end.0 ⊎ (32 ≤ total_bytes reads)
+first_read P (done value) reads end first e = let same : (value, reads) ≡ end = cc in inl (subst (λ x. P x.0) same first)
+first_read P (want_bytes addr len next) reads end first e =
+    option_and_then_some (λ (step : List ℕ × List Read). over_reads (next step.0) step.1) (next_bytes addr len reads) end e
+    (λ step is onward. inr (taken_first addr len reads step first is))
+first_read P (want_words addr most test next) reads end first e = absurd first
+
+reads_first : {A : Type 0} (P : A → Type 0) (reader : Reader A) (reads : List Read) (value : A) → IsHeadFirst P reader
+    → reading reader reads ≡ Some value → P value ⊎ (32 ≤ total_bytes reads)
+reads_first P reader reads value first e =
+    option_and_then_some if_used_up (over_reads reader reads) value e
+    (λ end is used. at_end end used (first_read P reader reads end first is))
+  where
+    at_end : (end : _ × List Read) → if_used_up end ≡ Some value → P end.0 ⊎ (32 ≤ total_bytes reads) → P value ⊎ (32 ≤ total_bytes reads)
+    at_end (found, []) used (inl is) = let same : found ≡ value = cc in inl (subst P same is)
+    at_end (found, []) used (inr wide) = inr wide
+    at_end (found, read ∷ left) used either = absurd cc
+
+-- ---- a new call
+
+module _ (boot : Booted) (kernel : Kernel) (visit : Visit) where
+  -- the answer was fixed
+  abbrev IsAnswered : Kernel → Type 0
+  IsAnswered next = (answer : Answer) × (after_decision kernel visit (Answers answer) ≡ next)
+
+  abbrev decided_on : Reader Decision → Reader Kernel
+  decided_on reader = reader >>= (λ decision. done (after_decision kernel visit decision))
+
+  -- a test that fails fixes the answer
+  need_first : (test : Bool) (rest : Unit {0} → Attempt Answer Taken) (slot : ℕ)
+      → IsHeadFirst IsAnswered (decided_on (decided_by (attempt_then (rest tt) (λ taken. passes (slot, taken)))))
+      → IsHeadFirst IsAnswered (decided_on (decided_by (attempt_then (attempt_then (need test ebadaddr) rest) (λ taken. passes (slot, taken)))))
+  need_first true rest slot first = first
+  need_first false rest slot first = (_, refl)
+
+  all_there : (n : ℕ) → n ≤ n
+  all_there n = omega arith
+
+  by_slot : (free : Option ℕ) → IsHeadFirst IsAnswered (decided_on (decided_by (new_call_with boot kernel.tables visit.regs free)))
+  by_slot None = (_, refl)
+  by_slot (Some slot) = need_first (is_head_address (argument_at visit.regs)) _ slot (all_there 32)
+
+-- it takes a slot only where it has read the head
+head_read : (boot : Booted) (kernel next : Kernel) (cpu steps slot : ℕ) (regs : Regs) (reads : List Read) → call_of (reg regs.a 0) ≡ WithArg
+    → slice_get next.processors cpu ≡ Some (Inside regs.a steps (InSlot slot))
+    → after_event boot kernel (Entry cpu regs steps reads) ≡ Some next → 32 ≤ total_bytes reads
+head_read boot kernel next cpu steps slot regs reads is inside e =
+    by_end (reads_first (IsAnswered boot kernel visit) (entry boot kernel visit) reads next
+    (subst (λ (c : Call). IsHeadFirst (IsAnswered boot kernel visit) (decided_on boot kernel visit (decision_of boot kernel regs.a c))) (sym is)
+    (by_slot boot kernel visit (lowest_free kernel.slots)))
+    (entered boot kernel next cpu steps regs reads e))
+  where
+    visit : Visit
+    visit = record { cpu = cpu; regs = regs.a; steps = steps }
+
+    by_end : IsAnswered boot kernel visit next ⊎ (32 ≤ total_bytes reads) → 32 ≤ total_bytes reads
+    by_end (inl answered) =
+        let no : Fixed answered.0 ≡ InSlot slot = decided_errand kernel next visit (InSlot slot) (Answers answered.0) answered.1 inside in absurd cc
+    by_end (inr wide) = wide
+
+-- ---- what is noted
+
+-- as many calls have come in
+abbrev KeepsCount : Notes → Notes → Type 0
+KeepsCount before after = after.numbering.entered ≡ before.numbering.entered
+
+back_counts : (notes : Notes) (number : ℕ) (leaving : Leaving) (came : Given) → KeepsCount notes (back_noted notes number leaving came)
+back_counts notes number Interrupted came = refl
+back_counts notes number WantsBuffer came = refl
+back_counts notes number (Requests place request) came = refl
+back_counts notes number (FreesBuffer buffer) came = refl
+back_counts notes number (Finishes result params) came = refl
+
+resume_counts : (r : Resuming) (before now : PendingCall) (notes : Notes) (number : ℕ) → KeepsCount notes (resume_noted r before now notes number)
+resume_counts r before now notes number =
+    let seen : Notes = seen_noted notes number before now in
+    map_or-both (λ (n : Notes). n.numbering.entered ≡ seen.numbering.entered) (back_noted seen number (leaving_of r.slot before))
+    (reading (given_to r.regs r.slot before) r.reads) seen
+    (λ came. back_counts seen number (leaving_of r.slot before) came) refl
+    ∙ if-both (KeepsCount notes) (now.seen && not before.seen) _ notes refl refl
+
+slot_counts : (session : ℕ) (r : Resuming) (notes : Notes) (client : ℕ) (call : PendingCall) (held now : Option ThreadSlot)
+    → suspended_for client held ≡ Some call → KeepsCount notes (slot_noted session r notes held now)
+slot_counts session r notes client call None now e = absurd cc
+slot_counts session r notes client call (Some Free) now e = absurd cc
+slot_counts session r notes client call (Some (Active cpu worked)) now e = absurd cc
+slot_counts session r notes client call (Some (Suspended owner left)) None e = refl
+slot_counts session r notes client call (Some (Suspended owner left)) (Some Free) e = refl
+slot_counts session r notes client call (Some (Suspended owner left)) (Some (Suspended another now)) e = refl
+slot_counts session r notes client call (Some (Suspended owner left)) (Some (Active cpu now)) e =
+    map_or-both (KeepsCount notes) (resume_noted r left now notes) (get notes.numbering.in_slots r.slot) notes
+    (λ number. resume_counts r left now notes number) refl
+
+kept_counts : (numbering : Numbering) (slot : ℕ) (woken : Option ℕ) (leaving : Leaving)
+    → (slot_kept (with_wake numbering slot woken) slot leaving).entered ≡ numbering.entered
+kept_counts numbering slot woken leaving = by_leaving leaving ∙ by_wake woken
+  where
+    by_wake : (w : Option ℕ) → (with_wake numbering slot w).entered ≡ numbering.entered
+    by_wake None = refl
+    by_wake (Some number) = refl
+
+    by_leaving : (l : Leaving) → (slot_kept (with_wake numbering slot woken) slot l).entered ≡ (with_wake numbering slot woken).entered
+    by_leaving Interrupted = refl
+    by_leaving WantsBuffer = refl
+    by_leaving (Requests place request) = refl
+    by_leaving (FreesBuffer buffer) = refl
+    by_leaving (Finishes result params) = refl
+
+out_counts : (kernel : Kernel) (notes : Notes) (cpu : ℕ) (processor : Option Processor) → KeepsCount notes (out_noted kernel notes cpu processor)
+out_counts kernel notes cpu None = refl
+out_counts kernel notes cpu (Some Outside) = refl
+out_counts kernel notes cpu (Some (Inside regs steps (Fixed answer))) =
+    if-both (KeepsCount notes) (list_any (λ away. away == cpu) notes.turned_away) _ notes refl refl
+out_counts kernel notes cpu (Some (Inside regs steps (InSlot slot))) =
+    map_or-both (KeepsCount notes) _ (progress_in_slot kernel steps slot) notes
+    (λ (progress : Progress). map_or-both (KeepsCount notes) (exit_noted notes slot progress.call)
+    (get notes.numbering.in_slots slot) notes
+    (λ number. kept_counts notes.numbering slot (woken_in notes.numbering slot progress.call.phase) (leaving_of slot progress.call)) refl) refl
+
+-- one more at most, where so many bytes were read
+abbrev pub CountsOne : ℕ → Notes → Notes → Type 0
+CountsOne bytes before after = 32 * after.numbering.entered ≤ 32 * before.numbering.entered + bytes
+
+still_few : (bytes : ℕ) (before after : Notes) → KeepsCount before after → CountsOne bytes before after
+still_few bytes before after same = within after.numbering.entered before.numbering.entered same
+  where
+    within : (now was : ℕ) → now ≡ was → 32 * now ≤ 32 * was + bytes
+    within now was is = omega (arith, is)
+
+call_counts : (session : ℕ) (bytes : ℕ) (notes : Notes) (slot : ℕ) (call : PendingCall) → 32 ≤ bytes → CountsOne bytes notes (call_noted session notes slot call)
+call_counts session bytes notes slot call wide =
+    map_or-both (CountsOne bytes notes) (numbered notes slot call) (event_of session call) notes
+    (λ came. one notes.numbering.entered wide) (still_few bytes notes notes refl)
+  where
+    one : (n : ℕ) → 32 ≤ bytes → 32 * (n + 1) ≤ 32 * n + bytes
+    one n le = omega (arith, le)
+
+new_counts : (session : ℕ) (r : Resuming) (notes : Notes) (bytes : ℕ) (held now : Option ThreadSlot) → 32 ≤ bytes
+    → CountsOne bytes notes (slot_noted session r notes held now)
+new_counts session r notes bytes None now wide = still_few bytes notes notes refl
+new_counts session r notes bytes (Some (Active cpu worked)) now wide = still_few bytes notes notes refl
+new_counts session r notes bytes (Some Free) None wide = still_few bytes notes notes refl
+new_counts session r notes bytes (Some Free) (Some Free) wide = still_few bytes notes notes refl
+new_counts session r notes bytes (Some Free) (Some (Suspended client call)) wide = still_few bytes notes notes refl
+new_counts session r notes bytes (Some Free) (Some (Active cpu call)) wide = call_counts session bytes notes r.slot call wide
+new_counts session r notes bytes (Some (Suspended client left)) None wide = still_few bytes notes notes refl
+new_counts session r notes bytes (Some (Suspended client left)) (Some Free) wide = still_few bytes notes notes refl
+new_counts session r notes bytes (Some (Suspended client left)) (Some (Suspended another call)) wide = still_few bytes notes notes refl
+new_counts session r notes bytes (Some (Suspended client left)) (Some (Active cpu now)) wide =
+    still_few bytes notes (slot_noted session r notes (Some (Suspended client left)) (Some (Active cpu now)))
+    (map_or-both (KeepsCount notes) (resume_noted r left now notes) (get notes.numbering.in_slots r.slot) notes
+    (λ number. resume_counts r left now notes number) refl)
+
+entry_counts : (boot : Booted) (session : ℕ) (kernel next : Kernel) (cpu steps : ℕ) (regs : Regs) (reads : List Read) (notes : Notes)
+    → after_event boot kernel (Entry cpu regs steps reads) ≡ Some next → EntryKind kernel next cpu steps regs
+    → CountsOne (total_bytes reads) notes (event_noted session kernel next notes (Entry cpu regs steps reads))
+entry_counts boot session kernel next cpu steps regs reads notes e (HasAnswer answer inside) =
+    let visit : Visit = record { cpu = cpu; regs = regs.a; steps = steps } in
+    let at : Entering = record { kernel = kernel; next = next; visit = visit; reads = reads } in
+    still_few (total_bytes reads) notes (event_noted session kernel next notes (Entry cpu regs steps reads)) (ap (λ (p : Option Processor). (entry_noted session at notes p).numbering.entered) inside
+    ∙ if-both (KeepsCount notes) (is_limit answer && is_of_client kernel session visit.regs) _ notes refl refl)
+entry_counts boot session kernel next cpu steps regs reads notes e (IsNewCall slot now is inside there) =
+    let visit : Visit = record { cpu = cpu; regs = regs.a; steps = steps } in
+    let at : Entering = record { kernel = kernel; next = next; visit = visit; reads = reads } in
+    subst (λ (p : Option Processor). CountsOne (total_bytes reads) notes (entry_noted session at notes p)) (sym inside)
+    (new_counts session (record { regs = regs.a; reads = reads; slot = slot }) notes (total_bytes reads)
+    (slice_get kernel.slots slot) (slice_get next.slots slot)
+    (head_read boot kernel next cpu steps slot regs reads is inside e))
+entry_counts boot session kernel next cpu steps regs reads notes e (IsResume call is some inside) =
+    let visit : Visit = record { cpu = cpu; regs = regs.a; steps = steps } in
+    let at : Entering = record { kernel = kernel; next = next; visit = visit; reads = reads } in
+    let slot : ℕ = thread_in regs.a in
+    still_few (total_bytes reads) notes (event_noted session kernel next notes (Entry cpu regs steps reads)) (ap (λ (p : Option Processor). (entry_noted session at notes p).numbering.entered) inside
+    ∙ slot_counts session (record { regs = regs.a; reads = reads; slot = slot }) notes (client_in regs.a) call
+    (slice_get kernel.slots slot) (slice_get next.slots slot) some)
+
+pub event_counts : (boot : Booted) (session : ℕ) (kernel next : Kernel) (notes : Notes) (happened : Event) → after_event boot kernel happened ≡ Some next
+    → CountsOne (copied_by happened) notes (event_noted session kernel next notes happened)
+event_counts boot session kernel next notes (Entry cpu regs steps reads) e =
+    entry_counts boot session kernel next cpu steps regs reads notes e (entry_kind boot kernel next cpu steps regs reads e)
+event_counts boot session kernel next notes (Exit cpu regs) e =
+    still_few 0 notes (event_noted session kernel next notes (Exit cpu regs)) (out_counts kernel notes cpu (slice_get kernel.processors cpu))
+
+-- ---- a history
+
+from_kernel : (boot : Booted) (session : ℕ) (kernel last : Kernel) (notes : Notes) (events : List Event) → after_events boot kernel events ≡ Some last
+    → CountsOne (copied_bytes events) notes (noted_from boot session kernel notes events)
+from_kernel boot session kernel last notes [] e = still_few 0 notes notes refl
+from_kernel boot session kernel last notes (happened ∷ events) e =
+    option_and_then_some (λ (next : Kernel). after_events boot next events) (after_event boot kernel happened) last e
+    (λ next is onward.
+    let first = event_counts boot session kernel next notes happened is in
+    let rest = from_kernel boot session next last (event_noted session kernel next notes happened) events onward in
+    let whole = sum_by-cons copied_by happened events in
+    subst (λ (o : Option Kernel). CountsOne (copied_bytes (happened ∷ events)) notes
+    (option_map_or (λ (k : Kernel). noted_from boot session k (event_noted session kernel k notes happened) events) o notes)) (sym is)
+    (sums notes.numbering.entered _ _ (copied_by happened) (copied_bytes events) _ first rest whole))
+  where
+    sums : (a b c one more all : ℕ) → 32 * b ≤ 32 * a + one → 32 * c ≤ 32 * b + more → all ≡ one + more → 32 * c ≤ 32 * a + all
+    sums a b c one more all first rest whole = omega (arith, first, rest, whole)
+
+-- the calls of a session that have come in by the end of a history
+pub own_calls_read : (boot : Booted) (history : List Event) (session : ℕ) → IsSome (kernel_after boot history)
+    → 32 * (noted boot history session).numbering.entered ≤ copied_bytes history
+own_calls_read boot history session follows =
+    let last = some_of (kernel_after boot history) follows in
+    none_before _ (copied_bytes history) (from_kernel boot session (first_kernel boot) last.0 no_notes history last.1)
+  where
+    none_before : (n bytes : ℕ) → n ≤ 0 + bytes → n ≤ bytes
+    none_before n bytes le = omega (arith, le)
