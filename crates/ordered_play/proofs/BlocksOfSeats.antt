@@ -111,7 +111,7 @@ module _ (boot : Booted) (events : List Event) (seat_for : (cpu : ℕ) → cpu <
 
 pub blocks_are_of_seats : BlocksAreOfSeats
 blocks_are_of_seats = record {
-  blocks = λ boot events seat_for play texts to many each. in_blocks boot events seat_for play to texts many each;
+  blocks = λ boot events seat_for play texts to are. in_blocks boot events seat_for play to texts are.0 are.1;
   ended = λ boot events seat_for play to each. all_done boot events seat_for play to each;
   one_refused = λ boot events seat_for play cpu below to refused. one_is_refused boot events seat_for play to cpu below refused;
   none_refused = λ boot events seat_for play to each. none_is_refused boot events seat_for play to each;

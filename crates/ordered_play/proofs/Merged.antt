@@ -399,10 +399,14 @@ module _ (boot : Booted) (ram : List ℕ) (trace : Trace) (history : List Event)
   }
 
 pub refusals_merge : RefusalsMerge
-refusals_merge boot ram trace history parts places refusals legal few =
-    let merged = merge boot ram trace history parts places refusals legal few [] history
-    (first_ordered ram boot trace) refl (first_middle boot ram trace history parts places refusals) in
-    (merged.end, merged.turns, comes_to boot ram trace history parts places refusals merged.end merged.middle)
+refusals_merge boot ram trace history apart legal few =
+    let merged = merge boot ram trace history apart.parts apart.places apart.refusals legal few [] history
+    (first_ordered ram boot trace) refl
+    (first_middle boot ram trace history apart.parts apart.places apart.refusals) in (
+      merged.end,
+      merged.turns,
+      comes_to boot ram trace history apart.parts apart.places apart.refusals merged.end merged.middle,
+    )
 
 -- ---- without refusals
 
@@ -419,7 +423,8 @@ plain_order cpus at (event ∷ events) =
 
 pub parts_merge : PartsMerge
 parts_merge boot ram trace history parts legal few =
-    let merged = refusals_merge boot ram trace history parts (λ cpu. None) (λ cpu below. tt) legal few in
+    let merged = refusals_merge boot ram trace history
+    (record { parts = parts; places = λ cpu. None; refusals = λ cpu below. tt }) legal few in
     let order = plain_order boot.cpus 0 history in (
       merged.0,
       ap (λ (o : List ℕ). after_turns boot o (first_ordered ram boot trace)) (sym order) ∙ merged.1,

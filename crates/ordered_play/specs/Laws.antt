@@ -12,7 +12,7 @@ use Rattle.kernel_model.specs.History.{IsLegal, exit_after}
 use Rattle.kernel_model.specs.Laws.{IsOfOther}
 use Rattle.ns_ram.specs.Reads.{HoldsReads}
 use Rattle.ns_ram.specs.declared.read.Read.{Read}
-use Rattle.play_model.specs.Play.{entry_event, filled}
+use Rattle.play_model.specs.Play.{entry_event}
 use Rattle.ta_isa.specs.declared.boot.Boot.{Boot}
 use Rattle.trace_text.specs.declared.item.Item.{Item}
 use Rattle.trace_text.specs.declared.item.Reg.{Reg}
@@ -20,7 +20,7 @@ use Rattle.trace_text.specs.declared.trace.Trace.{Trace}
 use Rattle.kernel_model.specs.Turns.{cpu_of}
 use Rattle.ordered_play.specs.Act.{Act, Comes, Leaves}
 use Rattle.ordered_play.specs.Blocks.{block_of, blocks_in, blocks_of, has_ended, has_refused}
-use Rattle.ordered_play.specs.Merge.{ComesTo, IsOfParts, IsRefusedIf, Part, Parts, order_with, seat_of, seat_with, share_of}
+use Rattle.ordered_play.specs.Merge.{Apart, AreDone, ComesTo, IsOfParts, IsRefusedIf, Part, Parts, seat_in, order_with, seat_of, seat_with, share_of}
 use Rattle.ordered_play.specs.Ordered.{OrderedPlay, after_turns, first_ordered, gone_seat, visit_with}
 use Rattle.ordered_play.specs.Part.{AreActsOf, IsPart, Share, Standing}
 use Rattle.ordered_play.specs.Seat.{Seat, first_seat, ready_for}
@@ -84,28 +84,28 @@ PartsMerge = (boot : Booted) (ram : List ℕ) (trace : Trace) (history : List Ev
 -- and so it is with refused entries, each of which comes at a place behind its processor's last event
 abbrev pub RefusalsMerge : Type 0
 RefusalsMerge = (boot : Booted) (ram : List ℕ) (trace : Trace) (history : List Event)
-    (parts : Parts boot ram trace history) (places : ℕ → Option ℕ)
-    (refusals : (cpu : ℕ) (below : cpu < boot.cpus) →
-    IsRefusedIf (share_of boot history cpu) trace.items (filled ram trace.fills) (parts cpu below) (places cpu)) →
-    IsLegal boot history → copied_bytes history ≤ 2 ^ 28 →
+    (apart : Apart boot ram trace history) → IsLegal boot history → copied_bytes history ≤ 2 ^ 28 →
     (play : OrderedPlay)
-    × (after_turns boot (order_with places boot.cpus 0 history) (first_ordered ram boot trace) ≡ Some play)
-    × ComesTo boot history
-    (λ cpu below. seat_with (share_of boot history cpu) trace.items (filled ram trace.fills) (parts cpu below)
-    (places cpu) (refusals cpu below)) play
+    × (after_turns boot (order_with apart.places boot.cpus 0 history) (first_ordered ram boot trace) ≡ Some play)
+    × ComesTo boot history (seat_in apart) play
 
 -- each play in an order is one of parts
 abbrev pub PlaysHaveParts : Type 0
 PlaysHaveParts = (boot : Booted) (ram : List ℕ) (trace : Trace) (order : List ℕ) (play : OrderedPlay) → IsBooted boot →
     after_turns boot order (first_ordered ram boot trace) ≡ Some play → IsOfParts boot ram trace play
 
+-- the texts are the blocks of these seats
+abbrev pub AreBlocksOf : (cpus : ℕ) → ((cpu : ℕ) → cpu < cpus → Seat) → List (List ℕ) → Type 0
+AreBlocksOf cpus seat_for texts =
+    (length texts ≡ cpus)
+    × ((cpu : ℕ) (below : cpu < cpus) → slice_get texts cpu ≡ Some (block_of cpu (seat_for cpu below)))
+
 -- what is printed of a play that has come to these seats
 pub record BlocksAreOfSeats : Type 0 where
   -- one text behind the other, the block of each seat
   pub blocks : (boot : Booted) (events : List Event) (seat_for : (cpu : ℕ) → cpu < boot.cpus → Seat)
-      (play : OrderedPlay) (texts : List (List ℕ)) → ComesTo boot events seat_for play → length texts ≡ boot.cpus →
-      ((cpu : ℕ) (below : cpu < boot.cpus) → slice_get texts cpu ≡ Some (block_of cpu (seat_for cpu below))) →
-      blocks_of play ≡ flat_map (λ text. text) texts
+      (play : OrderedPlay) (texts : List (List ℕ)) → ComesTo boot events seat_for play →
+      AreBlocksOf boot.cpus seat_for texts → blocks_of play ≡ flat_map (λ text. text) texts
   -- all is done where no seat has an act to come
   pub ended : (boot : Booted) (events : List Event) (seat_for : (cpu : ℕ) → cpu < boot.cpus → Seat)
       (play : OrderedPlay) → ComesTo boot events seat_for play →
@@ -118,22 +118,10 @@ pub record BlocksAreOfSeats : Type 0 where
       (play : OrderedPlay) → ComesTo boot events seat_for play →
       ((cpu : ℕ) (below : cpu < boot.cpus) → (seat_for cpu below).refused ≡ None) → has_refused play ≡ false
 
--- the part leaves nothing, unless it stops at a refused entry
-abbrev pub IsDone : List Act → Option ℕ → Type 0
-IsDone left None = left ≡ []
-IsDone left (Some place) = Unit {0}
-
--- the blocks of a trace are those of its processors' parts of one legal history, all of which are done
+-- the blocks of a trace, in the order of a legal history, are those of its processors' parts, all of which are done
 abbrev pub BlocksMerge : Type 0
 BlocksMerge = (natives : List Native) (boot : Boot) (trace : Trace) (history : List Event)
-    (parts : Parts (booted boot natives) (zeros 0x400000) trace history) (places : ℕ → Option ℕ)
-    (refusals : (cpu : ℕ) (below : cpu < boot.cpus) →
-    IsRefusedIf (share_of (booted boot natives) history cpu) trace.items (filled (zeros 0x400000) trace.fills)
-    (parts cpu below) (places cpu)) (texts : List (List ℕ)) →
-    trace.boot ≡ Some boot → IsLegal (booted boot natives) history → copied_bytes history ≤ 2 ^ 28 →
-    ((cpu : ℕ) (below : cpu < boot.cpus) → IsDone (parts cpu below).is_part.left (places cpu)) →
-    length texts ≡ boot.cpus →
-    ((cpu : ℕ) (below : cpu < boot.cpus) → slice_get texts cpu ≡ Some (block_of cpu
-    (seat_with (share_of (booted boot natives) history cpu) trace.items (filled (zeros 0x400000) trace.fills)
-    (parts cpu below) (places cpu) (refusals cpu below)))) →
-    blocks_in natives trace (order_with places boot.cpus 0 history) ≡ Some (flat_map (λ text. text) texts)
+    (apart : Apart (booted boot natives) (zeros 0x400000) trace history) (texts : List (List ℕ)) →
+    trace.boot ≡ Some boot → IsLegal (booted boot natives) history → copied_bytes history ≤ 2 ^ 28 → AreDone apart →
+    AreBlocksOf boot.cpus (seat_in apart) texts →
+    blocks_in natives trace (order_with apart.places boot.cpus 0 history) ≡ Some (flat_map (λ text. text) texts)

@@ -86,6 +86,30 @@ seat_with of items lane part (Some place) refused =
     refused_seat (seat_of part)
     (record { copied = copied_bytes (take place of.history); more = total_bytes refused.reads })
 
+-- a history taken apart: each processor's part, and the places of those whose entries are refused
+pub record Apart (boot : Booted) (ram : List ℕ) (trace : Trace) (history : List Event) : Type 0 where
+  pub parts : Parts boot ram trace history
+  pub places : ℕ → Option ℕ
+  pub refusals : (cpu : ℕ) (below : cpu < boot.cpus) →
+      IsRefusedIf (share_of boot history cpu) trace.items (filled ram trace.fills) (parts cpu below) (places cpu)
+
+-- what each processor comes to
+abbrev pub seat_in : {boot : Booted} {ram : List ℕ} {trace : Trace} {history : List Event} →
+    Apart boot ram trace history → (cpu : ℕ) → cpu < boot.cpus → Seat
+seat_in {boot} {ram} {trace} {history} apart cpu below =
+    seat_with (share_of boot history cpu) trace.items (filled ram trace.fills) (apart.parts cpu below)
+    (apart.places cpu) (apart.refusals cpu below)
+
+-- all of its acts are done, or those before its refused entry
+abbrev pub IsDone : List Act → Option ℕ → Type 0
+IsDone left None = left ≡ []
+IsDone left (Some place) = Unit {0}
+
+abbrev pub AreDone : {boot : Booted} {ram : List ℕ} {trace : Trace} {history : List Event} →
+    Apart boot ram trace history → Type 0
+AreDone {boot} apart =
+    (cpu : ℕ) (below : cpu < boot.cpus) → IsDone (apart.parts cpu below).is_part.left (apart.places cpu)
+
 -- the processor's entry is refused at this place
 abbrev pub is_refused_at : (ℕ → Option ℕ) → ℕ → ℕ → Bool
 is_refused_at places at cpu = option_map_or (λ place. place == at) (places cpu) false
