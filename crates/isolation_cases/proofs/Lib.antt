@@ -1,4 +1,3 @@
-pub mod FewSteps
 pub mod Opened
 pub mod Fed
 pub mod Again

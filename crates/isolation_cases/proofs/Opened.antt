@@ -246,13 +246,13 @@ early_on boot session past kernel (happened ∷ events) before at =
         → IsSettled boot (noted_from boot session on.next now events)
     by_next on now (StillEarly same lower) later =
         subst (λ (n : Notes). IsSettled boot (noted_from boot session on.next n events)) (sym same) (later lower)
-    by_next on now (NowNameless higher same) later =
+    by_next on now (NowNameless of higher same of_boot shares has) later =
         late_on boot session (past ++ happened ∷ []) on.next now events higher on.at
         (inl (subst (λ (n : Notes). NoOpens n.log) (sym same) tt))
-    by_next on now (NowShared of higher of_boot uuid shares) later =
+    by_next on now (NowShared of higher of_boot uuid shares has) later =
         late_on boot session (past ++ happened ∷ []) on.next now events higher on.at
         (of_named boot now of _ uuid of_boot)
-    by_next on now (NowOpen of is_next of_boot uuid alone along) later =
+    by_next on now (NowOpen of is_next of_boot uuid alone along has) later =
         let higher : session < on.next.tables.next_session =
         subst (λ n. n < on.next.tables.next_session) (sym is_next) along.tied.given.session_given in
         late_on boot session (past ++ happened ∷ []) on.next now events higher on.at

@@ -2,7 +2,8 @@
 ghost use Rattle.isolation_cases.specs.Feeding.{IsJournalOf};
 ghost use Rattle.native_tas.specs.Table.{entries};
 
-use crate::conditions::can_be_fed;
+use crate::conditions::{are_of_only_app, are_short_events};
+use crate::events::tell_events;
 use crate::feeding::feed;
 use anyhow::{Result, bail};
 use event_journal::Journal;
@@ -15,7 +16,7 @@ use std::alloc::Global;
 use std::fmt::Write;
 use ta_isa::Boot;
 
-/// What the machine of a session replies to what has happened to the session.
+/// Tells what has happened to a session. What the machine of the session replies to that.
 #[tactic(auto, using(crate::proofs::Fed::first_is, crate::proofs::Fed::first_there, crate::proofs::Fed::fed_first))]
 fn replies_alone(
     alloc: Global,
@@ -23,12 +24,17 @@ fn replies_alone(
     natives: &Natives,
     journal: &Journal,
     session: u32,
+    told: &mut String,
 ) -> Result<Vec<OwnReply>>
     requires { IsJournalOf boot.now (entries natives.now) journal.now.events }
 {
     let events = own_events(alloc, boot, natives, journal, session)?;
-    if !can_be_fed(boot, journal, events.as_slice()) {
+    tell_events(events.as_slice(), told)?;
+    if !are_of_only_app(boot, events.as_slice()) {
         bail!("no session of the only application");
+    }
+    if !are_short_events(events.as_slice()) {
+        bail!("a buffer that is too long");
     }
     let mut machine = SoloSession::new(alloc, boot, natives, boot.apps.as_slice()[0].uuid)?;
     feed(alloc, &mut machine, events.as_slice())
@@ -72,7 +78,7 @@ fn tell_replies(
     Ok(())
 }
 
-/// Tells what a session was answered and its machine replies.
+/// Tells what has happened to a session, what it was answered and its machine replies.
 fn tell_session(
     alloc: Global,
     boot: &Boot,
@@ -83,9 +89,9 @@ fn tell_session(
 ) -> Result<()>
     requires { IsJournalOf boot.now (entries natives.now) journal.now.events }
 {
-    let replies = replies_alone(alloc, boot, natives, journal, session)?;
-    let answered = own_replies(alloc, boot, natives, journal, session)?;
     writeln!(told, "session {session}")?;
+    let replies = replies_alone(alloc, boot, natives, journal, session, told)?;
+    let answered = own_replies(alloc, boot, natives, journal, session)?;
     tell_replies(alloc, replies.as_slice(), answered.as_slice(), told)
 }
 

@@ -1,24 +1,18 @@
-//! Whether the machine of a session can be fed with what has happened to it.
+//! Whether a session is of the only application of a boot, and whether the buffers of its events are short.
 ghost use Rattle.std.specs.Prelude.{◌≡◌, IsTrue};
-ghost use Rattle.isolation_cases.specs.Feeding.{BeginWithOpen, CanBeFed, HasOneApp, IsFine};
+ghost use Rattle.std.specs.List.{AllByRecursion};
+ghost use Rattle.isolation_cases.specs.Feeding.{AreOfOnlyApp, BeginWithOpen, HasOneApp};
 ghost use Rattle.kernel_model.specs.Application.{OfImage};
 ghost use Rattle.kernel_model.specs.Instances.{is_single};
-ghost use Rattle.solo.specs.Short.{AreShort, IsShort, IsShortInput};
+ghost use Rattle.solo.specs.Short.{AreShort, IsShort, IsShortEvent, IsShortInput};
 ghost use Rattle.ta_step.specs.Shape.{shape};
 
-use event_journal::Journal;
 use own_model::{OwnEvent, OwnInput};
 use ta_isa::{App, Boot};
 use ta_params::{CopiedParams, GpParam};
 
 /// The most bytes of a buffer.
 const MOST_BYTES: usize = 65536;
-
-/// The most events.
-const MOST_EVENTS: u64 = 1 << 32;
-
-/// The most steps of a call by the time that it sees that it was cancelled.
-const MOST_STEPS: u128 = 1 << 64;
 
 /// Whether a buffer is short enough.
 fn is_short(param: &GpParam) -> bool
@@ -47,20 +41,32 @@ fn is_short_input(input: &OwnInput) -> bool
     }
 }
 
-/// Whether a machine can be fed with an event, where that can come.
-pub(crate) fn is_fine(event: &OwnEvent) -> bool
-    ensures { IsTrue result → IsFine event.now }
+/// Whether those of an event are.
+fn is_short_event(event: &OwnEvent) -> bool
+    ensures { IsTrue result → IsShortEvent event.now }
 {
     match event {
         OwnEvent::Open { params, .. } => are_short(params),
         OwnEvent::Invoke { input, .. } => is_short_input(input),
-        OwnEvent::Seen { steps, .. } => *steps <= MOST_STEPS,
         OwnEvent::Close
         | OwnEvent::Cancel
+        | OwnEvent::Seen { .. }
         | OwnEvent::Back { .. }
         | OwnEvent::Out { .. }
         | OwnEvent::Limited => true,
     }
+}
+
+/// Whether those of all events are.
+pub(crate) fn are_short_events(events: &[OwnEvent]) -> bool
+    ensures { IsTrue result → AllByRecursion IsShortEvent events.now }
+{
+    for event in events {
+        if !is_short_event(event) {
+            return false;
+        }
+    }
+    true
 }
 
 /// Whether the sessions of an application share an instance.
@@ -87,11 +93,8 @@ fn begin_with_open(events: &[OwnEvent]) -> bool
 }
 
 /// Whether they are those of a session of the only application of a boot.
-pub(crate) fn can_be_fed(boot: &Boot, journal: &Journal, events: &[OwnEvent]) -> bool
-    ensures { IsTrue result → CanBeFed boot.now journal.now.events events.now }
+pub(crate) fn are_of_only_app(boot: &Boot, events: &[OwnEvent]) -> bool
+    ensures { IsTrue result → AreOfOnlyApp boot.now events.now }
 {
-    has_one_app(boot)
-        && begin_with_open(events)
-        && journal.len() <= MOST_EVENTS
-        && events.len() as u64 <= MOST_EVENTS
+    has_one_app(boot) && begin_with_open(events)
 }

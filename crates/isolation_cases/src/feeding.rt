@@ -1,8 +1,7 @@
 //! Feeding the machine of a session.
-ghost use Rattle.isolation_cases.specs.Feeding.{IsFed};
+ghost use Rattle.solo.specs.Feeding.{IsFed};
 
-use crate::conditions::is_fine;
-use anyhow::{Result, bail};
+use anyhow::Result;
 use own_model::{OwnEvent, OwnReply};
 use solo::SoloSession;
 use std::alloc::Global;
@@ -25,9 +24,6 @@ pub(crate) fn feed(
 {
     let mut replies = Vec::new(alloc);
     for event in events {
-        if !is_fine(event) {
-            bail!("an event that is too large");
-        }
         add(&mut replies, session.step(alloc, event)?)?;
     }
     Ok(replies)

@@ -2,12 +2,13 @@
 //! what the sessions were answered.
 //!
 //! Standard input has the cases, each a line `case NAME SESSION..` and the text of a trace, whose boot has one
-//! application. For each of the sessions a line `session SESSION` is printed, and then a line for each reply of its
-//! machine, as `reply_lines` has it. Where the session was answered otherwise, that stands behind it.
+//! application. For each of the sessions a line `session SESSION` is printed, a line of its own events, and then a line
+//! for each reply of its machine, as `reply_lines` has it. Where the session was answered otherwise, that stands behind it.
 #![tactic(auto)]
 
 mod comparing;
 mod conditions;
+mod events;
 mod feeding;
 mod playing;
 

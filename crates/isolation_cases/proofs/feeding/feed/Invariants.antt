@@ -1,6 +1,6 @@
 use Rattle.std.proofs.Common.{drop}
 use Rattle.isolation_cases.proofs.feeding.feed.Given as goal
-use Rattle.isolation_cases.specs.Feeding.{IsFed}
+use Rattle.solo.specs.Feeding.{IsFed}
 
 -- the machine can be fed with the rest
 abbrev pub invariant-loop-event : goal.invariant-loop-event
