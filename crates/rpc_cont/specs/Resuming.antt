@@ -9,4 +9,4 @@ abbrev pub answer_in : ResumeInput → Option RpcAnswer
 answer_in input.Nothing = None
 answer_in (input.Buffer addr cookie) = None
 answer_in input.NoBuffer = Some NoBuffer
-answer_in (input.Reply reply) = Some (Replied reply)
+answer_in (input.Reply reply) = Some (Replied reply.value)

@@ -9,6 +9,6 @@ pub enum ResumeInput {
     Buffer { addr: u64, cookie: u64 },
     /// No buffer, though it asked for one.
     NoBuffer,
-    /// The reply to its request.
-    Reply(RpcReply),
+    /// The reply to its request, which stands apart: few are resumed with one, and it has room for the bytes of a file.
+    Reply(Box<RpcReply>),
 }

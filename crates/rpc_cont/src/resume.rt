@@ -6,12 +6,12 @@ ghost use Rattle.rpc_cont.specs.Answering.{CanBeAnswered, IsAnswered};
 ghost use Rattle.rpc_cont.specs.Conts.{job_of, memory_size, uuid_of};
 ghost use Rattle.rpc_cont.specs.Resuming.{answer_in};
 ghost use Rattle.rpc_cont.specs.Running.{IsWaiting, worked};
-ghost use Rattle.rpc_msgs.specs.Answer.{RpcAnswer};
+ghost use Rattle.rpc_msgs.specs.Answer.{Replied, RpcAnswer};
 
 use crate::cont::Cont;
 use crate::input::ResumeInput;
 use crate::phase::Phase;
-use rpc_msgs::RpcBuffer;
+use rpc_msgs::{RpcBuffer, RpcReply};
 use ta_step::TaMemory;
 
 impl<M: TaMemory + Drop> Cont<M> {
@@ -46,11 +46,26 @@ impl<M: TaMemory + Drop> Cont<M> {
                 Phase::Ends => self.request = None,
                 Phase::Runs | Phase::Waits => {}
             },
-            ResumeInput::Reply(reply) => match self.phase {
-                Phase::Asks => self.reply(&reply),
-                Phase::Ends => self.request = None,
-                Phase::Runs | Phase::Waits => {}
-            },
+            ResumeInput::Reply(reply) => self.resume_with_reply(&reply),
+        }
+    }
+
+    /// Resumes the call with the reply to its request, which is lent. Takes no memory.
+    pub fn resume_with_reply(&mut self, reply: &RpcReply)
+        requires { self.old.phase ≡ Phase.Asks → CanBeAnswered M.bytes self.old }
+        ensures runs { self.old.phase ≡ Phase.Runs → self.new ≡ self.old }
+        ensures asks { (job : Job) → self.old.phase ≡ Phase.Asks
+            → IsWaiting M.bytes (uuid_of self.old.app) self.old (job_of M.bytes self.old) job
+            → IsSomeAnd (advance_on_answer (Replied reply.now) job) (λ next. IsAnswered M.bytes self.new next) }
+        ensures waits { self.old.phase ≡ Phase.Waits → self.new ≡ self.old }
+        ensures ends { self.old.phase ≡ Phase.Ends → self.new ≡ record self.old { request = None } }
+        ensures size { memory_size M.bytes self.new ≡ memory_size M.bytes self.old }
+        ensures stays { self.new ≡ record (worked self.old self.new) { phase = self.new.phase } }
+    {
+        match self.phase {
+            Phase::Asks => self.reply(reply),
+            Phase::Ends => self.request = None,
+            Phase::Runs | Phase::Waits => {}
         }
     }
 }
