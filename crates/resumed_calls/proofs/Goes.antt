@@ -106,14 +106,14 @@ is_answer input.NoBuffer answer is =
     let same : rpc_answer.NoBuffer ≡ answer = cc in
     subst (IsAnswer NoBuffer) same (record { asks = λ before job. refl; wakes = λ wakes. refl })
 is_answer (input.Reply reply) answer is =
-    let same : rpc_answer.Replied reply ≡ answer = cc in
-    subst (IsAnswer (Reply reply)) same (record { asks = λ before job. refl; wakes = λ wakes. refl })
+    let same : rpc_answer.Replied reply.value ≡ answer = cc in
+    subst (IsAnswer (Reply reply.value)) same (record { asks = λ before job. refl; wakes = λ wakes. refl })
 
 some_answer : (given : ResumeInput) → IsSome (answer_in given) → (answer : RpcAnswer) × (answer_in given ≡ Some answer)
 some_answer input.Nothing some = absurd cc
 some_answer (input.Buffer addr cookie) some = absurd cc
 some_answer input.NoBuffer some = (rpc_answer.NoBuffer, refl)
-some_answer (input.Reply reply) some = (rpc_answer.Replied reply, refl)
+some_answer (input.Reply reply) some = (rpc_answer.Replied reply.value, refl)
 
 -- what `resume_with` says of an answer
 pub record TakesAnswer (old new : Cont (List ℕ)) (answer : RpcAnswer) : Type 0 where

@@ -14,7 +14,7 @@ abbrev pub given_as : ResumeInput → Given
 given_as input.Nothing = Nothing
 given_as (input.Buffer addr cookie) = Buffer (record { addr = addr; cookie = cookie })
 given_as input.NoBuffer = NoBuffer
-given_as (input.Reply reply) = Reply reply
+given_as (input.Reply reply) = Reply reply.value
 
 -- a buffer, or none
 abbrev pub buffer_as : Option RpcBuffer → Given

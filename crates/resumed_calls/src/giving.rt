@@ -42,7 +42,10 @@ pub(crate) fn given_to(
     match Leaving::of(slot, cont) {
         Leaving::WantsBuffer => Ok(buffer_or_none(offered_buffer(regs))),
         Leaving::Requests { place, wanted } => {
-            let reply = reply_at(alloc, cont, place, wanted, lane, reads)?;
+            let Ok(mut reply) = Box::new(alloc, RpcReply::nothing_read()) else {
+                return Err(NoMemory);
+            };
+            *reply = reply_at(alloc, cont, place, wanted, lane, reads)?;
             Ok(ResumeInput::Reply(reply))
         }
         Leaving::Interrupted | Leaving::FreesBuffer(_) | Leaving::Finishes => {
