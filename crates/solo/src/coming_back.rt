@@ -17,7 +17,6 @@ ghost use Rattle.solo.specs.Standing.{ComesTo, HasCall, IsBeside, IsSomeSolo, St
 ghost use Rattle.ta_params.specs.declared.copied_params.CopiedParams.{CopiedParams as AnyParams};
 
 use crate::beginning::Ready;
-use crate::copies::copied_reply;
 use crate::found::Found;
 use crate::solo_session::SoloSession;
 use base::NoMemory;
@@ -77,7 +76,7 @@ fn takes_answer(cont: &mut Cont<Plain>, input: &BackInput)
     match input {
         BackInput::Nothing | BackInput::Buffer => {}
         BackInput::NoBuffer => cont.resume_with(ResumeInput::NoBuffer),
-        BackInput::Reply(reply) => cont.resume_with(ResumeInput::Reply(copied_reply(reply))),
+        BackInput::Reply(reply) => cont.resume_with_reply(reply),
     }
 }
 

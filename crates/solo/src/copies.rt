@@ -3,7 +3,7 @@ ghost use Rattle.std.specs.Prelude.{◌≡◌, IfOk};
 ghost use Rattle.std.specs.Option.{option_copied};
 
 use base::{NoMemory, Sequence};
-use rpc_msgs::{FileName, Payload, Rpc, RpcReply};
+use rpc_msgs::{FileName, Rpc};
 use std::alloc::Global;
 use ta_isa::Image;
 use ta_params::{Buf, CopiedParams, GpParam};
@@ -49,19 +49,6 @@ pub(crate) fn copied_if_some(
     match params {
         Some(params) => Ok(Some(copied_params(alloc, params)?)),
         None => Ok(None),
-    }
-}
-
-/// A reply. Takes no memory.
-pub(crate) fn copied_reply(reply: &RpcReply) -> RpcReply
-    ensures { result ≡ reply.now }
-{
-    RpcReply {
-        ret: reply.ret,
-        v: reply.v,
-        w: reply.w,
-        size: reply.size,
-        bytes: Payload::of(reply.bytes.bytes()),
     }
 }
 
