@@ -107,7 +107,7 @@ fn input_of(given: ResumeInput) -> BackInput
         ResumeInput::Nothing => BackInput::Nothing,
         ResumeInput::Buffer { .. } => BackInput::Buffer,
         ResumeInput::NoBuffer => BackInput::NoBuffer,
-        ResumeInput::Reply(reply) => BackInput::Reply(reply),
+        ResumeInput::Reply(reply) => BackInput::Reply(Box::into_inner(reply)),
     }
 }
 
