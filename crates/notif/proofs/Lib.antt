@@ -1,0 +1,5 @@
+pub mod Answering
+pub mod Numbering
+pub mod Once
+pub mod Pending
+pub mod Reaching

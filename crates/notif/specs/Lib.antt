@@ -1,0 +1,4 @@
+pub mod Desk
+pub mod Examples
+pub mod History
+pub mod Laws
