@@ -1,3 +1,5 @@
+use native_tas::{Driver, DriverRelation, Natives};
+use notif::{Desk, Noted};
 use ns_ram::{Lane, walk_pages};
 use param_copy::copy_in;
 use shm_registry::Registry;
@@ -21,5 +23,39 @@ fn copies_without_a_list_of_reads_find_memory(rt: HostRuntime) -> Result<(), Fai
     let (lane, registry) = (Lane::new(alloc)?, Registry::new(alloc)?);
     let copied = copy_in(alloc, &lane, &registry, &[], 0)?;
     assert!(rt; copied.reads.is_empty());
+    Ok(())
+}
+
+/// The program has no notifications.
+#[test]
+fn a_desk_of_signals_finds_memory(rt: HostRuntime) -> Result<(), Fail> {
+    let alloc = rt.alloc();
+    let mut natives = Natives::new(alloc);
+    let echo = Driver {
+        value: 1,
+        relation: DriverRelation::Echo,
+        call: |count: u32| count,
+    };
+    assert_eq!(rt; natives.add_driver(echo), Ok(()));
+    let mut desk = Desk::new(alloc, &natives)?;
+    desk.enable();
+    desk.signal(5);
+    desk.signal(5);
+    desk.signal(1);
+    assert_eq!(rt;
+        desk.next(),
+        Some(Noted {
+            value: 5,
+            more: true
+        })
+    );
+    assert_eq!(rt;
+        desk.next(),
+        Some(Noted {
+            value: 0,
+            more: false
+        })
+    );
+    assert_eq!(rt; desk.next(), None);
     Ok(())
 }
