@@ -1,5 +1,5 @@
 -- The machine of a session is fed with what has happened to it.
-use Rattle.std.proofs.Common.{◌≡◌, ◌∙◌, ℕ, ◌<◌, Bool, true, false, List, [], ◌∷◌, Some, length}
+use Rattle.std.proofs.Common.{◌≡◌, ◌∙◌, ℕ, ◌<◌, Bool, true, false, List, [], ◌∷◌, None, Some, length}
 use Rattle.std.proofs.Common.{refl, sym, ap, subst, arith, get_or}
 use Rattle.std.specs.Prelude.{IsSome, bytes_eq, find, if◌then◌else◌}
 use Rattle.std.specs.List.{AllByRecursion}

@@ -2,7 +2,7 @@ use Rattle.std.proofs.Common.{◌+◌, ◌∷◌, ◌∙◌, ap, drop, subst, sy
 use Rattle.std.proofs.Math.Logic.{∥∥₁_map}
 use Rattle.own_model.specs.declared.own_event.OwnEvent.{OwnEvent}
 use Rattle.solo.proofs.Feeding.{fed_on, front, has_number, is_some_solo}
-use Rattle.solo.specs.Feeding.{IsFed, IsFedWith}
+use Rattle.solo.specs.Feeding.{IsFed}
 use Rattle.isolation_cases.proofs.feeding.feed.Goals as goal
 
 pub step-requires-clause-some : goal.step-requires-clause-some
