@@ -1,0 +1,211 @@
+//! A trace, served by a shared core from one thread, in an order of its processors.
+ghost use Rattle.std.specs.Prelude.{◌≡◌, []};
+ghost use Rattle.kernel_state.specs.Meaning.{booted_of, events_of};
+ghost use Rattle.shared_cases.specs.Cpus.{IsPairOf};
+
+use crate::pair::Pair;
+use crate::script::{Half, Turn, cpu_of, ordered, takes_turns};
+use anyhow::{Context, Result, bail};
+use event_journal::{Event, Journal};
+use kernel_state::Core;
+use native_tas::Natives;
+use normal_cpus::{CpuAnswer, SharedCore, share};
+use ns_ram::in_ram;
+use std::alloc::Global;
+use std::fmt::Write;
+use std::sync::Wait;
+use trace_parts::{core_of, filled, registers, tell_ret, tell_show, trace_of};
+use trace_text::{Item, Trace};
+
+/// Tells an exit, with the places of its entry and its own in the history.
+fn tell_exit(cpu: u8, answer: &CpuAnswer, told: &mut String) -> Result<()> {
+    tell_ret(cpu, &answer.regs, told)?;
+    writeln!(told, " at {} {}", answer.entry_at, answer.exit_at)?;
+    Ok(())
+}
+
+/// Tells bytes of a processor's RAM.
+fn show(alloc: Global, pair: &Pair, cpu: u8, addr: u64, len: u32, told: &mut String) -> Result<()> {
+    let lane = pair.lane(cpu)?;
+    if !in_ram(addr, u64::from(len)) {
+        bail!("a show outside of RAM");
+    }
+    Ok(tell_show(alloc, cpu, addr, lane.at(addr, u64::from(len)), told)?)
+}
+
+/// Does what stands between two turns of a processor.
+fn write_or_show(
+    alloc: Global,
+    shared: &SharedCore,
+    pair: &mut Pair,
+    item: &Item,
+    told: &mut String,
+) -> Result<()>
+    requires { IsPairOf shared.now pair.old }
+    ensures { IsPairOf shared.now pair.new }
+{
+    match item {
+        Item::Write { cpu, addr, bytes } => pair.write(shared, *cpu, *addr, bytes.as_slice()),
+        Item::Show { cpu, addr, len } => show(alloc, pair, *cpu, *addr, *len, told),
+        Item::Smc { .. } | Item::Enter { .. } | Item::Leave { .. } => Ok(()),
+    }
+}
+
+/// Does what a processor does at the front of these items, up to its next turn.
+fn between_turns(
+    alloc: Global,
+    shared: &SharedCore,
+    pair: &mut Pair,
+    cpu: u8,
+    items: &[Item],
+    told: &mut String,
+) -> Result<()>
+    requires { IsPairOf shared.now pair.old }
+    ensures { IsPairOf shared.now pair.new }
+{
+    for item in items {
+        if cpu_of(item) != cpu {
+            continue;
+        }
+        if takes_turns(item) {
+            break;
+        }
+        write_or_show(alloc, shared, pair, item, told)?;
+    }
+    Ok(())
+}
+
+/// A processor comes in by its item, or does its steps and goes out.
+fn take_turn(
+    rt: &impl Wait,
+    alloc: Global,
+    shared: &SharedCore,
+    pair: &mut Pair,
+    item: &Item,
+    half: Half,
+    told: &mut String,
+) -> Result<()>
+    requires { IsPairOf shared.now pair.old }
+    ensures { IsPairOf shared.now pair.new }
+{
+    match (half, item) {
+        (Half::Comes, Item::Smc { cpu, steps, regs } | Item::Enter { cpu, steps, regs }) => {
+            let regs = registers(regs)?;
+            pair.enter(rt, alloc, shared, *cpu, &regs, *steps)
+        }
+        (Half::Goes, _) => {
+            let cpu = cpu_of(item);
+            let answer = pair.leave(rt, shared, cpu)?;
+            tell_exit(cpu, &answer, told)
+        }
+        _ => bail!("a processor comes in by no entry"),
+    }
+}
+
+/// Takes a turn, and does what its processor does behind it.
+fn serve_turn(
+    rt: &impl Wait,
+    alloc: Global,
+    shared: &SharedCore,
+    pair: &mut Pair,
+    items: &[Item],
+    turn: Turn,
+    told: &mut String,
+) -> Result<()>
+    requires { IsPairOf shared.now pair.old }
+    ensures { IsPairOf shared.now pair.new }
+{
+    let item = items.get(turn.item).context("a turn of no item")?;
+    take_turn(rt, alloc, shared, pair, item, turn.half, told)?;
+    if turn.half == Half::Comes && matches!(item, Item::Smc { .. }) {
+        return Ok(());
+    }
+    let behind = items.get(turn.item + 1..).unwrap_or(&[]);
+    between_turns(alloc, shared, pair, cpu_of(item), behind, told)
+}
+
+/// Serves all turns.
+fn serve_turns(
+    rt: &impl Wait,
+    alloc: Global,
+    shared: &SharedCore,
+    pair: &mut Pair,
+    items: &[Item],
+    turns: &[Turn],
+    told: &mut String,
+) -> Result<()>
+    requires { IsPairOf shared.now pair.old }
+    ensures { IsPairOf shared.now pair.new }
+{
+    between_turns(alloc, shared, pair, 0, items, told)?;
+    between_turns(alloc, shared, pair, 1, items, told)?;
+    for turn in turns {
+        serve_turn(rt, alloc, shared, pair, items, *turn, told)?;
+    }
+    Ok(())
+}
+
+/// Tells whose the events are, in their order: the entries by `+`, and the exits by `-`.
+fn tell_events(journal: &Journal, told: &mut String) -> Result<()> {
+    told.push_str("events")?;
+    for place in 0..journal.len() {
+        match journal.get(place) {
+            Some(Event::Entry { cpu, .. }) => write!(told, " {cpu}+")?,
+            Some(Event::Exit { cpu, .. }) => write!(told, " {cpu}-")?,
+            None => bail!("a place behind the last event"),
+        }
+    }
+    told.push('\n')?;
+    Ok(())
+}
+
+/// Serves the items of a trace on a core of two processors that is shared, and gives the core when all is done.
+fn serve_items(
+    rt: &impl Wait,
+    alloc: Global,
+    core: Core,
+    trace: &Trace,
+    turns: &[Turn],
+    told: &mut String,
+) -> Result<Core>
+    requires events { events_of core ≡ [] }
+    requires cpus { (booted_of core).cpus ≡ 2 }
+{
+    let one = filled(alloc, trace.fills.as_slice())?;
+    let two = filled(alloc, trace.fills.as_slice())?;
+    let Ok((shared, passes)) = share(alloc, core) else {
+        bail!("no memory to share a core");
+    };
+    let (mut pair, room) = Pair::new(&shared, passes, one, two);
+    serve_turns(
+        rt,
+        alloc,
+        &shared,
+        &mut pair,
+        trace.items.as_slice(),
+        turns,
+        told,
+    )?;
+    Ok(pair.close(shared, room))
+}
+
+/// Serves the trace of a text in this order. Tells its lines, and last whose the events of the core are, once all passes are
+/// back.
+pub fn serve_text(
+    rt: &impl Wait,
+    alloc: Global,
+    natives: &Natives,
+    text: &[u8],
+    order: &str,
+    told: &mut String,
+) -> Result<()> {
+    let mut trace = trace_of(alloc, natives, text)?;
+    let boot = trace.boot.take().context("a case without a boot")?;
+    if boot.cpus != 2 {
+        bail!("a case of other than two processors");
+    }
+    let turns = ordered(alloc, trace.items.as_slice(), order)?;
+    let core = core_of(alloc, boot, natives)?;
+    let core = serve_items(rt, alloc, core, &trace, turns.as_slice(), told)?;
+    tell_events(core.journal(), told)
+}
