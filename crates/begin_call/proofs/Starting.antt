@@ -5,6 +5,7 @@ use Rattle.job_model.specs.Beginning.{Beginning, OfImage, OfRelation, Program, b
 use Rattle.job_model.specs.Job.{Job, Nothing, idle_job}
 use Rattle.job_model.specs.declared.entry_point.EntryPoint.{EntryPoint}
 use Rattle.job_model.specs.declared.entry_point.EntryPoint.TheVariants.{Create, Open, Invoke, Close, Destroy}
+use Rattle.job_model.specs.Owner.{Owner, owner_of}
 use Rattle.tee_storage.specs.declared.handle.Handle.{Handle}
 use Rattle.kernel_model.specs.Application.{pages_in}
 use Rattle.rpc_cont.specs.Beginning.{beginning_on, held_uuid}
@@ -23,43 +24,43 @@ use Rattle.kernel_model.specs.Application.{uuid_of as uuid_in}
 -- ---- its job
 
 -- a call that has done nothing is idle
-pub idle : (cont : Cont (List ℕ)) (uuid : List ℕ) (objects : NumberMap Handle) → CanBegin cont →
-    record (job_with Nothing uuid cont) { objects = objects } ≡ idle_job uuid cont.login cont.context objects (kept_params cont.params)
-idle cont uuid objects can = rw (can.result, can.fresh.points) refl
+pub idle : (cont : Cont (List ℕ)) (owner : Owner) (objects : NumberMap Handle) → CanBegin cont →
+    record (job_with Nothing owner cont) { objects = objects } ≡ idle_job owner cont.login cont.context objects (kept_params cont.params)
+idle cont owner objects can = rw (can.result, can.fresh.points) refl
 
--- a job keeps its UUID
-uuid_at : (from : Beginning) (program : Option Program) (job : Job) (first : EntryPoint) (behind : List EntryPoint) →
-    (job_starting_at from program job first behind).uuid ≡ job.uuid
-uuid_at from None job first behind = refl
-uuid_at from (Some (OfImage image)) job first behind = refl
-uuid_at from (Some (OfRelation relation)) job Create behind = refl
-uuid_at from (Some (OfRelation relation)) job Open behind = refl
-uuid_at from (Some (OfRelation relation)) job (Invoke func) behind = refl
-uuid_at from (Some (OfRelation relation)) job Close behind = refl
-uuid_at from (Some (OfRelation relation)) job Destroy behind = refl
+-- a job stays of its application
+owner_at : (from : Beginning) (program : Option Program) (job : Job) (first : EntryPoint) (behind : List EntryPoint) →
+    (job_starting_at from program job first behind).owner ≡ job.owner
+owner_at from None job first behind = refl
+owner_at from (Some (OfImage image)) job first behind = refl
+owner_at from (Some (OfRelation relation)) job Create behind = refl
+owner_at from (Some (OfRelation relation)) job Open behind = refl
+owner_at from (Some (OfRelation relation)) job (Invoke func) behind = refl
+owner_at from (Some (OfRelation relation)) job Close behind = refl
+owner_at from (Some (OfRelation relation)) job Destroy behind = refl
 
-pub begun_uuid : (from : Beginning) (job : Job) (points : List EntryPoint) → (begun_job from job points).uuid ≡ job.uuid
-begun_uuid from job [] = refl
-begun_uuid from job (first ∷ behind) = uuid_at from from.program job first behind
+pub begun_owner : (from : Beginning) (job : Job) (points : List EntryPoint) → (begun_job from job points).owner ≡ job.owner
+begun_owner from job [] = refl
+begun_owner from job (first ∷ behind) = owner_at from from.program job first behind
 
 app_with : (app : Option (ContApp)) (uuid : List ℕ) → uuid_of app ≡ uuid → IsAppOf app (Some uuid)
 app_with None uuid is = tt
 app_with (Some app) uuid is = ap (λ (u : List ℕ). Some u) (sym is)
 
 pub app_begun : (cont : Cont (List ℕ)) (from : Beginning) (job : Job) (points : List EntryPoint) →
-    job_of bytes_of cont ≡ begun_job from job points → IsAppOf cont.app (Some job.uuid)
+    job_of bytes_of cont ≡ begun_job from job points → IsAppOf cont.app (Some job.owner.uuid)
 app_begun cont from job points begun =
-    app_with cont.app job.uuid (ap (λ (job : Job). job.uuid) begun ∙ begun_uuid from job points)
+    app_with cont.app job.owner.uuid (ap (λ (owner : Owner). owner.uuid) (ap (λ (job : Job). job.owner) begun ∙ begun_owner from job points))
 
 -- the job of a call that begins on what it holds is the one on what it finds
 pub job_starts : (cont new : Cont (List ℕ)) (held : Held (List ℕ)) (from : Beginning) (uuid : List ℕ) (objects : NumberMap Handle) (points : List EntryPoint) →
     CanBegin cont → held_uuid held ≡ uuid → ((job : Job) → begun_job (beginning_on bytes_of held cont.cancelled) job points ≡ begun_job from job points) →
-    job_of bytes_of new ≡ begun_job (beginning_on bytes_of held cont.cancelled) (record (job_with Nothing (held_uuid held) cont) { objects = objects }) points →
-    begun_job from (idle_job uuid cont.login cont.context objects (kept_params cont.params)) points ≡ job_of bytes_of new
+    job_of bytes_of new ≡ begun_job (beginning_on bytes_of held cont.cancelled) (record (job_with Nothing (owner_of (held_uuid held)) cont) { objects = objects }) points →
+    begun_job from (idle_job (owner_of uuid) cont.login cont.context objects (kept_params cont.params)) points ≡ job_of bytes_of new
 job_starts cont new held from uuid objects points can same fits begun =
-    let plain = idle cont (held_uuid held) objects can in
-    let named = ap (λ (uuid : List ℕ). idle_job uuid cont.login cont.context objects (kept_params cont.params)) same in
-    sym (begun ∙ fits (record (job_with Nothing (held_uuid held) cont) { objects = objects }) ∙ ap (λ (job : Job). begun_job from job points) (plain ∙ named))
+    let plain = idle cont (owner_of (held_uuid held)) objects can in
+    let named = ap (λ (uuid : List ℕ). idle_job (owner_of uuid) cont.login cont.context objects (kept_params cont.params)) same in
+    sym (begun ∙ fits (record (job_with Nothing (owner_of (held_uuid held)) cont) { objects = objects }) ∙ ap (λ (job : Job). begun_job from job points) (plain ∙ named))
 
 -- ---- when it can start
 

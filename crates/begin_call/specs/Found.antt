@@ -3,6 +3,7 @@ use Rattle.std.specs.Prelude.{◌≡◌, ℕ, Bool, List, Option, Some, None}
 use Rattle.std.specs.Option.{option_map}
 use Rattle.job_model.specs.Beginning.{Beginning, begun_job}
 use Rattle.job_model.specs.Job.{Job, idle_job}
+use Rattle.job_model.specs.Owner.{owner_of}
 use Rattle.kernel_model.specs.Application.{program_of}
 use Rattle.rpc_cont.specs.Conts.{kept_memory, kept_params}
 use Rattle.rpc_cont.specs.declared.cont.Cont.{Cont}
@@ -25,7 +26,7 @@ beginning_with program memory seen = record {
 -- the job of the call there
 abbrev pub job_on : InstanceFound → Cont (List ℕ) → Job
 job_on found cont =
-    let idle = idle_job found.uuid cont.login cont.context cont.objects (kept_params cont.params) in
+    let idle = idle_job (owner_of found.uuid) cont.login cont.context cont.objects (kept_params cont.params) in
     begun_job (beginning_with found.program found.memory cont.cancelled) idle (points_of found.points)
 
 -- what is found fits together: an image is valid, and its memory is there; what is built in has the UUID

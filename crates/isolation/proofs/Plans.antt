@@ -10,6 +10,7 @@ use Rattle.job_model.specs.declared.call_kind.CallKind.TheVariants as kind
 use Rattle.job_model.specs.declared.entry_point.EntryPoint.{EntryPoint}
 use Rattle.job_model.specs.declared.entry_point.EntryPoint.TheVariants as point
 use Rattle.job_model.specs.Job.{idle_job}
+use Rattle.job_model.specs.Owner.{owner_of}
 use Rattle.kernel_model.specs.Application.{Application, BuiltIn}
 use Rattle.kernel_model.specs.Application as application
 use Rattle.kernel_model.specs.Begin.{Begun, begins_on, closing_points, opens_kept, opens_made, opens_new, awaited_number}
@@ -161,7 +162,7 @@ module _ (session : ℕ) (c : NewCall) (named : Session × Instance) (copies : C
 
   job_params : (program : Option Program)
       → params_of (begun_job (record { program = program; memory = named.1.memory; seen = false })
-      (idle_job named.1.uuid named.0.login named.0.context named.1.objects copies.params) invoke_points) ≡ copies.params
+      (idle_job (owner_of named.1.uuid) named.0.login named.0.context named.1.objects copies.params) invoke_points) ≡ copies.params
   job_params None = refl
   job_params (Some (OfImage image)) = refl
   job_params (Some (OfRelation relation)) = refl

@@ -35,6 +35,7 @@ use Rattle.tee_storage.specs.Replies.{asks, failure_of, is_whole, unless_failed}
 use Rattle.tee_storage.specs.declared.handle.Handle.{Handle}
 use Rattle.tee_storage.specs.declared.object_file.TheConstants.{MAX_LENGTH}
 use Rattle.tee_storage.specs.declared.step.StorageStep.TheVariants as storage
+use Rattle.job_model.specs.Owner.{Owner}
 use Rattle.job_model.specs.Asking.{Ask, Asking, Bad, Gives, Needs, PendingRequest, ask, ask_unchanged, asks_time, asks_wait, comes_to, object_ask, range_of, told_time}
 use Rattle.job_model.specs.Fitting.{AsksFittingly, HasRange, RequestsFit}
 use Rattle.job_model.specs.Job.{Body, Job, Machine, Native, Nothing}
@@ -213,16 +214,16 @@ object_fits (Some (Ends (storage.Ask wanted payload) now)) fits = absurd (fits (
 object_fits (Some (Ends (storage.Done result value) now)) fits = tt
 object_fits (Some (Ends (storage.Panic code) now)) fits = tt
 
-comes_fit : (uuid : List ℕ) (cancelled : Bool) (asked : PendingRequest) (wanted : Request) → length asked.range ≡ (span_of wanted).1
-    → FitsCome (comes_to uuid cancelled asked wanted)
-comes_fit uuid cancelled asked request.Time e = time_fits asked asked.answers
-comes_fit uuid cancelled asked (request.Suspend ms) e = wait_fits asked ms cancelled asked.answers
-comes_fit uuid cancelled asked (request.Object call) e =
+comes_fit : (owner : Owner) (cancelled : Bool) (asked : PendingRequest) (wanted : Request) → length asked.range ≡ (span_of wanted).1
+    → FitsCome (comes_to owner cancelled asked wanted)
+comes_fit owner cancelled asked request.Time e = time_fits asked asked.answers
+comes_fit owner cancelled asked (request.Suspend ms) e = wait_fits asked ms cancelled asked.answers
+comes_fit owner cancelled asked (request.Object call) e =
     let now = now_at asked.range asked.objects in
-    let program = program_of call uuid now in
+    let program = program_of call owner.uuid now in
     object_fits (after (Some program) asked.answers) (later_fits (Some program) asked.answers (λ other is.
     let same : program ≡ other = cc in
-    subst IsFitting same (calls_fit call uuid now e)))
+    subst IsFitting same (calls_fit call owner.uuid now e)))
 
 -- ---- one advance
 
@@ -252,8 +253,8 @@ came_fits job image point machine asked (Some came) next e fits range =
 answers_fit : (job : Job) (image : Image) (point : EntryPoint) (machine : State) (asked : PendingRequest) (next : Advance)
     → advance_on_answers job image point machine asked ≡ Some next → HasRange (Some asked) → FitsAfter next
 answers_fit job image point machine asked next e range =
-    came_fits job image point machine asked (ask job.uuid (is_cancelled machine) asked) next e
-    (comes_fit job.uuid (is_cancelled machine) asked asked.request range) range
+    came_fits job image point machine asked (ask job.owner (is_cancelled machine) asked) next e
+    (comes_fit job.owner (is_cancelled machine) asked asked.request range) range
 
 next_fits : (job : Job) (image : Image) (point : EntryPoint) (machine : State) (points : List EntryPoint) → FitsAfter (on_to_next job image point machine points)
 next_fits job image point machine [] = tt

@@ -107,7 +107,7 @@ advanced_runs job next image point machine (Some (outcome.Returns r0 r1)) e =
 advanced_runs job next image point machine (Some (outcome.Panics code)) e = absurd cc
 advanced_runs job next image point machine (Some (outcome.Asks request)) e =
     let asked : PendingRequest = new_request job machine request in
-    served_runs job next image point (asking request machine) asked (ask job.uuid (is_cancelled (asking request machine)) asked) e
+    served_runs job next image point (asking request machine) asked (ask job.owner (is_cancelled (asking request machine)) asked) e
 
 -- a job that goes on has something to run
 advance_runs : (job next : Job) (body : Body) → advance_of job body ≡ Some (Goes next) → stop_at 0 next ≡ None

@@ -66,7 +66,7 @@ served_by job body image point machine asked (Some came) =
 pub served-with_body : (job : Job) (body : Body) (image : Image) (point : EntryPoint) (machine : State) (asked : PendingRequest)
     → advance_on_answers (with_body job body) image point machine asked ≡ advance_on_answers job image point machine asked
 served-with_body job body image point machine asked =
-    served_by job body image point machine asked (ask job.uuid (is_cancelled machine) asked)
+    served_by job body image point machine asked (ask job.owner (is_cancelled machine) asked)
 
 -- ---- grants with steps before them
 

@@ -93,7 +93,7 @@ came_flag job image point machine asked (Some came) next e flag =
 answers_flag : (job : Job) (image : Image) (point : EntryPoint) (machine : State) (asked : PendingRequest) (next : Advance)
     → advance_on_answers job image point machine asked ≡ Some next → machine.cancelled ≡ true → FlagAfter next
 answers_flag job image point machine asked next e flag =
-    came_flag job image point machine asked (ask job.uuid (is_cancelled machine) asked) next e flag
+    came_flag job image point machine asked (ask job.owner (is_cancelled machine) asked) next e flag
 
 next_flag : (job : Job) (image : Image) (point : EntryPoint) (machine : State) (points : List EntryPoint) → machine.cancelled ≡ true
     → FlagAfter (on_to_next job image point machine points)

@@ -21,6 +21,7 @@ use Rattle.tee_storage.specs.declared.step.StorageStep.TheVariants as storage
 use Rattle.tee_storage.specs.ObjectCalls.{program_of, serving, shown}
 use Rattle.tee_storage.specs.Program as program
 use Rattle.tee_storage.specs.Program.{Program, now_at, after, after_one}
+use Rattle.job_model.specs.Owner.{Owner}
 use Rattle.job_model.specs.Asking.{PendingRequest, Asking, Needs, Gives, Bad, Ask, ask, comes_to, object_ask, ask_unchanged, asks_time, asks_wait, told_time}
 use Rattle.job_model.specs.Job.{Body, Machine, Native, Nothing, Job, body_with_cancel_seen}
 use Rattle.job_model.specs.declared.entry_point.EntryPoint.{EntryPoint}
@@ -47,10 +48,10 @@ wait_either asked ms one other [] needed = tt
 wait_either asked ms one other (answer ∷ []) needed = absurd needed
 wait_either asked ms one other (answer ∷ another ∷ more) needed = absurd needed
 
-needed_either : (uuid : List ℕ) (asked : PendingRequest) (wanted : Request) (one other : Bool) → IsNeededBy (comes_to uuid one asked wanted) → IsNeededBy (comes_to uuid other asked wanted)
-needed_either uuid asked request.Time one other needed = needed
-needed_either uuid asked (request.Suspend ms) one other needed = wait_either asked ms one other asked.answers needed
-needed_either uuid asked (request.Object call) one other needed = needed
+needed_either : (owner : Owner) (asked : PendingRequest) (wanted : Request) (one other : Bool) → IsNeededBy (comes_to owner one asked wanted) → IsNeededBy (comes_to owner other asked wanted)
+needed_either owner asked request.Time one other needed = needed
+needed_either owner asked (request.Suspend ms) one other needed = wait_either asked ms one other asked.answers needed
+needed_either owner asked (request.Object call) one other needed = needed
 
 -- ---- one answer more
 
@@ -112,38 +113,38 @@ call_on call uuid range objects answers answer needed =
     let comes = object_on so_far answer (λ p is. left-calm call uuid (now_at range objects) answers p is) needed in
     subst (λ (o : Option Program). ComesOn (option_map object_ask (option_map shown o))) (sym (after-append first answers answer)) comes
 
-answer_on : (uuid : List ℕ) (cancelled : Bool) (asked : PendingRequest) (answer : RpcAnswer) (wanted : Request)
-    → IsNeededBy (comes_to uuid cancelled asked wanted) → ComesOn (comes_to uuid cancelled (record asked { answers = asked.answers ++ answer ∷ [] }) wanted)
-answer_on uuid cancelled asked answer request.Time needed = time_on asked asked.answers answer needed
-answer_on uuid cancelled asked answer (request.Suspend ms) needed = wait_on asked ms cancelled asked.answers answer needed
-answer_on uuid cancelled asked answer (request.Object call) needed = call_on call uuid asked.range asked.objects asked.answers answer needed
+answer_on : (owner : Owner) (cancelled : Bool) (asked : PendingRequest) (answer : RpcAnswer) (wanted : Request)
+    → IsNeededBy (comes_to owner cancelled asked wanted) → ComesOn (comes_to owner cancelled (record asked { answers = asked.answers ++ answer ∷ [] }) wanted)
+answer_on owner cancelled asked answer request.Time needed = time_on asked asked.answers answer needed
+answer_on owner cancelled asked answer (request.Suspend ms) needed = wait_on asked ms cancelled asked.answers answer needed
+answer_on owner cancelled asked answer (request.Object call) needed = call_on call owner.uuid asked.range asked.objects asked.answers answer needed
 
 -- ---- on from there
 
 on_taken : (job : Job) (image : Image) (point : EntryPoint) (machine : State) (asked : PendingRequest) (objects : NumberMap Handle) (next : Asking)
-    → IsNeededOrGiven next → (IsNeeded next → IsUnanswered job.uuid (Some asked)) → IsTaken (Some (on_from job image point machine asked objects next))
+    → IsNeededOrGiven next → (IsNeeded next → IsUnanswered job.owner (Some asked)) → IsTaken (Some (on_from job image point machine asked objects next))
 on_taken job image point machine asked objects (Needs wanted payload) comes unanswered = record { machine = tt; asked = unanswered tt }
 on_taken job image point machine asked objects (Gives r0 r1 r2) comes unanswered = tt
 on_taken job image point machine asked objects (Bad code) comes unanswered = absurd comes
 
 -- a request that is needed now is needed whether the call is cancelled or not
-still_needed : (uuid : List ℕ) (asked : PendingRequest) (cancelled : Bool) (came : Ask) → ask uuid cancelled asked ≡ Some came → IsNeeded came.next → IsUnanswered uuid (Some asked)
-still_needed uuid asked cancelled came e needed other =
-    needed_either uuid asked asked.request cancelled other (subst IsNeededBy (sym e) needed)
+still_needed : (owner : Owner) (asked : PendingRequest) (cancelled : Bool) (came : Ask) → ask owner cancelled asked ≡ Some came → IsNeeded came.next → IsUnanswered owner (Some asked)
+still_needed owner asked cancelled came e needed other =
+    needed_either owner asked asked.request cancelled other (subst IsNeededBy (sym e) needed)
 
-served_taken : (job : Job) (image : Image) (point : EntryPoint) (machine : State) (asked : PendingRequest) (o : Option Ask) → ask job.uuid (is_cancelled machine) asked ≡ o → ComesOn o
+served_taken : (job : Job) (image : Image) (point : EntryPoint) (machine : State) (asked : PendingRequest) (o : Option Ask) → ask job.owner (is_cancelled machine) asked ≡ o → ComesOn o
     → IsTaken (option_map (λ (c : Ask). on_from job image point (with_bytes machine asked.request c.range) asked c.objects c.next) o)
 served_taken job image point machine asked None e comes = absurd comes
 served_taken job image point machine asked (Some came) e comes =
     on_taken job image point (with_bytes machine asked.request came.range) asked came.objects came.next comes
-    (still_needed job.uuid asked (is_cancelled machine) came e)
+    (still_needed job.owner asked (is_cancelled machine) came e)
 
-takes_in : (job : Job) (answer : RpcAnswer) (body : Body) (asked : Option PendingRequest) → HasMachine body → IsUnanswered job.uuid asked → IsTaken (advance_on_answer_in job answer body asked)
+takes_in : (job : Job) (answer : RpcAnswer) (body : Body) (asked : Option PendingRequest) → HasMachine body → IsUnanswered job.owner asked → IsTaken (advance_on_answer_in job answer body asked)
 takes_in job answer (Machine image point machine) None running unanswered = absurd unanswered
 takes_in job answer (Machine image point machine) (Some asked) running unanswered =
     let more : PendingRequest = record asked { answers = asked.answers ++ answer ∷ [] } in
-    served_taken job image point machine more (ask job.uuid (is_cancelled machine) more) refl
-    (answer_on job.uuid (is_cancelled machine) asked answer asked.request (unanswered (is_cancelled machine)))
+    served_taken job image point machine more (ask job.owner (is_cancelled machine) more) refl
+    (answer_on job.owner (is_cancelled machine) asked answer asked.request (unanswered (is_cancelled machine)))
 takes_in job answer (Native relation func) asked running unanswered = absurd running
 takes_in job answer Nothing asked running unanswered = absurd running
 
@@ -153,7 +154,7 @@ takes_answer job answer waits = takes_in job answer job.body job.asked waits.mac
 -- ---- a stop with a request
 
 asks_waits : (job left : Job) (image : Image) (point : EntryPoint) (machine : State) (asked : PendingRequest) (objects : NumberMap Handle) (wanted : Rpc) (payload : List ℕ) (next : Asking)
-    → (IsNeeded next → IsUnanswered job.uuid (Some asked)) → on_from job image point machine asked objects next ≡ Stops (Asks wanted payload left) → WaitsForAnswer left
+    → (IsNeeded next → IsUnanswered job.owner (Some asked)) → on_from job image point machine asked objects next ≡ Stops (Asks wanted payload left) → WaitsForAnswer left
 asks_waits job left image point machine asked objects wanted payload (Needs other bytes) unanswered e =
     let mid : Job = with_machine job image point machine objects (Some asked) in
     let same : mid ≡ left = cc in
@@ -162,13 +163,13 @@ asks_waits job left image point machine asked objects wanted payload (Gives r0 r
 asks_waits job left image point machine asked objects wanted payload (Bad code) unanswered e = absurd cc
 
 served_waits : (job left : Job) (image : Image) (point : EntryPoint) (machine : State) (asked : PendingRequest) (wanted : Rpc) (payload : List ℕ) (o : Option Ask)
-    → ask job.uuid (is_cancelled machine) asked ≡ o
+    → ask job.owner (is_cancelled machine) asked ≡ o
     → option_map (λ (c : Ask). on_from job image point (with_bytes machine asked.request c.range) asked c.objects c.next) o ≡ Some (Stops (Asks wanted payload left))
     → WaitsForAnswer left
 served_waits job left image point machine asked wanted payload None e stops = absurd cc
 served_waits job left image point machine asked wanted payload (Some came) e stops =
     asks_waits job left image point (with_bytes machine asked.request came.range) asked came.objects wanted payload came.next
-    (still_needed job.uuid asked (is_cancelled machine) came e) cc
+    (still_needed job.owner asked (is_cancelled machine) came e) cc
 
 followed_apart : (job left : Job) (image : Image) (point : EntryPoint) (machine : State) (points : List EntryPoint) (wanted : Rpc) (payload : List ℕ)
     → on_to_next job image point machine points ≡ Stops (Asks wanted payload left) → ⊥
@@ -184,7 +185,7 @@ outcome_waits job left image point machine wanted payload (Some (outcome.Returns
 outcome_waits job left image point machine wanted payload (Some (outcome.Panics code)) e = absurd cc
 outcome_waits job left image point machine wanted payload (Some (outcome.Asks asks)) e =
     let asked : PendingRequest = new_request job machine asks in
-    served_waits job left image point (asking asks machine) asked wanted payload (ask job.uuid (is_cancelled (asking asks machine)) asked) refl e
+    served_waits job left image point (asking asks machine) asked wanted payload (ask job.owner (is_cancelled (asking asks machine)) asked) refl e
 
 advance_waits : (job left : Job) (body : Body) (wanted : Rpc) (payload : List ℕ) → advance_of job body ≡ Some (Stops (Asks wanted payload left)) → WaitsForAnswer left
 advance_waits job left (Machine image point machine) wanted payload e = outcome_waits job left image point machine wanted payload (step image.code machine) e

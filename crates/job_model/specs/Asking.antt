@@ -17,6 +17,7 @@ use Rattle.tee_storage.specs.declared.handle.Handle.{Handle}
 use Rattle.tee_storage.specs.declared.step.StorageStep.{StorageStep}
 use Rattle.tee_storage.specs.declared.step.StorageStep.TheVariants as storage
 use Rattle.tee_storage.specs.ObjectCalls.{Serving, serving}
+use Rattle.job_model.specs.Owner.{Owner}
 
 -- a request on its way: the bytes of memory that it names and the open objects, as they were when the application
 -- asked, and the answers that the normal world has given since
@@ -93,12 +94,12 @@ ask_unchanged asked next = record { next = next; range = asked.range; objects = 
 
 -- what a request of this application comes to, where the call is cancelled or not by the time of the last answer;
 -- none where there are answers behind the last one that it asks for
-abbrev pub comes_to : List ℕ → Bool → PendingRequest → Request → Option Ask
-comes_to uuid cancelled asked request.Time = option_map (ask_unchanged asked) (asks_time asked.answers)
-comes_to uuid cancelled asked (request.Suspend ms) =
+abbrev pub comes_to : Owner → Bool → PendingRequest → Request → Option Ask
+comes_to owner cancelled asked request.Time = option_map (ask_unchanged asked) (asks_time asked.answers)
+comes_to owner cancelled asked (request.Suspend ms) =
     option_map (ask_unchanged asked) (asks_wait ms cancelled asked.answers)
-comes_to uuid cancelled asked (request.Object call) =
-    option_map object_ask (serving call uuid asked.range asked.objects asked.answers)
+comes_to owner cancelled asked (request.Object call) =
+    option_map object_ask (serving call owner.uuid asked.range asked.objects asked.answers)
 
-abbrev pub ask : List ℕ → Bool → PendingRequest → Option Ask
-ask uuid cancelled asked = comes_to uuid cancelled asked asked.request
+abbrev pub ask : Owner → Bool → PendingRequest → Option Ask
+ask owner cancelled asked = comes_to owner cancelled asked asked.request

@@ -11,6 +11,7 @@ use Rattle.ta_step.specs.Runs.{Ran, runs}
 use Rattle.ta_step.specs.State.{State}
 use Rattle.ta_step.specs.Examples.{instr, sum_code, params_of, somebody}
 use Rattle.tee_storage.specs.declared.handle.Handle.{Handle}
+use Rattle.job_model.specs.Owner.{Owner, owner_of}
 use Rattle.job_model.specs.declared.entry_point.EntryPoint.{EntryPoint}
 use Rattle.job_model.specs.declared.entry_point.EntryPoint.TheVariants.{Create, Open, Invoke, Close, Destroy}
 use Rattle.job_model.specs.Point.{no_params}
@@ -27,8 +28,8 @@ use Rattle.job_model.specs.Asking.{Gives, asks_time}
 use Rattle.job_model.specs.Steps.{JobStop, Ends, Panics, Asks, Advance, Goes, Stops, Grant, Left, Stopped, after}
 use Rattle.job_model.specs.Steps.{stop_at, grant_of, advance_on_answer, after_run, grant_after}
 
-abbrev pub uuid : List ℕ
-uuid = 1 ∷ 2 ∷ 3 ∷ []
+abbrev pub owner : Owner
+owner = owner_of (1 ∷ 2 ∷ 3 ∷ [])
 
 -- 5 and 7 in a value that goes both ways, and their sum, beside which the adder leaves its r2: the context
 abbrev pub terms : CopiedParams
@@ -73,21 +74,21 @@ abbrev pub one_object : NumberMap Handle
 one_object = (3, record { name = 0x31 ∷ []; fd = 70; length = 10; position = 3 }) ∷ []
 
 abbrev pub nothing_to_run : Job
-nothing_to_run = idle_job uuid somebody 20 one_object no_params
+nothing_to_run = idle_job owner somebody 20 one_object no_params
 
 -- an invoke of the function 0
 abbrev pub invokes : Job
-invokes = image_job_at adder memory false (idle_job uuid somebody 20 one_object terms) (Invoke 0) []
+invokes = image_job_at adder memory false (idle_job owner somebody 20 one_object terms) (Invoke 0) []
 
 -- an open that makes its instance, and a close that takes it apart, or doesn't
 abbrev pub opens : Image → Job
-opens image = image_job_at image memory true (idle_job uuid somebody 0 one_object terms) Create (Open ∷ Destroy ∷ [])
+opens image = image_job_at image memory true (idle_job owner somebody 0 one_object terms) Create (Open ∷ Destroy ∷ [])
 
 abbrev pub closes : Image → Job
-closes image = image_job_at image memory false (idle_job uuid somebody 20 one_object no_params) Close (Destroy ∷ [])
+closes image = image_job_at image memory false (idle_job owner somebody 20 one_object no_params) Close (Destroy ∷ [])
 
 abbrev pub closes_alone : Image → Job
-closes_alone image = image_job_at image memory false (idle_job uuid somebody 20 one_object no_params) Close []
+closes_alone image = image_job_at image memory false (idle_job owner somebody 20 one_object no_params) Close []
 
 -- what begins on an instance of this program, or on a dead one
 abbrev pub on : Option Program → Beginning
@@ -116,12 +117,12 @@ waits = record {
 
 -- an invoke of the function 250 of such an application, whose cancellation was seen or not
 abbrev pub invokes_of : Bool → Image → Job
-invokes_of was_seen image = image_job_at image memory was_seen (idle_job uuid somebody 20 [] no_params) (Invoke 250) []
+invokes_of was_seen image = image_job_at image memory was_seen (idle_job owner somebody 20 [] no_params) (Invoke 250) []
 
 -- an invoke of a function with this context, of an instance that has an object open
 abbrev pub invokes_with : ℕ → ℕ → Image → Job
 invokes_with func context image =
-    image_job_at image memory false (idle_job uuid somebody context one_object no_params) (Invoke func) []
+    image_job_at image memory false (idle_job owner somebody context one_object no_params) (Invoke func) []
 
 -- the same object, at another position
 abbrev pub object_at : ℕ → NumberMap Handle
@@ -141,7 +142,7 @@ ends_as code context bytes objects =
 
 -- an entry point of a native application that answers each invoke so
 abbrev pub native : ℕ → EntryPoint → List EntryPoint → Job
-native result point behind = native_job_at (Fixed result) (idle_job uuid somebody 20 [] terms) point behind
+native result point behind = native_job_at (Fixed result) (idle_job owner somebody 20 [] terms) point behind
 
 -- what a grant asks for, after how many steps
 abbrev pub wanted_in : JobStop → Option (Rpc × List ℕ)
@@ -209,9 +210,9 @@ piece bytes = record { ret = 0; v = 0; w = 0; size = length bytes; bytes = bytes
 abbrev pub time_reply : ℕ → ℕ → ℕ → RpcReply
 time_reply ret v w = record { ret = ret; v = v; w = w; size = 0; bytes = [] }
 
--- the UUID of a job, and the parameters that are with it
-abbrev pub still : Option Job → Option (List ℕ × CopiedParams)
-still job = option_map (λ j. (j.uuid, j.params)) job
+-- whose application a job is, and the parameters that are with it
+abbrev pub still : Option Job → Option (Owner × CopiedParams)
+still job = option_map (λ j. (j.owner, j.params)) job
 
 -- the machine that runs
 abbrev pub machine_in : Body → Option State
@@ -237,11 +238,11 @@ pub record Examples : Type 0 where
   -- an invoke begins with function, type word and context, masked, and with the flag as the call has seen it
   pub begins : machine_in invokes.body ≡ Some (starts_with (0 ∷ 3 ∷ 20 ∷ []) 1 false)
   -- a call begins at the first of its entry points, on a dead instance with nothing to run
-  pub begins_an_invoke : begun_job (on (Some (OfImage adder))) (idle_job uuid somebody 20 one_object terms)
+  pub begins_an_invoke : begun_job (on (Some (OfImage adder))) (idle_job owner somebody 20 one_object terms)
       (Invoke 0 ∷ []) ≡ invokes
-  pub begins_a_close : begun_job (on (Some (OfImage adder))) (idle_job uuid somebody 20 one_object no_params)
+  pub begins_a_close : begun_job (on (Some (OfImage adder))) (idle_job owner somebody 20 one_object no_params)
       (Close ∷ Destroy ∷ []) ≡ closes adder
-  pub begins_natively : begun_job (on (Some (OfRelation (Fixed 9)))) (idle_job uuid somebody 20 [] terms)
+  pub begins_natively : begun_job (on (Some (OfRelation (Fixed 9)))) (idle_job owner somebody 20 [] terms)
       (Invoke 5 ∷ []) ≡ native 9 (Invoke 5) []
   pub begins_on_the_dead : begun_job (on None) nothing_to_run (Close ∷ Destroy ∷ []) ≡ nothing_to_run
   -- the invoke of the adder is stopped by its sixth step, and by no other
@@ -257,7 +258,7 @@ pub record Examples : Type 0 where
   pub not_at_five : stop_at 5 invokes ≡ None
   pub not_at_seven : stop_at 7 invokes ≡ None
   -- its parameters are with its machine meanwhile, and the job has none
-  pub left_at_five : still (after 5 invokes) ≡ Some (uuid, no_params)
+  pub left_at_five : still (after 5 invokes) ≡ Some (owner, no_params)
   pub none_left_at_six : after 6 invokes ≡ None
   pub granted_many : grant_of 1000 invokes
       ≡ Some (Stopped 6
@@ -272,15 +273,15 @@ pub record Examples : Type 0 where
   pub granted_none : grant_of 0 invokes ≡ Some (Left invokes)
   -- a create that returns at the last granted step leaves the open to come, masked, with the flag as seen
   pub open_to_come : grant_of 3 (opens (returns 0 0 0 0))
-      ≡ Some (Left (image_job_at (returns 0 0 0 0) memory true (idle_job uuid somebody 0 one_object terms) Open
+      ≡ Some (Left (image_job_at (returns 0 0 0 0) memory true (idle_job owner somebody 0 one_object terms) Open
       (Destroy ∷ [])))
   pub open_begins : option_and_then (λ job. machine_in job.body) (after 3 (opens (returns 0 0 0 0)))
       ≡ Some (starts_with (3 ∷ 0 ∷ 0 ∷ []) 3 true)
   -- the parameters are with the job while create runs, with the machine while open does, and with the job again as
   -- destroy begins
-  pub beside_create : still (after 2 (opens (returns 0 7 0 8))) ≡ Some (uuid, terms)
-  pub beside_open : still (after 3 (opens (returns 0 7 0 8))) ≡ Some (uuid, no_params)
-  pub beside_destroy : still (after 6 (opens (returns 0 7 0 8))) ≡ Some (uuid, terms)
+  pub beside_create : still (after 2 (opens (returns 0 7 0 8))) ≡ Some (owner, terms)
+  pub beside_open : still (after 3 (opens (returns 0 7 0 8))) ≡ Some (owner, no_params)
+  pub beside_destroy : still (after 6 (opens (returns 0 7 0 8))) ≡ Some (owner, terms)
   -- an open that succeeds gives its context, and destroy doesn't come
   pub opened : stop_at 6 (opens (returns 0 0 0 0))
       ≡ Some (Ends (record {
@@ -303,7 +304,7 @@ pub record Examples : Type 0 where
         is_last = false;
       })))
   pub create_alone : machine_granted 3 (opens (returns 0 0 0 0))
-      ≡ Some (Left (image_job_at (returns 0 0 0 0) memory true (idle_job uuid somebody 0 one_object terms) Open
+      ≡ Some (Left (image_job_at (returns 0 0 0 0) memory true (idle_job owner somebody 0 one_object terms) Open
       (Destroy ∷ [])))
   -- a create that fails, with the parameters as they were copied
   pub create_fails : stop_at 3 (opens (returns 7 0 0 0))

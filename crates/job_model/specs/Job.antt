@@ -8,6 +8,7 @@ use Rattle.ta_params.specs.declared.copied_params.CopiedParams.{CopiedParams}
 use Rattle.ta_params.specs.declared.login.Login.{Login}
 use Rattle.tee_storage.specs.declared.handle.Handle.{Handle}
 use Rattle.ta_step.specs.State.{State, started}
+use Rattle.job_model.specs.Owner.{Owner}
 use Rattle.job_model.specs.Asking.{PendingRequest}
 use Rattle.job_model.specs.declared.entry_point.EntryPoint.{EntryPoint}
 use Rattle.job_model.specs.declared.entry_point.EntryPoint.TheVariants.{Create, Open, Invoke, Close, Destroy}
@@ -23,8 +24,8 @@ pub data Body : Type 0 where
 -- a job
 pub record Job : Type 0 where
   pub body : Body
-  -- the application's UUID
-  pub uuid : List ℕ
+  -- whose application it is
+  pub owner : Owner
   -- who opened the session
   pub login : Login
   -- the word that the application keeps with the session
@@ -49,11 +50,11 @@ abbrev pub of_application : ℕ → CallResult
 of_application code = record { result = code; origin = 4 }
 
 -- a job that has nothing to run: TEE_SUCCESS
-abbrev pub idle_job : List ℕ → Login → ℕ → NumberMap Handle → CopiedParams → Job
-idle_job uuid login context objects params =
+abbrev pub idle_job : Owner → Login → ℕ → NumberMap Handle → CopiedParams → Job
+idle_job owner login context objects params =
     record {
       body = Nothing;
-      uuid = uuid;
+      owner = owner;
       login = login;
       context = context;
       objects = objects;

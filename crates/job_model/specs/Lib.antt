@@ -1,4 +1,5 @@
 pub mod Point
+pub mod Owner
 pub mod Asking
 pub mod Job
 pub mod Beginning

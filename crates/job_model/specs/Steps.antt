@@ -118,7 +118,7 @@ abbrev pub advance_on_answers : Job → Image → EntryPoint → State → Pendi
 advance_on_answers job image point machine asked =
     let on = λ (came : Ask).
     on_from job image point (with_bytes machine asked.request came.range) asked came.objects came.next in
-    option_map on (ask job.uuid (is_cancelled machine) asked)
+    option_map on (ask job.owner (is_cancelled machine) asked)
 
 -- a request as the machine makes it
 abbrev pub new_request : Job → State → Request → PendingRequest

@@ -2,6 +2,7 @@
 use Rattle.std.specs.Prelude.{ℕ, Bool, List, Option, Some, None}
 use Rattle.rpc_msgs.specs.Answer.{RpcAnswer}
 use Rattle.rpc_msgs.specs.declared.rpc.Rpc.{Rpc}
+use Rattle.job_model.specs.Owner.{Owner}
 use Rattle.job_model.specs.Asking.{PendingRequest, Asking, Needs, Gives, Bad, Ask, ask}
 use Rattle.job_model.specs.Job.{Body, Machine, Native, Nothing, Job, with_cancel_seen}
 use Rattle.job_model.specs.Steps.{Ends, Panics, Asks, Advance, Goes, Stops, Stop, advance_on_answer}
@@ -17,9 +18,9 @@ abbrev pub IsNeededBy : Option Ask → Type 0
 IsNeededBy None = ⊥
 IsNeededBy (Some came) = IsNeeded came.next
 
-abbrev pub IsUnanswered : List ℕ → Option PendingRequest → Type 0
-IsUnanswered uuid None = ⊥
-IsUnanswered uuid (Some asked) = (cancelled : Bool) → IsNeededBy (ask uuid cancelled asked)
+abbrev pub IsUnanswered : Owner → Option PendingRequest → Type 0
+IsUnanswered owner None = ⊥
+IsUnanswered owner (Some asked) = (cancelled : Bool) → IsNeededBy (ask owner cancelled asked)
 
 -- a machine runs
 abbrev pub HasMachine : Body → Type 0
@@ -30,7 +31,7 @@ HasMachine Nothing = ⊥
 -- the job waits for the answer to a request
 pub record WaitsForAnswer (job : Job) : Type 0 where
   pub machine : HasMachine job.body
-  pub asked : IsUnanswered job.uuid job.asked
+  pub asked : IsUnanswered job.owner job.asked
 
 -- the job goes on, or asks for something else
 abbrev pub IsTaken : Option Advance → Type 0

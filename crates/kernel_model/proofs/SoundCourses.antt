@@ -93,7 +93,7 @@ module _ (So : OfPlace) (Ended : End → Type 0) (on : Continues So Ended) where
   outcome_so job image point machine (outcome.Panics code) next so e = same_advance (Stops (steps.Panics code)) next e tt
   outcome_so job image point machine (outcome.Asks wanted) next so e =
       answers_so job image point (asking wanted machine) (new_request job machine wanted)
-      (ask job.uuid (is_cancelled (asking wanted machine)) (new_request job machine wanted)) next so e
+      (ask job.owner (is_cancelled (asking wanted machine)) (new_request job machine wanted)) next so e
 
   body_so : (job : Job) (body : Body) (next : Advance) → So (job_place body) job.points job.result → advance_of job body ≡ Some next
       → HoldsAfter So Ended next
@@ -140,7 +140,7 @@ module _ (So : OfPlace) (Ended : End → Type 0) (on : Continues So Ended) where
       → So (job_place body) job.points job.result → advance_on_answer_in job answer body asked ≡ Some next → HoldsAfter So Ended next
   answer_in job answer (Machine image point machine) (Some asked) next so e =
       let more : PendingRequest = record asked { answers = asked.answers ++ answer ∷ [] } in
-      answers_so job image point machine more (ask job.uuid (is_cancelled machine) more) next so e
+      answers_so job image point machine more (ask job.owner (is_cancelled machine) more) next so e
   answer_in job answer (Machine image point machine) None next so e = absurd cc
   answer_in job answer (Native relation func) asked next so e = absurd cc
   answer_in job answer Nothing asked next so e = absurd cc

@@ -13,6 +13,7 @@ use Rattle.job_model.specs.Steps.{Advance, End, Goes, Grant, JobStop, Left, Stop
 use Rattle.job_model.specs.Steps as steps
 use Rattle.job_model.specs.declared.entry_point.EntryPoint.{EntryPoint}
 use Rattle.job_model.specs.declared.entry_point.EntryPoint.TheVariants.{Create, Open, Invoke, Close, Destroy}
+use Rattle.job_model.specs.Owner.{Owner}
 use Rattle.rpc_msgs.specs.Answer.{RpcAnswer}
 use Rattle.native_tas.specs.Relation.{answer_of}
 use Rattle.ta_isa.specs.Spelling.{IsValid}
@@ -208,7 +209,7 @@ outcome_onward job image point machine (outcome.Panics code) next is e =
     subst (IsAdvanceOf (Machine image point machine) job.points) same tt
 outcome_onward job image point machine (outcome.Asks wanted) next is e =
     answers_onward job image point machine (asking wanted machine) (new_request job machine wanted)
-    (ask job.uuid (is_cancelled (asking wanted machine)) (new_request job machine wanted)) next refl e
+    (ask job.owner (is_cancelled (asking wanted machine)) (new_request job machine wanted)) next refl e
 
 body_onward : (job : Job) (body : Body) (next : Advance) → advance_of job body ≡ Some next → IsAdvanceOf body job.points next
 body_onward job (Machine image point machine) next e =
@@ -269,7 +270,7 @@ answer_in : (job : Job) (answer : RpcAnswer) (body : Body) (asked : Option Pendi
     → advance_on_answer_in job answer body asked ≡ Some next → IsAdvanceOf body job.points next
 answer_in job answer (Machine image point machine) (Some asked) next e =
     let more : PendingRequest = record asked { answers = asked.answers ++ answer ∷ [] } in
-    answers_onward job image point machine machine more (ask job.uuid (is_cancelled machine) more) next refl e
+    answers_onward job image point machine machine more (ask job.owner (is_cancelled machine) more) next refl e
 answer_in job answer (Machine image point machine) None next e = absurd cc
 answer_in job answer (Native relation func) asked next e = absurd cc
 answer_in job answer Nothing asked next e = absurd cc
@@ -318,10 +319,10 @@ still_some (Native relation func) (Native other f) one some = tt
 still_some (Native relation func) Nothing one some = absurd one
 still_some Nothing second one some = absurd some
 
-asks_some : (uuid : List ℕ) (cancelled : Bool) (asked : PendingRequest) (wanted : Request) → asked.answers ≡ [] → IsSome (comes_to uuid cancelled asked wanted)
-asks_some uuid cancelled asked wanted none = subst (λ (given : List RpcAnswer). IsSome (comes_to uuid cancelled (record asked { answers = given }) wanted)) (sym none) (fresh wanted)
+asks_some : (owner : Owner) (cancelled : Bool) (asked : PendingRequest) (wanted : Request) → asked.answers ≡ [] → IsSome (comes_to owner cancelled asked wanted)
+asks_some owner cancelled asked wanted none = subst (λ (given : List RpcAnswer). IsSome (comes_to owner cancelled (record asked { answers = given }) wanted)) (sym none) (fresh wanted)
   where
-    fresh : (any : Request) → IsSome (comes_to uuid cancelled (record asked { answers = [] }) any)
+    fresh : (any : Request) → IsSome (comes_to owner cancelled (record asked { answers = [] }) any)
     fresh request.Time = refl
     fresh (request.Suspend ms) = refl
     fresh (request.Object call) = refl
@@ -335,7 +336,7 @@ outcome_some job image point machine (outcome.Goes next) = refl
 outcome_some job image point machine (outcome.Returns r0 r1) = refl
 outcome_some job image point machine (outcome.Panics code) = refl
 outcome_some job image point machine (outcome.Asks wanted) =
-    mapped_some _ _ (asks_some job.uuid (is_cancelled (asking wanted machine)) (new_request job machine wanted) wanted refl)
+    mapped_some _ _ (asks_some job.owner (is_cancelled (asking wanted machine)) (new_request job machine wanted) wanted refl)
 
 then_some : {A B : Type 0} (f : A → Option B) (o : Option A) → IsSome o → ((a : A) → o ≡ Some a → IsSome (f a)) → IsSome (option_and_then f o)
 then_some f None some onward = absurd cc

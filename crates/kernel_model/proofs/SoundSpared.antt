@@ -10,6 +10,7 @@ use Rattle.job_model.specs.Job.{Job, idle_job, of_application}
 use Rattle.job_model.specs.Steps.{End, has_destroy, job_after_return, on_to_next, still_to_come}
 use Rattle.job_model.specs.declared.entry_point.EntryPoint.{EntryPoint}
 use Rattle.job_model.specs.declared.entry_point.EntryPoint.TheVariants.{Create, Open, Invoke, Close, Destroy}
+use Rattle.job_model.specs.Owner.{Owner, owner_of}
 use Rattle.session_table.specs.declared.session.Session.{Session}
 use Rattle.ta_isa.specs.declared.image.Image.{Image}
 use Rattle.ta_params.specs.declared.call_result.CallResult.{CallResult}
@@ -148,26 +149,26 @@ abbrev BeginsSpared : Type 0 → Bool → Option Program → List ℕ → Bool �
 BeginsSpared Allowed opening found memory seen idle points =
     HoldsOf (Spared Allowed opening) (begun_job (record { program = found; memory = memory; seen = seen }) idle points)
 
-module _ (Allowed : Type 0) (memory uuid : List ℕ) (seen : Bool) (login : Login) (context : ℕ) (objects : NumberMap Handle) (params : CopiedParams) where
+module _ (Allowed : Type 0) (memory : List ℕ) (owner : Owner) (seen : Bool) (login : Login) (context : ℕ) (objects : NumberMap Handle) (params : CopiedParams) where
   kept_spared : (app : Application) (behind : List EntryPoint) → MayDestroy Allowed behind
-      → BeginsSpared Allowed true (Some (program_of app)) memory seen (idle_job uuid login context objects params) (Open ∷ behind)
+      → BeginsSpared Allowed true (Some (program_of app)) memory seen (idle_job owner login context objects params) (Open ∷ behind)
   kept_spared (OfImage app) behind may = may
   kept_spared (BuiltIn its relation) behind may = λ destroys. no_destroy destroys
 
   made_spared : (app : Application) (behind : List EntryPoint) → Allowed → MayDestroy Allowed behind
-      → BeginsSpared Allowed true (Some (program_of app)) memory seen (idle_job uuid login context objects params) (Create ∷ Open ∷ behind)
+      → BeginsSpared Allowed true (Some (program_of app)) memory seen (idle_job owner login context objects params) (Create ∷ Open ∷ behind)
   made_spared (OfImage app) behind allowed (inl none) = (allowed, inl (ap (λ (points : List EntryPoint). Open ∷ points) none))
   made_spared (OfImage app) behind allowed (inr may) = (allowed, inr (ap (λ (points : List EntryPoint). Open ∷ points) may.1))
   made_spared (BuiltIn its relation) behind allowed may = λ destroys. no_destroy destroys
 
   invoke_spared : (opening : Bool) (found : Option Program) (func : ℕ)
-      → BeginsSpared Allowed opening found memory seen (idle_job uuid login context objects params) (Invoke func ∷ [])
+      → BeginsSpared Allowed opening found memory seen (idle_job owner login context objects params) (Invoke func ∷ [])
   invoke_spared opening None func = λ destroys. no_destroy destroys
   invoke_spared opening (Some (program.OfImage image)) func = refl
   invoke_spared opening (Some (program.OfRelation relation)) func = tt
 
   close_spared : (found : Option Program) (behind : List EntryPoint) → MayDestroy Allowed behind
-      → BeginsSpared Allowed false found memory seen (idle_job uuid login context objects params) (Close ∷ behind)
+      → BeginsSpared Allowed false found memory seen (idle_job owner login context objects params) (Close ∷ behind)
   close_spared None behind may = λ destroys. no_destroy destroys
   close_spared (Some (program.OfImage image)) behind may = (refl, may)
   close_spared (Some (program.OfRelation relation)) behind (inl none) = λ destroys. no_destroy (sym (ap has_destroy none) ∙ destroys)
@@ -177,22 +178,22 @@ module _ (Allowed : Type 0) (who : Beginner) where
   pub opens_kept_spared : (brought : Opener) (kept : ℕ × Instance) → (has_opened who.tables.sessions kept.0 ≡ false → Allowed)
       → HoldsOf (Spared Allowed true) (opens_kept who brought kept).job
   opens_kept_spared brought kept allows =
-      kept_spared Allowed kept.1.memory (uuid_of brought.app) who.seen brought.login 0 kept.1.objects brought.params brought.app _
+      kept_spared Allowed kept.1.memory (owner_of (uuid_of brought.app)) who.seen brought.login 0 kept.1.objects brought.params brought.app _
       (destroy_may Allowed brought.app who.tables.sessions kept.0 allows)
 
   pub opens_new_spared : (brought : Opener) (number next : ℕ) → Allowed → HoldsOf (Spared Allowed true) (opens_new who brought number next).job
   opens_new_spared brought number next allowed =
-      made_spared Allowed (fresh_memory (pages_in brought.app)) (uuid_of brought.app) who.seen brought.login 0 [] brought.params brought.app _ allowed
+      made_spared Allowed (fresh_memory (pages_in brought.app)) (owner_of (uuid_of brought.app)) who.seen brought.login 0 [] brought.params brought.app _ allowed
       (destroy_may Allowed brought.app who.tables.sessions number (λ none. allowed))
 
   pub invokes_spared : (opening : Bool) (session : Session) (instance : Instance) (params : CopiedParams) (func : ℕ)
       → HoldsOf (Spared Allowed opening) (begins_on who session instance params (Invoke func ∷ [])).job
   invokes_spared opening session instance params func =
-      invoke_spared Allowed instance.memory instance.uuid who.seen session.login session.context instance.objects params opening (program_on who.boot instance) func
+      invoke_spared Allowed instance.memory (owner_of instance.uuid) who.seen session.login session.context instance.objects params opening (program_on who.boot instance) func
 
   pub closes_spared : (number : ℕ) (session : Session) (instance : Instance) (params : CopiedParams)
       → (has_opened (remove who.tables.sessions number) session.instance ≡ false → Allowed)
       → HoldsOf (Spared Allowed false) (begins_on who session instance params (closing_points who number session instance)).job
   closes_spared number session instance params allows =
-      close_spared Allowed instance.memory instance.uuid who.seen session.login session.context instance.objects params (program_on who.boot instance) _
+      close_spared Allowed instance.memory (owner_of instance.uuid) who.seen session.login session.context instance.objects params (program_on who.boot instance) _
       (destroys_may Allowed who.boot instance.uuid (remove who.tables.sessions number) session.instance allows)

@@ -7,6 +7,7 @@ use Rattle.job_model.specs.Beginning.{begun_job}
 use Rattle.job_model.specs.declared.entry_point.EntryPoint.{EntryPoint}
 use Rattle.job_model.specs.declared.entry_point.EntryPoint.TheVariants.{Create, Open, Close}
 use Rattle.job_model.specs.Job.{Job, idle_job}
+use Rattle.job_model.specs.Owner.{owner_of}
 use Rattle.session_table.specs.declared.session.Session.{Session}
 use Rattle.session_table.specs.Waiters.{instance_with}
 use Rattle.ta_params.specs.declared.copied_params.CopiedParams.{CopiedParams}
@@ -52,7 +53,7 @@ pub record InstanceFound : Type 0 where
 -- the job of an open there; its destroy, if any, is for an open that fails
 abbrev pub opening_job : Beginner → Opener → InstanceFound → Job
 opening_job who opener found =
-    let idle = idle_job (uuid_of opener.app) opener.login 0 found.objects opener.params in
+    let idle = idle_job (owner_of (uuid_of opener.app)) opener.login 0 found.objects opener.params in
     begun_job (record { program = Some (program_of opener.app); memory = found.memory; seen = who.seen }) idle
     (found.points ++ destroy_after opener.app who.tables.sessions found.number)
 
@@ -102,7 +103,7 @@ has_pages_for boot tables app = nat_le (pages_in app) (free_pages boot tables.in
 -- the job of a call in an opened session on its instance, with these parameters and entry points
 abbrev pub session_job : Beginner → Session → Instance → CopiedParams → List EntryPoint → Job
 session_job who session instance params points =
-    let idle = idle_job instance.uuid session.login session.context instance.objects params in
+    let idle = idle_job (owner_of instance.uuid) session.login session.context instance.objects params in
     begun_job (record { program = program_on who.boot instance; memory = instance.memory; seen = who.seen }) idle points
 
 -- it begins there

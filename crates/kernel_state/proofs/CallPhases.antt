@@ -7,13 +7,14 @@ use Rattle.job_model.specs.Asking.{PendingRequest, bytes_at}
 use Rattle.job_model.specs.Job.{Job, with_cancel_seen}
 use Rattle.job_model.specs.Steps.{Advance, Goes, Stops}
 use Rattle.job_model.specs.Steps as steps
+use Rattle.job_model.specs.Owner.{Owner}
 use Rattle.kernel_model.specs.Kernel.{CallPhase, Runs, Asks, Waits, Ends}
 use Rattle.kernel_model.specs.Resume.{phase_after, phase_seen}
 use Rattle.kernel_state.specs.Calls.{IsInPhase, bytes_of}
 use Rattle.rpc_cont.specs.Advancing.{CanAdvance}
 use Rattle.rpc_cont.specs.Answering.{CanBeAnswered, IsAnswered}
 use Rattle.rpc_cont.specs.Beginning.{IsFresh}
-use Rattle.rpc_cont.specs.Conts.{job_of, uuid_of}
+use Rattle.rpc_cont.specs.Conts.{call_owner, job_of}
 use Rattle.rpc_cont.specs.Running.{Awaits, HasCome, IsWaiting}
 use Rattle.rpc_cont.specs.declared.cont.Asked.{Asked}
 use Rattle.rpc_cont.specs.declared.cont.Cont.{Cont}
@@ -36,38 +37,38 @@ pub record Label : Type 0 where
 abbrev pub labelled : Cont (List ℕ) → Label → Cont (List ℕ)
 labelled cont label = record cont { steps = label.steps; buffer = label.buffer }
 
-come_so : (uuid range : List ℕ) (asked : PendingRequest) (cont : Cont (List ℕ)) (label : Label)
+come_so : (owner : Owner) (range : List ℕ) (asked : PendingRequest) (cont : Cont (List ℕ)) (label : Label)
     (wanted : Request) (pending : Option Asked) (object : Option ObjectState) →
-    HasCome uuid range asked cont wanted pending object → HasCome uuid range asked (labelled cont label) wanted pending object
-come_so uuid range asked cont label request.Time None object come = absurd come
-come_so uuid range asked cont label request.Time (Some pending) None come = come
-come_so uuid range asked cont label request.Time (Some pending) (Some state) come = absurd come
-come_so uuid range asked cont label (request.Suspend ms) None object come = absurd come
-come_so uuid range asked cont label (request.Suspend ms) (Some pending) None come = come
-come_so uuid range asked cont label (request.Suspend ms) (Some pending) (Some state) come = absurd come
-come_so uuid range asked cont label (request.Object call) None object come = absurd come
-come_so uuid range asked cont label (request.Object call) (Some pending) None come = absurd come
-come_so uuid range asked cont label (request.Object call) (Some pending) (Some state) come = come
+    HasCome owner range asked cont wanted pending object → HasCome owner range asked (labelled cont label) wanted pending object
+come_so owner range asked cont label request.Time None object come = absurd come
+come_so owner range asked cont label request.Time (Some pending) None come = come
+come_so owner range asked cont label request.Time (Some pending) (Some state) come = absurd come
+come_so owner range asked cont label (request.Suspend ms) None object come = absurd come
+come_so owner range asked cont label (request.Suspend ms) (Some pending) None come = come
+come_so owner range asked cont label (request.Suspend ms) (Some pending) (Some state) come = absurd come
+come_so owner range asked cont label (request.Object call) None object come = absurd come
+come_so owner range asked cont label (request.Object call) (Some pending) None come = absurd come
+come_so owner range asked cont label (request.Object call) (Some pending) (Some state) come = come
 
-awaits_so : (uuid : List ℕ) (cont : Cont (List ℕ)) (label : Label) (asked : Option PendingRequest) (machine : Option (Machine (List ℕ))) →
-    IsSomeAnd asked (λ asked. IsSomeAnd machine (λ m. Awaits uuid cont asked (state_of bytes_of m))) →
-    IsSomeAnd asked (λ asked. IsSomeAnd machine (λ m. Awaits uuid (labelled cont label) asked (state_of bytes_of m)))
-awaits_so uuid cont label None machine is = absurd is
-awaits_so uuid cont label (Some asked) None is = absurd is
-awaits_so uuid cont label (Some asked) (Some m) is = record {
+awaits_so : (owner : Owner) (cont : Cont (List ℕ)) (label : Label) (asked : Option PendingRequest) (machine : Option (Machine (List ℕ))) →
+    IsSomeAnd asked (λ asked. IsSomeAnd machine (λ m. Awaits owner cont asked (state_of bytes_of m))) →
+    IsSomeAnd asked (λ asked. IsSomeAnd machine (λ m. Awaits owner (labelled cont label) asked (state_of bytes_of m)))
+awaits_so owner cont label None machine is = absurd is
+awaits_so owner cont label (Some asked) None is = absurd is
+awaits_so owner cont label (Some asked) (Some m) is = record {
   asks = is.asks;
   come =
       let span = span_of asked.request in
-      come_so uuid (bytes_at (state_of bytes_of m) span.0 span.1) asked cont label asked.request cont.request cont.object is.come;
+      come_so owner (bytes_at (state_of bytes_of m) span.0 span.1) asked cont label asked.request cont.request cont.object is.come;
 }
 
-waiting_so : (uuid : List ℕ) (cont : Cont (List ℕ)) (label : Label) (plain job : Job) →
-    IsWaiting bytes_of uuid cont plain job → IsWaiting bytes_of uuid (labelled cont label) plain job
-waiting_so uuid cont label plain job is = record {
+waiting_so : (owner : Owner) (cont : Cont (List ℕ)) (label : Label) (plain job : Job) →
+    IsWaiting bytes_of owner cont plain job → IsWaiting bytes_of owner (labelled cont label) plain job
+waiting_so owner cont label plain job is = record {
   memory = is.memory;
   point = is.point;
   same = is.same;
-  asked = awaits_so uuid cont label job.asked cont.machine is.asked;
+  asked = awaits_so owner cont label job.asked cont.machine is.asked;
 }
 
 advance_so : (cont : Cont (List ℕ)) (label : Label) → CanAdvance bytes_of cont → CanAdvance bytes_of (labelled cont label)
@@ -104,7 +105,7 @@ relabelled cont label (Ends result params told wakes) is =
 pub record SeesCancel (old new : Cont (List ℕ)) : Type 0 where
   pub job : job_of bytes_of new ≡ with_cancel_seen (job_of bytes_of old)
   pub runs : CanAdvance bytes_of old → CanAdvance bytes_of new
-  pub waits : (uuid : List ℕ) (job : Job) → IsWaiting bytes_of uuid old (job_of bytes_of old) job → IsWaiting bytes_of uuid new (job_of bytes_of new) (with_cancel_seen job)
+  pub waits : (owner : Owner) (job : Job) → IsWaiting bytes_of owner old (job_of bytes_of old) job → IsWaiting bytes_of owner new (job_of bytes_of new) (with_cancel_seen job)
   pub answers : CanBeAnswered bytes_of old → CanBeAnswered bytes_of new
   pub stays : new ≡ record old { cancelled = true; machine = new.machine }
 
@@ -113,8 +114,8 @@ working_seen old new (Runs job) so works is = (ap with_cancel_seen is.0 ∙ sym 
 working_seen old new (Asks job wanted payload) so works is = (
   ap (λ (c : Cont (List ℕ)). c.phase) so.stays ∙ is.0,
   (
-    subst (λ (uuid : List ℕ). IsWaiting bytes_of uuid new (job_of bytes_of new) (with_cancel_seen job))
-        (ap (λ (c : Cont (List ℕ)). uuid_of c.app) (sym so.stays)) (so.waits (uuid_of old.app) job is.1.0),
+    subst (λ (owner : Owner). IsWaiting bytes_of owner new (job_of bytes_of new) (with_cancel_seen job))
+        (ap (λ (c : Cont (List ℕ)). call_owner c) (sym so.stays)) (so.waits (call_owner old) job is.1.0),
     ap (λ (c : Cont (List ℕ)). c.request) so.stays ∙ is.1.1,
   ),
   so.answers is.2,

@@ -7,7 +7,7 @@ use Rattle.kernel_model.specs.Kernel.{AnOpen, CallPhase, Runs, Asks, Waits, Ends
 use Rattle.rpc_cont.specs.Advancing.{CanAdvance}
 use Rattle.rpc_cont.specs.Answering.{CanBeAnswered}
 use Rattle.rpc_cont.specs.Beginning.{IsFresh}
-use Rattle.rpc_cont.specs.Conts.{job_of, kept_params, uuid_of}
+use Rattle.rpc_cont.specs.Conts.{call_owner, job_of, kept_params, uuid_of}
 use Rattle.rpc_cont.specs.Running.{HasAsked}
 use Rattle.rpc_cont.specs.declared.app.ContApp.{ContApp}
 use Rattle.rpc_cont.specs.declared.cont.Cont.{Cont}
@@ -51,7 +51,7 @@ pub record HasEnded (cont : Cont (List ℕ)) (outcome : CallResult) (left : Copi
 abbrev pub IsInPhase : Cont (List ℕ) → CallPhase → Type 0
 IsInPhase cont (Runs job) = (job ≡ job_of bytes_of cont) × CanAdvance bytes_of cont
 IsInPhase cont (Asks job wanted payload) =
-    (cont.phase ≡ phase.Asks) × HasAsked bytes_of (uuid_of cont.app) cont (job_of bytes_of cont) wanted payload job
+    (cont.phase ≡ phase.Asks) × HasAsked bytes_of (call_owner cont) cont (job_of bytes_of cont) wanted payload job
     × CanBeAnswered bytes_of cont
 IsInPhase cont (Waits params) = IsWaiting cont params
 IsInPhase cont (Ends result params told wakes) = HasEnded cont result params told wakes

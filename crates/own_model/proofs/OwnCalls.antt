@@ -12,6 +12,7 @@ use Rattle.job_model.specs.declared.entry_point.EntryPoint.{EntryPoint}
 use Rattle.job_model.specs.declared.entry_point.EntryPoint.TheVariants as point
 use Rattle.job_model.specs.Job.{Job, idle_job, of_tee}
 use Rattle.job_model.specs.Point.{no_params}
+use Rattle.job_model.specs.Owner.{owner_of}
 use Rattle.param_copy.specs.Copying.{Copies}
 use Rattle.session_table.specs.declared.session.Session.{Session}
 use Rattle.session_table.specs.declared.waiters.Waiter.{Waiter}
@@ -205,7 +206,7 @@ kept_uuid app whose slots z c named w h =
 abbrev job_with : Option Program → Instance → Login → ℕ → CopiedParams → List EntryPoint → Job
 job_with program instance login context params points =
     begun_job (record { program = program; memory = instance.memory; seen = false })
-    (idle_job instance.uuid login context instance.objects params) points
+    (idle_job (owner_of instance.uuid) login context instance.objects params) points
 
 same_program : (boot : Booted) (app : Application) (instance : Instance) → app_of boot (uuid_of app) ≡ Some app
     → instance.uuid ≡ uuid_of app

@@ -16,6 +16,7 @@ use Rattle.job_model.specs.Point.{no_params}
 use Rattle.job_model.specs.Steps.{Advance, Goes, Stops, advance_on_answer}
 use Rattle.job_model.specs.Steps as steps
 use Rattle.job_model.proofs.SeenCancel.{cancel_stays_seen}
+use Rattle.job_model.specs.Owner.{owner_of}
 use Rattle.rpc_msgs.specs.Answer.{RpcAnswer}
 use Rattle.rpc_msgs.specs.Answer as answer
 use Rattle.rpc_msgs.specs.declared.rpc.Rpc.{Rpc}
@@ -319,27 +320,27 @@ module _ (boot : Booted) (about : About) (kernel : Kernel) (notes : Notes) (solo
           → session_job (who_resumes resumed) session kept params points ≡ job_of about.app own_now.kind start
       job_alike points are =
           ap (λ (p : Option Program). begun_job (record { program = p; memory = kept.memory; seen = resumed.call.seen })
-          (idle_job kept.uuid session.login session.context kept.objects params) points) program_alike
+          (idle_job (owner_of kept.uuid) session.login session.context kept.objects params) points) program_alike
           ∙ ap (λ (m : List ℕ). begun_job (record { program = own_program; memory = m; seen = resumed.call.seen })
-          (idle_job kept.uuid session.login session.context kept.objects params) points) instances.memory
+          (idle_job (owner_of kept.uuid) session.login session.context kept.objects params) points) instances.memory
           ∙ ap (λ b. begun_job (record { program = own_program; memory = held.memory; seen = b })
-          (idle_job kept.uuid session.login session.context kept.objects params) points) now_alike.seen
+          (idle_job (owner_of kept.uuid) session.login session.context kept.objects params) points) now_alike.seen
           ∙ ap (λ (u : List ℕ). begun_job (record { program = own_program; memory = held.memory; seen = own_now.seen })
-          (idle_job u session.login session.context kept.objects params) points) of_app
+          (idle_job (owner_of u) session.login session.context kept.objects params) points) of_app
           ∙ ap (λ o. begun_job (record { program = own_program; memory = held.memory; seen = own_now.seen })
-          (idle_job (uuid_of about.app) session.login session.context o params) points) instances.objects
+          (idle_job (owner_of (uuid_of about.app)) session.login session.context o params) points) instances.objects
           ∙ ap (λ (p : CopiedParams). begun_job (record {
             program = own_program;
             memory = held.memory;
             seen = own_now.seen;
           })
-          (idle_job (uuid_of about.app) session.login session.context held.objects p) points) phases_are.1
+          (idle_job (owner_of (uuid_of about.app)) session.login session.context held.objects p) points) phases_are.1
           ∙ ap (λ (ps : List EntryPoint). begun_job (record {
             program = own_program;
             memory = held.memory;
             seen = own_now.seen;
           })
-          (idle_job (uuid_of about.app) session.login session.context held.objects copied) ps) are
+          (idle_job (owner_of (uuid_of about.app)) session.login session.context held.objects copied) ps) are
         where
           own_program : Option Program
           own_program = if held.dead then None else Some (program_of about.app)
@@ -347,7 +348,7 @@ module _ (boot : Booted) (about : About) (kernel : Kernel) (notes : Notes) (solo
       job_flagged : own_now.seen ≡ true
           → phase_seen (Runs (job_of about.app own_now.kind start)) ≡ Runs (job_of about.app own_now.kind start)
       job_flagged seen =
-          let idle : Job = idle_job (uuid_of about.app) session.login session.context held.objects copied in
+          let idle : Job = idle_job (owner_of (uuid_of about.app)) session.login session.context held.objects copied in
           let program : Option Program = if held.dead then None else Some (program_of about.app) in
           ap (λ (j : Job). Runs j)
           (subst (λ b. HasSeenCancel (begun_job (record { program = program; memory = held.memory; seen = b }) idle

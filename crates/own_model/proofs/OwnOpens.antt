@@ -12,6 +12,7 @@ use Rattle.job_model.specs.declared.call_kind.CallKind.TheVariants as kind
 use Rattle.job_model.specs.declared.entry_point.EntryPoint.{EntryPoint}
 use Rattle.job_model.specs.declared.entry_point.EntryPoint.TheVariants as point
 use Rattle.job_model.specs.Job.{Job, idle_job}
+use Rattle.job_model.specs.Owner.{Owner, owner_of}
 use Rattle.param_copy.specs.Copying.{Copies}
 use Rattle.session_table.specs.declared.session.Session.{Session}
 use Rattle.session_table.specs.declared.waiters.Waiter.{Waiter}
@@ -92,22 +93,22 @@ nobody_waits instance (waiter ∷ waiters) all =
 -- ---- the job
 
 -- what an open's call begins with on a new instance, by its program
-abbrev open_job : Option Program → List ℕ → List ℕ → Login → CopiedParams → List EntryPoint → Job
-open_job program memory uuid login params points =
-    begun_job (record { program = program; memory = memory; seen = false }) (idle_job uuid login 0 [] params) points
+abbrev open_job : Option Program → List ℕ → Owner → Login → CopiedParams → List EntryPoint → Job
+open_job program memory owner login params points =
+    begun_job (record { program = program; memory = memory; seen = false }) (idle_job owner login 0 [] params) points
 
 -- it comes in with the parameters and the login that it brings along
-open_params : (program : Program) (memory uuid : List ℕ) (login : Login) (params : CopiedParams)
+open_params : (program : Program) (memory : List ℕ) (owner : Owner) (login : Login) (params : CopiedParams)
     (behind : List EntryPoint)
-    → params_of (open_job (Some program) memory uuid login params (point.Create ∷ behind)) ≡ params
-open_params (OfImage image) memory uuid login params behind = refl
-open_params (OfRelation relation) memory uuid login params behind = refl
+    → params_of (open_job (Some program) memory owner login params (point.Create ∷ behind)) ≡ params
+open_params (OfImage image) memory owner login params behind = refl
+open_params (OfRelation relation) memory owner login params behind = refl
 
-open_login : (program : Program) (memory uuid : List ℕ) (login : Login) (params : CopiedParams)
+open_login : (program : Program) (memory : List ℕ) (owner : Owner) (login : Login) (params : CopiedParams)
     (behind : List EntryPoint)
-    → (open_job (Some program) memory uuid login params (point.Create ∷ behind)).login ≡ login
-open_login (OfImage image) memory uuid login params behind = refl
-open_login (OfRelation relation) memory uuid login params behind = refl
+    → (open_job (Some program) memory owner login params (point.Create ∷ behind)).login ≡ login
+open_login (OfImage image) memory owner login params behind = refl
+open_login (OfRelation relation) memory owner login params behind = refl
 
 -- nobody has the instance yet, so that a destroy is to come where the open fails
 destroys : (c : NewCall) (of : Application) (slots : List ThreadSlot) → AreBelow slots c.tables → is_single of ≡ false
@@ -167,7 +168,7 @@ same_job : (c : NewCall) (wanted : Opening) (of : Application) (copies : Copies)
       made of,
     ) copies.params)
 same_job c wanted of copies slots b alone =
-    ap (λ ps. open_job (Some (program_of of)) (fresh_memory (pages_in of)) (uuid_of of) wanted.login copies.params
+    ap (λ ps. open_job (Some (program_of of)) (fresh_memory (pages_in of)) (owner_of (uuid_of of)) wanted.login copies.params
     (point.Create ∷ point.Open ∷ ps))
     (destroys c of slots b alone)
 
@@ -272,10 +273,10 @@ opens_tied c wanted of copies slots free b alone =
     (sym (begins_new c wanted of copies alone))
     (subst (λ (ps : CopiedParams). TakesOpen of slots c.slot c.tables (takes_begun c wanted of copies new)
     ps new.job.login)
-    (sym (open_params (program_of of) (fresh_memory (pages_in of)) (uuid_of of) wanted.login copies.params behind))
+    (sym (open_params (program_of of) (fresh_memory (pages_in of)) (owner_of (uuid_of of)) wanted.login copies.params behind))
     (subst (λ (login : Login). TakesOpen of slots c.slot c.tables (takes_begun c wanted of copies new)
     copies.params login)
-    (sym (open_login (program_of of) (fresh_memory (pages_in of)) (uuid_of of) wanted.login copies.params behind))
+    (sym (open_login (program_of of) (fresh_memory (pages_in of)) (owner_of (uuid_of of)) wanted.login copies.params behind))
     (opens_begun c wanted of copies slots free b alone)))
   where
     new : Begun

@@ -13,6 +13,7 @@ use Rattle.job_model.specs.Job.{Job, idle_job, of_tee}
 use Rattle.job_model.specs.Point.{no_params}
 use Rattle.job_model.specs.Steps.{End, JobStop, Grant, Left, Stopped, after, grant_of}
 use Rattle.job_model.specs.Steps as steps
+use Rattle.job_model.specs.Owner.{owner_of}
 use Rattle.rpc_msgs.specs.Answer as answer
 use Rattle.ta_params.specs.declared.call_result.CallResult.{CallResult}
 use Rattle.ta_params.specs.declared.copied_params.CopiedParams.{CopiedParams}
@@ -97,7 +98,7 @@ points_of kind.Settled = []
 abbrev pub job_of : Application → CallKind → Start → Job
 job_of app call_kind start =
     let program = if start.instance.dead then None else Some (program_of app) in
-    let idle = idle_job (uuid_of app) start.session.login start.session.context start.instance.objects start.params in
+    let idle = idle_job (owner_of (uuid_of app)) start.session.login start.session.context start.instance.objects start.params in
     begun_job (record { program = program; memory = start.instance.memory; seen = start.seen }) idle
     (points_of call_kind)
 

@@ -8,7 +8,7 @@ use Rattle.kernel_model.specs.Kernel.{CallPhase, Runs, Asks, Waits, Ends}
 use Rattle.kernel_model.specs.Resume.{Resumed, onward_in, onward_of, phase_on_answer, phase_when_given, still_wakes}
 use Rattle.kernel_state.specs.Calls.{IsCall, IsInPhase, bytes_of}
 use Rattle.rpc_cont.specs.Answering.{IsAnswered}
-use Rattle.rpc_cont.specs.Conts.{job_of, uuid_of}
+use Rattle.rpc_cont.specs.Conts.{call_owner, job_of}
 use Rattle.rpc_cont.specs.Resuming.{answer_in}
 use Rattle.rpc_cont.specs.Running.{IsWaiting, worked}
 use Rattle.rpc_cont.specs.declared.cont.Cont.{Cont}
@@ -119,7 +119,7 @@ some_answer (input.Reply reply) some = (rpc_answer.Replied reply.value, refl)
 pub record TakesAnswer (old new : Cont (List ℕ)) (answer : RpcAnswer) : Type 0 where
   pub keeps : Keeps old new
   pub runs : old.phase ≡ phase.Runs → new ≡ old
-  pub asks : (job : Job) → old.phase ≡ phase.Asks → IsWaiting bytes_of (uuid_of old.app) old (job_of bytes_of old) job →
+  pub asks : (job : Job) → old.phase ≡ phase.Asks → IsWaiting bytes_of (call_owner old) old (job_of bytes_of old) job →
       IsSomeAnd (advance_on_answer answer job) (λ next. IsAnswered bytes_of new next)
   pub ends : old.phase ≡ phase.Ends → new ≡ record old { request = None }
 
@@ -151,7 +151,7 @@ answered_in old new answer r (Ends result params told wakes) works by takes is a
 pub answered_onward : (old new : Cont (List ℕ)) (given : ResumeInput) (r : Resumed) → (old.phase ≡ phase.Waits → ⊥) → IsSome (answer_in given) →
     new ≡ record (worked old new) { buffer = new.buffer; phase = new.phase } → (IsSome (answer_in given) → new.buffer ≡ old.buffer) →
     (old.phase ≡ phase.Runs → new ≡ old) →
-    ((answer : RpcAnswer) (job : Job) → old.phase ≡ phase.Asks → answer_in given ≡ Some answer → IsWaiting bytes_of (uuid_of old.app) old (job_of bytes_of old) job →
+    ((answer : RpcAnswer) (job : Job) → old.phase ≡ phase.Asks → answer_in given ≡ Some answer → IsWaiting bytes_of (call_owner old) old (job_of bytes_of old) job →
     IsSomeAnd (advance_on_answer answer job) (λ next. IsAnswered bytes_of new next)) →
     (old.phase ≡ phase.Ends → IsSome (answer_in given) → new ≡ record old { request = None }) →
     r.given ≡ given_as given → IsCall old r.call → HasCome r.tables new (onward_of r)

@@ -5,10 +5,11 @@ use Rattle.std.specs.Option.{option_map, option_map_or}
 use Rattle.std.proofs.Math.Nat.{min-le_left}
 use Rattle.base.specs.NumberMap.{NumberMap, get}
 use Rattle.job_model.specs.Asking.{PendingRequest, bytes_at}
+use Rattle.job_model.specs.Owner.{Owner}
 use Rattle.kernel_model.specs.Kernel.{CallPhase, Runs, Asks, Waits, Ends, PendingCall}
 use Rattle.kernel_model.specs.Leaving.{Leaving, Request, Requests, WantsBuffer, FreesBuffer, Finishes, leaving_in}
 use Rattle.kernel_state.specs.Calls.{IsInPhase, bytes_of}
-use Rattle.rpc_cont.specs.Conts.{uuid_of}
+use Rattle.rpc_cont.specs.Conts.{call_owner}
 use Rattle.rpc_cont.specs.Running.{Awaits, HasCome}
 use Rattle.rpc_cont.specs.declared.cont.Asked.{Asked}
 use Rattle.rpc_cont.specs.declared.cont.Cont.{Cont}
@@ -176,26 +177,26 @@ serving_fits call uuid range objects answers now is =
 
 -- ---- calls
 
-come_fits : (uuid range : List ℕ) (asked : PendingRequest) (cont : Cont (List ℕ)) (wanted : Wish) (pending : Asked) (object : Option ObjectState) →
-    HasCome uuid range asked cont wanted (Some pending) object → IsRequest pending.rpc
-come_fits uuid range asked cont request.Time pending None come = subst (λ (one : Asked). IsRequest one.rpc) (sym come.1) tt
-come_fits uuid range asked cont request.Time pending (Some state) come = absurd come
-come_fits uuid range asked cont (request.Suspend ms) pending None come = subst (λ (one : Asked). IsRequest one.rpc) (sym come.1) tt
-come_fits uuid range asked cont (request.Suspend ms) pending (Some state) come = absurd come
-come_fits uuid range asked cont (request.Object call) pending None come = absurd come
-come_fits uuid range asked cont (request.Object call) pending (Some state) come =
-    serving_fits call uuid asked.range asked.objects asked.answers
+come_fits : (owner : Owner) (range : List ℕ) (asked : PendingRequest) (cont : Cont (List ℕ)) (wanted : Wish) (pending : Asked) (object : Option ObjectState) →
+    HasCome owner range asked cont wanted (Some pending) object → IsRequest pending.rpc
+come_fits owner range asked cont request.Time pending None come = subst (λ (one : Asked). IsRequest one.rpc) (sym come.1) tt
+come_fits owner range asked cont request.Time pending (Some state) come = absurd come
+come_fits owner range asked cont (request.Suspend ms) pending None come = subst (λ (one : Asked). IsRequest one.rpc) (sym come.1) tt
+come_fits owner range asked cont (request.Suspend ms) pending (Some state) come = absurd come
+come_fits owner range asked cont (request.Object call) pending None come = absurd come
+come_fits owner range asked cont (request.Object call) pending (Some state) come =
+    serving_fits call owner.uuid asked.range asked.objects asked.answers
     (record { step = storage.Ask pending.rpc pending.payload; range = range; objects = cont.objects }) come.serves
 
-awaits_fits : (uuid : List ℕ) (cont : Cont (List ℕ)) (pending : Asked) (asked : Option PendingRequest) (machine : Option (AnyMachine (List ℕ))) →
-    cont.request ≡ Some pending → IsSomeAnd asked (λ asked. IsSomeAnd machine (λ m. Awaits uuid cont asked (state_of bytes_of m))) → IsRequest pending.rpc
-awaits_fits uuid cont pending None machine is waits = absurd waits
-awaits_fits uuid cont pending (Some asked) None is waits = absurd waits
-awaits_fits uuid cont pending (Some asked) (Some m) is waits =
+awaits_fits : (owner : Owner) (cont : Cont (List ℕ)) (pending : Asked) (asked : Option PendingRequest) (machine : Option (AnyMachine (List ℕ))) →
+    cont.request ≡ Some pending → IsSomeAnd asked (λ asked. IsSomeAnd machine (λ m. Awaits owner cont asked (state_of bytes_of m))) → IsRequest pending.rpc
+awaits_fits owner cont pending None machine is waits = absurd waits
+awaits_fits owner cont pending (Some asked) None is waits = absurd waits
+awaits_fits owner cont pending (Some asked) (Some m) is waits =
     let span = span_of asked.request in
     let range = bytes_at (state_of bytes_of m) span.0 span.1 in
-    come_fits uuid range asked cont asked.request pending cont.object
-    (subst (λ (one : Option Asked). HasCome uuid range asked cont asked.request one cont.object) is waits.come)
+    come_fits owner range asked cont asked.request pending cont.object
+    (subst (λ (one : Option Asked). HasCome owner range asked cont asked.request one cont.object) is waits.come)
 
 -- where a call goes out with a request, that goes to its buffer, and a message has room for it
 pub record GoesThere (call : PendingCall) (place : RpcBuffer) (request : Request) : Type 0 where
@@ -220,7 +221,7 @@ pub goes_in : (slot : ℕ) (cont : Cont (List ℕ)) (call : PendingCall) (at : C
 goes_in slot cont call (Runs job) place request is goes = absurd cc
 goes_in slot cont call (Asks job wanted payload) place request is goes =
     goes_there call call.buffer place (record { wanted = wanted; payload = payload }) request refl
-    (awaits_fits (uuid_of cont.app) cont (record { rpc = wanted; payload = payload }) job.asked cont.machine is.1.1 is.1.0.asked) goes
+    (awaits_fits (call_owner cont) cont (record { rpc = wanted; payload = payload }) job.asked cont.machine is.1.1 is.1.0.asked) goes
 goes_in slot cont call (Waits params) place request is goes = goes_there call call.buffer place _ request refl tt goes
 goes_in slot cont call (Ends result params told (Some woken)) place request is goes = goes_there call call.buffer place _ request refl tt goes
 goes_in slot cont call (Ends result params told None) place request is goes =

@@ -2,6 +2,7 @@
 use Rattle.std.proofs.Common.{◌≡◌, ℕ, Bool, true, false, List, Option, Some, refl, sym, subst}
 use Rattle.std.specs.Prelude.{if◌then◌else◌}
 use Rattle.job_model.specs.Job.{Job, with_cancel_seen}
+use Rattle.job_model.specs.Owner.{Owner}
 use Rattle.kernel_model.specs.Given.{Buffer, call_given}
 use Rattle.kernel_model.specs.Kernel.{PendingCall}
 use Rattle.kernel_model.specs.Resume.{phase_seen, sees}
@@ -55,7 +56,7 @@ pub working_sees : (old new : Cont (List ℕ)) (call : PendingCall) →
     new ≡ record old { cancelled = true; machine = new.machine } → (old.phase ≡ phase.Waits → ⊥) →
     job_of bytes_of new ≡ with_cancel_seen (job_of bytes_of old) →
     (CanAdvance bytes_of old → CanAdvance bytes_of new) →
-    ((uuid : List ℕ) (job : Job) → IsWaiting bytes_of uuid old (job_of bytes_of old) job → IsWaiting bytes_of uuid new (job_of bytes_of new) (with_cancel_seen job)) →
+    ((owner : Owner) (job : Job) → IsWaiting bytes_of owner old (job_of bytes_of old) job → IsWaiting bytes_of owner new (job_of bytes_of new) (with_cancel_seen job)) →
     (CanBeAnswered bytes_of old → CanBeAnswered bytes_of new) →
     IsCall old call → call.marked ≡ true → IsCall new (sees call)
 working_sees old new call stays works job runs waits answers is marked =

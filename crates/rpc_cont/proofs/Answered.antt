@@ -3,6 +3,7 @@ use Rattle.std.proofs.Common.{◌≡◌, ℕ, Bool, true, List, [], ◌∷◌, �
 use Rattle.std.specs.Prelude.{IsSome, IsSomeAnd, if◌then◌else◌}
 use Rattle.std.specs.Option.{option_map}
 use Rattle.base.specs.NumberMap.{NumberMap}
+use Rattle.job_model.specs.Owner.{Owner}
 use Rattle.job_model.specs.Asking.{PendingRequest, Asking, Gives, Ask, ask, asks_time, wait_result, ask_unchanged, bytes_at, object_asking}
 use Rattle.job_model.specs.Job.{Body, Machine, Job, with_cancel_seen, body_with_cancel_seen}
 use Rattle.job_model.specs.Steps.{Advance, Goes, Stops, Ends, Panics, Asks, on_from, with_bytes, advance_on_answer_in, advance_on_answer, advance_on_answers}
@@ -15,7 +16,7 @@ use Rattle.rpc_cont.proofs.Spans.{store-none, store-same, store-same_but, is_ran
 use Rattle.rpc_cont.specs.Spans.{rest_of}
 use Rattle.rpc_cont.specs.Advancing.{IsRunnable, phase_after}
 use Rattle.rpc_cont.specs.Answering.{HasImage, CanBeAnswered, IsAnswered, phase_behind}
-use Rattle.rpc_cont.specs.Conts.{body_at, body_of, job_with, job_at, job_of, uuid_of}
+use Rattle.rpc_cont.specs.Conts.{body_at, body_of, job_with, job_at, job_of, call_owner}
 use Rattle.rpc_cont.specs.Running.{HasAskedFor, HasCome, HasReady, IsReady, IsTurn, IsWaiting, Awaits, worked}
 use Rattle.rpc_cont.specs.declared.app.ContApp.{ContApp}
 use Rattle.rpc_cont.specs.declared.app.ContApp.TheVariants as app
@@ -58,8 +59,8 @@ runs_image bytes seen (Some (app.Native native)) valid = absurd valid
 runs_image bytes seen (Some (app.Dead uuid)) valid = absurd valid
 
 job_image : {M : Type 0} (bytes : M → List ℕ) (cont : Cont M) (image : Image) → RunsImage bytes cont.cancelled cont.app image
-    → job_of bytes cont ≡ job_at bytes (uuid_of cont.app) image cont
-job_image bytes cont image runs = ap (λ (b : Body). job_with b (uuid_of cont.app) cont) (runs.body cont.point cont.machine)
+    → job_of bytes cont ≡ job_at bytes (call_owner cont) image cont
+job_image bytes cont image runs = ap (λ (b : Body). job_with b (call_owner cont) cont) (runs.body cont.point cont.machine)
 
 -- ---- on from an answer
 
@@ -82,9 +83,9 @@ runnable bytes seen application image (Some here) None runs ready = absurd ready
 runnable bytes seen application image (Some here) (Some m) runs ready = runs.runs here m ready
 
 -- a call waits in any phase
-waits-in : {M : Type 0} (bytes : M → List ℕ) (uuid : List ℕ) (cont : Cont M) (next : Phase) (plain other job : Job) → plain ≡ other
-    → IsWaiting bytes uuid cont plain job → IsWaiting bytes uuid (in_phase cont next) other job
-waits-in {M} bytes uuid cont next plain other job same waits = record {
+waits-in : {M : Type 0} (bytes : M → List ℕ) (owner : Owner) (cont : Cont M) (next : Phase) (plain other job : Job) → plain ≡ other
+    → IsWaiting bytes owner cont plain job → IsWaiting bytes owner (in_phase cont next) other job
+waits-in {M} bytes owner cont next plain other job same waits = record {
   memory = waits.memory;
   point = waits.point;
   same = waits.same ∙ ap (λ (j : Job). record j { asked = job.asked }) same;
@@ -95,7 +96,7 @@ waits-in {M} bytes uuid cont next plain other job same waits = record {
 
 pub turn-answered : {M : Type 0} (bytes : M → List ℕ) (cont : Cont M) (image : Image) (answer : Option ContStop) (next : Phase) (turn : Advance)
     → RunsImage bytes cont.cancelled cont.app image → next ≡ phase_behind answer → GoesOrAsks turn
-    → IsTurn bytes (uuid_of cont.app) image cont turn answer → IsAnswered bytes (in_phase cont next) turn
+    → IsTurn bytes (call_owner cont) image cont turn answer → IsAnswered bytes (in_phase cont next) turn
 turn-answered bytes cont image answer next (Goes job) runs is calm (none, same, running) = (
   same ∙ sym (job_image bytes cont image runs),
   record {
@@ -113,18 +114,18 @@ turn-answered bytes cont image answer next (Stops (Panics code)) runs is calm tu
 turn-answered bytes cont image None next (Stops (Asks wanted payload left)) runs is calm turn = absurd turn
 turn-answered bytes cont image (Some answer) next (Stops (Asks wanted payload left)) runs is calm (asks, (waits, pending)) =
     let waiting =
-    waits-in bytes (uuid_of cont.app) cont next (job_at bytes (uuid_of cont.app) image cont) (job_of bytes cont) left (sym (job_image bytes cont image runs)) waits
+    waits-in bytes (call_owner cont) cont next (job_at bytes (call_owner cont) image cont) (job_of bytes cont) left (sym (job_image bytes cont image runs)) waits
     in
-    ((waiting, pending), is ∙ ap phase_after asks, record { image = runs.valid; pending = waits-pending bytes (uuid_of cont.app) (in_phase cont next) (job_of bytes cont) left _ waiting pending })
+    ((waiting, pending), is ∙ ap phase_after asks, record { image = runs.valid; pending = waits-pending bytes (call_owner cont) (in_phase cont next) (job_of bytes cont) left _ waiting pending })
 
 -- the same of a call that ran
 pub ran-answered : {M : Type 0} (bytes : M → List ℕ) (old new : Cont M) (image : Image) (answer : Option ContStop) (next : Phase) (turn : Advance)
     → new ≡ worked old new → RunsImage bytes old.cancelled old.app image → next ≡ phase_behind answer → GoesOrAsks turn
-    → IsTurn bytes (uuid_of old.app) image new turn answer → IsAnswered bytes (in_phase new next) turn
+    → IsTurn bytes (call_owner old) image new turn answer → IsAnswered bytes (in_phase new next) turn
 ran-answered {M} bytes old new image answer next turn stays runs is calm comes =
     turn-answered bytes new image answer next turn
     (subst (λ (k : Cont M). RunsImage bytes k.cancelled k.app image) (sym stays) runs) is calm
-    (subst (λ (k : Cont M). IsTurn bytes (uuid_of k.app) image new turn answer) (sym stays) comes)
+    (subst (λ (k : Cont M). IsTurn bytes (call_owner k) image new turn answer) (sym stays) comes)
 
 -- ---- what a call waits for
 
@@ -139,10 +140,10 @@ pub record Waiting {M : Type 0} (bytes : M → List ℕ) (cont : Cont M) (job : 
   pub names : asked.request ≡ wanted
   pub asks : HasAskedFor cont.cancelled wanted (state_of bytes m)
   pub come :
-      (let span = span_of wanted in HasCome (uuid_of cont.app) (bytes_at (state_of bytes m) span.0 span.1) asked cont wanted cont.request cont.object)
+      (let span = span_of wanted in HasCome (call_owner cont) (bytes_at (state_of bytes m) span.0 span.1) asked cont wanted cont.request cont.object)
   pub given : (answer : RpcAnswer)
       → advance_on_answer answer job
-      ≡ advance_on_answers (record (job_at bytes (uuid_of cont.app) image cont) { asked = Some asked }) image here (state_of bytes m)
+      ≡ advance_on_answers (record (job_at bytes (call_owner cont) image cont) { asked = Some asked }) image here (state_of bytes m)
       (record asked { answers = asked.answers ++ answer ∷ [] })
 
 given-served : (job plain : Job) (asked : PendingRequest) (image : Image) (point : EntryPoint) (machine : State) (answer : RpcAnswer)
@@ -160,10 +161,10 @@ one_wanted : (asked : Option Request) (one other : Request) → asked ≡ Some o
 one_wanted asked one other is is_other = cc
 
 pub waiting : {M : Type 0} (bytes : M → List ℕ) (cont : Cont M) (job : Job) (m : AnyMachine M) (wanted : Request)
-    → CanBeAnswered bytes cont → IsWaiting bytes (uuid_of cont.app) cont (job_of bytes cont) job → cont.machine ≡ Some m → m.asked ≡ Some wanted
+    → CanBeAnswered bytes cont → IsWaiting bytes (call_owner cont) cont (job_of bytes cont) job → cont.machine ≡ Some m → m.asked ≡ Some wanted
     → Waiting bytes cont job m wanted
 waiting {M} bytes cont job m wanted can waits there wants =
-    let uuid = uuid_of cont.app in
+    let owner = call_owner cont in
     let s = state_of bytes m in
     let image = runs_image bytes cont.cancelled cont.app can.image in
     let point = some_is cont.point can.pending.point in
@@ -182,8 +183,8 @@ waiting {M} bytes cont job m wanted can waits there wants =
       there = there;
       names = names;
       asks = subst (λ (r : Request). HasAskedFor cont.cancelled r s) names awaits.asks;
-      come = subst (λ (r : Request). let span = span_of r in HasCome uuid (bytes_at s span.0 span.1) asked cont r cont.request cont.object) names awaits.come;
-      given = λ answer. given-served job (job_at bytes uuid image.0 cont) asked image.0 point.0 s answer job_is is body;
+      come = subst (λ (r : Request). let span = span_of r in HasCome owner (bytes_at s span.0 span.1) asked cont r cont.request cont.object) names awaits.come;
+      given = λ answer. given-served job (job_at bytes owner image.0 cont) asked image.0 point.0 s answer job_is is body;
     })
 
 -- ---- registers for the application
@@ -206,7 +207,7 @@ one_more asked answer = record asked { answers = asked.answers ++ answer ∷ [] 
 abbrev pub GivesFor : {M : Type 0} (bytes : M → List ℕ) (cont : Cont M) (job : Job) (m : AnyMachine M) (wanted : Request)
     → Waiting bytes cont job m wanted → RpcAnswer → ℕ → ℕ → ℕ → Type 0
 GivesFor bytes cont job m wanted w answer r0 r1 r2 =
-    let left = record (job_at bytes (uuid_of cont.app) w.image cont) { asked = Some w.asked } in
+    let left = record (job_at bytes (call_owner cont) w.image cont) { asked = Some w.asked } in
     let point = w.here in
     let s = state_of bytes m in
     let more = one_more w.asked answer in
@@ -221,10 +222,10 @@ pub gives-answered : {M : Type 0} (bytes : M → List ℕ) (old new : Cont M) (j
 gives-answered {M} bytes old new job m wanted w answer r0 r1 r2 memory stays gives serves =
     let s = state_of bytes m in
     let plain : Cont M = record old { object = None } in
-    let left = job_at bytes (uuid_of old.app) w.image old in
+    let left = job_at bytes (call_owner old) w.image old in
     let next = on_from left w.image w.here s (one_more w.asked answer) old.objects (Gives r0 r1 r2) in
     let turn =
-    gives-turn bytes (uuid_of old.app) w.image plain w.here m (one_more w.asked answer) r0 r1 r2 new.machine memory refl w.at
+    gives-turn bytes (call_owner old) w.image plain w.here m (one_more w.asked answer) r0 r1 r2 new.machine memory refl w.at
     (subst (λ (r : Request). HasAskedFor old.cancelled r s) (sym w.names) w.asks)
     (subst (λ (r : Request). IsSomeAnd new.machine (λ n. state_of bytes n ≡ answered r r0 r1 r2 s)) (sym w.names) gives)
     in
@@ -239,7 +240,7 @@ abbrev made_plain : Request → NumberMap Handle → PendingRequest
 made_plain wanted objects = record { request = wanted; range = []; objects = objects; answers = [] }
 
 plain-served : (job : Job) (image : Image) (point : EntryPoint) (machine : State) (more : PendingRequest) (objects : NumberMap Handle) (next : Asking)
-    → ask job.uuid (is_cancelled machine) more ≡ Some (record { next = next; range = []; objects = objects })
+    → ask job.owner (is_cancelled machine) more ≡ Some (record { next = next; range = []; objects = objects })
     → advance_on_answers job image point machine more ≡ Some (on_from job image point machine more objects next)
 plain-served job image point machine more objects next comes =
     ap (option_map (λ (came : Ask). on_from job image point (with_bytes machine more.request came.range) more came.objects came.next)) comes
@@ -247,69 +248,69 @@ plain-served job image point machine more objects next comes =
 
 plain-answered : (job : Job) (image : Image) (point : EntryPoint) (machine : State) (asked : PendingRequest) (wanted : Request) (objects : NumberMap Handle) (answer : RpcAnswer) (next : Asking)
     → asked ≡ made_plain wanted objects
-    → ask job.uuid (is_cancelled machine) (one_more (made_plain wanted objects) answer) ≡ Some (record { next = next; range = []; objects = objects })
+    → ask job.owner (is_cancelled machine) (one_more (made_plain wanted objects) answer) ≡ Some (record { next = next; range = []; objects = objects })
     → advance_on_answers job image point machine (one_more asked answer) ≡ Some (on_from job image point machine (one_more asked answer) objects next)
 plain-answered job image point machine asked wanted objects answer next is comes =
     subst (λ (a : PendingRequest). advance_on_answers job image point machine (one_more a answer) ≡ Some (on_from job image point machine (one_more a answer) objects next)) (sym is)
     (plain-served job image point machine (one_more (made_plain wanted objects) answer) objects next comes)
 
-come-time : {M : Type 0} (uuid range : List ℕ) (asked : PendingRequest) (cont : Cont M) (pending : Option Asked) (object : Option ObjectState)
-    → HasCome uuid range asked cont request.Time pending object → asked ≡ made_plain request.Time cont.objects
-come-time uuid range asked cont None object come = absurd come
-come-time uuid range asked cont (Some pending) None come = come.0
-come-time uuid range asked cont (Some pending) (Some state) come = absurd come
+come-time : {M : Type 0} (owner : Owner) (range : List ℕ) (asked : PendingRequest) (cont : Cont M) (pending : Option Asked) (object : Option ObjectState)
+    → HasCome owner range asked cont request.Time pending object → asked ≡ made_plain request.Time cont.objects
+come-time owner range asked cont None object come = absurd come
+come-time owner range asked cont (Some pending) None come = come.0
+come-time owner range asked cont (Some pending) (Some state) come = absurd come
 
-come-wait : {M : Type 0} (uuid range : List ℕ) (asked : PendingRequest) (cont : Cont M) (ms : ℕ) (pending : Option Asked) (object : Option ObjectState)
-    → HasCome uuid range asked cont (request.Suspend ms) pending object → asked ≡ made_plain (request.Suspend ms) cont.objects
-come-wait uuid range asked cont ms None object come = absurd come
-come-wait uuid range asked cont ms (Some pending) None come = come.0
-come-wait uuid range asked cont ms (Some pending) (Some state) come = absurd come
+come-wait : {M : Type 0} (owner : Owner) (range : List ℕ) (asked : PendingRequest) (cont : Cont M) (ms : ℕ) (pending : Option Asked) (object : Option ObjectState)
+    → HasCome owner range asked cont (request.Suspend ms) pending object → asked ≡ made_plain (request.Suspend ms) cont.objects
+come-wait owner range asked cont ms None object come = absurd come
+come-wait owner range asked cont ms (Some pending) None come = come.0
+come-wait owner range asked cont ms (Some pending) (Some state) come = absurd come
 
 pub time-gives : {M : Type 0} (bytes : M → List ℕ) (cont : Cont M) (job : Job) (m : AnyMachine M)
     (w : Waiting bytes cont job m request.Time) (answer : RpcAnswer) (r0 r1 r2 : ℕ)
     → asks_time (answer ∷ []) ≡ Some (Gives r0 r1 r2) → GivesFor bytes cont job m request.Time w answer r0 r1 r2
 time-gives {M} bytes cont job m w answer r0 r1 r2 comes =
-    let uuid = uuid_of cont.app in
+    let owner = call_owner cont in
     let s = state_of bytes m in
-    let left = record (job_at bytes uuid w.image cont) { asked = Some w.asked } in
+    let left = record (job_at bytes owner w.image cont) { asked = Some w.asked } in
     let more = one_more (made_plain request.Time cont.objects) answer in
     plain-answered left w.image w.here s w.asked request.Time cont.objects answer (Gives r0 r1 r2)
-    (come-time uuid (bytes_at s 0 0) w.asked cont cont.request cont.object w.come) (ap (option_map (ask_unchanged more)) comes)
+    (come-time owner (bytes_at s 0 0) w.asked cont cont.request cont.object w.come) (ap (option_map (ask_unchanged more)) comes)
 
 pub wait-gives : {M : Type 0} (bytes : M → List ℕ) (cont : Cont M) (job : Job) (m : AnyMachine M) (ms : ℕ)
     (w : Waiting bytes cont job m (request.Suspend ms)) (answer : RpcAnswer) (r0 : ℕ)
     → r0 ≡ (if is_cancelled (state_of bytes m) then 0xffff0002 else wait_result answer) → GivesFor bytes cont job m (request.Suspend ms) w answer r0 0 0
 wait-gives {M} bytes cont job m ms w answer r0 is =
-    let uuid = uuid_of cont.app in
+    let owner = call_owner cont in
     let s = state_of bytes m in
-    let left = record (job_at bytes uuid w.image cont) { asked = Some w.asked } in
+    let left = record (job_at bytes owner w.image cont) { asked = Some w.asked } in
     let more = one_more (made_plain (request.Suspend ms) cont.objects) answer in
     plain-answered left w.image w.here s w.asked (request.Suspend ms) cont.objects answer (Gives r0 0 0)
-    (come-wait uuid (bytes_at s 0 0) w.asked cont ms cont.request cont.object w.come) (ap (λ (r : ℕ). Some (ask_unchanged more (Gives r 0 0))) (sym is))
+    (come-wait owner (bytes_at s 0 0) w.asked cont ms cont.request cont.object w.come) (ap (λ (r : ℕ). Some (ask_unchanged more (Gives r 0 0))) (sym is))
 
 -- ---- calls on objects
 
-pub come-object : {M : Type 0} (uuid range : List ℕ) (asked : PendingRequest) (cont : Cont M) (call : ObjectCall) (pending : Option Asked) (object : Option ObjectState)
-    (state : ObjectState) → object ≡ Some state → HasCome uuid range asked cont (request.Object call) pending object
-    → (p : Asked) × StandsFor state call uuid asked.range asked.objects asked.answers (record { step = storage.Ask p.rpc p.payload; range = range; objects = cont.objects })
-come-object uuid range asked cont call None object state is come = absurd come
-come-object uuid range asked cont call (Some pending) None state is come = absurd come
-come-object uuid range asked cont call (Some pending) (Some other) state is come =
+pub come-object : {M : Type 0} (owner : Owner) (range : List ℕ) (asked : PendingRequest) (cont : Cont M) (call : ObjectCall) (pending : Option Asked) (object : Option ObjectState)
+    (state : ObjectState) → object ≡ Some state → HasCome owner range asked cont (request.Object call) pending object
+    → (p : Asked) × StandsFor state call owner.uuid asked.range asked.objects asked.answers (record { step = storage.Ask p.rpc p.payload; range = range; objects = cont.objects })
+come-object owner range asked cont call None object state is come = absurd come
+come-object owner range asked cont call (Some pending) None state is come = absurd come
+come-object owner range asked cont call (Some pending) (Some other) state is come =
     let same : other ≡ state = cc in
     let now : Serving = record { step = storage.Ask pending.rpc pending.payload; range = range; objects = cont.objects } in
-    (pending, subst (λ (o : ObjectState). StandsFor o call uuid asked.range asked.objects asked.answers now) same come)
+    (pending, subst (λ (o : ObjectState). StandsFor o call owner.uuid asked.range asked.objects asked.answers now) same come)
 
 pub object-fails : {M : Type 0} (bytes : M → List ℕ) (cont : Cont M) (job : Job) (m : AnyMachine M) (call : ObjectCall)
     (w : Waiting bytes cont job m (request.Object call)) (answer : RpcAnswer) (code : ℕ)
     → (let span = object_span call in
-    serving call (uuid_of cont.app) w.asked.range w.asked.objects (w.asked.answers ++ answer ∷ [])
+    serving call (call_owner cont).uuid w.asked.range w.asked.objects (w.asked.answers ++ answer ∷ [])
     ≡ Some (record { step = storage.Done code 0; range = bytes_at (state_of bytes m) span.0 span.1; objects = cont.objects }))
     → GivesFor bytes cont job m (request.Object call) w answer code 0 0
 object-fails {M} bytes cont job m call w answer code serves =
-    let uuid = uuid_of cont.app in
+    let owner = call_owner cont in
     let s = state_of bytes m in
     let span = object_span call in
-    let left = record (job_at bytes uuid w.image cont) { asked = Some w.asked } in
+    let left = record (job_at bytes owner w.image cont) { asked = Some w.asked } in
     let point = w.here in
     let more = one_more w.asked answer in
     let now : Serving = record { step = storage.Done code 0; range = bytes_at s span.0 span.1; objects = cont.objects } in
@@ -357,18 +358,18 @@ seen_body bytes (Some (app.Native native)) (Some (entry.Invoke func)) m n told =
 seen_body bytes (Some (app.Native native)) (Some entry.Close) m n told = refl
 seen_body bytes (Some (app.Native native)) (Some entry.Destroy) m n told = refl
 
-pub seen-waiting : {M : Type 0} (bytes : M → List ℕ) (uuid : List ℕ) (old mid : Cont M) (m n : AnyMachine M) (job : Job)
+pub seen-waiting : {M : Type 0} (bytes : M → List ℕ) (owner : Owner) (old mid : Cont M) (m n : AnyMachine M) (job : Job)
     → old.machine ≡ Some m → state_of bytes n ≡ record (state_of bytes m) { cancelled = true } → mid ≡ record old { machine = Some n }
-    → IsWaiting bytes uuid old (job_of bytes old) job
-    → (let new = record mid { cancelled = true } in IsWaiting bytes uuid new (job_of bytes new) (with_cancel_seen job))
-seen-waiting {M} bytes uuid old mid m n job there told is waits =
+    → IsWaiting bytes owner old (job_of bytes old) job
+    → (let new = record mid { cancelled = true } in IsWaiting bytes owner new (job_of bytes new) (with_cancel_seen job))
+seen-waiting {M} bytes owner old mid m n job there told is waits =
     let s : State = record (state_of bytes m) { cancelled = true } in
     let now : Cont M = record old { machine = Some n } in
     let new : Cont M = record now { cancelled = true } in
     let body =
     ap (λ (o : Option (AnyMachine M)). body_with_cancel_seen (body_of bytes old.app old.point o)) there ∙ seen_body bytes old.app old.point m n told
     in
-    subst (λ (c : Cont M). let seen_now = record c { cancelled = true } in IsWaiting bytes uuid seen_now (job_of bytes seen_now) (with_cancel_seen job)) (sym is)
+    subst (λ (c : Cont M). let seen_now = record c { cancelled = true } in IsWaiting bytes owner seen_now (job_of bytes seen_now) (with_cancel_seen job)) (sym is)
     (record {
       memory = waits.memory;
       point = waits.point;
@@ -377,12 +378,12 @@ seen-waiting {M} bytes uuid old mid m n job there told is waits =
           where_there job.asked _ _ waits.asked
           (λ asked is awaits_there.
           let awaits = holds_there old.machine _ m there awaits_there in
-          subst (λ (t : State). Awaits uuid new asked t) (sym told)
+          subst (λ (t : State). Awaits owner new asked t) (sym told)
           (record { asks = record { asks = awaits.asks.asks; flag = refl; in_range = awaits.asks.in_range }; come = awaits.come }));
     })
 
 -- a call that waits has a machine
-pub waits-there : {M : Type 0} (bytes : M → List ℕ) (uuid : List ℕ) (cont : Cont M) (plain job : Job)
-    → cont.machine ≡ None → IsWaiting bytes uuid cont plain job → ⊥
-waits-there bytes uuid cont plain job none waits =
+pub waits-there : {M : Type 0} (bytes : M → List ℕ) (owner : Owner) (cont : Cont M) (plain job : Job)
+    → cont.machine ≡ None → IsWaiting bytes owner cont plain job → ⊥
+waits-there bytes owner cont plain job none waits =
     from_there job.asked _ waits.asked (λ asked is awaits. from_there cont.machine _ awaits (λ m there here. absurd cc))

@@ -3,6 +3,7 @@ use Rattle.std.proofs.Common.{◌≡◌, ℕ, true, List, Option, Some, None, re
 use Rattle.std.specs.Prelude.{IsSome, IsSomeAnd}
 use Rattle.std.specs.Option.{option_map}
 use Rattle.base.specs.NumberMap.{NumberMap}
+use Rattle.job_model.specs.Owner.{Owner}
 use Rattle.job_model.specs.Asking.{PendingRequest, Asking, Needs, Gives, Bad, Ask, bytes_at, comes_to, object_ask, object_asking}
 use Rattle.job_model.specs.Job.{Body, Machine, Job}
 use Rattle.job_model.specs.Steps.{Advance, on_from, with_bytes, advance_on_answers}
@@ -64,15 +65,15 @@ body_there {M} bytes image point machine here m at is =
 abbrev pub asking_for : {M : Type 0} → Cont M → Option ObjectState → Rpc → List ℕ → Cont M
 asking_for cont object wanted payload = record cont { object = object; request = Some (record { rpc = wanted; payload = payload }) }
 
-pub asks-turn : {M : Type 0} (bytes : M → List ℕ) (uuid : List ℕ) (image : Image) (old : Cont M) (here : EntryPoint) (m : AnyMachine M)
+pub asks-turn : {M : Type 0} (bytes : M → List ℕ) (owner : Owner) (image : Image) (old : Cont M) (here : EntryPoint) (m : AnyMachine M)
     (asked : PendingRequest) (object : Option ObjectState) (wanted : Rpc) (payload : List ℕ)
     → old.memory ≡ None → old.point ≡ Some here → old.machine ≡ Some m → HasAskedFor old.cancelled asked.request (state_of bytes m)
     → (let span = span_of asked.request in
     let new = asking_for old object wanted payload in
-    HasCome uuid (bytes_at (state_of bytes m) span.0 span.1) asked new asked.request new.request object)
-    → IsTurn bytes uuid image (asking_for old object wanted payload)
-    (on_from (job_at bytes uuid image old) image here (state_of bytes m) asked old.objects (Needs wanted payload)) (Some stop.Asks)
-asks-turn {M} bytes uuid image old here m asked object wanted payload memory at is asks come =
+    HasCome owner (bytes_at (state_of bytes m) span.0 span.1) asked new asked.request new.request object)
+    → IsTurn bytes owner image (asking_for old object wanted payload)
+    (on_from (job_at bytes owner image old) image here (state_of bytes m) asked old.objects (Needs wanted payload)) (Some stop.Asks)
+asks-turn {M} bytes owner image old here m asked object wanted payload memory at is asks come =
     let new = asking_for old object wanted payload in
     let body = body_there bytes image old.point old.machine here m at is in (
       refl,
@@ -80,44 +81,44 @@ asks-turn {M} bytes uuid image old here m asked object wanted payload memory at 
         record {
           memory = memory;
           point = subst (λ (o : Option EntryPoint). IsSome o) (sym at) refl;
-          same = ap (λ (b : Body). record (job_at bytes uuid image old) { body = b; asked = Some asked }) (sym body);
-          asked = subst (λ (o : Option (AnyMachine M)). IsSomeAnd o (λ n. Awaits uuid new asked (state_of bytes n))) (sym is) (record { asks = asks; come = come });
+          same = ap (λ (b : Body). record (job_at bytes owner image old) { body = b; asked = Some asked }) (sym body);
+          asked = subst (λ (o : Option (AnyMachine M)). IsSomeAnd o (λ n. Awaits owner new asked (state_of bytes n))) (sym is) (record { asks = asks; come = come });
         },
         refl,
       ),
     )
 
 -- the job of an object call at a step, whose machine is there
-abbrev pub object_turn : {M : Type 0} → (M → List ℕ) → List ℕ → Image → Cont M → EntryPoint → AnyMachine M → PendingRequest → StorageStep → Advance
-object_turn bytes uuid image cont here m asked step =
-    on_from (job_at bytes uuid image cont) image here (state_of bytes m) asked cont.objects (object_asking step)
+abbrev pub object_turn : {M : Type 0} → (M → List ℕ) → Owner → Image → Cont M → EntryPoint → AnyMachine M → PendingRequest → StorageStep → Advance
+object_turn bytes owner image cont here m asked step =
+    on_from (job_at bytes owner image cont) image here (state_of bytes m) asked cont.objects (object_asking step)
 
 -- so has an object call come, over the bytes of this machine
-abbrev pub Came : {M : Type 0} → (M → List ℕ) → List ℕ → Cont M → AnyMachine M → ObjectCall → PendingRequest → ObjectState → StorageStep → Type 0
-Came bytes uuid cont m call asked state step =
+abbrev pub Came : {M : Type 0} → (M → List ℕ) → Owner → Cont M → AnyMachine M → ObjectCall → PendingRequest → ObjectState → StorageStep → Type 0
+Came bytes owner cont m call asked state step =
     let span = object_span call in
-    StandsFor state call uuid asked.range asked.objects asked.answers
+    StandsFor state call owner.uuid asked.range asked.objects asked.answers
     (record { step = step; range = bytes_at (state_of bytes m) span.0 span.1; objects = cont.objects })
 
-pub object-asks : {M : Type 0} (bytes : M → List ℕ) (uuid : List ℕ) (image : Image) (old new : Cont M) (answer : ContStop)
+pub object-asks : {M : Type 0} (bytes : M → List ℕ) (owner : Owner) (image : Image) (old new : Cont M) (answer : ContStop)
     (here : EntryPoint) (m : AnyMachine M) (call : ObjectCall) (asked : PendingRequest) (state : ObjectState) (step : StorageStep) (wanted : Rpc) (payload : List ℕ)
     → asked.request ≡ request.Object call → step ≡ storage.Ask wanted payload
     → new ≡ asking_for old (Some state) wanted payload → answer ≡ stop.Asks
     → old.memory ≡ None → old.point ≡ Some here → old.machine ≡ Some m → HasAskedFor old.cancelled (request.Object call) (state_of bytes m)
-    → Came bytes uuid old m call asked state step
-    → IsTurn bytes uuid image new (object_turn bytes uuid image old here m asked step) (Some answer)
-object-asks {M} bytes uuid image old new answer here m call asked state step wanted payload names is stays stops memory at there asks came =
+    → Came bytes owner old m call asked state step
+    → IsTurn bytes owner image new (object_turn bytes owner image old here m asked step) (Some answer)
+object-asks {M} bytes owner image old new answer here m call asked state step wanted payload names is stays stops memory at there asks came =
     let next = asking_for old (Some state) wanted payload in
     let now = state_of bytes m in
-    let come = subst (λ (s : StorageStep). Came bytes uuid old m call asked state s) is came in
+    let come = subst (λ (s : StorageStep). Came bytes owner old m call asked state s) is came in
     let turn =
-    asks-turn bytes uuid image old here m asked (Some state) wanted payload memory at there
+    asks-turn bytes owner image old here m asked (Some state) wanted payload memory at there
     (subst (λ (r : Request). HasAskedFor old.cancelled r now) (sym names) asks)
-    (subst (λ (r : Request). let span = span_of r in HasCome uuid (bytes_at now span.0 span.1) asked next r next.request (Some state)) (sym names) come)
+    (subst (λ (r : Request). let span = span_of r in HasCome owner (bytes_at now span.0 span.1) asked next r next.request (Some state)) (sym names) come)
     in
-    subst (λ (s : StorageStep). IsTurn bytes uuid image new (object_turn bytes uuid image old here m asked s) (Some answer)) (sym is)
-    (subst (λ (a : ContStop). IsTurn bytes uuid image new (object_turn bytes uuid image old here m asked (storage.Ask wanted payload)) (Some a)) (sym stops)
-    (subst (λ (c : Cont M). IsTurn bytes uuid image c (object_turn bytes uuid image old here m asked (storage.Ask wanted payload)) (Some stop.Asks)) (sym stays) turn))
+    subst (λ (s : StorageStep). IsTurn bytes owner image new (object_turn bytes owner image old here m asked s) (Some answer)) (sym is)
+    (subst (λ (a : ContStop). IsTurn bytes owner image new (object_turn bytes owner image old here m asked (storage.Ask wanted payload)) (Some a)) (sym stops)
+    (subst (λ (c : Cont M). IsTurn bytes owner image c (object_turn bytes owner image old here m asked (storage.Ask wanted payload)) (Some stop.Asks)) (sym stays) turn))
 
 -- ---- its application gets an answer
 
@@ -125,18 +126,18 @@ object-asks {M} bytes uuid image old new answer here m call asked state step wan
 abbrev pub answered_with : {M : Type 0} → Cont M → Option (AnyMachine M) → Cont M
 answered_with cont machine = record cont { machine = machine; request = None }
 
-pub gives-turn : {M : Type 0} (bytes : M → List ℕ) (uuid : List ℕ) (image : Image) (old : Cont M) (here : EntryPoint) (m : AnyMachine M)
+pub gives-turn : {M : Type 0} (bytes : M → List ℕ) (owner : Owner) (image : Image) (old : Cont M) (here : EntryPoint) (m : AnyMachine M)
     (asked : PendingRequest) (r0 r1 r2 : ℕ) (machine : Option (AnyMachine M))
     → old.memory ≡ None → old.object ≡ None → old.point ≡ Some here → HasAskedFor old.cancelled asked.request (state_of bytes m)
     → IsSomeAnd machine (λ n. state_of bytes n ≡ answered asked.request r0 r1 r2 (state_of bytes m))
-    → IsTurn bytes uuid image (answered_with old machine)
-    (on_from (job_at bytes uuid image old) image here (state_of bytes m) asked old.objects (Gives r0 r1 r2)) None
-gives-turn bytes uuid image old here m asked r0 r1 r2 None memory object at asks gives = absurd gives
-gives-turn {M} bytes uuid image old here m asked r0 r1 r2 (Some n) memory object at asks gives =
+    → IsTurn bytes owner image (answered_with old machine)
+    (on_from (job_at bytes owner image old) image here (state_of bytes m) asked old.objects (Gives r0 r1 r2)) None
+gives-turn bytes owner image old here m asked r0 r1 r2 None memory object at asks gives = absurd gives
+gives-turn {M} bytes owner image old here m asked r0 r1 r2 (Some n) memory object at asks gives =
     let body = ap (Machine image here) (sym gives) ∙ sym (body_there bytes image old.point (Some n) here n at refl) in
     let flag = ap (λ (s : State). s.cancelled) gives ∙ asks.flag in (
       refl,
-      ap (λ (b : Body). record (job_at bytes uuid image old) { body = b }) body,
+      ap (λ (b : Body). record (job_at bytes owner image old) { body = b }) body,
       record {
         memory = memory;
         request = refl;
@@ -147,22 +148,22 @@ gives-turn {M} bytes uuid image old here m asked r0 r1 r2 (Some n) memory object
       },
     )
 
-pub object-gives : {M : Type 0} (bytes : M → List ℕ) (uuid : List ℕ) (image : Image) (old new : Cont M)
+pub object-gives : {M : Type 0} (bytes : M → List ℕ) (owner : Owner) (image : Image) (old new : Cont M)
     (here : EntryPoint) (m : AnyMachine M) (call : ObjectCall) (asked : PendingRequest) (step : StorageStep) (result value : ℕ)
     → asked.request ≡ request.Object call → step ≡ storage.Done result value
     → new ≡ answered_with old new.machine
     → old.memory ≡ None → old.object ≡ None → old.point ≡ Some here → HasAskedFor old.cancelled (request.Object call) (state_of bytes m)
     → IsSomeAnd new.machine (λ n. state_of bytes n ≡ answered (request.Object call) result value 0 (state_of bytes m))
-    → IsTurn bytes uuid image new (object_turn bytes uuid image old here m asked step) None
-object-gives {M} bytes uuid image old new here m call asked step result value names is stays memory object at asks gives =
+    → IsTurn bytes owner image new (object_turn bytes owner image old here m asked step) None
+object-gives {M} bytes owner image old new here m call asked step result value names is stays memory object at asks gives =
     let now = state_of bytes m in
     let turn =
-    gives-turn bytes uuid image old here m asked result value 0 new.machine memory object at
+    gives-turn bytes owner image old here m asked result value 0 new.machine memory object at
     (subst (λ (r : Request). HasAskedFor old.cancelled r now) (sym names) asks)
     (subst (λ (r : Request). IsSomeAnd new.machine (λ n. state_of bytes n ≡ answered r result value 0 now)) (sym names) gives)
     in
-    subst (λ (s : StorageStep). IsTurn bytes uuid image new (object_turn bytes uuid image old here m asked s) None) (sym is)
-    (subst (λ (c : Cont M). IsTurn bytes uuid image c (object_turn bytes uuid image old here m asked (storage.Done result value)) None) (sym stays) turn)
+    subst (λ (s : StorageStep). IsTurn bytes owner image new (object_turn bytes owner image old here m asked s) None) (sym is)
+    (subst (λ (c : Cont M). IsTurn bytes owner image c (object_turn bytes owner image old here m asked (storage.Done result value)) None) (sym stays) turn)
 
 -- ---- an object call that is served
 
@@ -174,12 +175,12 @@ on_alike job body held before image point machine asked objects (Gives r0 r1 r2)
 on_alike job body held before image point machine asked objects (Bad code) = refl
 
 pub served-object : (job : Job) (image : Image) (point : EntryPoint) (machine : State) (call : ObjectCall) (asked : PendingRequest) (now : Serving)
-    → asked.request ≡ request.Object call → serving call job.uuid asked.range asked.objects asked.answers ≡ Some now
+    → asked.request ≡ request.Object call → serving call job.owner.uuid asked.range asked.objects asked.answers ≡ Some now
     → advance_on_answers job image point machine asked
     ≡ Some (on_from job image point (with_bytes machine (request.Object call) now.range) asked now.objects (object_asking now.step))
 served-object job image point machine call asked now names serves =
     let on = λ (r : Request) (came : Ask). on_from job image point (with_bytes machine r came.range) asked came.objects came.next in
-    ap (λ (r : Request). option_map (on r) (comes_to job.uuid (is_cancelled machine) asked r)) names
+    ap (λ (r : Request). option_map (on r) (comes_to job.owner (is_cancelled machine) asked r)) names
     ∙ ap (λ (o : Option Serving). option_map (on (request.Object call)) (option_map object_ask o)) serves
 
 -- a machine whose bytes were stored as they stood
@@ -199,17 +200,17 @@ came-over s call uuid range left objects held answers state step here came =
     subst (λ (r : List ℕ). StandsFor state call uuid range objects answers (record { step = step; range = r; objects = held })) (sym here) came
 
 -- what it comes to is what its next step does
-pub object-served : {M : Type 0} (bytes : M → List ℕ) (uuid : List ℕ) (image : Image) (old : Cont M)
+pub object-served : {M : Type 0} (bytes : M → List ℕ) (owner : Owner) (image : Image) (old : Cont M)
     (here : EntryPoint) (m n : AnyMachine M) (before : Option PendingRequest) (call : ObjectCall) (asked : PendingRequest) (state : ObjectState) (now : Serving) (Q : Advance → Type 0)
     → asked.request ≡ request.Object call
     → state_of bytes n ≡ with_bytes (state_of bytes m) (request.Object call) now.range
-    → StandsFor state call uuid asked.range asked.objects asked.answers now
-    → Q (object_turn bytes uuid image (moved old n now.objects) here n asked now.step)
-    → IsSomeAnd (advance_on_answers (record (job_at bytes uuid image old) { asked = before }) image here (state_of bytes m) asked) Q
-object-served {M} bytes uuid image old here m n before call asked state now Q names stored stands turn =
-    let job = record (job_at bytes uuid image old) { asked = before } in
+    → StandsFor state call owner.uuid asked.range asked.objects asked.answers now
+    → Q (object_turn bytes owner image (moved old n now.objects) here n asked now.step)
+    → IsSomeAnd (advance_on_answers (record (job_at bytes owner image old) { asked = before }) image here (state_of bytes m) asked) Q
+object-served {M} bytes owner image old here m n before call asked state now Q names stored stands turn =
+    let job = record (job_at bytes owner image old) { asked = before } in
     let point = here in
-    let left = job_at bytes uuid image (moved old n now.objects) in
+    let left = job_at bytes owner image (moved old n now.objects) in
     let next = object_asking now.step in
     let same =
     on_alike job left.body now.objects None image point (state_of bytes n) asked now.objects next

@@ -2,6 +2,7 @@
 use Rattle.std.proofs.Common.{◌≡◌, ℕ, ◌+◌, ◌-◌, List, Option, Some, None, refl, ap, sym, subst, ◌∙◌, arith, add_assoc}
 use Rattle.std.specs.Prelude.{option_and_then, IsSomeAnd}
 use Rattle.std.specs.Option.{option_map}
+use Rattle.job_model.specs.Owner.{Owner}
 use Rattle.job_model.proofs.MachineRuns.{run_for-machine}
 use Rattle.job_model.specs.Job.{Job, Machine, Nothing}
 use Rattle.job_model.specs.Steps.{Advance, Goes, Stops, Grant, Left, Stopped, after_run, grant_after, later, run_for}
@@ -62,57 +63,57 @@ ran_turn job image here machine n ran P is holds =
 -- ---- one turn of a call
 
 -- the stop of a grant by this step, which the call stopped with
-abbrev pub IsStopped : {M : Type 0} → (M → List ℕ) → List ℕ → Image → ℕ → Cont M → ContStop → Grant → Type 0
-IsStopped bytes uuid image used new answer (Left job) = ⊥
-IsStopped bytes uuid image used new answer (Stopped n why) = (n ≡ used) × IsStop bytes uuid new (job_at bytes uuid image new) why answer
+abbrev pub IsStopped : {M : Type 0} → (M → List ℕ) → Owner → Image → ℕ → Cont M → ContStop → Grant → Type 0
+IsStopped bytes owner image used new answer (Left job) = ⊥
+IsStopped bytes owner image used new answer (Stopped n why) = (n ≡ used) × IsStop bytes owner new (job_at bytes owner image new) why answer
 
 -- what a call that answers so has made of a grant, by so many of its steps
-abbrev pub IsTaken : {M : Type 0} → (M → List ℕ) → List ℕ → Image → Option Grant → ℕ → ℕ → Cont M → Option ContStop → Type 0
-IsTaken bytes uuid image grant n used new None =
-    (grant ≡ option_map (later used) (run_for (n - used) (job_at bytes uuid image new))) × IsRunning bytes new
-IsTaken bytes uuid image grant n used new (Some answer) = IsSomeAnd grant (IsStopped bytes uuid image used new answer)
+abbrev pub IsTaken : {M : Type 0} → (M → List ℕ) → Owner → Image → Option Grant → ℕ → ℕ → Cont M → Option ContStop → Type 0
+IsTaken bytes owner image grant n used new None =
+    (grant ≡ option_map (later used) (run_for (n - used) (job_at bytes owner image new))) × IsRunning bytes new
+IsTaken bytes owner image grant n used new (Some answer) = IsSomeAnd grant (IsStopped bytes owner image used new answer)
 
-taken : {M : Type 0} (bytes : M → List ℕ) (uuid : List ℕ) (image : Image) (grant : Option Grant) (n used : ℕ) (new : Cont M) (answer : Option ContStop) (turn : Advance)
-    → grant ≡ grant_after used (n - used) turn → IsTurn bytes uuid image new turn answer → IsTaken bytes uuid image grant n used new answer
-taken bytes uuid image grant n used new None (Goes job) grants is =
+taken : {M : Type 0} (bytes : M → List ℕ) (owner : Owner) (image : Image) (grant : Option Grant) (n used : ℕ) (new : Cont M) (answer : Option ContStop) (turn : Advance)
+    → grant ≡ grant_after used (n - used) turn → IsTurn bytes owner image new turn answer → IsTaken bytes owner image grant n used new answer
+taken bytes owner image grant n used new None (Goes job) grants is =
     (grants ∙ ap (λ (j : Job). option_map (later used) (run_for (n - used) j)) is.1, is.2)
-taken bytes uuid image grant n used new (Some answer) (Goes job) grants is = let e = is.0 in absurd cc
-taken bytes uuid image grant n used new None (Stops why) grants is = absurd is
-taken bytes uuid image grant n used new (Some answer) (Stops why) grants is =
-    subst (λ (g : Option Grant). IsSomeAnd g (IsStopped bytes uuid image used new answer)) (sym grants) (refl, is)
+taken bytes owner image grant n used new (Some answer) (Goes job) grants is = let e = is.0 in absurd cc
+taken bytes owner image grant n used new None (Stops why) grants is = absurd is
+taken bytes owner image grant n used new (Some answer) (Stops why) grants is =
+    subst (λ (g : Option Grant). IsSomeAnd g (IsStopped bytes owner image used new answer)) (sym grants) (refl, is)
 
 -- the clause of a turn, for a call whose machine is at this entry point
-abbrev Turns : {M : Type 0} → (M → List ℕ) → List ℕ → Image → Cont M → Cont M → ℕ → ℕ → Option ContStop → Option EntryPoint → Option (AnyMachine M) → Type 0
-Turns bytes uuid image old new n used answer point machine =
+abbrev Turns : {M : Type 0} → (M → List ℕ) → Owner → Image → Cont M → Cont M → ℕ → ℕ → Option ContStop → Option EntryPoint → Option (AnyMachine M) → Type 0
+Turns bytes owner image old new n used answer point machine =
     IsSomeAnd machine (λ m. (here : EntryPoint) → point ≡ Some here
-    → IsSomeAnd (turn_of (job_with Nothing uuid old) image here (state_of bytes m) n)
-    (λ turn. (turn.0 ≡ used) × IsTurn bytes uuid image new turn.1 answer))
+    → IsSomeAnd (turn_of (job_with Nothing owner old) image here (state_of bytes m) n)
+    (λ turn. (turn.0 ≡ used) × IsTurn bytes owner image new turn.1 answer))
 
-turn_found : {M : Type 0} (bytes : M → List ℕ) (uuid : List ℕ) (image : Image) (job : Job) (here : EntryPoint) (machine : State) (n used : ℕ) (new : Cont M) (answer : Option ContStop)
-    (o : Option (ℕ × Advance)) → turn_of job image here machine n ≡ o → IsSomeAnd o (λ turn. (turn.0 ≡ used) × IsTurn bytes uuid image new turn.1 answer)
-    → IsTaken bytes uuid image (run_for n (record job { body = Machine image here machine })) n used new answer
-turn_found bytes uuid image job here machine n used new answer None e is = absurd is
-turn_found bytes uuid image job here machine n used new answer (Some turn) e is =
+turn_found : {M : Type 0} (bytes : M → List ℕ) (owner : Owner) (image : Image) (job : Job) (here : EntryPoint) (machine : State) (n used : ℕ) (new : Cont M) (answer : Option ContStop)
+    (o : Option (ℕ × Advance)) → turn_of job image here machine n ≡ o → IsSomeAnd o (λ turn. (turn.0 ≡ used) × IsTurn bytes owner image new turn.1 answer)
+    → IsTaken bytes owner image (run_for n (record job { body = Machine image here machine })) n used new answer
+turn_found bytes owner image job here machine n used new answer None e is = absurd is
+turn_found bytes owner image job here machine n used new answer (Some turn) e is =
     let grants = turn_grants job image here machine n turn e in
     let by_used = ap (λ (k : ℕ). grant_after k (n - k) turn.1) is.0 in
-    taken bytes uuid image (run_for n (record job { body = Machine image here machine })) n used new answer turn.1 (grants ∙ by_used) is.1
+    taken bytes owner image (run_for n (record job { body = Machine image here machine })) n used new answer turn.1 (grants ∙ by_used) is.1
 
-turns_at : {M : Type 0} (bytes : M → List ℕ) (uuid : List ℕ) (image : Image) (old new : Cont M) (n used : ℕ) (answer : Option ContStop)
+turns_at : {M : Type 0} (bytes : M → List ℕ) (owner : Owner) (image : Image) (old new : Cont M) (n used : ℕ) (answer : Option ContStop)
     (point : Option EntryPoint) (machine : Option (AnyMachine M)) → HasReady bytes old.cancelled point machine
-    → Turns bytes uuid image old new n used answer point machine
-    → IsTaken bytes uuid image (run_for n (job_with (body_at bytes image point machine) uuid old)) n used new answer
-turns_at bytes uuid image old new n used answer None machine ready turns = absurd ready
-turns_at bytes uuid image old new n used answer (Some here) None ready turns = absurd turns
-turns_at bytes uuid image old new n used answer (Some here) (Some m) ready turns =
-    let job = job_with Nothing uuid old in
-    turn_found bytes uuid image job here (state_of bytes m) n used new answer _ refl (turns here refl)
+    → Turns bytes owner image old new n used answer point machine
+    → IsTaken bytes owner image (run_for n (job_with (body_at bytes image point machine) owner old)) n used new answer
+turns_at bytes owner image old new n used answer None machine ready turns = absurd ready
+turns_at bytes owner image old new n used answer (Some here) None ready turns = absurd turns
+turns_at bytes owner image old new n used answer (Some here) (Some m) ready turns =
+    let job = job_with Nothing owner old in
+    turn_found bytes owner image job here (state_of bytes m) n used new answer _ refl (turns here refl)
 
 -- a turn of a call that runs
-pub turn_taken : {M : Type 0} (bytes : M → List ℕ) (uuid : List ℕ) (image : Image) (old new : Cont M) (n used : ℕ) (answer : Option ContStop)
-    → IsRunning bytes old → Turns bytes uuid image old new n used answer old.point old.machine
-    → IsTaken bytes uuid image (run_for n (job_at bytes uuid image old)) n used new answer
-turn_taken bytes uuid image old new n used answer running turns =
-    turns_at bytes uuid image old new n used answer old.point old.machine running.machine turns
+pub turn_taken : {M : Type 0} (bytes : M → List ℕ) (owner : Owner) (image : Image) (old new : Cont M) (n used : ℕ) (answer : Option ContStop)
+    → IsRunning bytes old → Turns bytes owner image old new n used answer old.point old.machine
+    → IsTaken bytes owner image (run_for n (job_at bytes owner image old)) n used new answer
+turn_taken bytes owner image old new n used answer running turns =
+    turns_at bytes owner image old new n used answer old.point old.machine running.machine turns
 
 -- ---- one turn after the other
 
@@ -134,25 +135,25 @@ pub rests-more : (all middle rest : Option Grant) (m n : ℕ) → Rests all m mi
 rests-more all middle rest m n first second = first ∙ ap (option_map (later m)) second ∙ later-later m n rest
 
 -- a grant of which all steps are used
-pub run_over : {M : Type 0} (bytes : M → List ℕ) (uuid : List ℕ) (image : Image) (cont : Cont M) (before steps : ℕ) (all : Option Grant)
-    → Rests all steps (run_for 0 (job_at bytes uuid image cont)) → IsRunning bytes cont → cont.steps ≡ before + steps
-    → IsSomeAnd all (λ grant. IsRun bytes uuid image cont before steps grant stop.Interrupted)
-run_over bytes uuid image cont before steps all rests running used =
-    subst (λ (g : Option Grant). IsSomeAnd g (λ grant. IsRun bytes uuid image cont before steps grant stop.Interrupted)) (sym rests)
+pub run_over : {M : Type 0} (bytes : M → List ℕ) (owner : Owner) (image : Image) (cont : Cont M) (before steps : ℕ) (all : Option Grant)
+    → Rests all steps (run_for 0 (job_at bytes owner image cont)) → IsRunning bytes cont → cont.steps ≡ before + steps
+    → IsSomeAnd all (λ grant. IsRun bytes owner image cont before steps grant stop.Interrupted)
+run_over bytes owner image cont before steps all rests running used =
+    subst (λ (g : Option Grant). IsSomeAnd g (λ grant. IsRun bytes owner image cont before steps grant stop.Interrupted)) (sym rests)
     (refl, refl, running, used)
 
-stopped_later : {M : Type 0} (bytes : M → List ℕ) (uuid : List ℕ) (image : Image) (cont : Cont M) (before steps m used : ℕ) (answer : ContStop) (rest : Option Grant)
-    → IsSomeAnd rest (IsStopped bytes uuid image used cont answer) → cont.steps ≡ before + (m + used)
-    → IsSomeAnd (option_map (later m) rest) (λ grant. IsRun bytes uuid image cont before steps grant answer)
-stopped_later bytes uuid image cont before steps m used answer None is count = absurd is
-stopped_later bytes uuid image cont before steps m used answer (Some (Left job)) is count = absurd is
-stopped_later bytes uuid image cont before steps m used answer (Some (Stopped n why)) is count =
+stopped_later : {M : Type 0} (bytes : M → List ℕ) (owner : Owner) (image : Image) (cont : Cont M) (before steps m used : ℕ) (answer : ContStop) (rest : Option Grant)
+    → IsSomeAnd rest (IsStopped bytes owner image used cont answer) → cont.steps ≡ before + (m + used)
+    → IsSomeAnd (option_map (later m) rest) (λ grant. IsRun bytes owner image cont before steps grant answer)
+stopped_later bytes owner image cont before steps m used answer None is count = absurd is
+stopped_later bytes owner image cont before steps m used answer (Some (Left job)) is count = absurd is
+stopped_later bytes owner image cont before steps m used answer (Some (Stopped n why)) is count =
     (is.1, count ∙ ap (λ (k : ℕ). before + (m + k)) (sym is.0))
 
 -- a grant that stops behind so many steps
-pub run_stops : {M : Type 0} (bytes : M → List ℕ) (uuid : List ℕ) (image : Image) (cont : Cont M) (before steps m used : ℕ) (answer : ContStop) (all rest : Option Grant)
-    → Rests all m rest → IsSomeAnd rest (IsStopped bytes uuid image used cont answer) → cont.steps ≡ before + (m + used)
-    → IsSomeAnd all (λ grant. IsRun bytes uuid image cont before steps grant answer)
-run_stops bytes uuid image cont before steps m used answer all rest rests is count =
-    subst (λ (g : Option Grant). IsSomeAnd g (λ grant. IsRun bytes uuid image cont before steps grant answer)) (sym rests)
-    (stopped_later bytes uuid image cont before steps m used answer rest is count)
+pub run_stops : {M : Type 0} (bytes : M → List ℕ) (owner : Owner) (image : Image) (cont : Cont M) (before steps m used : ℕ) (answer : ContStop) (all rest : Option Grant)
+    → Rests all m rest → IsSomeAnd rest (IsStopped bytes owner image used cont answer) → cont.steps ≡ before + (m + used)
+    → IsSomeAnd all (λ grant. IsRun bytes owner image cont before steps grant answer)
+run_stops bytes owner image cont before steps m used answer all rest rests is count =
+    subst (λ (g : Option Grant). IsSomeAnd g (λ grant. IsRun bytes owner image cont before steps grant answer)) (sym rests)
+    (stopped_later bytes owner image cont before steps m used answer rest is count)

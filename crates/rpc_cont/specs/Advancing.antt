@@ -5,7 +5,7 @@ use Rattle.job_model.specs.Job.{Job}
 use Rattle.job_model.specs.Steps.{Advance, Grant, Left, Stopped, after_run}
 use Rattle.rpc_cont.specs.declared.phase.Phase.{Phase}
 use Rattle.rpc_cont.specs.declared.phase.Phase.TheVariants as phase
-use Rattle.rpc_cont.specs.Conts.{uuid_of, job_for}
+use Rattle.rpc_cont.specs.Conts.{job_for, owner_for}
 use Rattle.rpc_cont.specs.Running.{IsReady, IsStop}
 use Rattle.rpc_cont.specs.declared.app.ContApp.{ContApp}
 use Rattle.rpc_cont.specs.declared.app.ContApp.TheVariants as app
@@ -74,4 +74,4 @@ abbrev pub IsAdvance : {M : Type 0} → (M → List ℕ) → Option ContApp → 
 IsAdvance bytes app cont before steps (Left job) answer =
     (answer ≡ stop.Interrupted) × (job ≡ job_for bytes app cont) × CanRun bytes app cont × (cont.steps ≡ before + steps)
 IsAdvance bytes app cont before steps (Stopped used why) answer =
-    IsStop bytes (uuid_of app) cont (job_for bytes app cont) why answer × (cont.steps ≡ before + used)
+    IsStop bytes (owner_for app) cont (job_for bytes app cont) why answer × (cont.steps ≡ before + used)

@@ -5,7 +5,7 @@ use Rattle.job_model.specs.Steps.{Ends, Panics, Asks, Advance, Goes, Stops}
 use Rattle.rpc_cont.specs.declared.phase.Phase.{Phase}
 use Rattle.rpc_cont.specs.declared.phase.Phase.TheVariants as phase
 use Rattle.rpc_cont.specs.Advancing.{CanAdvance, phase_after}
-use Rattle.rpc_cont.specs.Conts.{uuid_of, job_of}
+use Rattle.rpc_cont.specs.Conts.{job_of, call_owner}
 use Rattle.rpc_cont.specs.Running.{HasAsked, HasAskedFor}
 use Rattle.rpc_cont.specs.declared.app.ContApp.{ContApp}
 use Rattle.rpc_cont.specs.declared.app.ContApp.TheVariants as app
@@ -65,4 +65,4 @@ IsAnswered bytes cont (Goes job) = (job ≡ job_of bytes cont) × CanAdvance byt
 IsAnswered bytes cont (Stops (Ends end)) = ⊥
 IsAnswered bytes cont (Stops (Panics code)) = ⊥
 IsAnswered bytes cont (Stops (Asks wanted payload left)) =
-    HasAsked bytes (uuid_of cont.app) cont (job_of bytes cont) wanted payload left × (cont.phase ≡ phase.Asks) × CanBeAnswered bytes cont
+    HasAsked bytes (call_owner cont) cont (job_of bytes cont) wanted payload left × (cont.phase ≡ phase.Asks) × CanBeAnswered bytes cont

@@ -1,6 +1,7 @@
 -- What a call as data stands for while it runs: its job.
 use Rattle.std.specs.Prelude.{ℕ, Bool, true, false, List, [], ◌∷◌, length, Option, Some, None}
 use Rattle.std.specs.Option.{option_map_or}
+use Rattle.job_model.specs.Owner.{Owner, owner_of}
 use Rattle.job_model.specs.Job.{Body, Machine, Native, Nothing, Job}
 use Rattle.job_model.specs.Point.{no_params}
 use Rattle.job_model.specs.Steps.{End}
@@ -21,6 +22,14 @@ uuid_of None = []
 uuid_of (Some (app.Image uuid image)) = uuid
 uuid_of (Some (app.Native native)) = native.uuid
 uuid_of (Some (app.Dead uuid)) = uuid
+
+-- whose application this is
+abbrev pub owner_for : Option ContApp → Owner
+owner_for app = owner_of (uuid_of app)
+
+-- whose application a call is of
+abbrev pub call_owner : {M : Type 0} → Cont M → Owner
+call_owner cont = owner_for cont.app
 
 -- the parameters that no machine has
 abbrev pub kept_params : Option CopiedParams → CopiedParams
@@ -47,11 +56,11 @@ body_of bytes (Some (app.Image uuid image)) point machine = body_at bytes image.
 body_of bytes (Some (app.Native native)) point machine = native_body native.relation point
 body_of bytes (Some (app.Dead uuid)) point machine = Nothing
 
--- the job of a call, with what runs and its application's UUID
-abbrev pub job_with : {M : Type 0} → Body → List ℕ → Cont M → Job
-job_with body uuid cont = record {
+-- the job of a call, with what runs and whose application it is
+abbrev pub job_with : {M : Type 0} → Body → Owner → Cont M → Job
+job_with body owner cont = record {
   body = body;
-  uuid = uuid;
+  owner = owner;
   login = cont.login;
   context = cont.context;
   objects = cont.objects;
@@ -62,12 +71,12 @@ job_with body uuid cont = record {
 }
 
 -- the same of an image
-abbrev pub job_at : {M : Type 0} → (M → List ℕ) → List ℕ → Image → Cont M → Job
-job_at bytes uuid image cont = job_with (body_at bytes image cont.point cont.machine) uuid cont
+abbrev pub job_at : {M : Type 0} → (M → List ℕ) → Owner → Image → Cont M → Job
+job_at bytes owner image cont = job_with (body_at bytes image cont.point cont.machine) owner cont
 
 -- the same of this application
 abbrev pub job_for : {M : Type 0} → (M → List ℕ) → Option ContApp → Cont M → Job
-job_for bytes app cont = job_with (body_of bytes app cont.point cont.machine) (uuid_of app) cont
+job_for bytes app cont = job_with (body_of bytes app cont.point cont.machine) (owner_for app) cont
 
 -- the job that a call stands for
 abbrev pub job_of : {M : Type 0} → (M → List ℕ) → Cont M → Job

@@ -1,10 +1,11 @@
 //! The answers to what an application has asked for.
 ghost use Rattle.std.specs.Prelude.{◌≡◌, ◌≢◌, List, ℕ, Some, None, true, IsSome, IsSomeAnd, if◌then◌else◌};
+ghost use Rattle.job_model.specs.Owner.{Owner};
 ghost use Rattle.job_model.specs.Job.{Job, with_cancel_seen};
 ghost use Rattle.job_model.specs.Steps.{advance_on_answer};
 ghost use Rattle.rpc_cont.specs.Advancing.{CanAdvance};
 ghost use Rattle.rpc_cont.specs.Answering.{CanBeAnswered, IsAnswered, phase_behind};
-ghost use Rattle.rpc_cont.specs.Conts.{is_at_its_end, job_of, memory_size, uuid_of};
+ghost use Rattle.rpc_cont.specs.Conts.{call_owner, is_at_its_end, job_of, memory_size};
 ghost use Rattle.rpc_cont.specs.Running.{IsWaiting, worked};
 ghost use Rattle.rpc_msgs.specs.Answer.{NoBuffer, Replied};
 ghost use Rattle.ta_step.specs.Machine.{state_of};
@@ -36,7 +37,7 @@ impl<M: TaMemory + Drop> Cont<M> {
     /// Goes on with the reply to its request.
     pub(crate) fn reply(&mut self, reply: &RpcReply)
         requires { CanBeAnswered M.bytes self.old }
-        ensures answers { (job : Job) → IsWaiting M.bytes (uuid_of self.old.app) self.old (job_of M.bytes self.old) job
+        ensures answers { (job : Job) → IsWaiting M.bytes (call_owner self.old) self.old (job_of M.bytes self.old) job
             → IsSomeAnd (advance_on_answer (Replied reply.now) job) (λ next. IsAnswered M.bytes self.new next) }
         ensures size { memory_size M.bytes self.new ≡ memory_size M.bytes self.old }
         ensures stays { self.new ≡ record (worked self.old self.new) { phase = self.new.phase } }
@@ -57,7 +58,7 @@ impl<M: TaMemory + Drop> Cont<M> {
     /// Goes on without a buffer for its request.
     pub(crate) fn without_buffer(&mut self)
         requires { CanBeAnswered M.bytes self.old }
-        ensures answers { (job : Job) → IsWaiting M.bytes (uuid_of self.old.app) self.old (job_of M.bytes self.old) job
+        ensures answers { (job : Job) → IsWaiting M.bytes (call_owner self.old) self.old (job_of M.bytes self.old) job
             → IsSomeAnd (advance_on_answer NoBuffer job) (λ next. IsAnswered M.bytes self.new next) }
         ensures size { memory_size M.bytes self.new ≡ memory_size M.bytes self.old }
         ensures stays { self.new ≡ record (worked self.old self.new) { phase = self.new.phase } }
@@ -125,7 +126,7 @@ impl<M: TaMemory + Drop> Cont<M> {
     fn object_reply(&mut self, call: ObjectCall, reply: &RpcReply)
         requires can { CanBeAnswered M.bytes self.old }
         requires asked { IsSomeAnd self.old.machine (λ m. (state_of M.bytes m).asked ≡ Some (Request.Object call)) }
-        ensures answers { (job : Job) → IsWaiting M.bytes (uuid_of self.old.app) self.old (job_of M.bytes self.old) job
+        ensures answers { (job : Job) → IsWaiting M.bytes (call_owner self.old) self.old (job_of M.bytes self.old) job
             → IsSomeAnd (advance_on_answer (Replied reply.now) job) (λ next. IsAnswered M.bytes self.new next) }
         ensures size { memory_size M.bytes self.new ≡ memory_size M.bytes self.old }
         ensures stays { self.new ≡ record (worked self.old self.new) { phase = self.new.phase } }
@@ -143,8 +144,8 @@ impl<M: TaMemory + Drop> Cont<M> {
     pub fn see_cancel(&mut self)
         ensures job { job_of M.bytes self.new ≡ with_cancel_seen (job_of M.bytes self.old) }
         ensures runs { CanAdvance M.bytes self.old → CanAdvance M.bytes self.new }
-        ensures waits { (uuid : List ℕ) (job : Job) → IsWaiting M.bytes uuid self.old (job_of M.bytes self.old) job
-            → IsWaiting M.bytes uuid self.new (job_of M.bytes self.new) (with_cancel_seen job) }
+        ensures waits { (owner : Owner) (job : Job) → IsWaiting M.bytes owner self.old (job_of M.bytes self.old) job
+            → IsWaiting M.bytes owner self.new (job_of M.bytes self.new) (with_cancel_seen job) }
         ensures answers { CanBeAnswered M.bytes self.old → CanBeAnswered M.bytes self.new }
         ensures size { memory_size M.bytes self.new ≡ memory_size M.bytes self.old }
         ensures stays { self.new ≡ record self.old { cancelled = true; machine = self.new.machine } }

@@ -1,5 +1,6 @@
 //! What an application asks for as it runs, and what becomes of the answer.
 ghost use Rattle.std.specs.Prelude.{◌≡◌, List, ℕ, Some, None, IsSome, IsSomeAnd};
+ghost use Rattle.job_model.specs.Owner.{Owner, owner_of};
 ghost use Rattle.job_model.specs.declared.entry_point.EntryPoint.{EntryPoint as AnyPoint};
 ghost use Rattle.job_model.specs.Asking.{PendingRequest, Gives, bytes_at, object_asking, told_time};
 ghost use Rattle.job_model.specs.Job.{of_tee};
@@ -49,10 +50,10 @@ impl<M: TaMemory + Drop> Cont<M> {
     pub(crate) fn ask(&mut self, uuid: Uuid, request: Request) -> Option<ContStop>
         requires { IsAsking M.bytes self.old request }
         ensures asks { (image : AnyImage) → IsSomeAnd self.old.machine (λ m. (here : AnyPoint) → self.old.point ≡ Some here
-            → (let job = job_at M.bytes uuid image self.old in
+            → (let job = job_at M.bytes (owner_of uuid) image self.old in
             let machine = state_of M.bytes m in
             IsSomeAnd (advance_on_answers job image here machine (new_request job machine request))
-            (λ turn. IsTurn M.bytes uuid image self.new turn result))) }
+            (λ turn. IsTurn M.bytes (owner_of uuid) image self.new turn result))) }
         ensures size { memory_size M.bytes self.new ≡ memory_size M.bytes self.old }
         ensures stays { self.new ≡ worked self.old self.new }
     {
@@ -77,13 +78,13 @@ impl<M: TaMemory + Drop> Cont<M> {
         step: StorageStep,
     ) -> Option<ContStop>
         requires { IsAsking M.bytes self.old (Request.Object call) }
-        ensures turns { (uuid : List ℕ) (image : AnyImage) (asked : PendingRequest) → asked.request ≡ Request.Object call
+        ensures turns { (owner : Owner) (image : AnyImage) (asked : PendingRequest) → asked.request ≡ Request.Object call
             → IsSomeAnd self.old.machine (λ m. (here : AnyPoint) → self.old.point ≡ Some here
             → (let machine = state_of M.bytes m in
             let range = (let span = object_span call in bytes_at machine span.0 span.1) in
-            StandsFor state call uuid asked.range asked.objects asked.answers
+            StandsFor state call owner.uuid asked.range asked.objects asked.answers
             (record { step = step; range = range; objects = self.old.objects })
-            → IsTurn M.bytes uuid image self.new (on_from (job_at M.bytes uuid image self.old) image here
+            → IsTurn M.bytes owner image self.new (on_from (job_at M.bytes owner image self.old) image here
             machine asked self.old.objects (object_asking step)) result)) }
         ensures size { memory_size M.bytes self.new ≡ memory_size M.bytes self.old }
         ensures stays { self.new ≡ worked self.old self.new }

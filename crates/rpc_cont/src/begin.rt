@@ -1,5 +1,6 @@
 //! How an entry point begins, and what its return leaves.
 ghost use Rattle.std.specs.Prelude.{◌≡◌, List, ℕ, [], map, length, Some, None, IsSomeAnd};
+ghost use Rattle.job_model.specs.Owner.{Owner};
 ghost use Rattle.job_model.specs.declared.entry_point.EntryPoint.{EntryPoint as AnyPoint};
 ghost use Rattle.job_model.specs.Job.{Nothing, image_job_at, of_application};
 ghost use Rattle.job_model.specs.Point.{first_registers, params_at, params_beside};
@@ -23,8 +24,8 @@ impl<M: TaMemory + Drop> Cont<M> {
     /// it. Takes no memory.
     pub fn begin(&mut self, image: &Image, memory: M, point: EntryPoint)
         requires { self.old.machine ≡ None }
-        ensures begins { (uuid : List ℕ) → job_at M.bytes uuid image.now self.new
-            ≡ image_job_at image.now (M.bytes memory) self.old.cancelled (job_with Nothing uuid self.old)
+        ensures begins { (owner : Owner) → job_at M.bytes owner image.now self.new
+            ≡ image_job_at image.now (M.bytes memory) self.old.cancelled (job_with Nothing owner self.old)
             point self.old.points.items }
         ensures ready { HasReady M.bytes self.new.cancelled self.new.point self.new.machine }
         ensures size { memory_size M.bytes self.new ≡ length (M.bytes memory) }
@@ -96,9 +97,9 @@ impl<M: TaMemory + Drop> Cont<M> {
     /// Takes what its entry point returned: a create that fails, and each open and invoke, give the result, an open
     /// the context too. No entry point comes behind a create that fails, or an open that succeeds.
     fn take_result(&mut self, params: CopiedParams, r0: u32, r1: u32)
-        ensures takes { (uuid : List ℕ) (point : AnyPoint) → self.old.point ≡ Some point
-            → (let here = point in let job = job_with Nothing uuid self.old in
-            job_with Nothing uuid self.new ≡ record (job_after_return job here params r0 r1) { points = still_to_come here r0 job.points }) }
+        ensures takes { (owner : Owner) (point : AnyPoint) → self.old.point ≡ Some point
+            → (let here = point in let job = job_with Nothing owner self.old in
+            job_with Nothing owner self.new ≡ record (job_after_return job here params r0 r1) { points = still_to_come here r0 job.points }) }
         ensures stays { self.new ≡ record self.old
             { result = self.new.result; context = self.new.context; params = self.new.params; points = self.new.points } }
     {
@@ -124,9 +125,9 @@ impl<M: TaMemory + Drop> Cont<M> {
     /// Begins the next entry point over this memory, or ends the call where none is to come.
     fn follow(&mut self, image: &Image, memory: M) -> Option<ContStop>
         requires idle { IsIdle self.old }
-        ensures follows { (uuid : List ℕ) (here : AnyPoint) (machine : State) → self.old.point ≡ Some here
+        ensures follows { (owner : Owner) (here : AnyPoint) (machine : State) → self.old.point ≡ Some here
             → machine.memory ≡ M.bytes memory → machine.cancelled ≡ self.old.cancelled
-            → IsTurn M.bytes uuid image.now self.new (on_to_next (job_with Nothing uuid self.old) image.now here
+            → IsTurn M.bytes owner image.now self.new (on_to_next (job_with Nothing owner self.old) image.now here
             machine self.old.points.items) result }
         ensures size { memory_size M.bytes self.new ≡ length (M.bytes memory) }
         ensures stays { self.new ≡ worked self.old self.new }
@@ -153,11 +154,11 @@ impl<M: TaMemory + Drop> Cont<M> {
     ) -> Option<ContStop>
         requires idle { IsIdle self.old }
         requires flag { (state_of M.bytes machine).cancelled ≡ self.old.cancelled }
-        ensures goes { (uuid : List ℕ) (point : AnyPoint) → self.old.point ≡ Some point
-            → (let job = job_with Nothing uuid self.old in
+        ensures goes { (owner : Owner) (point : AnyPoint) → self.old.point ≡ Some point
+            → (let job = job_with Nothing owner self.old in
             let here = point in
             let left = state_of M.bytes machine in
-            IsTurn M.bytes uuid image.now self.new
+            IsTurn M.bytes owner image.now self.new
             (on_to_next (job_after_return job here left.params r0 r1) image.now here left (still_to_come here r0 job.points)) result) }
         ensures size { memory_size M.bytes self.new ≡ length (state_of M.bytes machine).memory }
         ensures stays { self.new ≡ worked self.old self.new }

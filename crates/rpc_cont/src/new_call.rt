@@ -1,6 +1,7 @@
 //! A call as its entry makes it, and as it begins on its instance. None of this takes memory.
 ghost use Rattle.std.specs.Prelude.{◌≡◌, ℕ, List, [], ◌∷◌, length, Some, None};
 ghost use Rattle.base.specs.NumberMap.{NumberMap};
+ghost use Rattle.job_model.specs.Owner.{Owner, owner_of};
 ghost use Rattle.job_model.specs.declared.entry_point.EntryPoint.{EntryPoint as AnyPoint};
 ghost use Rattle.job_model.specs.Beginning.{begun_job};
 ghost use Rattle.job_model.specs.Job.{Nothing, idle_job, native_job_at, of_tee};
@@ -43,8 +44,8 @@ impl<M: TaMemory + Drop> Cont<M> {
         ensures entered { IsEntered entered result }
         ensures params { result.params ≡ entered.params }
         ensures outcome { result.result ≡ of_tee 0 }
-        ensures job { (uuid : List ℕ) (objects : NumberMap AnyHandle) → record (job_with Nothing uuid result) { objects = objects }
-            ≡ idle_job uuid entered.login entered.context objects (kept_params entered.params) }
+        ensures job { (owner : Owner) (objects : NumberMap AnyHandle) → record (job_with Nothing owner result) { objects = objects }
+            ≡ idle_job owner entered.login entered.context objects (kept_params entered.params) }
         ensures phase { result.phase ≡ Phase.Waits }
         ensures shape { IsShaped M.bytes result }
     {
@@ -57,8 +58,8 @@ impl<M: TaMemory + Drop> Cont<M> {
         ensures entered { IsEntered entered result }
         ensures params { result.params ≡ entered.params }
         ensures outcome { result.result ≡ outcome }
-        ensures job { (uuid : List ℕ) (objects : NumberMap AnyHandle) → record (job_with Nothing uuid result) { objects = objects }
-            ≡ record (idle_job uuid entered.login entered.context objects (kept_params entered.params)) { result = outcome } }
+        ensures job { (owner : Owner) (objects : NumberMap AnyHandle) → record (job_with Nothing owner result) { objects = objects }
+            ≡ record (idle_job owner entered.login entered.context objects (kept_params entered.params)) { result = outcome } }
         ensures objects { result.objects ≡ [] }
         ensures phase { result.phase ≡ phase }
     {
@@ -94,7 +95,7 @@ impl<M: TaMemory + Drop> Cont<M> {
         requires fresh { IsFresh self.old }
         requires image { HasValidImage held }
         ensures begins { job_of M.bytes self.new ≡ begun_job (beginning_on M.bytes held self.old.cancelled)
-            (job_with Nothing (held_uuid held) self.old) (first ∷ behind.items) }
+            (job_with Nothing (owner_of (held_uuid held)) self.old) (first ∷ behind.items) }
         ensures runs { CanAdvance M.bytes self.new }
         ensures shape { IsShaped M.bytes self.new }
         ensures size { memory_size M.bytes self.new ≡ length (beginning_on M.bytes held self.old.cancelled).memory }
@@ -130,8 +131,8 @@ impl<M: TaMemory + Drop> Cont<M> {
     /// run.
     fn begin_native(&mut self, first: EntryPoint, behind: ArrayVec<EntryPoint, 3>)
         requires fresh { IsFresh self.old }
-        ensures begins { (relation : AnyRelation) (uuid : List ℕ) → job_with (native_body relation self.new.point) uuid self.new
-            ≡ native_job_at relation (job_with Nothing uuid self.old) first behind.items }
+        ensures begins { (relation : AnyRelation) (owner : Owner) → job_with (native_body relation self.new.point) owner self.new
+            ≡ native_job_at relation (job_with Nothing owner self.old) first behind.items }
         ensures invokes { (point : AnyPoint) → self.new.point ≡ Some point → IsInvoke point }
         ensures stays { self.new ≡ record self.old { point = self.new.point; points = self.new.points } }
     {

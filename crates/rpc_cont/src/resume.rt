@@ -3,7 +3,7 @@ ghost use Rattle.std.specs.Prelude.{◌≡◌, ◌≢◌, ℕ, Some, None, IsSom
 ghost use Rattle.job_model.specs.Job.{Job};
 ghost use Rattle.job_model.specs.Steps.{advance_on_answer};
 ghost use Rattle.rpc_cont.specs.Answering.{CanBeAnswered, IsAnswered};
-ghost use Rattle.rpc_cont.specs.Conts.{job_of, memory_size, uuid_of};
+ghost use Rattle.rpc_cont.specs.Conts.{call_owner, job_of, memory_size};
 ghost use Rattle.rpc_cont.specs.Resuming.{answer_in};
 ghost use Rattle.rpc_cont.specs.Running.{IsWaiting, worked};
 ghost use Rattle.rpc_msgs.specs.Answer.{Replied, RpcAnswer};
@@ -25,7 +25,7 @@ impl<M: TaMemory + Drop> Cont<M> {
         ensures buffer { (addr cookie : ℕ) → input ≡ ResumeInput.Buffer addr cookie → self.old.phase ≢ Phase.Runs
             → self.new ≡ record self.old { buffer = Some (record { addr = addr; cookie = cookie }) } }
         ensures asks { (answer : RpcAnswer) (job : Job) → self.old.phase ≡ Phase.Asks → answer_in input ≡ Some answer
-            → IsWaiting M.bytes (uuid_of self.old.app) self.old (job_of M.bytes self.old) job
+            → IsWaiting M.bytes (call_owner self.old) self.old (job_of M.bytes self.old) job
             → IsSomeAnd (advance_on_answer answer job) (λ next. IsAnswered M.bytes self.new next) }
         ensures waits { self.old.phase ≡ Phase.Waits → IsSome (answer_in input) → self.new ≡ self.old }
         ensures ends { self.old.phase ≡ Phase.Ends → IsSome (answer_in input) → self.new ≡ record self.old { request = None } }
@@ -55,7 +55,7 @@ impl<M: TaMemory + Drop> Cont<M> {
         requires { self.old.phase ≡ Phase.Asks → CanBeAnswered M.bytes self.old }
         ensures runs { self.old.phase ≡ Phase.Runs → self.new ≡ self.old }
         ensures asks { (job : Job) → self.old.phase ≡ Phase.Asks
-            → IsWaiting M.bytes (uuid_of self.old.app) self.old (job_of M.bytes self.old) job
+            → IsWaiting M.bytes (call_owner self.old) self.old (job_of M.bytes self.old) job
             → IsSomeAnd (advance_on_answer (Replied reply.now) job) (λ next. IsAnswered M.bytes self.new next) }
         ensures waits { self.old.phase ≡ Phase.Waits → self.new ≡ self.old }
         ensures ends { self.old.phase ≡ Phase.Ends → self.new ≡ record self.old { request = None } }

@@ -13,7 +13,7 @@ use Rattle.own_model.specs.Solo.{OwnCall, Solo, comes_back_in, phase_back, wakes
 use Rattle.own_model.specs.declared.own_event.BackInput.{BackInput}
 use Rattle.own_model.specs.declared.own_event.BackInput.TheVariants as back
 use Rattle.rpc_cont.specs.Answering.{IsAnswered}
-use Rattle.rpc_cont.specs.Conts.{job_of, kept_params, uuid_of}
+use Rattle.rpc_cont.specs.Conts.{call_owner, job_of, kept_params}
 use Rattle.rpc_cont.specs.Running.{IsWaiting, worked}
 use Rattle.rpc_cont.specs.declared.cont.Asked.{Asked}
 use Rattle.rpc_cont.specs.declared.cont.Cont.{Cont}
@@ -94,7 +94,7 @@ pub record IsAnswer (input : BackInput) (answer : RpcAnswer) : Type 0 where
 
 -- what `resume_with` says of an answer
 pub record TakesAnswer (old new : Cont (List ℕ)) (answer : RpcAnswer) : Type 0 where
-  pub asks : (job : Job) → old.phase ≡ phase.Asks → IsWaiting bytes_of (uuid_of old.app) old (job_of bytes_of old) job →
+  pub asks : (job : Job) → old.phase ≡ phase.Asks → IsWaiting bytes_of (call_owner old) old (job_of bytes_of old) job →
       IsSomeAnd (advance_on_answer answer job) (λ next. IsAnswered bytes_of new next)
   pub ends : old.phase ≡ phase.Ends → new ≡ record old { request = None }
   pub buffer : new.buffer ≡ old.buffer

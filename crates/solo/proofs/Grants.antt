@@ -9,7 +9,7 @@ use Rattle.job_model.specs.Steps.{Advance, After, Goes, Grant, IsGrant, JobStop,
 use Rattle.job_model.specs.Steps as steps
 use Rattle.kernel_state.specs.Calls.{bytes_of}
 use Rattle.rpc_cont.specs.Advancing.{CanAdvance, IsAdvance, phase_after}
-use Rattle.rpc_cont.specs.Conts.{job_of, uuid_of}
+use Rattle.rpc_cont.specs.Conts.{call_owner, job_of}
 use Rattle.rpc_cont.specs.Running.{IsStop, worked}
 use Rattle.rpc_cont.specs.declared.cont.Cont.{Cont}
 use Rattle.rpc_cont.specs.declared.phase.Phase.TheVariants as phase
@@ -67,7 +67,7 @@ goes_on before g r job final new answer some e advances at =
 -- what a call comes to whose job stops so at this step
 abbrev pub StopsSo : ℕ → ℕ → JobStop → ℕ → Cont (List ℕ) → ContStop → Type 0
 StopsSo before used why g new stop.Interrupted = (g < used) × Stop (job_of bytes_of new) (used - g) why
-StopsSo before used why g new answer = IsStop bytes_of (uuid_of new.app) new (job_of bytes_of new) why answer × (new.steps ≡ before + used)
+StopsSo before used why g new answer = IsStop bytes_of (call_owner new) new (job_of bytes_of new) why answer × (new.steps ≡ before + used)
 
 not_none : (why : JobStop) (o : Option JobStop) → o ≡ Some why → o ≡ None → ⊥
 not_none why o some none = absurd cc
@@ -86,7 +86,7 @@ still_to_stop g used job left why new same stops granted =
 
 -- an answer is that of a stop, and so no interrupt
 stop_so : (before used : ℕ) (why : JobStop) (g : ℕ) (new : Cont (List ℕ)) (answer : ContStop) →
-    IsStop bytes_of (uuid_of new.app) new (job_of bytes_of new) why answer → new.steps ≡ before + used → StopsSo before used why g new answer
+    IsStop bytes_of (call_owner new) new (job_of bytes_of new) why answer → new.steps ≡ before + used → StopsSo before used why g new answer
 stop_so before used (steps.Ends end) g new stop.Interrupted is did = let e = is.0 in absurd cc
 stop_so before used (steps.Panics code) g new stop.Interrupted is did = let e = is.0 in absurd cc
 stop_so before used (steps.Asks wanted payload left) g new stop.Interrupted is did = let e = is.0 in absurd cc
@@ -101,7 +101,7 @@ granted_so before used g job why new answer (Left left) stops granted is =
 granted_so before used g job why new answer (Stopped n other) stops granted is =
     let same : (n ≡ used) × (other ≡ why) = one_stop job n used other why granted.1 stops in
     stop_so before used why g new answer
-    (subst (λ (w : JobStop). IsStop bytes_of (uuid_of new.app) new (job_of bytes_of new) w answer) same.1 is.0)
+    (subst (λ (w : JobStop). IsStop bytes_of (call_owner new) new (job_of bytes_of new) w answer) same.1 is.0)
     (is.1 ∙ ap (λ (n : ℕ). before + n) same.0)
 
 grant_found : (before used g : ℕ) (job : Job) (why : JobStop) (new : Cont (List ℕ)) (answer : ContStop) (o : Option Grant) → grant_of g job ≡ o →
@@ -269,7 +269,7 @@ comes_nearer initial old new remaining g answer near most advances is at stays =
     }
 
 stops_with : (before used : ℕ) (why : JobStop) (g : ℕ) (new : Cont (List ℕ)) (answer : ContStop) → (answer ≡ stop.Interrupted → ⊥) → StopsSo before used why g new answer →
-    IsStop bytes_of (uuid_of new.app) new (job_of bytes_of new) why answer × (new.steps ≡ before + used)
+    IsStop bytes_of (call_owner new) new (job_of bytes_of new) why answer × (new.steps ≡ before + used)
 stops_with before used why g new stop.Interrupted apart is = absurd (apart refl)
 stops_with before used why g new stop.Asks apart is = is
 stops_with before used why g new (stop.Ended result) apart is = is
@@ -278,7 +278,7 @@ stops_with before used why g new (stop.Panicked code) apart is = is
 -- not interrupted, it has come to its stop
 pub comes_to_stop : (initial old new : Cont (List ℕ)) (remaining g used : ℕ) (why : JobStop) (answer : ContStop) → IsNearing initial old remaining →
     Advances old.steps g (job_of bytes_of old) new answer → (answer ≡ stop.Interrupted → ⊥) → Stop (job_of bytes_of initial) used why →
-    IsStop bytes_of (uuid_of new.app) new (job_of bytes_of new) why answer × (new.steps ≡ initial.steps + used)
+    IsStop bytes_of (call_owner new) new (job_of bytes_of new) why answer × (new.steps ≡ initial.steps + used)
 comes_to_stop initial old new remaining g used why answer near advances apart its =
     let there = near.stops used why its in
     let so = stops_with old.steps (initial.steps + used - old.steps) why g new answer apart (nears initial old new remaining g used why answer near its advances) in

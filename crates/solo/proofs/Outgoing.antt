@@ -10,7 +10,7 @@ use Rattle.kernel_state.specs.Calls.{HasEnded, IsInPhase, bytes_of, woken_slot}
 use Rattle.own_model.specs.Solo.{Going, OwnCall, Solo, going_in, session_unrun, shows, stopped, taken_on, woken_by}
 use Rattle.rpc_cont.specs.Advancing.{phase_after}
 use Rattle.rpc_cont.specs.Answering.{CanBeAnswered}
-use Rattle.rpc_cont.specs.Conts.{end_left, job_of, kept_params, uuid_of}
+use Rattle.rpc_cont.specs.Conts.{call_owner, end_left, job_of, kept_params}
 use Rattle.rpc_cont.specs.Running.{IsStop, worked}
 use Rattle.rpc_cont.specs.declared.cont.Asked.{Asked}
 use Rattle.rpc_cont.specs.declared.cont.Cont.{Cont}
@@ -66,7 +66,7 @@ in_phase_of old call at is same = subst (IsInPhase old) same is.phase
 -- the job has been run to a stop
 pub record HasStopped (old ran : Cont (List ℕ)) (answer : ContStop) : Type 0 where
   pub stops : (used : ℕ) (why : JobStop) → Stop (job_of bytes_of old) used why → old.steps + used < 2 ^ 128 →
-      IsStop bytes_of (uuid_of ran.app) ran (job_of bytes_of ran) why answer × (ran.steps ≡ old.steps + used)
+      IsStop bytes_of (call_owner ran) ran (job_of bytes_of ran) why answer × (ran.steps ≡ old.steps + used)
   pub asks : answer ≡ stop.Asks → CanBeAnswered bytes_of ran
   pub phase : ran.phase ≡ phase_after answer
   pub stays : ran ≡ record (worked old ran) { steps = ran.steps; phase = ran.phase }
@@ -81,7 +81,7 @@ keeps_run old ran stays = record {
 -- it stops there
 stop_of : (old ran : Cont (List ℕ)) (answer : ContStop) (solo : Solo) (call : OwnCall) (going : Going) (most : ℕ) → HasStopped old ran answer → IsCall old call →
     call.steps + most < 2 ^ 128 → (at : StopsAt old solo call going most) →
-    IsStop bytes_of (uuid_of ran.app) ran (job_of bytes_of ran) at.why answer × (ran.steps ≡ call.steps + at.used)
+    IsStop bytes_of (call_owner ran) ran (job_of bytes_of ran) at.why answer × (ran.steps ≡ call.steps + at.used)
 stop_of old ran answer solo call going most run is room at =
     let did = is.steps in
     let few = at.few in
@@ -92,7 +92,7 @@ stop_of old ran answer solo call going most run is room at =
 
 asks_so : (now : SoloSession) (old ran : Cont (List ℕ)) (answer : ContStop) (before : Solo) (call : OwnCall) (used : ℕ) (why : JobStop) →
     HasStopped old ran answer → IsBeside now before → IsCall old call → ran.steps ≡ call.steps + used →
-    IsStop bytes_of (uuid_of ran.app) ran (job_of bytes_of ran) why answer → (phase_after answer ≡ phase.Ends → ⊥) →
+    IsStop bytes_of (call_owner ran) ran (job_of bytes_of ran) why answer → (phase_after answer ≡ phase.Ends → ⊥) →
     IsGoing now ran before (stopped before (record call { steps = call.steps + used }) why)
 asks_so now old ran answer before call used (steps.Ends end) run beside is did its not_ended = absurd (not_ended (ap phase_after its.0))
 asks_so now old ran answer before call used (steps.Panics code) run beside is did its not_ended = absurd (not_ended (ap phase_after its.0))
@@ -128,7 +128,7 @@ pub record Ended (s now : SoloSession) (ran new : Cont (List ℕ)) : Type 0 wher
 
 ends_so : (s now : SoloSession) (old ran new : Cont (List ℕ)) (answer : ContStop) (before : Solo) (call : OwnCall) (used : ℕ) (why : JobStop) →
     HasStopped old ran answer → Ended s now ran new → IsBeside s before → IsCall old call → ran.steps ≡ call.steps + used →
-    IsStop bytes_of (uuid_of ran.app) ran (job_of bytes_of ran) why answer → ((code : ℕ) → answer ≡ stop.Panicked code → ⊥) → phase_after answer ≡ phase.Ends →
+    IsStop bytes_of (call_owner ran) ran (job_of bytes_of ran) why answer → ((code : ℕ) → answer ≡ stop.Panicked code → ⊥) → phase_after answer ≡ phase.Ends →
     IsGoing now new before (stopped before (record call { steps = call.steps + used }) why)
 ends_so s now old ran new answer before call used (steps.Panics code) run ended beside is did its not_panicked at = absurd (not_panicked code its.0)
 ends_so s now old ran new answer before call used (steps.Asks wanted payload left) run ended beside is did its not_panicked at =
@@ -168,7 +168,7 @@ pub record Panicked (s now : SoloSession) (ran new : Cont (List ℕ)) : Type 0 w
 
 panics_so : (s now : SoloSession) (old ran new : Cont (List ℕ)) (answer : ContStop) (before : Solo) (call : OwnCall) (used : ℕ) (why : JobStop) →
     HasStopped old ran answer → Panicked s now ran new → IsBeside s before → IsCall old call → ran.steps ≡ call.steps + used →
-    IsStop bytes_of (uuid_of ran.app) ran (job_of bytes_of ran) why answer → (code : ℕ) → answer ≡ stop.Panicked code →
+    IsStop bytes_of (call_owner ran) ran (job_of bytes_of ran) why answer → (code : ℕ) → answer ≡ stop.Panicked code →
     IsGoing now new before (stopped before (record call { steps = call.steps + used }) why)
 panics_so s now old ran new answer before call used (steps.Ends end) run panicked beside is did its code panics =
     let no : stop.Ended end.result ≡ stop.Panicked code = sym its.0 ∙ panics in absurd cc

@@ -4,6 +4,7 @@ use Rattle.std.specs.Prelude.{is_some}
 use Rattle.std.specs.Option.{option_map}
 use Rattle.job_model.specs.Job.{Job, with_cancel_seen}
 use Rattle.job_model.specs.Steps.{After, after}
+use Rattle.job_model.specs.Owner.{Owner}
 use Rattle.kernel_model.specs.Kernel.{CallPhase, Runs, Asks, Waits, Ends}
 use Rattle.kernel_model.specs.Resume.{phase_seen}
 use Rattle.kernel_state.specs.Calls.{IsInPhase, bytes_of}
@@ -80,7 +81,7 @@ waiting_flag old new at becomes waits is =
 -- one that doesn't
 pub working_flag : (old new : Cont (List ℕ)) (at : CallPhase) → job_of bytes_of new ≡ with_cancel_seen (job_of bytes_of old) →
     (CanAdvance bytes_of old → CanAdvance bytes_of new) →
-    ((uuid : List ℕ) (job : Job) → IsWaiting bytes_of uuid old (job_of bytes_of old) job → IsWaiting bytes_of uuid new (job_of bytes_of new) (with_cancel_seen job)) →
+    ((owner : Owner) (job : Job) → IsWaiting bytes_of owner old (job_of bytes_of old) job → IsWaiting bytes_of owner new (job_of bytes_of new) (with_cancel_seen job)) →
     (CanBeAnswered bytes_of old → CanBeAnswered bytes_of new) →
     new ≡ record old { cancelled = true; machine = new.machine } → (old.phase ≡ phase.Waits → ⊥) → IsInPhase old at → IsInPhase new (phase_seen at)
 working_flag old new at job runs waits answers stays works is =

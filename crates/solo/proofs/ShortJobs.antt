@@ -161,7 +161,7 @@ outcome_short job image point machine (outcome.Panics code) next is e had short 
     subst IsShortAdvance same tt
 outcome_short job image point machine (outcome.Asks wanted) next is e had short =
     answers_short job image point (asking wanted machine) (new_request job machine wanted)
-    (ask job.uuid (is_cancelled (asking wanted machine)) (new_request job machine wanted)) next had short e
+    (ask job.owner (is_cancelled (asking wanted machine)) (new_request job machine wanted)) next had short e
 
 -- ---- an application that is built in
 
@@ -274,7 +274,7 @@ answer_in : (job : Job) (answer : RpcAnswer) (body : Body) (asked : Option Pendi
     AreShort job.params → IsShortBody body → IsShortAdvance next
 answer_in job answer (Machine image point machine) (Some asked) next e had short =
     let more : PendingRequest = record asked { answers = asked.answers ++ answer ∷ [] } in
-    answers_short job image point machine more (ask job.uuid (is_cancelled machine) more) next had short e
+    answers_short job image point machine more (ask job.owner (is_cancelled machine) more) next had short e
 answer_in job answer (Machine image point machine) None next e had short = absurd cc
 answer_in job answer (Native relation func) asked next e had short = absurd cc
 answer_in job answer Nothing asked next e had short = absurd cc

@@ -3,6 +3,7 @@ use Rattle.std.specs.Prelude.{◌≡◌, ℕ, Bool, List, Option, Some, None, if
 use Rattle.base.specs.NumberMap.{NumberMap}
 use Rattle.job_model.specs.Beginning.{Beginning}
 use Rattle.job_model.specs.Job.{Job, idle_job}
+use Rattle.job_model.specs.Owner.{owner_of}
 use Rattle.kernel_model.specs.Application.{Application, program_of, uuid_of}
 use Rattle.kernel_model.specs.Instances.{is_held}
 use Rattle.kernel_model.specs.Kernel.{Instance}
@@ -42,7 +43,7 @@ from_start app start = record {
 
 -- the job that it begins with
 abbrev pub idle_start : Application → Start → Job
-idle_start app start = idle_job (uuid_of app) start.session.login start.session.context start.instance.objects start.params
+idle_start app start = idle_job (owner_of (uuid_of app)) start.session.login start.session.context start.instance.objects start.params
 
 -- what a call has that begins, of the session and the instance
 pub record HasStart (cont : Cont (List ℕ)) (kept : NumberMap Handle) (start : Start) : Type 0 where

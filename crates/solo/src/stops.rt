@@ -5,7 +5,7 @@ ghost use Rattle.job_model.specs.Steps.{After, JobStop as AnyStop, Stop};
 ghost use Rattle.kernel_state.specs.Calls.{bytes_of};
 ghost use Rattle.rpc_cont.specs.Advancing.{CanAdvance, phase_after};
 ghost use Rattle.rpc_cont.specs.Answering.{CanBeAnswered};
-ghost use Rattle.rpc_cont.specs.Conts.{job_of, uuid_of};
+ghost use Rattle.rpc_cont.specs.Conts.{call_owner, job_of};
 ghost use Rattle.rpc_cont.specs.Running.{IsStop, worked};
 
 use rpc_cont::{Cont, ContStop, Phase};
@@ -46,7 +46,7 @@ pub(crate) fn runs_to_stop(cont: &mut Cont<Plain>) -> ContStop
     requires { CanAdvance bytes_of cont.old }
     ensures stops { (used : ℕ) (why : AnyStop) → Stop (job_of bytes_of cont.old) used why
         → cont.old.steps + used < 2 ^ 128
-        → IsStop bytes_of (uuid_of cont.new.app) cont.new (job_of bytes_of cont.new) why result
+        → IsStop bytes_of (call_owner cont.new) cont.new (job_of bytes_of cont.new) why result
         × (cont.new.steps ≡ cont.old.steps + used) }
     ensures asks { result ≡ ContStop.Asks → CanBeAnswered bytes_of cont.new }
     ensures phase { cont.new.phase ≡ phase_after result }

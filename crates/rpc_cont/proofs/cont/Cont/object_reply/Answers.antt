@@ -2,7 +2,7 @@ use Rattle.std.proofs.Common.{◌≡◌, ℕ, List, Option, Some, None, ap, sym,
 use Rattle.job_model.specs.Asking.{bytes_at, object_asking}
 use Rattle.job_model.specs.Steps.{Advance, on_from}
 use Rattle.rpc_cont.specs.Answering.{IsAnswered}
-use Rattle.rpc_cont.specs.Conts.{job_at, memory_of, uuid_of}
+use Rattle.rpc_cont.specs.Conts.{job_at, memory_of, call_owner}
 use Rattle.rpc_msgs.specs.Answer.{Replied}
 use Rattle.ta_step.specs.Machine.{state_of}
 use Rattle.ta_step.specs.Requests.{object_span}
@@ -37,7 +37,7 @@ pub returns-clause-answers : goal.returns-clause-answers
 returns-clause-answers g c job waits =
     let bytes = g.M.TaMemory.bytes in
     let old = c.args.self.now in
-    let uuid = uuid_of old.app in
+    let owner = call_owner old in
     let call = c.args.call in
     let span = object_span call in
     let m = c.unwrap-machine.result in
@@ -54,29 +54,29 @@ returns-clause-answers g c job waits =
     let rest = c.answer-step.ensures.rest ∙ c.of-span.ensures.rest in
     let stored = c.into_machine.ensures s span.0 span.1 w.asks.in_range rest in
     let here = stored-there s (state_of bytes n) (state_of bytes left.machine) left.addr left.len span.0 span.1 left.inside w.asks.in_range rest stored in
-    let come = come-object uuid (bytes_at s span.0 span.1) w.asked old call old.request old.object c.unwrap-state.result object_is w.come in
+    let come = come-object owner (bytes_at s span.0 span.1) w.asked old call old.request old.object c.unwrap-state.result object_is w.come in
     let asking = storage.Ask come.0.rpc come.0.payload in
     let came =
     subst (λ (r : List ℕ).
-    StandsFor c.unwrap-state.result call uuid w.asked.range w.asked.objects w.asked.answers (record { step = asking; range = r; objects = old.objects }))
+    StandsFor c.unwrap-state.result call owner.uuid w.asked.range w.asked.objects w.asked.answers (record { step = asking; range = r; objects = old.objects }))
     (sym c.of-span.ensures.bytes) come.1
     in
-    let stands = c.answer-step.ensures.stands call uuid w.asked.range w.asked.objects w.asked.answers come.0.rpc come.0.payload came in
+    let stands = c.answer-step.ensures.stands call owner.uuid w.asked.range w.asked.objects w.asked.answers come.0.rpc come.0.payload came in
     let step = c.answer-step.result in
     let objects = c.answer-step.new.handles in
     let now : Serving = record { step = step; range = range; objects = objects } in
     let plain = record old { object = None } in
     let mid = moved plain n objects in
-    let next = on_from (job_at bytes uuid w.image mid) w.image w.here (state_of bytes n) more objects (object_asking step) in
-    let calm = goes_or_asks (job_at bytes uuid w.image mid) w.image w.here (state_of bytes n) more objects step c.answer-step.ensures.no_panic in
+    let next = on_from (job_at bytes owner w.image mid) w.image w.here (state_of bytes n) more objects (object_asking step) in
+    let calm = goes_or_asks (job_at bytes owner w.image mid) w.image w.here (state_of bytes n) more objects step c.answer-step.ensures.no_panic in
     let turn =
-    c.go_on-stop.ensures.turns uuid w.image more w.names w.here w.at
-    (came-over (state_of bytes n) call uuid more.range range more.objects objects more.answers c.answer-step.new.self step here stands)
+    c.go_on-stop.ensures.turns owner w.image more w.names w.here w.at
+    (came-over (state_of bytes n) call owner.uuid more.range range more.objects objects more.answers c.answer-step.new.self step here stands)
     in
     let done = ran-answered bytes mid c.go_on-stop.new.self w.image c.go_on-stop.result c.phase_behind-self.result next c.go_on-stop.ensures.stays w.runs c.phase_behind-self.ensures calm turn in
     let goes_on = λ (t : Advance). IsAnswered bytes (in_phase c.go_on-stop.new.self c.phase_behind-self.result) t in
     holds_as _ _ goes_on (w.given answer)
-    (object-served bytes uuid w.image plain w.here m n (Some w.asked) call more c.answer-step.new.self now goes_on w.names stored stands done)
+    (object-served bytes owner w.image plain w.here m n (Some w.asked) call more c.answer-step.new.self now goes_on w.names stored stands done)
 
 pub returns-clause-size : goal.returns-clause-size
 returns-clause-size g c =

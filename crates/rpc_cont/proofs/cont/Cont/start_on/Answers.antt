@@ -1,4 +1,5 @@
 use Rattle.std.proofs.Common.{◌≡◌, ◌∷◌, sym, subst}
+use Rattle.job_model.specs.Owner.{owner_of}
 use Rattle.job_model.specs.Beginning.{begun_job}
 use Rattle.job_model.specs.Job.{Job, Nothing, image_job_at}
 use Rattle.rpc_cont.specs.Beginning.{beginning_on, held_uuid}
@@ -11,12 +12,12 @@ pub returns-in-Image-clause-begins : goal.returns-in-Image-clause-begins
 returns-in-Image-clause-begins g c =
     let bytes = g.M.TaMemory.bytes in
     let old = c.args.self.now in
-    let uuid = c.in-Image.uuid in
-    let job : Job = job_with Nothing uuid old in
+    let owner = owner_of c.in-Image.uuid in
+    let job : Job = job_with Nothing owner old in
     let begins =
-    subst (λ (i : Image). job_at bytes uuid i c.begin.new.self ≡ image_job_at i (bytes c.in-Image.memory) old.cancelled job c.args.first c.args.behind.items)
-    c.deref.ensures (c.begin.ensures.begins uuid)
+    subst (λ (i : Image). job_at bytes owner i c.begin.new.self ≡ image_job_at i (bytes c.in-Image.memory) old.cancelled job c.args.first c.args.behind.items)
+    c.deref.ensures (c.begin.ensures.begins owner)
     in
-    let left = job_at bytes uuid c.in-Image.image.value c.begin.new.self in
-    subst (λ (h : Held _). left ≡ begun_job (beginning_on bytes h old.cancelled) (job_with Nothing (held_uuid h) old) (c.args.first ∷ c.args.behind.items))
+    let left = job_at bytes owner c.in-Image.image.value c.begin.new.self in
+    subst (λ (h : Held _). left ≡ begun_job (beginning_on bytes h old.cancelled) (job_with Nothing (owner_of (held_uuid h)) old) (c.args.first ∷ c.args.behind.items))
     (sym c.in-Image.is) begins

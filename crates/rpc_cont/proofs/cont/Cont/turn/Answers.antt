@@ -1,4 +1,5 @@
 use Rattle.std.proofs.Common.{◌≡◌, Some}
+use Rattle.job_model.specs.Owner.{owner_of}
 use Rattle.job_model.specs.Job.{Nothing}
 use Rattle.job_model.specs.Steps.{Advance}
 use Rattle.rpc_cont.specs.Conts.{job_with}
@@ -17,6 +18,6 @@ returns-clause-turns g c =
     let is : old.machine ≡ Some m = cc in
     holds_as old.machine (Some m) _ is
     (λ here at.
-    ran_turn (job_with Nothing c.args.uuid old) image here (state_of bytes m) c.args.steps _
-    (λ (turn : Advance). IsTurn bytes c.args.uuid image c.stopped-stop.new.self turn c.stopped-stop.result)
+    ran_turn (job_with Nothing (owner_of c.args.uuid) old) image here (state_of bytes m) c.args.steps _
+    (λ (turn : Advance). IsTurn bytes (owner_of c.args.uuid) image c.stopped-stop.new.self turn c.stopped-stop.result)
     c.run_machine-stop.ensures.runs (c.stopped-stop.ensures.serves here at))
