@@ -105,13 +105,13 @@ pub record IsAt (boot : Booted) (most : ℕ) (past : List Event) (kernel : Kerne
   pub bound : 1000000 * (length past + length events) ≤ most
 
 -- after its first event
-record IsOn (boot : Booted) (most : ℕ) (past : List Event) (kernel : Kernel) (happened : Event)
+pub record IsOn (boot : Booted) (most : ℕ) (past : List Event) (kernel : Kernel) (happened : Event)
     (events : List Event) : Type 0 where
-  next : Kernel
-  comes : after_event boot kernel happened ≡ Some next
-  at : IsAt boot most (past ++ happened ∷ []) next events
+  pub next : Kernel
+  pub comes : after_event boot kernel happened ≡ Some next
+  pub at : IsAt boot most (past ++ happened ∷ []) next events
 
-on_from : (boot : Booted) (most : ℕ) (past : List Event) (kernel : Kernel) (happened : Event) (events : List Event)
+pub on_from : (boot : Booted) (most : ℕ) (past : List Event) (kernel : Kernel) (happened : Event) (events : List Event)
     → IsAt boot most past kernel (happened ∷ events) → IsOn boot most past kernel happened events
 on_from boot most past kernel happened events at =
     option_and_then_some (λ (next : Kernel). after_events boot next events)
@@ -131,7 +131,7 @@ on_from boot most past kernel happened events at =
     moved : (a b : ℕ) → (a + 1) + b ≡ a + suc b
     moved a b = omega arith
 
-bound_now : (a b most : ℕ) → 1000000 * (a + b) ≤ most → 1000000 * a ≤ most
+pub bound_now : (a b most : ℕ) → 1000000 * (a + b) ≤ most → 1000000 * a ≤ most
 bound_now a b most le = omega arith
 
 -- ---- a session that is tied
@@ -161,6 +161,7 @@ runs_on most app before between after solo then items logged replies rest = reco
       (sym (filter_map-append (λ (logged : Logged). logged.1) items rest.items));
 }
 
+-- what is noted of it goes on behind its first event
 pub goes_from : (boot : Booted) (session : ℕ) (kernel next : Kernel) (notes : Notes) (happened : Event)
     (events : List Event) → after_event boot kernel happened ≡ Some next
     → noted_from boot session kernel notes (happened ∷ events)
@@ -195,6 +196,7 @@ tied_on boot about past kernel notes solo (happened ∷ events) shares order tie
 
 -- ---- a session whose application shares an instance, or that has none
 
+-- the UUID that was noted stays, once the session has its number
 pub uuid_on : (boot : Booted) (session most : ℕ) (past : List Event) (kernel : Kernel) (notes : Notes) (events : List Event)
     → session < kernel.tables.next_session → IsAt boot most past kernel events
     → (noted_from boot session kernel notes events).uuid ≡ notes.uuid
@@ -224,7 +226,7 @@ some_same : (a b : Application) → Some a ≡ Some b → a ≡ b
 some_same a b e = cc
 
 -- the application of the UUID that was noted
-named_app : (boot : Booted) (notes : Notes) (of app : Application) → notes.uuid ≡ Some (uuid_of of)
+pub named_app : (boot : Booted) (notes : Notes) (of app : Application) → notes.uuid ≡ Some (uuid_of of)
     → app_of boot (uuid_of of) ≡ Some of
     → option_and_then (app_of boot) notes.uuid ≡ Some app → of ≡ app
 named_app boot notes of app uuid of_boot is =
@@ -297,8 +299,14 @@ early_on boot session most past kernel (happened ∷ events) before at =
 
 -- ---- the laws
 
-none_before : (n : ℕ) → 1000000 * (0 + n) ≤ 1000000 * n
-none_before n = omega arith
+-- a whole history, from the boot on
+pub from_first : (boot : Booted) (history : List Event) (last : Kernel) → kernel_after boot history ≡ Some last
+    → IsAt boot (steps_in history) [] (first_kernel boot) history
+from_first boot history last e =
+    record { last = last; there = refl; onward = e; bound = none_before (length history) }
+  where
+    none_before : (n : ℕ) → 1000000 * (0 + n) ≤ 1000000 * n
+    none_before n = omega arith
 
 -- where the first session has the number 1
 from_boot : (boot : Booted) (session most : ℕ) (history : List Event) → IsAt boot most [] (first_kernel boot) history
@@ -317,9 +325,8 @@ session_answered : (boot : Booted) (history : List Event) (session : ℕ) (app :
     ≡ Some (then, own_replies boot history session))
 session_answered boot history session app s =
     let last = some_of (kernel_after boot history) s.legal.follows in
-    from_boot boot session (steps_in history) history
-    (record { last = last.0; there = refl; onward = last.1; bound = none_before (length history) }) app
-    s.of_app s.shares_none
+    from_boot boot session (steps_in history) history (from_first boot history last.0 last.1) app s.of_app
+    s.shares_none
 
 pub answered_as_alone : AnsweredAsAlone
 answered_as_alone boot history session app s =
