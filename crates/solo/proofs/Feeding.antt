@@ -13,7 +13,6 @@ use Rattle.own_model.specs.declared.own_event.OwnEvent.TheVariants.{Open, Invoke
 use Rattle.own_model.specs.declared.own_reply.OwnReply.{OwnReply}
 use Rattle.rpc_cont.proofs.Asking.{from_there}
 use Rattle.solo.specs.Feeding.{CanBeFed, IsFed, IsFedWith}
-use Rattle.solo.specs.Short.{IsShortEvent}
 use Rattle.solo.specs.Standing.{IsSolo, IsSomeSolo, app_in, entered_in}
 use Rattle.solo.specs.Stepping.{HasNumber, HasRoom, HasStepped}
 use Rattle.solo.specs.declared.solo_session.SoloSession.{SoloSession}
@@ -44,7 +43,7 @@ is_some_solo s event with = record { solo = with.fed.solo; is = with.fed.is }
 -- what is said of a step
 abbrev pub Steps : SoloSession → SoloSession → OwnEvent → Result (Option OwnReply) NoMemory → Type 0
 Steps s new event result = (most : ℕ) (solo next : Solo) (told : Option OwnReply) → IsSolo s solo → HasRoom most solo event
-    → IsShortEvent event → step most (app_in s) solo event ≡ Some (next, told)
+    → step most (app_in s) solo event ≡ Some (next, told)
     → IfOk result (λ answer. HasStepped new answer next told)
 
 -- after it the rest can be fed
@@ -59,9 +58,8 @@ fed_on s new event events result fed same steps =
       is = so.1;
       most = fed.most;
       can = subst (λ (app : Application). CanBeFed fed.most app answered.0 events) (sym same) can;
-      short = fed.short.1;
     })
-    (steps fed.most fed.solo answered.0 answered.1 fed.is fed.can.0.room fed.short.0 does))
+    (steps fed.most fed.solo answered.0 answered.1 fed.is fed.can.0.room does))
 
 -- some events, from one of them on
 pub front : (events : List OwnEvent) (i : ℕ) (none : OwnEvent) → i < length events

@@ -124,15 +124,15 @@ gone s solo number aside = record {
         (aside.others other apart)
 
 -- its result is told
-pub told_so : (s : SoloSession) (solo next : Solo) (number : ℕ) (cont : Cont (List ℕ)) (own : OwnCall) (told : Option OwnReply) (ends : Ending) (answer : OwnReply) →
-    IsAside s number solo → IsCall cont own → own.phase ≡ phase_of ends → AreShort ends.params → is_some cont.buffer ≡ false →
-    (AreShort (kept_params cont.params) → answer ≡ ended cont.result (kept_params cont.params)) →
+pub told_so : (longest : ℕ) (s : SoloSession) (solo next : Solo) (number : ℕ) (cont : Cont (List ℕ)) (own : OwnCall) (told : Option OwnReply) (ends : Ending) (answer : OwnReply) →
+    IsAside s number solo → IsCall cont own → own.phase ≡ phase_of ends → AreShort longest ends.params → is_some cont.buffer ≡ false →
+    (AreShort longest (kept_params cont.params) → answer ≡ ended cont.result (kept_params cont.params)) →
     leaves solo number own (ended ends.result ends.params) ≡ (next, told) → (Some answer ≡ told) × StandsFor s next
-told_so s solo next number cont own told ends answer aside is at short none says e =
+told_so longest s solo next number cont own told ends answer aside is at short none says e =
     let so = leaves_with solo number own (ended ends.result ends.params) (next, told) false (sym none ∙ is.buffer) e in
     let here : HasEnded cont ends.result ends.params ends.was_told None = subst (IsInPhase cont) at is.phase in (
       ap (λ (r : OwnReply). Some r)
-          (says (subst AreShort (sym here.params) short)
+          (says (subst (AreShort longest) (sym here.params) short)
           ∙ ap (λ (r : CallResult). ended r (kept_params cont.params)) here.result
           ∙ ap (ended ends.result) here.params)
           ∙ ap (λ (a : Answered). a.1) so,

@@ -1,11 +1,12 @@
 -- What a step of the machine tells of its event.
-use Rattle.std.proofs.Common.{◌⊎◌, inl, inr, ◌≡◌, ℕ, Bool, true, false, arith, Option, Some, None, refl, sym, ap, subst, ◌∙◌}
+use Rattle.std.proofs.Common.{◌⊎◌, inl, inr, ◌≡◌, ◌≤◌, ℕ, Bool, true, false, arith, Option, Some, None, refl, sym, ap, subst, ◌∙◌}
 use Rattle.std.specs.Prelude.{◌==◌, if◌then◌else◌, Result, Ok, Err, OnErr}
 use Rattle.std.specs.Option.{option_and_then, option_map}
 use Rattle.std.proofs.lemmas.Bool.Decides.{nat_tests}
 use Rattle.base.specs.NumberMap.{get}
 use Rattle.begin_call.specs.Begins.{IsValidApp}
 use Rattle.kernel_model.specs.Application.{Application}
+use Rattle.kernel_state.specs.Setup.{application_of}
 use Rattle.own_model.proofs.InOrder.{if_any_of, step_so}
 use Rattle.own_model.specs.InOrder.{IsInOrder}
 use Rattle.kernel_model.specs.Codes.{success}
@@ -17,8 +18,8 @@ use Rattle.own_model.specs.declared.own_event.OwnEvent.TheVariants as event
 use Rattle.own_model.specs.declared.own_event.OwnInput.{OwnInput}
 use Rattle.own_model.specs.declared.own_reply.OwnReply.{OwnReply}
 use Rattle.own_model.specs.declared.own_reply.OwnReply.TheVariants as reply
-use Rattle.solo.proofs.ShortSolo.{short_then}
-use Rattle.solo.specs.Short.{IsShortEvent}
+use Rattle.solo.proofs.ShortSolo.{more_solo, short_then}
+use Rattle.solo.specs.Short.{IsShortEvent, IsShortSolo}
 use Rattle.solo.specs.Standing.{IsSolo, StandsFor, app_in}
 use Rattle.solo.specs.Stepping.{HasStepped, IsSilent}
 use Rattle.solo.specs.declared.solo_session.SoloSession.{SoloSession}
@@ -89,22 +90,36 @@ pub order_then : (most : ℕ) (app : Application) (solo next : Solo) (came : Own
 order_then most app solo next came told order e =
     if_any_of (λ (a : Answered). IsInOrder a.0) (step most app solo came) (next, told) (step_so most app solo came order) e
 
+-- no buffer of its calls is longer
+abbrev with_longest : SoloSession → ℕ → SoloSession
+with_longest s longest = record s { longest = longest }
+
+still_stands : (longest : ℕ) (s : SoloSession) (solo : Solo) → StandsFor s solo → StandsFor (with_longest s longest) solo
+still_stands longest s solo stands = record { beside = stands.beside; calls = stands.calls }
+
 -- it stands for the machine then, and something can happen to that
-pub stepped : (most : ℕ) (s new : SoloSession) (solo next : Solo) (came : OwnEvent) (answer told : Option OwnReply) → IsSolo s solo → IsShortEvent came →
-    step most (app_in s) solo came ≡ Some (next, told) → app_in new ≡ app_in s → answer ≡ told → StandsFor new next → HasStepped new answer next told
-stepped most s new solo next came answer told is short e same says stands = (
+pub stepped : (most longest : ℕ) (s new : SoloSession) (solo next : Solo) (came : OwnEvent) (answer told : Option OwnReply)
+    → IsSolo s solo → IsShortSolo longest solo → IsShortEvent longest came → step most (app_in s) solo came ≡ Some (next, told)
+    → new.app ≡ s.app → answer ≡ told → StandsFor new next → HasStepped (with_longest new longest) answer next told
+stepped most longest s new solo next came answer told is shorts short e same says stands = (
   says,
   record {
-    stands = stands;
+    stands = still_stands longest new next stands;
     order = order_then most (app_in s) solo next came told is.order e;
-    short = short_then most (app_in s) solo next came told is.short short e;
-    valid = subst IsValidApp (sym same) is.valid;
+    short = short_then longest most (app_in s) solo next came told shorts short e;
+    valid = subst IsValidApp (sym (ap application_of same)) is.valid;
   },
 )
 
 -- at want of memory it stands for the machine that it stood for
-pub still_solo : (s new : SoloSession) (solo : Solo) → IsSolo s solo → app_in new ≡ app_in s → StandsFor new solo → IsSolo new solo
-still_solo s new solo is same stands = record { stands = stands; order = is.order; short = is.short; valid = subst IsValidApp (sym same) is.valid }
+pub still_solo : (longest : ℕ) (s new : SoloSession) (solo : Solo) → IsSolo s solo → s.longest ≤ longest → new.app ≡ s.app
+    → StandsFor new solo → IsSolo (with_longest new longest) solo
+still_solo longest s new solo is more same stands = record {
+  stands = still_stands longest new solo stands;
+  order = is.order;
+  short = more_solo s.longest longest more solo is.short;
+  valid = subst IsValidApp (sym (ap application_of same)) is.valid;
+}
 
 -- ---- what each event finds
 

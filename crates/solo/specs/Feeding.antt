@@ -1,10 +1,8 @@
 -- When the machine of a session can be fed with events, one after the other.
 use Rattle.std.specs.Prelude.{ℕ, List, [], ◌∷◌, IsSomeAnd}
-use Rattle.std.specs.List.{AllByRecursion}
 use Rattle.kernel_model.specs.Application.{Application}
 use Rattle.own_model.specs.Solo.{Answered, Solo, step}
 use Rattle.own_model.specs.declared.own_event.OwnEvent.{OwnEvent}
-use Rattle.solo.specs.Short.{IsShortEvent}
 use Rattle.solo.specs.Standing.{IsSolo, app_in}
 use Rattle.solo.specs.Stepping.{HasNumber, HasRoom}
 use Rattle.solo.specs.declared.solo_session.SoloSession.{SoloSession}
@@ -27,7 +25,6 @@ pub record IsFed (session : SoloSession) (events : List OwnEvent) : Type 0 where
   pub is : IsSolo session solo
   pub most : ℕ
   pub can : CanBeFed most (app_in session) solo events
-  pub short : AllByRecursion IsShortEvent events
 
 -- with this one, and then with others
 pub record IsFedWith (session : SoloSession) (event : OwnEvent) : Type 0 where

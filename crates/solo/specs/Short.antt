@@ -1,4 +1,4 @@
--- Parameters whose buffers have at most 65536 bytes each.
+-- Parameters whose buffers have at most so many bytes each.
 use Rattle.std.specs.Prelude.{◌≡◌, ℕ, ◌≤◌, Some}
 use Rattle.std.specs.List.{AllByRecursion}
 use Rattle.base.specs.NumberMap.{get}
@@ -12,49 +12,48 @@ use Rattle.own_model.specs.declared.own_event.OwnInput.TheVariants.{Copied, Faul
 use Rattle.ta_params.specs.declared.copied_params.CopiedParams.{CopiedParams}
 use Rattle.ta_step.specs.Shape.{shapes}
 
--- at most so many bytes
-abbrev pub IsShort : ℕ × ℕ → Type 0
-IsShort shape = shape.1 ≤ 65536
+abbrev pub IsShort : ℕ → ℕ × ℕ → Type 0
+IsShort longest shape = shape.1 ≤ longest
 
-abbrev pub AreShort : CopiedParams → Type 0
-AreShort params = AllByRecursion IsShort (shapes params)
+abbrev pub AreShort : ℕ → CopiedParams → Type 0
+AreShort longest params = AllByRecursion (IsShort longest) (shapes params)
 
 -- ---- in a call
 
 -- those that an entry point has
-abbrev pub IsShortBody : Body → Type 0
-IsShortBody (Machine image point machine) = AreShort machine.params
-IsShortBody (Native relation func) = Unit {0}
-IsShortBody Nothing = Unit {0}
+abbrev pub IsShortBody : ℕ → Body → Type 0
+IsShortBody longest (Machine image point machine) = AreShort longest machine.params
+IsShortBody longest (Native relation func) = Unit {0}
+IsShortBody longest Nothing = Unit {0}
 
-pub record IsShortJob (job : Job) : Type 0 where
-  pub params : AreShort job.params
-  pub body : IsShortBody job.body
+pub record IsShortJob (longest : ℕ) (job : Job) : Type 0 where
+  pub params : AreShort longest job.params
+  pub body : IsShortBody longest job.body
 
-abbrev pub IsShortPhase : CallPhase → Type 0
-IsShortPhase (Runs job) = IsShortJob job
-IsShortPhase (Asks job wanted payload) = IsShortJob job
-IsShortPhase (Waits params) = AreShort params
-IsShortPhase (Ends result params told wakes) = AreShort params
+abbrev pub IsShortPhase : ℕ → CallPhase → Type 0
+IsShortPhase longest (Runs job) = IsShortJob longest job
+IsShortPhase longest (Asks job wanted payload) = IsShortJob longest job
+IsShortPhase longest (Waits params) = AreShort longest params
+IsShortPhase longest (Ends result params told wakes) = AreShort longest params
 
 -- each call of the machine has such
-abbrev pub IsShortSolo : Solo → Type 0
-IsShortSolo solo = (number : ℕ) (call : OwnCall) → get solo.calls number ≡ Some call → IsShortPhase call.phase
+abbrev pub IsShortSolo : ℕ → Solo → Type 0
+IsShortSolo longest solo = (number : ℕ) (call : OwnCall) → get solo.calls number ≡ Some call → IsShortPhase longest call.phase
 
 -- ---- in an event
 
-abbrev pub IsShortInput : OwnInput → Type 0
-IsShortInput (Copied params) = AreShort params
-IsShortInput Faulty = Unit {0}
-IsShortInput Unread = Unit {0}
+abbrev pub IsShortInput : ℕ → OwnInput → Type 0
+IsShortInput longest (Copied params) = AreShort longest params
+IsShortInput longest Faulty = Unit {0}
+IsShortInput longest Unread = Unit {0}
 
 -- the event brings such
-abbrev pub IsShortEvent : OwnEvent → Type 0
-IsShortEvent (Open params login) = AreShort params
-IsShortEvent (Invoke func input) = IsShortInput input
-IsShortEvent Close = Unit {0}
-IsShortEvent Cancel = Unit {0}
-IsShortEvent (Seen call steps) = Unit {0}
-IsShortEvent (Back call input) = Unit {0}
-IsShortEvent (Out call) = Unit {0}
-IsShortEvent Limited = Unit {0}
+abbrev pub IsShortEvent : ℕ → OwnEvent → Type 0
+IsShortEvent longest (Open params login) = AreShort longest params
+IsShortEvent longest (Invoke func input) = IsShortInput longest input
+IsShortEvent longest Close = Unit {0}
+IsShortEvent longest Cancel = Unit {0}
+IsShortEvent longest (Seen call steps) = Unit {0}
+IsShortEvent longest (Back call input) = Unit {0}
+IsShortEvent longest (Out call) = Unit {0}
+IsShortEvent longest Limited = Unit {0}

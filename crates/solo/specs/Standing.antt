@@ -74,7 +74,7 @@ pub record StandsFor (s : SoloSession) (solo : Solo) : Type 0 where
 pub record IsSolo (s : SoloSession) (solo : Solo) : Type 0 where
   pub stands : StandsFor s solo
   pub order : IsInOrder solo
-  pub short : IsShortSolo solo
+  pub short : IsShortSolo s.longest solo
   pub valid : IsValidApp (app_in s)
 
 -- some machine

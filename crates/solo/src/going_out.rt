@@ -11,7 +11,7 @@ ghost use Rattle.own_model.specs.declared.own_reply.OwnReply.{OwnReply as AnyRep
 ghost use Rattle.rpc_cont.specs.Advancing.{CanAdvance};
 ghost use Rattle.solo.specs.Calls.{IsCall};
 ghost use Rattle.solo.specs.GoingOut.{Ending as AnyEnding, IsGoing, asked_in, phase_of};
-ghost use Rattle.solo.specs.Rooms.{IsOutputRoom, IsRoom};
+ghost use Rattle.solo.specs.Rooms.{HoldsBytes, IsOutputRoom, IsRoom};
 ghost use Rattle.solo.specs.Short.{AreShort, IsShortPhase, IsShortSolo};
 ghost use Rattle.solo.specs.Stepping.{HasRoomIn};
 ghost use Rattle.solo.specs.Standing.{IsAside, IsBeside, IsSomeSolo, StandsFor};
@@ -137,22 +137,24 @@ impl SoloSession {
         }
     }
 
-    /// The call of this number goes out. None where there is none.
+    /// The call of this number goes out, where no buffer of a call has more than so many bytes. None where there is
+    /// none.
     pub(crate) fn goes_out(
         &mut self,
         alloc: Global,
         number: u32,
+        longest: usize,
     ) -> Result<Option<OwnReply>, NoMemory>
         requires { ∥ IsSomeSolo self.old ∥₁ }
         ensures ok { (most : ℕ) (solo next : AnySolo) (call : AnyCall) (told : Option AnyReply)
             → StandsFor self.old solo
-            → get solo.calls number ≡ Some call → HasRoomIn most call.steps call.phase → IsShortSolo solo
+            → get solo.calls number ≡ Some call → HasRoomIn most call.steps call.phase → IsShortSolo longest solo
             → goes_out most solo number call ≡ Some (next, told)
             → IfOk result (λ answer. (answer ≡ told) × StandsFor self.new next) }
         ensures err { (solo : AnySolo) → StandsFor self.old solo → OnErr result (StandsFor self.new solo) }
         ensures app { self.new.app ≡ self.old.app }
     {
-        let room = Room::new(alloc)?;
+        let room = Room::new(alloc, longest)?;
         let Some(mut call) = self.take(number) else {
             return Ok(None);
         };
@@ -163,8 +165,9 @@ impl SoloSession {
     /// It goes out: it asks for something, or leaves.
     fn answers(&mut self, number: u32, call: Box<Cont<Plain>>, room: Room) -> OwnReply
         requires { IsRoom room }
-        ensures answers { (solo next : AnySolo) (own : AnyCall) (told : Option AnyReply) → IsAside self.old number solo
-            → IsCall call.value own → IsShortPhase own.phase → goes_out_in solo number own own.phase ≡ Some (next, told)
+        ensures answers { (longest : ℕ) (solo next : AnySolo) (own : AnyCall) (told : Option AnyReply)
+            → HoldsBytes longest room.outputs → IsAside self.old number solo
+            → IsCall call.value own → IsShortPhase longest own.phase → goes_out_in solo number own own.phase ≡ Some (next, told)
             → (Some result ≡ told) × StandsFor self.new next }
         ensures app { self.new.app ≡ self.old.app }
     {
@@ -182,9 +185,9 @@ impl SoloSession {
     /// It has ended: it gives its buffer back, or is told its result.
     fn leaves(&mut self, number: u32, mut call: Box<Cont<Plain>>, outputs: OutputRoom) -> OwnReply
         requires { IsOutputRoom outputs }
-        ensures leaves { (solo next : AnySolo) (own : AnyCall) (told : Option AnyReply) (ends : AnyEnding)
-            → IsAside self.old number solo
-            → IsCall call.value own → own.phase ≡ phase_of ends → AreShort ends.params
+        ensures leaves { (longest : ℕ) (solo next : AnySolo) (own : AnyCall) (told : Option AnyReply) (ends : AnyEnding)
+            → HoldsBytes longest outputs → IsAside self.old number solo
+            → IsCall call.value own → own.phase ≡ phase_of ends → AreShort longest ends.params
             → leaves solo number own (ended ends.result ends.params) ≡ (next, told)
             → (Some result ≡ told) × StandsFor self.new next }
         ensures app { self.new.app ≡ self.old.app }

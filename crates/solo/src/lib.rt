@@ -17,6 +17,7 @@ mod found;
 mod going_out;
 mod kept_instance;
 mod kept_session;
+mod lengths;
 mod lookups;
 mod made;
 mod outputs;
@@ -26,5 +27,6 @@ mod solo_session;
 mod stepping;
 mod stops;
 
+pub use outputs::copied_outputs;
 pub use own_model::{BackInput, OwnEvent, OwnInput, OwnReply};
 pub use solo_session::SoloSession;

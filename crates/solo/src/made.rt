@@ -125,6 +125,7 @@ impl SoloSession {
             instance: None,
             waiting: Vec::new(alloc),
             calls: Vec::new(alloc),
+            longest: 0,
         })
     }
 }

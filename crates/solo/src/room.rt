@@ -1,12 +1,9 @@
 ghost use Rattle.std.specs.Prelude.{IfOk};
-ghost use Rattle.solo.specs.Rooms.{IsOutputRoom, IsRoom};
+ghost use Rattle.solo.specs.Rooms.{HoldsBytes, IsOutputRoom, IsRoom};
 
 use base::NoMemory;
 use rpc_msgs::MAX_PAYLOAD;
 use std::alloc::Global;
-
-/// As many bytes as a memory parameter of an event may have.
-const MOST_BYTES: usize = 65536;
 
 /// Memory for the bytes of four parameters.
 #[derive(Drop)]
@@ -27,27 +24,29 @@ pub(crate) struct Room {
 }
 
 impl OutputRoom {
-    /// Takes it.
-    fn new(alloc: Global) -> Result<OutputRoom, NoMemory>
-        ensures { IfOk result IsOutputRoom }
+    /// Takes it, for parameters of at most so many bytes each.
+    pub fn new(alloc: Global, longest: usize) -> Result<OutputRoom, NoMemory>
+        ensures empty { IfOk result IsOutputRoom }
+        ensures holds { IfOk result (HoldsBytes longest) }
     {
         Ok(OutputRoom {
-            p0: Vec::with_capacity(alloc, MOST_BYTES)?,
-            p1: Vec::with_capacity(alloc, MOST_BYTES)?,
-            p2: Vec::with_capacity(alloc, MOST_BYTES)?,
-            p3: Vec::with_capacity(alloc, MOST_BYTES)?,
+            p0: Vec::with_capacity(alloc, longest)?,
+            p1: Vec::with_capacity(alloc, longest)?,
+            p2: Vec::with_capacity(alloc, longest)?,
+            p3: Vec::with_capacity(alloc, longest)?,
         })
     }
 }
 
 impl Room {
-    /// Takes it.
-    pub fn new(alloc: Global) -> Result<Room, NoMemory>
-        ensures { IfOk result IsRoom }
+    /// Takes it, for a call whose parameters have at most so many bytes each.
+    pub fn new(alloc: Global, longest: usize) -> Result<Room, NoMemory>
+        ensures empty { IfOk result IsRoom }
+        ensures holds { IfOk result (λ room. HoldsBytes longest room.outputs) }
     {
         Ok(Room {
             payload: Vec::with_capacity(alloc, MAX_PAYLOAD)?,
-            outputs: OutputRoom::new(alloc)?,
+            outputs: OutputRoom::new(alloc, longest)?,
         })
     }
 }

@@ -15,4 +15,6 @@ pub struct SoloSession {
     pub(crate) waiting: Vec<u32>,
     /// The calls by their numbers. None where one has gone out ended.
     pub(crate) calls: Vec<Option<Box<Cont<Plain>>>>,
+    /// No buffer that has come with an event has more bytes, nor has one of a call.
+    pub(crate) longest: usize,
 }

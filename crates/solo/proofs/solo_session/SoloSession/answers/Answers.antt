@@ -9,7 +9,7 @@ use Rattle.solo.specs.Short.{IsShortPhase}
 use Rattle.solo.proofs.solo_session.SoloSession.answers.Goals as goal
 
 pub returns-in-Some-clause-answers : goal.returns-in-Some-clause-answers
-returns-in-Some-clause-answers c solo next own told aside is short e =
+returns-in-Some-clause-answers c longest solo next own told holds aside is short e =
     let cont = c.args.call.value in
     let here : IsInPhase c.deref.result.now own.phase = subst (λ (k : Cont (List ℕ)). IsInPhase k own.phase) (sym c.deref.ensures) is.phase in
     let so = asks_out solo next c.args.number own told own.phase c.in-Some.asked (c.in-Some.ensures own.phase here) e in (
@@ -21,7 +21,7 @@ returns-in-Some-clause-answers c solo next own told aside is short e =
     )
 
 pub returns-in-None-clause-answers : goal.returns-in-None-clause-answers
-returns-in-None-clause-answers c solo next own told aside is short e =
+returns-in-None-clause-answers c longest solo next own told holds aside is short e =
     let here : IsInPhase c.deref.result.now own.phase = subst (λ (k : Cont (List ℕ)). IsInPhase k own.phase) (sym c.deref.ensures) is.phase in
     let left = leaves_out solo next c.args.number own told own.phase (c.in-None.ensures own.phase here) e in
-    c.leaves.ensures.leaves solo next own told left.ends aside is left.is (subst IsShortPhase left.is short) left.goes
+    c.leaves.ensures.leaves longest solo next own told left.ends holds aside is left.is (subst (IsShortPhase longest) left.is short) left.goes

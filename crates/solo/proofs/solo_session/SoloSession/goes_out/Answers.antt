@@ -17,6 +17,6 @@ returns-clause-ok c most solo next call told stands there room short e =
     let going = found.0 in
     let taken = taken_aside s c.take.new.self solo number c.in-Some.call call stands there c.in-Some.ensures.call c.in-Some.ensures.stays c.in-Some.ensures.after in
     let is = c.going_in.ensures.going most solo call going taken.1.beside (rw c.deref_mut.ensures.value taken.0) room found.1.0 in
-    c.answers.ensures.answers going.solo next going.call told
+    c.answers.ensures.answers c.args.longest going.solo next going.call told c.in_ok-room.ensures.holds
     (still_aside c.take.new.self c.going_in.new.self solo number c.going_in.new.cont going taken.1 c.going_in.ensures.calls is) is.is
-    (goes_short most solo number call going short there found.1.0) found.1.1
+    (goes_short c.args.longest most solo number call going short there found.1.0) found.1.1

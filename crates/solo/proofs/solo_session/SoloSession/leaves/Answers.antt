@@ -8,7 +8,7 @@ use Rattle.solo.specs.Short.{AreShort}
 use Rattle.solo.proofs.solo_session.SoloSession.leaves.Goals as goal
 
 pub returns-then-has_buffer-clause-leaves : goal.returns-then-has_buffer-clause-leaves
-returns-then-has_buffer-clause-leaves c solo next own told ends aside is at short e =
+returns-then-has_buffer-clause-leaves c longest solo next own told ends holds aside is at short e =
     let cont = c.args.call.value in
     let has : is_some cont.buffer ≡ true =
     ap (λ (k : Cont (List ℕ)). is_some k.buffer) (sym c.deref.ensures) ∙ sym c.is_some-has_buffer.ensures ∙ c.if-has_buffer.true in
@@ -16,13 +16,13 @@ returns-then-has_buffer-clause-leaves c solo next own told ends aside is at shor
     (ap (λ (k : Cont (List ℕ)). record k { buffer = None }) c.deref_mut.ensures.value) e c.put.ensures.stays c.put.ensures.after
 
 pub returns-else-has_buffer-clause-leaves : goal.returns-else-has_buffer-clause-leaves
-returns-else-has_buffer-clause-leaves c solo next own told ends aside is at short e =
+returns-else-has_buffer-clause-leaves c longest solo next own told ends holds aside is at short e =
     let cont = c.args.call.value in
     let none : is_some cont.buffer ≡ false =
     ap (λ (k : Cont (List ℕ)). is_some k.buffer) (sym c.deref.ensures) ∙ sym c.is_some-has_buffer.ensures ∙ c.if-has_buffer.false in
-    told_so c.args.self.now solo next c.args.number cont own told ends c.ended.result aside is at short none
+    told_so longest c.args.self.now solo next c.args.number cont own told ends c.ended.result aside is at short none
     (λ small.
-    c.ended.ensures (subst (λ (k : Cont (List ℕ)). AreShort (kept_params k.params)) (sym c.deref-else-has_buffer-2.ensures) small)
+    c.ended.ensures longest holds (subst (λ (k : Cont (List ℕ)). AreShort longest (kept_params k.params)) (sym c.deref-else-has_buffer-2.ensures) small)
     ∙ ap (λ (k : Cont (List ℕ)). ended k.result (kept_params c.deref-else-has_buffer-2.result.now.params)) c.deref-else-has_buffer.ensures
     ∙ ap (λ (k : Cont (List ℕ)). ended cont.result (kept_params k.params)) c.deref-else-has_buffer-2.ensures)
     e
