@@ -11,12 +11,17 @@ use trace_text::{Item, Reg};
 /// Where the argument of each call stands.
 const ARGUMENT_AT: u64 = 0x4000_0000;
 
+/// The bytes of an argument with one parameter, and with two: a head and a parameter have 32 each.
+const ONE_PARAMETER: usize = 64;
+
+const TWO_PARAMETERS: usize = 96;
+
 /// The argument that opens a session.
 #[tactic(auto, unfolding(crate::specs::Work::open_argument))]
 fn open_argument(alloc: Global) -> Result<Vec<u8>, NoMemory>
     ensures { IfOk result (λ v. v.items ≡ open_argument) }
 {
-    let mut bytes = Vec::new(alloc);
+    let mut bytes = Vec::with_capacity(alloc, TWO_PARAMETERS)?;
     let head = Head {
         cmd: 0,
         func: 0,
@@ -41,7 +46,7 @@ fn open_argument(alloc: Global) -> Result<Vec<u8>, NoMemory>
 fn invoke_argument(alloc: Global, session: u32) -> Result<Vec<u8>, NoMemory>
     ensures { IfOk result (λ v. v.items ≡ invoke_argument session) }
 {
-    let mut bytes = Vec::new(alloc);
+    let mut bytes = Vec::with_capacity(alloc, ONE_PARAMETER)?;
     let head = Head {
         cmd: 1,
         func: 0,
