@@ -1,0 +1,9 @@
+mod Blocks
+mod Eight
+mod Ends
+mod Moves
+mod Others
+mod Parts
+mod Passes
+mod Taking
+mod TracesInTurn

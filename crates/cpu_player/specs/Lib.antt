@@ -1,0 +1,4 @@
+pub mod Ending
+pub mod InTurn
+pub mod Laws
+pub mod Standing
