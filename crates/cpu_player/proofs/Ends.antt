@@ -1,5 +1,6 @@
 -- A player before its first act, and what it gives back.
-use Rattle.std.proofs.Common.{◌≡◌, ℕ, ◌<◌, ◌≤◌, arith, false, List, [], ◌∷◌, ◌++◌, Option, Some, None, Result, Ok, Err, take, refl, ap, sym, subst, ◌∙◌}
+use Rattle.std.proofs.Common.{◌≡◌, ℕ, ◌<◌, length, ◌≤◌, arith, false, List, [], ◌∷◌, ◌++◌, Option, Some, None, Result, Ok, Err, take, refl, ap, sym, subst, ◌∙◌}
+use Rattle.std.proofs.Math.Seq.{take-length}
 use Rattle.std.specs.Prelude.{codes, IfSome, OnOk}
 use Rattle.std.specs.Fmt.{decimal}
 use Rattle.std.specs.Option.{is_some}
@@ -103,15 +104,14 @@ full_told boot items lane copied more old new is printed was =
     let cpu = number old.pass in
     let of = share_in boot old in
     let now : CpuPlayer = record old { block = new.block } in
-    let refusal : Refusal = record { copied = copied_bytes (take was.place of.history); more = total_bytes was.refused.reads } in
-    let so_far = was.so_far in
+    let refusal : Refusal = record { copied = copied_bytes (take (length of.history) of.history); more = total_bytes was.refused.reads } in
+    let so_far = was.so_far ∙ ap copied_bytes (sym (take-length of.history)) in
     let of_entry = was.of_entry in
     let numbers : full_line (record { copied = copied; more = more }) ≡ full_line refusal =
     ap (λ (n : ℕ). full_line (record { copied = n; more = more })) so_far
     ∙ ap (λ (n : ℕ). full_line (record { copied = refusal.copied; more = n })) of_entry in
     let here : WasRefused of items lane copied more (end_of now (Err (Full copied more))) = record {
       part = was.part;
-      place = was.place;
       refused = was.refused;
       so_far = was.so_far;
       of_entry = was.of_entry;

@@ -98,7 +98,6 @@ module _ (boot : Booted) (items : List Item) (lane : List ℕ) (acts : List Act)
           let not = refuses boot cpu items lane (seen pass) acts seat steps regs given copied more at given_to much in
           let here : IsRefused (share_of boot (seen pass) cpu) items lane copied more (record old { pass = pass }) = record {
             part = at.part;
-            place = length (seen pass);
             refused = not.0;
             so_far = not.1;
             of_entry = not.2;

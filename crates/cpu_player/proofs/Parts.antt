@@ -106,7 +106,7 @@ module _ (boot : Booted) (cpu : ℕ) (items : List Item) (lane : List ℕ) where
         → given.a ≡ map (number_in seat.answer) regs
         → IsTooMuchAfter boot before (coming cpu given steps) seat.lane copied more
         → (refused : IsRefusedAt (share_of boot before cpu) items lane was.part (length before))
-        × (copied ≡ copied_bytes (take (length before) before)) × (more ≡ total_bytes refused.reads)
+        × (copied ≡ copied_bytes before) × (more ≡ total_bytes refused.reads)
     refuses steps regs given copied more was given_is much =
         let of = share_of boot before cpu in
         let own = was.part.end.seat in
@@ -141,4 +141,4 @@ module _ (boot : Booted) (cpu : ℕ) (items : List Item) (lane : List ℕ) where
           many = subst (λ (n : ℕ). 2 ^ 28 < n + total_bytes reads) so_far
               (subst (λ (n : ℕ). 2 ^ 28 < copied + n) (sym found.2) much.above);
         } in
-        (refused, so_far, sym found.2)
+        (refused, much.so_far, sym found.2)

@@ -1,5 +1,5 @@
 -- What a processor's work gives back, by its part of the history that its pass has seen.
-use Rattle.std.specs.Prelude.{◌≡◌, ℕ, List, [], take, Some, Result, Ok, Err}
+use Rattle.std.specs.Prelude.{◌≡◌, ℕ, List, [], length, Some, Result, Ok, Err}
 use Rattle.event_journal.specs.Journal.{copied_bytes}
 use Rattle.kernel_state.specs.declared.enter_refusal.EnterRefusal.{EnterRefusal}
 use Rattle.kernel_state.specs.declared.enter_refusal.EnterRefusal.TheVariants.{Full, Memory}
@@ -18,15 +18,15 @@ pub record HasDoneAll (of : Share) (items : List Item) (lane : List ℕ) (end : 
   pub sees : end.lane ≡ (seat_of part).lane
   pub block : end.block.items ≡ block_of of.cpu (seat_of part)
 
--- the entry that its part of the history leaves was refused, with these numbers, and its block is that part's with its `full` line
+-- the entry that its part of the history leaves was refused at the end of that history, with these numbers, and its block is that
+-- part's with its `full` line
 pub record WasRefused (of : Share) (items : List Item) (lane : List ℕ) (copied more : ℕ) (end : CpuEnd) : Type 0 where
   pub part : Part of items lane
-  pub place : ℕ
-  pub refused : IsRefusedAt of items lane part place
-  pub so_far : copied ≡ copied_bytes (take place of.history)
+  pub refused : IsRefusedAt of items lane part (length of.history)
+  pub so_far : copied ≡ copied_bytes of.history
   pub of_entry : more ≡ total_bytes refused.reads
   pub sees : end.lane ≡ (seat_of part).lane
-  pub block : end.block.items ≡ block_of of.cpu (seat_with of items lane part (Some place) refused)
+  pub block : end.block.items ≡ block_of of.cpu (seat_with of items lane part (Some (length of.history)) refused)
 
 -- what its outcome says; where there was no memory, nothing
 abbrev pub EndsAs : Share → List Item → List ℕ → CpuEnd → Result (Unit {0}) EnterRefusal → Type 0

@@ -1,5 +1,5 @@
 -- What a processor at work has come to, by its part of the history that its pass has seen.
-use Rattle.std.specs.Prelude.{◌≡◌, ◌<◌, ℕ, false, List, [], take, Option, None, Some, Result, Ok, Err, IfSome}
+use Rattle.std.specs.Prelude.{◌≡◌, ◌<◌, ℕ, false, List, [], length, Option, None, Some, Result, Ok, Err, IfSome}
 use mathlib.Core.List.{IsPrefix}
 use Rattle.core_lock.specs.Passes.{number, seen}
 use Rattle.event_journal.specs.Journal.{copied_bytes}
@@ -78,9 +78,8 @@ pub record HasGoneOut (boot : Booted) (items : List Item) (lane : List ℕ) (act
 -- its next entry was refused: it has come to its part of the history, which leaves that entry, and has printed the block of it
 pub record IsRefused (of : Share) (items : List Item) (lane : List ℕ) (copied more : ℕ) (player : CpuPlayer) : Type 0 where
   pub part : Part of items lane
-  pub place : ℕ
-  pub refused : IsRefusedAt of items lane part place
-  pub so_far : copied ≡ copied_bytes (take place of.history)
+  pub refused : IsRefusedAt of items lane part (length of.history)
+  pub so_far : copied ≡ copied_bytes of.history
   pub of_entry : more ≡ total_bytes refused.reads
   pub goes_on : part.end.seat.refused ≡ None
   pub sees : player.lane ≡ part.end.seat.lane
