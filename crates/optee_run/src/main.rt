@@ -1,4 +1,4 @@
-//! Reads a trace from standard input, plays it, prints each line as it comes, and ends with the number of the status.
+//! Reads a trace from standard input, plays it, prints its lines, and ends with the number of the status.
 #![tactic(auto)]
 
 use native_tas::{Native, Natives, Relation, digest};

@@ -1,9 +1,9 @@
 -- Items played one after the other, whose lines go to a digest and aren't kept.
-use Rattle.std.proofs.Common.{◌≡◌, ℕ, ◌+◌, ◌<◌, ◌≤◌, inl, inr, List, [], ◌∷◌, ◌++◌, length, get_or, Option, Some, None, refl, sym, ap, subst, ◌∙◌, arith}
+use Rattle.std.proofs.Common.{◌≡◌, ℕ, ◌+◌, ◌<◌, ◌≤◌, List, [], ◌∷◌, ◌++◌, length, get_or, Option, Some, None, refl, sym, ap, subst, ◌∙◌}
 use Rattle.std.specs.Fmt.{decimal}
 use Rattle.std.specs.Prelude.{IsSome, IsSomeAnd, Ok, Err, codes}
 use Rattle.std.specs.Option.{option_and_then, option_map}
-use Rattle.std.proofs.lemmas.List.{take_all}
+use Rattle.std.proofs.lemmas.List.{append-nil, take_all}
 use Rattle.kernel_model.specs.Application.{Booted, Native, booted}
 use Rattle.hex.specs.Hex.{encode_lower}
 use Rattle.kernel_state.specs.Meaning.{events_of}
@@ -12,8 +12,6 @@ use Rattle.made_play.proofs.Ends.{law as made_plays_end}
 use Rattle.play_model.specs.Play.{Play, after_item, after_items, first_play, played}
 use Rattle.base.specs.Zeros.{zeros}
 use Rattle.event_journal.specs.declared.event.Event.{Event}
-use Rattle.ports.specs.Port.{Rose}
-use Rattle.ports.specs.PortLaws.{Appends-nil}
 use Rattle.sha2.specs.Hashers.{Holds256}
 use Rattle.sha2.specs.Sha256.{sha256}
 use Rattle.sha2.specs.declared.Sha256.{Sha256}
@@ -31,13 +29,13 @@ use Rattle.trace_runner.specs.declared.summary.AnswerCounts.{AnswerCounts}
 use Rattle.trace_runner.specs.declared.player.Player.{Player}
 use Rattle.trace_runner.specs.declared.player.Stop.{Stop}
 use Rattle.trace_runner.specs.declared.player.Stop.TheVariants.{Full}
-use Rattle.trace_runner.proofs.Playable.{Playing, playing-first, playing-more, playing-stopped}
+use Rattle.trace_runner.proofs.Playable.{Playing, playing-first, playing-more, playing-refused}
 
 -- the items so far were played, the hasher holds their text, and no line is held
 pub record Digesting (natives : List Native) (trace : Trace) (items : List Item) (at : ℕ) (player : Player)
     (hasher : Sha256) (held : List ℕ) : Type 0 where
   pub text : List ℕ
-  pub playing : Playing natives trace items at player (Some []) (Some text)
+  pub playing : Playing natives trace items at player text
   pub holds : Holds256 hasher text
   pub empty : held ≡ []
 
@@ -46,50 +44,41 @@ pub digesting-first : (natives : List Native) (trace : Trace) (items : List Item
     → Digesting natives trace items 0 player hasher held
 digesting-first natives trace items player hasher held start holds empty = record {
   text = [];
-  playing = playing-first natives trace items player (Some []) start;
+  playing = playing-first natives trace items player start;
   holds = holds;
   empty = empty;
 }
-
--- what an item prints behind nothing it prints behind any text
-printed-behind : (boot : Booted) (play : Play) (after : Option Play) (player : Player) (text line : List ℕ)
-    → Follows boot play after (Ok tt) player (Some []) (Some line)
-    → Follows boot play after (Ok tt) player (Some text) (Some (text ++ line))
-printed-behind boot play after player text line f =
-    (f.0, f.1, f.2, (f.3.0, f.3.1, ap (λ (l : List ℕ). text ++ l) f.3.2))
 
 pub digesting-more : (natives : List Native) (trace : Trace) (items : List Item) (at : ℕ) (i : Item)
     (before after : Player) (hasher more : Sha256) (held line left : List ℕ) → at < length items
     → i ≡ get_or items at i → Digesting natives trace items at before hasher held
     → ((boot : Booted) (play : Play) → IsPlayedTo boot play before
-    → Follows boot play (after_item boot i play) (Ok tt) after (Some held) (Some line))
+    → Follows boot play (after_item boot i play) (Ok tt) after held line)
     → ((message : List ℕ) → Holds256 hasher message → Holds256 more (message ++ line)) → left ≡ []
     → Digesting natives trace items (at + 1) after more left
 digesting-more natives trace items at i before after hasher more held line left lt is d follows updated empty = record {
   text = d.text ++ line;
-  playing = playing-more natives trace items at i before after (Some []) (Some d.text) (Some (d.text ++ line)) lt is
-      d.playing
-      (λ boot play stands. printed-behind boot play (after_item boot i play) after d.text line
-      (subst (λ (h : List ℕ). Follows boot play (after_item boot i play) (Ok tt) after (Some h) (Some line)) d.empty
-      (follows boot play stands)));
+  playing = playing-more natives trace items at i before after d.text [] line lt is
+      (subst (Playing natives trace items at before) (sym (append-nil d.text)) d.playing)
+      (λ boot play stands.
+      subst (λ (h : List ℕ). Follows boot play (after_item boot i play) (Ok tt) after h line) d.empty
+      (follows boot play stands));
   holds = updated d.text d.holds;
   empty = empty;
 }
 
 -- an entry was refused
 pub digesting-full : (natives : List Native) (trace : Trace) (items : List Item) (at : ℕ) (i : Item)
-    (before after : Player) (stop : Stop) (hasher : Sha256) (held : List ℕ) (old new : Option (List ℕ))
+    (before after : Player) (stop : Stop) (hasher : Sha256) (held line : List ℕ)
     → at < length items → i ≡ get_or items at i
     → Digesting natives trace items at before hasher held → stop ≡ Full
     → ((boot : Booted) (play : Play) → IsPlayedTo boot play before
-    → Follows boot play (after_item boot i play) (Err stop) after old new)
+    → Follows boot play (after_item boot i play) (Err stop) after held line)
     → IsSome (refused_in natives trace)
-digesting-full natives trace items at i before after stop hasher held old new lt is d full follows =
-    (playing-stopped natives trace items at i before after Full (Some []) (Some d.text) (Some d.text) lt is d.playing
-    (λ boot play stands.
-    let f = subst (λ (s : Stop). Follows boot play (after_item boot i play) (Err s) after old new) full
-    (follows boot play stands) in
-    (f.0, f.1, Appends-nil (Some d.text)))).0
+digesting-full natives trace items at i before after stop hasher held line lt is d full follows =
+    (playing-refused natives trace items at i before after d.text held line lt is d.playing
+    (λ boot play stands. subst (λ (s : Stop). Follows boot play (after_item boot i play) (Err s) after held line) full
+    (follows boot play stands))).0
 
 -- the last item was played
 pub digesting-ended : (natives : List Native) (trace : Trace) (items : List Item) (at : ℕ) (player : Player)
@@ -109,14 +98,8 @@ digesting-ended natives trace items at player hasher held digested whole d count
       is_play = sym (ap (λ (l : List Item). after_items on l (first_play (zeros 0x400000) on trace.fills))
           (take_all at trace.items all)) ∙ w.taken;
       counts = subst (λ (history : List Event). AreCounts history digested.counts) w.stands.machine.history counts;
-      digest = told d.text d.holds ∙ ap sha256 w.put;
+      digest = told d.text d.holds ∙ ap sha256 w.printed;
     }
-
--- ---- counts that stand still
-
-pub never-rose : Rose 0 0 → ⊥
-never-rose (inl less) = absurd (omega (arith, less))
-never-rose (inr most) = absurd (omega (arith, most))
 
 -- ---- made traces
 

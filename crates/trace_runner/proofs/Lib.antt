@@ -1,5 +1,4 @@
 pub mod ReadingLemmas
-pub mod Eight
 pub mod PuttingLemmas
 pub mod Answers
 pub mod Played
@@ -11,4 +10,5 @@ pub mod Readings
 pub mod Running
 pub mod Plays
 pub mod Playable
+pub mod Gathered
 pub mod Digests

@@ -13,15 +13,12 @@ use Rattle.kernel_state.specs.Entering as state
 use Rattle.play_model.specs.Line.{Line, Mem, Ret, mem_line, ret_line}
 use Rattle.play_model.specs.Play.{Play, after_item, enters, lane_of, last_answer, leaves, number_in, unless_refused, visit_of, with_line, with_writes}
 use Rattle.ns_ram.specs.Lane.{bytes_at}
-use Rattle.ports.specs.Port.{Appends}
-use Rattle.ports.specs.PortLaws.{Appends-nil}
 use Rattle.smc_abi.specs.declared.regs.Regs.{Regs}
 use Rattle.trace_text.specs.declared.item.Item.TheVariants as item
 use Rattle.trace_text.specs.declared.item.Reg.{Reg}
 use Rattle.core_machine.specs.Laws.{MachinesStand, TurnsAreTaken}
 use Rattle.core_machine.specs.Moving.{EntersAt, LeavesAt}
-use Rattle.trace_runner.specs.Output.{AppendsPart}
-use Rattle.trace_runner.specs.Playing.{AreLast, ComesIn, Follows, GoesOut, IsPlayedTo, Prints, PrintsPart, PutsLine, stop_of, text_of_lines}
+use Rattle.trace_runner.specs.Playing.{AreLast, ComesIn, Follows, GoesOut, IsPlayedTo, Prints, stop_of}
 use Rattle.core_machine.specs.Standing.{CanCome, IsAt, play_of}
 use Rattle.core_machine.specs.Turns.{ComeInTurn, MayCome, insides}
 use Rattle.kernel_entry.specs.Visiting.{coming_of}
@@ -32,8 +29,7 @@ use Rattle.trace_runner.specs.declared.player.Stop.TheVariants.{Full, Failed, Me
 use Rattle.core_machine.specs.declared.smc.Smc.{Smc}
 use Rattle.core_machine.specs.declared.smc.Smc.TheVariants.{Comes, Leaves}
 use Rattle.kernel_entry.specs.declared.visitor.Visitor.{Visitor}
-use Rattle.trace_runner.proofs.Played.{enters-last, enters-lines, leaves-last, one-line, part-of, some-and}
-use Rattle.trace_runner.proofs.PuttingLemmas.{AppendsPart-nothing}
+use Rattle.trace_runner.proofs.Played.{enters-last, enters-lines, leaves-last, one-line, some-and}
 
 -- ---- an entry
 
@@ -102,30 +98,27 @@ goes-in old new visitor stand turns can each =
 
 -- ---- nothing printed
 
-nothing-part : (before after : Play) (a : Option (List ℕ)) → PrintsPart before after a a
-nothing-part before after a lines is = AppendsPart-nothing a (text_of_lines lines)
-
-nothing-printed : (before after : Play) (a : Option (List ℕ)) → after.lines ≡ before.lines → Prints before after a a
-nothing-printed before after a same = ([], same ∙ sym (append-nil before.lines), Appends-nil a)
+nothing-printed : (before after : Play) (text : List ℕ) → after.lines ≡ before.lines → Prints before after text text
+nothing-printed before after text same = ([], same ∙ sym (append-nil before.lines), sym (append-nil text))
 
 -- an entry prints nothing
 pub came-follows : (boot : Booted) (play : Play) (visit : Visit) (result : Result (Unit {0}) Stop) (player : Player)
-    (a : Option (List ℕ)) → ComesIn boot play visit result player
-    → Follows boot play (enters boot play visit) result player a a
-came-follows boot play visit (Ok done) player a came =
-    (came.0, came.1, came.2, nothing-printed play came.0 a (enters-lines boot visit play came.0 came.1))
-came-follows boot play visit (Err Full) player a came = (came.0, came.1, Appends-nil a)
-came-follows boot play visit (Err Failed) player a came = absurd came
-came-follows boot play visit (Err Memory) player a came = λ next e. nothing-part play next a
+    (text : List ℕ) → ComesIn boot play visit result player
+    → Follows boot play (enters boot play visit) result player text text
+came-follows boot play visit (Ok done) player text came =
+    (came.0, came.1, came.2, nothing-printed play came.0 text (enters-lines boot visit play came.0 came.1))
+came-follows boot play visit (Err Full) player text came = (came.0, came.1, refl)
+came-follows boot play visit (Err Failed) player text came = absurd came
+came-follows boot play visit (Err Memory) player text came = tt
 
 -- ---- an exit
 
 pub went-out : (boot : Booted) (play : Play) (cpu : ℕ) (told : Regs) (player : Player) (answers : List Regs)
-    (result : Result (Unit {0}) Stop) (a b : Option (List ℕ))
+    (old new : List ℕ)
     → LeavesAt boot play cpu player.machine told → AreLast play.history answers
-    → player.answers ≡ slice_set answers cpu told → PutsLine (ret_line cpu told.a) result a b
-    → GoesOut boot play cpu result player a b
-went-out boot play cpu told player answers (Ok done) a b at last is put =
+    → player.answers ≡ slice_set answers cpu told → new ≡ old ++ ret_line cpu told.a
+    → GoesOut boot play cpu (Ok tt) player old new
+went-out boot play cpu told player answers old new at last is put =
     let some = some-and _ (leaves boot cpu play) at in (
       some.0,
       some.1,
@@ -134,32 +127,20 @@ went-out boot play cpu told player answers (Ok done) a b at last is put =
         answers = subst (AreLast some.0.history) (sym is)
             (leaves-last boot cpu play some.0 told answers some.1 some.2.1 last);
       },
-      (Ret cpu told.a ∷ [], some.2.1, subst (Appends a b) (sym (one-line (Ret cpu told.a))) put),
+      (
+        Ret cpu told.a ∷ [],
+        some.2.1,
+        put ∙ ap (λ (t : List ℕ). old ++ t) (sym (one-line (Ret cpu told.a))),
+      ),
     )
-went-out boot play cpu told player answers (Err Full) a b at last is put = put
-went-out boot play cpu told player answers (Err Failed) a b at last is put = λ next e.
-    let some = some-and _ (leaves boot cpu play) at in
-    let same : some.0 ≡ next = let both = sym some.1 ∙ e in cc in
-    part-of play next (Ret cpu told.a ∷ []) a b (ap (λ (p : Play). p.lines) (sym same) ∙ some.2.1)
-    (subst (AppendsPart a b) (sym (one-line (Ret cpu told.a))) put)
-went-out boot play cpu told player answers (Err Memory) a b at last is put = λ next e.
-    let some = some-and _ (leaves boot cpu play) at in
-    let same : some.0 ≡ next = let both = sym some.1 ∙ e in cc in
-    part-of play next (Ret cpu told.a ∷ []) a b (ap (λ (p : Play). p.lines) (sym same) ∙ some.2.1)
-    (subst (AppendsPart a b) (sym (one-line (Ret cpu told.a))) put)
-
--- without room for its line
-pub went-unprinted : (boot : Booted) (play : Play) (cpu : ℕ) (player : Player) (a : Option (List ℕ))
-    → GoesOut boot play cpu (Err Memory) player a a
-went-unprinted boot play cpu player a = λ next e. nothing-part play next a
 
 pub went-follows : (boot : Booted) (play : Play) (cpu : ℕ) (result : Result (Unit {0}) Stop) (player : Player)
-    (a b : Option (List ℕ)) → GoesOut boot play cpu result player a b
-    → Follows boot play (leaves boot cpu play) result player a b
-went-follows boot play cpu (Ok done) player a b out = out
-went-follows boot play cpu (Err Full) player a b out = absurd out
-went-follows boot play cpu (Err Failed) player a b out = out
-went-follows boot play cpu (Err Memory) player a b out = out
+    (old new : List ℕ) → GoesOut boot play cpu result player old new
+    → Follows boot play (leaves boot cpu play) result player old new
+went-follows boot play cpu (Ok done) player old new out = out
+went-follows boot play cpu (Err Full) player old new out = absurd out
+went-follows boot play cpu (Err Failed) player old new out = absurd out
+went-follows boot play cpu (Err Memory) player old new out = tt
 
 -- ---- an entry and its exit
 
@@ -177,11 +158,11 @@ smc-refused boot play cpu steps regs more e = ap (option_and_then (unless_refuse
 
 -- the exit follows on the entry
 pub smc-follows : (boot : Booted) (play next : Play) (cpu steps : ℕ) (regs : List Reg)
-    (result : Result (Unit {0}) Stop) (player : Player) (a b : Option (List ℕ))
+    (result : Result (Unit {0}) Stop) (player : Player) (old new : List ℕ)
     → enters boot play (visit_of play.history cpu steps regs) ≡ Some next → next.refused ≡ None
-    → GoesOut boot next cpu result player a b
-    → Follows boot play (after_item boot (item.Smc cpu steps regs) play) result player a b
-smc-follows boot play next cpu steps regs (Ok done) player a b e going out =
+    → GoesOut boot next cpu result player old new
+    → Follows boot play (after_item boot (item.Smc cpu steps regs) play) result player old new
+smc-follows boot play next cpu steps regs (Ok done) player old new e going out =
     let prints = out.3 in (
       out.0,
       smc-out boot play next cpu steps regs e going ∙ out.1,
@@ -193,36 +174,30 @@ smc-follows boot play next cpu steps regs (Ok done) player a b e going out =
         prints.2,
       ),
     )
-smc-follows boot play next cpu steps regs (Err Full) player a b e going out = absurd out
-smc-follows boot play next cpu steps regs (Err Failed) player a b e going out = λ last is lines more.
-    out last (sym (smc-out boot play next cpu steps regs e going) ∙ is) lines
-    (more ∙ ap (λ (ls : List Line). ls ++ lines)
-    (sym (enters-lines boot (visit_of play.history cpu steps regs) play next e)))
-smc-follows boot play next cpu steps regs (Err Memory) player a b e going out = λ last is lines more.
-    out last (sym (smc-out boot play next cpu steps regs e going) ∙ is) lines
-    (more ∙ ap (λ (ls : List Line). ls ++ lines)
-    (sym (enters-lines boot (visit_of play.history cpu steps regs) play next e)))
+smc-follows boot play next cpu steps regs (Err Full) player old new e going out = absurd out
+smc-follows boot play next cpu steps regs (Err Failed) player old new e going out = absurd out
+smc-follows boot play next cpu steps regs (Err Memory) player old new e going out = tt
 
 -- or there is none, where the entry was refused
 pub smc-stopped : (boot : Booted) (play : Play) (cpu steps : ℕ) (regs : List Reg) (stop : Stop) (player : Player)
-    (a : Option (List ℕ))
+    (text : List ℕ)
     → ComesIn boot play (visit_of play.history cpu steps regs) (Err stop) player
-    → Follows boot play (after_item boot (item.Smc cpu steps regs) play) (Err stop) player a a
-smc-stopped boot play cpu steps regs Full player a came =
-    (came.0, smc-refused boot play cpu steps regs came.0 came.1, Appends-nil a)
-smc-stopped boot play cpu steps regs Failed player a came = absurd came
-smc-stopped boot play cpu steps regs Memory player a came = λ next e. nothing-part play next a
+    → Follows boot play (after_item boot (item.Smc cpu steps regs) play) (Err stop) player text text
+smc-stopped boot play cpu steps regs Full player text came =
+    (came.0, smc-refused boot play cpu steps regs came.0 came.1, refl)
+smc-stopped boot play cpu steps regs Failed player text came = absurd came
+smc-stopped boot play cpu steps regs Memory player text came = tt
 
 -- ---- writes and shows
 
 pub wrote-follows : (boot : Booted) (play : Play) (cpu addr : ℕ) (bytes : List ℕ) (player : Player)
-    (a : Option (List ℕ))
+    (text : List ℕ)
     → IsAt boot (with_writes cpu (record { addr = addr; bytes = bytes } ∷ []) play) player.machine
     → AreLast play.history player.answers
-    → Follows boot play (after_item boot (item.Write cpu addr bytes) play) (Ok tt) player a a
-wrote-follows boot play cpu addr bytes player a at last =
+    → Follows boot play (after_item boot (item.Write cpu addr bytes) play) (Ok tt) player text text
+wrote-follows boot play cpu addr bytes player text at last =
     let next = with_writes cpu (record { addr = addr; bytes = bytes } ∷ []) play in
-    (next, refl, record { machine = at; answers = last }, nothing-printed play next a refl)
+    (next, refl, record { machine = at; answers = last }, nothing-printed play next text refl)
 
 -- the same play, with lines more
 at-lines : (boot : Booted) (play : Play) (line : Line) (player : Player) → IsPlayedTo boot play player
@@ -238,30 +213,19 @@ at-lines boot play line player stands = record {
   answers = stands.answers;
 }
 
-pub shown : (boot : Booted) (play : Play) (cpu addr len : ℕ) (bytes : List ℕ) (player : Player)
-    (result : Result (Unit {0}) Stop) (a b : Option (List ℕ))
+pub shown : (boot : Booted) (play : Play) (cpu addr len : ℕ) (bytes : List ℕ) (player : Player) (old new : List ℕ)
     → bytes ≡ bytes_at (lane_of play cpu) addr len → IsPlayedTo boot play player
-    → PutsLine (mem_line cpu addr bytes) result a b
-    → Follows boot play (after_item boot (item.Show cpu addr len) play) result player a b
-shown boot play cpu addr len bytes player (Ok done) a b is stands put =
+    → new ≡ old ++ mem_line cpu addr bytes
+    → Follows boot play (after_item boot (item.Show cpu addr len) play) (Ok tt) player old new
+shown boot play cpu addr len bytes player old new is stands put =
     let line = Mem cpu addr (bytes_at (lane_of play cpu) addr len) in (
       with_line line play,
       refl,
       at-lines boot play line player stands,
-      (line ∷ [], refl, subst (Appends a b) (ap (mem_line cpu addr) is ∙ sym (one-line line)) put),
+      (
+        line ∷ [],
+        refl,
+        put ∙ ap (λ (b : List ℕ). old ++ mem_line cpu addr b) is
+            ∙ ap (λ (t : List ℕ). old ++ t) (sym (one-line line)),
+      ),
     )
-shown boot play cpu addr len bytes player (Err Full) a b is stands put = absurd put
-shown boot play cpu addr len bytes player (Err Failed) a b is stands put = λ next e.
-    let line = Mem cpu addr (bytes_at (lane_of play cpu) addr len) in
-    let same : with_line line play ≡ next = cc in
-    part-of play next (line ∷ []) a b (ap (λ (p : Play). p.lines) (sym same))
-    (subst (AppendsPart a b) (ap (mem_line cpu addr) is ∙ sym (one-line line)) put)
-shown boot play cpu addr len bytes player (Err Memory) a b is stands put = λ next e.
-    let line = Mem cpu addr (bytes_at (lane_of play cpu) addr len) in
-    let same : with_line line play ≡ next = cc in
-    part-of play next (line ∷ []) a b (ap (λ (p : Play). p.lines) (sym same))
-    (subst (AppendsPart a b) (ap (mem_line cpu addr) is ∙ sym (one-line line)) put)
-
-pub unshown : (boot : Booted) (play : Play) (cpu addr len : ℕ) (player : Player) (a : Option (List ℕ))
-    → Follows boot play (after_item boot (item.Show cpu addr len) play) (Err Memory) player a a
-unshown boot play cpu addr len player a = λ next e. nothing-part play next a

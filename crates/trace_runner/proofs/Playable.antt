@@ -1,7 +1,7 @@
 -- From a sound trace to a player that can play it, and from its play to what was told.
-use Rattle.std.proofs.Common.{◌≡◌, ℕ, ◌+◌, ◌<◌, ◌≤◌, List, [], length, take, drop, get_or, Option, Some, None, refl, sym, ap, subst, ◌∙◌, arith, inr}
+use Rattle.std.proofs.Common.{◌≡◌, ℕ, ◌+◌, ◌<◌, ◌≤◌, List, [], ◌++◌, length, take, drop, get_or, Option, Some, None, refl, sym, ap, subst, ◌∙◌, append_assoc, arith}
 use Rattle.std.specs.Prelude.{replicate, Ok, Err, IfSome, IsSome}
-use Rattle.std.proofs.lemmas.List.{append-nil, take_all}
+use Rattle.std.proofs.lemmas.List.{take_all}
 use Rattle.base.specs.Zeros.{zeros}
 use Rattle.base.proofs.ZeroLemmas.{length-zeros}
 use Rattle.kernel_model.specs.Application.{Booted, IsBooted, Native, booted}
@@ -9,11 +9,9 @@ use Rattle.kernel_state.specs.Meaning.{booted_of}
 use Rattle.kernel_state.specs.declared.kernel_core.Core.{Core}
 use Rattle.play_model.specs.Coming as coming
 use Rattle.play_model.specs.Play.{Play, after_item, after_items, filled, first_play, played}
-use Rattle.play_model.specs.Text.{text_of_play}
+use Rattle.play_model.specs.Text.{text_of}
 use Rattle.play_model.proofs.Coming.{items_can_come}
 use Rattle.play_model.proofs.PlaysThere.{traces_have_plays}
-use Rattle.ports.specs.Port.{Appends}
-use Rattle.ports.specs.PortLaws.{Appends-nil, Appends-trans}
 use Rattle.ta_isa.specs.declared.boot.Boot.{Boot}
 use Rattle.trace_text.specs.Sound.{IsSound, IsSoundBoot}
 use Rattle.trace_text.specs.declared.item.Item.{Item}
@@ -21,16 +19,16 @@ use Rattle.trace_text.specs.declared.item.Item.TheVariants as item
 use Rattle.trace_text.specs.declared.trace.Fill.{Fill}
 use Rattle.trace_text.specs.declared.trace.Trace.{Trace}
 use Rattle.core_machine.specs.Laws.{MachinesStand}
-use Rattle.trace_runner.specs.Playing.{AreLast, CanBeTaken, Follows, IsPlayedTo}
-use Rattle.trace_runner.specs.Run.{IsTold, uuids_of}
+use Rattle.trace_runner.specs.Content.{refused_in}
+use Rattle.trace_runner.specs.Playing.{AreLast, CanBeTaken, Follows, IsPlayedTo, Prints, text_of_lines}
+use Rattle.trace_runner.specs.Run.{uuids_of}
 use Rattle.trace_runner.specs.Starting.{IsAtStart, trace_of}
 use Rattle.core_machine.specs.Standing.{IsAt, begun}
 use Rattle.core_machine.specs.declared.machine.Machine.{Machine}
 use Rattle.trace_runner.specs.declared.player.Player.{Player}
-use Rattle.trace_runner.specs.declared.player.Stop.{Stop}
-use Rattle.trace_runner.specs.declared.player.Stop.TheVariants.{Full, Failed, Memory}
+use Rattle.trace_runner.specs.declared.player.Stop.TheVariants.{Full}
 use Rattle.trace_runner.proofs.Played.{Written, Written-more, Written-part, Written-refused, items-split}
-use Rattle.trace_runner.proofs.Running.{told-full, told-ok, told-part}
+use Rattle.trace_runner.proofs.Running.{refused-played, text-played}
 
 -- ---- what can be taken
 
@@ -83,15 +81,15 @@ module _ (natives : List Native) (uuids : List (List ℕ)) (boot : Boot) (trace 
   start = first_play (zeros 0x400000) (booted boot natives) trace.fills
 
   -- nothing was printed yet
-  pub Written-none : (player : Player) (a : Option (List ℕ)) → IsPlayedTo (booted boot natives) start player
-      → Written (booted boot natives) start trace.items 0 player a a
-  Written-none player a stands = record { play = start; taken = refl; stands = stands; put = Appends-nil a }
+  pub Written-none : (player : Player) → IsPlayedTo (booted boot natives) start player
+      → Written (booted boot natives) start trace.items 0 player []
+  Written-none player stands = record { play = start; taken = refl; stands = stands; printed = refl }
 
   -- the next item can be taken
-  pub next-taken : (at : ℕ) (i : Item) (player : Player) (a b : Option (List ℕ)) → MachinesStand → boot.cpus ≤ 8
+  pub next-taken : (at : ℕ) (i : Item) (player : Player) (text : List ℕ) → MachinesStand → boot.cpus ≤ 8
       → at < length trace.items → i ≡ get_or trace.items at i
-      → (w : Written (booted boot natives) start trace.items at player a b) → CanBeTaken player.machine i
-  next-taken at i player a b stand few lt same w =
+      → (w : Written (booted boot natives) start trace.items at player text) → CanBeTaken player.machine i
+  next-taken at i player text stand few lt same w =
       can-take (booted boot natives) w.play player.machine i stand few w.stands.machine
       (items_can_come (zeros 0x400000) natives uuids boot trace (take at trace.items)
       (drop (at + 1) trace.items) i w.play zeros-whole boots sound is
@@ -102,51 +100,55 @@ module _ (natives : List Native) (uuids : List (List ℕ)) (boot : Boot) (trace 
   there (Some play) e some = (play, e)
   there None e some = absurd cc
 
-  -- an item stopped the play
-  pub stopped : (at : ℕ) (i : Item) (before after : Player) (stop : Stop) (a b c : Option (List ℕ))
+  -- an entry was refused
+  pub refused : (at : ℕ) (i : Item) (before after : Player) (text lines : List ℕ)
       → at < length trace.items → i ≡ get_or trace.items at i
-      → (w : Written (booted boot natives) start trace.items at before a b)
-      → Follows (booted boot natives) w.play (after_item (booted boot natives) i w.play) (Err stop) after b c
-      → IsTold natives trace (Err stop) a c
-  stopped at i before after Full a b c lt same w follows =
+      → (w : Written (booted boot natives) start trace.items at before text)
+      → Follows (booted boot natives) w.play (after_item (booted boot natives) i w.play) (Err Full) after text lines
+      → IsSome (refused_in natives trace) × (text_of natives trace ≡ Some text)
+  refused at i before after text lines lt same w follows =
       let ended = record w.play { refused = Some follows.0 } in
-      told-full natives trace boot ended a c follows.0 is
-      (Written-refused (booted boot natives) start trace.items at i before a b follows.0 lt same w follows.1) refl
-      (subst (Appends a c) (append-nil (text_of_play w.play))
-      (Appends-trans a b c (text_of_play w.play) [] w.put follows.2))
-  stopped at i before after Failed a b c lt same w follows =
+      let final = Written-refused (booted boot natives) start trace.items at i before text follows.0 lt same w follows.1 in (
+        subst IsSome (sym (refused-played natives trace boot ended is final)) refl,
+        text-played natives trace boot ended is final ∙ ap (λ (t : List ℕ). Some t) (sym w.printed),
+      )
+
+  -- the text so far is a part of the trace's
+  pub part : (at : ℕ) (player : Player) (text : List ℕ)
+      → (w : Written (booted boot natives) start trace.items at player text)
+      → (rest : List ℕ) × (text_of natives trace ≡ Some (text ++ rest))
+  part at player text w =
       let final = there (played natives boot trace) refl
       (traces_have_plays.played (zeros 0x400000) natives uuids boot trace zeros-whole boots sound is) in
-      told-part natives trace boot final.0 a c is final.1
-      (Written-part (booted boot natives) start trace.items at i before a b c final.0 lt same w follows final.1)
-  stopped at i before after Memory a b c lt same w follows =
-      let final = there (played natives boot trace) refl
-      (traces_have_plays.played (zeros 0x400000) natives uuids boot trace zeros-whole boots sound is) in
-      inr (told-part natives trace boot final.0 a c is final.1
-      (Written-part (booted boot natives) start trace.items at i before a b c final.0 lt same w follows final.1))
+      let more = Written-part (booted boot natives) start trace.items at player text final.0 w final.1 in (
+        more.0,
+        text-played natives trace boot final.0 is final.1 ∙ ap (λ (t : List ℕ). Some t) more.1,
+      )
 
   -- the last item was played
-  pub ended : (at : ℕ) (player : Player) (a b : Option (List ℕ)) → length trace.items ≤ at
-      → (w : Written (booted boot natives) start trace.items at player a b)
-      → IsTold natives trace (Ok tt) a b
-  ended at player a b whole w =
-      told-ok natives trace boot w.play a b is
-      (sym (ap (λ (l : List Item). after_items (booted boot natives) l start) (take_all at trace.items whole))
-      ∙ w.taken)
-      w.stands.machine.goes_on w.put
+  pub ended : (at : ℕ) (player : Player) (text : List ℕ) → length trace.items ≤ at
+      → (w : Written (booted boot natives) start trace.items at player text)
+      → (refused_in natives trace ≡ None) × (text_of natives trace ≡ Some text)
+  ended at player text whole w =
+      let final : played natives boot trace ≡ Some w.play =
+      sym (ap (λ (l : List Item). after_items (booted boot natives) l start) (take_all at trace.items whole))
+      ∙ w.taken in (
+        refused-played natives trace boot w.play is final ∙ w.stands.machine.goes_on,
+        text-played natives trace boot w.play is final ∙ ap (λ (t : List ℕ). Some t) (sym w.printed),
+      )
 
 -- ---- all of it
 
--- the items so far were played, on a core of the trace's boot
+-- the items so far were played, on a core of the trace's boot, and this is the text of their lines
 pub record Playing (natives : List Native) (trace : Trace) (items : List Item) (at : ℕ) (player : Player)
-    (old new : Option (List ℕ)) : Type 0 where
+    (text : List ℕ) : Type 0 where
   pub sound : IsSound (uuids_of natives) trace
   pub boot : Boot
   pub is : trace.boot ≡ Some boot
   pub boots : IsBooted (booted boot natives)
   pub same : items ≡ trace.items
   pub written : Written (booted boot natives)
-      (first_play (zeros 0x400000) (booted boot natives) trace.fills) trace.items at player old new
+      (first_play (zeros 0x400000) (booted boot natives) trace.fills) trace.items at player text
 
 few-there : (uuids : List (List ℕ)) (trace : Trace) (boot : Boot) → IsSound uuids trace → trace.boot ≡ Some boot
     → boot.cpus ≤ 8
@@ -169,14 +171,14 @@ at-start natives boot fills items player sound boots stands =
     record { sound = sound; same = refl; boot = boot; has_boot = refl; boots = boots; stands = stands }
 
 pub playing-first : (natives : List Native) (trace : Trace) (items : List Item) (player : Player)
-    (a : Option (List ℕ)) → IsAtStart natives trace items player → Playing natives trace items 0 player a a
-playing-first natives trace items player a start = record {
+    → IsAtStart natives trace items player → Playing natives trace items 0 player []
+playing-first natives trace items player start = record {
   sound = start.sound;
   boot = start.boot;
   is = start.has_boot;
   boots = start.boots;
   same = start.same;
-  written = Written-none natives (uuids_of natives) start.boot trace start.boots start.sound start.has_boot player a
+  written = Written-none natives (uuids_of natives) start.boot trace start.boots start.sound start.has_boot player
       start.stands;
 }
 
@@ -186,19 +188,29 @@ in-trace items all at i same lt is =
     (subst (λ (l : List Item). at < length l) same lt, subst (λ (l : List Item). i ≡ get_or l at i) same is)
 
 pub playing-takes : (natives : List Native) (trace : Trace) (items : List Item) (at : ℕ) (i : Item) (player : Player)
-    (a b : Option (List ℕ)) → MachinesStand → at < length items → i ≡ get_or items at i
-    → Playing natives trace items at player a b → CanBeTaken player.machine i
-playing-takes natives trace items at i player a b stand lt is p =
+    (text : List ℕ) → MachinesStand → at < length items → i ≡ get_or items at i
+    → Playing natives trace items at player text → CanBeTaken player.machine i
+playing-takes natives trace items at i player text stand lt is p =
     let there = in-trace items trace.items at i p.same lt is in
-    next-taken natives (uuids_of natives) p.boot trace p.boots p.sound p.is at i player a b stand
+    next-taken natives (uuids_of natives) p.boot trace p.boots p.sound p.is at i player text stand
     (few-there (uuids_of natives) trace p.boot p.sound p.is) there.0 there.1 p.written
 
+-- what an item prints behind a part of the text it prints behind all of it
+prints-behind : (before after : Play) (text old new : List ℕ) → Prints before after old new
+    → Prints before after (text ++ old) (text ++ new)
+prints-behind before after text old new p = (
+  p.0,
+  p.1,
+  ap (λ (t : List ℕ). text ++ t) p.2 ∙ sym (append_assoc text old (text_of_lines p.0)),
+)
+
 pub playing-more : (natives : List Native) (trace : Trace) (items : List Item) (at : ℕ) (i : Item)
-    (before after : Player) (a b c : Option (List ℕ)) → at < length items → i ≡ get_or items at i
-    → Playing natives trace items at before a b
+    (before after : Player) (text old new : List ℕ) → at < length items → i ≡ get_or items at i
+    → Playing natives trace items at before (text ++ old)
     → ((boot : Booted) (play : Play) → IsPlayedTo boot play before
-    → Follows boot play (after_item boot i play) (Ok tt) after b c) → Playing natives trace items (at + 1) after a c
-playing-more natives trace items at i before after a b c lt is p follows =
+    → Follows boot play (after_item boot i play) (Ok tt) after old new)
+    → Playing natives trace items (at + 1) after (text ++ new)
+playing-more natives trace items at i before after text old new lt is p follows =
     let there = in-trace items trace.items at i p.same lt is in
     let next = follows (booted p.boot natives) p.written.play p.written.stands in
     record {
@@ -208,24 +220,32 @@ playing-more natives trace items at i before after a b c lt is p follows =
       boots = p.boots;
       same = p.same;
       written = Written-more (booted p.boot natives)
-          (first_play (zeros 0x400000) (booted p.boot natives) trace.fills) trace.items at i before after a b c
-          there.0 there.1
-          p.written next.0 next.1 next.2 next.3;
+          (first_play (zeros 0x400000) (booted p.boot natives) trace.fills) trace.items at i before after
+          (text ++ old) (text ++ new) there.0 there.1
+          p.written next.0 next.1 next.2 (prints-behind p.written.play next.0 text old new next.3);
     }
 
-pub playing-stopped : (natives : List Native) (trace : Trace) (items : List Item) (at : ℕ) (i : Item)
-    (before after : Player) (stop : Stop) (a b c : Option (List ℕ))
-    → at < length items → i ≡ get_or items at i → Playing natives trace items at before a b
+pub playing-refused : (natives : List Native) (trace : Trace) (items : List Item) (at : ℕ) (i : Item)
+    (before after : Player) (text old new : List ℕ)
+    → at < length items → i ≡ get_or items at i → Playing natives trace items at before text
     → ((boot : Booted) (play : Play) → IsPlayedTo boot play before
-    → Follows boot play (after_item boot i play) (Err stop) after b c) → IsTold natives trace (Err stop) a c
-playing-stopped natives trace items at i before after stop a b c lt is p follows =
+    → Follows boot play (after_item boot i play) (Err Full) after old new)
+    → IsSome (refused_in natives trace) × (text_of natives trace ≡ Some text)
+playing-refused natives trace items at i before after text old new lt is p follows =
     let there = in-trace items trace.items at i p.same lt is in
-    stopped natives (uuids_of natives) p.boot trace p.boots p.sound p.is at i before after stop a b c there.0 there.1
-    p.written (follows (booted p.boot natives) p.written.play p.written.stands)
+    let f = follows (booted p.boot natives) p.written.play p.written.stands in
+    refused natives (uuids_of natives) p.boot trace p.boots p.sound p.is at i before after text text there.0 there.1
+    p.written (f.0, f.1, refl)
+
+pub playing-part : (natives : List Native) (trace : Trace) (items : List Item) (at : ℕ) (player : Player)
+    (text : List ℕ) → Playing natives trace items at player text
+    → (rest : List ℕ) × (text_of natives trace ≡ Some (text ++ rest))
+playing-part natives trace items at player text p =
+    part natives (uuids_of natives) p.boot trace p.boots p.sound p.is at player text p.written
 
 pub playing-ended : (natives : List Native) (trace : Trace) (items : List Item) (at : ℕ) (player : Player)
-    (a b : Option (List ℕ)) → length items ≤ at → Playing natives trace items at player a b
-    → IsTold natives trace (Ok tt) a b
-playing-ended natives trace items at player a b whole p =
-    ended natives (uuids_of natives) p.boot trace p.boots p.sound p.is at player a b
+    (text : List ℕ) → length items ≤ at → Playing natives trace items at player text
+    → (refused_in natives trace ≡ None) × (text_of natives trace ≡ Some text)
+playing-ended natives trace items at player text whole p =
+    ended natives (uuids_of natives) p.boot trace p.boots p.sound p.is at player text
     (subst (λ (l : List Item). length l ≤ at) p.same whole) p.written

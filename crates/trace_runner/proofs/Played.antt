@@ -1,18 +1,15 @@
 -- From one item to the next, and from the items to the play of a trace.
-use Rattle.std.proofs.Common.{◌≡◌, ℕ, suc, ◌+◌, ◌<◌, List, [], ◌∷◌, ◌++◌, length, take, drop, get_or, Option, Some, None, refl, sym, ap, subst, ◌∙◌, append_assoc, add-one}
+use Rattle.std.proofs.Common.{◌≡◌, ℕ, suc, ◌+◌, ◌<◌, List, [], ◌∷◌, ◌++◌, length, take, drop, get_or, Option, Some, None, refl, sym, ap, subst, ◌∙◌, add-one}
 use Rattle.std.proofs.Common.{drop-cons}
 use Rattle.std.specs.Prelude.{IsSomeAnd, slice_set}
 use Rattle.std.specs.Option.{option_and_then, option_map_or}
 use Rattle.std.proofs.lemmas.Grind.{flat_map-append}
 use Rattle.std.proofs.Math.Seq.{take-suc}
 use Rattle.std.proofs.lemmas.List.{append_cancel_left, append-nil, take-append-drop}
-use Rattle.std.proofs.lemmas.Option.{option_and_then_some}
 use Rattle.event_journal.specs.declared.event.Event.{Event}
 use Rattle.event_journal.specs.declared.event.Event.TheVariants.{Entry, Exit}
 use Rattle.kernel_model.specs.Application.{Booted}
 use Rattle.kernel_model.specs.Kernel.{Visit}
-use Rattle.ports.specs.Port.{Appends}
-use Rattle.ports.specs.PortLaws.{Appends-trans}
 use Rattle.play_model.specs.Line.{Line, Ret, text_of_line}
 use Rattle.play_model.specs.Play.{Play, after_item, after_items, enters, leaves}
 use Rattle.play_model.specs.Text.{text_of_play}
@@ -20,11 +17,9 @@ use Rattle.play_model.proofs.Entries.{CameIn, Entered, Left, WasRefused, entered
 use Rattle.play_model.proofs.LinesStay.{event_prints, plays_go_on}
 use Rattle.smc_abi.specs.declared.regs.Regs.{Regs}
 use Rattle.trace_text.specs.declared.item.Item.{Item}
-use Rattle.trace_runner.specs.Output.{AppendsPart}
-use Rattle.trace_runner.specs.Playing.{AreLast, IsPlayedTo, Prints, PrintsPart, text_of_lines}
+use Rattle.trace_runner.specs.Playing.{AreLast, IsPlayedTo, Prints, text_of_lines}
 use Rattle.trace_runner.specs.declared.player.Player.{Player}
 use Rattle.trace_runner.proofs.Answers.{last-entry, last-exit}
-use Rattle.trace_runner.proofs.PuttingLemmas.{AppendsPart-then}
 
 -- ---- entries and exits
 
@@ -89,17 +84,6 @@ leaves-last boot cpu play next told answers e = left-last boot cpu play next tol
 pub one-line : (line : Line) → text_of_lines (line ∷ []) ≡ text_of_line line
 one-line line = append-nil (text_of_line line)
 
--- lines behind the same lines are the same
-pub same-lines : (before after : Play) (lines more : List Line) → after.lines ≡ before.lines ++ lines
-    → after.lines ≡ before.lines ++ more → lines ≡ more
-same-lines before after lines more one other = append_cancel_left before.lines lines more (sym one ∙ other)
-
--- a part of the text of some lines is what is printed of the play after them
-pub part-of : (before after : Play) (lines : List Line) (old new : Option (List ℕ))
-    → after.lines ≡ before.lines ++ lines → AppendsPart old new (text_of_lines lines) → PrintsPart before after old new
-part-of before after lines old new is part more also =
-    subst (λ (ls : List Line). AppendsPart old new (text_of_lines ls)) (same-lines before after lines more is also) part
-
 -- ---- items
 
 -- once an entry was refused, nothing follows
@@ -127,13 +111,13 @@ items-split items at item lt is =
     ∙ ap (λ (k : ℕ). item ∷ drop k items) (sym (add-one at))))
     ∙ take-append-drop at items
 
--- the items so far were played, and their lines printed
-pub record Written (boot : Booted) (first : Play) (items : List Item) (at : ℕ) (player : Player)
-    (old new : Option (List ℕ)) : Type 0 where
+-- the items so far were played, and this is the text of their lines
+pub record Written (boot : Booted) (first : Play) (items : List Item) (at : ℕ) (player : Player) (text : List ℕ)
+    : Type 0 where
   pub play : Play
   pub taken : after_items boot (take at items) first ≡ Some play
   pub stands : IsPlayedTo boot play player
-  pub put : Appends old new (text_of_play play)
+  pub printed : text ≡ text_of_play play
 
 -- what the next item comes to decides the rest
 rest-from : (boot : Booted) (first : Play) (items : List Item) (at : ℕ) (item : Item) (play : Play)
@@ -155,11 +139,11 @@ take-more {A} items at item lt is =
     ∙ ap (λ (x : A). take at items ++ x ∷ []) (sym is)
 
 pub Written-more : (boot : Booted) (first : Play) (items : List Item) (at : ℕ) (item : Item) (before after : Player)
-    (a b c : Option (List ℕ)) → at < length items → item ≡ get_or items at item
-    → (w : Written boot first items at before a b) → (next : Play) → after_item boot item w.play ≡ Some next
-    → IsPlayedTo boot next after → Prints w.play next b c
-    → Written boot first items (at + 1) after a c
-Written-more boot first items at item before after a b c lt is w next comes stands prints = record {
+    (text more : List ℕ) → at < length items → item ≡ get_or items at item
+    → (w : Written boot first items at before text) → (next : Play) → after_item boot item w.play ≡ Some next
+    → IsPlayedTo boot next after → Prints w.play next text more
+    → Written boot first items (at + 1) after more
+Written-more boot first items at item before after text more lt is w next comes stands prints = record {
   play = next;
   taken =
       ap (λ (l : List Item). after_items boot l first) (take-more items at item lt is)
@@ -168,44 +152,34 @@ Written-more boot first items at item before after a b c lt is w next comes stan
       ∙ items-first boot item [] w.play w.stands.machine.goes_on
       ∙ ap (λ (o : Option Play). option_and_then (λ (p : Play). Some p) o) comes;
   stands = stands;
-  put =
+  printed =
       let whole : text_of_play next ≡ text_of_play w.play ++ text_of_lines prints.0 =
       ap text_of_lines prints.1 ∙ flat_map-append text_of_line w.play.lines prints.0 in
-      subst (λ (t : List ℕ). Appends a c t) (sym whole)
-      (Appends-trans a b c (text_of_play w.play) (text_of_lines prints.0) w.put prints.2);
+      prints.2 ∙ ap (λ (t : List ℕ). t ++ text_of_lines prints.0) w.printed ∙ sym whole;
 }
 
 -- an item whose entry is refused ends the play
 pub Written-refused : (boot : Booted) (first : Play) (items : List Item) (at : ℕ) (item : Item) (player : Player)
-    (a b : Option (List ℕ)) (more : ℕ) → at < length items → item ≡ get_or items at item
-    → (w : Written boot first items at player a b)
+    (text : List ℕ) (more : ℕ) → at < length items → item ≡ get_or items at item
+    → (w : Written boot first items at player text)
     → after_item boot item w.play ≡ Some (record w.play { refused = Some more })
     → after_items boot items first ≡ Some (record w.play { refused = Some more })
-Written-refused boot first items at item player a b more lt is w refused =
+Written-refused boot first items at item player text more lt is w refused =
     rest-from boot first items at item w.play lt is w.taken w.stands.machine.goes_on
     ∙ ap (λ (o : Option Play). option_and_then (λ next. after_items boot (drop (at + 1) items) next) o) refused
     ∙ items-refused boot (drop (at + 1) items) (record w.play { refused = Some more }) more refl
 
--- a part of what an item prints, behind the lines before it, is a part of all
-pub Written-part : (boot : Booted) (first : Play) (items : List Item) (at : ℕ) (item : Item) (player : Player)
-    (a b c : Option (List ℕ)) (final : Play) → at < length items → item ≡ get_or items at item
-    → (w : Written boot first items at player a b)
-    → ((next : Play) → after_item boot item w.play ≡ Some next → PrintsPart w.play next b c)
-    → after_items boot items first ≡ Some final → AppendsPart a c (text_of_play final)
-Written-part boot first items at item player a b c final lt is w part whole =
-    let rest = drop (at + 1) items in
-    let going = w.stands.machine.goes_on in
-    option_and_then_some (λ next. after_items boot rest next) (after_item boot item w.play) final
-    (sym (rest-from boot first items at item w.play lt is w.taken going) ∙ whole)
-    (λ (next : Play) comes onward.
-    let alone = items-first boot item [] w.play going
-    ∙ ap (λ (o : Option Play). option_and_then (λ (p : Play). Some p) o) comes in
-    let one = plays_go_on.printed boot (item ∷ []) w.play next alone in
-    let more = plays_go_on.printed boot rest next final onward in
-    let text : text_of_play w.play ++ (text_of_lines one.0 ++ text_of_lines more.0) ≡ text_of_play final =
-    sym (append_assoc (text_of_play w.play) (text_of_lines one.0) (text_of_lines more.0))
-    ∙ ap (λ (t : List ℕ). t ++ text_of_lines more.0)
-    (sym (flat_map-append text_of_line w.play.lines one.0) ∙ ap text_of_lines (sym one.1))
-    ∙ sym (flat_map-append text_of_line next.lines more.0) ∙ ap text_of_lines (sym more.1) in
-    AppendsPart-then a b c (text_of_play w.play) (text_of_lines one.0) (text_of_lines more.0)
-    (text_of_play final) w.put text (part next comes one.0 one.1))
+-- the text so far is a part of all, from its front
+pub Written-part : (boot : Booted) (first : Play) (items : List Item) (at : ℕ) (player : Player) (text : List ℕ)
+    (final : Play) → (w : Written boot first items at player text) → after_items boot items first ≡ Some final
+    → (rest : List ℕ) × (text_of_play final ≡ text ++ rest)
+Written-part boot first items at player text final w whole =
+    let onward : after_items boot (drop at items) w.play ≡ Some final =
+    ap (λ (o : Option Play). option_and_then (λ next. after_items boot (drop at items) next) o) (sym w.taken)
+    ∙ sym (plays_go_on.onward boot (take at items) (drop at items) first)
+    ∙ ap (λ (l : List Item). after_items boot l first) (take-append-drop at items) ∙ whole in
+    let more = plays_go_on.printed boot (drop at items) w.play final onward in (
+      text_of_lines more.0,
+      ap text_of_lines more.1 ∙ flat_map-append text_of_line w.play.lines more.0
+          ∙ ap (λ (t : List ℕ). t ++ text_of_lines more.0) (sym w.printed),
+    )

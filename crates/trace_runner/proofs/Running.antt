@@ -45,42 +45,17 @@ Ran-read grammar natives None (Some r) bytes result old new moved ended short an
 -- ---- playing
 
 -- the text of a trace whose play is this
-text-played : (natives : List Native) (trace : Trace) (boot : Boot) (play : Play) → trace.boot ≡ Some boot
+pub text-played : (natives : List Native) (trace : Trace) (boot : Boot) (play : Play) → trace.boot ≡ Some boot
     → played natives boot trace ≡ Some play
     → text_of natives trace ≡ Some (text_of_play play)
 text-played natives trace boot play is e =
     ap (text_by natives trace) is ∙ ap (option_map text_of_play) e
 
-refused-played : (natives : List Native) (trace : Trace) (boot : Boot) (play : Play) → trace.boot ≡ Some boot
+pub refused-played : (natives : List Native) (trace : Trace) (boot : Boot) (play : Play) → trace.boot ≡ Some boot
     → played natives boot trace ≡ Some play
     → refused_in natives trace ≡ play.refused
 refused-played natives trace boot play is e =
     ap (refused_by natives trace) is ∙ ap (option_and_then (λ (p : Play). p.refused)) e
-
-has-text : (natives : List Native) (trace : Trace) (boot : Boot) (play : Play) (P : List ℕ → Type 0)
-    → trace.boot ≡ Some boot → played natives boot trace ≡ Some play
-    → P (text_of_play play) → IsSomeAnd (text_of natives trace) P
-has-text natives trace boot play P is e p =
-    subst (λ (o : Option (List ℕ)). IsSomeAnd o P) (sym (text-played natives trace boot play is e)) p
-
-pub told-ok : (natives : List Native) (trace : Trace) (boot : Boot) (play : Play) (old new : Option (List ℕ))
-    → trace.boot ≡ Some boot → played natives boot trace ≡ Some play
-    → play.refused ≡ None → Appends old new (text_of_play play) → IsTold natives trace (Ok tt) old new
-told-ok natives trace boot play old new is e going put =
-    (refused-played natives trace boot play is e ∙ going, has-text natives trace boot play (Appends old new) is e put)
-
-pub told-full : (natives : List Native) (trace : Trace) (boot : Boot) (play : Play) (old new : Option (List ℕ))
-    (more : ℕ) → trace.boot ≡ Some boot → played natives boot trace ≡ Some play
-    → play.refused ≡ Some more → Appends old new (text_of_play play) → IsTold natives trace (Err Full) old new
-told-full natives trace boot play old new more is e refused put = (
-  subst IsSome (sym (refused-played natives trace boot play is e ∙ refused)) refl,
-  has-text natives trace boot play (Appends old new) is e put,
-)
-
-pub told-part : (natives : List Native) (trace : Trace) (boot : Boot) (play : Play) (old new : Option (List ℕ))
-    → trace.boot ≡ Some boot → played natives boot trace ≡ Some play
-    → AppendsPart old new (text_of_play play) → IsSomeAnd (text_of natives trace) (AppendsPart old new)
-told-part natives trace boot play old new is e part = has-text natives trace boot play (AppendsPart old new) is e part
 
 -- without a boot there is nothing to play
 pub told-none : (natives : List Native) (trace : Trace) (old new : Option (List ℕ)) → trace.boot ≡ None

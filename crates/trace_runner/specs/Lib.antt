@@ -5,6 +5,7 @@ pub mod Input
 pub mod Output
 pub mod Content
 pub mod Playing
+pub mod Gathering
 pub mod Run
 pub mod Plays
 pub mod Starting

@@ -6,10 +6,8 @@ use Rattle.kernel_model.specs.Application.{Booted}
 use Rattle.kernel_model.specs.Kernel.{Visit}
 use Rattle.play_model.specs.Line.{Line, text_of_line}
 use Rattle.play_model.specs.Play.{Play, enters, last_answer, leaves}
-use Rattle.ports.specs.Port.{Appends}
 use Rattle.smc_abi.specs.declared.regs.Regs.{Regs}
 use Rattle.trace_text.specs.declared.item.Item.{Item}
-use Rattle.trace_runner.specs.Output.{AppendsPart}
 use Rattle.trace_text.specs.declared.item.Item.TheVariants as item
 use Rattle.trace_text.specs.declared.item.Reg.{Reg}
 use Rattle.trace_text.specs.Sound.{IsPartOfRam, IsSoundReg}
@@ -63,24 +61,12 @@ CanBeTaken machine (item.Show cpu addr len) = HasLane machine cpu × IsPartOfRam
 abbrev pub text_of_lines : List Line → List ℕ
 text_of_lines lines = flat_map text_of_line lines
 
--- the lines that one play has behind the other's were printed
-abbrev pub Prints : Play → Play → Option (List ℕ) → Option (List ℕ) → Type 0
+-- the text of the lines that one play has behind the other's stands behind the old text
+abbrev pub Prints : Play → Play → List ℕ → List ℕ → Type 0
 Prints before after old new =
-    (lines : List Line) × (after.lines ≡ before.lines ++ lines) × Appends old new (text_of_lines lines)
-
--- a part from the front of their text was
-abbrev pub PrintsPart : Play → Play → Option (List ℕ) → Option (List ℕ) → Type 0
-PrintsPart before after old new =
-    (lines : List Line) → after.lines ≡ before.lines ++ lines → AppendsPart old new (text_of_lines lines)
+    (lines : List Line) × (after.lines ≡ before.lines ++ lines) × (new ≡ old ++ text_of_lines lines)
 
 -- ---- an entry, an exit, an item
-
--- a line was put, or a part of it where the sink failed or memory ran out
-abbrev pub PutsLine : List ℕ → Result (Unit {0}) Stop → Option (List ℕ) → Option (List ℕ) → Type 0
-PutsLine line (Ok done) old new = Appends old new line
-PutsLine line (Err Full) old new = ⊥
-PutsLine line (Err Failed) old new = AppendsPart old new line
-PutsLine line (Err Memory) old new = AppendsPart old new line
 
 -- an entry
 abbrev pub ComesIn : Booted → Play → Visit → Result (Unit {0}) Stop → Player → Type 0
@@ -91,22 +77,19 @@ ComesIn boot play visit (Err Full) player =
 ComesIn boot play visit (Err Failed) player = ⊥
 ComesIn boot play visit (Err Memory) player = Unit {0}
 
--- an exit, whose line is printed, or a part of it where the sink failed or memory ran out
-abbrev pub GoesOut : Booted → Play → ℕ → Result (Unit {0}) Stop → Player → Option (List ℕ) → Option (List ℕ) → Type 0
+-- an exit, whose line is printed, or want of memory
+abbrev pub GoesOut : Booted → Play → ℕ → Result (Unit {0}) Stop → Player → List ℕ → List ℕ → Type 0
 GoesOut boot play cpu (Ok done) player old new =
     (next : Play) × (leaves boot cpu play ≡ Some next) × IsPlayedTo boot next player × Prints play next old new
 GoesOut boot play cpu (Err Full) player old new = ⊥
-GoesOut boot play cpu (Err Failed) player old new =
-    (next : Play) → leaves boot cpu play ≡ Some next → PrintsPart play next old new
-GoesOut boot play cpu (Err Memory) player old new =
-    (next : Play) → leaves boot cpu play ≡ Some next → PrintsPart play next old new
+GoesOut boot play cpu (Err Failed) player old new = ⊥
+GoesOut boot play cpu (Err Memory) player old new = Unit {0}
 
--- something that a play comes to, where it can come
-abbrev pub Follows : Booted → Play → Option Play → Result (Unit {0}) Stop → Player → Option (List ℕ) → Option (List ℕ)
-    → Type 0
+-- something that a play comes to, where it can come; a refused entry prints nothing
+abbrev pub Follows : Booted → Play → Option Play → Result (Unit {0}) Stop → Player → List ℕ → List ℕ → Type 0
 Follows boot play after (Ok done) player old new =
     (next : Play) × (after ≡ Some next) × IsPlayedTo boot next player × Prints play next old new
 Follows boot play after (Err Full) player old new =
-    (more : ℕ) × (after ≡ Some (record play { refused = Some more })) × Appends old new []
-Follows boot play after (Err Failed) player old new = (next : Play) → after ≡ Some next → PrintsPart play next old new
-Follows boot play after (Err Memory) player old new = (next : Play) → after ≡ Some next → PrintsPart play next old new
+    (more : ℕ) × (after ≡ Some (record play { refused = Some more })) × (new ≡ old)
+Follows boot play after (Err Failed) player old new = ⊥
+Follows boot play after (Err Memory) player old new = Unit {0}

@@ -10,7 +10,6 @@ ghost use Rattle.trace_runner.specs.Digesting.{IsDigested};
 ghost use Rattle.trace_runner.specs.Run.{uuids_of};
 ghost use Rattle.trace_runner.specs.Starting.{IsAtStart, trace_of};
 
-use crate::item_lines::ItemLines;
 use crate::play::first_player;
 use crate::player::{Player, Stop};
 use crate::summary::AnswerCounts;
@@ -39,11 +38,11 @@ fn digest_items(alloc: Global, player: &mut Player, items: &[Item]) -> Result<Di
     ensures failed { result ≡ Err Stop.Failed → ⊥ }
 {
     machines_stand();
-    let mut lines = ItemLines::new(alloc);
+    let mut lines = Vec::new(alloc);
     let mut hasher = Sha256::new();
     for item in items {
         player.play_item(alloc, item, &mut lines)?;
-        hasher.update(lines.bytes());
+        hasher.update(lines.as_slice());
         lines.clear();
     }
     Ok(Digested {

@@ -1,7 +1,7 @@
 //! The top call: words and bytes in, bytes and a status out.
 //!
-//! `run` reads a trace from a source, plays it on one core in the order of its items, and writes each line to a
-//! sink as it comes; or it assembles a text, or sums up the play of a trace that is made of a number. Its contract
+//! `run` reads a trace from a source, plays it on one core in the order of its items, and writes its lines to a
+//! sink; or it assembles a text, or sums up the play of a trace that is made of a number. Its contract
 //! says what is written for every input, when each status comes, and that what is printed of a trace is its play on the
 //! written kernel.
 #![tactic(auto)]
@@ -10,8 +10,8 @@ mod command;
 mod content;
 mod digesting;
 mod examples;
+mod gathering;
 mod input;
-mod item_lines;
 mod line;
 mod output;
 mod play;

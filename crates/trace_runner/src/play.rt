@@ -1,21 +1,21 @@
 //! Playing a trace: its boot, its fills, and then its items in their order.
-ghost use Rattle.std.specs.Prelude.{◌≡◌, ◌≢◌, ◌↔◌, ◌≤◌, List, [], All, Err, IfOk, IsTrue, replicate};
+ghost use Rattle.std.specs.Prelude.{◌≡◌, ◌≢◌, ◌↔◌, ◌≤◌, [], All, Err, IfOk, IsTrue, replicate};
 ghost use Rattle.base.specs.Zeros.{zeros};
-ghost use Rattle.kernel_model.specs.Application.{IsBooted, Native, booted};
+ghost use Rattle.kernel_model.specs.Application.{IsBooted, booted};
 ghost use Rattle.kernel_state.specs.Meaning.{booted_of, events_of};
 ghost use Rattle.native_tas.specs.Table.{entries};
 ghost use Rattle.play_model.specs.Play.{filled, first_play};
 ghost use Rattle.ports.specs.Port.{Rose};
 ghost use Rattle.trace_text.specs.Sound.{IsSound, IsSoundBoot, IsSoundFill};
-ghost use Rattle.trace_text.specs.declared.trace.Trace.{Trace};
 ghost use Rattle.trace_runner.specs.Playing.{IsPlayedTo};
 ghost use Rattle.trace_runner.specs.Content.{HasTooMany, is_smc};
 ghost use Rattle.trace_runner.specs.Run.{IsTold, uuids_of};
-ghost use Rattle.trace_runner.specs.Starting.{IsAtStart, trace_of};
+ghost use Rattle.trace_runner.specs.Starting.{trace_of};
 
+use crate::gathering::play_items;
 use crate::player::{Player, Stop};
 use base::NoMemory;
-use core_machine::{Machine, machines_stand};
+use core_machine::Machine;
 use kernel_state::{BootFault, Core, journals_stay_legal};
 use native_tas::Natives;
 use ns_ram::Lane;
@@ -100,29 +100,7 @@ pub fn first_player(
     Ok(Player::new(Machine::new(alloc, core, lanes)?))
 }
 
-/// Plays the items of a trace on a player that stands before the first of them, and prints each line as it comes, up to
-/// a refused entry, a fault of the sink or want of memory.
-fn play_items<K: Sink>(
-    alloc: Global,
-    player: &mut Player,
-    items: &[Item],
-    out: &mut K,
-) -> Result<(), Stop>
-    requires { (natives : List Native) × (trace : Trace) × IsAtStart natives trace items.now player.old }
-    ensures told { (natives : List Native) (trace : Trace) → IsAtStart natives trace items.now player.old
-        → IsTold natives trace result (K.held out.old) (K.held out.new) }
-    ensures failed { result ≡ Err Stop.Failed → Rose (K.faults out.old) (K.faults out.new) }
-    ensures count { K.faults out.old ≤ K.faults out.new }
-    ensures stays { result ≢ Err Stop.Failed → K.faults out.new ≡ K.faults out.old }
-{
-    machines_stand();
-    for item in items {
-        player.play_item(alloc, item, out)?;
-    }
-    Ok(())
-}
-
-/// Plays the trace of this boot, with these fills and items, and prints each line as it comes.
+/// Plays the trace of this boot, with these fills and items, and prints its lines.
 fn play_booted<K: Sink>(
     alloc: Global,
     natives: &Natives,
@@ -143,7 +121,7 @@ fn play_booted<K: Sink>(
     play_items(alloc, &mut player, items, out)
 }
 
-/// Plays a trace and prints each line as it comes, up to a refused entry, a fault of the sink or want of memory.
+/// Plays a trace and prints its lines, up to a refused entry, a fault of the sink or want of memory.
 pub fn play<K: Sink>(
     alloc: Global,
     natives: &Natives,

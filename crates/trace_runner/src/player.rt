@@ -1,22 +1,19 @@
-//! Playing items: their entries and exits on a core, and the lines that they print.
-ghost use Rattle.std.specs.Prelude.{◌≡◌, ◌≢◌, ℕ, ◌<◌, ◌≤◌, [], All, Err, OnOk, Some, map, slice_get};
+//! Playing items: their entries and exits on a core, and the lines that they print, each behind those before it.
+ghost use Rattle.std.specs.Prelude.{◌≡◌, ◌<◌, [], Err, OnOk, Some, slice_get};
 ghost use Rattle.kernel_model.specs.Application.{Booted};
 ghost use Rattle.kernel_state.specs.Meaning.{events_of};
 ghost use Rattle.trace_text.specs.declared.item.Item.TheVariants as item;
-ghost use Rattle.play_model.specs.Play.{Play, after_item, number_in, visit_of};
-ghost use Rattle.ports.specs.Port.{Rose};
-ghost use Rattle.trace_text.specs.Sound.{IsPartOfRam, IsSoundReg};
-ghost use Rattle.trace_runner.specs.Playing.{AreLast, CanBeTaken, CanComeIn, ComesIn, Follows, GoesOut, HasLane, IsPlayedTo, PutsLine};
+ghost use Rattle.play_model.specs.Play.{Play, after_item, visit_of};
+ghost use Rattle.trace_text.specs.Sound.{IsPartOfRam};
+ghost use Rattle.trace_runner.specs.Playing.{AreLast, CanBeTaken, CanComeIn, ComesIn, Follows, GoesOut, HasLane, IsPlayedTo};
 ghost use Rattle.core_machine.specs.Standing.{CanCome};
 ghost use Rattle.core_machine.specs.declared.smc.Smc.TheVariants.{Leaves};
 
-use crate::line::{mem_line, ret_line};
-use crate::output::put_text;
+use answer_lines::{push_mem, push_ret, registers};
 use core_machine::{Machine, machines_stand, turns_are_taken};
 use event_journal::Event;
 use kernel_entry::Visitor;
 use kernel_state::EnterRefusal;
-use ports::{Put, Sink};
 use smc_abi::Regs;
 use std::alloc::{AllocError, Global};
 use trace_text::{Item, Reg};
@@ -55,51 +52,6 @@ impl From<AllocError> for Stop {
 
     fn from(_refused: AllocError) -> Stop {
         Stop::Memory
-    }
-}
-
-/// The number that a register holds, given the registers of the last answer.
-fn number(answer: &Regs, reg: Reg) -> u32
-    requires { IsSoundReg reg }
-    ensures { result ≡ number_in answer.now.a reg }
-{
-    match reg {
-        Reg::Num(number) => number,
-        Reg::Last(register) => answer.a[usize::from(register)],
-    }
-}
-
-/// The registers that a processor comes in with.
-fn registers(answer: &Regs, regs: &[Reg; 8]) -> Regs
-    requires { All IsSoundReg regs.now }
-    ensures { result.a ≡ map (number_in answer.now.a) regs.now }
-{
-    let [a0, a1, a2, a3, a4, a5, a6, a7] = *regs;
-    Regs {
-        a: [
-            number(answer, a0),
-            number(answer, a1),
-            number(answer, a2),
-            number(answer, a3),
-            number(answer, a4),
-            number(answer, a5),
-            number(answer, a6),
-            number(answer, a7),
-        ],
-    }
-}
-
-/// Prints a line.
-fn print<K: Sink>(line: Vec<u8>, out: &mut K) -> Result<(), Stop>
-    ensures line { PutsLine line.items result (K.held out.old) (K.held out.new) }
-    ensures failed { result ≡ Err Stop.Failed → Rose (K.faults out.old) (K.faults out.new) }
-    ensures count { K.faults out.old ≤ K.faults out.new }
-    ensures stays { result ≢ Err Stop.Failed → K.faults out.new ≡ K.faults out.old }
-{
-    match put_text(out, line.as_slice()) {
-        Put::Done => Ok(()),
-        Put::Failed => Err(Stop::Failed),
-        Put::Memory => Err(Stop::Memory),
     }
 }
 
@@ -143,7 +95,7 @@ impl Player {
         ensures comes { (boot : Booted) (play : Play) → IsPlayedTo boot play self.old
             → ComesIn boot play (visit_of play.history cpu steps regs.now) result self.new }
         ensures inside { OnOk result (CanCome self.new.machine (Leaves cpu)) }
-        ensures sink { result ≡ Err Stop.Failed → ⊥ }
+        ensures never_fails { result ≡ Err Stop.Failed → ⊥ }
     {
         machines_stand();
         turns_are_taken();
@@ -153,86 +105,75 @@ impl Player {
     }
 
     /// A processor goes out, and its answer is printed.
-    fn leave<K: Sink>(&mut self, alloc: Global, cpu: u8, out: &mut K) -> Result<(), Stop>
+    fn leave(&mut self, cpu: u8, lines: &mut Vec<u8>) -> Result<(), Stop>
         requires inside { CanCome self.old.machine (Leaves cpu) }
         requires few { cpu < 8 }
         ensures leaves { (boot : Booted) (play : Play) → IsPlayedTo boot play self.old
-            → GoesOut boot play cpu result self.new (K.held out.old) (K.held out.new) }
-        ensures failed { result ≡ Err Stop.Failed → Rose (K.faults out.old) (K.faults out.new) }
-        ensures count { K.faults out.old ≤ K.faults out.new }
-        ensures stays { result ≢ Err Stop.Failed → K.faults out.new ≡ K.faults out.old }
+            → GoesOut boot play cpu result self.new lines.old.items lines.new.items }
+        ensures never_fails { result ≡ Err Stop.Failed → ⊥ }
     {
         let told = self.machine.leave(cpu);
         self.answers[usize::from(cpu)] = told;
-        print(ret_line(alloc, cpu, &told)?, out)
+        push_ret(lines, cpu, &told)?;
+        Ok(())
     }
 
     /// Prints bytes of a processor's RAM.
-    fn show<K: Sink>(
+    fn show(
         &self,
         alloc: Global,
         cpu: u8,
         addr: u64,
         len: u32,
-        out: &mut K,
+        lines: &mut Vec<u8>,
     ) -> Result<(), Stop>
         requires lane { HasLane self.now.machine cpu }
         requires part { IsPartOfRam addr len }
         ensures shows { (boot : Booted) (play : Play) → IsPlayedTo boot play self.now
-            → Follows boot play (after_item boot (item.Show cpu addr len) play) result self.now
-            (K.held out.old) (K.held out.new) }
-        ensures failed { result ≡ Err Stop.Failed → Rose (K.faults out.old) (K.faults out.new) }
-        ensures count { K.faults out.old ≤ K.faults out.new }
-        ensures stays { result ≢ Err Stop.Failed → K.faults out.new ≡ K.faults out.old }
+            → Follows boot play (after_item boot (item.Show cpu addr len) play) result self.now lines.old.items lines.new.items }
+        ensures never_fails { result ≡ Err Stop.Failed → ⊥ }
     {
         let bytes = self.machine.show(cpu, addr, u64::from(len));
-        print(mem_line(alloc, cpu, addr, bytes)?, out)
+        push_mem(alloc, lines, cpu, addr, bytes)?;
+        Ok(())
     }
 
     /// An item that makes a processor come in and go out.
-    fn call<K: Sink>(
+    fn call(
         &mut self,
         alloc: Global,
         cpu: u8,
         steps: u32,
         regs: &[Reg; 8],
-        out: &mut K,
+        lines: &mut Vec<u8>,
     ) -> Result<(), Stop>
         requires { CanComeIn self.old.machine cpu steps regs.now }
         ensures calls { (boot : Booted) (play : Play) → IsPlayedTo boot play self.old
             → Follows boot play (after_item boot (item.Smc cpu steps regs.now) play) result self.new
-            (K.held out.old) (K.held out.new) }
-        ensures failed { result ≡ Err Stop.Failed → Rose (K.faults out.old) (K.faults out.new) }
-        ensures count { K.faults out.old ≤ K.faults out.new }
-        ensures stays { result ≢ Err Stop.Failed → K.faults out.new ≡ K.faults out.old }
+            lines.old.items lines.new.items }
+        ensures never_fails { result ≡ Err Stop.Failed → ⊥ }
     {
         self.enter(alloc, cpu, steps, regs)?;
-        self.leave(alloc, cpu, out)
+        self.leave(cpu, lines)
     }
 
-    /// Plays an item, and prints what it prints.
-    pub fn play_item<K: Sink>(
-        &mut self,
-        alloc: Global,
-        item: &Item,
-        out: &mut K,
-    ) -> Result<(), Stop>
+    /// Plays an item, and appends what it prints to the lines. Where an entry is refused, nothing is printed; at want of
+    /// memory a part of a line may stand behind the lines.
+    pub fn play_item(&mut self, alloc: Global, item: &Item, lines: &mut Vec<u8>) -> Result<(), Stop>
         requires { CanBeTaken self.old.machine item.now }
         ensures follows { (boot : Booted) (play : Play) → IsPlayedTo boot play self.old
-            → Follows boot play (after_item boot item.now play) result self.new (K.held out.old) (K.held out.new) }
-        ensures failed { result ≡ Err Stop.Failed → Rose (K.faults out.old) (K.faults out.new) }
-        ensures count { K.faults out.old ≤ K.faults out.new }
-        ensures stays { result ≢ Err Stop.Failed → K.faults out.new ≡ K.faults out.old }
+            → Follows boot play (after_item boot item.now play) result self.new lines.old.items lines.new.items }
+        ensures never_fails { result ≡ Err Stop.Failed → ⊥ }
     {
         match item {
-            Item::Smc { cpu, steps, regs } => self.call(alloc, *cpu, *steps, regs, out),
+            Item::Smc { cpu, steps, regs } => self.call(alloc, *cpu, *steps, regs, lines),
             Item::Enter { cpu, steps, regs } => self.enter(alloc, *cpu, *steps, regs),
-            Item::Leave { cpu } => self.leave(alloc, *cpu, out),
+            Item::Leave { cpu } => self.leave(*cpu, lines),
             Item::Write { cpu, addr, bytes } => {
                 self.machine.write(*cpu, *addr, bytes.as_slice());
                 Ok(())
             }
-            Item::Show { cpu, addr, len } => self.show(alloc, *cpu, *addr, *len, out),
+            Item::Show { cpu, addr, len } => self.show(alloc, *cpu, *addr, *len, lines),
         }
     }
 }

@@ -1,12 +1,12 @@
 //! The line that sums up the play of a made trace.
 
-ghost use Rattle.std.specs.Prelude.{◌≡◌, ◌∷◌, [], ◌++◌, codes, IfOk, OnOk};
+ghost use Rattle.std.specs.Prelude.{◌≡◌, ◌+◌, ◌<◌, ◌^◌, if◌then◌else◌, ◌∷◌, [], ◌++◌, codes, IfOk, OnOk};
 ghost use Rattle.std.specs.Fmt.{decimal};
 ghost use Rattle.hex.specs.Hex.{encode_lower};
-ghost use Rattle.made_play.specs.Summary.{answers, answers_in};
+ghost use Rattle.made_play.specs.Summary.{answers};
 ghost use Rattle.trace_runner.specs.Counts.{AreCounts, counts_text, is_of_kind, line_with};
 
-use crate::line::{push_hex, push_numbered};
+use answer_lines::{push_hex, push_numbered};
 use event_journal::Event;
 use smc_abi::{ERESUME, ETHREAD_LIMIT, OK, UNKNOWN_FUNCTION};
 use std::alloc::{AllocError, Global};
@@ -49,16 +49,6 @@ impl AnswerKind {
             Event::Exit { regs, .. } => self.has(regs.a[0]),
         }
     }
-
-    /// How many answers of a history are of the kind.
-    fn count_in(self, history: &[Event]) -> usize
-        ensures { result ≡ answers_in history.now (is_of_kind self) }
-    {
-        history
-            .iter()
-            .filter(|event| self.is_told_by(*event))
-            .count()
-    }
 }
 
 /// How many answers of a history were of each kind.
@@ -70,36 +60,51 @@ pub struct AnswerCounts {
     pub rpc: usize,
 }
 
+/// One more, if that is so.
+fn more_if(is_so: bool, count: usize) -> usize
+    requires { count < 2 ^ 63 }
+    ensures { result ≡ (if is_so then count + 1 else count) }
+{
+    if is_so { count + 1 } else { count }
+}
+
 impl AnswerCounts {
     /// Those of a history.
     pub fn of(history: &[Event]) -> AnswerCounts
         ensures { AreCounts history.now result }
     {
-        AnswerCounts {
-            ok: AnswerKind::Ok.count_in(history),
-            limit: AnswerKind::Limit.count_in(history),
-            resume: AnswerKind::Resume.count_in(history),
-            rpc: AnswerKind::Rpc.count_in(history),
+        let mut counts = AnswerCounts {
+            ok: 0,
+            limit: 0,
+            resume: 0,
+            rpc: 0,
+        };
+        for event in history {
+            counts.ok = more_if(AnswerKind::Ok.is_told_by(event), counts.ok);
+            counts.limit = more_if(AnswerKind::Limit.is_told_by(event), counts.limit);
+            counts.resume = more_if(AnswerKind::Resume.is_told_by(event), counts.resume);
+            counts.rpc = more_if(AnswerKind::Rpc.is_told_by(event), counts.rpc);
         }
+        counts
     }
 }
 
 /// Appends the counts of all four kinds.
-fn push_counts(alloc: Global, line: &mut Vec<u8>, counts: &AnswerCounts) -> Result<(), AllocError>
+fn push_counts(line: &mut Vec<u8>, counts: &AnswerCounts) -> Result<(), AllocError>
     ensures { OnOk result (line.new.items ≡ line.old.items ++ counts_text counts.now) }
 {
-    push_numbered(alloc, line, b" ok ", counts.ok as u64)?;
-    push_numbered(alloc, line, b" limit ", counts.limit as u64)?;
-    push_numbered(alloc, line, b" resume ", counts.resume as u64)?;
-    push_numbered(alloc, line, b" rpc ", counts.rpc as u64)
+    push_numbered(line, b" ok ", counts.ok as u64)?;
+    push_numbered(line, b" limit ", counts.limit as u64)?;
+    push_numbered(line, b" resume ", counts.resume as u64)?;
+    push_numbered(line, b" rpc ", counts.rpc as u64)
 }
 
 /// Appends the words that ask for the made trace.
-fn push_words(alloc: Global, line: &mut Vec<u8>, seed: u64, count: u32) -> Result<(), AllocError>
+fn push_words(line: &mut Vec<u8>, seed: u64, count: u32) -> Result<(), AllocError>
     ensures { OnOk result (line.new.items ≡ line.old.items ++ codes "work " ++ decimal seed ++ 32 ∷ decimal count) }
 {
-    push_numbered(alloc, line, b"work ", seed)?;
-    push_numbered(alloc, line, b" ", u64::from(count))
+    push_numbered(line, b"work ", seed)?;
+    push_numbered(line, b" ", u64::from(count))
 }
 
 /// Appends a digest, which ends the line.
@@ -121,8 +126,8 @@ pub fn summary_line(
     ensures { IfOk result (λ line. line.items ≡ line_with seed count counts.now digest.now) }
 {
     let mut line = Vec::new(alloc);
-    push_words(alloc, &mut line, seed, count)?;
-    push_counts(alloc, &mut line, counts)?;
+    push_words(&mut line, seed, count)?;
+    push_counts(&mut line, counts)?;
     push_digest(alloc, &mut line, digest)?;
     Ok(line)
 }

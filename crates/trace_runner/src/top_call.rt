@@ -201,8 +201,9 @@ fn answer_work<K: Sink>(alloc: Global, seed: u64, count: u32, out: &mut K) -> St
 /// usage line.
 ///
 /// The words are tested first, then the input is read to its end, then its length, its grammar and the number of its
-/// SMC items are tested, then it is played; the first answer met ends the call. Lines are written as they come. Want
-/// of memory may come at any time.
+/// SMC items are tested, then it is played; the first answer met ends the call. The lines of a play are gathered and put
+/// 64 KiB at a time, the last of them before the status is answered. Want of memory may come at any time; lines that are
+/// not put by then are lost.
 pub fn run<S: Source, K: Sink>(
     alloc: Global,
     words: &[String],

@@ -9,4 +9,4 @@ use Rattle.trace_runner.proofs.digesting.digest_items.Given as goal
 abbrev pub invariant-loop-item : goal.invariant-loop-item
 invariant-loop-item l =
     (natives : List Native) (trace : Trace) → IsAtStart natives trace l.items l.fn.player
-    → Digesting natives trace l.items l.item-index l.player l.hasher l.lines.held.items
+    → Digesting natives trace l.items l.item-index l.player l.hasher l.lines.items

@@ -14,8 +14,8 @@ returns-in_err-enter-clause-comes c = λ boot play stands.
     rw (told.1, told.2) (stayed-out boot play _ visitor c.enter.new.self _ c.in_err-enter.field-0.0 visit
     (c.in_err-enter.ensures boot play stands.machine))
 
-pub returns-in_err-enter-clause-sink : goal.returns-in_err-enter-clause-sink
-returns-in_err-enter-clause-sink c = λ e.
+pub returns-in_err-enter-clause-never_fails : goal.returns-in_err-enter-clause-never_fails
+returns-in_err-enter-clause-never_fails c = λ e.
     let told = err_from_is_err_and c.from_residual.result c.from_residual.ensures.1 in
     let one = sym told.1 ∙ e in
     let failed : told.0 ≡ Failed = cc in

@@ -6,29 +6,26 @@ use Rattle.trace_runner.proofs.Moved.{came-follows, went-follows, wrote-follows}
 use Rattle.trace_runner.proofs.player.Player.play_item.Goals as goal
 
 pub returns-in-Smc-clause-follows : goal.returns-in-Smc-clause-follows
-returns-in-Smc-clause-follows g c = λ boot play stands. rw c.in-Smc.is (c.call.ensures.calls boot play stands)
+returns-in-Smc-clause-follows c = λ boot play stands. rw c.in-Smc.is (c.call.ensures.calls boot play stands)
 
 pub returns-in-Enter-clause-follows : goal.returns-in-Enter-clause-follows
-returns-in-Enter-clause-follows g c = λ boot play stands.
+returns-in-Enter-clause-follows c = λ boot play stands.
     rw c.in-Enter.is (came-follows boot play
     (visit_of play.history c.in-Enter.cpu c.in-Enter.steps c.in-Enter.regs) c.enter.result c.enter.new.self
-    (g.K.Sink.held c.args.out.now)
+    c.args.lines.now.items
     (c.enter.ensures.comes boot play stands))
 
-pub returns-in-Enter-clause-failed : goal.returns-in-Enter-clause-failed
-returns-in-Enter-clause-failed g c = λ e. absurd (c.enter.ensures.sink e)
-
 pub returns-in-Leave-clause-follows : goal.returns-in-Leave-clause-follows
-returns-in-Leave-clause-follows g c = λ boot play stands.
+returns-in-Leave-clause-follows c = λ boot play stands.
     rw c.in-Leave.is (went-follows boot play c.in-Leave.cpu c.leave.result c.leave.new.self _ _
     (c.leave.ensures.leaves boot play stands))
 
 pub returns-in-Write-clause-follows : goal.returns-in-Write-clause-follows
-returns-in-Write-clause-follows g c = λ boot play stands.
+returns-in-Write-clause-follows c = λ boot play stands.
     let player : Player = record { machine = c.write.new.self; answers = c.args.self.now.answers } in
     let at = subst (λ (bytes : List ℕ). IsAt boot
     (with_writes c.in-Write.cpu (record { addr = c.in-Write.addr; bytes = bytes } ∷ []) play) c.write.new.self)
     c.as_slice.ensures
     (c.write.ensures boot play stands.machine) in
     rw c.in-Write.is (wrote-follows boot play c.in-Write.cpu c.in-Write.addr c.in-Write.bytes player
-    (g.K.Sink.held c.args.out.now) at stands.answers)
+    c.args.lines.now.items at stands.answers)
