@@ -1,0 +1,15 @@
+//! Traces with signals, and what their texts mean.
+//!
+//! Asynchronous notification begins with a signal of the hardware, which is no item of a processor: it stands between the
+//! items of a trace, as a line `signal VALUE` in its text form. This crate is one of definitions. `specs/` has `Steps`, in
+//! which order items and signals come, `Rules`, the rules of a line and what it adds, and `Grammar`, which trace a text
+//! spells and what the first fault of any other text is. A line other than a signal's is one of a trace, under
+//! the rules of `trace_text`, where `signal` begins no line.
+#![tactic(auto)]
+
+mod laws;
+mod notify_trace;
+
+pub use laws::worked_examples;
+pub use notify_trace::{NotifyTrace, Signal};
+pub use trace_text::Trace;
