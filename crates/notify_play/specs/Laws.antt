@@ -1,0 +1,51 @@
+-- What holds of each play of a trace with signals.
+use Rattle.std.specs.Prelude.{◌≡◌, ℕ, List, Some}
+use Rattle.std.specs.Option.{option_map}
+use Rattle.kernel_model.specs.Application.{Booted, IsBooted, Native, booted}
+use Rattle.kernel_model.specs.Exit.{Exited, exit}
+use Rattle.kernel_model.specs.History.{IsLegal, kernel_after}
+use Rattle.kernel_model.specs.Laws.{FindsNoCall, FindsNoSlot}
+use Rattle.notif.specs.Desk.{driver_calls}
+use Rattle.notif.specs.History.{owed_calls}
+use Rattle.notify_text.specs.Steps.{Step}
+use Rattle.play_model.specs.Laws.{AloneIn, ReturnsIn, ToldIn}
+use Rattle.play_model.specs.Play.{first_play, leaves}
+use Rattle.play_model.specs.TrueToKernel.{ExitsIn}
+use Rattle.ta_isa.specs.declared.boot.Boot.{Boot}
+use Rattle.trace_text.specs.declared.trace.Fill.{Fill}
+use Rattle.notify_play.specs.Duty.{Nothing}
+use Rattle.notify_play.specs.NotifyPlay.{Drivers, NotifyPlay, after_steps, desk_of, duty_at, first_notify_play, goes_out}
+
+-- what holds of a play with signals, whatever was signalled
+pub record IsNotifyPlay (boot : Booted) (drivers : Drivers) (told : NotifyPlay) : Type 0 where
+  -- its history is one of the written kernel, whose kernel it has
+  pub legal : IsLegal boot told.play.history
+  pub kernel : kernel_after boot told.play.history ≡ Some told.play.kernel
+  -- and keeps the kernel's own answers: each exit in it has the registers that the kernel gives after the events before
+  pub exits : ExitsIn boot told.play.history
+  -- a return from RPC resumes the call that is suspended in its slot for its client, or is answered ERESUME, which is 3,
+  -- exactly where there is none; ETHREAD_LIMIT, which is 1, comes exactly where a new call finds no slot free
+  pub returns : ReturnsIn boot told.play.history
+  pub no_call : ToldIn boot told.play.history 3 FindsNoCall
+  pub no_slot : ToldIn boot told.play.history 1 FindsNoSlot
+  -- sessions that share no instance were answered as alone
+  pub alone : AloneIn boot told.play.history
+  -- a bottom half that comes next calls exactly the drivers that were signalled, while the desk was enabled, since the last
+  -- bottom half or stop, each with the number of these signals, at most 2^32 - 1
+  pub bottom_half : driver_calls (desk_of drivers told) ≡ owed_calls drivers told.calls
+
+-- each play of steps is one, whatever RAM holds at first; and so at each place of a trace, where a bottom half may come,
+-- the play of the steps before it is one
+abbrev pub StepsArePlayed : Type 0
+StepsArePlayed =
+    (ram : List ℕ) (natives : List Native) (drivers : Drivers) (boot : Boot) (fills : List Fill) (steps : List Step)
+    (told : NotifyPlay) → IsBooted (booted boot natives) →
+    (let on = booted boot natives in
+    after_steps on drivers steps (first_notify_play on (first_play ram on fills)) ≡ Some told →
+    IsNotifyPlay on drivers told)
+
+-- an exit that asks nothing of the desk comes to the kernel, the RAM and the lines to which it comes without signals
+abbrev pub OtherExitsStay : Type 0
+OtherExitsStay = (boot : Booted) (drivers : Drivers) (before : NotifyPlay) (cpu : ℕ) (exited : Exited) →
+    exit before.play.kernel cpu ≡ Some exited → duty_at before cpu exited ≡ Nothing →
+    option_map (λ (after : NotifyPlay). after.play) (goes_out boot drivers cpu before) ≡ leaves boot cpu before.play

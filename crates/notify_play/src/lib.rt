@@ -1,0 +1,10 @@
+//! What the play of a trace with signals is, where a desk of signals answers above the core.
+//!
+//! The crate is one of definitions, over the play of a trace. `specs/` reads in the order of its modules: `Duty` has what an
+//! exit asks of the desk, `Told` what a processor is then told and what is written, `NotifyPlay` the play, `Text` the bytes
+//! that a trace prints, and `Laws` what holds of each play.
+#![tactic(auto)]
+
+mod laws;
+
+pub use laws::{other_exits_stay, steps_are_played, worked_examples};
