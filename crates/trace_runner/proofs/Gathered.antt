@@ -1,6 +1,6 @@
 -- Items played one after the other, whose lines are gathered before they are put.
 use Rattle.std.proofs.Common.{◌≡◌, ℕ, ◌+◌, ◌<◌, ◌≤◌, inr, List, [], ◌++◌, length, get_or, Option, Some, refl, sym, ap, subst, ◌∙◌, append_assoc}
-use Rattle.std.specs.Prelude.{IsSome, IsSomeAnd, Result, Ok, Err}
+use Rattle.std.specs.Prelude.{IsSomeAnd, Result, Ok, Err}
 use Rattle.std.proofs.lemmas.List.{append-nil}
 use Rattle.kernel_model.specs.Application.{Booted, Native, booted}
 use Rattle.play_model.specs.Play.{Play, after_item}
