@@ -1,5 +1,4 @@
 mod Blocks
-mod Eight
 mod Ends
 mod Moves
 mod Others

@@ -52,7 +52,7 @@ impl CpuPlayer {
             → LeadsTo (boot_of shared.now) items lane acts self.new result }
     {
         self.enter(rt, alloc, shared, steps, regs)?;
-        self.leave(rt, alloc, shared, pace)
+        self.leave(rt, shared, pace)
     }
 
     /// It does an item, which is its own.
@@ -76,7 +76,7 @@ impl CpuPlayer {
         match item {
             Item::Smc { steps, regs, .. } => self.call(rt, alloc, shared, pace, *steps, regs),
             Item::Enter { steps, regs, .. } => self.enter(rt, alloc, shared, *steps, regs),
-            Item::Leave { .. } => self.leave(rt, alloc, shared, pace),
+            Item::Leave { .. } => self.leave(rt, shared, pace),
             Item::Write { addr, bytes, .. } => {
                 self.write(*addr, bytes.as_slice());
                 Ok(())

@@ -11,7 +11,6 @@ mod laws;
 mod lines;
 mod player;
 mod playing;
-mod registers;
 
 pub use ending::CpuEnd;
 pub use laws::sound_traces_are_in_turn;

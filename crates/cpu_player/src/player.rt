@@ -11,8 +11,8 @@ ghost use Rattle.trace_text.specs.Sound.{IsPartOfRam, IsSoundReg};
 ghost use Rattle.trace_text.specs.declared.item.Item.{Item};
 ghost use Rattle.cpu_player.specs.Standing.{GoesOn, HasComeTo, HasGoneOut, IsOn, LeadsTo};
 
-use crate::lines::{push_answer, push_bytes};
-use crate::registers::registers;
+use crate::lines::push_answer;
+use answer_lines::{push_mem, registers};
 use kernel_state::{EnterRefusal, Work};
 use normal_cpus::{CpuAnswer, CpuPass, SharedCore, works_go_out};
 use ns_ram::Lane;
@@ -101,7 +101,6 @@ impl CpuPlayer {
     pub fn leave(
         &mut self,
         rt: &impl Wait,
-        alloc: Global,
         shared: &SharedCore,
         pace: &impl Pace,
     ) -> Result<(), EnterRefusal>
@@ -115,7 +114,7 @@ impl CpuPlayer {
     {
         let answer = self.go_out(rt, shared, pace);
         let cpu = self.cpu();
-        match push_answer(alloc, &mut self.block, cpu, &answer) {
+        match push_answer(&mut self.block, cpu, &answer) {
             Ok(()) => Ok(()),
             Err(_) => Err(EnterRefusal::Memory),
         }
@@ -141,6 +140,6 @@ impl CpuPlayer {
     {
         let cpu = self.cpu();
         let bytes = self.lane.at(addr, u64::from(len));
-        push_bytes(alloc, &mut self.block, cpu, addr, bytes)
+        push_mem(alloc, &mut self.block, cpu, addr, bytes)
     }
 }

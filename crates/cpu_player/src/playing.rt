@@ -53,14 +53,14 @@ impl CpuPlayer {
     }
 
     /// The line of its refused entry is printed.
-    fn tell_full(&mut self, alloc: Global, copied: u64, more: u64) -> Result<(), EnterRefusal>
+    fn tell_full(&mut self, copied: u64, more: u64) -> Result<(), EnterRefusal>
         ensures pass { self.new.pass ≡ self.old.pass }
         ensures work { self.new.work ≡ self.old.work }
         ensures tells { (boot : Booted) (items : List Item) (lane : List ℕ)
             → IsRefused (share_in boot self.old) items lane copied more self.old
             → EndsAs (share_in boot self.new) items lane (end_of self.new result) result }
     {
-        match push_full(alloc, &mut self.block, copied, more) {
+        match push_full(&mut self.block, copied, more) {
             Ok(()) => Err(EnterRefusal::Full { copied, more }),
             Err(_) => Err(EnterRefusal::Memory),
         }
@@ -71,7 +71,6 @@ impl CpuPlayer {
     fn end_early(
         &mut self,
         rt: &impl Wait,
-        alloc: Global,
         shared: &SharedCore,
         pace: &impl Pace,
         why: EnterRefusal,
@@ -85,7 +84,7 @@ impl CpuPlayer {
             → EndsAs (share_in (boot_of shared.now) self.new) items lane (end_of self.new result) result }
     {
         match why {
-            EnterRefusal::Full { copied, more } => self.tell_full(alloc, copied, more),
+            EnterRefusal::Full { copied, more } => self.tell_full(copied, more),
             EnterRefusal::Memory => {
                 self.finish(rt, shared, pace);
                 Err(EnterRefusal::Memory)
@@ -97,7 +96,6 @@ impl CpuPlayer {
     fn end(
         &mut self,
         rt: &impl Wait,
-        alloc: Global,
         shared: &SharedCore,
         pace: &impl Pace,
         outcome: Result<(), EnterRefusal>,
@@ -111,7 +109,7 @@ impl CpuPlayer {
     {
         match outcome {
             Ok(()) => Ok(()),
-            Err(why) => self.end_early(rt, alloc, shared, pace, why),
+            Err(why) => self.end_early(rt, shared, pace, why),
         }
     }
 
@@ -134,10 +132,10 @@ impl CpuPlayer {
             → EndsAs (share_in (boot_of shared.now) self.new) items.now lane (end_of self.new result) result }
     {
         let cpu = self.cpu();
-        match push_head(alloc, &mut self.block, cpu) {
+        match push_head(&mut self.block, cpu) {
             Ok(()) => {
                 let outcome = self.take_items(rt, alloc, shared, pace, items);
-                self.end(rt, alloc, shared, pace, outcome)
+                self.end(rt, shared, pace, outcome)
             }
             Err(_) => Err(EnterRefusal::Memory),
         }

@@ -9,8 +9,8 @@ use Rattle.cpu_player.proofs.player.CpuPlayer.show.Goals as goal
 pub returns-clause-shows : goal.returns-clause-shows
 returns-clause-shows c boot items lane acts was =
     let old = c.args.self.now in
-    if_ok c.push_bytes.result _ _
+    if_ok c.push_mem.result _ _
     (λ printed. shown boot items lane acts old _ c.args.addr c.args.len c.at-bytes.result.now refl
-    (subst (λ (n : ℕ). c.push_bytes.new.block.items ≡ old.block.items ++ mem_line n c.args.addr c.at-bytes.result.now) c.cpu-cpu.ensures printed)
+    (subst (λ (n : ℕ). c.push_mem.new.text.items ≡ old.block.items ++ mem_line n c.args.addr c.at-bytes.result.now) c.cpu-cpu.ensures printed)
     (c.at-bytes.ensures.bytes ∙ ap (bytes_at old.lane c.args.addr) c.from.ensures) was)
-    c.push_bytes.ensures
+    c.push_mem.ensures
