@@ -4,7 +4,7 @@ use Rattle.std.proofs.Common.{◌≡◌, ℕ, zero, suc, ◌+◌, ◌*◌, ◌^�
 use Rattle.std.specs.Prelude.{Err, IfOk, IsSomeAnd, Ok, Result, ◌==◌, ◌&&◌, not, slice_get}
 use Rattle.std.specs.List.{list_any}
 use Rattle.std.specs.Option.{option_and_then, option_map_or}
-use Rattle.std.proofs.lemmas.List.{append_assoc, append_cancel_left, append-nil, length-append, map-append}
+use Rattle.std.proofs.lemmas.List.{append_assoc, append_cancel_left, append-nil, map-append}
 use Rattle.std.proofs.lemmas.List.Sums.{sum_by-cons}
 use Rattle.std.proofs.lemmas.Option.{option_and_then_some}
 use Rattle.base.specs.NumberMap.{get}
@@ -17,14 +17,13 @@ use Rattle.isolation.proofs.CallsRead.{event_counts}
 use Rattle.job_model.specs.declared.call_kind.CallKind.{CallKind}
 use Rattle.job_model.specs.declared.call_kind.CallKind.TheVariants as kind
 use Rattle.kernel_model.proofs.Parts.{if-both, map_or-both, option_map_some, some_of}
-use Rattle.kernel_model.proofs.Past.{after_events-append}
-use Rattle.kernel_model.proofs.SoundNumbers.{numbered, numbers_rise}
+use Rattle.kernel_model.proofs.SoundNumbers.{numbered}
 use Rattle.kernel_model.proofs.SoundOrder.{in_order}
 use Rattle.kernel_model.proofs.SoundSteps.{steps_granted}
 use Rattle.kernel_model.specs.Application.{Application, Booted, uuid_of}
 use Rattle.kernel_model.specs.Exit.{progress_in_slot}
 use Rattle.kernel_model.specs.Given.{Given, given_to}
-use Rattle.kernel_model.specs.History.{after_event, after_events, kernel_after}
+use Rattle.kernel_model.specs.History.{after_event, kernel_after}
 use Rattle.kernel_model.specs.Instances.{app_of, is_single}
 use Rattle.kernel_model.specs.Kernel.{Active, AnInvoke, AnOpen, ACancel, Asks, CallPhase, Ends, Fixed, Free, InSlot, Inside, Kernel, Outside, PendingCall}
 use Rattle.kernel_model.specs.Kernel.{Processor, Progress, Runs, SettledCall, Suspended, ThreadSlot, Untold, Visit, Waits, first_kernel}
@@ -36,8 +35,7 @@ use Rattle.own_model.proofs.EarlyEvents.{EarlyNext, NowNameless, NowOpen, NowSha
 use Rattle.own_model.proofs.InOrder.{IfAny, stays_in_order}
 use Rattle.own_model.proofs.MoreSteps.{behind}
 use Rattle.own_model.proofs.TiedEvents.{IsReady, event_along}
-use Rattle.own_model.proofs.UuidKept.{uuid_stays}
-use Rattle.own_model.proofs.WholeHistories.{answered_as_alone}
+use Rattle.own_model.proofs.WholeHistories.{IsAt, IsOn, answered_as_alone, bound_now, from_first, goes_from, named_app, on_from, uuid_on}
 use Rattle.own_model.specs.InOrder.{IsInOrder}
 use Rattle.own_model.specs.Isolation.{IsSessionOf, steps_in}
 use Rattle.own_model.specs.Laws.{About, AreTied, SharesNone, about_next}
@@ -393,44 +391,6 @@ reads_on boot session kernel next notes happened events comes few =
 few_entered : (entered own more : ℕ) → entered ≡ own → 32 * entered + more ≤ 2 ^ 28 → own < 2 ^ 32
 few_entered entered own more same few = omega (arith, same, few)
 
--- where the history goes on from: the kernel after what has been, and the bound of steps for what is still to come
-record IsAt (boot : Booted) (most : ℕ) (past : List Event) (kernel : Kernel) (events : List Event) : Type 0 where
-  last : Kernel
-  there : kernel_after boot past ≡ Some kernel
-  onward : after_events boot kernel events ≡ Some last
-  bound : 1000000 * (length past + length events) ≤ most
-
-record IsOn (boot : Booted) (most : ℕ) (past : List Event) (kernel : Kernel) (happened : Event) (events : List Event) : Type 0 where
-  next : Kernel
-  comes : after_event boot kernel happened ≡ Some next
-  at : IsAt boot most (past ++ happened ∷ []) next events
-
-on_from : (boot : Booted) (most : ℕ) (past : List Event) (kernel : Kernel) (happened : Event) (events : List Event)
-    → IsAt boot most past kernel (happened ∷ events) → IsOn boot most past kernel happened events
-on_from boot most past kernel happened events at =
-    option_and_then_some (λ (next : Kernel). after_events boot next events) (after_event boot kernel happened) at.last at.onward
-    (λ next comes onward. record {
-      next = next;
-      comes = comes;
-      at = record {
-        last = at.last;
-        there = after_events-append boot (first_kernel boot) past (happened ∷ [])
-            ∙ ap (λ (o : Option Kernel). option_and_then (λ (k : Kernel). after_events boot k (happened ∷ [])) o) at.there
-            ∙ ap (λ (o : Option Kernel). option_and_then (λ (k : Kernel). Some k) o) comes;
-        onward = onward;
-        bound = moved (length past) (length events) (length (past ++ happened ∷ [])) (length-append past (happened ∷ [])) at.bound;
-      };
-    })
-  where
-    moved : (a b all : ℕ) → all ≡ a + 1 → 1000000 * (a + suc b) ≤ most → 1000000 * (all + b) ≤ most
-    moved a b all is le = omega (arith, is, le)
-
-goes_from : (boot : Booted) (session : ℕ) (kernel next : Kernel) (notes : Notes) (happened : Event) (events : List Event)
-    → after_event boot kernel happened ≡ Some next
-    → noted_from boot session kernel notes (happened ∷ events) ≡ noted_from boot session next (event_noted session kernel next notes happened) events
-goes_from boot session kernel next notes happened events e =
-    ap (λ (o : Option Kernel). option_map_or (λ (k : Kernel). noted_from boot session k (event_noted session kernel k notes happened) events) o notes) e
-
 fed_on : (most : ℕ) (app : Application) (before between after : Notes) (solo then : Solo) (items : List Logged) → between.log ≡ before.log ++ items
     → run most app solo (events_in items) ≡ Some (then, replies_in items) → AllReady most app solo (events_in items)
     → FedAlong most app between then after → FedAlong most app before solo after
@@ -472,37 +432,13 @@ tied_on boot about past kernel notes solo (happened ∷ events) shares order tie
     (grown about.most about.app solo notes after along.items along.noted grows)
     (tied_on boot about (past ++ happened ∷ []) on.next after along.then events shares still along.tied on.at few
     (reads_on boot about.session kernel on.next notes happened events on.comes reads)))
-  where
-    bound_now : (a b most : ℕ) → 1000000 * (a + b) ≤ most → 1000000 * a ≤ most
-    bound_now a b most le = omega arith
 
 -- ---- a session from the boot on
-
--- the UUID that was noted stays, once the session has its number
-uuid_on : (boot : Booted) (session most : ℕ) (past : List Event) (kernel : Kernel) (notes : Notes) (events : List Event)
-    → session < kernel.tables.next_session → IsAt boot most past kernel events → (noted_from boot session kernel notes events).uuid ≡ notes.uuid
-uuid_on boot session most past kernel notes [] given at = refl
-uuid_on boot session most past kernel notes (happened ∷ events) given at =
-    let on = on_from boot most past kernel happened events at in
-    let later : session < on.next.tables.next_session =
-    no_lower session kernel.tables.next_session on.next.tables.next_session given
-    (numbers_rise boot past kernel on.next happened at.there on.comes).session in
-    ap (λ (n : Notes). n.uuid) (goes_from boot session kernel on.next notes happened events on.comes)
-    ∙ uuid_on boot session most (past ++ happened ∷ []) on.next (event_noted session kernel on.next notes happened) events later on.at
-    ∙ uuid_stays boot session kernel on.next happened notes given on.comes
-  where
-    no_lower : (a n m : ℕ) → a < n → n ≤ m → a < m
-    no_lower a n m lt le = omega arith
 
 -- where it is of this application, whose sessions share no instance, what is noted is ready
 abbrev IsFedSo : Booted → ℕ → Notes → Type 0
 IsFedSo boot most notes = (app : Application) → option_and_then (app_of boot) notes.uuid ≡ Some app → is_single app ≡ false
     → AllReady most app unopened (events_in notes.log)
-
-named_app : (boot : Booted) (notes : Notes) (of app : Application) → notes.uuid ≡ Some (uuid_of of) → app_of boot (uuid_of of) ≡ Some of
-    → option_and_then (app_of boot) notes.uuid ≡ Some app → of ≡ app
-named_app boot notes of app uuid of_boot is =
-    let both : Some of ≡ Some app = sym of_boot ∙ sym (ap (λ (o : Option (List ℕ)). option_and_then (app_of boot) o) uuid) ∙ is in cc
 
 nameless_fed : (boot : Booted) (most : ℕ) (notes : Notes) → notes.uuid ≡ None → IsFedSo boot most notes
 nameless_fed boot most notes none = λ app is alone.
@@ -620,16 +556,12 @@ pub own_can_be_fed : (boot : Booted) (history : List Event) (session : ℕ) (app
     → copied_bytes history ≤ 2 ^ 28 → length history < 2 ^ 64 → CanBeFed (steps_in history) app unopened (own_events boot history session)
 own_can_be_fed boot history session app s reads short =
     let last = some_of (kernel_after boot history) s.legal.follows in
-    let ready = from_boot boot session (steps_in history) history
-    (record { last = last.0; there = refl; onward = last.1; bound = none_before (length history) }) (few_steps (length history) short) reads app
+    let ready = from_boot boot session (steps_in history) history (from_first boot history last.0 last.1) (few_steps (length history) short) reads app
     s.of_app s.shares_none in
     let replies = option_map_some _ (run (steps_in history) app unopened (own_events boot history session)) (own_replies boot history session)
     (answered_as_alone boot history session app s) in
     can_be_fed (steps_in history) app unopened (own_events boot history session) replies.0 replies.1 ready
   where
-    none_before : (n : ℕ) → 1000000 * (0 + n) ≤ 1000000 * n
-    none_before n = omega arith
-
     few_steps : (n : ℕ) → n < 2 ^ 64 → 1000000 * n < 2 ^ 127
     few_steps n lt = omega (arith, lt)
 

@@ -22,13 +22,12 @@ log_prop : (xs ys : List own.Logged) → IsProp (xs ≡ ys)
 log_prop xs ys = Prim.hlevel (props, logged_set)
 
 -- what is told of bare notes is the definition's log
-pub log_so : (code : Notes) (boot : Booted) (done events : List Event) (session : ℕ) (told : List own.Logged)
-    → ∥ AreNoted code (own.noted boot done code.session) ∥₁ → done ≡ events → code.session ≡ session
+pub log_so : (code : Notes) (boot : Booted) (events : List Event) (session : ℕ) (told : List own.Logged)
+    → ∥ AreNoted code (own.noted boot events code.session) ∥₁ → code.session ≡ session
     → ((notes : own.Notes) → AreNoted code notes → told ≡ notes.log) → told ≡ (own.noted boot events session).log
-log_so code boot done events session told noted all same tells =
-    ∥∥₁_elim noted (log_prop told (own.noted boot events session).log) (λ (are : AreNoted code (own.noted boot done code.session)).
-    tells (own.noted boot done code.session) are
-    ∙ ap (λ (h : List Event). (own.noted boot h code.session).log) all
+log_so code boot events session told noted same tells =
+    ∥∥₁_elim noted (log_prop told (own.noted boot events session).log) (λ (are : AreNoted code (own.noted boot events code.session)).
+    tells (own.noted boot events code.session) are
     ∙ ap (λ (n : ℕ). (own.noted boot events n).log) same)
 
 -- a log of events from a boot is one of the same events from the same boot

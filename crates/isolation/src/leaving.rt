@@ -4,13 +4,14 @@ ghost use Rattle.std.specs.Option.{option_and_then, option_map};
 ghost use Rattle.isolation.specs.Telling.{asked_reply, ended_as, told_at_end, told_behind, told_by, wakes_as};
 ghost use Rattle.kernel_state.specs.Calls.{woken_slot};
 
-use crate::copies::{buffer_of, outputs_with};
+use crate::copies::buffer_of;
 use base::NoMemory;
 use frame_pool::Pages;
 use kernel_state::Carried;
 use own_model::OwnReply;
 use rpc_cont::{Asked, Cont, Phase};
 use rpc_msgs::Rpc;
+use solo::copied_outputs;
 use std::alloc::Global;
 
 /// The slot that is asked to be woken.
@@ -88,7 +89,7 @@ fn ended(alloc: Global, cont: &Cont<Pages>) -> Result<OwnReply, NoMemory>
     Ok(OwnReply::Ended {
         result: cont.result.result,
         origin: cont.result.origin,
-        outputs: outputs_with(alloc, cont.result, &cont.params)?,
+        outputs: copied_outputs(alloc, cont.result, &cont.params)?,
     })
 }
 
