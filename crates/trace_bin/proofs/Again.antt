@@ -31,17 +31,17 @@ use Rattle.trace_bin.proofs.Registers.{eight_are, entry_body}
 
 -- ---- rules that are kept
 
-abbrev IsKept : BadKind × Bool → Type 0
+abbrev pub IsKept : BadKind × Bool → Type 0
 IsKept rule = rule.1 ≡ true
 
-none_broken : (rules : List (BadKind × Bool)) → AllByRecursion IsKept rules → first_broken rules ≡ None
+pub none_broken : (rules : List (BadKind × Bool)) → AllByRecursion IsKept rules → first_broken rules ≡ None
 none_broken [] h = refl
 none_broken ((kind, passed) ∷ rules) (e, more) = ap (λ (b : Bool). cond b (first_broken rules) (Some kind)) e ∙ none_broken rules more
 
-within : (least most n : ℕ) → least ≤ n → n ≤ most → is_within least most n ≡ true
+pub within : (least most n : ℕ) → least ≤ n → n ≤ most → is_within least most n ≡ true
 within least most n low high = and_from _ _ (le-leb least n low) (le-leb n most high)
 
-in_ram : (addr len : ℕ) → IsPartOfRam addr len → lies_in_ram addr len ≡ true
+pub in_ram : (addr len : ℕ) → IsPartOfRam addr len → lies_in_ram addr len ≡ true
 unfolding lies_in_ram
 in_ram addr len part = and_from _ _ (le-leb 0x4000_0000 addr part.in_ram.0) (le-leb (addr + len) 0x4040_0000 part.in_ram.1)
 

@@ -5,6 +5,6 @@ pub mod Payload
 pub mod Registers
 pub mod Again
 pub mod Whole
-mod Puts
+pub mod Puts
 mod Taken
 mod Places

@@ -23,7 +23,7 @@ use Rattle.trace_text.specs.Limits.{apps_of, empty_trace, inside_after, is_image
 use Rattle.trace_text.specs.Sound.{ComeInTurn, IsSound, IsSoundBoot, IsSoundFill, IsSoundItem}
 use Rattle.trace_text.proofs.Inside.{inside_push}
 use Rattle.trace_bin.specs.Rules.{behind_record}
-use Rattle.trace_bin.specs.Grammar.{Leads, magic, magic_fault, Spells}
+use Rattle.trace_bin.specs.Grammar.{front_fault, Leads, magic, magic_fault, Spells}
 use Rattle.trace_bin.specs.Spelling.{app_record, boot_record, fill_record, item_record, IsIdentified, spelling, WrittenIsRead}
 use Rattle.trace_bin.proofs.Lengths.{few_bytes, some_bytes}
 use Rattle.trace_bin.proofs.Again.{app_read, boot_read, fill_read, IsRead, item_read}
@@ -75,30 +75,30 @@ answered : (fault : Option ImageFault) (read image : Image) → answer fault rea
 answered None read image e = (refl, cc)
 answered (Some fault) read image e = absurd cc
 
-record IsLoaded (image : Image) : Type 0 where
-  loads : is_image (image_spelling image) ≡ true
-  same : image_of (image_spelling image) ≡ image
-  some : 0 < length (image_spelling image)
-  few : length (image_spelling image) < 2 ^ 32
+pub record IsLoaded (image : Image) : Type 0 where
+  pub loads : is_image (image_spelling image) ≡ true
+  pub same : image_of (image_spelling image) ≡ image
+  pub some : 0 < length (image_spelling image)
+  pub few : length (image_spelling image) < 2 ^ 32
 
-loaded : (image : Image) → IsValid image → IsLoaded image
+pub loaded : (image : Image) → IsValid image → IsLoaded image
 unfolding is_image
 loaded image valid =
     let p = answered (fault_of (image_spelling image)) (image_of (image_spelling image)) image (spelling-again image valid) in
     record { loads = p.0; same = p.1; some = some_bytes image valid; few = few_bytes image valid }
 
 -- an application can stand behind these
-record Follows (natives : List (List ℕ)) (done : List App) (app : App) : Type 0 where
-  id : length app.uuid ≡ 16
-  valid : IsValid app.image
-  room : ltb (length done) 16 ≡ true
-  new : is_known natives done app.uuid ≡ false
+pub record Follows (natives : List (List ℕ)) (done : List App) (app : App) : Type 0 where
+  pub id : length app.uuid ≡ 16
+  pub valid : IsValid app.image
+  pub room : ltb (length done) 16 ≡ true
+  pub new : is_known natives done app.uuid ≡ false
 
-abbrev FollowInTurn : List (List ℕ) → List App → List App → Type 0
+abbrev pub FollowInTurn : List (List ℕ) → List App → List App → Type 0
 FollowInTurn natives done [] = Unit {0}
 FollowInTurn natives done (app ∷ apps) = Follows natives done app × FollowInTurn natives (done ++ app ∷ []) apps
 
-abbrev with_apps : Boot → List App → Boot
+abbrev pub with_apps : Boot → List App → Boot
 with_apps boot apps = record { cpus = boot.cpus; threads = boot.threads; frames = boot.frames; apps = apps }
 
 apps_lead : (natives : List (List ℕ)) (boot : Boot) (done apps : List App) (more : List ℕ) (last : Trace) → FollowInTurn natives done apps → LeadsTo natives (trace_of (with_apps boot (done ++ apps)) [] []) more last
@@ -144,7 +144,7 @@ follows natives boot done app apps sound ids is =
       new = or_false _ _ others (not-true _ (subst N (here app) (sound.no_native (length done) app below)));
     }
 
-follow_in_turn : (natives : List (List ℕ)) (boot : Boot) (done apps : List App) → IsSoundBoot natives boot → All IsIdentified boot.apps → boot.apps ≡ done ++ apps → FollowInTurn natives done apps
+pub follow_in_turn : (natives : List (List ℕ)) (boot : Boot) (done apps : List App) → IsSoundBoot natives boot → All IsIdentified boot.apps → boot.apps ≡ done ++ apps → FollowInTurn natives done apps
 follow_in_turn natives boot done [] sound ids is = tt
 follow_in_turn natives boot done (app ∷ apps) sound ids is =
     (follows natives boot done app apps sound ids is, follow_in_turn natives boot (done ++ app ∷ []) apps sound ids (is ∙ sym (append_assoc done (app ∷ []) apps)))
@@ -152,7 +152,7 @@ follow_in_turn natives boot done (app ∷ apps) sound ids is =
 -- ---- the whole
 
 begins : (rest : List ℕ) → magic_fault (magic ++ rest) ≡ None
-unfolding magic_fault
+unfolding front_fault
 begins rest =
     let bytes : List ℕ = magic ++ rest in
     ap (λ (b : Bool). cond b (Some bad.Cut) (cond (starts_with nat_eq bytes magic) None (Some bad.Item))) (le-ltb (length bytes) 4 (omega arith))

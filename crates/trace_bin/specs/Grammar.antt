@@ -13,12 +13,15 @@ use Rattle.trace_bin.specs.Rules.{after_record, behind_record, record_rules}
 abbrev pub magic : List ℕ
 magic = 0x4f ∷ 0x54 ∷ 0x54 ∷ 0x42 ∷ []
 
--- the fault of the first four bytes
-unfoldable pub magic_fault : List ℕ → Option BadKind
-magic_fault bytes =
+-- the fault of the first four bytes, which have to be these
+unfoldable pub front_fault : List ℕ → List ℕ → Option BadKind
+front_fault wanted bytes =
     if nat_lt (length bytes) 4 then Some bad.Cut else
-    if starts_with nat_eq bytes magic then None else
+    if starts_with nat_eq bytes wanted then None else
     Some bad.Item
+
+abbrev pub magic_fault : List ℕ → Option BadKind
+magic_fault bytes = front_fault magic bytes
 
 -- so many records at the front of these bytes keep every rule and lead from one trace to another, and the rest stands behind them
 abbrev pub Leads : List (List ℕ) → Trace → List ℕ → ℕ → Trace → List ℕ → Type 0

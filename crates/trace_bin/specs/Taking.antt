@@ -3,7 +3,6 @@ use Rattle.std.specs.Prelude.{◌≡◌, List, Bool, None, Some, Result, Ok, Err
 use Rattle.trace_text.specs.declared.fault.BadKind.{BadKind}
 use Rattle.trace_text.specs.declared.fault.LineFault.{LineFault}
 use Rattle.trace_text.specs.declared.fault.LineFault.TheVariants.{Broken, NoRoom}
-use Rattle.trace_text.specs.declared.trace.Trace.{Trace}
 use Rattle.trace_text.specs.Limits.{first_broken}
 
 -- a record broke a rule, or memory ran out
@@ -11,8 +10,8 @@ abbrev pub IsRefused : LineFault → List (BadKind × Bool) → Type 0
 IsRefused (Broken kind) rules = first_broken rules ≡ Some kind
 IsRefused NoRoom rules = Unit {0}
 
--- a record was taken: it keeps its rules, and leads from the trace before it to the one after it; or it broke a rule; or
+-- a record was taken: it keeps its rules, and leads from what stood before it to what stands after it; or it broke a rule; or
 -- memory ran out
-abbrev pub IsTakenTo : {X : Type 0} → Result X LineFault → List (BadKind × Bool) → Trace → Trace → Type 0
+abbrev pub IsTakenTo : {X S : Type 0} → Result X LineFault → List (BadKind × Bool) → S → S → Type 0
 IsTakenTo (Ok x) rules wanted after = (first_broken rules ≡ None) × (after ≡ wanted)
 IsTakenTo (Err fault) rules wanted after = IsRefused fault rules

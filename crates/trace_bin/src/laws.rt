@@ -15,7 +15,7 @@ pub fn written_is_read()
 {}
 
 /// What the definitions say of small inputs.
-#[tactic(auto, unfolding(crate::specs::Record::kind_tagged, crate::specs::Record::is_whole, crate::specs::Rules::rules_of, crate::specs::Rules::added, crate::specs::Rules::record_rules, crate::specs::Rules::after_record, crate::specs::Rules::behind_record, crate::specs::Grammar::magic_fault, crate::specs::Spelling::counted, crate::specs::Spelling::item_record))]
+#[tactic(auto, unfolding(crate::specs::Record::kind_tagged, crate::specs::Record::is_whole, crate::specs::Rules::rules_of, crate::specs::Rules::added, crate::specs::Rules::record_rules, crate::specs::Rules::after_record, crate::specs::Rules::behind_record, crate::specs::Grammar::front_fault, crate::specs::Spelling::counted, crate::specs::Spelling::item_record))]
 pub fn worked_examples()
     ensures { Examples }
 {}

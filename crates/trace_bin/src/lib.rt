@@ -8,6 +8,7 @@ mod body;
 mod laws;
 mod reading;
 mod record_kind;
+pub mod records;
 mod taking;
 mod writing;
 

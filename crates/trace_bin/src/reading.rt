@@ -1,7 +1,7 @@
 //! Reading all of the bytes.
 
 ghost use Rattle.std.specs.Prelude.{◌≡◌, ℕ, ◌<◌, ◌≤◌, ◌^◌, ◌+◌, ◌⊎◌, length, Ok, Err, IfOk, IfErr, IfNone};
-ghost use Rattle.trace_bin.specs.Grammar.{IsFaultOf, IsFirstFault, Spells, magic_fault};
+ghost use Rattle.trace_bin.specs.Grammar.{IsFaultOf, IsFirstFault, Spells, front_fault};
 ghost use Rattle.trace_text.specs.Sound.{IsSound};
 ghost use Rattle.trace_text.specs.declared.fault.BadKind.{BadKind};
 ghost use Rattle.trace_text.specs.declared.trace.Trace.{Trace};
@@ -14,16 +14,16 @@ use uuid::Uuid;
 /// The first four bytes of a binary trace, `OTTB`.
 pub const MAGIC: [u8; 4] = *b"OTTB";
 
-/// What is wrong with the first four bytes.
-#[tactic(auto, unfolding(crate::specs::Grammar::magic_fault))]
-fn magic_fault(bytes: &[u8]) -> Option<BadKind>
-    ensures which { result ≡ magic_fault bytes.now }
+/// What is wrong with the first four bytes, which have to be these.
+#[tactic(auto, unfolding(crate::specs::Grammar::front_fault))]
+pub fn front_fault(wanted: &[u8], bytes: &[u8]) -> Option<BadKind>
+    ensures which { result ≡ front_fault wanted.now bytes.now }
     ensures four { IfNone result (4 ≤ length bytes.now) }
 {
     if bytes.len() < 4 {
         return Some(BadKind::Cut);
     }
-    if bytes.starts_with(&MAGIC) {
+    if bytes.starts_with(wanted) {
         None
     } else {
         Some(BadKind::Item)
@@ -51,7 +51,7 @@ pub fn read_binary(alloc: Global, bytes: &[u8], natives: &[Uuid]) -> Result<Trac
     // What is read is within the limits of a trace.
     ensures sound { IfOk result (IsSound natives.now) }
 {
-    if let Some(kind) = magic_fault(bytes) {
+    if let Some(kind) = front_fault(&MAGIC, bytes) {
         return Err(TraceFault::Bad { place: 0, kind });
     }
     let mut builder = Builder::new(alloc);

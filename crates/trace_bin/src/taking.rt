@@ -27,7 +27,7 @@ struct Call {
 }
 
 /// A record `boot`.
-fn take_boot(builder: &mut Builder, body: &[u8]) -> Result<(), LineFault>
+pub fn take_boot(builder: &mut Builder, body: &[u8]) -> Result<(), LineFault>
     requires { 4 ≤ length body.now }
     ensures { IsTaken result (boot_rules builder.old body.now) (record builder.old { boot = Some (boot_in body.now) }) builder.new }
 {
@@ -53,7 +53,7 @@ fn take_boot(builder: &mut Builder, body: &[u8]) -> Result<(), LineFault>
 }
 
 /// A record `ta`, with the bytes of its image.
-fn take_ta(
+pub fn take_ta(
     alloc: Global,
     natives: &[Uuid],
     builder: &mut Builder,

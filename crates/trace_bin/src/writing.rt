@@ -23,7 +23,7 @@ fn put_short(out: &mut Vec<u8>, number: u16) -> Result<(), NoMemory>
     Ok(())
 }
 
-fn put_word(out: &mut Vec<u8>, number: u32) -> Result<(), NoMemory>
+pub fn put_word(out: &mut Vec<u8>, number: u32) -> Result<(), NoMemory>
     ensures { OnOk result (out.new.items ≡ out.old.items ++ little_bytes 4 number) }
 {
     let mut bytes = [0; 4];
@@ -32,7 +32,7 @@ fn put_word(out: &mut Vec<u8>, number: u32) -> Result<(), NoMemory>
     Ok(())
 }
 
-fn put_long(out: &mut Vec<u8>, number: u64) -> Result<(), NoMemory>
+pub fn put_long(out: &mut Vec<u8>, number: u64) -> Result<(), NoMemory>
     ensures { OnOk result (out.new.items ≡ out.old.items ++ little_bytes 8 number) }
 {
     let mut bytes = [0; 8];
@@ -43,7 +43,7 @@ fn put_long(out: &mut Vec<u8>, number: u64) -> Result<(), NoMemory>
 
 /// Bytes behind their number.
 #[tactic(auto, unfolding(crate::specs::Spelling::counted))]
-fn put_counted(out: &mut Vec<u8>, bytes: &[u8]) -> Result<(), NoMemory>
+pub fn put_counted(out: &mut Vec<u8>, bytes: &[u8]) -> Result<(), NoMemory>
     requires { length bytes.now < 2 ^ 32 }
     ensures { OnOk result (out.new.items ≡ out.old.items ++ counted bytes.now) }
 {
@@ -87,7 +87,7 @@ fn put_place(out: &mut Vec<u8>, tag: u8, cpu: u8, addr: u64) -> Result<(), NoMem
     put_long(out, addr)
 }
 
-fn put_boot(out: &mut Vec<u8>, boot: &Boot) -> Result<(), NoMemory>
+pub fn put_boot(out: &mut Vec<u8>, boot: &Boot) -> Result<(), NoMemory>
     ensures { OnOk result (out.new.items ≡ out.old.items ++ boot_record boot.now) }
 {
     out.extend_from_slice(&[0x01, boot.cpus, boot.threads])?;
@@ -139,7 +139,7 @@ fn put_item(out: &mut Vec<u8>, item: &Item) -> Result<(), NoMemory>
 }
 
 /// Applications, each behind the one before.
-fn put_apps(alloc: Global, out: &mut Vec<u8>, apps: &[App]) -> Result<(), NoMemory>
+pub fn put_apps(alloc: Global, out: &mut Vec<u8>, apps: &[App]) -> Result<(), NoMemory>
     requires { All (λ app. IsValid app.image) apps.now }
     ensures { OnOk result (out.new.items ≡ out.old.items ++ flat_map app_record apps.now) }
 {
