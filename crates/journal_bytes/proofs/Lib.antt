@@ -1,0 +1,11 @@
+pub mod Shrinks
+pub mod Listing
+pub mod Entries
+pub mod Finishing
+pub mod GrammarLaws
+pub mod SoundRecords
+pub mod Answered
+pub mod Writes
+pub mod Again
+pub mod Written
+pub mod Trying

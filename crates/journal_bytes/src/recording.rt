@@ -1,0 +1,26 @@
+ghost use Rattle.std.specs.Prelude.{◌≡◌, []};
+ghost use Rattle.journal_bytes.specs.Recording.{HasNoItem, nothing, told_by};
+
+use event_journal::Journal;
+use std::alloc::Global;
+use trace_text::Builder;
+
+/// What the records so far tell: a boot, which the reader of traces takes, and the events behind it.
+#[derive(Drop)]
+pub struct Recording {
+    pub header: Builder,
+    pub events: Journal,
+}
+
+impl Recording {
+    /// Before the first of them. Takes no memory.
+    pub fn new(alloc: Global) -> Recording
+        ensures told { told_by result ≡ nothing }
+        ensures header { HasNoItem result }
+    {
+        Recording {
+            header: Builder::new(alloc),
+            events: Journal::new(alloc),
+        }
+    }
+}

@@ -1,0 +1,107 @@
+//! From a boot and its events to bytes.
+
+ghost use Rattle.std.specs.Prelude.{◌≡◌, ◌<◌, ◌≤◌, ◌^◌, ◌++◌, [], ◌∷◌, length, All, IfOk, OnOk};
+ghost use Rattle.std.specs.List.{flat_map};
+ghost use Rattle.byteorder.specs.Endian.{little_bytes};
+ghost use Rattle.event_journal.specs.Event.{copied_by};
+ghost use Rattle.event_journal.specs.Journal.{copied_bytes};
+ghost use Rattle.ta_isa.specs.Boots.{IsBoot};
+ghost use Rattle.journal_bytes.specs.Sound.{AreSoundReads, IsSoundJournal, IsSoundRead};
+ghost use Rattle.journal_bytes.specs.Spelling.{event_record, read_bytes, spelling};
+
+use base::NoMemory;
+use event_journal::{Event, Journal, Read};
+use std::alloc::Global;
+use ta_isa::Boot;
+use trace_bin::records::{put_apps, put_boot, put_counted, put_long, put_word};
+
+/// The first four bytes of a journal, `OTTJ`.
+pub const MAGIC: [u8; 4] = *b"OTTJ";
+
+/// The tag of the end, which has no body.
+pub const END: u8 = 0x7f;
+
+fn put_words(out: &mut Vec<u8>, words: &[u32]) -> Result<(), NoMemory>
+    ensures { OnOk result (out.new.items ≡ out.old.items ++ flat_map (little_bytes 4) words.now) }
+{
+    for word in words {
+        put_word(out, *word)?;
+    }
+    Ok(())
+}
+
+#[tactic(auto, unfolding(crate::specs::Spelling::read_bytes))]
+fn put_read(out: &mut Vec<u8>, read: &Read) -> Result<(), NoMemory>
+    requires { IsSoundRead read.now }
+    ensures { OnOk result (out.new.items ≡ out.old.items ++ read_bytes read.now) }
+{
+    put_long(out, read.addr)?;
+    put_counted(out, read.bytes.as_slice())
+}
+
+/// Reads, each behind the one before.
+fn put_reads(out: &mut Vec<u8>, reads: &[Read]) -> Result<(), NoMemory>
+    requires { All IsSoundRead reads.now }
+    ensures { OnOk result (out.new.items ≡ out.old.items ++ flat_map read_bytes reads.now) }
+{
+    for read in reads {
+        put_read(out, read)?;
+    }
+    Ok(())
+}
+
+#[tactic(auto, unfolding(crate::specs::Spelling::event_record))]
+fn put_event(out: &mut Vec<u8>, event: &Event) -> Result<(), NoMemory>
+    requires each { AreSoundReads event.now }
+    requires few { copied_by event.now ≤ 2 ^ 28 }
+    ensures { OnOk result (out.new.items ≡ out.old.items ++ event_record event.now) }
+{
+    match event {
+        Event::Entry {
+            cpu,
+            regs,
+            steps,
+            reads,
+        } => {
+            out.extend_from_slice(&[0x20, *cpu])?;
+            put_words(out, &regs.a)?;
+            put_word(out, *steps)?;
+            put_word(out, reads.len() as u32)?;
+            put_reads(out, reads.as_slice())
+        }
+        Event::Exit { cpu, regs } => {
+            out.extend_from_slice(&[0x21, *cpu])?;
+            put_words(out, &regs.a)
+        }
+    }
+}
+
+/// Events, each behind the one before.
+fn put_events(out: &mut Vec<u8>, events: &[Event]) -> Result<(), NoMemory>
+    requires each { All AreSoundReads events.now }
+    requires few { copied_bytes events.now ≤ 2 ^ 28 }
+    ensures { OnOk result (out.new.items ≡ out.old.items ++ flat_map event_record events.now) }
+{
+    for event in events {
+        put_event(out, event)?;
+    }
+    Ok(())
+}
+
+/// The one spelling of a boot and its events: the boot, its applications and the events, each in their order, and an end.
+///
+/// [`crate::read_journal`] reads it again, whatever stands behind it ([`crate::written_is_read`]).
+pub fn write_journal(alloc: Global, boot: &Boot, journal: &Journal) -> Result<Vec<u8>, NoMemory>
+    requires boot { IsBoot boot.now }
+    requires journal { IsSoundJournal boot.now.cpus journal.now.events }
+    ensures { IfOk result (λ bytes. bytes.items ≡ spelling boot.now journal.now.events) }
+{
+    let events = journal.as_slice();
+    let mut out = Vec::new(alloc);
+    out.extend_from_slice(&MAGIC)?;
+    put_boot(&mut out, boot)?;
+    put_apps(alloc, &mut out, boot.apps.as_slice())?;
+    put_events(&mut out, events)?;
+    out.push(END)?;
+    Ok(out)
+}
