@@ -1,2 +1,3 @@
+mod Gathering
 mod Merging
 mod Staying

@@ -1,5 +1,5 @@
 -- How a work has ended stays where others come and go.
-use Rattle.std.proofs.Common.{◌≡◌, ℕ, List, ◌++◌, length, Some, None, Result, Ok, Err, refl, ap, sym, subst, ◌∙◌}
+use Rattle.std.proofs.Common.{◌≡◌, ℕ, List, length, Some, None, Result, Ok, Err, refl, ap, sym, subst, ◌∙◌}
 use Rattle.std.specs.List.{AllByRecursion}
 use Rattle.core_lock.specs.Counts.{made_by}
 use Rattle.core_lock.specs.Passes.{number, seen}

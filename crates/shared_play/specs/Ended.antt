@@ -1,17 +1,21 @@
 -- How the work of a processor of a trace has ended, over a history in which others may have come and gone since.
 use Rattle.std.specs.Prelude.{◌≡◌, ◌<◌, ℕ, List, length, map, slice_get, Option, None, Some, Result, Ok, Err}
 use Rattle.std.specs.Option.{option_and_then}
-use Rattle.core_lock.specs.Passes.{seen}
+use Rattle.core_lock.specs.Passes.{IsIn, number, seen}
 use Rattle.event_journal.specs.declared.event.Event.{Event}
 use Rattle.kernel_model.specs.Application.{Booted}
+use Rattle.kernel_model.specs.Turns.{cpu_of}
 use Rattle.kernel_state.specs.declared.enter_refusal.EnterRefusal.{EnterRefusal}
 use Rattle.kernel_state.specs.declared.enter_refusal.EnterRefusal.TheVariants.{Full, Memory}
+use Rattle.normal_cpus.specs.Sharing.{IsCpuOf, boot_of}
+use Rattle.normal_cpus.specs.declared.shared_core.SharedCore.{SharedCore}
 use Rattle.ordered_play.specs.Blocks.{block_of}
 use Rattle.ordered_play.specs.Merge.{IsDone, IsRefusedIf, Part, seat_of, seat_with, share_of}
 use Rattle.ordered_play.specs.Part.{Share}
 use Rattle.play_model.specs.Play.{filled}
 use Rattle.trace_text.specs.declared.item.Item.{Item}
 use Rattle.trace_text.specs.declared.trace.Trace.{Trace}
+use Rattle.cpu_player.specs.Ending.{EndsAs}
 use Rattle.cpu_player.specs.declared.ending.CpuEnd.{CpuEnd}
 
 -- ---- one processor
@@ -35,6 +39,15 @@ pub record HasEndedAt (of : Share) (items : List Item) (lane : List ℕ) (end : 
 
 abbrev pub HasEnded : Share → List Item → List ℕ → CpuEnd → Type 0
 HasEnded of items lane end = HasEndedAt of items lane end (place_of end)
+
+-- by what its pass has seen, which is one of this core's and is in this history, the work of a trace has ended, not for want of
+-- memory
+pub record HasEndedOn (shared : SharedCore) (ram : List ℕ) (trace : Trace) (history : List Event) (end : CpuEnd) : Type 0 where
+  pub own : IsCpuOf shared end.pass
+  pub is_in : IsIn cpu_of history end.pass
+  pub some : end.outcome ≡ Err Memory → ⊥
+  pub ends : EndsAs (share_of (boot_of shared) (seen end.pass) (number end.pass)) trace.items (filled ram trace.fills) end
+      end.outcome
 
 -- ---- all of them, by their numbers
 

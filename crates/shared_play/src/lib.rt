@@ -6,4 +6,4 @@
 
 mod laws;
 
-pub use laws::{ends_merge, ends_stay};
+pub use laws::{ends_gather, ends_merge, ends_stay};
