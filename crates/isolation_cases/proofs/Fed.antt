@@ -2,7 +2,6 @@
 use Rattle.std.proofs.Common.{◌≡◌, ◌∙◌, ℕ, ◌<◌, Bool, true, false, List, [], ◌∷◌, None, Some, length}
 use Rattle.std.proofs.Common.{refl, sym, ap, subst, arith, get_or}
 use Rattle.std.specs.Prelude.{IsSome, bytes_eq, find, if◌then◌else◌}
-use Rattle.std.specs.List.{AllByRecursion}
 use Rattle.std.proofs.lemmas.Option.{option_and_then_some}
 use Rattle.std.proofs.lemmas.Slice.Eq.{bytes_eq-Decides}
 use Rattle.event_journal.specs.declared.event.Event.{Event}
@@ -17,7 +16,6 @@ use Rattle.own_model.specs.Solo.{unopened}
 use Rattle.own_model.specs.declared.own_event.OwnEvent.{OwnEvent}
 use Rattle.own_model.specs.declared.own_event.OwnEvent.TheVariants.{Open, Invoke, Close, Cancel, Seen, Back, Out, Limited}
 use Rattle.solo.specs.Feeding.{CanBeFed, IsFed}
-use Rattle.solo.specs.Short.{IsShortEvent}
 use Rattle.solo.specs.Standing.{IsSolo, app_in}
 use Rattle.solo.specs.declared.solo_session.SoloSession.{SoloSession}
 use Rattle.ta_isa.specs.declared.boot.App.{App}
@@ -72,10 +70,10 @@ of_only boot history session app (Open params login ∷ events) legal only share
 -- so it can be fed with them
 pub fed_first : (boot : Boot) (natives : List Native) (history : List Event) (session : ℕ) (events : List OwnEvent)
     (uuid : List ℕ) (s : SoloSession) → IsJournalOf boot natives history → AreOfOnlyApp boot events
-    → events ≡ own_events (booted boot natives) history session → AllByRecursion IsShortEvent events
+    → events ≡ own_events (booted boot natives) history session
     → ((app : Application) → IsSessionOf (booted boot natives) history session app → CanBeFed (steps_in history) app unopened events)
     → app_of (booted boot natives) uuid ≡ Some (app_in s) → IsSolo s unopened → IsFed s events
-fed_first boot natives history session events uuid s journal are own short feeds of is = record {
+fed_first boot natives history session events uuid s journal are own feeds of is = record {
   solo = unopened;
   is = is;
   most = steps_in history;
@@ -86,7 +84,6 @@ fed_first boot natives history session events uuid s journal are own short feeds
       (subst (λ (none : List Native). IsLegal (booted boot none) history) journal.none journal.journal.legal)
       are.one.only are.one.shares_none are.opens
       (sym (own ∙ ap (λ (none : List Native). own_events (booted boot none) history session) journal.none)))));
-  short = short;
 }
   where
     same : app_in s ≡ OfImage are.one.app

@@ -4,17 +4,15 @@ use Rattle.std.proofs.Common.{Some, None, refl, ap, subst, sym, ◌∙◌, arith
 use Rattle.std.specs.Prelude.{◌==◌, ◌&&◌, not, slice_get}
 use Rattle.std.specs.List.{list_any}
 use Rattle.std.specs.Option.{option_and_then, option_map_or}
-use Rattle.std.proofs.lemmas.Option.{option_and_then_some}
 use Rattle.base.specs.NumberMap.{get}
 use Rattle.event_journal.specs.declared.event.Event.{Event}
 use Rattle.event_journal.specs.declared.event.Event.TheVariants.{Entry, Exit}
 use Rattle.kernel_model.proofs.Parts.{if-both, map_or-both, some_of}
-use Rattle.kernel_model.proofs.Past.{after_events-append}
 use Rattle.kernel_model.proofs.SoundNumbers.{numbered, numbers_rise}
 use Rattle.kernel_model.specs.Application.{Application, Booted}
 use Rattle.kernel_model.specs.Exit.{progress_in_slot}
 use Rattle.kernel_model.specs.Given.{Given, given_to}
-use Rattle.kernel_model.specs.History.{IsLegal, after_event, after_events, kernel_after}
+use Rattle.kernel_model.specs.History.{IsLegal, after_event, kernel_after}
 use Rattle.kernel_model.specs.Instances.{app_of}
 use Rattle.kernel_model.specs.Kernel.{Active, Fixed, Free, InSlot, Inside, Kernel, Outside, PendingCall, Processor}
 use Rattle.kernel_model.specs.Kernel.{Progress, Suspended, ThreadSlot, Visit, first_kernel}
@@ -23,6 +21,8 @@ use Rattle.ns_ram.specs.Reader.{reading}
 use Rattle.own_model.proofs.BelowNumbers.{below_numbers}
 use Rattle.own_model.proofs.EarlyEvents.{EarlyNext, NowNameless, NowOpen, NowShared, StillEarly, early_next}
 use Rattle.own_model.proofs.UuidKept.{uuid_stays}
+use Rattle.own_model.proofs.WholeHistories.{IsAt, IsOn, from_first, goes_from, on_from}
+use Rattle.own_model.specs.Isolation.{steps_in}
 use Rattle.own_model.specs.Own.{Entering, Logged, Notes, Resuming, back_noted, entry_noted, event_noted, event_of}
 use Rattle.own_model.specs.Own.{events_in, exit_noted, is_limit, is_of_client, no_notes, noted, noted_from, numbered as with_number}
 use Rattle.own_model.specs.Own.{out_noted, own_app, own_events, reply_of, resume_noted, seen_noted, slot_noted}
@@ -168,55 +168,18 @@ one_settled boot session kernel next happened notes given e (inr named) =
           (uuid_stays boot session kernel next happened notes given e) ∙ named.1,
     )
 
--- where the history goes on from
-record IsAt (boot : Booted) (past : List Event) (kernel : Kernel) (events : List Event) : Type 0 where
-  last : Kernel
-  there : kernel_after boot past ≡ Some kernel
-  onward : after_events boot kernel events ≡ Some last
-
-record IsOn (boot : Booted) (past : List Event) (kernel : Kernel) (happened : Event) (events : List Event) : Type 0
-  where
-    next : Kernel
-    comes : after_event boot kernel happened ≡ Some next
-    at : IsAt boot (past ++ happened ∷ []) next events
-
-on_from : (boot : Booted) (past : List Event) (kernel : Kernel) (happened : Event) (events : List Event)
-    → IsAt boot past kernel (happened ∷ events) → IsOn boot past kernel happened events
-on_from boot past kernel happened events at =
-    option_and_then_some (λ (next : Kernel). after_events boot next events) (after_event boot kernel happened) at.last
-    at.onward
-    (λ next comes onward. record {
-      next = next;
-      comes = comes;
-      at = record {
-        last = at.last;
-        there = after_events-append boot (first_kernel boot) past (happened ∷ [])
-            ∙ ap (λ (o : Option Kernel). option_and_then (λ (k : Kernel). after_events boot k (happened ∷ [])) o) at.there
-            ∙ ap (λ (o : Option Kernel). option_and_then (λ (k : Kernel). Some k) o) comes;
-        onward = onward;
-      };
-    })
-
-goes_from : (boot : Booted) (session : ℕ) (kernel next : Kernel) (notes : Notes) (happened : Event)
-    (events : List Event) → after_event boot kernel happened ≡ Some next
-    → noted_from boot session kernel notes (happened ∷ events)
-    ≡ noted_from boot session next (event_noted session kernel next notes happened) events
-goes_from boot session kernel next notes happened events e =
-    ap (λ (o : Option Kernel). option_map_or (λ (k : Kernel). noted_from boot session k
-    (event_noted session kernel k notes happened) events) o notes) e
-
 -- once it has its number
-late_on : (boot : Booted) (session : ℕ) (past : List Event) (kernel : Kernel) (notes : Notes) (events : List Event)
-    → session < kernel.tables.next_session → IsAt boot past kernel events → IsSettled boot notes
+late_on : (boot : Booted) (session most : ℕ) (past : List Event) (kernel : Kernel) (notes : Notes) (events : List Event)
+    → session < kernel.tables.next_session → IsAt boot most past kernel events → IsSettled boot notes
     → IsSettled boot (noted_from boot session kernel notes events)
-late_on boot session past kernel notes [] given at settled = settled
-late_on boot session past kernel notes (happened ∷ events) given at settled =
-    let on = on_from boot past kernel happened events at in
+late_on boot session most past kernel notes [] given at settled = settled
+late_on boot session most past kernel notes (happened ∷ events) given at settled =
+    let on = on_from boot most past kernel happened events at in
     let later : session < on.next.tables.next_session =
     no_lower session kernel.tables.next_session on.next.tables.next_session given
     (numbers_rise boot past kernel on.next happened at.there on.comes).session in
     subst (IsSettled boot) (sym (goes_from boot session kernel on.next notes happened events on.comes))
-    (late_on boot session (past ++ happened ∷ []) on.next _ events later on.at
+    (late_on boot session most (past ++ happened ∷ []) on.next _ events later on.at
     (one_settled boot session kernel on.next happened notes given on.comes settled))
   where
     no_lower : (a n m : ℕ) → a < n → n ≤ m → a < m
@@ -228,41 +191,41 @@ of_named boot notes app uuid named is =
     inr (app, ap (λ (o : Option (List ℕ)). option_and_then (app_of boot) o) named ∙ is)
 
 -- and before
-early_on : (boot : Booted) (session : ℕ) (past : List Event) (kernel : Kernel) (events : List Event)
-    → kernel.tables.next_session ≤ session → IsAt boot past kernel events
+early_on : (boot : Booted) (session most : ℕ) (past : List Event) (kernel : Kernel) (events : List Event)
+    → kernel.tables.next_session ≤ session → IsAt boot most past kernel events
     → IsSettled boot (noted_from boot session kernel no_notes events)
-early_on boot session past kernel [] before at = inl tt
-early_on boot session past kernel (happened ∷ events) before at =
-    let on = on_from boot past kernel happened events at in
+early_on boot session most past kernel [] before at = inl tt
+early_on boot session most past kernel (happened ∷ events) before at =
+    let on = on_from boot most past kernel happened events at in
     let below = below_numbers kernel (numbered boot past kernel at.there) in
     subst (IsSettled boot) (sym (goes_from boot session kernel on.next no_notes happened events on.comes))
     (by_next on (event_noted session kernel on.next no_notes happened)
-    (early_next boot session 0 kernel on.next happened below before on.comes)
-    (λ lower. early_on boot session (past ++ happened ∷ []) on.next events lower on.at))
+    (early_next boot session most kernel on.next happened below before on.comes)
+    (λ lower. early_on boot session most (past ++ happened ∷ []) on.next events lower on.at))
   where
-    by_next : (on : IsOn boot past kernel happened events) (now : Notes)
-        → EarlyNext boot session 0 kernel on.next now
+    by_next : (on : IsOn boot most past kernel happened events) (now : Notes)
+        → EarlyNext boot session most kernel on.next now
         → (on.next.tables.next_session ≤ session → IsSettled boot (noted_from boot session on.next no_notes events))
         → IsSettled boot (noted_from boot session on.next now events)
     by_next on now (StillEarly same lower) later =
         subst (λ (n : Notes). IsSettled boot (noted_from boot session on.next n events)) (sym same) (later lower)
     by_next on now (NowNameless of higher same of_boot shares has) later =
-        late_on boot session (past ++ happened ∷ []) on.next now events higher on.at
+        late_on boot session most (past ++ happened ∷ []) on.next now events higher on.at
         (inl (subst (λ (n : Notes). NoOpens n.log) (sym same) tt))
     by_next on now (NowShared of higher of_boot uuid shares has) later =
-        late_on boot session (past ++ happened ∷ []) on.next now events higher on.at
+        late_on boot session most (past ++ happened ∷ []) on.next now events higher on.at
         (of_named boot now of _ uuid of_boot)
     by_next on now (NowOpen of is_next of_boot uuid alone along has) later =
         let higher : session < on.next.tables.next_session =
         subst (λ n. n < on.next.tables.next_session) (sym is_next) along.tied.given.session_given in
-        late_on boot session (past ++ happened ∷ []) on.next now events higher on.at
+        late_on boot session most (past ++ happened ∷ []) on.next now events higher on.at
         (of_named boot now of _ uuid of_boot)
 
 -- where the first session has the number 1
-from_boot : (boot : Booted) (session : ℕ) (history : List Event) → IsAt boot [] (first_kernel boot) history
+from_boot : (boot : Booted) (session most : ℕ) (history : List Event) → IsAt boot most [] (first_kernel boot) history
     → IsSettled boot (noted boot history session)
-from_boot boot zero history at = late_on boot zero [] (first_kernel boot) no_notes history (omega arith) at (inl tt)
-from_boot boot (suc n) history at = early_on boot (suc n) [] (first_kernel boot) history (from_one n) at
+from_boot boot zero most history at = late_on boot zero most [] (first_kernel boot) no_notes history (omega arith) at (inl tt)
+from_boot boot (suc n) most history at = early_on boot (suc n) most [] (first_kernel boot) history (from_one n) at
   where
     from_one : (m : ℕ) → 1 ≤ suc m
     from_one m = omega arith
@@ -283,4 +246,4 @@ pub opened_app : (boot : Booted) (history : List Event) (session : ℕ) (params 
 opened_app boot history session params login rest legal opens =
     let last = some_of (kernel_after boot history) legal.follows in
     by_log boot (noted boot history session) (noted boot history session).log params login rest refl opens
-    (from_boot boot session history (record { last = last.0; there = refl; onward = last.1 }))
+    (from_boot boot session (steps_in history) history (from_first boot history last.0 last.1))

@@ -2,7 +2,7 @@
 ghost use Rattle.isolation_cases.specs.Feeding.{IsJournalOf};
 ghost use Rattle.native_tas.specs.Table.{entries};
 
-use crate::conditions::{are_of_only_app, are_short_events};
+use crate::conditions::are_of_only_app;
 use crate::events::tell_events;
 use crate::feeding::feed;
 use anyhow::{Result, bail};
@@ -32,9 +32,6 @@ fn replies_alone(
     tell_events(events.as_slice(), told)?;
     if !are_of_only_app(boot, events.as_slice()) {
         bail!("no session of the only application");
-    }
-    if !are_short_events(events.as_slice()) {
-        bail!("a buffer that is too long");
     }
     let mut machine = SoloSession::new(alloc, boot, natives, boot.apps.as_slice()[0].uuid)?;
     feed(alloc, &mut machine, events.as_slice())

@@ -1,73 +1,11 @@
-//! Whether a session is of the only application of a boot, and whether the buffers of its events are short.
+//! Whether a session is of the only application of a boot.
 ghost use Rattle.std.specs.Prelude.{◌≡◌, IsTrue};
-ghost use Rattle.std.specs.List.{AllByRecursion};
 ghost use Rattle.isolation_cases.specs.Feeding.{AreOfOnlyApp, BeginWithOpen, HasOneApp};
 ghost use Rattle.kernel_model.specs.Application.{OfImage};
 ghost use Rattle.kernel_model.specs.Instances.{is_single};
-ghost use Rattle.solo.specs.Short.{AreShort, IsShort, IsShortEvent, IsShortInput};
-ghost use Rattle.ta_step.specs.Shape.{shape};
 
-use own_model::{OwnEvent, OwnInput};
+use own_model::OwnEvent;
 use ta_isa::{App, Boot};
-use ta_params::{CopiedParams, GpParam};
-
-/// The most bytes of a buffer.
-const MOST_BYTES: usize = 65536;
-
-/// Whether a buffer is short enough.
-fn is_short(param: &GpParam) -> bool
-    ensures { IsTrue result → IsShort (shape param.now) }
-{
-    match param {
-        GpParam::Memref { buf, .. } => buf.bytes().len() <= MOST_BYTES,
-        GpParam::Empty | GpParam::Value { .. } => true,
-    }
-}
-
-/// Whether all are.
-fn are_short(params: &CopiedParams) -> bool
-    ensures { IsTrue result → AreShort params.now }
-{
-    is_short(&params.p0) && is_short(&params.p1) && is_short(&params.p2) && is_short(&params.p3)
-}
-
-/// Whether those of an invoke are.
-fn is_short_input(input: &OwnInput) -> bool
-    ensures { IsTrue result → IsShortInput input.now }
-{
-    match input {
-        OwnInput::Copied(params) => are_short(params),
-        OwnInput::Faulty | OwnInput::Unread => true,
-    }
-}
-
-/// Whether those of an event are.
-fn is_short_event(event: &OwnEvent) -> bool
-    ensures { IsTrue result → IsShortEvent event.now }
-{
-    match event {
-        OwnEvent::Open { params, .. } => are_short(params),
-        OwnEvent::Invoke { input, .. } => is_short_input(input),
-        OwnEvent::Close
-        | OwnEvent::Cancel
-        | OwnEvent::Seen { .. }
-        | OwnEvent::Back { .. }
-        | OwnEvent::Out { .. }
-        | OwnEvent::Limited => true,
-    }
-}
-
-/// Whether those of all events are.
-pub(crate) fn are_short_events(events: &[OwnEvent]) -> bool
-    ensures { IsTrue result → AllByRecursion IsShortEvent events.now }
-{
-    for event in events {
-        if !is_short_event(event) {
-            return false;
-        }
-    }
-    true
-}
 
 /// Whether the sessions of an application share an instance.
 fn is_single(app: &App) -> bool

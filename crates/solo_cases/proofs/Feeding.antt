@@ -1,8 +1,8 @@
 -- When the machine of a session can be fed with the events of a table.
-use Rattle.std.proofs.Common.{◌≡◌, ◌∙◌, ℕ, ◌+◌, ◌<◌, ◌≤◌, ◌^◌, Bool, true, false, List, [], ◌∷◌, Option, Some, None}
+use Rattle.std.proofs.Common.{◌≡◌, ◌∙◌, ℕ, ◌+◌, ◌<◌, ◌^◌, Bool, true, false, List, [], ◌∷◌, Option, Some, None}
 use Rattle.std.proofs.Common.{length, drop, get_or, refl, sym, ap, arith, add-one}
-use Rattle.std.specs.Prelude.{◌&&◌, IsSomeAnd, nat_le, nat_lt}
-use Rattle.std.specs.List.{AllByRecursion, list_all}
+use Rattle.std.specs.Prelude.{◌&&◌, IsSomeAnd, nat_lt}
+use Rattle.std.specs.List.{list_all}
 use Rattle.std.specs.Option.{option_map_or}
 use Rattle.std.proofs.Math.Seq.{drop-cons}
 use Rattle.std.proofs.lemmas.Bool.Decides.{nat_tests}
@@ -14,13 +14,10 @@ use Rattle.kernel_model.specs.Kernel.{Asks, CallPhase, Ends, Runs, Waits}
 use Rattle.own_model.specs.Solo.{Answered, OwnCall, Solo, step}
 use Rattle.own_model.specs.declared.own_event.OwnEvent.{OwnEvent}
 use Rattle.own_model.specs.declared.own_event.OwnEvent.TheVariants.{Open, Invoke, Close, Cancel, Seen, Back, Out, Limited}
-use Rattle.own_model.specs.declared.own_event.OwnInput.TheVariants.{Copied, Faulty, Unread}
 use Rattle.solo.specs.Feeding.{CanBeFed}
-use Rattle.solo.specs.Short.{IsShort, IsShortEvent}
 use Rattle.solo.specs.Stepping.{HasNumber, HasRoom, HasRoomIn}
-use Rattle.solo_cases.specs.Feeding.{can_be_fed, event_in, events_in, has_number, has_room, is_short, is_short_event}
+use Rattle.solo_cases.specs.Feeding.{can_be_fed, event_in, events_in, has_number, has_room}
 use Rattle.solo_cases.specs.declared.fed.Fed.{Fed}
-use Rattle.ta_step.specs.Shape.{shapes}
 
 both : (a b : Bool) → (a && b) ≡ true → (a ≡ true) × (b ≡ true)
 both true b e = (refl, e)
@@ -55,25 +52,6 @@ has_room_at solo e (Back number input) = tt
 has_room_at solo e (Out number) = λ call there. room_in call.steps call.phase (rooms solo.calls e number call there)
 has_room_at solo e Limited = tt
 
-within : (n : ℕ) → nat_le n 65536 ≡ true → n ≤ 65536
-within n e = grind (arith, nat_tests)
-
-each_short : (all : List (ℕ × ℕ)) → list_all is_short all ≡ true → AllByRecursion IsShort all
-each_short [] e = tt
-each_short (shape ∷ all) e = let two = both (is_short shape) (list_all is_short all) e in (within shape.1 two.0, each_short all two.1)
-
-short_event : (event : OwnEvent) → is_short_event event ≡ true → IsShortEvent event
-short_event (Open params login) e = each_short (shapes params) e
-short_event (Invoke func (Copied params)) e = each_short (shapes params) e
-short_event (Invoke func Faulty) e = tt
-short_event (Invoke func Unread) e = tt
-short_event Close e = tt
-short_event Cancel e = tt
-short_event (Seen call steps) e = tt
-short_event (Back call input) e = tt
-short_event (Out call) e = tt
-short_event Limited e = tt
-
 -- ---- events in a row
 
 number_at : (entered : ℕ) (event : OwnEvent) → entered < 2 ^ 32 → HasNumber entered event
@@ -98,28 +76,12 @@ pub can_be : (app : Application) (solo : Solo) (events : List OwnEvent) → can_
 can_be app solo [] e = tt
 can_be app solo (event ∷ events) e =
     let first = both (list_all has_room solo.calls) _ e in
-    let second = both (has_number solo.entered) _ first.1 in
-    let third = both (is_short_event event) _ second.1 in (
+    let second = both (has_number solo.entered) _ first.1 in (
       record {
         number = number_at solo.entered event (few solo.entered second.0);
         room = has_room_at solo first.0 event;
       },
-      comes app events (step 1000 app solo event) (λ answered can. can_be app answered.0 events can) third.1,
-    )
-
-shorts : (app : Application) (events : List OwnEvent) (o : Option Answered)
-    → ((answered : Answered) → can_be_fed app answered.0 events ≡ true → AllByRecursion IsShortEvent events)
-    → option_map_or (λ (answered : Answered). can_be_fed app answered.0 events) o false ≡ true → AllByRecursion IsShortEvent events
-shorts app events None rest e = absurd cc
-shorts app events (Some answered) rest e = rest answered e
-
-pub are_short : (app : Application) (solo : Solo) (events : List OwnEvent) → can_be_fed app solo events ≡ true
-    → AllByRecursion IsShortEvent events
-are_short app solo [] e = tt
-are_short app solo (event ∷ events) e =
-    let third = both (is_short_event event) _ (both (has_number solo.entered) _ (both (list_all has_room solo.calls) _ e).1).1 in (
-      short_event event third.0,
-      shorts app events (step 1000 app solo event) (λ answered can. are_short app answered.0 events can) third.1,
+      comes app events (step 1000 app solo event) (λ answered can. can_be app answered.0 events can) second.1,
     )
 
 -- ---- a table

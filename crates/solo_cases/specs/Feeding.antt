@@ -1,5 +1,5 @@
 -- What the machine of a session is fed with, and when it can be.
-use Rattle.std.specs.Prelude.{ℕ, ◌+◌, ◌^◌, ◌&&◌, Bool, true, false, List, [], ◌∷◌, map, nat_le, nat_lt, replicate}
+use Rattle.std.specs.Prelude.{ℕ, ◌+◌, ◌^◌, ◌&&◌, Bool, true, false, List, [], ◌∷◌, map, nat_lt, replicate}
 use Rattle.std.specs.List.{list_all}
 use Rattle.std.specs.Option.{option_map_or}
 use Rattle.job_model.specs.Point.{no_params}
@@ -10,18 +10,15 @@ use Rattle.own_model.specs.declared.own_event.BackInput.TheVariants as back
 use Rattle.own_model.specs.Solo.{Answered, OwnCall, Solo, step}
 use Rattle.own_model.specs.declared.own_event.OwnEvent.{OwnEvent}
 use Rattle.own_model.specs.declared.own_event.OwnEvent.TheVariants.{Open, Invoke, Close, Cancel, Seen, Back, Out, Limited}
-use Rattle.own_model.specs.declared.own_event.OwnInput.{OwnInput}
-use Rattle.own_model.specs.declared.own_event.OwnInput.TheVariants.{Copied, Faulty, Unread}
+use Rattle.own_model.specs.declared.own_event.OwnInput.TheVariants.{Copied, Unread}
 use Rattle.rpc_msgs.specs.Answer.{nothing_read}
 use Rattle.solo_cases.specs.declared.fed.Fed.{Fed}
 use Rattle.solo_cases.specs.declared.fed.Fed.TheVariants as fed
 use Rattle.ta_isa.specs.declared.boot.Boot.{Boot}
 use Rattle.ta_isa.specs.declared.image.Image.{Image}
 use Rattle.ta_isa.specs.declared.image.Instr.{Instr}
-use Rattle.ta_params.specs.declared.copied_params.CopiedParams.{CopiedParams}
 use Rattle.ta_params.specs.declared.copied_params.GpParam.TheVariants.{Memref}
 use Rattle.ta_params.specs.declared.copied_params.Way.TheVariants as way
-use Rattle.ta_step.specs.Shape.{shapes}
 
 -- ---- applications and events
 
@@ -63,28 +60,6 @@ events_in table = map event_in table
 abbrev pub has_room : ℕ × OwnCall → Bool
 has_room kept = nat_lt (kept.1.steps + 1000) (2 ^ 128)
 
--- no buffer has more than 65536 bytes
-abbrev pub is_short : ℕ × ℕ → Bool
-is_short shape = nat_le shape.1 65536
-
-abbrev pub are_short : CopiedParams → Bool
-are_short params = list_all is_short (shapes params)
-
-abbrev pub is_short_input : OwnInput → Bool
-is_short_input (Copied params) = are_short params
-is_short_input Faulty = true
-is_short_input Unread = true
-
-abbrev pub is_short_event : OwnEvent → Bool
-is_short_event (Open params login) = are_short params
-is_short_event (Invoke func input) = is_short_input input
-is_short_event Close = true
-is_short_event Cancel = true
-is_short_event (Seen call steps) = true
-is_short_event (Back call input) = true
-is_short_event (Out call) = true
-is_short_event Limited = true
-
 -- a call that comes in gets a number of 32 bits
 abbrev pub has_number : ℕ → Bool
 has_number entered = nat_lt entered (2 ^ 32)
@@ -95,5 +70,4 @@ can_be_fed app solo [] = true
 can_be_fed app solo (event ∷ events) =
     list_all has_room solo.calls
     && (has_number solo.entered
-    && (is_short_event event
-    && option_map_or (λ (answered : Answered). can_be_fed app answered.0 events) (step 1000 app solo event) false))
+    && option_map_or (λ (answered : Answered). can_be_fed app answered.0 events) (step 1000 app solo event) false)

@@ -3,7 +3,7 @@ use Rattle.std.proofs.Math.Logic.{∥∥₁_map}
 use Rattle.kernel_model.specs.Application.{Application}
 use Rattle.own_model.specs.Solo.{unopened}
 use Rattle.solo.specs.Feeding.{CanBeFed, IsFed}
-use Rattle.solo_cases.proofs.Feeding.{are_short, can_be, front}
+use Rattle.solo_cases.proofs.Feeding.{can_be, front}
 use Rattle.solo_cases.specs.Feeding.{application_in, events_in}
 use Rattle.solo_cases.proofs.sessions.answers.Goals as goal
 
@@ -25,7 +25,6 @@ loop-fed-init g c = ∣ record {
   most = 1000;
   can = subst (λ (app : Application). CanBeFed 1000 app unopened (events_in c.args.events.now)) (sym c.in_ok-session.ensures.app)
       (can_be (application_in c.args.code.now) unopened (events_in c.args.events.now) c.requires.can);
-  short = are_short (application_in c.args.code.now) unopened (events_in c.args.events.now) c.requires.can;
 } ∣₁
 
 pub loop-fed-preserved : goal.loop-fed-preserved
