@@ -15,7 +15,7 @@ mod case;
 
 use anyhow::{Context, Result, bail};
 use case::Case;
-use native_tas::{MAX_NATIVES, Native, Natives, Relation, digest};
+use native_tas::{Driver, DriverRelation, MAX_NATIVES, Native, Natives, Relation, digest};
 use std::alloc::Global;
 use std::fs;
 use std::io::{BufRead, BufReader};
@@ -153,6 +153,14 @@ fn main(rt: HostRuntime) -> Result<()> {
         if built_in.is_err() {
             bail!("no memory for the applications that are built in");
         }
+    }
+    let echo = Driver {
+        value: 1,
+        relation: DriverRelation::Echo,
+        call: |count: u32| count,
+    };
+    if natives.add_driver(echo).is_err() {
+        bail!("no memory for the driver that is built in");
     }
     let mut case = Case::new(alloc, "")?;
     for line in BufReader::new(alloc, rt.reader())?.lines(alloc) {
