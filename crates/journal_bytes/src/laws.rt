@@ -9,7 +9,7 @@ pub fn one_meaning()
     ensures { AllBytes }
 {}
 
-/// What is written of a boot and its events is read as them, whatever stands behind it.
+/// What is written of a boot and its events spells them, whatever stands behind it.
 pub fn written_is_read()
     ensures { WrittenIsRead }
 {}

@@ -90,7 +90,8 @@ fn put_events(out: &mut Vec<u8>, events: &[Event]) -> Result<(), NoMemory>
 
 /// The one spelling of a boot and its events: the boot, its applications and the events, each in their order, and an end.
 ///
-/// [`crate::read_journal`] reads it again, whatever stands behind it ([`crate::written_is_read`]).
+/// It spells them, whatever stands behind it ([`crate::written_is_read`]): so [`crate::read_journal`] gives them back where these are
+/// at most 2^28 bytes and no built-in application has one of their UUIDs, or memory runs out.
 pub fn write_journal(alloc: Global, boot: &Boot, journal: &Journal) -> Result<Vec<u8>, NoMemory>
     requires boot { IsBoot boot.now }
     requires journal { IsSoundJournal boot.now.cpus journal.now.events }
