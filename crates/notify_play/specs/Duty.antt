@@ -66,7 +66,7 @@ abbrev pub duty_of_fast : FastCall → Duty
 duty_of_fast Capabilities = Offers
 duty_of_fast _ = Nothing
 
--- of a call that the kernel knows: one that is neither a fast call nor a return from RPC is new
+-- of a call by its function id: one that is neither a fast call, nor a return from RPC, nor unknown is new
 abbrev pub duty_of_call : Call → List Read → ℕ → Duty
 duty_of_call (Fast call) reads a0 = duty_of_fast call
 duty_of_call Resume reads a0 = Nothing

@@ -219,7 +219,7 @@ pub record Examples : Type 0 where
       ∷ [])
   -- without a boot there is nothing to print
   pub no_boot : notify_text_of [] [] no_trace ≡ Some []
-  -- parts of generated traces
+  -- longer scripts
   pub of_one_processor : prints 192 one_by_one ≡ lines one_by_one_output
   pub of_a_resumed_call : prints 4248 resumed ≡ lines resumed_output
   pub of_more_pending : prints 0x30740 more_pending ≡ lines more_pending_output

@@ -30,8 +30,8 @@ pub record IsNotifyPlay (boot : Booted) (drivers : Drivers) (told : NotifyPlay) 
   pub no_slot : ToldIn boot told.play.history 1 FindsNoSlot
   -- sessions that share no instance were answered as alone
   pub alone : AloneIn boot told.play.history
-  -- a bottom half that comes next calls exactly the drivers that were signalled, while the desk was enabled, since the last
-  -- bottom half or stop, each with the number of these signals, at most 2^32 - 1
+  -- by the calls of its desk, a bottom half that comes next calls exactly the drivers that were signalled, while the desk was
+  -- enabled, since the last bottom half or stop, each with the number of these signals, at most 2^32 - 1
   pub bottom_half : driver_calls (desk_of drivers told) ≡ owed_calls drivers told.calls
 
 -- each play of steps is one, whatever RAM holds at first; and so at each place of a trace, where a bottom half may come,

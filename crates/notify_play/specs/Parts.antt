@@ -1,6 +1,4 @@
--- Parts of generated traces with signals, and what they print, as an independent program gives it. Left out are lines that
--- nothing else in the part looks at: keys, applications that no call opens, bytes written above those that the part looks at,
--- such bytes shown, and calls that ask for capabilities.
+-- Longer scripts with signals, and what they print.
 use Rattle.std.specs.Prelude.{ℕ, List, [], ◌∷◌, codes}
 
 -- signals before, inside and behind the calls of one processor: opens, a close and bottom halves

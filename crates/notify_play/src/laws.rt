@@ -3,9 +3,10 @@ ghost use Rattle.notify_play.specs.Examples.{Examples};
 ghost use Rattle.notify_play.specs.Laws.{OtherExitsStay, StepsArePlayed};
 
 /// Whatever was signalled, the history of each play is legal and keeps the kernel's own answers, from which follows
-/// what holds of each legal history, isolation among it; and a bottom half that comes next calls exactly the drivers that
-/// were signalled, while the desk was enabled, since the last bottom half or stop, each with the number of these
-/// signals, at most 2^32 - 1.
+/// what holds of each legal history, isolation among it. Among the calls of its desk, of which the signals are some, a
+/// bottom half that comes next calls exactly the drivers that were signalled, while the desk was enabled, since the last
+/// bottom half or stop, each with the number of these signals, at most 2^32 - 1. That the desk has just the trace's
+/// signals is what the definition of a step does, and no law says it again.
 pub fn steps_are_played()
     ensures { StepsArePlayed }
 {}
