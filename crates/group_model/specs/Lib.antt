@@ -1,0 +1,3 @@
+pub mod Group
+pub mod Read
+pub mod Examples
