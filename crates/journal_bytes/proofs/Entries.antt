@@ -1,5 +1,5 @@
 -- What the record of an entry says, where its reads are taken one after the other.
-use Rattle.std.proofs.Common.{◌≡◌, ℕ, ◌+◌, ◌<◌, ◌≤◌, Bool, true, false, cond, ltb, List, [], ◌∷◌, length, drop, length-drop, Option, Some, None, refl, sym, subst, ap, ◌∙◌, arith}
+use Rattle.std.proofs.Common.{◌≡◌, ℕ, ◌+◌, ◌≤◌, Bool, true, false, cond, ltb, List, [], ◌∷◌, length, drop, length-drop, Option, Some, None, refl, sym, subst, ap, ◌∙◌, arith}
 use Rattle.std.specs.Prelude.{is_some, ◌&&◌}
 use Rattle.std.specs.List.{list_all}
 use Rattle.std.proofs.lemmas.Bool.{le-leb}
@@ -15,7 +15,7 @@ use Rattle.trace_text.specs.Limits.{cpus_of, first_broken, is_within}
 use Rattle.trace_bin.specs.Record.{number}
 use Rattle.trace_bin.specs.Taking.{IsRefused}
 use Rattle.journal_bytes.specs.declared.record_kind.RecordKind.TheVariants as kind
-use Rattle.journal_bytes.specs.Record.{behind, cpu_in, is_read, is_whole, listed_in, reads_at, reads_in, reads_of, regs_in, rest_of, steps_in}
+use Rattle.journal_bytes.specs.Record.{behind, cpu_in, is_read, is_whole, listed_in, reads_at, reads_of, regs_in, rest_of, steps_in}
 use Rattle.journal_bytes.specs.Recording.{Told}
 use Rattle.journal_bytes.specs.Rules.{added, entry_rules, rules_in, rules_of, with_event}
 use Rattle.journal_bytes.specs.Taking.{IsCutAt}

@@ -1,5 +1,5 @@
 -- A trace without items has no fault at its end.
-use Rattle.std.proofs.Common.{◌≡◌, cond, List, [], Option, Some, None, subst}
+use Rattle.std.proofs.Common.{◌≡◌, cond, List, [], Some, None, subst}
 use Rattle.std.specs.List.{list_any}
 use Rattle.trace_text.specs.declared.fault.BadKind.{BadKind}
 use Rattle.trace_text.specs.declared.fault.BadKind.TheVariants as bad

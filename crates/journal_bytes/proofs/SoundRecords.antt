@@ -1,5 +1,5 @@
 -- A journal that bytes spell is within its limits: record by record.
-use Rattle.std.proofs.Common.{◌≡◌, ℕ, zero, suc, ◌+◌, ◌^◌, ◌<◌, ◌≤◌, Bool, true, false, cond, List, [], ◌∷◌, ◌++◌, length, take, drop, length-drop, Option, Some, None, refl, subst, sym, arith}
+use Rattle.std.proofs.Common.{◌≡◌, ℕ, zero, suc, ◌+◌, ◌^◌, ◌≤◌, Bool, true, false, cond, List, [], ◌∷◌, length, take, drop, length-drop, Option, Some, None, refl, subst, sym, arith}
 use Rattle.std.specs.Prelude.{All, IfNone, IfSome}
 use Rattle.std.specs.List.{AllByRecursion, list_all}
 use Rattle.std.specs.Option.{option_map}
@@ -12,21 +12,21 @@ use Rattle.ns_ram.specs.declared.read.Read.{Read}
 use Rattle.event_journal.specs.declared.event.Event.{Event}
 use Rattle.event_journal.specs.Event.{copied_by}
 use Rattle.event_journal.specs.Journal.{copied_bytes}
-use Rattle.trace_text.specs.Limits.{cpus_of, first_broken, with_app}
+use Rattle.trace_text.specs.Limits.{cpus_of, first_broken}
 use Rattle.trace_text.specs.Sound.{IsSoundBoot}
 use Rattle.trace_text.proofs.SoundLaws.{are_kept, AreKept, sound_apps, sound_boot}
 use Rattle.trace_text.proofs.SoundWords.{in_ram, valid_bytes, within}
 use Rattle.trace_bin.specs.declared.record_kind.RecordKind.TheVariants as trace
 use Rattle.trace_bin.specs.Record.{body_len, bytes_in, is_whole as is_whole_body, number}
-use Rattle.trace_bin.specs.Rules.{app_in, boot_in}
+use Rattle.trace_bin.specs.Rules.{boot_in}
 use Rattle.journal_bytes.specs.declared.record_kind.RecordKind.{RecordKind}
 use Rattle.journal_bytes.specs.declared.record_kind.RecordKind.TheVariants as kind
 use Rattle.journal_bytes.specs.Record.{behind, behind_read, cpu_in, is_read, listed_in, read_in, reads_at, reads_in, rest_of, steps_in, with_read}
 use Rattle.journal_bytes.specs.Recording.{nothing, Told}
-use Rattle.journal_bytes.specs.Rules.{added, added_by_kind, after_record, behind_kind, behind_record, body_of, entry_in, exit_in, kind_of, record_rules, rules_by_kind, rules_of, with_event}
+use Rattle.journal_bytes.specs.Rules.{added, added_by_kind, after_record, behind_kind, behind_record, body_of, entry_in, exit_in, kind_of, record_rules, rules_by_kind, rules_of}
 use Rattle.journal_bytes.specs.Grammar.{Leads, Spells, Whole}
-use Rattle.journal_bytes.specs.Sound.{IsSoundEntry, IsSoundEvent, IsSoundJournal, IsSoundRead}
-use Rattle.journal_bytes.proofs.Shrinks.{AreWithin, behind_shorter, listed_within}
+use Rattle.journal_bytes.specs.Sound.{IsSoundEvent, IsSoundJournal, IsSoundRead}
+use Rattle.journal_bytes.proofs.Shrinks.{listed_within}
 
 -- ---- reads
 

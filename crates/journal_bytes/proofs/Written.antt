@@ -1,5 +1,5 @@
 -- The bytes that are written of a boot and events within their limits are read as them.
-use Rattle.std.proofs.Common.{◌≡◌, ℕ, suc, ◌+◌, ◌^◌, ◌<◌, ◌≤◌, Bool, cond, List, [], ◌∷◌, ◌++◌, length, get_or, append_assoc, Some, None, refl, sym, subst, ap, ◌∙◌, arith}
+use Rattle.std.proofs.Common.{◌≡◌, ℕ, suc, Bool, cond, List, [], ◌∷◌, ◌++◌, length, append_assoc, Some, None, refl, sym, subst, ap, ◌∙◌, arith}
 use Rattle.std.specs.Prelude.{All, nat_eq}
 use Rattle.std.specs.List.{AllByRecursion, flat_map, starts_with}
 use Rattle.std.proofs.lemmas.Bool.{le-ltb}
@@ -18,7 +18,7 @@ use Rattle.journal_bytes.specs.Record.{end_tag}
 use Rattle.journal_bytes.specs.Recording.{nothing, Told}
 use Rattle.journal_bytes.specs.Rules.{behind_record}
 use Rattle.journal_bytes.specs.Grammar.{Leads, magic, magic_fault}
-use Rattle.journal_bytes.specs.Sound.{HasRegs, IsSoundEvent, IsSoundJournal}
+use Rattle.journal_bytes.specs.Sound.{HasRegs, IsSoundJournal}
 use Rattle.journal_bytes.specs.Spelling.{event_record, spelling, WrittenIsRead}
 use Rattle.journal_bytes.proofs.Again.{app_told, booted, boot_told, CanBeTold, event_told, IsTold}
 

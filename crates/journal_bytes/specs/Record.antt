@@ -1,6 +1,6 @@
 -- Records of a journal: the tag, the body, and what stands where in it. A boot and an application are the records of a binary
 -- trace, and a read is the body of its record `mem`. Numbers have their lowest byte first. This project's own.
-use Rattle.std.specs.Prelude.{ℕ, zero, suc, ◌+◌, List, [], ◌∷◌, drop, length, map, slice_index, nat_le, nat_lt, Bool, ◌&&◌, ◌==◌, if◌then◌else◌, Option, None, Some, is_some}
+use Rattle.std.specs.Prelude.{ℕ, zero, suc, List, [], ◌∷◌, drop, length, map, slice_index, nat_le, nat_lt, Bool, ◌&&◌, ◌==◌, if◌then◌else◌, Option, None, Some, is_some}
 use Rattle.std.specs.Option.{option_map}
 use Rattle.ns_ram.specs.declared.read.Read.{Read}
 use Rattle.smc_abi.specs.declared.regs.Regs.{Regs}

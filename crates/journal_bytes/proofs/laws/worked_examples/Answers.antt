@@ -1,10 +1,9 @@
-use Rattle.std.proofs.Common.{[], ◌∷◌, ◌++◌, inl, inr, refl, drop, Some, ℕ, List}
-use Rattle.byteorder.specs.Endian.{little_bytes}
+use Rattle.std.proofs.Common.{[], ◌∷◌, ◌++◌, inl, inr, refl}
 use Rattle.trace_text.specs.Limits.{is_image, is_known, lies_in_ram}
 use Rattle.trace_bin.specs.Grammar.{front_fault}
 use Rattle.trace_bin.specs.Record.{is_whole as is_whole_body}
 use Rattle.trace_bin.specs.Spelling.{counted}
-use Rattle.journal_bytes.specs.Examples.{answer_bytes, app_bytes, asking_bytes, behind_ram_bytes, below_ram_bytes, boot_bytes, cut_read_bytes, magic_bytes, missing_read_bytes, no_read_bytes, no_steps_bytes, second_processor_bytes, whole_bytes}
+use Rattle.journal_bytes.specs.Examples.{answer_bytes, app_bytes, asking_bytes, behind_ram_bytes, below_ram_bytes, boot_bytes, cut_read_bytes, magic_bytes, missing_read_bytes, no_read_bytes, no_steps_bytes, second_processor_bytes}
 use Rattle.journal_bytes.specs.Record.{behind, is_whole, kind_tagged, listed_in, regs_in}
 use Rattle.journal_bytes.specs.Rules.{added, after_record, behind_record, record_rules, rules_of}
 use Rattle.journal_bytes.specs.Spelling.{event_record, read_bytes}

@@ -6,7 +6,7 @@ use Rattle.ns_ram.specs.Reads.{total_bytes}
 use Rattle.trace_text.specs.Limits.{cpus_of, is_within}
 use Rattle.journal_bytes.specs.Record.{cpu_in, is_read, steps_in}
 use Rattle.journal_bytes.specs.Recording.{told_by}
-use Rattle.journal_bytes.proofs.Entries.{behind_so, cpu_broken, cut_so, few_so, has_reads, HasReads, IsFront, none_broken, place_broken, reads_broken, rules_are, steps_broken, told_so}
+use Rattle.journal_bytes.proofs.Entries.{behind_so, cpu_broken, cut_so, few_so, has_reads, IsFront, none_broken, place_broken, reads_broken, rules_are, steps_broken, told_so}
 use Rattle.journal_bytes.proofs.taking.take_entry.Goals as goal
 
 pub returns-in-Err-clause-taken : goal.returns-in-Err-clause-taken

@@ -1,7 +1,6 @@
-use Rattle.std.proofs.Common.{◌≤◌, ◌^◌, sym, subst, arith, ap}
+use Rattle.std.proofs.Common.{sym, subst, arith, ap}
 use Rattle.std.proofs.lemmas.List.Sums.{get_or-le-sum_by}
 use Rattle.event_journal.specs.Event.{copied_by}
-use Rattle.event_journal.specs.declared.event.Event.{Event}
 use Rattle.journal_bytes.specs.Sound.{AreSoundReads}
 use Rattle.journal_bytes.specs.Spelling.{event_record}
 use Rattle.trace_bin.proofs.Puts.{put_more}
