@@ -1,0 +1,117 @@
+-- From the clauses of the top call to what a call over memory comes to.
+use Rattle.std.proofs.Common.{◌≡◌, ℕ, ◌⊎◌, inl, inr, List, [], Option, Some, None, refl, sym, subst, arith}
+use Rattle.ports.specs.Port.{Appends, Rose}
+use Rattle.trace_runner.proofs.Running.{worked-statuses}
+use Rattle.trace_runner.specs.Plays.{IsSummedUp, Plays, SpellsTraces}
+use Rattle.trace_runner.specs.Run.{CanBeRefused, CanBeServed, IsRefusedWhole, IsServedWhole, Ran, Statuses, WorkStatuses, Worked, Writes, WritesSummary, usage_line}
+use Rattle.trace_runner.specs.Words.{Say, SayNothing}
+use Rattle.trace_runner.specs.declared.command.Command.TheVariants.{Serve, Work}
+use Rattle.trace_runner.specs.declared.command.Grammar.{Grammar}
+use Rattle.trace_runner.specs.declared.content.Content.{Content}
+use Rattle.trace_runner.specs.declared.status.Status.{Status}
+use Rattle.trace_runner.specs.declared.status.Status.TheVariants.{Memory, ReadFault, Usage, WriteFault}
+use Rattle.trace_runner.specs.declared.status.Status.TheVariants as status
+use Rattle.core_c.specs.Running.{IsRun, Native, built_in}
+
+-- no fault is counted
+quiet : Rose 0 0 → ⊥
+quiet rose = grind arith
+
+-- the clauses of the top call where its ports count none
+pub record Clauses (natives : List Native) (texts : List (List ℕ)) (input : List ℕ) (left : Option (List ℕ))
+    (result : Status) (old new : Option (List ℕ)) : Type 0 where
+  pub usage : result ≡ Usage → SayNothing texts × Appends old new usage_line
+  pub other_words : SayNothing texts → Writes Usage usage_line result old new
+  pub ran : (grammar : Grammar) → Say texts (Serve grammar) → Ran grammar natives input left result old new
+  pub statuses : (grammar : Grammar) → Say texts (Serve grammar) → Statuses grammar natives input left result old new
+  pub plays : (grammar : Grammar) → Say texts (Serve grammar) → SpellsTraces grammar
+      → Plays grammar natives input result old new
+  pub complete : (grammar : Grammar) → Say texts (Serve grammar) → (content : Content)
+      → CanBeServed grammar natives input content → (Rose 0 0 → ⊥) → (Rose 0 0 → ⊥)
+      → IsServedWhole natives content result old new ⊎ (result ≡ Memory)
+  pub refuses : (grammar : Grammar) → Say texts (Serve grammar) → CanBeRefused grammar natives input
+      → (Rose 0 0 → ⊥) → (Rose 0 0 → ⊥)
+      → IsRefusedWhole grammar natives input result old new ⊎ (result ≡ Memory)
+  pub worked : (seed count : ℕ) → Say texts (Work seed count) → Worked seed count result old new
+  pub work_statuses : (seed count : ℕ) → Say texts (Work seed count) → WorkStatuses seed count result old new
+  pub work_plays : (seed count : ℕ) → Say texts (Work seed count) → result ≡ status.Ok → IsSummedUp seed count old new
+  pub work_complete : (seed count : ℕ) → Say texts (Work seed count) → (Rose 0 0 → ⊥)
+      → ((result ≡ status.Ok) × WritesSummary seed count old new) ⊎ (result ≡ Memory)
+  pub reads : result ≡ ReadFault → Rose 0 0
+  pub writes : result ≡ WriteFault → Rose 0 0
+
+-- where nothing was held before
+pub of_clauses : (natives : List Native) (texts : List (List ℕ)) (input : List ℕ) (left : Option (List ℕ))
+    (result : Status) (output : List ℕ) → Clauses natives texts input left result (Some []) (Some output)
+    → IsRun natives texts input result output
+of_clauses natives texts input left result output c = record {
+  usage = c.usage;
+  other_words = c.other_words;
+  serves = λ grammar said. record {
+    left = left;
+    ran = c.ran grammar said;
+    statuses = c.statuses grammar said;
+    plays = c.plays grammar said;
+    complete = λ content can. c.complete grammar said content can quiet quiet;
+    refuses = λ can. c.refuses grammar said can quiet quiet;
+  };
+  works = λ seed count said. record {
+    worked = c.worked seed count said;
+    statuses = c.work_statuses seed count said;
+    plays = c.work_plays seed count said;
+    complete = c.work_complete seed count said quiet;
+  };
+  reads = λ e. quiet (c.reads e);
+  writes = λ e. quiet (c.writes e);
+}
+
+-- want of memory before anything was put
+unrun_so : (natives : List Native) (texts : List (List ℕ)) (input : List ℕ) → IsRun natives texts input Memory []
+unrun_so natives texts input = record {
+  usage = λ e. absurd cc;
+  other_words = λ nothing. inr (inr refl, record { part = []; rest = usage_line; cut = refl; put = refl });
+  serves = λ grammar said. record {
+    left = None;
+    ran = inl (inr refl, refl);
+    statuses = record {
+      ok = λ e. absurd cc;
+      too_long = λ e. absurd cc;
+      bad_trace = λ e. absurd cc;
+      part = λ e. inl refl;
+    };
+    plays = λ traces. record { ok = λ e. absurd cc; too_long = λ e. absurd cc };
+    complete = λ content can. inr refl;
+    refuses = λ can. inr refl;
+  };
+  works = λ seed count said. record {
+    worked = inl (refl, refl);
+    statuses = worked-statuses seed count Memory (Some []) (Some []) said.within.1 (inl (refl, refl));
+    plays = λ e. absurd cc;
+    complete = inr refl;
+  };
+  reads = λ e. absurd cc;
+  writes = λ e. absurd cc;
+}
+
+pub unrun : (natives : List Native) (texts : List (List ℕ)) (input output : List ℕ) → output ≡ []
+    → IsRun natives texts input Memory output
+unrun natives texts input output empty =
+    subst (λ (bytes : List ℕ). IsRun natives texts input Memory bytes) (sym empty) (unrun_so natives texts input)
+
+-- beside just the applications that are built in
+pub beside : (natives : List Native) (texts : List (List ℕ)) (input output : List ℕ) (result : Status)
+    → natives ≡ built_in → IsRun natives texts input result output → IsRun built_in texts input result output
+beside natives texts input output result same run =
+    subst (λ (them : List Native). IsRun them texts input result output) same run
+
+-- with these very words
+pub worded : (natives : List Native) (texts others : List (List ℕ)) (input output : List ℕ) (result : Status)
+    → texts ≡ others → IsRun natives texts input result output → IsRun natives others input result output
+worded natives texts others input output result same run =
+    subst (λ (words : List (List ℕ)). IsRun natives words input result output) same run
+
+-- over these very bytes
+pub fed : (natives : List Native) (texts : List (List ℕ)) (input other output : List ℕ) (result : Status)
+    → input ≡ other → IsRun natives texts input result output → IsRun natives texts other result output
+fed natives texts input other output result same run =
+    subst (λ (bytes : List ℕ). IsRun natives texts bytes result output) same run

@@ -1,0 +1,3 @@
+pub mod HandingOut
+pub mod Running
+pub mod Words

@@ -1,0 +1,55 @@
+-- What a call over bytes in memory comes to: it is the top call, whose source and sink count no fault.
+use Rattle.std.specs.Prelude.{◌≡◌, ◌≢◌, ℕ, ◌⊎◌, List, [], ◌∷◌, Option, Some}
+use Rattle.native_tas.specs.declared.relation.Relation.{Relation}
+use Rattle.native_tas.specs.declared.relation.Relation.TheVariants.{Digest}
+use Rattle.trace_runner.specs.Plays.{IsSummedUp, Plays, SpellsTraces}
+use Rattle.trace_runner.specs.Run.{CanBeRefused, CanBeServed, IsRefusedWhole, IsServedWhole, Ran, Statuses, WorkStatuses, Worked, Writes, WritesSummary, usage_line}
+use Rattle.trace_runner.specs.Words.{Say, SayNothing}
+use Rattle.trace_runner.specs.declared.command.Command.TheVariants.{Serve, Work}
+use Rattle.trace_runner.specs.declared.command.Grammar.{Grammar}
+use Rattle.trace_runner.specs.declared.content.Content.{Content}
+use Rattle.trace_runner.specs.declared.status.Status.{Status}
+use Rattle.trace_runner.specs.declared.status.Status.TheVariants.{Memory, ReadFault, Usage, WriteFault}
+use Rattle.trace_runner.specs.declared.status.Status.TheVariants as status
+
+-- the UUID of the digest application
+abbrev pub digest_uuid : List ℕ
+digest_uuid =
+    0x3f ∷ 0x0c ∷ 0x7a ∷ 0x11 ∷ 0x52 ∷ 0xb8 ∷ 0x4d ∷ 0x6e ∷ 0x9a ∷ 0x40 ∷ 0x0e ∷ 0x6b ∷ 0x5d ∷ 0x2c ∷ 0x8f ∷ 0x01 ∷ []
+
+-- a built-in application, by its UUID and what its function answers
+abbrev pub Native : Type 0
+Native = List ℕ × Relation
+
+-- those of the program
+abbrev pub built_in : List Native
+built_in = (digest_uuid, Digest) ∷ []
+
+-- an input that is read in this grammar, of which this is left, and what was put where nothing was held
+pub record Serves (natives : List Native) (grammar : Grammar) (input : List ℕ) (result : Status)
+    (output : List ℕ) : Type 0 where
+  pub left : Option (List ℕ)
+  pub ran : Ran grammar natives input left result (Some []) (Some output)
+  pub statuses : Statuses grammar natives input left result (Some []) (Some output)
+  pub plays : SpellsTraces grammar → Plays grammar natives input result (Some []) (Some output)
+  pub complete : (content : Content) → CanBeServed grammar natives input content
+      → IsServedWhole natives content result (Some []) (Some output) ⊎ (result ≡ Memory)
+  pub refuses : CanBeRefused grammar natives input
+      → IsRefusedWhole grammar natives input result (Some []) (Some output) ⊎ (result ≡ Memory)
+
+-- a made trace, likewise
+pub record Works (seed count : ℕ) (result : Status) (output : List ℕ) : Type 0 where
+  pub worked : Worked seed count result (Some []) (Some output)
+  pub statuses : WorkStatuses seed count result (Some []) (Some output)
+  pub plays : result ≡ status.Ok → IsSummedUp seed count (Some []) (Some output)
+  pub complete : ((result ≡ status.Ok) × WritesSummary seed count (Some []) (Some output)) ⊎ (result ≡ Memory)
+
+-- the top call of these words over this input ended with this status, and put this output
+pub record IsRun (natives : List Native) (texts : List (List ℕ)) (input : List ℕ) (result : Status)
+    (output : List ℕ) : Type 0 where
+  pub usage : result ≡ Usage → SayNothing texts × (output ≡ usage_line)
+  pub other_words : SayNothing texts → Writes Usage usage_line result (Some []) (Some output)
+  pub serves : (grammar : Grammar) → Say texts (Serve grammar) → Serves natives grammar input result output
+  pub works : (seed count : ℕ) → Say texts (Work seed count) → Works seed count result output
+  pub reads : result ≢ ReadFault
+  pub writes : result ≢ WriteFault

@@ -1,0 +1,93 @@
+//! The top call over bytes in memory.
+ghost use Rattle.std.specs.Prelude.{◌≡◌, [], map, string_bytes};
+ghost use Rattle.native_tas.specs.Table.{entries};
+ghost use Rattle.core_c.specs.Running.{IsRun, built_in};
+ghost use Rattle.core_c.specs.Words.{texts_in};
+
+use crate::growing_sink::GrowingSink;
+use crate::slice_source::SliceSource;
+use crate::words::words_in;
+use native_tas::{Native, Natives, Relation, digest};
+use std::alloc::Global;
+use trace_runner::{Status, run};
+use uuid::Uuid;
+
+/// The UUID of the digest application, which is built in.
+const DIGEST_UUID: [u8; 16] = [
+    0x3f, 0x0c, 0x7a, 0x11, 0x52, 0xb8, 0x4d, 0x6e, 0x9a, 0x40, 0x0e, 0x6b, 0x5d, 0x2c, 0x8f, 0x01,
+];
+
+/// How a call ended, and what it has put.
+#[derive(Drop)]
+pub struct Outcome {
+    pub status: Status,
+    pub output: Vec<u8>,
+}
+
+/// The top call, beside these built-in applications.
+fn run_beside(
+    alloc: Global,
+    words: &[String],
+    input: &mut SliceSource<'_>,
+    out: &mut GrowingSink,
+    natives: &Natives,
+) -> Status
+    requires { out.old.held.items ≡ [] }
+    ensures { IsRun (entries natives.now) (map string_bytes words.now) input.old.left.now result out.new.held.items }
+{
+    run(alloc, words, input, out, natives)
+}
+
+/// The top call, beside the built-in applications of the program.
+#[tactic(auto, using(crate::proofs::Runs::unrun, crate::proofs::Runs::beside))]
+fn run_words(
+    alloc: Global,
+    words: &[String],
+    input: &mut SliceSource<'_>,
+    out: &mut GrowingSink,
+) -> Status
+    requires { out.old.held.items ≡ [] }
+    ensures { IsRun built_in (map string_bytes words.now) input.old.left.now result out.new.held.items }
+{
+    let mut natives = Natives::new(alloc);
+    let digest = Native {
+        uuid: Uuid::from_bytes(DIGEST_UUID),
+        relation: Relation::Digest,
+        call: digest,
+    };
+    match natives.add(digest) {
+        Ok(()) => run_beside(alloc, words, input, out, &natives),
+        Err(_) => Status::Memory,
+    }
+}
+
+/// The top call with the words of a line.
+#[tactic(auto, using(crate::proofs::Runs::unrun, crate::proofs::Runs::worded))]
+fn run_line(
+    alloc: Global,
+    line: &[u8],
+    input: &mut SliceSource<'_>,
+    out: &mut GrowingSink,
+) -> Status
+    requires { out.old.held.items ≡ [] }
+    ensures { IsRun built_in (texts_in line.now) input.old.left.now result out.new.held.items }
+{
+    match words_in(alloc, line) {
+        Ok(words) => run_words(alloc, words.as_slice(), input, out),
+        Err(_) => Status::Memory,
+    }
+}
+
+/// The top call with the words of a line, over these bytes.
+#[tactic(auto, using(crate::proofs::Runs::fed))]
+pub fn outcome_of(alloc: Global, line: &[u8], input: &[u8]) -> Outcome
+    ensures { IsRun built_in (texts_in line.now) input.now result.status result.output.items }
+{
+    let mut source = SliceSource::new(input);
+    let mut sink = GrowingSink::new(alloc);
+    let status = run_line(alloc, line, &mut source, &mut sink);
+    Outcome {
+        status,
+        output: sink.held,
+    }
+}
