@@ -1,0 +1,4 @@
+pub mod Answering
+pub mod Candidate
+pub mod Examples
+pub mod Holding
