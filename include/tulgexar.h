@@ -19,7 +19,7 @@ enum tulgexar_status {
     TULGEXAR_USAGE = 2,
     /* The input leaves its grammar. The line `bad trace PLACE KIND` of its first fault is in the buffer. */
     TULGEXAR_BAD_TRACE = 3,
-    /* Want of memory. What was printed before is in the buffer, also nothing. The same call may be made again. */
+    /* Want of memory. A part from the front of the text is in the buffer, also nothing. The same call may be made again. */
     TULGEXAR_MEMORY = 6,
     /* The input has more than 2^24 bytes, or more than 65,536 lines `smc` and `enter`, and the buffer has nothing; or
      * its entries would have read more than 2^28 bytes of RAM, and what came before is in the buffer. */
