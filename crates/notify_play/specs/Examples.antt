@@ -12,6 +12,7 @@ use Rattle.native_tas.specs.declared.relation.Relation.TheVariants.{Digest}
 use Rattle.notif.specs.Desk.{DeskState}
 use Rattle.notif.specs.History.{BottomHalf, Enable, Next, Signal, Stop}
 use Rattle.notify_text.specs.Rules.{after_line, no_trace}
+use Rattle.notify_text.specs.Steps.{Signals}
 use Rattle.notify_text.specs.declared.notify_trace.NotifyTrace.{NotifyTrace}
 use Rattle.ns_ram.specs.Examples.{read_of}
 use Rattle.play_model.specs.Examples.{lines}
@@ -20,6 +21,7 @@ use Rattle.play_model.specs.Text.{text_of_play}
 use Rattle.ta_isa.specs.declared.boot.Boot.{Boot}
 use Rattle.trace_text.specs.Limits.{empty_trace}
 use Rattle.trace_text.specs.Rules as trace
+use Rattle.notify_play.specs.Asked.{asked, signalled}
 use Rattle.notify_play.specs.Duty.{Duty, Enables, Nothing, Offers, RunsBottomHalf, Stops, TellsValue, duty_of, last_entry}
 use Rattle.notify_play.specs.NotifyPlay.{Drivers, NotifyPlay, notify_played_over}
 use Rattle.notify_play.specs.Parts.{enabled_twice, enabled_twice_output, more_pending, more_pending_output}
@@ -189,6 +191,53 @@ pub record Examples : Type 0 where
       ∷ codes "ret 0 00000000 00000009 00000001 00000000 00000000 00000000 00000000 00000000"
       ∷ codes "ret 0 ffffffff 00000000 00000000 00000000 00000009 00000001 00000000 00000000"
       ∷ [])
+  -- one between the entry and the exit of the call that enables isn't noted, since signals don't count yet
+  pub before_enabling : prints 64 (
+      boot_line
+      ∷ codes "enter 0 1 b2000010 0 0 0 0 0 0 0"
+      ∷ codes "signal 5"
+      ∷ codes "leave 0"
+      ∷ codes "signal 9"
+      ∷ get_line
+      ∷ [])
+      ≡ lines (
+      codes "ret 0 00000000 00000000 00000000 00000000 00000000 00000000 00000000 00000000"
+      ∷ codes "ret 0 00000000 00000009 00000001 00000000 00000000 00000000 00000000 00000000"
+      ∷ [])
+  -- one between the entry and the exit of a bottom half is counted with one before
+  pub during_bottom_half : prints 64 (
+      boot_line
+      ∷ enable_line
+      ∷ codes "signal 1"
+      ∷ codes "write 0 40000000 0600000000000000000000000000000000000000000000000000000000000000"
+      ∷ codes "enter 0 1 32000004 0 40000000 0 0 0 0 0"
+      ∷ codes "signal 1"
+      ∷ codes "leave 0"
+      ∷ codes "show 0 40000014 8"
+      ∷ [])
+      ≡ lines (
+      codes "ret 0 00000000 00000000 00000000 00000000 00000000 00000000 00000000 00000000"
+      ∷ codes "ret 0 00000000 00000000 00000000 00000000 00000000 00000000 00000000 00000000"
+      ∷ codes "mem 0 40000014 0200000003000000"
+      ∷ [])
+  -- an exit belongs to its own processor's last entry, where another one came in between: processor 0 asks for a value,
+  -- and processor 1 calls an unknown function
+  pub of_two_processors : prints 64 (
+      codes "boot 2 1 1"
+      ∷ enable_line
+      ∷ codes "signal 9"
+      ∷ codes "enter 0 1 b2000011 0 0 0 0 0 0 0"
+      ∷ codes "enter 1 1 99 0 0 0 0 0 0 0"
+      ∷ codes "leave 0"
+      ∷ get_line
+      ∷ codes "leave 1"
+      ∷ [])
+      ≡ lines (
+      codes "ret 0 00000000 00000000 00000000 00000000 00000000 00000000 00000000 00000000"
+      ∷ codes "ret 0 00000000 00000009 00000001 00000000 00000000 00000000 00000000 00000000"
+      ∷ codes "ret 0 00000000 00000000 00000000 00000000 00000000 00000000 00000000 00000000"
+      ∷ codes "ret 1 ffffffff 00000000 00000000 00000000 00000000 00000000 00000000 00000000"
+      ∷ [])
   -- a signal before enabling and one before a stop are gone; the calls of the desk, the last one first
   pub stopped : prints 64 (
       (boot_line ∷ codes "signal 9" ∷ enable_line ∷ codes "signal 1" ∷ []) ++ stop_lines ++ bottom_half_lines
@@ -204,6 +253,15 @@ pub record Examples : Type 0 where
   pub calls_of_desk : option_map (λ (told : NotifyPlay). told.calls) (play_of 64 (
       (boot_line ∷ codes "signal 9" ∷ enable_line ∷ get_line ∷ []) ++ bottom_half_lines ++ stop_lines))
       ≡ Some (Stop ∷ BottomHalf ∷ Next ∷ Enable ∷ Signal 9 ∷ [])
+  -- what asks for them: of two steps the later signal stands first; and exits ask, here to enable, and then for a bottom half
+  pub signalled_last : signalled (Signals 5 ∷ Signals 9 ∷ []) ≡ 9 ∷ 5 ∷ []
+  pub asked_last : asked [] (
+      came_for 0xb2000010 0
+      ∷ Exit 0 (record { a = answer 0xffffffff })
+      ∷ came_for 0x32000004 6
+      ∷ Exit 0 (record { a = answer 5 })
+      ∷ [])
+      ≡ BottomHalf ∷ Enable ∷ []
   -- the command is the one that the entry copied, and its result goes to the head that was read
   pub copied_at_entry : prints 64 (
       boot_line

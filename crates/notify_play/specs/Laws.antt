@@ -1,24 +1,26 @@
 -- What holds of each play of a trace with signals.
-use Rattle.std.specs.Prelude.{◌≡◌, ℕ, List, Some}
+use Rattle.std.specs.Prelude.{◌≡◌, ℕ, List, ◌++◌, None, Some}
 use Rattle.std.specs.Option.{option_map}
+use Rattle.event_journal.specs.declared.event.Event.{Event}
 use Rattle.kernel_model.specs.Application.{Booted, IsBooted, Native, booted}
 use Rattle.kernel_model.specs.Exit.{Exited, exit}
 use Rattle.kernel_model.specs.History.{IsLegal, kernel_after}
 use Rattle.kernel_model.specs.Laws.{FindsNoCall, FindsNoSlot}
 use Rattle.notif.specs.Desk.{driver_calls}
-use Rattle.notif.specs.History.{owed_calls}
+use Rattle.notif.specs.History.{DeskCall, owed_calls}
 use Rattle.notify_text.specs.Steps.{Step}
 use Rattle.play_model.specs.Laws.{AloneIn, ReturnsIn, ToldIn}
 use Rattle.play_model.specs.Play.{first_play, leaves}
 use Rattle.play_model.specs.TrueToKernel.{ExitsIn}
 use Rattle.ta_isa.specs.declared.boot.Boot.{Boot}
 use Rattle.trace_text.specs.declared.trace.Fill.{Fill}
+use Rattle.notify_play.specs.Asked.{asked, others_among, signalled, signals_among, taken}
 use Rattle.notify_play.specs.Duty.{Nothing}
 use Rattle.notify_play.specs.NotifyPlay.{Drivers, NotifyPlay, after_steps, desk_of, duty_at, first_notify_play, goes_out}
 
 -- what holds of a play with signals, whatever was signalled
 pub record IsNotifyPlay (boot : Booted) (drivers : Drivers) (told : NotifyPlay) : Type 0 where
-  -- its history is one of the written kernel, whose kernel it has
+  -- its history is legal from the boot, and leads to its kernel
   pub legal : IsLegal boot told.play.history
   pub kernel : kernel_after boot told.play.history ≡ Some told.play.kernel
   -- and keeps the kernel's own answers: each exit in it has the registers that the kernel gives after the events before
@@ -30,8 +32,8 @@ pub record IsNotifyPlay (boot : Booted) (drivers : Drivers) (told : NotifyPlay) 
   pub no_slot : ToldIn boot told.play.history 1 FindsNoSlot
   -- sessions that share no instance were answered as alone
   pub alone : AloneIn boot told.play.history
-  -- by the calls of its desk, a bottom half that comes next calls exactly the drivers that were signalled, while the desk was
-  -- enabled, since the last bottom half or stop, each with the number of these signals, at most 2^32 - 1
+  -- a bottom half that comes next calls exactly the drivers that were signalled, while the desk was enabled, since the last
+  -- bottom half or stop, each with the number of these signals, at most 2^32 - 1 (its desk's calls: `StepsCallDesk`)
   pub bottom_half : driver_calls (desk_of drivers told) ≡ owed_calls drivers told.calls
 
 -- each play of steps is one, whatever RAM holds at first; and so at each place of a trace, where a bottom half may come,
@@ -43,6 +45,25 @@ StepsArePlayed =
     (let on = booted boot natives in
     after_steps on drivers steps (first_notify_play on (first_play ram on fills)) ≡ Some told →
     IsNotifyPlay on drivers told)
+
+-- of two plays, of which one comes of the other, where these values were signalled between them, the last one first
+pub record CallsBetween (values : List ℕ) (before after : NotifyPlay) : Type 0 where
+  -- the events that came, and the calls of the desk that were made, the last one first
+  pub events : List Event
+  pub history : after.play.history ≡ before.play.history ++ events
+  pub made : List DeskCall
+  pub calls : after.calls ≡ made ++ before.calls
+  -- of these calls the signals are those values, and the others are what the exits among the events ask
+  pub signals : signals_among made ≡ values
+  pub others : others_among made ≡ asked before.play.history events
+
+-- from each play, so also over a part of the steps or over one of them, the desk gets each signal of the steps that are
+-- taken, in their order, and what the exits ask, in theirs, and nothing else; all steps are taken unless an entry is refused
+abbrev pub StepsCallDesk : Type 0
+StepsCallDesk = (boot : Booted) (drivers : Drivers) (steps : List Step) (before after : NotifyPlay) →
+    after_steps boot drivers steps before ≡ Some after →
+    CallsBetween (signalled (taken boot drivers steps before)) before after
+    × (after.play.refused ≡ None → taken boot drivers steps before ≡ steps)
 
 -- an exit that asks nothing of the desk comes to the kernel, the RAM and the lines to which it comes without signals
 abbrev pub OtherExitsStay : Type 0

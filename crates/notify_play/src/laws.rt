@@ -1,14 +1,19 @@
 //! What holds of the definitions themselves.
 ghost use Rattle.notify_play.specs.Examples.{Examples};
-ghost use Rattle.notify_play.specs.Laws.{OtherExitsStay, StepsArePlayed};
+ghost use Rattle.notify_play.specs.Laws.{OtherExitsStay, StepsArePlayed, StepsCallDesk};
 
 /// Whatever was signalled, the history of each play is legal and keeps the kernel's own answers, from which follows
-/// what holds of each legal history, isolation among it. Among the calls of its desk, of which the signals are some, a
-/// bottom half that comes next calls exactly the drivers that were signalled, while the desk was enabled, since the last
-/// bottom half or stop, each with the number of these signals, at most 2^32 - 1. That the desk has just the trace's
-/// signals is what the definition of a step does, and no law says it again.
+/// what holds of each legal history, isolation among it. A bottom half that comes next calls exactly the drivers that were
+/// signalled, while the desk was enabled, since the last bottom half or stop, each with the number of these signals, at
+/// most 2^32 - 1; that the desk's signals are the trace's, [`steps_call_desk`] says.
 pub fn steps_are_played()
     ensures { StepsArePlayed }
+{}
+
+/// From each play on, the desk gets exactly the signals of the steps that are taken, in their order, and what the exits
+/// of the history ask of it, in theirs. All steps are taken, unless an entry is refused: none behind that is.
+pub fn steps_call_desk()
+    ensures { StepsCallDesk }
 {}
 
 /// An exit that asks nothing of the desk comes to the kernel, the RAM and the lines to which it comes without signals.
