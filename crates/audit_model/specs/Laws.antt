@@ -1,0 +1,25 @@
+-- Laws of the definitions.
+use Rattle.std.specs.Prelude.{◌≡◌, ℕ, List}
+use Rattle.event_journal.specs.declared.event.Event.{Event}
+use Rattle.kernel_model.specs.Application.{Booted}
+use Rattle.audit_model.specs.declared.verdict.Compared.{Compared}
+use Rattle.audit_model.specs.declared.verdict.Compared.TheVariants.{Same}
+use Rattle.audit_model.specs.declared.verdict.Verdict.{Verdict}
+use Rattle.audit_model.specs.Comparing.{IsComparedAs, Pair, replies_in}
+use Rattle.audit_model.specs.Verdicts.{CanBegin, IsFaultless, IsVerdict}
+
+-- events that some faultless history begins with are one themselves: none of them needs what comes behind it
+abbrev pub PrefixesCanBe : Type 0
+PrefixesCanBe = (boot : Booted) (events : List Event) → CanBegin boot events → IsFaultless boot events
+
+-- two verdicts on one journal are the same
+abbrev pub OneVerdict : Type 0
+OneVerdict = (boot : Booted) (events : List Event) (one other : Verdict) → IsVerdict boot events one → IsVerdict boot events other → one ≡ other
+
+-- two answers on two journals and a session are the same
+abbrev pub OneComparison : Type 0
+OneComparison = (pair : Pair) (one other : Compared) → IsComparedAs pair one → IsComparedAs pair other → one ≡ other
+
+-- where two journals show the same of a session, it was answered the same
+abbrev pub SameGivesSameReplies : Type 0
+SameGivesSameReplies = (pair : Pair) (count : ℕ) → IsComparedAs pair (Same count) → replies_in pair pair.one ≡ replies_in pair pair.two

@@ -1,0 +1,35 @@
+//! Laws of the definitions, each the contract of a function that does nothing.
+
+ghost use Rattle.audit_model.specs.CompareExamples.{CompareExamples};
+ghost use Rattle.audit_model.specs.Laws.{OneComparison, OneVerdict, PrefixesCanBe, SameGivesSameReplies};
+ghost use Rattle.audit_model.specs.VerdictExamples.{VerdictExamples};
+
+/// Events that a legal and steady history begins with are one.
+pub fn prefixes_can_be()
+    ensures { PrefixesCanBe }
+{}
+
+/// A journal has one verdict at most.
+pub fn one_verdict()
+    ensures { OneVerdict }
+{}
+
+/// Two journals have one answer at most.
+pub fn one_comparison()
+    ensures { OneComparison }
+{}
+
+/// Where two journals show the same of a session, it was answered the same in both.
+pub fn same_journals_give_same_replies()
+    ensures { SameGivesSameReplies }
+{}
+
+/// Verdicts on journals that were worked out by hand.
+pub fn verdict_examples()
+    ensures { VerdictExamples }
+{}
+
+/// What two journals show of a session, worked out by hand.
+pub fn compared_examples()
+    ensures { CompareExamples }
+{}
