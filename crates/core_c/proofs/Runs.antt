@@ -3,14 +3,15 @@ use Rattle.std.proofs.Common.{◌≡◌, ℕ, ◌⊎◌, inl, inr, List, [], Opt
 use Rattle.ports.specs.Port.{Appends, Rose}
 use Rattle.trace_runner.proofs.Running.{worked-statuses}
 use Rattle.trace_runner.specs.Plays.{IsSummedUp, Plays, SpellsTraces}
-use Rattle.trace_runner.specs.Run.{CanBeRefused, CanBeServed, IsRefusedWhole, IsServedWhole, Ran, Statuses, WorkStatuses, Worked, Writes, WritesSummary, usage_line}
+use Rattle.trace_runner.specs.Run.{CanBeRefused, CanBeServed, IsRefusedWhole, IsServedWhole, Ran, Statuses, WorkStatuses, Worked, WritesSummary, usage_line}
+use Rattle.word_parts.specs.Answer.{Writes}
 use Rattle.trace_runner.specs.Words.{Say, SayNothing}
 use Rattle.trace_runner.specs.declared.command.Command.TheVariants.{Serve, Work}
 use Rattle.trace_runner.specs.declared.command.Grammar.{Grammar}
 use Rattle.trace_runner.specs.declared.content.Content.{Content}
-use Rattle.trace_runner.specs.declared.status.Status.{Status}
-use Rattle.trace_runner.specs.declared.status.Status.TheVariants.{Memory, ReadFault, Usage, WriteFault}
-use Rattle.trace_runner.specs.declared.status.Status.TheVariants as status
+use Rattle.word_parts.specs.declared.status.Status.{Status}
+use Rattle.word_parts.specs.declared.status.Status.TheVariants.{Memory, ReadFault, Usage, WriteFault}
+use Rattle.word_parts.specs.declared.status.Status.TheVariants as status
 use Rattle.core_c.specs.Running.{IsRun, Native, built_in}
 
 -- no fault is counted

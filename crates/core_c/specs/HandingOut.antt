@@ -1,7 +1,7 @@
 -- What C is handed.
 use Rattle.std.specs.Prelude.{◌≡◌, ℕ, ◌<◌, ◌≤◌, List, ◌++◌, drop, length, take}
-use Rattle.trace_runner.specs.Status.{number_of}
-use Rattle.trace_runner.specs.declared.status.Status.{Status}
+use Rattle.word_parts.specs.Status.{number_of}
+use Rattle.word_parts.specs.declared.status.Status.{Status}
 use Rattle.core_c.specs.Running.{IsRun, built_in}
 use Rattle.core_c.specs.Words.{texts_in}
 

@@ -27,8 +27,8 @@ use Rattle.trace_runner.specs.Starting.{IsAtStart}
 use Rattle.trace_runner.specs.declared.digesting.Digested.{Digested}
 use Rattle.trace_runner.specs.declared.summary.AnswerCounts.{AnswerCounts}
 use Rattle.trace_runner.specs.declared.player.Player.{Player}
-use Rattle.trace_runner.specs.declared.player.Stop.{Stop}
-use Rattle.trace_runner.specs.declared.player.Stop.TheVariants.{Full}
+use Rattle.word_parts.specs.declared.stop.Stop.{Stop}
+use Rattle.word_parts.specs.declared.stop.Stop.TheVariants.{Full}
 use Rattle.trace_runner.proofs.Playable.{Playing, playing-first, playing-more, playing-refused}
 
 -- the items so far were played, the hasher holds their text, and no line is held

@@ -1,7 +1,6 @@
 -- Items played one after the other, whose lines are gathered before they are put.
 use Rattle.std.proofs.Common.{◌≡◌, ℕ, ◌+◌, ◌<◌, ◌≤◌, inr, List, [], ◌++◌, length, get_or, Option, Some, refl, sym, ap, subst, ◌∙◌, append_assoc}
 use Rattle.std.specs.Prelude.{IsSomeAnd, Result, Ok, Err}
-use Rattle.std.proofs.lemmas.List.{append-nil}
 use Rattle.kernel_model.specs.Application.{Booted, Native, booted}
 use Rattle.play_model.specs.Play.{Play, after_item}
 use Rattle.play_model.specs.Text.{text_of}
@@ -9,26 +8,16 @@ use Rattle.ports.specs.Port.{Appends}
 use Rattle.ports.specs.PortLaws.{Appends-nil, Appends-trans}
 use Rattle.trace_text.specs.declared.item.Item.{Item}
 use Rattle.trace_text.specs.declared.trace.Trace.{Trace}
-use Rattle.trace_runner.specs.Gathering.{EndsAs, PutsBut, PutsLines, PutsOrKeeps}
-use Rattle.trace_runner.specs.Output.{AppendsPart}
+use Rattle.word_parts.specs.Gathering.{EndsAs, PutsBut, PutsLines, PutsOrKeeps}
+use Rattle.word_parts.specs.Output.{AppendsPart}
 use Rattle.trace_runner.specs.Playing.{Follows, IsPlayedTo}
 use Rattle.trace_runner.specs.Run.{IsTold}
 use Rattle.trace_runner.specs.Starting.{IsAtStart}
 use Rattle.trace_runner.specs.declared.player.Player.{Player}
-use Rattle.trace_runner.specs.declared.player.Stop.{Stop}
-use Rattle.trace_runner.specs.declared.player.Stop.TheVariants.{Full, Failed, Memory}
+use Rattle.word_parts.specs.declared.stop.Stop.{Stop}
+use Rattle.word_parts.specs.declared.stop.Stop.TheVariants.{Full, Failed, Memory}
 use Rattle.trace_runner.proofs.Playable.{Playing, playing-ended, playing-first, playing-more, playing-part, playing-refused}
-use Rattle.trace_runner.proofs.PuttingLemmas.{AppendsPart-nothing, AppendsPart-then}
-
--- ---- lines
-
--- all lines were put
-pub put-all : (lines : List ℕ) (old new : Option (List ℕ)) → Appends old new lines → PutsBut [] old new lines
-put-all lines old new put = record { part = lines; cut = sym (append-nil lines); put = put }
-
--- none was
-pub put-none : (lines : List ℕ) (a : Option (List ℕ)) → PutsBut lines a a lines
-put-none lines a = record { part = []; cut = refl; put = Appends-nil a }
+use Rattle.word_parts.proofs.PuttingLemmas.{AppendsPart-nothing, AppendsPart-then, put-none}
 
 -- ---- what was told
 

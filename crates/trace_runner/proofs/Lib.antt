@@ -1,5 +1,3 @@
-pub mod ReadingLemmas
-pub mod PuttingLemmas
 pub mod Answers
 pub mod Played
 pub mod Moved

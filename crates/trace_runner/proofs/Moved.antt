@@ -18,14 +18,15 @@ use Rattle.trace_text.specs.declared.item.Item.TheVariants as item
 use Rattle.trace_text.specs.declared.item.Reg.{Reg}
 use Rattle.core_machine.specs.Laws.{MachinesStand, TurnsAreTaken}
 use Rattle.core_machine.specs.Moving.{EntersAt, LeavesAt}
-use Rattle.trace_runner.specs.Playing.{AreLast, ComesIn, Follows, GoesOut, IsPlayedTo, Prints, stop_of}
+use Rattle.trace_runner.specs.Playing.{AreLast, ComesIn, Follows, GoesOut, IsPlayedTo, Prints}
+use Rattle.word_parts.specs.Stop.{stop_of}
 use Rattle.core_machine.specs.Standing.{CanCome, IsAt, play_of}
 use Rattle.core_machine.specs.Turns.{ComeInTurn, MayCome, insides}
 use Rattle.kernel_entry.specs.Visiting.{coming_of}
 use Rattle.core_machine.specs.declared.machine.Machine.{Machine}
 use Rattle.trace_runner.specs.declared.player.Player.{Player}
-use Rattle.trace_runner.specs.declared.player.Stop.{Stop}
-use Rattle.trace_runner.specs.declared.player.Stop.TheVariants.{Full, Failed, Memory}
+use Rattle.word_parts.specs.declared.stop.Stop.{Stop}
+use Rattle.word_parts.specs.declared.stop.Stop.TheVariants.{Full, Failed, Memory}
 use Rattle.core_machine.specs.declared.smc.Smc.{Smc}
 use Rattle.core_machine.specs.declared.smc.Smc.TheVariants.{Comes, Leaves}
 use Rattle.kernel_entry.specs.declared.visitor.Visitor.{Visitor}

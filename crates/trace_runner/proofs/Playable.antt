@@ -26,7 +26,7 @@ use Rattle.trace_runner.specs.Starting.{IsAtStart, trace_of}
 use Rattle.core_machine.specs.Standing.{IsAt, begun}
 use Rattle.core_machine.specs.declared.machine.Machine.{Machine}
 use Rattle.trace_runner.specs.declared.player.Player.{Player}
-use Rattle.trace_runner.specs.declared.player.Stop.TheVariants.{Full}
+use Rattle.word_parts.specs.declared.stop.Stop.TheVariants.{Full}
 use Rattle.trace_runner.proofs.Played.{Written, Written-more, Written-part, Written-refused, items-split}
 use Rattle.trace_runner.proofs.Running.{refused-played, text-played}
 

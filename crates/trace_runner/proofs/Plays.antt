@@ -16,15 +16,16 @@ use Rattle.trace_text.specs.declared.trace.Trace.{Trace}
 use Rattle.workload.specs.Work.{made_boot, made_trace}
 use Rattle.trace_runner.specs.Content.{CanBeBooted, CanBePlayed, Spells, refused_by, text_for}
 use Rattle.trace_runner.specs.Plays.{IsPlayed, IsPrinted, IsPrintedBy, IsSummedUp, IsUnplayed, Plays, SpellsTraces}
-use Rattle.trace_runner.specs.Run.{IsServedBy, Ran, Worked, Writes, status_of_play, uuids_of}
-use Rattle.trace_runner.specs.Line.{bad_trace_line}
+use Rattle.trace_runner.specs.Run.{IsServedBy, Ran, Worked, uuids_of}
+use Rattle.word_parts.specs.Answer.{Writes, status_of_play}
+use Rattle.word_parts.specs.Line.{bad_trace_line}
 use Rattle.trace_runner.specs.declared.content.Content.{Content}
 use Rattle.trace_runner.specs.declared.content.Content.TheVariants as content
 use Rattle.trace_runner.specs.declared.command.Grammar.{Grammar}
 use Rattle.trace_runner.specs.declared.command.Grammar.TheVariants.{Text, Records, Assembler}
-use Rattle.trace_runner.specs.declared.status.Status.{Status}
-use Rattle.trace_runner.specs.declared.status.Status.TheVariants.{BadTrace, ReadFault, WriteFault, Memory, TooLong}
-use Rattle.trace_runner.specs.declared.status.Status.TheVariants as status
+use Rattle.word_parts.specs.declared.status.Status.{Status}
+use Rattle.word_parts.specs.declared.status.Status.TheVariants.{BadTrace, ReadFault, WriteFault, Memory, TooLong}
+use Rattle.word_parts.specs.declared.status.Status.TheVariants as status
 use Rattle.trace_runner.proofs.Played.{some-and}
 use Rattle.trace_runner.proofs.Running.{writes-named}
 

@@ -12,21 +12,24 @@ use Rattle.trace_text.specs.declared.trace.Trace.{Trace}
 use Rattle.made_play.specs.Summary.{made_play, summary_of, summary_of_play}
 use Rattle.made_play.proofs.Ends.{law as made_plays_end}
 use Rattle.trace_runner.specs.Content.{IsTooLarge, Spells, refused_by, refused_for, refused_in, text_for}
-use Rattle.trace_runner.specs.Input.{IsAtEnd}
-use Rattle.trace_runner.specs.Line.{bad_trace_line}
-use Rattle.trace_runner.specs.Output.{AppendsPart}
-use Rattle.trace_runner.specs.Run.{Answered, CanBeRefused, CanBeServed, IsBad, IsDone, IsRefusedWhole, IsServedBy, IsServedWhole, IsTold, IsTooLong, IsTooMuch, Ran, Statuses, WorkStatuses, Worked, Writes, WritesPart, WritesSummary, WritesText, status_of, status_of_play, uuids_of}
+use Rattle.word_parts.specs.Input.{IsAtEnd}
+use Rattle.word_parts.specs.Line.{bad_trace_line}
+use Rattle.word_parts.specs.Output.{AppendsPart}
+use Rattle.trace_runner.specs.Run.{Answered, CanBeRefused, CanBeServed, IsBad, IsDone, IsRefusedWhole, IsServedBy, IsServedWhole, IsTold, IsTooMuch, Ran, Statuses, WorkStatuses, Worked, WritesPart, WritesSummary, WritesText, uuids_of}
+use Rattle.word_parts.specs.Answer.{Writes, status_of, status_of_play}
+use Rattle.word_parts.specs.Input.{IsTooLong}
+use Rattle.word_parts.proofs.Answering.{is-short, long-refused, ok-refused, other-status, refused-status, writes-named, writes-part, writes-whole}
 use Rattle.trace_runner.proofs.Played.{some-and}
 use Rattle.trace_runner.proofs.Readings.{EveryInput}
 use Rattle.trace_runner.specs.declared.content.Content.{Content}
 use Rattle.trace_runner.specs.declared.content.Content.TheVariants as variant
 use Rattle.trace_runner.specs.declared.command.Grammar.{Grammar}
-use Rattle.trace_runner.specs.declared.player.Stop.{Stop}
-use Rattle.trace_runner.specs.declared.player.Stop.TheVariants.{Full, Failed}
-use Rattle.trace_runner.specs.declared.player.Stop.TheVariants as stop
-use Rattle.trace_runner.specs.declared.status.Status.TheVariants.{BadTrace, ReadFault, WriteFault, Memory, TooLong}
-use Rattle.trace_runner.specs.declared.status.Status.TheVariants as status
-use Rattle.trace_runner.specs.declared.status.Status.{Status}
+use Rattle.word_parts.specs.declared.stop.Stop.{Stop}
+use Rattle.word_parts.specs.declared.stop.Stop.TheVariants.{Full, Failed}
+use Rattle.word_parts.specs.declared.stop.Stop.TheVariants as stop
+use Rattle.word_parts.specs.declared.status.Status.TheVariants.{BadTrace, ReadFault, WriteFault, Memory, TooLong}
+use Rattle.word_parts.specs.declared.status.Status.TheVariants as status
+use Rattle.word_parts.specs.declared.status.Status.{Status}
 
 -- ---- reading
 
@@ -71,10 +74,6 @@ and-more : {X : Type 0} (P Q : X → Type 0) (o : Option X) → ((x : X) → P x
 and-more P Q (Some x) goes p = goes x p
 and-more P Q None goes p = absurd p
 
-refused-status : (o : Option ℕ) → IsSome o → status_of_play o ≡ TooLong
-refused-status (Some more) some = refl
-refused-status None some = absurd cc
-
 -- what a play has told is what it writes
 pub told-writes : (natives : List Native) (trace : Trace) (stopped : Result (Unit {0}) Stop)
     (old new : Option (List ℕ)) → IsTold natives trace stopped old new
@@ -92,28 +91,6 @@ told-writes natives trace (Err stop.Memory) old new (inr told) =
     inr (and-more (AppendsPart old new) _ (text_of natives trace) (λ text part. inr (inr refl, part)) told)
 
 -- ---- each status
-
--- the status is one, and no other
-pub writes-named : (named : Status) (text : List ℕ) (result : Status) (old new : Option (List ℕ))
-    → Writes named text result old new
-    → (result ≡ WriteFault → ⊥) → (result ≡ Memory → ⊥) → (result ≡ named) × Appends old new text
-writes-named named text result old new (inl whole) no_fault no_want = whole
-writes-named named text result old new (inr ((inl fault), part)) no_fault no_want = absurd (no_fault fault)
-writes-named named text result old new (inr ((inr want), part)) no_fault no_want = absurd (no_want want)
-
-writes-part : (named : Status) (text : List ℕ) (result : Status) (old new : Option (List ℕ))
-    → Writes named text result old new
-    → (result ≡ named → ⊥) → AppendsPart old new text
-writes-part named text result old new (inl whole) other = absurd (other whole.0)
-writes-part named text result old new (inr part) other = part.1
-
-ok-refused : (o : Option ℕ) → status.Ok ≡ status_of_play o → o ≡ None
-ok-refused None e = refl
-ok-refused (Some more) e = absurd cc
-
-long-refused : (o : Option ℕ) → TooLong ≡ status_of_play o → IsSome o
-long-refused None e = absurd cc
-long-refused (Some more) e = refl
 
 -- at 0
 served-ok : (grammar : Grammar) (natives : List Native) (input : List ℕ) (content : Content) (old new : Option (List ℕ))
@@ -208,16 +185,6 @@ ran-bad grammar natives input left old new (inr (inr (short, ended, inr (inr ser
     absurd (served-bad natives served.content old new served.served)
 
 -- at WriteFault and Memory
-is-short : (result : Status) → (result ≡ WriteFault) ⊎ (result ≡ Memory) → (result ≡ status.Ok → ⊥)
-    × (result ≡ BadTrace → ⊥) × (result ≡ TooLong → ⊥)
-is-short result (inl e) = (λ other. absurd cc, λ other. absurd cc, λ other. absurd cc)
-is-short result (inr e) = (λ other. absurd cc, λ other. absurd cc, λ other. absurd cc)
-
-other-status : (o : Option ℕ) (result : Status) → (result ≡ status.Ok → ⊥) × (result ≡ BadTrace → ⊥)
-    × (result ≡ TooLong → ⊥) → result ≡ status_of_play o → ⊥
-other-status None result other e = other.0 e
-other-status (Some more) result other e = other.2 e
-
 served-part : (grammar : Grammar) (natives : List Native) (input : List ℕ) (content : Content) (result : Status) (old new : Option (List ℕ))
     → Spells grammar (uuids_of natives) input content
     → (result ≡ WriteFault) ⊎ (result ≡ Memory) → IsServedBy natives content result old new
@@ -268,13 +235,6 @@ told-statuses grammar natives (Some input) left result old new ran = ran-statuse
 told-statuses grammar natives None left result old new ran = tt
 
 -- ---- completeness
-
-writes-whole : (text : List ℕ) (result : Status) (old new : Option (List ℕ)) → Writes status.Ok text result old new
-    → (result ≡ WriteFault → ⊥)
-    → ((result ≡ status.Ok) × Appends old new text) ⊎ (result ≡ Memory)
-writes-whole text result old new (inl whole) no_fault = inl whole
-writes-whole text result old new (inr ((inl fault), part)) no_fault = absurd (no_fault fault)
-writes-whole text result old new (inr ((inr want), part)) no_fault = inr want
 
 whole-some : (natives : List Native) (content : Content) (result : Status) (old new : Option (List ℕ)) (text : List ℕ)
     → text_for natives content ≡ Some text
@@ -359,26 +319,6 @@ pub told-refused : (grammar : Grammar) (natives : List Native) (told left : Opti
 told-refused grammar natives (Some input) left result old new a b c d read write ran = λ can no_read no_write.
     ran-refused grammar natives input left result old new can (λ e. no_read (read e)) (λ e. no_write (write e)) ran
 told-refused grammar natives None left result old new a b c d read write ran = tt
-
--- ---- statuses that don't come
-
-pub not-usage : (stopped : Result (Unit {0}) Stop) → status_of stopped ≡ status.Usage → ⊥
-not-usage (Ok done) e = absurd cc
-not-usage (Err Full) e = absurd cc
-not-usage (Err Failed) e = absurd cc
-not-usage (Err stop.Memory) e = absurd cc
-
-pub writes-not-usage : (text : List ℕ) (result : Status) (old new : Option (List ℕ))
-    → Writes BadTrace text result old new → result ≡ status.Usage → ⊥
-writes-not-usage text result old new (inl whole) e = let is = sym whole.0 ∙ e in absurd cc
-writes-not-usage text result old new (inr ((inl fault), part)) e = let is = sym fault ∙ e in absurd cc
-writes-not-usage text result old new (inr ((inr want), part)) e = let is = sym want ∙ e in absurd cc
-
-pub failed-only : (stopped : Result (Unit {0}) Stop) → status_of stopped ≡ WriteFault → stopped ≡ Err Failed
-failed-only (Ok done) e = absurd cc
-failed-only (Err Full) e = absurd cc
-failed-only (Err Failed) e = refl
-failed-only (Err stop.Memory) e = absurd cc
 
 -- ---- made traces
 

@@ -1,6 +1,5 @@
 -- What an input spells in each grammar, what the first fault of any other input is, and what is written for it.
-use Rattle.std.specs.Prelude.{◌≡◌, ℕ, ◌^◌, ◌<◌, Bool, true, false, List, [], Option, Some, None}
-use Rattle.std.specs.List.{count_by}
+use Rattle.std.specs.Prelude.{◌≡◌, ℕ, List, [], Option, Some, None}
 use Rattle.std.specs.Option.{option_and_then}
 use Rattle.kernel_model.specs.Application.{IsBooted, Native, booted}
 use Rattle.play_model.specs.Play.{Play, played}
@@ -18,9 +17,8 @@ use Rattle.trace_text.specs.declared.fault.BadKind.{BadKind}
 use Rattle.trace_text.specs.declared.fault.BadKind.TheVariants.{Asm}
 use Rattle.trace_text.specs.declared.fault.TraceFault.{TraceFault}
 use Rattle.trace_text.specs.declared.fault.TraceFault.TheVariants.{Bad, Memory}
-use Rattle.trace_text.specs.declared.item.Item.{Item}
-use Rattle.trace_text.specs.declared.item.Item.TheVariants as item
 use Rattle.trace_text.specs.declared.trace.Trace.{Trace}
+use Rattle.word_parts.specs.Limits.{HasTooMany}
 use Rattle.trace_runner.specs.Line.{image_line}
 use Rattle.trace_runner.specs.declared.content.Content.{Content}
 use Rattle.trace_runner.specs.declared.content.Content.TheVariants as content
@@ -73,18 +71,6 @@ CanBePlayed natives (content.Trace trace) = CanBeBooted natives trace trace.boot
 CanBePlayed natives (content.Image image) = Unit {0}
 
 -- ---- limits
-
--- an item that makes a processor come in
-abbrev pub is_smc : Item → Bool
-is_smc (item.Smc cpu steps regs) = true
-is_smc (item.Enter cpu steps regs) = true
-is_smc (item.Leave cpu) = false
-is_smc (item.Write cpu addr bytes) = false
-is_smc (item.Show cpu addr len) = false
-
--- more of these than a trace may have
-abbrev pub HasTooMany : List Item → Type 0
-HasTooMany items = 2 ^ 16 < count_by is_smc items
 
 -- a trace has; an image has none of them
 abbrev pub IsTooLarge : Content → Type 0

@@ -1,14 +1,9 @@
-pub mod Status
 pub mod Words
 pub mod Line
-pub mod Input
-pub mod Output
 pub mod Content
 pub mod Playing
-pub mod Gathering
 pub mod Run
 pub mod Plays
 pub mod Starting
 pub mod Counts
 pub mod Digesting
-pub mod Examples

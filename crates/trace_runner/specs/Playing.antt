@@ -12,14 +12,12 @@ use Rattle.trace_text.specs.declared.item.Item.TheVariants as item
 use Rattle.trace_text.specs.declared.item.Reg.{Reg}
 use Rattle.trace_text.specs.Sound.{IsPartOfRam, IsSoundReg}
 use Rattle.kernel_state.specs.Meaning.{booted_of}
-use Rattle.kernel_state.specs.declared.enter_refusal.EnterRefusal.{EnterRefusal}
-use Rattle.kernel_state.specs.declared.enter_refusal.EnterRefusal.TheVariants as refusal
 use Rattle.core_machine.specs.Standing.{CanCome, IsAt}
 use Rattle.core_machine.specs.declared.machine.Machine.{Machine}
 use Rattle.core_machine.specs.declared.smc.Smc.TheVariants.{Comes, Leaves}
 use Rattle.trace_runner.specs.declared.player.Player.{Player}
-use Rattle.trace_runner.specs.declared.player.Stop.{Stop}
-use Rattle.trace_runner.specs.declared.player.Stop.TheVariants.{Full, Failed, Memory}
+use Rattle.word_parts.specs.declared.stop.Stop.{Stop}
+use Rattle.word_parts.specs.declared.stop.Stop.TheVariants.{Full, Failed, Memory}
 
 -- these are the last answers of the processors
 abbrev pub AreLast : List Event → List Regs → Type 0
@@ -34,11 +32,6 @@ pub record CanComeIn (machine : Machine) (cpu steps : ℕ) (regs : List Reg) : T
   pub few : cpu < 8
   pub comes : (given : Regs) → CanCome machine (Comes (record { cpu = cpu; regs = given; steps = steps }))
   pub sound : All IsSoundReg regs
-
--- why a play stops where an entry was refused so
-abbrev pub stop_of : EnterRefusal → Stop
-stop_of (refusal.Full copied more) = Full
-stop_of refusal.Memory = Memory
 
 -- the player has come to this play, but for what was printed
 pub record IsPlayedTo (boot : Booted) (play : Play) (player : Player) : Type 0 where

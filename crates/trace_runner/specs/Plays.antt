@@ -9,14 +9,17 @@ use Rattle.ports.specs.Port.{Appends}
 use Rattle.ta_isa.specs.declared.boot.Boot.{Boot}
 use Rattle.trace_text.specs.declared.trace.Trace.{Trace}
 use Rattle.workload.specs.Work.{made_boot, made_trace}
-use Rattle.trace_runner.specs.Content.{HasTooMany, Spells}
-use Rattle.trace_runner.specs.Run.{IsTooLong, status_of_play, uuids_of}
+use Rattle.trace_runner.specs.Content.{Spells}
+use Rattle.word_parts.specs.Limits.{HasTooMany}
+use Rattle.trace_runner.specs.Run.{uuids_of}
+use Rattle.word_parts.specs.Answer.{status_of_play}
+use Rattle.word_parts.specs.Input.{IsTooLong}
 use Rattle.trace_runner.specs.declared.content.Content.TheVariants as content
 use Rattle.trace_runner.specs.declared.command.Grammar.{Grammar}
 use Rattle.trace_runner.specs.declared.command.Grammar.TheVariants.{Text, Records, Assembler}
-use Rattle.trace_runner.specs.declared.status.Status.{Status}
-use Rattle.trace_runner.specs.declared.status.Status.TheVariants.{TooLong}
-use Rattle.trace_runner.specs.declared.status.Status.TheVariants as status
+use Rattle.word_parts.specs.declared.status.Status.{Status}
+use Rattle.word_parts.specs.declared.status.Status.TheVariants.{TooLong}
+use Rattle.word_parts.specs.declared.status.Status.TheVariants as status
 
 -- the grammar is one of traces
 abbrev pub SpellsTraces : Grammar → Type 0

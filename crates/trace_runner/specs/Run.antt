@@ -4,62 +4,27 @@ use Rattle.std.specs.Prelude.{IsSome, IsSomeAnd, Result, Ok, Err}
 use Rattle.kernel_model.specs.Application.{Native}
 use Rattle.play_model.specs.Text.{text_of}
 use Rattle.ports.specs.Port.{Appends}
-use Rattle.ports.specs.declared.sink.Put.{Put}
-use Rattle.ports.specs.declared.sink.Put.TheVariants.{Done, Failed}
-use Rattle.ports.specs.declared.sink.Put.TheVariants as put
 use Rattle.trace_text.specs.declared.fault.BadKind.{BadKind}
 use Rattle.trace_text.specs.declared.trace.Trace.{Trace}
 use Rattle.made_play.specs.Summary.{summary_of}
 use Rattle.trace_runner.specs.Content.{CanBePlayed, IsFirstFault, IsTooLarge, Spells, refused_for, refused_in, text_for}
-use Rattle.trace_runner.specs.Line.{bad_trace_line}
-use Rattle.trace_runner.specs.Output.{AppendsPart}
+use Rattle.word_parts.specs.Answer.{IsUnread, Writes, status_of_play}
+use Rattle.word_parts.specs.Input.{IsTooLong}
+use Rattle.word_parts.specs.Line.{bad_trace_line}
+use Rattle.word_parts.specs.Output.{AppendsPart}
 use Rattle.trace_runner.specs.declared.content.Content.{Content}
 use Rattle.trace_runner.specs.declared.command.Grammar.{Grammar}
-use Rattle.trace_runner.specs.declared.player.Stop.{Stop}
-use Rattle.trace_runner.specs.declared.player.Stop.TheVariants as stop
-use Rattle.trace_runner.specs.declared.status.Status.{Status}
-use Rattle.trace_runner.specs.declared.status.Status.TheVariants.{BadTrace, ReadFault, WriteFault, Memory, TooLong}
-use Rattle.trace_runner.specs.declared.status.Status.TheVariants as status
+use Rattle.word_parts.specs.declared.stop.Stop.{Stop}
+use Rattle.word_parts.specs.declared.stop.Stop.TheVariants as stop
+use Rattle.word_parts.specs.declared.status.Status.{Status}
+use Rattle.word_parts.specs.declared.status.Status.TheVariants.{BadTrace, WriteFault, Memory, TooLong}
+use Rattle.word_parts.specs.declared.status.Status.TheVariants as status
 
 -- the line that tells the words
 abbrev pub usage_line : List ℕ
 usage_line = codes "usage: optee_run run | run-binary | threads | asm | work SEED COUNT" ++ 10 ∷ []
 
--- an input of more bytes than one may have
-abbrev pub IsTooLong : List ℕ → Type 0
-IsTooLong input = 2 ^ 24 < length input
-
--- ---- what is written
-
--- the status after a text was put: the named one where it was put whole
-abbrev pub status_after : Status → Put → Status
-status_after named Done = named
-status_after named Failed = WriteFault
-status_after named put.Memory = Memory
-
--- the named status and the whole text; or the sink failed or memory ran out, after a part of the text
-abbrev pub Writes : Status → List ℕ → Status → Option (List ℕ) → Option (List ℕ) → Type 0
-Writes named text result old new =
-    ((result ≡ named) × Appends old new text)
-    ⊎ (((result ≡ WriteFault) ⊎ (result ≡ Memory)) × AppendsPart old new text)
-
--- the input was not read whole, and nothing is written
-abbrev pub IsUnread : Status → Option (List ℕ) → Option (List ℕ) → Type 0
-IsUnread result old new = ((result ≡ ReadFault) ⊎ (result ≡ Memory)) × Appends old new []
-
 -- ---- a play
-
--- the status of a play that refuses an entry, or none
-abbrev pub status_of_play : Option ℕ → Status
-status_of_play None = status.Ok
-status_of_play (Some more) = TooLong
-
--- the status of a play that stopped so, or didn't
-abbrev pub status_of : Result (Unit {0}) Stop → Status
-status_of (Ok done) = status.Ok
-status_of (Err stop.Full) = TooLong
-status_of (Err stop.Failed) = WriteFault
-status_of (Err stop.Memory) = Memory
 
 -- what a play that stopped so, or didn't, has written
 abbrev pub IsTold : List Native → Trace → Result (Unit {0}) Stop → Option (List ℕ) → Option (List ℕ) → Type 0

@@ -11,7 +11,7 @@ ghost use Rattle.trace_runner.specs.Run.{uuids_of};
 ghost use Rattle.trace_runner.specs.Starting.{IsAtStart, trace_of};
 
 use crate::play::first_player;
-use crate::player::{Player, Stop};
+use crate::player::Player;
 use crate::summary::AnswerCounts;
 use core_machine::machines_stand;
 use native_tas::Natives;
@@ -19,6 +19,7 @@ use sha2::{Digest, Sha256};
 use std::alloc::Global;
 use ta_isa::Boot;
 use trace_text::{Fill, Item, Trace};
+use word_parts::Stop;
 
 /// What is known of a play at its end: how many answers were of each kind, and the SHA-256 of the lines that were printed.
 #[derive(Clone, Copy)]

@@ -4,65 +4,16 @@ ghost use Rattle.std.specs.Prelude.{◌≡◌, ◌≢◌, ◌≤◌, List, [], E
 ghost use Rattle.kernel_model.specs.Application.{Native};
 ghost use Rattle.ports.specs.Port.{Rose};
 ghost use Rattle.trace_text.specs.declared.trace.Trace.{Trace};
-ghost use Rattle.trace_runner.specs.Gathering.{EndsAs, PutsLines, PutsOrKeeps};
+ghost use Rattle.word_parts.specs.Gathering.{EndsAs, PutsLines, PutsOrKeeps};
 ghost use Rattle.trace_runner.specs.Run.{IsTold};
 ghost use Rattle.trace_runner.specs.Starting.{IsAtStart};
 
-use crate::output::put_text;
-use crate::player::{Player, Stop};
+use crate::player::Player;
 use core_machine::machines_stand;
-use ports::{Put, Sink};
+use ports::Sink;
 use std::alloc::Global;
 use trace_text::Item;
-
-/// How many bytes of lines are put at once.
-const GATHERED: usize = 1 << 16;
-
-/// Puts lines by one call of the sink.
-fn put_lines<K: Sink>(lines: &[u8], out: &mut K) -> Result<(), Stop>
-    ensures lines { PutsLines lines.now result (K.held out.old) (K.held out.new) }
-    ensures failed { result ≡ Err Stop.Failed → Rose (K.faults out.old) (K.faults out.new) }
-    ensures count { K.faults out.old ≤ K.faults out.new }
-    ensures stays { result ≢ Err Stop.Failed → K.faults out.new ≡ K.faults out.old }
-{
-    match put_text(out, lines) {
-        Put::Done => Ok(()),
-        Put::Failed => Err(Stop::Failed),
-        Put::Memory => Err(Stop::Memory),
-    }
-}
-
-/// Puts the lines and lets them go, if there are enough of them.
-fn put_if_many<K: Sink>(lines: &mut Vec<u8>, out: &mut K) -> Result<(), Stop>
-    ensures lines { PutsOrKeeps lines.old.items result lines.new.items (K.held out.old) (K.held out.new) }
-    ensures failed { result ≡ Err Stop.Failed → Rose (K.faults out.old) (K.faults out.new) }
-    ensures count { K.faults out.old ≤ K.faults out.new }
-    ensures stays { result ≢ Err Stop.Failed → K.faults out.new ≡ K.faults out.old }
-{
-    if lines.len() < GATHERED {
-        return Ok(());
-    }
-    put_lines(lines.as_slice(), out)?;
-    lines.clear();
-    Ok(())
-}
-
-/// Ends a play that an item stopped: behind a refused entry the gathered lines are put. Answers why the play stops then.
-fn end_at<K: Sink>(stop: Stop, lines: &[u8], out: &mut K) -> Stop
-    requires { stop ≢ Stop.Failed }
-    ensures ends { EndsAs stop lines.now result (K.held out.old) (K.held out.new) }
-    ensures failed { result ≡ Stop.Failed → Rose (K.faults out.old) (K.faults out.new) }
-    ensures count { K.faults out.old ≤ K.faults out.new }
-    ensures stays { result ≢ Stop.Failed → K.faults out.new ≡ K.faults out.old }
-{
-    if stop != Stop::Full {
-        return stop;
-    }
-    match put_lines(lines, out) {
-        Ok(()) => Stop::Full,
-        Err(fault) => fault,
-    }
-}
+use word_parts::{Stop, end_at, put_if_many, put_lines};
 
 /// Plays the items of a trace on a player that stands before the first of them, and prints their lines, up to a refused
 /// entry, a fault of the sink or want of memory. Lines are gathered, and put when they take 64 KiB or more, behind the

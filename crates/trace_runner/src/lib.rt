@@ -9,19 +9,13 @@
 mod command;
 mod content;
 mod digesting;
-mod examples;
 mod gathering;
-mod input;
 mod line;
-mod output;
 mod play;
 mod player;
-mod status;
 mod summary;
 mod top_call;
 mod work;
 
-pub use examples::worked_examples;
-pub use input::LONGEST_INPUT;
-pub use status::Status;
 pub use top_call::run;
+pub use word_parts::{LONGEST_INPUT, Status, worked_examples};

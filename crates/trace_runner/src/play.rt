@@ -8,12 +8,12 @@ ghost use Rattle.play_model.specs.Play.{filled, first_play};
 ghost use Rattle.ports.specs.Port.{Rose};
 ghost use Rattle.trace_text.specs.Sound.{IsSound, IsSoundBoot, IsSoundFill};
 ghost use Rattle.trace_runner.specs.Playing.{IsPlayedTo};
-ghost use Rattle.trace_runner.specs.Content.{HasTooMany, is_smc};
+ghost use Rattle.word_parts.specs.Limits.{HasTooMany, is_smc};
 ghost use Rattle.trace_runner.specs.Run.{IsTold, uuids_of};
 ghost use Rattle.trace_runner.specs.Starting.{trace_of};
 
 use crate::gathering::play_items;
-use crate::player::{Player, Stop};
+use crate::player::Player;
 use base::NoMemory;
 use core_machine::Machine;
 use kernel_state::{BootFault, Core, journals_stay_legal};
@@ -23,24 +23,7 @@ use ports::Sink;
 use std::alloc::Global;
 use ta_isa::Boot;
 use trace_text::{Fill, Item, Trace};
-
-/// The most SMC items of a trace.
-const MAX_SMCS: usize = 1 << 16;
-
-/// Whether an item makes a processor come in.
-fn is_smc(item: &Item) -> bool
-    ensures { result ≡ is_smc item.now }
-{
-    matches!(item, Item::Smc { .. } | Item::Enter { .. })
-}
-
-/// Whether a trace has more SMC items than one may have.
-pub fn has_too_many(items: &[Item]) -> bool
-    ensures { IsTrue result ↔ HasTooMany items.now }
-{
-    let count = items.iter().filter(|item| is_smc(*item)).count();
-    count > MAX_SMCS
-}
+use word_parts::Stop;
 
 /// The RAM that a processor sees at first.
 fn first_lane(alloc: Global, fills: &[Fill]) -> Result<Lane, NoMemory>

@@ -13,47 +13,13 @@ use answer_lines::{push_mem, push_ret, registers};
 use core_machine::{Machine, machines_stand, turns_are_taken};
 use event_journal::Event;
 use kernel_entry::Visitor;
-use kernel_state::EnterRefusal;
 use smc_abi::Regs;
-use std::alloc::{AllocError, Global};
+use std::alloc::Global;
 use trace_text::{Item, Reg};
+use word_parts::Stop;
 
 /// The most processors that there are.
 const MAX_CPUS: usize = 8;
-
-/// Why a play stopped before its end.
-#[derive(Clone, Copy, Debug, PartialEq, Eq)]
-pub enum Stop {
-    /// An entry was refused, since all entries would then have read more than 2^28 bytes.
-    Full,
-    /// The sink counted a fault.
-    Failed,
-    /// Want of memory.
-    Memory,
-}
-
-impl From<EnterRefusal> for Stop {
-    ghost use Rattle.trace_runner.specs.Playing.{stop_of};
-
-    ghost from_gives = { λ refusal stop. stop ≡ stop_of refusal };
-
-    fn from(refusal: EnterRefusal) -> Stop {
-        match refusal {
-            EnterRefusal::Full { .. } => Stop::Full,
-            EnterRefusal::Memory => Stop::Memory,
-        }
-    }
-}
-
-impl From<AllocError> for Stop {
-    ghost use Rattle.trace_runner.specs.declared.player.Stop.TheVariants.{Memory};
-
-    ghost from_gives = { λ _ stop. stop ≡ Memory };
-
-    fn from(_refused: AllocError) -> Stop {
-        Stop::Memory
-    }
-}
 
 /// A core with its processors, and what each of them was last answered: zeros before any.
 #[derive(Drop)]

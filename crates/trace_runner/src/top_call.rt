@@ -6,10 +6,11 @@ ghost use Rattle.ports.specs.Port.{Appends, Rose};
 ghost use Rattle.ta_isa.specs.Spelling.{IsValid};
 ghost use Rattle.trace_text.specs.Sound.{IsSound};
 ghost use Rattle.trace_runner.specs.Content.{IsSoundContent};
-ghost use Rattle.trace_runner.specs.Input.{TakesAtMost};
-ghost use Rattle.trace_runner.specs.Line.{bad_trace_line};
+ghost use Rattle.word_parts.specs.Input.{TakesAtMost};
+ghost use Rattle.word_parts.specs.Line.{bad_trace_line};
 ghost use Rattle.trace_runner.specs.Plays.{IsSummedUp, Plays, SpellsTraces};
-ghost use Rattle.trace_runner.specs.Run.{Answered, CanBeRefused, CanBeServed, IsRefusedWhole, IsServedBy, IsServedWhole, Ran, Statuses, WorkStatuses, Worked, Writes, WritesSummary, status_after, status_of, usage_line, uuids_of};
+ghost use Rattle.trace_runner.specs.Run.{Answered, CanBeRefused, CanBeServed, IsRefusedWhole, IsServedBy, IsServedWhole, Ran, Statuses, WorkStatuses, Worked, WritesSummary, usage_line, uuids_of};
+ghost use Rattle.word_parts.specs.Answer.{Writes, status_after, status_of};
 ghost use Rattle.trace_runner.specs.Words.{AskNothing, Asks};
 ghost use Rattle.trace_runner.specs.declared.content.Content.{Content};
 ghost use Rattle.trace_runner.specs.declared.content.Content.TheVariants as content;
@@ -18,54 +19,17 @@ ghost use Rattle.trace_runner.specs.declared.command.Grammar.{Grammar};
 
 use crate::command::{Command, Grammar, command_of};
 use crate::content::{Content, read_content};
-use crate::input::{InputFault, read_input};
-use crate::line::{bad_trace_line, image_line};
-use crate::output::put_text;
-use crate::play::{has_too_many, play};
-use crate::player::Stop;
-use crate::status::Status;
+use crate::line::image_line;
+use crate::play::play;
 use crate::work::summary;
 use native_tas::Natives;
-use ports::{Put, Sink, Source};
+use ports::{Sink, Source};
 use std::alloc::Global;
 use ta_isa::Image;
-use trace_text::{BadKind, Trace, TraceFault};
+use trace_text::{Trace, TraceFault};
+use word_parts::{InputFault, Status, answer_line, has_too_many, read_input, refuse, status_of};
 
 const USAGE_LINE: &[u8] = b"usage: optee_run run | run-binary | threads | asm | work SEED COUNT\n";
-
-/// The status after a text was put: the named one where it was put whole.
-fn status_after(named: Status, put: Put) -> Status
-    ensures { result ≡ status_after named put }
-{
-    match put {
-        Put::Done => named,
-        Put::Failed => Status::WriteFault,
-        Put::Memory => Status::Memory,
-    }
-}
-
-/// Writes a line, and answers the status that it stands for.
-fn answer_line<K: Sink>(out: &mut K, named: Status, line: &[u8]) -> Status
-    ensures line { Writes named line.now result (K.held out.old) (K.held out.new) }
-    ensures write_fault { result ≡ Status.WriteFault →
-        (named ≡ Status.WriteFault) ⊎ Rose (K.faults out.old) (K.faults out.new) }
-    ensures count { K.faults out.old ≤ K.faults out.new }
-    ensures stays { result ≢ Status.WriteFault → K.faults out.new ≡ K.faults out.old }
-{
-    status_after(named, put_text(out, line))
-}
-
-/// The status that a play stands for.
-fn status_of(played: Result<(), Stop>) -> Status
-    ensures { result ≡ status_of played }
-{
-    match played {
-        Ok(()) => Status::Ok,
-        Err(Stop::Full) => Status::TooLong,
-        Err(Stop::Failed) => Status::WriteFault,
-        Err(Stop::Memory) => Status::Memory,
-    }
-}
 
 /// Plays a trace, where it doesn't have too many SMC items.
 fn answer_trace<K: Sink>(alloc: Global, natives: &Natives, trace: Trace, out: &mut K) -> Status
@@ -109,20 +73,6 @@ fn serve<K: Sink>(alloc: Global, natives: &Natives, content: Content, out: &mut 
     match content {
         Content::Trace(trace) => answer_trace(alloc, natives, trace, out),
         Content::Image(image) => answer_image(alloc, natives, &image, out),
-    }
-}
-
-/// Writes the line of an input that leaves its grammar.
-fn refuse<K: Sink>(alloc: Global, place: u32, kind: BadKind, out: &mut K) -> Status
-    ensures line { Writes Status.BadTrace (bad_trace_line place kind) result (K.held out.old) (K.held out.new) }
-    ensures words { result ≡ Status.Usage → ⊥ }
-    ensures write_fault { result ≡ Status.WriteFault → Rose (K.faults out.old) (K.faults out.new) }
-    ensures count { K.faults out.old ≤ K.faults out.new }
-    ensures stays { result ≢ Status.WriteFault → K.faults out.new ≡ K.faults out.old }
-{
-    match bad_trace_line(alloc, place, kind) {
-        Ok(line) => answer_line(out, Status::BadTrace, line.as_slice()),
-        Err(_) => Status::Memory,
     }
 }
 

@@ -4,12 +4,12 @@ ghost use Rattle.std.specs.Prelude.{◌≡◌, ◌≤◌, IfOk, Some};
 ghost use Rattle.made_play.specs.Summary.{summary_of};
 
 use crate::digesting::digest_play;
-use crate::player::Stop;
 use crate::summary::summary_line;
 use base::NoMemory;
 use made_play::{made_plays_end, made_traces_are_sound};
 use native_tas::Natives;
 use std::alloc::Global;
+use word_parts::Stop;
 use workload::make_work;
 
 /// The line that sums up the play of the trace that a seed makes with so many calls, without built-in applications.

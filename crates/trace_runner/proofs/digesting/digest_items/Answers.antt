@@ -3,7 +3,7 @@ use Rattle.std.proofs.lemmas.Result.{err_from_is_err_and}
 use Rattle.event_journal.specs.declared.event.Event.{Event}
 use Rattle.sha2.specs.Hashers.{Holds256}
 use Rattle.trace_runner.specs.Counts.{AreCounts}
-use Rattle.trace_runner.specs.declared.player.Stop.TheVariants.{Full}
+use Rattle.word_parts.specs.declared.stop.Stop.TheVariants.{Full}
 use Rattle.trace_runner.proofs.Digests.{digesting-ended, digesting-first, digesting-full, digesting-more}
 use Rattle.trace_runner.proofs.Playable.{playing-takes}
 use Rattle.trace_runner.proofs.digesting.digest_items.Goals as goal

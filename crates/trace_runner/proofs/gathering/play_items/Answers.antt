@@ -1,6 +1,6 @@
 use Rattle.std.proofs.Common.{ℕ, List, refl, subst, ◌∙◌, arith}
 use Rattle.std.proofs.lemmas.Result.{err_from_is_err_and}
-use Rattle.trace_runner.specs.Gathering.{EndsAs, PutsLines}
+use Rattle.word_parts.specs.Gathering.{EndsAs, PutsLines}
 use Rattle.trace_runner.proofs.Gathered.{gathering-ended, gathering-first, gathering-more, gathering-stopped, gathering-unput}
 use Rattle.trace_runner.proofs.Playable.{playing-takes}
 use Rattle.trace_runner.proofs.gathering.play_items.Goals as goal

@@ -6,7 +6,7 @@ use Rattle.trace_runner.specs.Words.{Asks}
 use Rattle.trace_runner.specs.declared.command.Command.{Command}
 use Rattle.trace_runner.specs.declared.command.Command.TheVariants.{Serve, Work}
 use Rattle.trace_runner.specs.declared.command.Grammar.{Grammar}
-use Rattle.trace_runner.specs.declared.status.Status.{Status}
+use Rattle.word_parts.specs.declared.status.Status.{Status}
 use Rattle.trace_runner.proofs.Plays.{told-plays, worked-plays}
 use Rattle.trace_runner.proofs.Readings.{every_input, one_grammar, one_work}
 use Rattle.trace_runner.proofs.Running.{told-refused, told-statuses, told-whole, worked-statuses, worked-whole}

@@ -1,6 +1,6 @@
 use Rattle.std.proofs.Common.{◌≡◌, sym, ◌∙◌}
 use Rattle.std.proofs.lemmas.Result.{err_from_is_err_and}
-use Rattle.trace_runner.specs.declared.player.Stop.TheVariants.{Failed}
+use Rattle.word_parts.specs.declared.stop.Stop.TheVariants.{Failed}
 use Rattle.kernel_entry.specs.declared.visitor.Visitor.{Visitor}
 use Rattle.trace_runner.proofs.Moved.{came-in, goes-in, never-failed, same-visit, stayed-out}
 use Rattle.trace_runner.proofs.player.Player.enter.Goals as goal

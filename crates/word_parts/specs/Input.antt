@@ -1,5 +1,5 @@
 -- What is known of an input that was read.
-use Rattle.std.specs.Prelude.{◌≡◌, ℕ, ◌<◌, ◌≤◌, List, [], ◌++◌, Option, length, IfSome}
+use Rattle.std.specs.Prelude.{◌≡◌, ℕ, ◌^◌, ◌<◌, ◌≤◌, List, [], ◌++◌, Option, length, IfSome}
 use Rattle.ports.specs.Port.{Moves}
 use Rattle.ports.specs.declared.source.Taken.{Taken}
 use Rattle.ports.specs.declared.source.Taken.TheVariants.{Bytes, End, Failed}
@@ -18,3 +18,7 @@ TakesSome old new before after most (Bytes count) =
     (bytes : List ℕ) × (0 < length bytes) × (length bytes ≤ most) × Moves old new bytes × (after ≡ before ++ bytes)
 TakesSome old new before after most End = (after ≡ before) × (new ≡ old) × (0 < most → IsAtEnd old)
 TakesSome old new before after most Failed = (after ≡ before) × (new ≡ old)
+
+-- an input of more bytes than one may have
+abbrev pub IsTooLong : List ℕ → Type 0
+IsTooLong input = 2 ^ 24 < length input

@@ -2,8 +2,8 @@
 
 ghost use Rattle.std.specs.Prelude.{◌≡◌, ◌≢◌, ◌+◌, ◌<◌, ◌≤◌, length, vec_len, IfOk, IfSome, Ok, Err};
 ghost use Rattle.ports.specs.Port.{Moves, Rose};
-ghost use Rattle.trace_runner.specs.Input.{IsAtEnd, TakesAtMost, TakesSome};
-ghost use Rattle.trace_runner.specs.declared.input.InputFault.TheVariants.{Memory};
+ghost use Rattle.word_parts.specs.Input.{IsAtEnd, TakesAtMost, TakesSome};
+ghost use Rattle.word_parts.specs.declared.input.InputFault.TheVariants.{Memory};
 
 use ports::{Source, Taken};
 use std::alloc::{AllocError, Global};

@@ -4,7 +4,7 @@ use Rattle.ports.specs.Port.{Moves}
 use Rattle.ports.specs.PortLaws.{Moves-trans}
 use Rattle.ports.specs.declared.source.Taken.{Taken}
 use Rattle.ports.specs.declared.source.Taken.TheVariants.{Bytes}
-use Rattle.trace_runner.specs.Input.{TakesAtMost, TakesSome}
+use Rattle.word_parts.specs.Input.{TakesAtMost, TakesSome}
 
 -- what was taken in one turn stands behind what was taken before
 pub TakesAtMost-then : (a b c : Option (List ℕ)) (x : List ℕ) (n m : ℕ) → Moves a b x → TakesAtMost n b c → length x + n ≤ m → TakesAtMost m a c

@@ -1,4 +1,4 @@
-ghost use Rattle.trace_runner.specs.Examples.{Examples};
+ghost use Rattle.word_parts.specs.Examples.{Examples};
 
 /// Lines and texts of small traces, computed.
 pub fn worked_examples()

@@ -1,6 +1,6 @@
 use Rattle.std.proofs.Common.{refl}
 use Rattle.std.specs.Fmt.{digits}
-use Rattle.trace_runner.proofs.examples.worked_examples.Goals as goal
+use Rattle.word_parts.proofs.examples.worked_examples.Goals as goal
 
 pub returns : goal.returns
 unfolding digits

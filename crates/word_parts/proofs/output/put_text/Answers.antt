@@ -1,5 +1,5 @@
-use Rattle.trace_runner.proofs.PuttingLemmas.{Puts-of}
-use Rattle.trace_runner.proofs.output.put_text.Goals as goal
+use Rattle.word_parts.proofs.PuttingLemmas.{Puts-of}
+use Rattle.word_parts.proofs.output.put_text.Goals as goal
 
 pub returns-clause-text : goal.returns-clause-text
 returns-clause-text g c =

@@ -1,9 +1,9 @@
 -- What is put of lines that are gathered first.
 use Rattle.std.specs.Prelude.{◌≡◌, ℕ, List, ◌++◌, Option, Result, Ok, Err}
 use Rattle.ports.specs.Port.{Appends}
-use Rattle.trace_runner.specs.Output.{AppendsPart}
-use Rattle.trace_runner.specs.declared.player.Stop.{Stop}
-use Rattle.trace_runner.specs.declared.player.Stop.TheVariants.{Full, Failed, Memory}
+use Rattle.word_parts.specs.Output.{AppendsPart}
+use Rattle.word_parts.specs.declared.stop.Stop.{Stop}
+use Rattle.word_parts.specs.declared.stop.Stop.TheVariants.{Full, Failed, Memory}
 
 -- the lines were put, or a part of them where the sink failed or memory ran out
 abbrev pub PutsLines : List ℕ → Result (Unit {0}) Stop → Option (List ℕ) → Option (List ℕ) → Type 0

@@ -2,7 +2,7 @@
 
 ghost use Rattle.std.specs.Prelude.{◌≡◌, ◌≢◌, ◌≤◌};
 ghost use Rattle.ports.specs.Port.{Rose};
-ghost use Rattle.trace_runner.specs.Output.{Puts};
+ghost use Rattle.word_parts.specs.Output.{Puts};
 
 use ports::{Put, Sink};
 

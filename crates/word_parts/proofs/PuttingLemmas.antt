@@ -1,10 +1,12 @@
 -- How the lines of a text join as they are written.
 use Rattle.std.proofs.Common.{◌≡◌, ℕ, List, [], ◌++◌, take, drop, Option, refl, sym, ap, subst, ◌∙◌, append_assoc}
 use Rattle.std.proofs.lemmas.List.{take-append-drop}
+use Rattle.std.proofs.lemmas.List.{append-nil}
 use Rattle.ports.specs.Port.{Appends}
 use Rattle.ports.specs.declared.sink.Put.{Put}
 use Rattle.ports.specs.declared.sink.Put.TheVariants.{Done, Failed, Memory}
-use Rattle.trace_runner.specs.Output.{AppendsPart, Puts}
+use Rattle.word_parts.specs.Gathering.{PutsBut}
+use Rattle.word_parts.specs.Output.{AppendsPart, Puts}
 use Rattle.ports.specs.PortLaws.{Appends-nil, Appends-trans}
 
 -- nothing is a part of any text
@@ -36,3 +38,13 @@ pub Puts-stopped : (line whole : List ℕ) (r : Put) (a b c : Option (List ℕ))
 Puts-stopped line whole Done a b c stopped put part = absurd (stopped refl)
 Puts-stopped line whole Failed a b c stopped put part = part put
 Puts-stopped line whole Memory a b c stopped put part = part put
+
+-- ---- gathered lines
+
+-- all lines were put
+pub put-all : (lines : List ℕ) (old new : Option (List ℕ)) → Appends old new lines → PutsBut [] old new lines
+put-all lines old new put = record { part = lines; cut = sym (append-nil lines); put = put }
+
+-- none was
+pub put-none : (lines : List ℕ) (a : Option (List ℕ)) → PutsBut lines a a lines
+put-none lines a = record { part = []; cut = refl; put = Appends-nil a }

@@ -1,7 +1,7 @@
 -- The numbers that the program ends with.
 use Rattle.std.specs.Prelude.{ℕ}
-use Rattle.trace_runner.specs.declared.status.Status.{Status}
-use Rattle.trace_runner.specs.declared.status.Status.TheVariants.{Ok, Usage, BadTrace, ReadFault, WriteFault, Memory, TooLong}
+use Rattle.word_parts.specs.declared.status.Status.{Status}
+use Rattle.word_parts.specs.declared.status.Status.TheVariants.{Ok, Usage, BadTrace, ReadFault, WriteFault, Memory, TooLong}
 
 abbrev pub number_of : Status → ℕ
 number_of Ok = 0

@@ -1,0 +1,9 @@
+pub mod Status
+pub mod Stop
+pub mod Input
+pub mod Output
+pub mod Line
+pub mod Limits
+pub mod Answer
+pub mod Gathering
+pub mod Examples
