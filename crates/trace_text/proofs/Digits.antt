@@ -15,7 +15,7 @@ use Rattle.text_lines.proofs.Options.{guard_some}
 abbrev tests : ℕ → List ℕ → Bool
 tests radix word = list_all (λ c. nat_lt (digit_value c) radix) word
 
-digits_from_tests : (radix : ℕ) (word : List ℕ) → tests radix word ≡ true → AllDigits radix word
+pub digits_from_tests : (radix : ℕ) (word : List ℕ) → tests radix word ≡ true → AllDigits radix word
 digits_from_tests radix [] e = tt
 digits_from_tests radix (c ∷ cs) e =
     let p = and_parts _ (tests radix cs) e in
@@ -25,7 +25,7 @@ tests_from_digits : (radix : ℕ) (word : List ℕ) → AllDigits radix word →
 tests_from_digits radix [] d = refl
 tests_from_digits radix (c ∷ cs) d = and_from _ _ (lt-ltb _ _ d.0) (tests_from_digits radix cs d.1)
 
-are_digits_from : (radix : ℕ) (word : List ℕ) → 0 < length word → AllDigits radix word → are_digits radix word ≡ true
+pub are_digits_from : (radix : ℕ) (word : List ℕ) → 0 < length word → AllDigits radix word → are_digits radix word ≡ true
 are_digits_from radix word some d = and_from _ _ (lt-ltb _ _ some) (tests_from_digits radix word d)
 
 -- ---- whole words

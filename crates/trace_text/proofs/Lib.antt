@@ -7,3 +7,4 @@ pub mod Pieces
 pub mod SoundWords
 pub mod SoundLaws
 pub mod GrammarLaws
+pub mod PlainLines

@@ -7,3 +7,4 @@ pub mod Grammar
 pub mod Sound
 pub mod Judging
 pub mod Examples
+pub mod Plain

@@ -13,6 +13,7 @@ mod laws;
 pub mod limits;
 mod line;
 mod line_kind;
+mod plain;
 mod reader;
 mod reading;
 mod said;

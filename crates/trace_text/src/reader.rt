@@ -1,10 +1,11 @@
 //! Taking lines one after the other.
 
-ghost use Rattle.std.specs.Prelude.{◌≡◌, ℕ, ◌<◌, ◌++◌, ◌∷◌, [], List, length, map, is_none, is_some, true, IfOk, Some};
+ghost use Rattle.std.specs.Prelude.{◌≡◌, ℕ, ◌<◌, ◌++◌, ◌∷◌, [], List, length, map, is_none, is_some, true, IfOk, IfSome, Some};
 ghost use Rattle.trace_text.specs.Forms.{bytes, decimal, hexadecimal, register};
 ghost use Rattle.trace_text.specs.Grammar.{piece_fault};
 ghost use Rattle.trace_text.specs.Judging.{Ends, IsTaken, Judged};
 ghost use Rattle.trace_text.specs.Limits.{apps_of, cpus_of, goes_out, has_no_item, with_app, with_item};
+ghost use Rattle.trace_text.specs.Plain.{AddsItem};
 ghost use Rattle.trace_text.specs.Rules.{added, after_line, app_of, boot_of, boot_rules, cpu_rules, entry_rules, fill_of, line_rules, mem_rules, rules_behind, show_rules, ta_rules, words_behind, write_rules};
 ghost use Rattle.trace_text.specs.declared.item.Item.TheVariants as item;
 
@@ -13,6 +14,7 @@ use crate::fault::{BadKind, LineFault};
 use crate::item::Item;
 use crate::line::{has_words, is_text};
 use crate::line_kind::LineKind;
+use crate::plain::plain_call;
 use crate::said::{Call, app_of, call_of, cpu_of, fill_of, show_of, size_of, write_of};
 use crate::trace::Trace;
 use std::alloc::Global;
@@ -181,8 +183,20 @@ impl Builder {
         }
     }
 
+    /// The item of a line `smc` that is read in one pass. Without one, the line is read word by word, which names its fault.
+    #[inline(always)]
+    fn plain_smc(&self, line: &[u8]) -> Option<Item>
+        ensures { IfSome result (λ item. AddsItem self.now line.now item) }
+    {
+        let Call { cpu, steps, regs } = plain_call(self.cpus()?, line)?;
+        if self.is_inside(cpu) {
+            return None;
+        }
+        Some(Item::Smc { cpu, steps, regs })
+    }
+
     /// Takes a line, which is given without its line feed.
-    #[tactic(auto, unfolding(crate::specs::Rules::line_rules, crate::specs::Rules::after_line))]
+    #[tactic(auto, using(crate::proofs::PlainLines::item_is_taken), unfolding(crate::specs::Rules::line_rules, crate::specs::Rules::after_line))]
     pub(crate) fn take(
         &mut self,
         alloc: Global,
@@ -191,6 +205,9 @@ impl Builder {
     ) -> Result<(), LineFault>
         ensures { IsTaken result (line_rules natives.now self.old true line.now) (after_line self.old line.now) self.new }
     {
+        if let Some(item) = self.plain_smc(line) {
+            return self.push_item(item);
+        }
         if !is_text(line) {
             return Err(LineFault::Broken(BadKind::Byte));
         }

@@ -75,7 +75,7 @@ fn hexadecimal(word: &[u8], most: usize) -> Option<u64>
 }
 
 /// The number that 1 to 8 hexadecimal digits write, of either case.
-fn short_hexadecimal(word: &[u8]) -> Option<u32>
+pub fn short_hexadecimal(word: &[u8]) -> Option<u32>
     ensures { result ≡ hexadecimal_at 8 word.now }
 {
     let number = hexadecimal(word, 8)?;
