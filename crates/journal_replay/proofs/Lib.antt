@@ -1,0 +1,7 @@
+pub mod ReadLists
+pub mod Laid
+pub mod Wholes
+pub mod Next
+pub mod Entered
+pub mod Left
+pub mod Compared

@@ -1,0 +1,5 @@
+pub mod Booting
+pub mod Laying
+pub mod Unseen
+pub mod Replaying
+pub mod Laws

@@ -1,0 +1,24 @@
+//! The events of a journal done again on a core, one after the other, up to the first that can't have come next.
+//!
+//! Before an entry the bytes that it read are laid into RAM; a core of the same boot then lets its processor in, and reads what
+//! the kernel reads. An entry that read something else, and an exit with other registers, can't have been. Nothing is assumed
+//! of a journal, which may come from anybody.
+//!
+//! `booting` boots the core, `laying` lays reads into RAM, `comparing` compares what was done, and `replay` and `doing` have
+//! the core.
+#![tactic(auto)]
+
+mod booting;
+mod comparing;
+mod copies;
+mod doing;
+mod laws;
+mod laying;
+mod replay;
+
+pub use base::NoMemory;
+pub use booting::core_of;
+pub use copies::copy_boot;
+pub use laws::replays_are_faultless;
+pub use laying::lay;
+pub use replay::Replay;
