@@ -42,10 +42,7 @@ pub(crate) fn given_to(
     match Leaving::of(slot, cont) {
         Leaving::WantsBuffer => Ok(buffer_or_none(offered_buffer(regs))),
         Leaving::Requests { place, wanted } => {
-            let Ok(mut reply) = Box::new(alloc, RpcReply::nothing_read()) else {
-                return Err(NoMemory);
-            };
-            *reply = reply_at(alloc, cont, place, wanted, lane, reads)?;
+            let reply = reply_at(alloc, cont, place, wanted, lane, reads)?;
             Ok(ResumeInput::Reply(reply))
         }
         Leaving::Interrupted | Leaving::FreesBuffer(_) | Leaving::Finishes => {
@@ -54,7 +51,7 @@ pub(crate) fn given_to(
     }
 }
 
-/// Reads the reply to what the call asked for at this place. That to a sleep or a wake has nothing to read.
+/// Reads the reply to what the call asked for at this place, into a box. That to a sleep or a wake has nothing to read.
 fn reply_at(
     alloc: Global,
     cont: &Cont<Pages>,
@@ -62,21 +59,25 @@ fn reply_at(
     wanted: Wanted,
     lane: &Lane,
     reads: &mut Reads,
-) -> Result<RpcReply, NoMemory>
+) -> Result<Box<RpcReply>, NoMemory>
     requires in_ram { IsInRam place.addr 4096 }
     requires request { IsRequest (request_of cont.now.request wanted).wanted }
     requires asked { wanted ≡ Wanted.Asked → IsSome cont.now.request }
     ensures ok { IfOk result (λ reply. over_lane (reply_reader place.addr (request_of cont.now.request wanted).wanted) lane.now reads.old
-        ≡ Some (reply, reads.new)) }
+        ≡ Some (reply.value, reads.new)) }
     ensures err { OnErr result (reads.new ≡ reads.old) }
 {
+    let Ok(mut reply) = Box::new(alloc, RpcReply::nothing_read()) else {
+        return Err(NoMemory);
+    };
     match wanted {
         Wanted::Asked => match &cont.request {
-            Some(asked) => take_reply(alloc, lane, place.addr, &asked.rpc, reads),
+            Some(asked) => take_reply(alloc, lane, place.addr, &asked.rpc, &mut reply, reads)?,
             None => unreachable!(),
         },
-        Wanted::Sleep(_) | Wanted::Wake(_) => Ok(RpcReply::nothing_read()),
+        Wanted::Sleep(_) | Wanted::Wake(_) => {}
     }
+    Ok(reply)
 }
 
 /// This buffer, or none.

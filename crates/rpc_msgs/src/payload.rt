@@ -34,6 +34,15 @@ impl Payload {
         }
     }
 
+    /// Has these bytes, where it had none.
+    pub fn fill(&mut self, bytes: &[u8])
+        requires none { self.old ≡ [] }
+        requires few { length bytes.now ≤ 3584 }
+        ensures { self.new ≡ bytes.now }
+    {
+        self.bytes.try_extend_from_slice(bytes).unwrap();
+    }
+
     /// These bytes.
     pub fn of(bytes: &[u8]) -> Payload
         requires { length bytes.now ≤ 3584 }

@@ -1,16 +1,14 @@
 //! The reply to a request, and the list of what was read of it.
 
-ghost use Rattle.std.specs.Prelude.{◌≡◌, ◌≤◌, ◌++◌, List, length, take, IfOk, OnErr, OnOk, Some};
+ghost use Rattle.std.specs.Prelude.{◌≡◌, ◌≤◌, List, length, take, OnErr, OnOk, Some};
 ghost use Rattle.std.specs.Int.{from_le_bytes, to_le_bytes, w32, w64};
 ghost use Rattle.ns_ram.specs.Lane.{IsInRam, bytes_at};
 ghost use Rattle.ns_ram.specs.Reader.{lane_bytes, outcome_over, over_lane};
 ghost use Rattle.ns_ram.specs.declared.read.Read.{Read};
-ghost use Rattle.ns_ram.specs.Reads.{listed};
-ghost use Rattle.rpc_msgs.specs.Answer.{IsReplyTo};
-ghost use Rattle.rpc_msgs.specs.Reply.{descriptor_of, payload_of, piece_of, reply_reader, ret_alone, time_of, with_descriptor, with_piece, with_reply, with_ret, with_time};
-ghost use Rattle.rpc_msgs.specs.Request.{IsRequest, payload_at};
+ghost use Rattle.rpc_msgs.specs.Answer.{HasBytes, IsReplyTo, nothing_read};
+ghost use Rattle.rpc_msgs.specs.Reply.{descriptor_of, piece_of, reply_reader, ret_alone, time_of, with_descriptor, with_piece, with_reply, with_ret, with_time};
+ghost use Rattle.rpc_msgs.specs.Request.{IsRequest};
 
-use crate::payload::Payload;
 use crate::request::PAYLOAD_OFFSET;
 use crate::rpc::{Rpc, RpcReply};
 use base::NoMemory;
@@ -30,46 +28,53 @@ pub fn read_reply(lane: &Lane, buffer: u64, rpc: &Rpc) -> RpcReply
     ensures reads { (before : List Read) → over_lane (reply_reader buffer rpc.now) lane.now before
         ≡ Some (result, with_reply buffer rpc.now result before) }
 {
-    reply_at(lane, buffer, rpc)
+    let mut reply = RpcReply::nothing_read();
+    fill_reply(lane, buffer, rpc, &mut reply);
+    reply
 }
 
-fn reply_at(lane: &Lane, buffer: u64, rpc: &Rpc) -> RpcReply
+/// Reads the reply as `read_reply` does, where it stands.
+fn fill_reply(lane: &Lane, buffer: u64, rpc: &Rpc, reply: &mut RpcReply)
     requires in_ram { IsInRam buffer 4096 }
     requires request { IsRequest rpc.now }
-    ensures { (before : List Read) → over_lane (reply_reader buffer rpc.now) lane.now before
-        ≡ Some (result, with_reply buffer rpc.now result before) }
+    requires blank { reply.old ≡ nothing_read }
+    ensures reads { (before : List Read) → over_lane (reply_reader buffer rpc.now) lane.now before
+        ≡ Some (reply.new, with_reply buffer rpc.now reply.new before) }
+    ensures kind { IsReplyTo rpc.now reply.new }
 {
     match rpc {
-        Rpc::Time => read_time(lane, buffer),
-        Rpc::Sleep(_) | Rpc::Wake(_) | Rpc::Suspend(_) => RpcReply::nothing_read(),
-        Rpc::FsOpen(_) | Rpc::FsCreate(_) => read_descriptor(lane, buffer),
-        Rpc::FsRead { len, .. } => read_piece(lane, buffer, *len),
-        Rpc::FsClose(_) | Rpc::FsWrite { .. } | Rpc::FsRemove(_) => read_ret(lane, buffer),
+        Rpc::Sleep(_) | Rpc::Wake(_) | Rpc::Suspend(_) => {}
+        Rpc::Time => fill_time(lane, buffer, reply),
+        Rpc::FsOpen(_) | Rpc::FsCreate(_) => fill_descriptor(lane, buffer, reply),
+        Rpc::FsRead { len, .. } => fill_piece(lane, buffer, *len, reply),
+        Rpc::FsClose(_) | Rpc::FsWrite { .. } | Rpc::FsRemove(_) => fill_ret(lane, buffer, reply),
     }
 }
 
-/// Reads the reply as `read_reply` does, and lists what it read. At want of memory the list is as it was.
+/// Reads the reply as `read_reply` does into one of which nothing is read, so that its bytes move once, and lists what it
+/// read. At want of memory the list is as it was.
 pub fn take_reply(
     alloc: Global,
     lane: &Lane,
     buffer: u64,
     rpc: &Rpc,
+    reply: &mut RpcReply,
     reads: &mut Reads,
-) -> Result<RpcReply, NoMemory>
+) -> Result<(), NoMemory>
     requires in_ram { IsInRam buffer 4096 }
     requires request { IsRequest rpc.now }
-    ensures ok { IfOk result (λ reply. over_lane (reply_reader buffer rpc.now) lane.now reads.old
-        ≡ Some (reply, reads.new)) }
-    ensures kind { IfOk result (IsReplyTo rpc.now) }
+    requires blank { reply.old ≡ nothing_read }
+    ensures ok { OnOk result (over_lane (reply_reader buffer rpc.now) lane.now reads.old ≡ Some (reply.new, reads.new)) }
+    ensures kind { IsReplyTo rpc.now reply.new }
     ensures err { OnErr result (reads.new ≡ reads.old) }
 {
-    let reply = read_reply(lane, buffer, rpc);
+    fill_reply(lane, buffer, rpc, reply);
     let before = reads.len();
-    if let Err(refused) = list_reply(alloc, buffer, rpc, &reply, reads) {
+    let listed = list_reply(alloc, buffer, rpc, reply, reads);
+    if listed.is_err() {
         reads.truncate(before);
-        return Err(refused);
     }
-    Ok(reply)
+    listed
 }
 
 /// Lists the reads of which a reply came.
@@ -104,71 +109,56 @@ fn list_reply(
     }
 }
 
-fn read_time(lane: &Lane, buffer: u64) -> RpcReply
-    requires { IsInRam buffer 4096 }
-    ensures { (before : List Read) → over_lane (time_of buffer) lane.now before
-        ≡ Some (result, with_time buffer result before) }
+fn fill_time(lane: &Lane, buffer: u64, reply: &mut RpcReply)
+    requires in_ram { IsInRam buffer 4096 }
+    requires blank { reply.old ≡ nothing_read }
+    ensures reads { (before : List Read) → over_lane (time_of buffer) lane.now before
+        ≡ Some (reply.new, with_time buffer reply.new before) }
+    ensures kind { reply.new ≡ record nothing_read { ret = reply.new.ret; v = reply.new.v; w = reply.new.w } }
 {
-    RpcReply {
-        ret: u32_at(lane, ret_at(buffer)),
-        v: u64_at(lane, p_at(buffer, 0)),
-        w: u64_at(lane, q_at(buffer, 0)),
-        ..RpcReply::nothing_read()
-    }
+    reply.ret = u32_at(lane, ret_at(buffer));
+    reply.v = u64_at(lane, p_at(buffer, 0));
+    reply.w = u64_at(lane, q_at(buffer, 0));
 }
 
-fn read_descriptor(lane: &Lane, buffer: u64) -> RpcReply
-    requires { IsInRam buffer 4096 }
-    ensures { (before : List Read) → over_lane (descriptor_of buffer) lane.now before
-        ≡ Some (result, with_descriptor buffer result before) }
+fn fill_descriptor(lane: &Lane, buffer: u64, reply: &mut RpcReply)
+    requires in_ram { IsInRam buffer 4096 }
+    requires blank { reply.old ≡ nothing_read }
+    ensures reads { (before : List Read) → over_lane (descriptor_of buffer) lane.now before
+        ≡ Some (reply.new, with_descriptor buffer reply.new before) }
+    ensures kind { reply.new ≡ record nothing_read { ret = reply.new.ret; v = reply.new.v } }
 {
-    RpcReply {
-        ret: u32_at(lane, ret_at(buffer)),
-        v: u64_at(lane, p_at(buffer, 2)),
-        ..RpcReply::nothing_read()
-    }
+    reply.ret = u32_at(lane, ret_at(buffer));
+    reply.v = u64_at(lane, p_at(buffer, 2));
 }
 
 /// A piece of a file, of at most `most` bytes.
-fn read_piece(lane: &Lane, buffer: u64, most: u32) -> RpcReply
+fn fill_piece(lane: &Lane, buffer: u64, most: u32, reply: &mut RpcReply)
     requires in_ram { IsInRam buffer 4096 }
     requires most { most ≤ 3584 }
-    ensures { (before : List Read) → over_lane (piece_of buffer most) lane.now before
-        ≡ Some (result, with_piece buffer result before) }
+    requires blank { reply.old ≡ nothing_read }
+    ensures reads { (before : List Read) → over_lane (piece_of buffer most) lane.now before
+        ≡ Some (reply.new, with_piece buffer reply.new before) }
+    ensures kind { reply.new ≡ record nothing_read { ret = reply.new.ret; size = reply.new.size; bytes = reply.new.bytes } }
+    ensures bytes { HasBytes most reply.new }
 {
-    let ret = u32_at(lane, ret_at(buffer));
-    let size = u64_at(lane, q_at(buffer, 1));
-    let bytes = payload_of(lane, buffer, most, size);
-    RpcReply {
-        ret,
-        size,
-        bytes,
-        ..RpcReply::nothing_read()
+    reply.ret = u32_at(lane, ret_at(buffer));
+    reply.size = u64_at(lane, q_at(buffer, 1));
+    if reply.size <= u64::from(most) {
+        reply
+            .bytes
+            .fill(bytes_of(lane, buffer + PAYLOAD_OFFSET, reply.size));
     }
 }
 
-/// `size` bytes of the payload, if there are at most `most`.
-fn payload_of(lane: &Lane, buffer: u64, most: u32, size: u64) -> Payload
+fn fill_ret(lane: &Lane, buffer: u64, reply: &mut RpcReply)
     requires in_ram { IsInRam buffer 4096 }
-    requires most { most ≤ 3584 }
-    ensures { (before : List Read) → over_lane (payload_of buffer most size) lane.now before
-        ≡ Some (result, before ++ listed (payload_at buffer) result) }
+    requires blank { reply.old ≡ nothing_read }
+    ensures reads { (before : List Read) → over_lane (ret_alone buffer) lane.now before
+        ≡ Some (reply.new, with_ret buffer reply.new before) }
+    ensures kind { reply.new ≡ record nothing_read { ret = reply.new.ret } }
 {
-    if size > u64::from(most) {
-        return Payload::new();
-    }
-    Payload::of(bytes_of(lane, buffer + PAYLOAD_OFFSET, size))
-}
-
-fn read_ret(lane: &Lane, buffer: u64) -> RpcReply
-    requires { IsInRam buffer 4096 }
-    ensures { (before : List Read) → over_lane (ret_alone buffer) lane.now before
-        ≡ Some (result, with_ret buffer result before) }
-{
-    RpcReply {
-        ret: u32_at(lane, ret_at(buffer)),
-        ..RpcReply::nothing_read()
-    }
+    reply.ret = u32_at(lane, ret_at(buffer));
 }
 
 /// The number of four bytes at an address.

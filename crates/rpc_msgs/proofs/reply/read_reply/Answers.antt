@@ -2,11 +2,7 @@ use Rattle.std.proofs.Common.{List, [], ap}
 use Rattle.std.specs.Option.{option_map}
 use Rattle.ns_ram.specs.declared.read.Read.{Read}
 use Rattle.rpc_msgs.specs.declared.rpc.RpcReply.{RpcReply}
-use Rattle.rpc_msgs.proofs.Replies.{over_lane-reply}
 use Rattle.rpc_msgs.proofs.reply.read_reply.Goals as goal
 
 pub returns-clause-reply : goal.returns-clause-reply
-returns-clause-reply c = ap (option_map (λ (end : RpcReply × List Read). end.0)) (c.reply_at.ensures [])
-
-pub returns-clause-kind : goal.returns-clause-kind
-returns-clause-kind c = over_lane-reply c.args.buffer c.args.rpc.now c.args.lane.now _ c.reply_at.result (c.reply_at.ensures [])
+returns-clause-reply c = ap (option_map (λ (end : RpcReply × List Read). end.0)) (c.fill_reply.ensures.reads [])
