@@ -7,6 +7,8 @@ pub mod Cancelling
 pub mod CoreEvents
 pub mod Crossing
 pub mod Granting
+pub mod Kept
+pub mod Maps
 pub mod Opened
 pub mod Others
 pub mod Placed

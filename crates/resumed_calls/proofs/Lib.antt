@@ -1,7 +1,6 @@
 mod Begins
 mod Decides
 mod Facts
-mod Found
 mod Given
 mod Goes
 mod Keeping

@@ -5,7 +5,6 @@ ghost use Rattle.base.specs.NumberMap.{get};
 ghost use Rattle.kernel_model.specs.Application.{Booted};
 ghost use Rattle.kernel_model.specs.Begin.{begins_on};
 ghost use Rattle.kernel_model.specs.Given.{Given};
-ghost use Rattle.kernel_model.specs.Instances.{is_held};
 ghost use Rattle.kernel_model.specs.Kernel.{Instance as AnyInstance, PendingCall};
 ghost use Rattle.kernel_model.specs.Resume.{begins, begins_in, begins_open, ends_with, is_close, is_without_buffer, resumes_waiting, sleeps_on, tested_again, who_resumes};
 ghost use Rattle.kernel_state.specs.Calls.{IsCall};
@@ -87,7 +86,7 @@ fn tested_again(
     } = turn;
     if is_lost(tables, cont) {
         ends_with(tables, cont, slot, TEE_ERROR_TARGET_DEAD);
-    } else if is_held(tables, cont.instance) {
+    } else if tables.is_held(cont.instance) {
         sleeps_on(tables, cont, slot, without_buffer);
     } else {
         begins_in(setup, tables, cont, SessionTurn { slot, session, app });
@@ -107,46 +106,13 @@ fn is_lost(tables: &Tables, cont: &Cont<Pages>) -> bool
     ensures { result ≡ (option_map_or (λ (instance : AnyInstance). instance.dead) (get (tables_of tables.now).instances cont.now.instance) false
         && not (is_close cont.now.kind)) }
 {
-    is_dead(tables, cont.instance) && !is_close(cont.kind)
+    tables.is_dead(cont.instance) && !is_close(cont.kind)
 }
 
 fn is_close(kind: CallKind) -> bool
     ensures { result ≡ is_close kind }
 {
     matches!(kind, CallKind::Close)
-}
-
-/// Whether one of the entry points of the instance of this number panicked.
-#[tactic(auto, using(crate::proofs::Found::dead_told))]
-fn is_dead(tables: &Tables, number: u32) -> bool
-    ensures { result ≡ option_map_or (λ (instance : AnyInstance). instance.dead) (get (tables_of tables.now).instances number) false }
-{
-    match tables.instances.get(number) {
-        Some(instance) => instance.dead,
-        None => false,
-    }
-}
-
-/// Whether a call holds the instance of this number.
-#[tactic(auto, using(crate::proofs::Found::held_told))]
-fn is_held(tables: &Tables, number: u32) -> bool
-    ensures { result ≡ option_map_or is_held (get (tables_of tables.now).instances number) false }
-{
-    match tables.instances.get(number) {
-        Some(instance) => instance.holder.is_some(),
-        None => false,
-    }
-}
-
-/// Whether there is an instance of this number.
-#[tactic(auto, using(crate::proofs::Found::kept_told))]
-fn is_kept(tables: &Tables, number: u32) -> bool
-    ensures { result ≡ is_some (get (tables_of tables.now).instances number) }
-{
-    match tables.instances.get(number) {
-        Some(_) => true,
-        None => false,
-    }
 }
 
 /// Sleeps on, where it has a buffer to ask for that.
@@ -182,7 +148,7 @@ fn begins_in(setup: &Setup, tables: &mut Tables, cont: &mut Cont<Pages>, turn: S
     let Some(app) = app else {
         return ends_with(tables, cont, slot, TEE_ERROR_BAD_PARAMETERS);
     };
-    match (cont.kind, is_kept(tables, cont.instance)) {
+    match (cont.kind, tables.is_kept(cont.instance)) {
         (CallKind::Open, _) => {
             let login = session.login;
             begins_open(setup, tables, cont, OpenCall { slot, app, login });
@@ -238,7 +204,7 @@ fn begins_open(setup: &Setup, tables: &mut Tables, cont: &mut Cont<Pages>, opene
     ensures pages { HasFreePages setup.now tables.new }
 {
     let number = cont.instance;
-    if is_kept(tables, number) {
+    if tables.is_kept(number) {
         tables.waiters.leave(opener.slot);
         opens_kept(tables, cont, opener, number);
     } else if has_pages_for(setup, tables, &opener.app) {

@@ -3,11 +3,11 @@ use Rattle.std.proofs.Common.{◌≡◌, ℕ, Bool, false, Option, sym, ◌∙�
 use Rattle.std.specs.Prelude.{is_some}
 use Rattle.std.specs.Option.{option_map, option_map_or}
 use Rattle.base.specs.NumberMap.{get}
-use Rattle.begin_call.proofs.Maps.{get_seen}
 use Rattle.kernel_model.specs.Instances.{is_held}
 use Rattle.kernel_model.specs.Kernel as model
 use Rattle.kernel_state.specs.Tables.{instance_of, tables_of}
 use Rattle.kernel_state.specs.declared.tables.Tables.{Tables}
+use Rattle.kernel_state.proofs.Maps.{get_seen}
 use Rattle.ta_instances.specs.declared.instance.Instance.{Instance}
 
 found_in : (tables : Tables) (number : ℕ) (found : Option Instance) → found ≡ get tables.instances number →
