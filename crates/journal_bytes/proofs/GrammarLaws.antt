@@ -75,20 +75,21 @@ same_end natives before bytes (suc n) (suc m) one other rest others (kept, more)
 abbrev told_in : Whole → Told
 told_in whole = record { boot = Some whole.boot; events = whole.events }
 
-same_whole : (one other : Whole) → told_in one ≡ told_in other → one.used ≡ other.used → one ≡ other
-same_whole one other told used =
+same_whole : (one other : Whole) → told_in one ≡ told_in other → one.used ≡ other.used → one.records ≡ other.records → one ≡ other
+same_whole one other told used records =
     let boots : Some one.boot ≡ Some other.boot = ap (λ (t : Told). t.boot) told in
     let boot : one.boot ≡ other.boot = cc in
     let events : one.events ≡ other.events = ap (λ (t : Told). t.events) told in
-    ap (λ (b : Boot). record { boot = b; events = one.events; used = one.used }) boot
-    ∙ ap (λ (es : List Event). record { boot = other.boot; events = es; used = one.used }) events
-    ∙ ap (λ (n : ℕ). record { boot = other.boot; events = other.events; used = n }) used
+    ap (λ (b : Boot). record { boot = b; events = one.events; used = one.used; records = one.records }) boot
+    ∙ ap (λ (es : List Event). record { boot = other.boot; events = es; used = one.used; records = one.records }) events
+    ∙ ap (λ (n : ℕ). record { boot = other.boot; events = other.events; used = n; records = one.records }) used
+    ∙ ap (λ (n : ℕ). record { boot = other.boot; events = other.events; used = other.used; records = n }) records
 
 pub one_journal : (natives : List (List ℕ)) (bytes : List ℕ) (one other : Whole) → Spells natives bytes one → Spells natives bytes other → one ≡ other
 one_journal natives bytes one other s t =
     let end = same_end natives nothing (drop 4 bytes) s.count t.count (told_in one) (told_in other) (end_tag ∷ s.behind) (end_tag ∷ t.behind) s.spelled t.spelled (at_end natives (told_in one) s.behind) (at_end natives (told_in other) t.behind) in
     let long : length (end_tag ∷ s.behind) ≡ length (end_tag ∷ t.behind) = ap (λ (b : List ℕ). length b) end.bytes in
-    same_whole one other end.told (omega (arith, long, s.used_is, t.used_is))
+    same_whole one other end.told (omega (arith, long, s.used_is, t.used_is)) (s.records_is ∙ ap (λ (n : ℕ). n + 1) end.count ∙ sym t.records_is)
 
 behind_one : (natives : List (List ℕ)) (bytes : List ℕ) (place : ℕ) (kind : BadKind) (other_place : ℕ) (other_kind : BadKind) → IsFaultBehind natives bytes place kind → IsFaultBehind natives bytes other_place other_kind → (place ≡ other_place) × (kind ≡ other_kind)
 behind_one natives bytes place kind other_place other_kind s t =
@@ -126,7 +127,7 @@ ended : (natives : List (List ℕ)) (bytes : List ℕ) (count : ℕ) (boot : Opt
     → Leads natives nothing (drop 4 bytes) count (record { boot = boot; events = events }) (end_tag ∷ behind) → HasMeaning natives bytes
 ended natives bytes count None events behind fits begins kept = faulty natives bytes count (record { boot = None; events = events }) (end_tag ∷ behind) bad.Place begins kept refl
 ended natives bytes count (Some boot) events behind fits begins kept =
-    inl (record { boot = boot; events = events; used = length bytes - length behind }, record { begins = begins; count = count; behind = behind; spelled = kept; used_is = omega arith })
+    inl (record { boot = boot; events = events; used = length bytes - length behind; records = count + 1 }, record { begins = begins; count = count; behind = behind; spelled = kept; used_is = omega arith; records_is = refl })
 
 -- the records from here on, of which there are at most as many as bytes
 from_here : (natives : List (List ℕ)) (bytes : List ℕ) (most count : ℕ) (before : Told) (rest : List ℕ) → length rest ≤ most → length rest ≤ length bytes → magic_fault bytes ≡ None → Leads natives nothing (drop 4 bytes) count before rest → HasMeaning natives bytes

@@ -1,5 +1,5 @@
 -- The bytes that are written of a boot and events within their limits are read as them.
-use Rattle.std.proofs.Common.{◌≡◌, ℕ, suc, Bool, cond, List, [], ◌∷◌, ◌++◌, length, append_assoc, Some, None, refl, sym, subst, ap, ◌∙◌, arith}
+use Rattle.std.proofs.Common.{◌≡◌, ℕ, suc, ◌+◌, Bool, cond, List, [], ◌∷◌, ◌++◌, length, append_assoc, Some, None, refl, sym, subst, ap, ◌∙◌, arith}
 use Rattle.std.specs.Prelude.{All, nat_eq}
 use Rattle.std.specs.List.{AllByRecursion, flat_map, starts_with}
 use Rattle.std.proofs.lemmas.Bool.{le-ltb}
@@ -22,43 +22,45 @@ use Rattle.journal_bytes.specs.Sound.{HasRegs, IsSoundJournal}
 use Rattle.journal_bytes.specs.Spelling.{event_record, spelling, WrittenIsRead}
 use Rattle.journal_bytes.proofs.Again.{app_told, booted, boot_told, CanBeTold, event_told, IsTold}
 
--- records lead from what was told to this, and the rest stands behind them
-abbrev LeadsTo : List (List ℕ) → Told → List ℕ → Told → List ℕ → Type 0
-LeadsTo natives before bytes last rest = (count : ℕ) × Leads natives before bytes count last rest
-
 -- a record in front of others
-in_front : (natives : List (List ℕ)) (before mid last : Told) (bytes more rest : List ℕ) → IsTold natives before bytes more mid → LeadsTo natives mid more last rest → LeadsTo natives before bytes last rest
-in_front natives before mid last bytes more rest r (count, later) =
+in_front : (natives : List (List ℕ)) (before mid last : Told) (bytes more rest : List ℕ) (count : ℕ) → IsTold natives before bytes more mid → Leads natives mid more count last rest → Leads natives before bytes (suc count) last rest
+in_front natives before mid last bytes more rest count r later =
     let P : Told → Type 0 = λ t. Leads natives t (behind_record bytes) count last rest in
     let Q : List ℕ → Type 0 = λ b. Leads natives mid b count last rest in
-    (suc count, (r.kept, subst P (sym r.adds) (subst Q (sym r.behind) later)))
+    (r.kept, subst P (sym r.adds) (subst Q (sym r.behind) later))
 
 events_lead : (natives : List (List ℕ)) (boot : Boot) (done events : List Event) (rest : List ℕ) → AllByRecursion (CanBeTold boot.cpus) events
-    → LeadsTo natives (booted boot done) (flat_map event_record events ++ rest) (booted boot (done ++ events)) rest
-events_lead natives boot done [] rest all = (0, (ap (booted boot) (sym (append-nil done)), refl))
+    → Leads natives (booted boot done) (flat_map event_record events ++ rest) (length events) (booted boot (done ++ events)) rest
+events_lead natives boot done [] rest all = (ap (booted boot) (sym (append-nil done)), refl)
 events_lead natives boot done (event ∷ events) rest (can, all) =
     let more : List ℕ = flat_map event_record events ++ rest in
+    let count = length events in
     let later = events_lead natives boot (done ++ event ∷ []) events rest all in
-    let E : List Event → Type 0 = λ es. LeadsTo natives (booted boot (done ++ event ∷ [])) more (booted boot es) rest in
-    let B : List ℕ → Type 0 = λ bytes. LeadsTo natives (booted boot done) bytes (booted boot (done ++ event ∷ events)) rest in
+    let E : List Event → Type 0 = λ es. Leads natives (booted boot (done ++ event ∷ [])) more count (booted boot es) rest in
+    let B : List ℕ → Type 0 = λ bytes. Leads natives (booted boot done) bytes (suc count) (booted boot (done ++ event ∷ events)) rest in
     subst B (sym (append_assoc (event_record event) (flat_map event_record events) rest))
-    (in_front natives (booted boot done) (booted boot (done ++ event ∷ [])) (booted boot (done ++ event ∷ events)) (event_record event ++ more) more rest (event_told natives boot done event more can)
+    (in_front natives (booted boot done) (booted boot (done ++ event ∷ [])) (booted boot (done ++ event ∷ events)) (event_record event ++ more) more rest count (event_told natives boot done event more can)
     (subst E (append_assoc done (event ∷ []) events) later))
 
-apps_lead : (natives : List (List ℕ)) (boot : Boot) (done apps : List App) (more : List ℕ) (last : Told) (rest : List ℕ) → FollowInTurn natives done apps → LeadsTo natives (booted (with_apps boot (done ++ apps)) []) more last rest
-    → LeadsTo natives (booted (with_apps boot done) []) (flat_map app_record apps ++ more) last rest
-apps_lead natives boot done [] more last rest all later =
-    let L : List App → Type 0 = λ list. LeadsTo natives (booted (with_apps boot list) []) more last rest in
-    subst L (append-nil done) later
-apps_lead natives boot done (app ∷ apps) more last rest (f, all) later =
-    let L : List App → Type 0 = λ list. LeadsTo natives (booted (with_apps boot list) []) more last rest in
+apps_lead : (natives : List (List ℕ)) (boot : Boot) (done apps : List App) (more : List ℕ) (count : ℕ) (last : Told) (rest : List ℕ) → FollowInTurn natives done apps → Leads natives (booted (with_apps boot (done ++ apps)) []) more count last rest
+    → Leads natives (booted (with_apps boot done) []) (flat_map app_record apps ++ more) (length apps + count) last rest
+apps_lead natives boot done [] more count last rest all later =
+    let L : List App → Type 0 = λ list. Leads natives (booted (with_apps boot list) []) more count last rest in
+    let C : ℕ → Type 0 = λ n. Leads natives (booted (with_apps boot done) []) more n last rest in
+    let none : count ≡ length {A = App} [] + count = omega arith in
+    subst C none (subst L (append-nil done) later)
+apps_lead natives boot done (app ∷ apps) more count last rest (f, all) later =
+    let L : List App → Type 0 = λ list. Leads natives (booted (with_apps boot list) []) more count last rest in
     let behind : List ℕ = flat_map app_record apps ++ more in
-    let next = apps_lead natives boot (done ++ app ∷ []) apps more last rest all (subst L (sym (append_assoc done (app ∷ []) apps)) later) in
-    let B : List ℕ → Type 0 = λ bytes. LeadsTo natives (booted (with_apps boot done) []) bytes last rest in
+    let next = apps_lead natives boot (done ++ app ∷ []) apps more count last rest all (subst L (sym (append_assoc done (app ∷ []) apps)) later) in
+    let many : suc (length apps + count) ≡ length (app ∷ apps) + count = omega arith in
+    let B : List ℕ → Type 0 = λ bytes. Leads natives (booted (with_apps boot done) []) bytes (length (app ∷ apps) + count) last rest in
+    let C : ℕ → Type 0 = λ n. Leads natives (booted (with_apps boot done) []) (app_record app ++ behind) n last rest in
     let image = loaded app.image f.valid in
     subst B (sym (append_assoc (app_record app) (flat_map app_record apps) more))
-    (in_front natives (booted (with_apps boot done) []) (booted (with_apps boot (done ++ app ∷ [])) []) last (app_record app ++ behind) behind rest
-    (app_told natives (with_apps boot done) app behind f.id image.some image.few f.room f.new image.loads image.same) next)
+    (subst C many
+    (in_front natives (booted (with_apps boot done) []) (booted (with_apps boot (done ++ app ∷ [])) []) last (app_record app ++ behind) behind rest (length apps + count)
+    (app_told natives (with_apps boot done) app behind f.id image.some image.few f.room f.new image.loads image.same) next))
 
 begins : (rest : List ℕ) → magic_fault (magic ++ rest) ≡ None
 unfolding front_fault
@@ -87,16 +89,18 @@ written_is_read natives boot events behind sound ids journal regs =
     let events_bytes : List ℕ = flat_map event_record events in
     let rest : List ℕ = end_tag ∷ behind in
     let last : Told = booted boot events in
+    let count = length boot.apps + length events in
     let by_events = events_lead natives boot [] events rest (recursion_from_All (CanBeTold boot.cpus) events (each_told boot.cpus events journal regs)) in
-    let by_apps = apps_lead natives boot [] boot.apps (events_bytes ++ rest) last rest (follow_in_turn natives boot [] boot.apps sound ids refl) by_events in
-    let all = in_front natives nothing (booted (with_apps boot []) []) last (boot_record boot ++ (apps_bytes ++ (events_bytes ++ rest))) (apps_bytes ++ (events_bytes ++ rest)) rest
+    let by_apps = apps_lead natives boot [] boot.apps (events_bytes ++ rest) (length events) last rest (follow_in_turn natives boot [] boot.apps sound ids refl) by_events in
+    let all = in_front natives nothing (booted (with_apps boot []) []) last (boot_record boot ++ (apps_bytes ++ (events_bytes ++ rest))) (apps_bytes ++ (events_bytes ++ rest)) rest count
     (boot_told natives boot.cpus boot.threads boot.frames (apps_bytes ++ (events_bytes ++ rest)) limits.some_processor limits.few_processors limits.some_thread limits.few_threads limits.some_frame limits.few_frames) by_apps in
-    let B : List ℕ → Type 0 = λ bytes. LeadsTo natives nothing bytes last rest in
+    let B : List ℕ → Type 0 = λ bytes. Leads natives nothing bytes (suc count) last rest in
     let leads = subst B (sym (regrouped (boot_record boot) apps_bytes events_bytes behind)) all in
     record {
       begins = begins (((((boot_record boot ++ apps_bytes) ++ events_bytes) ++ end_tag ∷ [])) ++ behind);
-      count = leads.0;
+      count = suc count;
       behind = behind;
-      spelled = leads.1;
+      spelled = leads;
       used_is = sym (length-append (spelling boot events) behind);
+      records_is = omega arith;
     }

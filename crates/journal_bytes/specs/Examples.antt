@@ -200,10 +200,10 @@ pub record Examples : Type 0 where
   pub granted_many_steps_written : event_record granted_many_steps ≡ granted_many_steps_bytes
   pub goes_out_for_a_request_written : event_record goes_out_for_a_request ≡ goes_out_for_a_request_bytes
   pub goes_out_interrupted_written : event_record goes_out_interrupted ≡ goes_out_interrupted_bytes
-  -- what is read, and how many bytes are used of those with two behind the end
-  pub read : Spells [] whole_bytes (record { boot = small_boot; events = asks ∷ answers ∷ []; used = length whole_bytes })
-  pub read_of_more : Spells [] (whole_bytes ++ 0x7f ∷ 1 ∷ []) (record { boot = small_boot; events = asks ∷ answers ∷ []; used = 86 })
-  pub no_events : Spells [] (magic_bytes ++ boot_bytes ++ 0x7f ∷ []) (record { boot = small_boot; events = []; used = 10 })
+  -- what is read, how many bytes are used of those with two behind the end, and how many records
+  pub read : Spells [] whole_bytes (record { boot = small_boot; events = asks ∷ answers ∷ []; used = length whole_bytes; records = 4 })
+  pub read_of_more : Spells [] (whole_bytes ++ 0x7f ∷ 1 ∷ []) (record { boot = small_boot; events = asks ∷ answers ∷ []; used = 86; records = 4 })
+  pub no_events : Spells [] (magic_bytes ++ boot_bytes ++ 0x7f ∷ []) (record { boot = small_boot; events = []; used = 10; records = 2 })
   -- what is refused, where and for which cause
   pub no_bytes : IsFirstFault [] ([]) 0 bad.Cut
   pub other_magic : IsFirstFault [] (0x4f ∷ 0x54 ∷ 0x54 ∷ 0x42 ∷ 0x7f ∷ []) 0 bad.Item

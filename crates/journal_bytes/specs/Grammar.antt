@@ -37,11 +37,12 @@ abbrev pub fault_at : List (List ℕ) → Told → List ℕ → Option BadKind
 fault_at natives before [] = Some bad.Cut
 fault_at natives before (tag ∷ body) = if tag == end_tag then end_fault before else first_broken (record_rules natives before (tag ∷ body))
 
--- what the bytes of a journal tell, and how many they are, up to and with the end
+-- what the bytes of a journal tell, how many they are, up to and with the end, and how many records they have, the end among them
 pub record Whole : Type 0 where
   pub boot : Boot
   pub events : List Event
   pub used : ℕ
+  pub records : ℕ
 
 -- the bytes spell this journal at their front, beside built-in applications of these UUIDs: the magic, records that keep their
 -- rules, and an end; whatever stands behind it
@@ -51,6 +52,7 @@ pub record Spells (natives : List (List ℕ)) (bytes : List ℕ) (whole : Whole)
   pub behind : List ℕ
   pub spelled : Leads natives nothing (drop 4 bytes) count (record { boot = Some whole.boot; events = whole.events }) (end_tag ∷ behind)
   pub used_is : whole.used + length behind ≡ length bytes
+  pub records_is : whole.records ≡ count + 1
 
 -- the first fault among the records: what stands before its place keeps every rule
 pub record IsFaultBehind (natives : List (List ℕ)) (bytes : List ℕ) (place : ℕ) (kind : BadKind) : Type 0 where
@@ -73,7 +75,7 @@ IsFaultOf natives bytes Memory = Unit {0}
 
 -- what was read
 abbrev pub whole_of : ReadJournal → Whole
-whole_of read = record { boot = read.boot; events = read.journal.events; used = read.used }
+whole_of read = record { boot = read.boot; events = read.journal.events; used = read.used; records = read.records }
 
 -- this journal was read, or memory ran out
 abbrev pub IsReadUnlessMemory : Result ReadJournal TraceFault → Whole → Type 0

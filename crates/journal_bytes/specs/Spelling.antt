@@ -1,5 +1,5 @@
 -- The one spelling of a boot and its events that is written.
-use Rattle.std.specs.Prelude.{ℕ, List, [], ◌∷◌, ◌++◌, length, All}
+use Rattle.std.specs.Prelude.{ℕ, ◌+◌, List, [], ◌∷◌, ◌++◌, length, All}
 use Rattle.std.specs.List.{flat_map}
 use Rattle.byteorder.specs.Endian.{little_bytes}
 use Rattle.ns_ram.specs.declared.read.Read.{Read}
@@ -32,4 +32,9 @@ spelling boot events = magic ++ boot_record boot ++ flat_map app_record boot.app
 abbrev pub WrittenIsRead : Type 0
 WrittenIsRead =
     (natives : List (List ℕ)) (boot : Boot) (events : List Event) (behind : List ℕ) → IsSoundBoot natives boot → All IsIdentified boot.apps → IsSoundJournal boot.cpus events → All HasRegs events
-    → Spells natives (spelling boot events ++ behind) (record { boot = boot; events = events; used = length (spelling boot events) })
+    → Spells natives (spelling boot events ++ behind) (record {
+      boot = boot;
+      events = events;
+      used = length (spelling boot events);
+      records = length boot.apps + length events + 2;
+    })

@@ -24,10 +24,11 @@ abbrev pub AreListed : {X : Type 0} → Result X LineFault → (X → List ℕ) 
 AreListed (Ok rest) view count bytes reads = reads_at count bytes ≡ Some (reads, view rest)
 AreListed (Err fault) view count bytes reads = IsCutAt fault count bytes
 
--- the records end here: behind a boot, and this is the journal; or before any
-abbrev pub Ends : Result ReadJournal BadKind → Told → ℕ → Type 0
-Ends (Ok read) before used = (before ≡ record { boot = Some read.boot; events = read.journal.events }) × (read.used ≡ used)
-Ends (Err kind) before used = (before.boot ≡ None) × (kind ≡ bad.Place)
+-- the records end here, after so many bytes and so many records: behind a boot, and this is the journal; or before any
+abbrev pub Ends : Result ReadJournal BadKind → Told → ℕ → ℕ → Type 0
+Ends (Ok read) before used records =
+    (before ≡ record { boot = Some read.boot; events = read.journal.events }) × (read.used ≡ used) × (read.records ≡ records)
+Ends (Err kind) before used records = (before.boot ≡ None) × (kind ≡ bad.Place)
 
 -- a record stands here, and not the end, or nothing
 abbrev pub is_record : List ℕ → Bool

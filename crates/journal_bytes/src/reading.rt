@@ -27,6 +27,8 @@ pub struct ReadJournal {
     pub journal: Journal,
     /// How many bytes spell it, up to and with its end.
     pub used: u32,
+    /// How many records these are, the end among them.
+    pub records: u32,
 }
 
 /// Whether a record stands here, and not the end, or nothing.
@@ -36,10 +38,10 @@ fn is_record(bytes: &[u8]) -> bool
     !bytes.is_empty() && bytes[0] != END
 }
 
-/// The journal, at its end, which has come after so many bytes.
-fn finish(recording: Recording, used: u32) -> Result<ReadJournal, BadKind>
+/// The journal, at its end, with which so many bytes and so many records have come.
+fn finish(recording: Recording, used: u32, records: u32) -> Result<ReadJournal, BadKind>
     requires { HasNoItem recording }
-    ensures { Ends result (told_by recording) used }
+    ensures { Ends result (told_by recording) used records }
 {
     let Recording { header, events } = recording;
     let Ok(Trace { boot, .. }) = header.finish() else {
@@ -50,6 +52,7 @@ fn finish(recording: Recording, used: u32) -> Result<ReadJournal, BadKind>
             boot,
             journal: events,
             used,
+            records,
         }),
         None => Err(BadKind::Place),
     }
@@ -100,7 +103,7 @@ pub fn read_journal(
         });
     }
     let used = bytes.len() + 1 - rest.len();
-    match finish(recording, used as u32) {
+    match finish(recording, used as u32, place) {
         Ok(read) => Ok(read),
         Err(kind) => Err(TraceFault::Bad { place, kind }),
     }

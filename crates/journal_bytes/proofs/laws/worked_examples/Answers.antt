@@ -22,9 +22,9 @@ returns c = record {
   granted_many_steps_written = refl;
   goes_out_for_a_request_written = refl;
   goes_out_interrupted_written = refl;
-  read = record { begins = refl; count = 3; behind = []; spelled = (refl, (refl, (refl, (refl, refl)))); used_is = refl };
-  read_of_more = record { begins = refl; count = 3; behind = 0x7f ∷ 1 ∷ []; spelled = (refl, (refl, (refl, (refl, refl)))); used_is = refl };
-  no_events = record { begins = refl; count = 1; behind = []; spelled = (refl, (refl, refl)); used_is = refl };
+  read = record { begins = refl; count = 3; behind = []; spelled = (refl, (refl, (refl, (refl, refl)))); used_is = refl; records_is = refl };
+  read_of_more = record { begins = refl; count = 3; behind = 0x7f ∷ 1 ∷ []; spelled = (refl, (refl, (refl, (refl, refl)))); used_is = refl; records_is = refl };
+  no_events = record { begins = refl; count = 1; behind = []; spelled = (refl, (refl, refl)); used_is = refl; records_is = refl };
   no_bytes = inl (refl, refl);
   other_magic = inl (refl, refl);
   magic_alone = inr (record { begins = refl; count = 0; before = told_after 0 (magic_bytes); rest = rest_after 0 (magic_bytes); kept = (refl, refl); place_is = refl; fault = refl });

@@ -51,8 +51,8 @@ pub returns-in-Ok-finish : goal.returns-in-Ok-finish
 returns-in-Ok-finish c =
     let fits : length c.records.rest.now ≤ length c.args.bytes.now = omega (arith, c.records.invariant.some, c.records.invariant.few) in
     let answer = clauses c.args.natives.now c.args.bytes.now (Ok c.in-Ok-finish.read) (λ i. omega (arith, c.type_inv.bytes i)) c.requires
-    (ends_well c.args.natives.now c.args.bytes.now c.records.place (told_by c.records.recording) c.records.rest.now c.in-Ok-finish.read (sym c.in_default.ensures.which) c.records.invariant.so_far (sym c.records-test.ensures) (sym c.if-is_empty.ensures)
-    c.in-Ok-finish.ensures.0 fits c.in-Ok-finish.ensures.1) in
+    (ends_well c.args.natives.now c.args.bytes.now c.records.place (told_by c.records.recording) c.records.rest.now c.in-Ok-finish.read (sym c.in_default.ensures.which) c.records.invariant.some c.records.invariant.so_far (sym c.records-test.ensures) (sym c.if-is_empty.ensures)
+    c.in-Ok-finish.ensures.0 fits c.in-Ok-finish.ensures.1 c.in-Ok-finish.ensures.2) in
     record { found = answer.found; only = answer.only; bad = answer.bad; refused = answer.refused; boot = answer.boot; journal = answer.journal }
 
 pub returns-in-Err-finish : goal.returns-in-Err-finish
