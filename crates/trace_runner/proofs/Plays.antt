@@ -27,7 +27,7 @@ use Rattle.word_parts.specs.declared.status.Status.{Status}
 use Rattle.word_parts.specs.declared.status.Status.TheVariants.{BadTrace, ReadFault, WriteFault, Memory, TooLong}
 use Rattle.word_parts.specs.declared.status.Status.TheVariants as status
 use Rattle.trace_runner.proofs.Played.{some-and}
-use Rattle.trace_runner.proofs.Running.{writes-named}
+use Rattle.word_parts.proofs.Answering.{writes-named}
 
 -- ---- a trace
 
