@@ -1,3 +1,3 @@
 mod Gathering
-mod Merging
+pub mod Merging
 mod Staying

@@ -21,7 +21,7 @@ texts_count ends = length-map ends (λ (end : CpuEnd). end.block.items)
 
 module _ (natives : List Native) (boot : Boot) (trace : Trace) (history : List Event) (ends : List CpuEnd)
     (have : HaveEnded (booted boot natives) (zeros 0x400000) trace history ends) where
-  ended_at : (cpu : ℕ) (below : cpu < boot.cpus)
+  pub ended_at : (cpu : ℕ) (below : cpu < boot.cpus)
       → HasEndedAt (share_of (booted boot natives) history cpu) trace.items (filled (zeros 0x400000) trace.fills)
       (have.each cpu below).0 (places_of ends cpu)
   ended_at cpu below =
@@ -30,7 +30,7 @@ module _ (natives : List Native) (boot : Boot) (trace : Trace) (history : List E
       (filled (zeros 0x400000) trace.fills) one.0 place)
       (sym (ap (option_and_then place_of) one.1)) one.2
 
-  abbrev apart : Apart (booted boot natives) (zeros 0x400000) trace history
+  abbrev pub apart : Apart (booted boot natives) (zeros 0x400000) trace history
   apart = record {
     parts = λ cpu below. (ended_at cpu below).part;
     places = places_of ends;

@@ -1,0 +1,6 @@
+mod Closing
+mod Crossing
+mod Pairs
+mod Refusing
+mod Texts
+mod Works
