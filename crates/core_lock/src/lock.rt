@@ -48,13 +48,9 @@ impl<T: Logged> CoreLock<T> {
         let Ok(passes) = Vec::with_capacity(alloc, count as usize) else {
             return Err((value, NoMemory));
         };
-        match CoreLock::lay(alloc, value, count) {
-            Ok((lock, seat)) => {
-                let passes = lock.deal(seat, count, passes);
-                Ok((lock, passes))
-            }
-            Err(refused) => Err(refused),
-        }
+        let (lock, seat) = CoreLock::lay(alloc, value, count)?;
+        let passes = lock.deal(seat, count, passes);
+        Ok((lock, passes))
     }
 
     // Lays the table round the value, with its first seat.
