@@ -53,7 +53,7 @@ fn main(rt: HostRuntime) -> ExitCode {
         relation: Relation::Digest,
         call: digest,
     };
-    // The notifications of value 1, which it answers by their number.
+    // Answers the bottom half for value 1 by the number of its signals.
     let echo = Driver {
         value: 1,
         relation: DriverRelation::Echo,

@@ -1,14 +1,15 @@
 use rpc_msgs::Rpc;
 use ta_params::{Buf, CopiedParams};
 
-/// What one session is answered. No thread, address, cookie or session number stands in it. This project's own.
+/// What one session is answered, or one of a group's. No thread, address, cookie or session number stands in it. This
+/// project's own.
 #[derive(Debug, Drop)]
 pub enum OwnReply {
     /// A call wants a buffer for its request.
     Alloc,
-    /// A call sleeps until the session's instance is free.
+    /// A call sleeps until its session's instance is free.
     Sleep,
-    /// A call wakes another call of the session.
+    /// A call wakes another call of its session or group.
     Wake {
         call: u32,
     },

@@ -1,4 +1,4 @@
-//! Playing a trace of which no line is kept: each goes to a digest as it comes.
+//! Playing a trace of which no line is kept: each goes into a digest and the counts of answers.
 
 ghost use Rattle.std.specs.Prelude.{◌≡◌, ℕ, List, [], Err, IfOk, IsSome, Some};
 ghost use Rattle.kernel_model.specs.Application.{Native};
