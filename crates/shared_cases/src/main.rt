@@ -20,15 +20,26 @@ use std::alloc::Global;
 use std::io;
 use std::sync::Wait;
 
+/// Serves the trace of a case in this order, and prints what that tells.
+fn print_order<R: Print + Wait>(
+    rt: &R,
+    alloc: Global,
+    natives: &Natives,
+    text: &str,
+    order: &str,
+) -> Result<()> {
+    let mut told = String::new(alloc);
+    serve_text(rt, alloc, natives, text.as_bytes(), order, &mut told)?;
+    print!(rt; "order {order}\n{told}").context("printing an order")
+}
+
 /// Serves a case in each of its orders, and prints what that tells.
 fn print_case<R: Print + Wait>(rt: &R, alloc: Global, natives: &Natives, case: &str) -> Result<()> {
     let (name, rest) = case.split_once('\n').context("reading a name")?;
     let (orders, text) = rest.split_once("trace\n").context("reading orders")?;
     println!(rt; "case {name}")?;
     for order in orders.lines() {
-        let mut told = String::new(alloc);
-        serve_text(rt, alloc, natives, text.as_bytes(), order, &mut told)?;
-        print!(rt; "order {order}\n{told}")?;
+        print_order(rt, alloc, natives, text, order)?;
     }
     Ok(())
 }

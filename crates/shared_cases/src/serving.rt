@@ -1,21 +1,23 @@
 //! A trace, served by a shared core from one thread, in an order of its processors.
-ghost use Rattle.std.specs.Prelude.{◌≡◌, []};
+ghost use Rattle.std.specs.Prelude.{◌≡◌, ◌∷◌, [], map};
+ghost use Rattle.core_lock.specs.Passes.{AreUnused, number};
 ghost use Rattle.kernel_state.specs.Meaning.{booted_of, events_of};
+ghost use Rattle.normal_cpus.specs.Sharing.{AreCpusOf, boot_of};
 ghost use Rattle.shared_cases.specs.Cpus.{IsPairOf};
 
 use crate::pair::Pair;
 use crate::script::{Half, Turn, cpu_of, ordered, takes_turns};
-use anyhow::{Context, Result, bail};
+use anyhow::{Context, Error, Result, bail};
 use event_journal::{Event, Journal};
 use kernel_state::Core;
 use native_tas::Natives;
-use normal_cpus::{CpuAnswer, SharedCore, share};
-use ns_ram::in_ram;
+use normal_cpus::{CpuAnswer, CpuPass, SharedCore, share};
+use ns_ram::{Lane, in_ram};
 use std::alloc::Global;
 use std::fmt::Write;
 use std::sync::Wait;
 use trace_parts::{core_of, filled, registers, tell_ret, tell_show, trace_of};
-use trace_text::{Item, Trace};
+use trace_text::{Fill, Item};
 
 /// Tells an exit, with the places of its entry and its own in the history.
 fn tell_exit(cpu: u8, answer: &CpuAnswer, told: &mut String) -> Result<()> {
@@ -159,34 +161,54 @@ fn tell_events(journal: &Journal, told: &mut String) -> Result<()> {
     Ok(())
 }
 
-/// Serves the items of a trace on a core of two processors that is shared, and gives the core when all is done.
+/// Serves all turns on a shared core, and tells whose its events are once all passes are back.
+fn serve_shared(
+    rt: &impl Wait,
+    alloc: Global,
+    shared: SharedCore,
+    passes: Vec<CpuPass>,
+    lanes: (Lane, Lane),
+    items: &[Item],
+    turns: &[Turn],
+    told: &mut String,
+) -> Result<()>
+    requires numbers { map number passes.items ≡ 0 ∷ 1 ∷ [] }
+    requires own { AreCpusOf shared passes.items × AreUnused passes.items }
+    requires count { (boot_of shared).cpus ≡ 2 }
+{
+    let (mut pair, room) = Pair::new(&shared, passes, lanes.0, lanes.1);
+    let served = serve_turns(rt, alloc, &shared, &mut pair, items, turns, told);
+    let core = pair.close(shared, room);
+    match served {
+        Ok(()) => tell_events(core.journal(), told),
+        Err(fault) => Err(fault),
+    }
+}
+
+/// Serves the items of a trace on a core of two processors that is shared.
 fn serve_items(
     rt: &impl Wait,
     alloc: Global,
     core: Core,
-    trace: &Trace,
+    lanes: (Lane, Lane),
+    items: &[Item],
     turns: &[Turn],
     told: &mut String,
-) -> Result<Core>
+) -> Result<()>
     requires events { events_of core ≡ [] }
     requires cpus { (booted_of core).cpus ≡ 2 }
 {
-    let one = filled(alloc, trace.fills.as_slice())?;
-    let two = filled(alloc, trace.fills.as_slice())?;
-    let Ok((shared, passes)) = share(alloc, core) else {
-        bail!("no memory to share a core");
-    };
-    let (mut pair, room) = Pair::new(&shared, passes, one, two);
-    serve_turns(
-        rt,
-        alloc,
-        &shared,
-        &mut pair,
-        trace.items.as_slice(),
-        turns,
-        told,
-    )?;
-    Ok(pair.close(shared, room))
+    match share(alloc, core) {
+        Ok((shared, passes)) => serve_shared(rt, alloc, shared, passes, lanes, items, turns, told),
+        Err(_) => Err(Error::msg("no memory to share a core")),
+    }
+}
+
+/// RAM with these fills, for each of two processors.
+fn two_lanes(alloc: Global, fills: &[Fill]) -> Result<(Lane, Lane)> {
+    let one = filled(alloc, fills)?;
+    let two = filled(alloc, fills)?;
+    Ok((one, two))
 }
 
 /// Serves the trace of a text in this order. Tells its lines, and last whose the events of the core are, once all passes are
@@ -205,7 +227,17 @@ pub fn serve_text(
         bail!("a case of other than two processors");
     }
     let turns = ordered(alloc, trace.items.as_slice(), order)?;
-    let core = core_of(alloc, boot, natives)?;
-    let core = serve_items(rt, alloc, core, &trace, turns.as_slice(), told)?;
-    tell_events(core.journal(), told)
+    let lanes = two_lanes(alloc, trace.fills.as_slice())?;
+    match core_of(alloc, boot, natives) {
+        Ok(core) => serve_items(
+            rt,
+            alloc,
+            core,
+            lanes,
+            trace.items.as_slice(),
+            turns.as_slice(),
+            told,
+        ),
+        Err(fault) => Err(fault),
+    }
 }
