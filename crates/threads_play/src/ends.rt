@@ -1,5 +1,5 @@
 //! What the threads give back.
-ghost use Rattle.std.specs.Prelude.{◌≡◌, ◌++◌, map, IfOk, OnOk};
+ghost use Rattle.std.specs.Prelude.{◌≡◌, map, IfOk};
 ghost use Rattle.std.specs.List.{flat_map, list_any};
 ghost use Rattle.cpu_player.specs.declared.ending.CpuEnd.{CpuEnd};
 ghost use Rattle.shared_play.specs.Ended.{texts_of};

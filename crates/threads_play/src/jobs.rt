@@ -1,5 +1,5 @@
 //! What each thread is given.
-ghost use Rattle.std.specs.Prelude.{◌≡◌, ◌<◌, map, length, IfOk, ℕ, List, All, slice_index_or};
+ghost use Rattle.std.specs.Prelude.{◌≡◌, ◌<◌, length, IfOk, ℕ, List, All, slice_index_or};
 ghost use Rattle.normal_cpus.specs.Sharing.{CpuPass};
 
 use normal_cpus::CpuPass;

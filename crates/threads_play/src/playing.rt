@@ -1,9 +1,8 @@
 //! All of it: a core is shared, each processor plays its items in a thread, and the core is had back.
-ghost use Rattle.std.specs.Prelude.{◌≡◌, ◌<◌, ℕ, List, [], IfOk, length};
+ghost use Rattle.std.specs.Prelude.{◌≡◌, List, [], IfOk, length};
 ghost use Rattle.kernel_model.specs.Application.{Native};
 ghost use Rattle.kernel_model.specs.History.{IsLegal};
 ghost use Rattle.kernel_state.specs.Meaning.{booted_of, events_of};
-ghost use Rattle.ordered_play.specs.Act.{acts_for};
 ghost use Rattle.ta_isa.specs.declared.boot.Boot.{Boot};
 ghost use Rattle.trace_text.specs.declared.trace.Trace.{Trace};
 ghost use Rattle.threads_play.specs.Played.{IsOfTrace, TakeTurns, WasPlayed};
