@@ -294,7 +294,7 @@ one_line natives before line e so_far =
     let p = one_kept bad.Byte (list_all is_text_byte line) (first_broken rest) e in
     unless_skipped (is_skipped line) named natives before words p.1 so_far
 
-all_lines : (natives : List (List ℕ)) (before : Trace) (lines : List (List ℕ)) (after : Trace) → Leads natives before lines after → IsSoFarOf natives before → IsSoFarOf natives after
+pub all_lines : (natives : List (List ℕ)) (before : Trace) (lines : List (List ℕ)) (after : Trace) → Leads natives before lines after → IsSoFarOf natives before → IsSoFarOf natives after
 all_lines natives before [] after leads so_far = subst (λ (t : Trace). IsSoFarOf natives t) leads so_far
 all_lines natives before (line ∷ lines) after leads so_far = all_lines natives (after_line before line) lines after leads.1 (one_line natives before line leads.0 so_far)
 

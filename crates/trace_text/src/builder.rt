@@ -1,6 +1,6 @@
 //! The trace so far, which a reader of lines or of records adds to.
 
-ghost use Rattle.std.specs.Prelude.{◌≡◌, ◌<◌, ◌≤◌, ◌++◌, ◌∷◌, [], is_some, true, false, IfSome, None, Some};
+ghost use Rattle.std.specs.Prelude.{◌≡◌, ◌<◌, ◌≤◌, ◌++◌, ◌∷◌, [], is_some, length, true, false, IfSome, None, Some};
 ghost use Rattle.std.specs.List.{list_any};
 ghost use Rattle.trace_text.specs.Judging.{Ends, IsPut, Reads, booted, item_cpu};
 ghost use Rattle.trace_text.specs.Limits.{apps_of, cpus_of, empty_trace, end_fault, has_no_item, inside_after, is_inside, moved, with_app, with_item};
@@ -96,6 +96,13 @@ impl Builder {
         ensures { result ≡ has_no_item self.now.items }
     {
         self.items.is_empty()
+    }
+
+    /// How many items stand so far.
+    pub fn item_count(&self) -> usize
+        ensures { result ≡ length self.now.items }
+    {
+        self.items.len()
     }
 
     /// The applications in images so far.

@@ -24,5 +24,8 @@ pub use builder::Builder;
 pub use fault::{BadKind, LineFault, TraceFault};
 pub use item::{Item, Reg};
 pub use laws::{one_meaning, worked_examples};
+pub use line::{has_words, is_text};
+pub use line_kind::LineKind;
 pub use reading::read_trace;
 pub use trace::{Fill, Trace};
+pub use word::number;

@@ -197,12 +197,7 @@ impl Builder {
 
     /// Takes a line, which is given without its line feed.
     #[tactic(auto, using(crate::proofs::PlainLines::item_is_taken), unfolding(crate::specs::Rules::line_rules, crate::specs::Rules::after_line))]
-    pub(crate) fn take(
-        &mut self,
-        alloc: Global,
-        natives: &[Uuid],
-        line: &[u8],
-    ) -> Result<(), LineFault>
+    pub fn take(&mut self, alloc: Global, natives: &[Uuid], line: &[u8]) -> Result<(), LineFault>
         ensures { IsTaken result (line_rules natives.now self.old true line.now) (after_line self.old line.now) self.new }
     {
         if let Some(item) = self.plain_smc(line) {
@@ -226,7 +221,7 @@ impl Builder {
 
     /// The trace, where the text ends with these bytes behind its last line feed.
     #[tactic(auto, unfolding(crate::specs::Grammar::piece_fault, crate::specs::Rules::line_rules))]
-    pub(crate) fn finish_text(self, rest: &[u8]) -> Result<Trace, BadKind>
+    pub fn finish_text(self, rest: &[u8]) -> Result<Trace, BadKind>
         ensures { (natives : List (List ℕ)) → Ends result (piece_fault natives self rest.now []) self }
     {
         if !rest.is_empty() {
