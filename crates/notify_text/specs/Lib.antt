@@ -1,4 +1,6 @@
 pub mod Examples
 pub mod Grammar
+pub mod Judging
 pub mod Rules
+pub mod Sound
 pub mod Steps

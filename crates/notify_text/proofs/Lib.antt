@@ -1,0 +1,5 @@
+pub mod Lines
+pub mod Meanings
+pub mod Readings
+pub mod SoundSignals
+pub mod WithoutSignals

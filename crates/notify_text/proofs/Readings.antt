@@ -1,0 +1,138 @@
+-- What the loop of the reader keeps, and what it answers.
+use Rattle.std.proofs.Common.{◌≡◌, ◌⊎◌, ℕ, ◌+◌, true, eqb, List, [], ◌∷◌, length, Option, Some, None, Result, Ok, Err, IfOk, IfErr, sym, ap, ◌∙◌, inl, inr, refl, ⊎_elim, arith}
+use Rattle.std.proofs.lemmas.List.{length-append}
+use Rattle.std.proofs.lemmas.List.Splits.{length-slice_split}
+use Rattle.text_lines.specs.Lines.{IsCutAt, Lacks}
+use Rattle.trace_text.specs.Grammar.{IsPlacedIn, pieces_of}
+use Rattle.trace_text.specs.Judging.{placed}
+use Rattle.trace_text.specs.Limits.{first_broken}
+use Rattle.trace_text.specs.declared.fault.BadKind.{BadKind}
+use Rattle.trace_text.specs.declared.fault.LineFault.{LineFault}
+use Rattle.trace_text.specs.declared.fault.LineFault.TheVariants.{Broken, NoRoom}
+use Rattle.trace_text.specs.declared.fault.TraceFault.{TraceFault}
+use Rattle.trace_text.specs.declared.fault.TraceFault.TheVariants.{Bad, Memory}
+use Rattle.trace_text.proofs.Pieces.{first_piece, last_piece, some_piece}
+use Rattle.notify_text.specs.Grammar.{IsFaultOf, IsFirstFault, Spells, piece_fault}
+use Rattle.notify_text.specs.Judging.{IsTaken}
+use Rattle.notify_text.specs.Rules.{after_line, line_rules, no_trace}
+use Rattle.notify_text.specs.Sound.{IsSoundTold}
+use Rattle.notify_text.specs.declared.notify_trace.NotifyTrace.{NotifyTrace}
+use Rattle.notify_text.proofs.Meanings.{first_fault_read, kept_line, read_fault, read_pieces, read_spelled, spelled_read, unless}
+use Rattle.notify_text.proofs.SoundSignals.{sound-spelled}
+
+-- it was answered so, unless memory ran out
+abbrev pub IsUnlessMemory : Result NotifyTrace TraceFault → Result NotifyTrace TraceFault → Type 0
+IsUnlessMemory result wanted = (result ≡ wanted) ⊎ (result ≡ Err Memory)
+
+-- ---- the loop
+
+broken_line : (natives : List (List ℕ)) (place : ℕ) (before : NotifyTrace) (line next : List ℕ)
+    (pieces : List (List ℕ)) (kind : BadKind) → first_broken (line_rules natives before true line) ≡ Some kind
+    → read_pieces natives place before (line ∷ (next ∷ pieces)) ≡ Err (Bad place kind)
+unfolding read_pieces piece_fault
+broken_line natives place before line next pieces kind broken = rw broken refl
+
+-- a line that is taken
+pub goes_on : (natives : List (List ℕ)) (place : ℕ) (before after : NotifyTrace) (rest line behind : List ℕ)
+    (total : Result NotifyTrace TraceFault) → IsCutAt 10 rest line behind
+    → (first_broken (line_rules natives before true line) ≡ None) × (after ≡ after_line before line)
+    → read_pieces natives place before (pieces_of rest) ≡ total
+    → read_pieces natives (place + 1) after (pieces_of behind) ≡ total
+goes_on natives place before after rest line behind total cut taken so_far =
+    let f = some_piece behind in
+    let pieces : pieces_of rest ≡ line ∷ (f.piece ∷ f.behind) =
+    first_piece rest line behind cut ∙ ap (λ (ps : List (List ℕ)). line ∷ ps) f.is in
+    ap (read_pieces natives (place + 1) after) f.is
+    ∙ sym (kept_line natives place before after line f.piece f.behind taken.0 taken.1)
+    ∙ sym (ap (read_pieces natives place before) pieces)
+    ∙ so_far
+
+-- and one that isn't
+pub stops : (natives : List (List ℕ)) (place : ℕ) (before after : NotifyTrace) (rest line behind : List ℕ)
+    (total : Result NotifyTrace TraceFault) (fault : LineFault) (answer : TraceFault) → IsCutAt 10 rest line behind
+    → IsTaken (Err fault) (line_rules natives before true line) (after_line before line) after → answer ≡ placed place fault
+    → read_pieces natives place before (pieces_of rest) ≡ total → IsUnlessMemory (Err answer) total
+stops natives place before after rest line behind total (Broken kind) answer cut broken is so_far =
+    let f = some_piece behind in
+    let pieces : pieces_of rest ≡ line ∷ (f.piece ∷ f.behind) =
+    first_piece rest line behind cut ∙ ap (λ (ps : List (List ℕ)). line ∷ ps) f.is in
+    let whole : total ≡ Err (Bad place kind) = sym so_far ∙ ap (read_pieces natives place before) pieces
+    ∙ broken_line natives place before line f.piece f.behind kind broken in
+    inl (ap (λ (a : TraceFault). Err a) is ∙ sym whole)
+stops natives place before after rest line behind total NoRoom answer cut broken is so_far =
+    inr (ap (λ (a : TraceFault). Err a) is)
+
+-- the end of the text
+pub ends : (natives : List (List ℕ)) (place : ℕ) (before told : NotifyTrace) (rest : List ℕ)
+    (total : Result NotifyTrace TraceFault) → Lacks 10 rest → (piece_fault natives before rest [] ≡ None) × (told ≡ before)
+    → read_pieces natives place before (pieces_of rest) ≡ total → IsUnlessMemory (Ok told) total
+unfolding read_pieces
+ends natives place before told rest total lacks end so_far =
+    let last : read_pieces natives place before (pieces_of rest) ≡ unless (piece_fault natives before rest []) place (Ok before) =
+    ap (read_pieces natives place before) (last_piece rest lacks) in
+    let whole : total ≡ Ok before =
+    sym so_far ∙ last ∙ ap (λ (o : Option BadKind). unless o place (Ok before)) end.0 in
+    inl (ap (λ (t : NotifyTrace). Ok t) end.1 ∙ sym whole)
+
+pub ends_badly : (natives : List (List ℕ)) (place : ℕ) (before : NotifyTrace) (rest : List ℕ)
+    (total : Result NotifyTrace TraceFault) (kind : BadKind) → Lacks 10 rest → piece_fault natives before rest [] ≡ Some kind
+    → read_pieces natives place before (pieces_of rest) ≡ total → IsUnlessMemory (Err (Bad place kind)) total
+unfolding read_pieces
+ends_badly natives place before rest total kind lacks fault so_far =
+    let last : read_pieces natives place before (pieces_of rest) ≡ unless (piece_fault natives before rest []) place (Ok before) =
+    ap (read_pieces natives place before) (last_piece rest lacks) in
+    let whole : total ≡ Err (Bad place kind) =
+    sym so_far ∙ last ∙ ap (λ (o : Option BadKind). unless o place (Ok before)) fault in
+    inl (sym whole)
+
+-- ---- what the reader answers
+
+found_from_read : (natives : List (List ℕ)) (text : List ℕ) (r : Result NotifyTrace TraceFault)
+    → IsUnlessMemory r (read_pieces natives 1 no_trace (pieces_of text)) → IfOk r (λ told. Spells natives text told)
+found_from_read natives text (Ok told) h = ⊎_elim (λ e. spelled_read natives text told (sym e)) (λ e. absurd cc) h
+found_from_read natives text (Err fault) h = tt
+
+bad_from_read : (natives : List (List ℕ)) (text : List ℕ) (r : Result NotifyTrace TraceFault)
+    → IsUnlessMemory r (read_pieces natives 1 no_trace (pieces_of text)) → IfErr r (IsFaultOf natives text)
+bad_from_read natives text (Ok told) h = tt
+bad_from_read natives text (Err Memory) h = tt
+bad_from_read natives text (Err (Bad place kind)) h =
+    ⊎_elim (λ e. first_fault_read natives text place kind (sym e)) (λ e. absurd cc) h
+
+placed_from_read : (natives : List (List ℕ)) (text : List ℕ) (r : Result NotifyTrace TraceFault)
+    → IfErr r (IsFaultOf natives text) → IfErr r (IsPlacedIn text)
+placed_from_read natives text (Ok told) h = tt
+placed_from_read natives text (Err Memory) h = tt
+placed_from_read natives text (Err (Bad place kind)) f =
+    let count = length-slice_split (λ b. eqb b 10) text in
+    let parts = ap length f.text_is ∙ length-append f.front (f.piece ∷ f.back) in
+    (omega (arith, f.place_is), omega (arith, f.place_is, count, parts))
+
+sound_from_found : (natives : List (List ℕ)) (text : List ℕ) (r : Result NotifyTrace TraceFault)
+    → IfOk r (λ told. Spells natives text told) → IfOk r (IsSoundTold natives)
+sound_from_found natives text (Ok told) spelled = sound-spelled natives text told spelled
+sound_from_found natives text (Err fault) spelled = tt
+
+-- all of it
+pub record IsAnswer (natives : List (List ℕ)) (text : List ℕ) (r : Result NotifyTrace TraceFault) : Type 0 where
+  pub found : IfOk r (λ told. Spells natives text told)
+  pub only : (told : NotifyTrace) → Spells natives text told → (r ≡ Ok told) ⊎ (r ≡ Err Memory)
+  pub bad : IfErr r (IsFaultOf natives text)
+  pub refused : (place : ℕ) (kind : BadKind) → IsFirstFault natives text place kind
+      → (r ≡ Err (Bad place kind)) ⊎ (r ≡ Err Memory)
+  pub placed : IfErr r (IsPlacedIn text)
+  pub sound : IfOk r (IsSoundTold natives)
+
+pub answer_from_read : (natives : List (List ℕ)) (text : List ℕ) (r : Result NotifyTrace TraceFault)
+    → IsUnlessMemory r (read_pieces natives 1 no_trace (pieces_of text)) → IsAnswer natives text r
+answer_from_read natives text r h =
+    let spelled : IfOk r (λ told. Spells natives text told) = found_from_read natives text r h in
+    let faulty : IfErr r (IsFaultOf natives text) = bad_from_read natives text r h in
+    record {
+      found = spelled;
+      only = λ told s. ⊎_elim (λ e. inl (e ∙ read_spelled natives text told s)) (λ e. inr e) h;
+      bad = faulty;
+      refused = λ place kind f. ⊎_elim (λ e. inl (e ∙ read_fault natives text place kind f)) (λ e. inr e) h;
+      placed = placed_from_read natives text r faulty;
+      sound = sound_from_found natives text r spelled;
+    }
