@@ -1,0 +1,12 @@
+//! What a desk of signals answers above the core.
+//!
+//! As a processor goes out of the core, the desk may have to answer in the kernel's place: to tell a value, to let signals
+//! count, to say that there are notifications, to run a bottom half, or to stop. [`duty_of`] says by how the processor came
+//! in and by the kernel's answer what is asked, and [`answer`] does it. The definitions are those of `notify_play`.
+#![tactic(auto)]
+
+mod answering;
+mod duty;
+
+pub use answering::{ResultIn, Told, answer};
+pub use duty::{Duty, duty_of};
