@@ -1,8 +1,8 @@
 -- A call in a session comes to what the definition takes its slot for.
 use Rattle.std.proofs.Common.{◌≡◌, ℕ, Bool, true, false, List, Option, Some, None, refl, sym, ap, ◌∙◌, subst}
-use Rattle.std.specs.Prelude.{IsSome, if◌then◌else◌, fold, is_some}
+use Rattle.std.specs.Prelude.{IsSome, if◌then◌else◌, fold}
 use Rattle.std.specs.List.{AllByRecursion}
-use Rattle.std.specs.Option.{IsSomeAnd, option_and_then}
+use Rattle.std.specs.Option.{IsSomeAnd, option_map_or}
 use Rattle.base.specs.NumberMap.{get}
 use Rattle.begin_call.specs.Begins.{who_begins}
 use Rattle.job_model.specs.declared.call_kind.CallKind.{CallKind}
@@ -96,13 +96,12 @@ waits_if false after old new uuid waits works is has = absurd cc
 pub came_waiting : (tables after : Tables) (old new : Cont (List ℕ)) (app : Application) (who : Beginner) (session : Session) (instance : Instance)
     (params : CopiedParams) (points : List EntryPoint) (held : Bool) →
     get (tables_of tables).instances session.instance ≡ Some instance → MayWork tables app session →
-    held ≡ is_some (option_and_then (λ (instance : Instance). instance.holder) (get (tables_of tables).instances session.instance)) → held ≡ true →
+    held ≡ option_map_or is_held (get (tables_of tables).instances session.instance) false → held ≡ true →
     HasCome after old new (uuid_of app) (queued who session.instance (uuid_of app) params) →
     HasCome after old new instance.uuid (session_comes who session instance params points)
 came_waiting tables after old new app who session instance params points held there may test is_true come =
     let can : CanComeIn app instance = subst (λ (o : Option Instance). IsSomeAnd o (CanComeIn app)) there may in
-    let is_so : is_held instance ≡ true =
-    sym (ap (λ (o : Option Instance). is_some (option_and_then (λ (instance : Instance). instance.holder) o)) there) ∙ sym test ∙ is_true in
+    let is_so : is_held instance ≡ true = sym (ap (λ (o : Option Instance). option_map_or is_held o false) there) ∙ sym test ∙ is_true in
     waits_if (is_held instance) after old new instance.uuid (queued who session.instance instance.uuid params) (began (begins_on who session instance params points)) is_so
     (subst (λ (uuid : List ℕ). HasCome after old new uuid (queued who session.instance uuid params)) (sym can.uuid) come)
 

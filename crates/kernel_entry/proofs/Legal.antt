@@ -5,6 +5,7 @@ use Rattle.std.proofs.lemmas.List.Elements.{All-head, All-tail, All-weaker}
 use Rattle.std.proofs.lemmas.Slice.Eq.{bytes_eq-Decides}
 use Rattle.std.specs.Prelude.{All, nat_le, nat_lt, ◌==◌, ◌||◌, ◌&&◌, bytes_eq, find, if◌then◌else◌, is_some}
 use Rattle.std.specs.Option.{IsSomeAnd, option_map_or}
+use Rattle.std.proofs.lemmas.Bool.{and_parts}
 use Rattle.base.proofs.MapLemmas.{All-get}
 use Rattle.base.specs.NumberMap.{NumberMap, get}
 use Rattle.begin_call.proofs.Apps.{found_uuid, pages_found, valid_app}
@@ -163,10 +164,6 @@ at_most a b is = grind (arith, nat_tests)
 below : (a b : ℕ) → nat_lt a b ≡ true → a < b
 below a b is = grind (arith, nat_tests)
 
-both_true : (one other : Bool) → (one && other) ≡ true → (one ≡ true) × (other ≡ true)
-both_true true other is = (refl, is)
-both_true false other is = absurd cc
-
 -- there are pages for it
 pages_left : (setup : Setup) (tables : Tables) (entered : Entered) (app : Application) → HasFreePages setup tables →
     has_pages (call_with (booted_with setup) (tables_of tables) entered) app ≡ true → shared_instance (tables_of tables).instances app ≡ None →
@@ -188,7 +185,7 @@ can_make : (setup : Setup) (calls : Calls) (tables : Tables) (entered : Entered)
     has_room tables.sessions ≡ true → shared_instance (tables_of tables).instances app ≡ None → CanMake tables app
 can_make setup calls tables entered app sound free pages has room none =
     let c = call_with (booted_with setup) (tables_of tables) entered in
-    let rooms = both_true (nat_lt (length tables.sessions.kept) 64) (nat_lt tables.sessions.next (2 ^ 32)) room in
+    let rooms = and_parts (nat_lt (length tables.sessions.kept) 64) (nat_lt tables.sessions.next (2 ^ 32)) room in
     record {
       pages = pages_left setup tables entered app pages has none;
       absent = new_absent calls c app sound.before free none;

@@ -1,6 +1,5 @@
 //! An invoke and a close, as they begin or wait.
-ghost use Rattle.std.specs.Prelude.{◌≡◌, Some, is_some, None};
-ghost use Rattle.std.specs.Option.{option_and_then};
+ghost use Rattle.std.specs.Prelude.{◌≡◌, Some, None};
 ghost use Rattle.base.specs.NumberMap.{get};
 ghost use Rattle.begin_call.specs.Begins.{who_begins};
 ghost use Rattle.begin_call.specs.Points.{points_of};
@@ -32,17 +31,6 @@ use rpc_cont::{CallEntry, Cont};
 use session_table::Session;
 use std::alloc::Global;
 
-/// A call holds the instance.
-fn is_held(tables: &Tables, number: u32) -> bool
-    ensures { result ≡ is_some (option_and_then (λ (instance : AnyInstance). instance.holder)
-        (get (tables_of tables.now).instances number)) }
-{
-    match tables.instances.get(number) {
-        Some(instance) => instance.holder.is_some(),
-        None => false,
-    }
-}
-
 /// Begins on the session's instance, or waits where another call holds it.
 fn comes_in(tables: &mut Tables, cont: &mut Cont<Pages>, call: SessionCall)
     requires new { IsNew cont.old }
@@ -57,7 +45,7 @@ fn comes_in(tables: &mut Tables, cont: &mut Cont<Pages>, call: SessionCall)
     ensures pages { (setup : AnySetup) → HasFreePages setup tables.old → HasFreePages setup tables.new }
 {
     let number = call.session.instance;
-    if is_held(tables, number) {
+    if tables.is_held(number) {
         joins(tables, cont, call.app, number, call.slot);
     } else {
         begins_on(tables, cont, call);
