@@ -3,6 +3,7 @@ use Rattle.std.proofs.Common.{◌≡◌, ℕ, true, false, List, [], ◌∷◌, 
 use Rattle.std.specs.Prelude.{IsSomeAnd, is_some, is_none}
 use Rattle.std.specs.Option.{option_map, option_map_or}
 use Rattle.base.specs.NumberMap.{NumberMap, get, insert}
+use Rattle.kernel_state.proofs.Maps.{get_seen, insert_seen, seen_as}
 use Rattle.kernel_model.specs.Application.{Booted}
 use Rattle.kernel_model.specs.Instances.{given_back, killed}
 use Rattle.kernel_model.specs.Instances as model
@@ -13,7 +14,6 @@ use Rattle.rpc_cont.specs.Conts.{kept_memory}
 use Rattle.ta_instances.specs.declared.instance.Instance.{Instance as Kept}
 use Rattle.ta_instances.specs.Instances as low
 use Rattle.kernel_exit.specs.Ending.{CanBeGivenBack, CanBeRemoved, IsFreeWith, IsHeldWith, is_dead}
-use Rattle.kernel_exit.proofs.Maps.{get_seen, insert_seen, seen_as}
 use Rattle.kernel_exit.proofs.GivenBack.{changed}
 
 -- the instances as the kernel sees them
@@ -31,14 +31,6 @@ pub dead_there : (instances : NumberMap Kept) (number : ℕ) (kept : Option Kept
 dead_there instances number kept is = by kept ∙ sym (ap (λ found. option_map_or (λ (i : Instance). i.dead) found false) (seen_at instances number kept is))
   where
     by : (kept : Option Kept) → option_map_or (λ (i : Kept). i.dead) kept false ≡ option_map_or (λ (i : Instance). i.dead) (option_map instance_of kept) false
-    by None = refl
-    by (Some i) = refl
-
-pub held_there : (instances : NumberMap Kept) (number : ℕ) (kept : Option Kept) → kept ≡ get instances number →
-    option_map_or (λ (i : Kept). is_some i.holder) kept false ≡ option_map_or model.is_held (get (seen instances) number) false
-held_there instances number kept is = by kept ∙ sym (ap (λ found. option_map_or model.is_held found false) (seen_at instances number kept is))
-  where
-    by : (kept : Option Kept) → option_map_or (λ (i : Kept). is_some i.holder) kept false ≡ option_map_or model.is_held (option_map instance_of kept) false
     by None = refl
     by (Some i) = refl
 

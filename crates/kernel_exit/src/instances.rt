@@ -1,42 +1,20 @@
 //! What the end of a call makes of its instance, and its pages.
 ghost use Rattle.std.specs.Prelude.{◌≡◌, ◌+◌, ◌-◌, ◌≤◌, ◌&&◌, ◌||◌, [], false, not, length};
-ghost use Rattle.std.specs.Option.{option_map_or};
-ghost use Rattle.base.specs.NumberMap.{get};
 ghost use Rattle.frame_pool.specs.Pages.{page_count};
 ghost use Rattle.kernel_model.specs.Exit.{gives_back};
-ghost use Rattle.kernel_model.specs.Instances.{given_back, is_held, killed};
+ghost use Rattle.kernel_model.specs.Instances.{given_back, killed};
 ghost use Rattle.kernel_model.specs.Kernel.{PendingCall};
 ghost use Rattle.kernel_model.specs.Sessions.{has_opened};
 ghost use Rattle.kernel_state.specs.Calls.{bytes_of};
 ghost use Rattle.kernel_state.specs.Setup.{booted_with};
 ghost use Rattle.kernel_state.specs.Tables.{HasFreePages, tables_of};
 ghost use Rattle.rpc_cont.specs.Conts.{kept_memory};
-ghost use Rattle.kernel_exit.specs.Ending.{CanBeGivenBack, CanBeRemoved, is_dead, with_changed, without_instance};
+ghost use Rattle.kernel_exit.specs.Ending.{CanBeGivenBack, CanBeRemoved, with_changed, without_instance};
 
 use crate::sessions::has_opened;
 use frame_pool::{Pages, Pool};
 use kernel_state::{Setup, Tables};
 use ta_instances::Handles;
-
-/// Whether a call holds the instance of this number.
-pub(crate) fn is_held(tables: &Tables, number: u32) -> bool
-    ensures { result ≡ option_map_or is_held (get (tables_of tables.now).instances number) false }
-{
-    match tables.instances.get(number) {
-        Some(instance) => instance.holder.is_some(),
-        None => false,
-    }
-}
-
-/// Whether it is dead.
-fn is_dead(tables: &Tables, number: u32) -> bool
-    ensures { result ≡ is_dead (tables_of tables.now).instances number }
-{
-    match tables.instances.get(number) {
-        Some(instance) => instance.dead,
-        None => false,
-    }
-}
 
 /// Gives an instance's pages back, if it has any.
 fn release(pool: &mut Pool, memory: Option<Pages>)
@@ -74,7 +52,7 @@ fn put_back(
     ensures pages { HasFreePages setup.now tables.new }
     ensures free { CanBeRemoved (booted_with setup.now) (tables_of tables.new).instances number }
 {
-    if is_dead(tables, number) {
+    if tables.is_dead(number) {
         release(&mut tables.pool, memory);
         tables.instances.give_back_from(number, None, objects);
     } else {
@@ -118,7 +96,7 @@ pub(crate) fn give_back(
     ensures objects { objects.new ≡ [] }
     ensures pages { HasFreePages setup.now tables.new }
 {
-    let is_dead = is_dead(tables, number);
+    let is_dead = tables.is_dead(number);
     let goes = is_removed(tables, number, is_last, is_dead);
     put_back(setup, tables, number, memory, objects);
     if goes {

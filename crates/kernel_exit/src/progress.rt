@@ -10,7 +10,6 @@ ghost use Rattle.kernel_state.specs.Tables.{HasFreePages, tables_of};
 ghost use Rattle.rpc_cont.specs.Advancing.{phase_after};
 ghost use Rattle.kernel_exit.specs.Ending.{CanEnd, ComesOfGrant, ComesOfRest};
 
-use crate::instances::is_held;
 use crate::tables_after::{tables_after_end, tables_after_panic, tables_unrun};
 use frame_pool::Pages;
 use job_model::CallKind;
@@ -25,7 +24,7 @@ fn woken_by(tables: &Tables, kind: CallKind, instance: u32) -> Option<u8>
     match kind {
         CallKind::Settled => None,
         CallKind::Open | CallKind::Invoke { .. } | CallKind::Close => {
-            if is_held(tables, instance) {
+            if tables.is_held(instance) {
                 return None;
             }
             tables.waiters.first(instance)

@@ -6,26 +6,15 @@ ghost use Rattle.kernel_model.specs.Kernel.{PendingCall};
 ghost use Rattle.kernel_state.specs.Calls.{bytes_of};
 ghost use Rattle.kernel_state.specs.Setup.{booted_with};
 ghost use Rattle.kernel_state.specs.Tables.{HasFreePages, tables_of};
-ghost use Rattle.rpc_cont.specs.Conts.{end_left, is_at_its_end};
+ghost use Rattle.rpc_cont.specs.Conts.{end_left};
 ghost use Rattle.kernel_exit.specs.Ending.{CanEnd, IsOf};
 
 use crate::instances::{give_back, give_back_dead};
 use crate::sessions::{sessions_after, sessions_after_panic, sessions_unrun};
 use frame_pool::Pages;
-use job_model::{CallKind, EntryPoint};
+use job_model::CallKind;
 use kernel_state::{Setup, Tables};
 use rpc_cont::Cont;
-
-/// Whether a call that has ended so leaves its instance at its end.
-fn is_at_its_end(point: Option<EntryPoint>, points: &[EntryPoint]) -> bool
-    ensures { result ≡ is_at_its_end point points.now }
-{
-    match point {
-        None => !points.is_empty(),
-        Some(EntryPoint::Create | EntryPoint::Destroy) => true,
-        Some(EntryPoint::Open | EntryPoint::Invoke { .. } | EntryPoint::Close) => false,
-    }
-}
 
 /// After the job of a call has ended.
 pub fn tables_after_end(setup: &Setup, tables: &mut Tables, cont: &mut Cont<Pages>)
@@ -44,7 +33,7 @@ pub fn tables_after_end(setup: &Setup, tables: &mut Tables, cont: &mut Cont<Page
         result,
         cont.context,
     );
-    let is_last = is_at_its_end(cont.point, cont.points.as_slice());
+    let is_last = cont.ends_instance();
     let memory = cont.memory.take();
     give_back(
         setup,

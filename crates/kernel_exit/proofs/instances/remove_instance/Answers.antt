@@ -1,6 +1,7 @@
 -- Its pages are those that the pool lacks for it.
 use Rattle.std.proofs.Common.{◌+◌, ap, sym, ◌∙◌, arith}
 use Rattle.base.specs.NumberMap.{NumberMap}
+use Rattle.kernel_state.proofs.Maps.{remove_seen}
 use Rattle.frame_pool.specs.Pages.{page_count}
 use Rattle.frame_pool.specs.Pool.{Frames}
 use Rattle.kernel_model.specs.Instances.{free_pages}
@@ -9,7 +10,6 @@ use Rattle.kernel_state.specs.Setup.{booted_with}
 use Rattle.kernel_state.specs.Tables.{instance_of, tables_of}
 use Rattle.kernel_exit.specs.Ending.{IsFreeWith}
 use Rattle.kernel_exit.proofs.GivenBack.{removal_fits, removal_frees}
-use Rattle.kernel_exit.proofs.Maps.{remove_seen}
 use Rattle.kernel_exit.proofs.Seen.{found_there, is_free_low, memory_came, seen}
 use Rattle.kernel_exit.proofs.instances.remove_instance.Goals as goal
 
