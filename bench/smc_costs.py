@@ -5,7 +5,9 @@ Plays traces that do the same N and 2N times, as cases of `worked_cases`, under 
 each further time, with all that these call; where the compiler has dissolved one into its caller, it counts none. A row whose trace
 would have too many entries is left out. Blocks are moved and cleared by vectors here: by `rep` instructions, which is the C library's
 way with long ones, callgrind counts each byte. Build the program first, by `rt run` in crates/worked_cases.
-Usage: bench/smc_costs.py [N..]
+
+With `whole` it runs `optee_run` on these traces, and prints what it takes for each further time in all: reading, serving and printing.
+Usage: bench/smc_costs.py [whole] [N..]
 """
 
 import os
@@ -13,7 +15,8 @@ import pathlib
 import struct
 import sys
 
-from callgrind import costs
+from callgrind import costs, counted
+from playing import PROGRAM as OPTEE_RUN
 
 PROGRAM = pathlib.Path(__file__).resolve().parent.parent / "crates/worked_cases/out/worked_cases"
 TIMES = [1_000, 32_000]
@@ -110,11 +113,19 @@ LOOPS = {
 }
 
 
-def case(app, once, again, times):
-    """The case of a trace. It names a wrong status, so that one line is printed."""
+def trace(app, once, again, times):
+    """The lines of a trace."""
     head = ["boot 1 1 16", f"ta {UUID} {app}", f"mem 40000000 {argument(OPEN, CLIENT, param(META, 0, 0))}", CALL]
-    lines = ["case loop", "words run", "input", *("|" + line for line in head + once + again * times), "output", "status 1"]
+    return head + once + again * times
+
+
+def text_of(lines):
     return "".join(line + "\n" for line in lines).encode()
+
+
+def case(loop, times):
+    """The case of a trace. It names a wrong status, so that one line is printed."""
+    return text_of(["case loop", "words run", "input", *("|" + line for line in trace(*loop, times)), "output", "status 1"])
 
 
 def fits(loop, times):
@@ -125,16 +136,27 @@ def fits(loop, times):
 
 def taken(loop, times):
     """How many instructions `enter` and `leave` take in a whole trace."""
-    _, found, printed = costs(PROGRAM, given=case(*loop, times))
+    _, found, printed = costs(PROGRAM, given=case(loop, times))
     assert printed == b"loop at cut 4294967295 ended with 0, and not with 1\n", printed
     return [sum(cost for name, cost in found.items() if name.endswith(end)) for end in ("entering::enter", "Machine::leave")]
 
 
+def taken_in_all(loop, times):
+    """How many instructions `optee_run` takes for a whole trace."""
+    count, _ = counted(OPTEE_RUN, "run", given=text_of(trace(*loop, times)))
+    return count
+
+
 def main():
     os.environ["GLIBC_TUNABLES"] = BY_VECTORS
-    for times in [int(word) for word in sys.argv[1:]] or TIMES:
+    whole = sys.argv[1:2] == ["whole"]
+    for times in [int(word) for word in sys.argv[1 + whole :]] or TIMES:
         for name, loop in LOOPS.items():
             if not fits(loop, 2 * times):
+                continue
+            if whole:
+                further = (taken_in_all(loop, 2 * times) - taken_in_all(loop, times)) / times
+                print(f"{times:,} times, {name}: {further:.0f} in all", flush=True)
                 continue
             enter, leave = [(twice - once) / times for once, twice in zip(taken(loop, times), taken(loop, 2 * times))]
             print(f"{times:,} times, {name}: enter {enter:.0f}, leave {leave:.0f}, together {enter + leave:.0f}", flush=True)
