@@ -1,26 +1,28 @@
 -- From the clauses of the top call to what a call over memory comes to.
 use Rattle.std.proofs.Common.{◌≡◌, ℕ, ◌⊎◌, inl, inr, List, [], Option, Some, None, refl, sym, subst, arith}
 use Rattle.ports.specs.Port.{Appends, Rose}
+use Rattle.trace_runner.proofs.Readings.{not_serve, not_work}
 use Rattle.trace_runner.proofs.Running.{worked-statuses}
 use Rattle.trace_runner.specs.Plays.{IsSummedUp, Plays, SpellsTraces}
 use Rattle.trace_runner.specs.Run.{CanBeRefused, CanBeServed, IsRefusedWhole, IsServedWhole, Ran, Statuses, WorkStatuses, Worked, WritesSummary, usage_line}
 use Rattle.word_parts.specs.Answer.{Writes}
 use Rattle.trace_runner.specs.Words.{Say, SayNothing}
-use Rattle.trace_runner.specs.declared.command.Command.TheVariants.{Serve, Work}
+use Rattle.trace_runner.specs.declared.command.Command.TheVariants.{Serve, Threads, Work}
 use Rattle.trace_runner.specs.declared.command.Grammar.{Grammar}
 use Rattle.trace_runner.specs.declared.content.Content.{Content}
 use Rattle.word_parts.specs.declared.status.Status.{Status}
 use Rattle.word_parts.specs.declared.status.Status.TheVariants.{Memory, ReadFault, Usage, WriteFault}
 use Rattle.word_parts.specs.declared.status.Status.TheVariants as status
-use Rattle.core_c.specs.Running.{IsRun, Native, built_in}
+use Rattle.core_c.specs.Running.{AskNothing, IsRun, Native, built_in}
 
 -- no fault is counted
-quiet : Rose 0 0 → ⊥
+pub quiet : Rose 0 0 → ⊥
 quiet rose = grind arith
 
--- the clauses of the top call where its ports count none
+-- the clauses of the top call without threads, where its ports count none
 pub record Clauses (natives : List Native) (texts : List (List ℕ)) (input : List ℕ) (left : Option (List ℕ))
     (result : Status) (old new : Option (List ℕ)) : Type 0 where
+  pub alone : Say texts Threads → ⊥
   pub usage : result ≡ Usage → SayNothing texts × Appends old new usage_line
   pub other_words : SayNothing texts → Writes Usage usage_line result old new
   pub ran : (grammar : Grammar) → Say texts (Serve grammar) → Ran grammar natives input left result old new
@@ -46,8 +48,8 @@ pub of_clauses : (natives : List Native) (texts : List (List ℕ)) (input : List
     (result : Status) (output : List ℕ) → Clauses natives texts input left result (Some []) (Some output)
     → IsRun natives texts input result output
 of_clauses natives texts input left result output c = record {
-  usage = c.usage;
-  other_words = c.other_words;
+  usage = λ e. (inl (c.usage e).0, (c.usage e).1);
+  other_words = other;
   serves = λ grammar said. record {
     left = left;
     ran = c.ran grammar said;
@@ -64,6 +66,30 @@ of_clauses natives texts input left result output c = record {
   };
   reads = λ e. quiet (c.reads e);
   writes = λ e. quiet (c.writes e);
+}
+  where
+    other : AskNothing texts → Writes Usage usage_line result (Some []) (Some output)
+    other (inl nothing) = c.other_words nothing
+    other (inr threads) = absurd (c.alone threads)
+
+-- no words ask for nothing
+pub no_words : SayNothing []
+no_words (Serve grammar) said = let e = said.words in absurd cc
+no_words Threads said = let e = said.words in absurd cc
+no_words (Work seed count) said = let e = said.words in absurd cc
+
+-- the word `threads` is answered with the usage line
+pub of_threads : (natives : List Native) (texts : List (List ℕ)) (input : List ℕ) (result : Status) (output : List ℕ)
+    → Say texts Threads → Writes Usage usage_line result (Some []) (Some output)
+    → (result ≡ Usage → output ≡ usage_line) → (result ≡ ReadFault → ⊥) → (result ≡ WriteFault → ⊥)
+    → IsRun natives texts input result output
+of_threads natives texts input result output threads written usage reads writes = record {
+  usage = λ e. (inr threads, usage e);
+  other_words = λ nothing. written;
+  serves = λ grammar said. absurd (not_serve texts grammar threads said);
+  works = λ seed count said. absurd (not_work texts seed count threads said);
+  reads = reads;
+  writes = writes;
 }
 
 -- want of memory before anything was put

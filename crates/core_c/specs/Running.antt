@@ -6,7 +6,7 @@ use Rattle.trace_runner.specs.Plays.{IsSummedUp, Plays, SpellsTraces}
 use Rattle.trace_runner.specs.Run.{CanBeRefused, CanBeServed, IsRefusedWhole, IsServedWhole, Ran, Statuses, WorkStatuses, Worked, WritesSummary, usage_line}
 use Rattle.word_parts.specs.Answer.{Writes}
 use Rattle.trace_runner.specs.Words.{Say, SayNothing}
-use Rattle.trace_runner.specs.declared.command.Command.TheVariants.{Serve, Work}
+use Rattle.trace_runner.specs.declared.command.Command.TheVariants.{Serve, Threads, Work}
 use Rattle.trace_runner.specs.declared.command.Grammar.{Grammar}
 use Rattle.trace_runner.specs.declared.content.Content.{Content}
 use Rattle.word_parts.specs.declared.status.Status.{Status}
@@ -45,11 +45,15 @@ pub record Works (seed count : ℕ) (result : Status) (output : List ℕ) : Type
   pub plays : result ≡ status.Ok → IsSummedUp seed count (Some []) (Some output)
   pub complete : ((result ≡ status.Ok) × WritesSummary seed count (Some []) (Some output)) ⊎ (result ≡ Memory)
 
+-- no command is asked for that is served here: none at all, or `threads`, since no thread is started
+abbrev pub AskNothing : List (List ℕ) → Type 0
+AskNothing texts = SayNothing texts ⊎ Say texts Threads
+
 -- the top call of these words over this input ended with this status, and put this output
 pub record IsRun (natives : List Native) (texts : List (List ℕ)) (input : List ℕ) (result : Status)
     (output : List ℕ) : Type 0 where
-  pub usage : result ≡ Usage → SayNothing texts × (output ≡ usage_line)
-  pub other_words : SayNothing texts → Writes Usage usage_line result (Some []) (Some output)
+  pub usage : result ≡ Usage → AskNothing texts × (output ≡ usage_line)
+  pub other_words : AskNothing texts → Writes Usage usage_line result (Some []) (Some output)
   pub serves : (grammar : Grammar) → Say texts (Serve grammar) → Serves natives grammar input result output
   pub works : (seed count : ℕ) → Say texts (Work seed count) → Works seed count result output
   pub reads : result ≢ ReadFault

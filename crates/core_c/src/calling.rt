@@ -1,15 +1,17 @@
 //! The top call over bytes in memory.
-ghost use Rattle.std.specs.Prelude.{◌≡◌, [], map, string_bytes};
+ghost use Rattle.std.specs.Prelude.{◌≡◌, ◌≢◌, ◌++◌, [], Some, map, string_bytes};
 ghost use Rattle.native_tas.specs.Table.{entries};
 ghost use Rattle.core_c.specs.Running.{IsRun, built_in};
 ghost use Rattle.core_c.specs.Words.{texts_in};
+ghost use Rattle.trace_runner.specs.Run.{usage_line};
+ghost use Rattle.word_parts.specs.Answer.{Writes};
 
 use crate::growing_sink::GrowingSink;
 use crate::slice_source::SliceSource;
 use crate::words::words_in;
 use native_tas::{Native, Natives, Relation, digest};
 use std::alloc::Global;
-use trace_runner::{Status, run};
+use trace_runner::{Status, asks_threads, run_alone};
 use uuid::Uuid;
 
 /// The UUID of the digest application, which is built in.
@@ -24,7 +26,23 @@ pub struct Outcome {
     pub output: Vec<u8>,
 }
 
-/// The top call, beside these built-in applications.
+/// Answers with the usage line.
+fn tell_usage(
+    alloc: Global,
+    input: &mut SliceSource<'_>,
+    out: &mut GrowingSink,
+    natives: &Natives,
+) -> Status
+    ensures line { Writes Status.Usage usage_line result (Some out.old.held.items) (Some out.new.held.items) }
+    ensures usage { result ≡ Status.Usage → out.new.held.items ≡ out.old.held.items ++ usage_line }
+    ensures reads { result ≢ Status.ReadFault }
+    ensures writes { result ≢ Status.WriteFault }
+{
+    run_alone(alloc, &[], input, out, natives)
+}
+
+/// The top call, beside these built-in applications. No thread is started, so the word that asks for some is answered as words
+/// that ask for nothing.
 fn run_beside(
     alloc: Global,
     words: &[String],
@@ -35,7 +53,11 @@ fn run_beside(
     requires { out.old.held.items ≡ [] }
     ensures { IsRun (entries natives.now) (map string_bytes words.now) input.old.left.now result out.new.held.items }
 {
-    run(alloc, words, input, out, natives)
+    if asks_threads(words) {
+        tell_usage(alloc, input, out, natives)
+    } else {
+        run_alone(alloc, words, input, out, natives)
+    }
 }
 
 /// The top call, beside the built-in applications of the program.

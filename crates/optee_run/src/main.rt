@@ -8,7 +8,7 @@ ghost use Rattle.native_tas.specs.Native.{entry_of};
 ghost use Rattle.native_tas.specs.Table.{drivers, entries};
 
 use native_tas::{Driver, DriverRelation, Native, Natives, Relation, digest};
-use ports::{StdSink, StdSource};
+use ports::{NoPace, StdSink, StdSource};
 use std::alloc::{AllocError, Global};
 use std::io::ErrorKind;
 use std::process::ExitCode;
@@ -53,7 +53,7 @@ fn main(rt: HostRuntime) -> ExitCode {
         relation: Relation::Digest,
         call: digest,
     };
-    // Answers the bottom half for value 1 by the number of its signals.
+    // The notifications of value 1, which it answers by their number.
     let echo = Driver {
         value: 1,
         relation: DriverRelation::Echo,
@@ -64,6 +64,15 @@ fn main(rt: HostRuntime) -> ExitCode {
     };
     let mut input = StdSource::new(rt.reader());
     let mut out = StdSink::new(io::writer(&rt));
-    let status = run(rt.alloc(), words.as_slice(), &mut input, &mut out, &natives);
+    let words = words.as_slice();
+    let status = run(
+        &rt,
+        rt.alloc(),
+        words,
+        &mut input,
+        &mut out,
+        &natives,
+        &NoPace,
+    );
     ExitCode::from(status.number())
 }

@@ -1,11 +1,12 @@
 -- Numbers among words, and which command words ask for.
-use Rattle.std.proofs.Common.{◌≡◌, ℕ, ◌^◌, ◌<◌, false, List, [], ◌∷◌, sym, ap, ◌∙◌, arith}
+use Rattle.std.proofs.Common.{◌≡◌, ◌↔◌, ℕ, ◌^◌, ◌<◌, Bool, false, List, [], ◌∷◌, get_or, sym, ap, ◌∙◌, arith}
+use Rattle.std.specs.Prelude.{IsTrue, codes}
 use Rattle.std.specs.Fmt.{decimal}
 use Rattle.std.specs.Str.{bytes_eq}
 use Rattle.std.proofs.lemmas.Fmt.{decimal_injective}
 use Rattle.std.proofs.lemmas.Slice.Eq.{bytes_eq-Decides}
-use Rattle.trace_runner.specs.Words.{SayNothing}
-use Rattle.trace_runner.specs.declared.command.Command.TheVariants.{Serve, Work}
+use Rattle.trace_runner.specs.Words.{Say, SayNothing}
+use Rattle.trace_runner.specs.declared.command.Command.TheVariants.{Serve, Threads, Work}
 
 -- texts that differ are not one number's
 pub other_text : (text word : List ℕ) (one other : ℕ) → bytes_eq text word ≡ false → text ≡ decimal one → one ≡ other
@@ -19,9 +20,21 @@ other_text text word one other differs is same said =
 pub too_many : (word seed count : List ℕ) (number : ℕ) → number < 2 ^ 64 → 2 ^ 16 < number → count ≡ decimal number
     → SayNothing (word ∷ seed ∷ count ∷ [])
 too_many word seed count number below many is (Serve grammar) say = let e = say.words in absurd cc
+too_many word seed count number below many is Threads say = let e = say.words in absurd cc
 too_many word seed count number below many is (Work s n) say =
     let e = say.words in
     let said : count ≡ decimal n = cc in
     let few = say.within.1 in
     let same = decimal_injective number n below (omega (arith, few)) (sym is ∙ said) in
     absurd (omega (arith, same, few, many))
+
+-- a word that equals `threads` says it, and no other does
+pub is_threads : (word : List ℕ) (same : Bool) → same ≡ bytes_eq word (codes "threads")
+    → IsTrue same ↔ Say (word ∷ []) Threads
+is_threads word same is = (
+  λ yes. record {
+    within = tt;
+    words = ap (λ (w : List ℕ). w ∷ []) ((bytes_eq-Decides word (codes "threads")).0 (sym is ∙ yes));
+  },
+  λ said. is ∙ (bytes_eq-Decides word (codes "threads")).1 (ap (λ (ws : List (List ℕ)). get_or ws 0 []) said.words),
+)

@@ -10,3 +10,5 @@ pub mod Plays
 pub mod Playable
 pub mod Gathered
 pub mod Digests
+pub mod Legal
+pub mod OnThreads

@@ -1,6 +1,6 @@
 -- What an input spells is one thing, in each grammar, and words ask for one command.
 use Rattle.std.proofs.Common.{◌≡◌, ℕ, List, [], length, get_or, ap, refl, sym, ◌∙◌, arith}
-use Rattle.std.specs.Prelude.{String, map, string_bytes}
+use Rattle.std.specs.Prelude.{String, codes, map, string_bytes}
 use Rattle.std.proofs.lemmas.Fmt.{decimal_injective}
 use Rattle.std.specs.Global.{Global}
 use Rattle.ta_asm.proofs.Meanings as asm
@@ -12,7 +12,7 @@ use Rattle.trace_text.specs.declared.trace.Trace.{Trace}
 use Rattle.trace_runner.specs.Content.{IsFirstFault, Spells}
 use Rattle.trace_runner.specs.Words.{Asks, Say, word_of}
 use Rattle.trace_runner.specs.declared.command.Command.{Command}
-use Rattle.trace_runner.specs.declared.command.Command.TheVariants.{Serve, Work}
+use Rattle.trace_runner.specs.declared.command.Command.TheVariants.{Serve, Threads, Work}
 use Rattle.trace_runner.specs.declared.content.Content.{Content}
 use Rattle.trace_runner.specs.declared.content.Content.TheVariants as variant
 use Rattle.trace_runner.specs.declared.command.Grammar.{Grammar}
@@ -88,6 +88,12 @@ same_word Assembler Text e = let first_is : 97 ≡ 114 = ap first e in absurd (o
 same_word Assembler Records e = let length_is : 3 ≡ 10 = ap length e in absurd (omega (arith, length_is))
 same_word Assembler Assembler e = refl
 
+-- and none is that of `threads`
+no_threads : (grammar : Grammar) → word_of grammar ≡ codes "threads" → ⊥
+no_threads Text e = let length_is : 3 ≡ 7 = ap length e in absurd (omega (arith, length_is))
+no_threads Records e = let length_is : 10 ≡ 7 = ap length e in absurd (omega (arith, length_is))
+no_threads Assembler e = let length_is : 3 ≡ 7 = ap length e in absurd (omega (arith, length_is))
+
 -- words say one command
 same_command : (texts : List (List ℕ)) (one other : Command) → Say texts one → Say texts other → one ≡ other
 same_command texts (Serve a) (Serve b) p q =
@@ -96,6 +102,13 @@ same_command texts (Serve a) (Serve b) p q =
     ap (λ (grammar : Grammar). Serve grammar) (same_word a b same)
 same_command texts (Serve a) (Work s n) p q =
     let count_is : 1 ≡ 3 = ap length (sym p.words ∙ q.words) in absurd (omega (arith, count_is))
+same_command texts (Serve a) Threads p q = absurd (no_threads a (ap first_word (sym p.words ∙ q.words)))
+same_command texts Threads (Serve b) p q = absurd (no_threads b (ap first_word (sym q.words ∙ p.words)))
+same_command texts Threads Threads p q = refl
+same_command texts Threads (Work s n) p q =
+    let count_is : 1 ≡ 3 = ap length (sym p.words ∙ q.words) in absurd (omega (arith, count_is))
+same_command texts (Work s n) Threads p q =
+    let count_is : 3 ≡ 1 = ap length (sym p.words ∙ q.words) in absurd (omega (arith, count_is))
 same_command texts (Work s n) (Serve b) p q =
     let count_is : 3 ≡ 1 = ap length (sym p.words ∙ q.words) in absurd (omega (arith, count_is))
 same_command texts (Work s n) (Work t m) p q =
@@ -118,3 +131,13 @@ one_grammar words one other p q = let same = one_command words (Serve one) (Serv
 pub one_work : (words : List (String Global)) (s n t m : ℕ) → Asks words (Work s n) → Asks words (Work t m)
     → (s ≡ t) × (n ≡ m)
 one_work words s n t m p q = let same = one_command words (Work s n) (Work t m) p q in (cc, cc)
+
+-- `threads` asks for nothing else
+pub threads_alone : (texts : List (List ℕ)) (other : Command) → Say texts Threads → Say texts other → other ≡ Threads
+threads_alone texts other p q = same_command texts other Threads q p
+
+pub not_serve : (texts : List (List ℕ)) (grammar : Grammar) → Say texts Threads → Say texts (Serve grammar) → ⊥
+not_serve texts grammar threads said = let same = threads_alone texts (Serve grammar) threads said in absurd cc
+
+pub not_work : (texts : List (List ℕ)) (seed count : ℕ) → Say texts Threads → Say texts (Work seed count) → ⊥
+not_work texts seed count threads said = let same = threads_alone texts (Work seed count) threads said in absurd cc

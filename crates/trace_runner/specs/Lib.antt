@@ -4,6 +4,7 @@ pub mod Content
 pub mod Playing
 pub mod Run
 pub mod Plays
+pub mod Threads
 pub mod Starting
 pub mod Counts
 pub mod Digesting

@@ -1,9 +1,9 @@
 -- What words ask for.
-use Rattle.std.specs.Prelude.{◌≡◌, ℕ, ◌^◌, ◌<◌, ◌≤◌, List, [], ◌∷◌, codes, map, String, string_bytes}
+use Rattle.std.specs.Prelude.{◌≡◌, ℕ, ◌^◌, ◌<◌, ◌≤◌, ◌⊎◌, List, [], ◌∷◌, codes, map, String, string_bytes}
 use Rattle.std.specs.Fmt.{decimal}
 use Rattle.std.specs.Global.{Global}
 use Rattle.trace_runner.specs.declared.command.Command.{Command}
-use Rattle.trace_runner.specs.declared.command.Command.TheVariants.{Serve, Work}
+use Rattle.trace_runner.specs.declared.command.Command.TheVariants.{Serve, Threads, Work}
 use Rattle.trace_runner.specs.declared.command.Grammar.{Grammar}
 use Rattle.trace_runner.specs.declared.command.Grammar.TheVariants.{Text, Records, Assembler}
 
@@ -16,11 +16,13 @@ word_of Assembler = codes "asm"
 -- the words of each command. A number is its digits in decimal, so it has no leading zero but in `0`
 abbrev pub words_of : Command → List (List ℕ)
 words_of (Serve grammar) = word_of grammar ∷ []
+words_of Threads = codes "threads" ∷ []
 words_of (Work seed count) = codes "work" ∷ decimal seed ∷ decimal count ∷ []
 
 -- a seed is below 2^64, and there are at most 65,536 calls
 abbrev pub IsWithin : Command → Type 0
 IsWithin (Serve grammar) = Unit {0}
+IsWithin Threads = Unit {0}
 IsWithin (Work seed count) = (seed < 2 ^ 64) × (count ≤ 2 ^ 16)
 
 -- these texts say the command, or none
@@ -37,3 +39,7 @@ Asks words command = Say (map string_bytes words) command
 
 abbrev pub AskNothing : List (String Global) → Type 0
 AskNothing words = SayNothing (map string_bytes words)
+
+-- they ask for what reads an input
+abbrev pub AskToRead : List (String Global) → Type 0
+AskToRead words = ((grammar : Grammar) × Asks words (Serve grammar)) ⊎ Asks words Threads

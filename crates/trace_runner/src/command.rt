@@ -1,8 +1,9 @@
 //! What the words ask for.
 
-ghost use Rattle.std.specs.Prelude.{◌≡◌, ℕ, ◌<◌, ◌^◌, [], ◌∷◌, IfSome, IsNone};
+ghost use Rattle.std.specs.Prelude.{◌≡◌, ◌↔◌, ℕ, ◌<◌, ◌^◌, [], ◌∷◌, IfSome, IsNone, IsTrue};
 ghost use Rattle.std.specs.Fmt.{decimal};
 ghost use Rattle.trace_runner.specs.Words.{AskNothing, Asks, Say, SayNothing};
+ghost use Rattle.trace_runner.specs.declared.command.Command.TheVariants.{Threads};
 
 use itoa::Buffer;
 use workload::MOST_CALLS;
@@ -23,6 +24,8 @@ pub enum Grammar {
 pub enum Command {
     /// The input is read in this grammar, and what it spells is played or printed.
     Serve(Grammar),
+    /// The input is read as text, and each processor of the trace that it spells plays its items in a thread of its own.
+    Threads,
     /// The trace that a seed makes with so many calls is played, and its play is summed up.
     Work { seed: u64, count: u32 },
 }
@@ -51,6 +54,7 @@ fn command_named(word: &str) -> Option<Command>
     match word {
         "run" => Some(Command::Serve(Grammar::Text)),
         "run-binary" => Some(Command::Serve(Grammar::Records)),
+        "threads" => Some(Command::Threads),
         "asm" => Some(Command::Serve(Grammar::Assembler)),
         _ => None,
     }
@@ -84,5 +88,23 @@ pub fn command_of(words: &[String]) -> Option<Command>
         [word] => command_named(word.as_str()),
         [word, seed, count] => work_of(word.as_str(), seed.as_str(), count.as_str()),
         _ => None,
+    }
+}
+
+/// Whether a word is `threads`.
+#[tactic(auto, using(crate::proofs::Commands::is_threads))]
+fn is_threads(word: &str) -> bool
+    ensures { IsTrue result ↔ Say (word.now ∷ []) Threads }
+{
+    word == "threads"
+}
+
+/// Whether these words are the one word `threads`.
+pub fn asks_threads(words: &[String]) -> bool
+    ensures { IsTrue result ↔ Asks words.now Threads }
+{
+    match words {
+        [word] => is_threads(word.as_str()),
+        _ => false,
     }
 }

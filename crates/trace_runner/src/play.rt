@@ -38,7 +38,7 @@ fn first_lane(alloc: Global, fills: &[Fill]) -> Result<Lane, NoMemory>
 }
 
 /// That of each of so many processors.
-fn first_lanes(alloc: Global, cpus: u8, fills: &[Fill]) -> Result<Vec<Lane>, NoMemory>
+pub fn first_lanes(alloc: Global, cpus: u8, fills: &[Fill]) -> Result<Vec<Lane>, NoMemory>
     requires { All IsSoundFill fills.now }
     ensures { IfOk result (λ lanes. lanes.items ≡ replicate cpus (filled (zeros 0x400000) fills.now)) }
 {
@@ -50,7 +50,7 @@ fn first_lanes(alloc: Global, cpus: u8, fills: &[Fill]) -> Result<Vec<Lane>, NoM
 }
 
 /// A core of this boot. Its applications have UUIDs of their own, so want of memory alone can refuse it.
-fn core_of(alloc: Global, boot: Boot, natives: &Natives) -> Result<Core, NoMemory>
+pub fn core_of(alloc: Global, boot: Boot, natives: &Natives) -> Result<Core, NoMemory>
     requires { IsSoundBoot (uuids_of (entries natives.now)) boot }
     ensures booted { IfOk result (λ core. booted_of core ≡ booted boot (entries natives.now)) }
     ensures events { IfOk result (λ core. events_of core ≡ []) }

@@ -5,26 +5,33 @@ ghost use Rattle.native_tas.specs.Table.{entries};
 ghost use Rattle.ports.specs.Port.{Appends, Rose};
 ghost use Rattle.ta_isa.specs.Spelling.{IsValid};
 ghost use Rattle.trace_text.specs.Sound.{IsSound};
+ghost use Rattle.trace_text.specs.declared.trace.Trace.{Trace};
 ghost use Rattle.trace_runner.specs.Content.{IsSoundContent};
 ghost use Rattle.word_parts.specs.Input.{TakesAtMost};
 ghost use Rattle.word_parts.specs.Line.{bad_trace_line};
 ghost use Rattle.trace_runner.specs.Plays.{IsSummedUp, Plays, SpellsTraces};
 ghost use Rattle.trace_runner.specs.Run.{Answered, CanBeRefused, CanBeServed, IsRefusedWhole, IsServedBy, IsServedWhole, Ran, Statuses, WorkStatuses, Worked, WritesSummary, usage_line, uuids_of};
 ghost use Rattle.word_parts.specs.Answer.{Writes, status_after, status_of};
-ghost use Rattle.trace_runner.specs.Words.{AskNothing, Asks};
+ghost use Rattle.trace_runner.specs.Threads.{CanBePlayedOnThreads, PrintsBlocks, RanOnThreads, ThreadStatuses};
+ghost use Rattle.trace_runner.specs.Words.{AskNothing, AskToRead, Asks};
 ghost use Rattle.trace_runner.specs.declared.content.Content.{Content};
 ghost use Rattle.trace_runner.specs.declared.content.Content.TheVariants as content;
 ghost use Rattle.trace_runner.specs.declared.command.Command.TheVariants.{Serve, Work};
+ghost use Rattle.trace_runner.specs.declared.command.Command.TheVariants as command;
 ghost use Rattle.trace_runner.specs.declared.command.Grammar.{Grammar};
+ghost use Rattle.trace_runner.specs.declared.command.Grammar.TheVariants.{Text};
 
-use crate::command::{Command, Grammar, command_of};
+use crate::command::{Command, Grammar, asks_threads, command_of};
 use crate::content::{Content, read_content};
 use crate::line::image_line;
 use crate::play::play;
+use crate::threads::run_on_threads;
 use crate::work::summary;
 use native_tas::Natives;
-use ports::{Sink, Source};
+use ports::{Pace, Sink, Source};
 use std::alloc::Global;
+use std::sync::Wait;
+use std::thread::Threads;
 use ta_isa::Image;
 use trace_text::{Trace, TraceFault};
 use word_parts::{InputFault, Status, answer_line, has_too_many, read_input, refuse, status_of};
@@ -144,8 +151,8 @@ fn answer_work<K: Sink>(alloc: Global, seed: u64, count: u32, out: &mut K) -> St
     }
 }
 
-/// Does what the words ask for. `run` reads a trace as text from the input and plays it on one core, beside the
-/// applications that are built in, `run-binary` reads it as records, and `asm` reads a text of the assembler and prints
+/// Does what the words ask for, but for `threads`. `run` reads a trace as text from the input and plays it on one core, beside
+/// the applications that are built in, `run-binary` reads it as records, and `asm` reads a text of the assembler and prints
 /// its image in hexadecimal. `work SEED COUNT` reads nothing: it plays the trace that the seed makes with so many
 /// calls, without built-in applications, and prints a line that sums it up. Any other words are answered with the
 /// usage line.
@@ -154,13 +161,14 @@ fn answer_work<K: Sink>(alloc: Global, seed: u64, count: u32, out: &mut K) -> St
 /// SMC items are tested, then it is played; the first answer met ends the call. The lines of a play are gathered and put
 /// 64 KiB at a time, the last of them before the status is answered. Want of memory may come at any time; lines that are
 /// not put by then are lost.
-pub fn run<S: Source, K: Sink>(
+pub fn run_alone<S: Source, K: Sink>(
     alloc: Global,
     words: &[String],
     input: &mut S,
     out: &mut K,
     natives: &Natives,
 ) -> Status
+    requires alone { Asks words.now command.Threads → ⊥ }
     // ---- The words.
     ensures usage { result ≡ Status.Usage →
         AskNothing words.now × Appends (K.held out.old) (K.held out.new) usage_line }
@@ -210,7 +218,7 @@ pub fn run<S: Source, K: Sink>(
         ⊎ (result ≡ Status.Memory) }
 
     // ---- Faults of the ports.
-    ensures read_fault { result ≡ Status.ReadFault → ((grammar : Grammar) × Asks words.now (Serve grammar))
+    ensures read_fault { result ≡ Status.ReadFault → AskToRead words.now
         × Rose (S.faults input.old) (S.faults input.new) × Appends (K.held out.old) (K.held out.new) [] }
     ensures write_fault { result ≡ Status.WriteFault → Rose (K.faults out.old) (K.faults out.new) }
 
@@ -223,7 +231,111 @@ pub fn run<S: Source, K: Sink>(
 {
     match command_of(words) {
         Some(Command::Serve(grammar)) => run_input(alloc, grammar, input, out, natives),
+        Some(Command::Threads) => unreachable!(),
         Some(Command::Work { seed, count }) => answer_work(alloc, seed, count, out),
         None => answer_line(out, Status::Usage, USAGE_LINE),
+    }
+}
+
+/// Does what the words ask for. `threads` reads a trace as text from the input, and each processor plays its items in a thread
+/// of its own, on one core that they share, beside the applications that are built in; once all threads have ended, a block
+/// of lines is put for each processor. Work for which no thread can be started is done by the caller. All other words are
+/// answered as by [`run_alone`].
+///
+/// The pace is called by each processor between the entry and the exit of each of its calls. The call waits for its threads,
+/// and they for their turns.
+pub fn run<R: Threads + Wait + Sync, S: Source, K: Sink, G: Pace + Sync>(
+    rt: &R,
+    alloc: Global,
+    words: &[String],
+    input: &mut S,
+    out: &mut K,
+    natives: &Natives,
+    pace: &G,
+) -> Status
+    // ---- The words.
+    ensures usage { result ≡ Status.Usage →
+        AskNothing words.now × Appends (K.held out.old) (K.held out.new) usage_line }
+    ensures other_words { AskNothing words.now →
+        Writes Status.Usage usage_line result (K.held out.old) (K.held out.new) × (S.left input.new ≡ S.left input.old) }
+
+    // ---- The input: it wasn't read whole, or it is too long, or it is answered by its meaning in the grammar.
+    ensures ran { (grammar : Grammar) → Asks words.now (Serve grammar) → IfSome (S.left input.old) (λ bytes.
+        Ran grammar (entries natives.now) bytes (S.left input.new) result (K.held out.old) (K.held out.new)) }
+
+    // ---- Each status, and what was then written.
+    ensures statuses { (grammar : Grammar) → Asks words.now (Serve grammar) → IfSome (S.left input.old) (λ bytes.
+        Statuses grammar (entries natives.now) bytes (S.left input.new) result (K.held out.old) (K.held out.new)) }
+
+    // ---- The play of a trace, where just its text was written: each printed return is the written kernel's at its place
+    // in one history, and what holds of resumes, of the thread limit and of isolation holds of that very play.
+    ensures plays { (grammar : Grammar) → Asks words.now (Serve grammar) → SpellsTraces grammar →
+        IfSome (S.left input.old) (λ bytes.
+        Plays grammar (entries natives.now) bytes result (K.held out.old) (K.held out.new)) }
+
+    // ---- Each input within the limits is served whole, or there is want of memory.
+    ensures complete { (grammar : Grammar) → Asks words.now (Serve grammar) → IfSome (S.left input.old) (λ bytes.
+        (content : Content) → CanBeServed grammar (entries natives.now) bytes content →
+        (Rose (S.faults input.old) (S.faults input.new) → ⊥) → (Rose (K.faults out.old) (K.faults out.new) → ⊥) →
+        IsServedWhole (entries natives.now) content result (K.held out.old) (K.held out.new)
+        ⊎ (result ≡ Status.Memory)) }
+
+    // ---- Each input of at most 2^24 bytes that leaves its grammar is answered by its first fault, or there is want of
+    // memory.
+    ensures refuses { (grammar : Grammar) → Asks words.now (Serve grammar) → IfSome (S.left input.old) (λ bytes.
+        CanBeRefused grammar (entries natives.now) bytes →
+        (Rose (S.faults input.old) (S.faults input.new) → ⊥) → (Rose (K.faults out.old) (K.faults out.new) → ⊥) →
+        IsRefusedWhole grammar (entries natives.now) bytes result (K.held out.old) (K.held out.new)
+        ⊎ (result ≡ Status.Memory)) }
+
+    // ---- A made trace: nothing is read, and the summary of its play is written, whole or in part, at each status.
+    ensures untouched { (seed count : ℕ) → Asks words.now (Work seed count) → input.new ≡ input.old }
+    ensures worked { (seed count : ℕ) → Asks words.now (Work seed count) →
+        Worked seed count result (K.held out.old) (K.held out.new) }
+    ensures work_statuses { (seed count : ℕ) → Asks words.now (Work seed count) →
+        WorkStatuses seed count result (K.held out.old) (K.held out.new) }
+    ensures work_plays { (seed count : ℕ) → Asks words.now (Work seed count) → result ≡ Status.Ok →
+        IsSummedUp seed count (K.held out.old) (K.held out.new) }
+    ensures work_complete { (seed count : ℕ) → Asks words.now (Work seed count) →
+        (Rose (K.faults out.old) (K.faults out.new) → ⊥) →
+        ((result ≡ Status.Ok) × WritesSummary seed count (K.held out.old) (K.held out.new))
+        ⊎ (result ≡ Status.Memory) }
+
+    // ---- A trace whose processors play on threads: the input wasn't read whole, or it is too long, or it is answered by its
+    // meaning. Its play is that of the order in which the entries and exits of this call came, refused ones among them; it is
+    // true to the written kernel.
+    ensures threads_ran { Asks words.now command.Threads → IfSome (S.left input.old) (λ bytes.
+        RanOnThreads (entries natives.now) bytes (S.left input.new) result (K.held out.old) (K.held out.new)) }
+    ensures threads_statuses { Asks words.now command.Threads → IfSome (S.left input.old) (λ bytes.
+        ThreadStatuses (entries natives.now) bytes (S.left input.new) result (K.held out.old) (K.held out.new)) }
+    // Each trace within the limits is printed whole, with the status of its play, or there is want of memory.
+    ensures threads_complete { Asks words.now command.Threads → IfSome (S.left input.old) (λ bytes.
+        (trace : Trace) → CanBePlayedOnThreads (entries natives.now) bytes trace →
+        (Rose (S.faults input.old) (S.faults input.new) → ⊥) → (Rose (K.faults out.old) (K.faults out.new) → ⊥) →
+        PrintsBlocks (entries natives.now) trace result (K.held out.old) (K.held out.new)
+        ⊎ (result ≡ Status.Memory)) }
+    // Each other text of at most 2^24 bytes is answered by its first fault, or there is want of memory.
+    ensures threads_refuses { Asks words.now command.Threads → IfSome (S.left input.old) (λ bytes.
+        CanBeRefused Text (entries natives.now) bytes →
+        (Rose (S.faults input.old) (S.faults input.new) → ⊥) → (Rose (K.faults out.old) (K.faults out.new) → ⊥) →
+        IsRefusedWhole Text (entries natives.now) bytes result (K.held out.old) (K.held out.new)
+        ⊎ (result ≡ Status.Memory)) }
+
+    // ---- Faults of the ports.
+    ensures read_fault { result ≡ Status.ReadFault → AskToRead words.now
+        × Rose (S.faults input.old) (S.faults input.new) × Appends (K.held out.old) (K.held out.new) [] }
+    ensures write_fault { result ≡ Status.WriteFault → Rose (K.faults out.old) (K.faults out.new) }
+
+    // ---- Reading ends, and counts of faults never fall.
+    ensures taken { TakesAtMost (2 ^ 24 + 1) (S.left input.old) (S.left input.new) }
+    ensures input_count { S.faults input.old ≤ S.faults input.new }
+    ensures out_count { K.faults out.old ≤ K.faults out.new }
+    ensures input_stays { result ≢ Status.ReadFault → S.faults input.new ≡ S.faults input.old }
+    ensures out_stays { result ≢ Status.WriteFault → K.faults out.new ≡ K.faults out.old }
+{
+    if asks_threads(words) {
+        run_on_threads(rt, alloc, input, out, natives, pace)
+    } else {
+        run_alone(alloc, words, input, out, natives)
     }
 }

@@ -1,8 +1,10 @@
 ghost use Rattle.std.specs.Prelude.{◌≡◌, ◌↔◌, [], ◌∷◌, ◌++◌, IfOk, IsNone, OnOk, take};
 
 use native_tas::Natives;
-use ports::{MemSink, MemSource};
+use ports::{MemSink, MemSource, NoPace};
 use std::alloc::{AllocError, Global};
+use std::sync::Wait;
+use std::thread::Threads;
 use trace_runner::run;
 
 /// Which bytes of a case are being read.
@@ -10,6 +12,23 @@ use trace_runner::run;
 enum Part {
     Input,
     Output,
+}
+
+/// The block of processor 0, with the places of each of its answers, where these are its lines and no other processor comes
+/// in.
+fn block_of(alloc: Global, lines: &str) -> Result<Vec<u8>, AllocError> {
+    let mut block = Vec::from_slice(alloc, b"cpu 0\n")?;
+    let mut entry_at = 0u64;
+    for line in lines.lines() {
+        block.extend_from_slice(line.as_bytes())?;
+        if line.starts_with("ret ") {
+            let exit_at = entry_at.wrapping_add(1);
+            block.extend_from_slice(format!(in alloc; " at {entry_at} {exit_at}")?.as_bytes())?;
+            entry_at = exit_at.wrapping_add(1);
+        }
+        block.push(b'\n')?;
+    }
+    Ok(block)
 }
 
 /// In what a run is not what its case says.
@@ -70,6 +89,18 @@ impl Case {
         self.last_cut = u32::MAX;
         self.failing_takes = Vec::new(alloc);
         self.failing_puts = Vec::new(alloc);
+        Ok(())
+    }
+
+    /// The same input by the word `threads`, under another name. The lines of the output, which are those of one processor, have
+    /// become its block.
+    pub fn begin_by_threads(&mut self, alloc: Global, name: &str) -> Result<(), AllocError> {
+        let lines = String::from_utf8_lossy(alloc, self.output.as_slice())?;
+        let block = block_of(alloc, lines.as_str())?;
+        self.begin_again(alloc, name)?;
+        self.words = Vec::new(alloc);
+        self.push_words(alloc, "threads")?;
+        self.output = block;
         Ok(())
     }
 
@@ -158,14 +189,15 @@ impl Case {
     }
 
     /// Runs the case at each of its cuts, beside these built-in applications, and says what came of it.
-    pub fn verdict(
+    pub fn verdict<R: Threads + Wait + Sync>(
         &self,
+        rt: &R,
         alloc: Global,
         natives: &Natives,
         wanted: u32,
     ) -> Result<String, AllocError> {
         for cut in self.first_cut..=self.last_cut.max(self.first_cut) {
-            if let Some(told) = self.fault_at(alloc, natives, cut, wanted)? {
+            if let Some(told) = self.fault_at(rt, alloc, natives, cut, wanted)? {
                 return Ok(told);
             }
         }
@@ -174,11 +206,17 @@ impl Case {
     }
 
     /// Runs the case at a cut.
-    fn run_at(&self, alloc: Global, natives: &Natives, cut: u32) -> Result<Outcome, AllocError> {
+    fn run_at<R: Threads + Wait + Sync>(
+        &self,
+        rt: &R,
+        alloc: Global,
+        natives: &Natives,
+        cut: u32,
+    ) -> Result<Outcome, AllocError> {
         let mut source = MemSource::new(self.input_to(alloc, cut)?, self.failing_takes.clone()?);
         let mut sink = MemSink::new(alloc, self.failing_puts.clone()?);
         let words = self.words.as_slice();
-        let status = run(alloc, words, &mut source, &mut sink, natives).number();
+        let status = run(rt, alloc, words, &mut source, &mut sink, natives, &NoPace).number();
         Ok(Outcome {
             cut,
             status: u32::from(status),
@@ -187,14 +225,15 @@ impl Case {
     }
 
     /// Runs the case at a cut, and says what differs from the case, if anything does.
-    fn fault_at(
+    fn fault_at<R: Threads + Wait + Sync>(
         &self,
+        rt: &R,
         alloc: Global,
         natives: &Natives,
         cut: u32,
         wanted: u32,
     ) -> Result<Option<String>, AllocError> {
-        let outcome = self.run_at(alloc, natives, cut)?;
+        let outcome = self.run_at(rt, alloc, natives, cut)?;
         let told = match self.difference(outcome.status, wanted, outcome.sink.bytes()) {
             None => return Ok(None),
             Some(Difference::Status) => self.status_told(alloc, &outcome, wanted)?,

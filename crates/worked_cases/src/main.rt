@@ -7,7 +7,8 @@
 //! that the program runs in), `hex HEX` (those of hexadecimal digits), `lines N TEXT` (N lines of the text) and
 //! `comment N` (a comment line of N bytes).
 //! `take N` and `put N` make call N of the source or the sink fail, counted from 0. `again NAME` begins a case with
-//! the words and the input of the one before, and `cut FIRST LAST` makes a case run once with each number of bytes of
+//! the words and the input of the one before, `by_threads NAME` one with that input, the word `threads` and the block of the
+//! output before, which is that of one processor, and `cut FIRST LAST` makes a case run once with each number of bytes of
 //! its input from the first to the last.
 #![tactic(auto)]
 
@@ -20,6 +21,8 @@ use std::alloc::Global;
 use std::fs;
 use std::io::{BufRead, BufReader};
 use std::rt::Files;
+use std::sync::Wait;
+use std::thread::Threads;
 use uuid::Uuid;
 
 /// The UUID of the digest application. It is built in, and so is the same under fifteen other UUIDs, with other last octets:
@@ -54,6 +57,7 @@ fn begins(alloc: Global, case: &mut Case, word: &str, rest: &str) -> Result<bool
     match word {
         "case" => *case = Case::new(alloc, rest)?,
         "again" => case.begin_again(alloc, rest)?,
+        "by_threads" => case.begin_by_threads(alloc, rest)?,
         "words" => case.push_words(alloc, rest)?,
         "input" => case.begin_input(),
         "output" => case.begin_output(),
@@ -97,21 +101,21 @@ fn cut(case: &mut Case, rest: &str) -> Result<()> {
 }
 
 /// Runs a case that is to end with this status, and prints what came of it.
-fn tell_verdict(
-    rt: &impl Print,
+fn tell_verdict<R: Print + Threads + Wait + Sync>(
+    rt: &R,
     alloc: Global,
     natives: &Natives,
     case: &Case,
     status: &str,
 ) -> Result<()> {
-    let told = case.verdict(alloc, natives, number(status)?)?;
+    let told = case.verdict(rt, alloc, natives, number(status)?)?;
     println!(rt; "{told}")?;
     Ok(())
 }
 
 /// Takes one line of a case. At its last line the case runs, and what came of it is printed.
-fn take_line(
-    rt: &(impl Files + AllocGlobal + Print),
+fn take_line<R: Files + AllocGlobal + Print + Threads + Wait + Sync>(
+    rt: &R,
     alloc: Global,
     natives: &Natives,
     case: &mut Case,
