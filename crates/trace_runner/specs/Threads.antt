@@ -130,8 +130,7 @@ pub record IsPlayedOnThreads (natives : List Native) (input : List ℕ) (result 
     pub can : CanBePlayedOnThreads natives input trace
     pub printed : PrintsBlocks natives trace result old new
 
--- a part of what the input is answered with, also none of it; of a trace, of the text of the order in which this call's
--- entries and exits came
+-- a part of what the input is answered with, also none of it; of a trace, a part of its blocks
 abbrev pub WritesPartOnThreads : List Native → List ℕ → Option (List ℕ) → Option (List ℕ) → Type 0
 WritesPartOnThreads natives input old new =
     Appends old new []
@@ -143,10 +142,10 @@ WritesPartOnThreads natives input old new =
 -- what each status says of an input that the source tells
 pub record ThreadStatuses (natives : List Native) (input : List ℕ) (left : Option (List ℕ)) (result : Status)
     (old new : Option (List ℕ)) : Type 0 where
-  -- all was read, and the play of this call, which refuses no entry, is printed
+  -- all was read, and a play that refuses no entry is printed
   pub ok : result ≡ status.Ok → (left ≡ Some []) × IsPlayedOnThreads natives input result old new
-  -- the input has too many bytes, or its trace too many SMC items, and nothing is written; or the play of this call refuses an
-  -- entry, and all of it is printed
+  -- the input has too many bytes, or its trace too many SMC items, and nothing is written; or a play that refuses an entry
+  -- is printed whole
   pub too_long : result ≡ TooLong →
       (IsUnplayed Text natives input × Appends old new []) ⊎ IsPlayedOnThreads natives input result old new
   pub bad_trace : result ≡ BadTrace → IsBad Text natives input old new

@@ -56,7 +56,8 @@ fn blocks_of<R: Threads + Wait + Sync, G: Pace + Sync>(
 
 /// The status of a play, by whether it refuses an entry.
 fn status_where(refused: bool) -> Status
-    ensures { result ≡ status_where refused }
+    ensures named { result ≡ status_where refused }
+    ensures played { result ≡ Status.Memory → ⊥ }
 {
     if refused { Status::TooLong } else { Status::Ok }
 }
@@ -74,6 +75,7 @@ fn answer_trace<R: Threads + Wait + Sync, K: Sink, G: Pace + Sync>(
     ensures served { IsServedByThreads (entries natives.now) trace result (K.held out.old) (K.held out.new) }
     ensures words { result ≡ Status.Usage → ⊥ }
     ensures write_fault { result ≡ Status.WriteFault → Rose (K.faults out.old) (K.faults out.new) }
+    ensures memory { result ≡ Status.Memory → K.held out.new ≡ K.held out.old }
     ensures count { K.faults out.old ≤ K.faults out.new }
     ensures stays { result ≢ Status.WriteFault → K.faults out.new ≡ K.faults out.old }
 {
@@ -111,6 +113,7 @@ fn answer_input<R: Threads + Wait + Sync, K: Sink, G: Pace + Sync>(
     ensures answered { AnsweredOnThreads (entries natives.now) input.items result (K.held out.old) (K.held out.new) }
     ensures words { result ≡ Status.Usage → ⊥ }
     ensures write_fault { result ≡ Status.WriteFault → Rose (K.faults out.old) (K.faults out.new) }
+    ensures memory { result ≡ Status.Memory → K.held out.new ≡ K.held out.old }
     ensures count { K.faults out.old ≤ K.faults out.new }
     ensures stays { result ≢ Status.WriteFault → K.faults out.new ≡ K.faults out.old }
 {
@@ -138,6 +141,7 @@ pub fn run_on_threads<R: Threads + Wait + Sync, S: Source, K: Sink, G: Pace + Sy
     ensures read_fault { result ≡ Status.ReadFault →
         Rose (S.faults input.old) (S.faults input.new) × Appends (K.held out.old) (K.held out.new) [] }
     ensures write_fault { result ≡ Status.WriteFault → Rose (K.faults out.old) (K.faults out.new) }
+    ensures memory { result ≡ Status.Memory → K.held out.new ≡ K.held out.old }
     ensures taken { TakesAtMost (2 ^ 24 + 1) (S.left input.old) (S.left input.new) }
     ensures input_count { S.faults input.old ≤ S.faults input.new }
     ensures out_count { K.faults out.old ≤ K.faults out.new }

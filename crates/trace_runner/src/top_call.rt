@@ -302,12 +302,14 @@ pub fn run<R: Threads + Wait + Sync, S: Source, K: Sink, G: Pace + Sync>(
         ⊎ (result ≡ Status.Memory) }
 
     // ---- A trace whose processors play on threads: the input wasn't read whole, or it is too long, or it is answered by its
-    // meaning. Its play is that of the order in which the entries and exits of this call came, refused ones among them; it is
+    // meaning. Its play is in an order of its processors' entries and exits that its places name, refused ones among them; it is
     // true to the written kernel.
     ensures threads_ran { Asks words.now command.Threads → IfSome (S.left input.old) (λ bytes.
         RanOnThreads (entries natives.now) bytes (S.left input.new) result (K.held out.old) (K.held out.new)) }
     ensures threads_statuses { Asks words.now command.Threads → IfSome (S.left input.old) (λ bytes.
         ThreadStatuses (entries natives.now) bytes (S.left input.new) result (K.held out.old) (K.held out.new)) }
+    // At want of memory, for one of the threads too, nothing is written.
+    ensures threads_memory { Asks words.now command.Threads → result ≡ Status.Memory → K.held out.new ≡ K.held out.old }
     // Each trace within the limits is printed whole, with the status of its play, or there is want of memory.
     ensures threads_complete { Asks words.now command.Threads → IfSome (S.left input.old) (λ bytes.
         (trace : Trace) → CanBePlayedOnThreads (entries natives.now) bytes trace →

@@ -29,6 +29,7 @@ pub fn answer_line<K: Sink>(out: &mut K, named: Status, line: &[u8]) -> Status
     ensures line { Writes named line.now result (K.held out.old) (K.held out.new) }
     ensures write_fault { result ≡ Status.WriteFault →
         (named ≡ Status.WriteFault) ⊎ Rose (K.faults out.old) (K.faults out.new) }
+    ensures memory { result ≡ Status.Memory → (named ≡ Status.Memory) ⊎ (K.held out.new ≡ K.held out.old) }
     ensures count { K.faults out.old ≤ K.faults out.new }
     ensures stays { result ≢ Status.WriteFault → K.faults out.new ≡ K.faults out.old }
 {
@@ -52,6 +53,7 @@ pub fn refuse<K: Sink>(alloc: Global, place: u32, kind: BadKind, out: &mut K) ->
     ensures line { Writes Status.BadTrace (bad_trace_line place kind) result (K.held out.old) (K.held out.new) }
     ensures words { result ≡ Status.Usage → ⊥ }
     ensures write_fault { result ≡ Status.WriteFault → Rose (K.faults out.old) (K.faults out.new) }
+    ensures memory { result ≡ Status.Memory → K.held out.new ≡ K.held out.old }
     ensures count { K.faults out.old ≤ K.faults out.new }
     ensures stays { result ≢ Status.WriteFault → K.faults out.new ≡ K.faults out.old }
 {

@@ -10,6 +10,7 @@ use ports::{Put, Sink};
 pub fn put_text<K: Sink>(out: &mut K, text: &[u8]) -> Put
     ensures text { Puts text.now result (K.held out.old) (K.held out.new) }
     ensures failed { result ≡ Put.Failed → Rose (K.faults out.old) (K.faults out.new) }
+    ensures memory { result ≡ Put.Memory → K.held out.new ≡ K.held out.old }
     ensures count { K.faults out.old ≤ K.faults out.new }
     ensures stays { result ≢ Put.Failed → K.faults out.new ≡ K.faults out.old }
 {

@@ -34,5 +34,5 @@ returns-in-Ok-clause-served g c =
     c.if-has_too_many.false)
     c.in-Ok.ensures
     (subst (λ (text : List ℕ). Writes (status_where blocks.refused) text result old new) c.as_slice-in-Ok.ensures.value
-    (subst (λ (status : Status). Writes status c.as_slice-in-Ok.result.now result old new) c.status_where.ensures
+    (subst (λ (status : Status). Writes status c.as_slice-in-Ok.result.now result old new) c.status_where.ensures.named
     c.answer_line.ensures.line))
