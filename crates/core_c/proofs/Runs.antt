@@ -1,5 +1,6 @@
 -- From the clauses of the top call to what a call over memory comes to.
-use Rattle.std.proofs.Common.{◌≡◌, ℕ, ◌⊎◌, inl, inr, List, [], Option, Some, None, refl, sym, subst, arith}
+use Rattle.std.proofs.Common.{◌≡◌, ℕ, ◌⊎◌, inl, inr, Bool, false, List, [], Option, Some, None, refl, sym, subst, arith}
+use Rattle.std.specs.Prelude.{◌↔◌, IsTrue}
 use Rattle.ports.specs.Port.{Appends, Rose}
 use Rattle.trace_runner.proofs.Readings.{not_serve, not_work}
 use Rattle.trace_runner.proofs.Running.{worked-statuses}
@@ -71,6 +72,11 @@ of_clauses natives texts input left result output c = record {
     other : AskNothing texts → Writes Usage usage_line result (Some []) (Some output)
     other (inl nothing) = c.other_words nothing
     other (inr threads) = absurd (c.alone threads)
+
+-- texts of which it was told that they don't say `threads`
+pub not_threads : (texts : List (List ℕ)) (told : Bool) → (IsTrue told ↔ Say texts Threads) → told ≡ false
+    → Say texts Threads → ⊥
+not_threads texts told says differs said = let yes = says.1 said in absurd cc
 
 -- no words ask for nothing
 pub no_words : SayNothing []

@@ -5,7 +5,7 @@ use Rattle.native_tas.specs.Table.{entries}
 use Rattle.trace_runner.specs.Run.{usage_line}
 use Rattle.word_parts.specs.Answer.{Writes}
 use Rattle.word_parts.specs.declared.status.Status.TheVariants.{Usage}
-use Rattle.core_c.proofs.Runs.{Clauses, of_clauses, of_threads}
+use Rattle.core_c.proofs.Runs.{Clauses, not_threads, of_clauses, of_threads}
 use Rattle.core_c.proofs.calling.run_beside.Goals as goal
 
 pub returns-else-asks_threads : goal.returns-else-asks_threads
@@ -19,7 +19,7 @@ returns-else-asks_threads g c =
     of_clauses natives texts input left c.run_alone.result output
     (subst (λ (held : List ℕ). Clauses natives texts input left c.run_alone.result (Some held) (Some output)) c.requires
     (record {
-      alone = λ said. c.run_alone.requires said;
+      alone = not_threads texts c.asks_threads.result c.asks_threads.ensures c.if-asks_threads.false;
       usage = e.usage;
       other_words = λ nothing. (e.other_words nothing).0;
       ran = e.ran;

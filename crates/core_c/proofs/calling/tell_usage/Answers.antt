@@ -4,7 +4,7 @@ use Rattle.trace_runner.specs.declared.command.Command.TheVariants.{Threads}
 use Rattle.core_c.proofs.calling.tell_usage.Goals as goal
 
 pub run_alone-requires : goal.run_alone-requires
-run_alone-requires g c = no_words Threads
+run_alone-requires g c = record { alone = no_words Threads }
 
 pub returns-clause-line : goal.returns-clause-line
 returns-clause-line g c = (c.run_alone.ensures.other_words no_words).0
