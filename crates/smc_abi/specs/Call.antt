@@ -2,7 +2,7 @@
 use Rattle.std.specs.Prelude.{◌==◌, ℕ, List, [], ◌∷◌, if◌then◌else◌}
 use Rattle.smc_abi.specs.declared.call.FastCall.TheVariants.{CallsUid, CallsRevision, OsUuid, OsRevision, ShmConfig, Capabilities, DisableShmCache, EnableShmCache, ThreadCount}
 use Rattle.smc_abi.specs.declared.call.Call.{Call}
-use Rattle.smc_abi.specs.declared.call.Call.TheVariants.{Fast, WithArg, Resume, Unknown}
+use Rattle.smc_abi.specs.declared.call.Call.TheVariants.{Fast, WithArg, WithRpcArg, WithRegdArg, Resume, Unknown}
 
 -- each function id, and its call
 abbrev pub call_table : List (ℕ × Call)
@@ -18,6 +18,8 @@ call_table =
     ∷ (0xb200000f, Fast ThreadCount)
     ∷ (0x32000003, Resume)
     ∷ (0x32000004, WithArg)
+    ∷ (0x32000012, WithRpcArg)
+    ∷ (0x32000013, WithRegdArg)
     ∷ []
 
 -- the call beside the first row of this id

@@ -27,6 +27,12 @@ pub const RETURN_FROM_RPC: u32 = 0x3200_0003;
 /// `OPTEE_SMC_CALL_WITH_ARG`: a1 and a2 have the argument's physical address, upper half first, and
 /// a7 has the client.
 pub const CALL_WITH_ARG: u32 = 0x3200_0004;
+/// `OPTEE_SMC_CALL_WITH_RPC_ARG`: as `CALL_WITH_ARG`, with room for the argument of an RPC behind the message
+/// argument.
+pub const CALL_WITH_RPC_ARG: u32 = 0x3200_0012;
+/// `OPTEE_SMC_CALL_WITH_REGD_ARG`: the same in registered shared memory, whose cookie a1 and a2 have, upper half
+/// first; a3 has the argument's offset there, and a7 the client.
+pub const CALL_WITH_REGD_ARG: u32 = 0x3200_0013;
 
 /// A call that is answered at once, from its registers and the number of threads.
 #[derive(Clone, Copy, Debug, PartialEq, Eq)]
@@ -48,6 +54,10 @@ pub enum Call {
     Fast(FastCall),
     /// A new yielding call, with a message argument in shared memory.
     WithArg,
+    /// The same, which brings a place for its requests behind its argument.
+    WithRpcArg,
+    /// The same in registered memory, where it is named by a cookie.
+    WithRegdArg,
     /// Goes on with a yielding call that was answered by an RPC.
     Resume,
     /// No function of this core.
@@ -77,6 +87,8 @@ fn named_call(id: u32) -> Call
         GET_THREAD_COUNT => Call::Fast(FastCall::ThreadCount),
         RETURN_FROM_RPC => Call::Resume,
         CALL_WITH_ARG => Call::WithArg,
+        CALL_WITH_RPC_ARG => Call::WithRpcArg,
+        CALL_WITH_REGD_ARG => Call::WithRegdArg,
         _ => Call::Unknown,
     }
 }

@@ -1,5 +1,5 @@
 ghost use Rattle.std.specs.Prelude.{◌≡◌, ◌<◌, ◌↔◌, IsTrue};
-ghost use Rattle.smc_abi.specs.FastAnswer.{capabilities_status, fast_answer_of};
+ghost use Rattle.smc_abi.specs.FastAnswer.{capabilities_of, fast_answer_of};
 
 use crate::answer::{Answer, ENOTAVAIL, OK};
 use crate::call::FastCall;
@@ -15,6 +15,9 @@ const API_REVISION: Answer = Answer::Words(2, 0, 0, 0);
 const OS_UUID: Answer = Answer::Words(0x4861_78e0, 0xe7f8_11e3, 0xbc5e_0002, 0xa5d5_c51b);
 /// The revision of this core, this project's own.
 const OS_REVISION: Answer = Answer::Words(4, 0, 0, 0);
+
+/// The parameters for which the RPC argument beside the message argument has room.
+const RPC_PARAMS: u32 = 4;
 
 /// What a fast call is answered by a core of `threads` threads. Takes no memory and changes nothing.
 pub fn fast_answer(call: FastCall, regs: &Regs, threads: u8) -> Answer
@@ -36,13 +39,19 @@ pub fn fast_answer(call: FastCall, regs: &Regs, threads: u8) -> Answer
     }
 }
 
-/// Tells the core's capabilities, and refuses those of the normal world that it does not know.
+/// Tells the core's capabilities, and how many parameters an RPC argument beside the message argument has room for. It
+/// refuses those of the normal world that it does not know.
 fn exchange_capabilities(normal: u32) -> Answer
-    ensures { result ≡ Answer.Words (capabilities_status normal) 0x14 0 0 }
+    ensures { result ≡ capabilities_of normal }
 {
-    let status = if are_known(normal) { OK } else { ENOTAVAIL };
-    let secure = SecureCapabilities::DYNAMIC_MEMORY.union(SecureCapabilities::NULL_REFERENCE);
-    Answer::Words(status, secure.bits(), 0, 0)
+    let secure = SecureCapabilities::DYNAMIC_MEMORY
+        .union(SecureCapabilities::NULL_REFERENCE)
+        .union(SecureCapabilities::RPC_ARGUMENT);
+    if are_known(normal) {
+        Answer::Words(OK, secure.bits(), 0, RPC_PARAMS)
+    } else {
+        Answer::Words(ENOTAVAIL, secure.bits(), 0, 0)
+    }
 }
 
 /// Whether each of these bits of the normal world has a name.

@@ -17,9 +17,9 @@ pub use answer::{
     RPC_INTERRUPT, UNKNOWN_FUNCTION, encode_answer,
 };
 pub use call::{
-    CALL_WITH_ARG, CALLS_REVISION, CALLS_UID, Call, DISABLE_SHM_CACHE, ENABLE_SHM_CACHE,
-    EXCHANGE_CAPABILITIES, FastCall, GET_OS_REVISION, GET_OS_UUID, GET_SHM_CONFIG,
-    GET_THREAD_COUNT, RETURN_FROM_RPC, call_of_each_row, decode_call,
+    CALL_WITH_ARG, CALL_WITH_REGD_ARG, CALL_WITH_RPC_ARG, CALLS_REVISION, CALLS_UID, Call,
+    DISABLE_SHM_CACHE, ENABLE_SHM_CACHE, EXCHANGE_CAPABILITIES, FastCall, GET_OS_REVISION,
+    GET_OS_UUID, GET_SHM_CONFIG, GET_THREAD_COUNT, RETURN_FROM_RPC, call_of_each_row, decode_call,
 };
 pub use examples::worked_examples;
 pub use fast::fast_answer;
