@@ -1,3 +1,4 @@
 pub mod Messages
+pub mod Places
 pub mod Reached
 pub mod Replies

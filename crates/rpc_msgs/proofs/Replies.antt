@@ -1,5 +1,5 @@
 -- A reader of a reply gives replies to its request, whatever the reads are.
-use Rattle.std.proofs.Common.{◌≡◌, ℕ, Bool, true, false, cond, nat_le, List, [], ◌∷◌, Some, length, refl, ap}
+use Rattle.std.proofs.Common.{◌≡◌, ℕ, Bool, true, false, cond, nat_le, List, [], ◌∷◌, Option, Some, unwrap_or, length, refl, ap}
 use Rattle.std.proofs.lemmas.Option.{option_and_then_some}
 use Rattle.std.specs.Int.{from_le_bytes, w32, w64}
 use Rattle.ns_ram.specs.declared.read.Read.{Read}
@@ -47,34 +47,34 @@ bytes-gives : (P : RpcReply → Type 0) (b : Bool) (addr size : ℕ) (reply : Li
 bytes-gives P true addr size reply h = h
 bytes-gives P false addr size reply h = h [] refl
 
-reply_reader-gives : (buffer : ℕ) (rpc : Rpc) → Gives (IsReplyTo rpc) (reply_reader buffer rpc)
-reply_reader-gives buffer Time = λ ret n v m w k. refl
-reply_reader-gives buffer (Sleep key) = refl
-reply_reader-gives buffer (Wake key) = refl
-reply_reader-gives buffer (Suspend ms) = refl
-reply_reader-gives buffer (FsOpen name) = λ ret n v m. refl
-reply_reader-gives buffer (FsCreate name) = λ ret n v m. refl
-reply_reader-gives buffer (FsClose fd) = λ ret n. refl
-reply_reader-gives buffer (FsRead fd offset len) = λ r n s m.
+reply_reader-gives : (at : ℕ) (buffer : Option ℕ) (rpc : Rpc) → Gives (IsReplyTo rpc) (reply_reader at buffer rpc)
+reply_reader-gives at buffer Time = λ ret n v m w k. refl
+reply_reader-gives at buffer (Sleep key) = refl
+reply_reader-gives at buffer (Wake key) = refl
+reply_reader-gives at buffer (Suspend ms) = refl
+reply_reader-gives at buffer (FsOpen name) = λ ret n v m. refl
+reply_reader-gives at buffer (FsCreate name) = λ ret n v m. refl
+reply_reader-gives at buffer (FsClose fd) = λ ret n. refl
+reply_reader-gives at buffer (FsRead fd offset len) = λ r n s m.
     let ret : ℕ = from_le_bytes w32 r in
     let size : ℕ = from_le_bytes w64 s in
-    bytes-gives (IsReplyTo (FsRead fd offset len)) (nat_le size len) (payload_at buffer) size
+    bytes-gives (IsReplyTo (FsRead fd offset len)) (nat_le size len) (payload_at (unwrap_or buffer 0)) size
     (λ bytes. record nothing_read { ret = ret; size = size; bytes = bytes })
     (λ got k. (refl, k))
-reply_reader-gives buffer (FsWrite fd offset len) = λ ret n. refl
-reply_reader-gives buffer (FsRemove name) = λ ret n. refl
+reply_reader-gives at buffer (FsWrite fd offset len) = λ ret n. refl
+reply_reader-gives at buffer (FsRemove name) = λ ret n. refl
 
-pub readings-replies : (buffer : ℕ) (rpc : Rpc) (reads : List Read) (reply : RpcReply) →
-    reading (reply_reader buffer rpc) reads ≡ Some reply → IsReplyTo rpc reply
-readings-replies buffer rpc reads reply e =
-    option_and_then_some if_used_up (over_reads (reply_reader buffer rpc) reads) reply e
+pub readings-replies : (at : ℕ) (buffer : Option ℕ) (rpc : Rpc) (reads : List Read) (reply : RpcReply) →
+    reading (reply_reader at buffer rpc) reads ≡ Some reply → IsReplyTo rpc reply
+readings-replies at buffer rpc reads reply e =
+    option_and_then_some if_used_up (over_reads (reply_reader at buffer rpc) reads) reply e
     (λ (end : RpcReply × List Read) there ended.
-    let given = over_reads-gives (IsReplyTo rpc) (reply_reader buffer rpc) reads end.1 end.0 (reply_reader-gives buffer rpc) there in
+    let given = over_reads-gives (IsReplyTo rpc) (reply_reader at buffer rpc) reads end.1 end.0 (reply_reader-gives at buffer rpc) there in
     rw (used_up-value end reply ended) at given)
 
 -- so what it makes of a lane is one
-pub over_lane-reply : (buffer : ℕ) (rpc : Rpc) (lane : List ℕ) (reads : List Read) (reply : RpcReply) →
-    over_lane (reply_reader buffer rpc) lane [] ≡ Some (reply, reads) → IsReplyTo rpc reply
-over_lane-reply buffer rpc lane reads reply e =
-    let read = (over_lane-reading (reply_reader buffer rpc) lane reads reply).0 e in
-    readings-replies buffer rpc reads reply read.0
+pub over_lane-reply : (at : ℕ) (buffer : Option ℕ) (rpc : Rpc) (lane : List ℕ) (reads : List Read) (reply : RpcReply) →
+    over_lane (reply_reader at buffer rpc) lane [] ≡ Some (reply, reads) → IsReplyTo rpc reply
+over_lane-reply at buffer rpc lane reads reply e =
+    let read = (over_lane-reading (reply_reader at buffer rpc) lane reads reply).0 e in
+    readings-replies at buffer rpc reads reply read.0

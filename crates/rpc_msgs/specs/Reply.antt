@@ -1,5 +1,5 @@
 -- What is read of the reply to a request: each number by itself, in this order, whatever the result says.
-use Rattle.std.specs.Prelude.{ℕ, nat_le, List, [], ◌++◌, if◌then◌else◌}
+use Rattle.std.specs.Prelude.{ℕ, nat_le, List, [], ◌++◌, if◌then◌else◌, Option, unwrap_or}
 use Rattle.std.specs.Int.{from_le_bytes, to_le_bytes, w32, w64}
 use Rattle.msg_args.specs.Layout.{p_at, q_at, ret_at}
 use Rattle.ns_ram.specs.declared.read.Read.{Read}
@@ -24,76 +24,77 @@ take_u64 addr = do
 
 -- the result alone
 abbrev pub ret_alone : ℕ → Reader RpcReply
-ret_alone buffer = do
-  ret ← take_u32 (ret_at buffer)
+ret_alone at = do
+  ret ← take_u32 (ret_at at)
   done (record nothing_read { ret = ret })
 
 -- seconds and nanoseconds
 abbrev pub time_of : ℕ → Reader RpcReply
-time_of buffer = do
-  ret ← take_u32 (ret_at buffer)
-  seconds ← take_u64 (p_at buffer 0)
-  nanoseconds ← take_u64 (q_at buffer 0)
+time_of at = do
+  ret ← take_u32 (ret_at at)
+  seconds ← take_u64 (p_at at 0)
+  nanoseconds ← take_u64 (q_at at 0)
   done (record nothing_read { ret = ret; v = seconds; w = nanoseconds })
 
 -- the descriptor of an open file
 abbrev pub descriptor_of : ℕ → Reader RpcReply
-descriptor_of buffer = do
-  ret ← take_u32 (ret_at buffer)
-  fd ← take_u64 (p_at buffer 2)
+descriptor_of at = do
+  ret ← take_u32 (ret_at at)
+  fd ← take_u64 (p_at at 2)
   done (record nothing_read { ret = ret; v = fd })
 
--- so many bytes of the payload, where they are no more than were asked for, and else none
+-- so many bytes of the payload in a buffer, where they are no more than were asked for, and else none
 abbrev pub payload_of : ℕ → ℕ → ℕ → Reader (List ℕ)
 payload_of buffer most size = if nat_le size most then take_bytes (payload_at buffer) size else done []
 
--- a piece of a file: its size, and its bytes
-abbrev pub piece_of : ℕ → ℕ → Reader RpcReply
-piece_of buffer most = do
-  ret ← take_u32 (ret_at buffer)
-  size ← take_u64 (q_at buffer 1)
+-- a piece of a file: its size, and its bytes in the buffer
+abbrev pub piece_of : ℕ → ℕ → ℕ → Reader RpcReply
+piece_of at buffer most = do
+  ret ← take_u32 (ret_at at)
+  size ← take_u64 (q_at at 1)
   bytes ← payload_of buffer most size
   done (record nothing_read { ret = ret; size = size; bytes = bytes })
 
--- what each request reads of the reply in the buffer at an address
-abbrev pub reply_reader : ℕ → Rpc → Reader RpcReply
-reply_reader buffer Time = time_of buffer
-reply_reader buffer (Sleep key) = done nothing_read
-reply_reader buffer (Wake key) = done nothing_read
-reply_reader buffer (Suspend ms) = done nothing_read
-reply_reader buffer (FsOpen name) = descriptor_of buffer
-reply_reader buffer (FsCreate name) = descriptor_of buffer
-reply_reader buffer (FsClose fd) = ret_alone buffer
-reply_reader buffer (FsRead fd offset len) = piece_of buffer len
-reply_reader buffer (FsWrite fd offset len) = ret_alone buffer
-reply_reader buffer (FsRemove name) = ret_alone buffer
+-- what each request reads of the reply: its argument is at an address, and its payload, if it has one, in a buffer at
+-- another
+abbrev pub reply_reader : ℕ → Option ℕ → Rpc → Reader RpcReply
+reply_reader at buffer Time = time_of at
+reply_reader at buffer (Sleep key) = done nothing_read
+reply_reader at buffer (Wake key) = done nothing_read
+reply_reader at buffer (Suspend ms) = done nothing_read
+reply_reader at buffer (FsOpen name) = descriptor_of at
+reply_reader at buffer (FsCreate name) = descriptor_of at
+reply_reader at buffer (FsClose fd) = ret_alone at
+reply_reader at buffer (FsRead fd offset len) = piece_of at (unwrap_or buffer 0) len
+reply_reader at buffer (FsWrite fd offset len) = ret_alone at
+reply_reader at buffer (FsRemove name) = ret_alone at
 
 -- ---- the list of what was read
 
 -- a list of reads with those of a reply behind them: the result alone, a time, a descriptor, a piece of a file
 abbrev pub with_ret : ℕ → RpcReply → List Read → List Read
-with_ret buffer reply before = before ++ listed (ret_at buffer) (to_le_bytes w32 reply.ret)
+with_ret at reply before = before ++ listed (ret_at at) (to_le_bytes w32 reply.ret)
 
 abbrev pub with_time : ℕ → RpcReply → List Read → List Read
-with_time buffer reply before =
-    with_ret buffer reply before ++ listed (p_at buffer 0) (to_le_bytes w64 reply.v) ++ listed (q_at buffer 0) (to_le_bytes w64 reply.w)
+with_time at reply before =
+    with_ret at reply before ++ listed (p_at at 0) (to_le_bytes w64 reply.v) ++ listed (q_at at 0) (to_le_bytes w64 reply.w)
 
 abbrev pub with_descriptor : ℕ → RpcReply → List Read → List Read
-with_descriptor buffer reply before = with_ret buffer reply before ++ listed (p_at buffer 2) (to_le_bytes w64 reply.v)
+with_descriptor at reply before = with_ret at reply before ++ listed (p_at at 2) (to_le_bytes w64 reply.v)
 
-abbrev pub with_piece : ℕ → RpcReply → List Read → List Read
-with_piece buffer reply before =
-    with_ret buffer reply before ++ listed (q_at buffer 1) (to_le_bytes w64 reply.size) ++ listed (payload_at buffer) reply.bytes
+abbrev pub with_piece : ℕ → ℕ → RpcReply → List Read → List Read
+with_piece at buffer reply before =
+    with_ret at reply before ++ listed (q_at at 1) (to_le_bytes w64 reply.size) ++ listed (payload_at buffer) reply.bytes
 
 -- the same of the reply to each request
-abbrev pub with_reply : ℕ → Rpc → RpcReply → List Read → List Read
-with_reply buffer Time reply before = with_time buffer reply before
-with_reply buffer (Sleep key) reply before = before
-with_reply buffer (Wake key) reply before = before
-with_reply buffer (Suspend ms) reply before = before
-with_reply buffer (FsOpen name) reply before = with_descriptor buffer reply before
-with_reply buffer (FsCreate name) reply before = with_descriptor buffer reply before
-with_reply buffer (FsClose fd) reply before = with_ret buffer reply before
-with_reply buffer (FsRead fd offset len) reply before = with_piece buffer reply before
-with_reply buffer (FsWrite fd offset len) reply before = with_ret buffer reply before
-with_reply buffer (FsRemove name) reply before = with_ret buffer reply before
+abbrev pub with_reply : ℕ → Option ℕ → Rpc → RpcReply → List Read → List Read
+with_reply at buffer Time reply before = with_time at reply before
+with_reply at buffer (Sleep key) reply before = before
+with_reply at buffer (Wake key) reply before = before
+with_reply at buffer (Suspend ms) reply before = before
+with_reply at buffer (FsOpen name) reply before = with_descriptor at reply before
+with_reply at buffer (FsCreate name) reply before = with_descriptor at reply before
+with_reply at buffer (FsClose fd) reply before = with_ret at reply before
+with_reply at buffer (FsRead fd offset len) reply before = with_piece at (unwrap_or buffer 0) reply before
+with_reply at buffer (FsWrite fd offset len) reply before = with_ret at reply before
+with_reply at buffer (FsRemove name) reply before = with_ret at reply before

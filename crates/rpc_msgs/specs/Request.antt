@@ -1,7 +1,7 @@
--- The message of a request: an argument as optee_msg.h lays it out, at the start of a buffer of 4096 bytes, and
--- the bytes that go with it, its payload, behind that. The commands go by the names of optee_rpc_cmd.h; their
--- numbers and parameters are this project's own.
-use Rattle.std.specs.Prelude.{◌≡◌, ℕ, ◌+◌, ◌≤◌, false, List, [], ◌∷◌, length}
+-- The message of a request: an argument as optee_msg.h lays it out, and the bytes that go with it, its payload, in a
+-- buffer of 4096 bytes. The commands go by the names of optee_rpc_cmd.h; their numbers and parameters are this
+-- project's own.
+use Rattle.std.specs.Prelude.{◌≡◌, ℕ, ◌+◌, ◌≤◌, Bool, true, false, List, [], ◌∷◌, length, Option, unwrap_or}
 use Rattle.msg_args.specs.declared.arg.MsgArg.{MsgArg}
 use Rattle.msg_args.specs.declared.kind.ParamKind.{ParamKind}
 use Rattle.msg_args.specs.declared.kind.ParamKind.TheVariants.{ValueIn, ValueOut, TmemIn, TmemOut}
@@ -26,6 +26,19 @@ IsPayloadOf (FsCreate name) payload = payload ≡ name
 IsPayloadOf (FsRemove name) payload = payload ≡ name
 IsPayloadOf (FsWrite fd offset len) payload = length payload ≡ len
 IsPayloadOf _ payload = payload ≡ []
+
+-- it has a payload, for the normal world or from it, and so needs a buffer
+abbrev pub has_payload : Rpc → Bool
+has_payload Time = false
+has_payload (Sleep key) = false
+has_payload (Wake key) = false
+has_payload (Suspend ms) = false
+has_payload (FsOpen name) = true
+has_payload (FsCreate name) = true
+has_payload (FsClose fd) = false
+has_payload (FsRead fd offset len) = true
+has_payload (FsWrite fd offset len) = true
+has_payload (FsRemove name) = true
 
 -- ---- the argument
 
@@ -64,7 +77,7 @@ argument cmd params =
 abbrev pub files : ℕ → ℕ → ℕ → List MsgParam → MsgArg
 files function fd offset params = argument 2 (value_in function fd offset ∷ params)
 
--- the argument of each request, in the buffer at an address with a cookie
+-- the argument of each request, whose payload, if it has one, stands in the buffer at an address with a cookie
 abbrev pub request_arg : ℕ → ℕ → Rpc → MsgArg
 request_arg buffer cookie Time = argument 3 (value_out ∷ [])
 request_arg buffer cookie (Sleep key) = argument 4 (value_in 0 key 0 ∷ [])
@@ -84,11 +97,9 @@ abbrev pub payload_writes : ℕ → List ℕ → List Write
 payload_writes buffer [] = []
 payload_writes buffer (byte ∷ bytes) = record { addr = payload_at buffer; bytes = byte ∷ bytes } ∷ []
 
--- the argument, all of its head and its parameters, and then the payload
-abbrev pub request_writes : ℕ → ℕ → Rpc → List ℕ → List Write
-request_writes buffer cookie rpc payload =
-    record { addr = buffer; bytes = spelling (request_arg buffer cookie rpc) } ∷ payload_writes buffer payload
-
--- the write lies in the message at an address
-abbrev pub IsWithinMessage : ℕ → Write → Type 0
-IsWithinMessage buffer write = (buffer ≤ write.addr) × (write.addr + length write.bytes ≤ buffer + 4096)
+-- the argument at an address, all of its head and its parameters, and then the payload in the buffer at another, which
+-- the normal world knows by a cookie. One that has no payload needs no buffer
+abbrev pub request_writes : ℕ → Option (ℕ × ℕ) → Rpc → List ℕ → List Write
+request_writes at buffer rpc payload =
+    let there = unwrap_or buffer (0, 0) in
+    record { addr = at; bytes = spelling (request_arg there.0 there.1 rpc) } ∷ payload_writes there.0 payload

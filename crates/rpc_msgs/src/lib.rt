@@ -1,14 +1,15 @@
 //! The messages in which a call asks the normal world for something: the time, to sleep or to wake another
 //! thread, to be suspended, or a file's bytes.
 //!
-//! A message stands in a buffer of 4096 bytes that the normal world has lent: an argument of `optee_msg.h` at its
-//! start, and the bytes that go with it, its payload, at 512. This crate writes a request there and reads the
-//! reply. It trusts nothing that stands in a reply: each number is read once, and a size above what was asked for
-//! gives no bytes. What a reply means is no concern of this crate.
+//! A message is an argument of `optee_msg.h` and the bytes that go with it, its payload. It stands in a buffer of 4096
+//! bytes that the normal world has lent, the argument at its start and the payload at 512; or its argument stands in an
+//! area of 160 bytes that the call has brought along, and the payload, if it has one, in such a buffer. This crate
+//! writes a request there and reads the reply. It trusts nothing that stands in a reply: each number is read once, and a
+//! size above what was asked for gives no bytes. What a reply means is no concern of this crate.
 //!
 //! `specs/Request.antt` has what is written of each request, `specs/Reply.antt` what is read of the reply to it,
-//! and `specs/Answer.antt` which replies there are. The commands go by the names of OP-TEE's `optee_rpc_cmd.h`;
-//! their numbers and parameters are this project's own.
+//! `specs/Answer.antt` which replies there are, and `specs/Place.antt` where a request stands. The commands go by the
+//! names of OP-TEE's `optee_rpc_cmd.h`; their numbers and parameters are this project's own.
 //!
 //! Only `take_reply` takes memory, for its list of reads.
 #![tactic(auto)]
@@ -20,15 +21,17 @@ mod laws;
 mod payload;
 mod reply;
 mod request;
+mod request_place;
 mod rpc;
 mod rpc_buffer;
 
 pub use examples::worked_examples;
 pub use fault::FileNameFault;
 pub use file_name::{FileName, MAX_FILE_NAME};
-pub use laws::{readings_are_replies, replies_are_read, requests_stay_in_their_message};
+pub use laws::{readings_are_replies, replies_are_read, requests_stay_in_their_places};
 pub use payload::{MAX_PAYLOAD, Payload};
 pub use reply::{read_reply, take_reply};
-pub use request::{MESSAGE_BYTES, PAYLOAD_OFFSET, put_request};
+pub use request::{ARGUMENT_BYTES, MESSAGE_BYTES, PAYLOAD_OFFSET, put_request, put_request_at};
+pub use request_place::RequestPlace;
 pub use rpc::{Rpc, RpcReply};
 pub use rpc_buffer::RpcBuffer;

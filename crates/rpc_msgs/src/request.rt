@@ -1,20 +1,25 @@
 //! The message of a request.
 
-ghost use Rattle.std.specs.Prelude.{◌≡◌, ◌≤◌, ℕ, List, [], ◌∷◌, length};
-ghost use Rattle.ns_ram.specs.Lane.{IsInRam};
+ghost use Rattle.std.specs.Prelude.{◌≡◌, ◌<◌, ◌≤◌, ◌^◌, ℕ, List, [], ◌∷◌, length};
+ghost use Rattle.std.specs.Option.{option_map};
 ghost use Rattle.ns_ram.specs.Writes.{lane_after};
+ghost use Rattle.rpc_msgs.specs.Place.{HasPlaces, arg_at, buffer_at, writes_at};
 ghost use Rattle.rpc_msgs.specs.Request.{IsPayloadOf, IsRequest, argument, files, param, payload_in, payload_out, request_arg, request_writes, value_in, value_out};
 
 use crate::file_name::FileName;
+use crate::request_place::RequestPlace;
 use crate::rpc::Rpc;
 use arrayvec::ArrayVec;
 use msg_args::{MsgArg, MsgHead, MsgParam, ParamKind, write_arg};
 use ns_ram::Lane;
 
-/// The bytes of a message: an argument at its start, and the payload.
+/// The bytes of a buffer for messages.
 pub const MESSAGE_BYTES: u64 = 4096;
 
-/// Where the payload stands in a message.
+/// The bytes that the argument of a request takes up at most, wherever it stands: a head and four parameters.
+pub const ARGUMENT_BYTES: u64 = 160;
+
+/// Where the payload stands in its buffer.
 pub const PAYLOAD_OFFSET: u64 = 512;
 
 const OPTEE_RPC_CMD_FS: u32 = 2;
@@ -44,26 +49,37 @@ const OPTEE_RPC_FS_REMOVE: u64 = 6;
 /// The result of a request that isn't answered.
 const NO_RESULT: u32 = 0xffff0000;
 
-/// Writes a request into the message buffer at `buffer`, which the normal world knows by `cookie`: the argument,
-/// all of its head and its parameters, and then the payload. It changes no other byte, and takes no memory.
+/// Writes a request: its argument, all of its head and its parameters, at `at`, and then its payload in the buffer, of which
+/// the address and the cookie are given. It changes no other byte, and takes no memory.
 ///
 /// The payload is the name's bytes of a request that names a file, the `len` bytes of a write, and else empty.
-pub fn put_request(lane: &mut Lane, buffer: u64, cookie: u64, rpc: &Rpc, payload: &[u8])
-    requires in_ram { IsInRam buffer 4096 }
+pub fn put_request(lane: &mut Lane, at: u64, buffer: Option<(u64, u64)>, rpc: &Rpc, payload: &[u8])
+    requires places { HasPlaces at (option_map (λ there. there.0) buffer) rpc.now }
     requires request { IsRequest rpc.now }
     requires payload { IsPayloadOf rpc.now payload.now }
-    ensures { lane.new ≡ lane_after lane.old (request_writes buffer cookie rpc.now payload.now) }
+    ensures { lane.new ≡ lane_after lane.old (request_writes at buffer rpc.now payload.now) }
 {
-    let arg = request_arg(buffer, cookie, rpc);
-    lane.write(buffer, write_arg(&arg).as_slice());
+    let (addr, cookie) = buffer.unwrap_or((0, 0));
+    let arg = request_arg(addr, cookie, rpc);
+    lane.write(at, write_arg(&arg).as_slice());
     if !payload.is_empty() {
-        lane.write(buffer + PAYLOAD_OFFSET, payload);
+        lane.write(addr + PAYLOAD_OFFSET, payload);
     }
 }
 
-/// The argument of a request.
+/// Writes a request at its place, as `put_request` does.
+pub fn put_request_at(lane: &mut Lane, place: &RequestPlace, rpc: &Rpc, payload: &[u8])
+    requires places { HasPlaces (arg_at place.now) (buffer_at place.now) rpc.now }
+    requires request { IsRequest rpc.now }
+    requires payload { IsPayloadOf rpc.now payload.now }
+    ensures { lane.new ≡ lane_after lane.old (writes_at place.now rpc.now payload.now) }
+{
+    put_request(lane, place.arg(), place.payload_place(), rpc, payload);
+}
+
+/// The argument of a request, whose payload, if it has one, stands in the buffer of this cookie at this address.
 fn request_arg(buffer: u64, cookie: u64, rpc: &Rpc) -> MsgArg
-    requires { IsInRam buffer 4096 }
+    requires { buffer < 2 ^ 63 }
     ensures arg { result ≡ request_arg buffer cookie rpc.now }
     // The payload has a place in the message.
     ensures room { (payload : List ℕ) → IsRequest rpc.now → IsPayloadOf rpc.now payload
@@ -104,7 +120,7 @@ fn notification(function: u64, key: u32) -> MsgArg
 
 /// To open a file of a name, or to create it.
 fn opening(function: u64, buffer: u64, cookie: u64, name: &FileName) -> MsgArg
-    requires { IsInRam buffer 4096 }
+    requires { buffer < 2 ^ 63 }
     ensures arg { result ≡ files function 0 0
         (payload_in buffer cookie (length name.now) ∷ value_out ∷ []) }
     ensures room { length name.now ≤ 3584 }
@@ -169,7 +185,7 @@ fn value_out() -> MsgParam
 
 /// `len` bytes of the payload, for the normal world.
 fn payload_in(buffer: u64, cookie: u64, len: u64) -> MsgParam
-    requires { IsInRam buffer 4096 }
+    requires { buffer < 2 ^ 63 }
     ensures { result ≡ payload_in buffer cookie len }
 {
     param(ParamKind::TmemIn, buffer + PAYLOAD_OFFSET, len, cookie)
@@ -177,7 +193,7 @@ fn payload_in(buffer: u64, cookie: u64, len: u64) -> MsgParam
 
 /// `len` bytes of the payload, from the normal world.
 fn payload_out(buffer: u64, cookie: u64, len: u64) -> MsgParam
-    requires { IsInRam buffer 4096 }
+    requires { buffer < 2 ^ 63 }
     ensures { result ≡ payload_out buffer cookie len }
 {
     param(ParamKind::TmemOut, buffer + PAYLOAD_OFFSET, len, cookie)

@@ -1,5 +1,6 @@
 ghost use Rattle.std.specs.Prelude.{◌≡◌};
 ghost use Rattle.rpc_msgs.specs.Answer.{nothing_read};
+ghost use Rattle.rpc_msgs.specs.Request.{has_payload};
 
 use crate::file_name::FileName;
 use crate::payload::Payload;
@@ -28,6 +29,22 @@ pub enum Rpc {
     FsWrite { fd: u64, offset: u64, len: u32 },
     /// To remove the file of this name.
     FsRemove(FileName),
+}
+
+impl Rpc {
+    /// Whether bytes go with it in a buffer, for the normal world or from it.
+    pub fn has_payload(&self) -> bool
+        ensures { result ≡ has_payload self.now }
+    {
+        match self {
+            Rpc::FsOpen(_)
+            | Rpc::FsCreate(_)
+            | Rpc::FsRead { .. }
+            | Rpc::FsWrite { .. }
+            | Rpc::FsRemove(_) => true,
+            Rpc::Time | Rpc::Sleep(_) | Rpc::Wake(_) | Rpc::Suspend(_) | Rpc::FsClose(_) => false,
+        }
+    }
 }
 
 /// What the normal world answered to a request. A field that the request doesn't read is 0, or empty.
