@@ -1,7 +1,8 @@
 -- Pieces of pages, one after the other: where they lie, and how many bytes they have.
-use Rattle.std.proofs.Common.{◌≡◌, ℕ, zero, suc, ◌+◌, ◌-◌, ◌*◌, ◌/◌, ◌%◌, ◌<◌, ◌≤◌, Bool, true, false, IsTrue, ◌&&◌, List, [], ◌∷◌, ◌++◌, length, drop, take, get_or, min, sum_by, refl, sym, ◌∙◌, arith, append_assoc, append-nil, add-one, drop-cons, length-drop, inl, inr}
+use Rattle.std.proofs.Common.{◌≡◌, ℕ, zero, suc, ◌+◌, ◌-◌, ◌*◌, ◌/◌, ◌%◌, ◌<◌, ◌≤◌, Bool, true, false, IsTrue, ◌&&◌, List, [], ◌∷◌, ◌++◌, Some, length, drop, take, get_or, min, sum_by, refl, sym, ◌∙◌, arith, append_assoc, append-nil, add-one, drop-cons, length-drop, inl, inr}
 use Rattle.std.proofs.lemmas.List.{take_all, drop_all}
 use Rattle.std.proofs.lemmas.List.Sums.{sum_by-cons}
+use Rattle.std.specs.Prelude.{slice_get}
 use Rattle.std.specs.List.{AllByRecursion, list_all}
 use Rattle.ns_ram.specs.Lane.{IsInRam}
 use Rattle.ns_ram.specs.Pages.{is_page}
@@ -121,3 +122,17 @@ pub Cut-all : (pages : List ℕ) (start size : ℕ) (others : List ℕ) (index o
     Cut pages start size others index offset left got → length others ≤ index → pieces_from pages start size ≡ got
 Cut-all pages start size others index offset left got c h =
     c.whole ∙ rw (drop_all index others h, none_left offset left, append-nil got) refl
+
+-- ---- the first piece alone
+
+pub first_page : (pages : List ℕ) (start page d : ℕ) → IsTrue (list_all is_page pages) → start / 4096 < length pages → page ≡ get_or pages (start / 4096) d →
+    IsInRam page 4096
+first_page pages start page d h q e =
+    is_page-inside page (rw (← e) at (good_at (start / 4096) pages d (truth _ h) q))
+
+pub first_cut : (pages : List ℕ) (start size page d : ℕ) → 0 < size → start / 4096 < length pages → page ≡ get_or pages (start / 4096) d →
+    Some (record { addr = page + start % 4096; len = min size (4096 - start % 4096) }) ≡ slice_get (pieces_from pages start size) 0
+first_cut pages start size page d some q e =
+    let index : ℕ = start / 4096 in
+    let first : drop index pages ≡ page ∷ drop (index + 1) pages = rw (add-one, e) (drop-cons pages index d q) in
+    rw (first, one_page page (drop (index + 1) pages) (start % 4096) size some) refl

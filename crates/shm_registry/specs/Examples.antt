@@ -5,7 +5,7 @@ use Rattle.shm_registry.specs.declared.page_buffer.PageBuffer.{PageBuffer}
 use Rattle.shm_registry.specs.declared.piece.Piece.{Piece}
 use Rattle.shm_registry.specs.declared.pin.Pin.{Pin}
 use Rattle.shm_registry.specs.Pieces.{page_count, pieces_from}
-use Rattle.shm_registry.specs.Registered.{with_pin, without_slot, lowest_slot, pieces_of}
+use Rattle.shm_registry.specs.Registered.{with_pin, without_slot, lowest_slot, piece_at, pieces_of}
 
 abbrev pub piece : ℕ → ℕ → Piece
 piece addr len = record { addr = addr; len = len }
@@ -43,6 +43,13 @@ pub record Examples : Type 0 where
   -- of a kept buffer, whose own offset counts
   pub part : pieces_of kept 5 6 10 ≡ Some (piece 0x40001000 10 ∷ [])
   pub unknown : pieces_of kept 6 0 1 ≡ None
+  -- from a byte on, as far as its page and its buffer go
+  pub first_byte : piece_at kept 5 0 ≡ Some (piece 0x40003ffa 6)
+  pub byte_of_a_page : piece_at kept 5 106 ≡ Some (piece 0x40001064 3996)
+  pub last_bytes : piece_at kept 5 4102 ≡ Some (piece 0x40003000 4)
+  pub last_byte : piece_at kept 9 12287 ≡ Some (piece 0x40003fff 1)
+  pub no_byte : piece_at kept 5 4106 ≡ None
+  pub no_buffer : piece_at kept 6 0 ≡ None
   -- pins
   pub pinned_again : with_pin pins 5 1 ≡ pins
   pub pinned : with_pin pins 9 3 ≡ pin 5 3 ∷ pin 5 1 ∷ pin 9 0 ∷ pin 9 3 ∷ []

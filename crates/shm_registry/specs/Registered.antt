@@ -1,7 +1,7 @@
 -- What a registry has: the buffers by their cookies, and which slots pin them.
-use Rattle.std.specs.Prelude.{ℕ, ◌+◌, ◌<◌, ◌≤◌, Bool, not, ◌==◌, ◌&&◌, List, [], ◌∷◌, ◌++◌, length, map, filter, min, Option, IsSome, if◌then◌else◌}
+use Rattle.std.specs.Prelude.{ℕ, ◌+◌, ◌<◌, ◌≤◌, Bool, not, ◌-◌, ◌==◌, ◌&&◌, List, [], ◌∷◌, ◌++◌, length, map, filter, min, Option, IsSome, slice_get, if◌then◌else◌}
 use Rattle.std.specs.List.{All, AllByRecursion, IsDistinct, list_any, reduce}
-use Rattle.std.specs.Option.{option_map}
+use Rattle.std.specs.Option.{option_map, option_and_then}
 use Rattle.base.specs.NumberMap.{NumberMap, get, IsRising}
 use Rattle.shm_registry.specs.declared.page_buffer.PageBuffer.{PageBuffer}
 use Rattle.shm_registry.specs.declared.piece.Piece.{Piece}
@@ -38,6 +38,13 @@ lowest_slot pins cookie = reduce min (slots_of pins cookie)
 abbrev pub pieces_of : NumberMap PageBuffer → ℕ → ℕ → ℕ → Option (List Piece)
 pieces_of buffers cookie offset size =
     option_map (λ buffer. pieces_from buffer.pages (buffer.offset + offset) size) (get buffers cookie)
+
+-- the part of a kept buffer from an offset on that lies in one page, none where the offset is past its bytes
+abbrev pub piece_at : NumberMap PageBuffer → ℕ → ℕ → Option Piece
+piece_at buffers cookie offset =
+    let first_from = λ (buffer : PageBuffer).
+    slice_get (pieces_from buffer.pages (buffer.offset + offset) (buffer.size - offset)) 0 in
+    option_and_then first_from (get buffers cookie)
 
 -- ---- what holds of each registry
 

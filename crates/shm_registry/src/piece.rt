@@ -1,4 +1,4 @@
-ghost use Rattle.std.specs.Prelude.{◌≡◌, ◌+◌, ◌*◌, ◌<◌, ◌≤◌, length, sum_by, IsTrue, IfOk};
+ghost use Rattle.std.specs.Prelude.{◌≡◌, ◌+◌, ◌*◌, ◌<◌, ◌≤◌, length, sum_by, IsTrue, IfOk, Some, slice_get};
 ghost use Rattle.std.specs.List.{AllByRecursion, list_all};
 ghost use Rattle.ns_ram.specs.Pages.{is_page};
 ghost use Rattle.shm_registry.specs.Pieces.{IsPieceOfRam, pieces_from};
@@ -46,4 +46,21 @@ pub fn pieces(alloc: Global, pages: &[u64], start: u64, size: u64) -> Result<Vec
         offset = 0;
     }
     Ok(pieces)
+}
+
+/// The first of the pieces of the `size` bytes, of which there are some.
+pub(crate) fn first_piece(pages: &[u64], start: u64, size: u64) -> Piece
+    requires pages { IsTrue (list_all is_page pages.now) }
+    requires some { 0 < size }
+    requires enough { start + size ≤ 4096 * length pages.now }
+    ensures piece { Some result ≡ slice_get (pieces_from pages.now start size) 0 }
+    ensures in_ram { IsPieceOfRam result }
+{
+    let page = pages[(start / PAGE_BYTES) as usize];
+    let in_page = start % PAGE_BYTES;
+    let len = size.min(PAGE_BYTES - in_page);
+    Piece {
+        addr: page + in_page,
+        len: len as u32,
+    }
 }

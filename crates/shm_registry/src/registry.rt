@@ -1,12 +1,12 @@
-ghost use Rattle.std.specs.Prelude.{◌≡◌, ℕ, ◌+◌, ◌<◌, ◌≤◌, ◌↔◌, ◌==◌, [], ◌∷◌, length, sum_by, IsTrue, IsSome, IsNone, IsOk, IfOk, OnOk, OnErr, IsErrOf, IsSomeAnd, Some, None};
+ghost use Rattle.std.specs.Prelude.{◌≡◌, ℕ, ◌+◌, ◌<◌, ◌≤◌, ◌↔◌, ◌==◌, [], ◌∷◌, length, sum_by, IsTrue, IsSome, IsNone, IfSome, IsOk, IfOk, OnOk, OnErr, IsErrOf, IsSomeAnd, Some, None};
 ghost use Rattle.std.specs.List.{AllByRecursion, list_any};
 ghost use Rattle.base.specs.NumberMap.{NumberMap, get, insert, remove};
 ghost use Rattle.shm_registry.specs.Pieces.{IsBuffer, IsPieceOfRam};
-ghost use Rattle.shm_registry.specs.Registered.{IsSound, is_pin, lowest_slot, pieces_of, with_pin, without_slot};
+ghost use Rattle.shm_registry.specs.Registered.{IsSound, is_pin, lowest_slot, piece_at, pieces_of, with_pin, without_slot};
 
 use crate::fault::{RegisterFault, ResolveFault, UnregisterFault};
 use crate::page_buffer::PageBuffer;
-use crate::piece::{Piece, pieces};
+use crate::piece::{Piece, first_piece, pieces};
 use crate::pin::Pin;
 use base::{NoMemory, NumberTable};
 use std::alloc::Global;
@@ -131,6 +131,21 @@ impl Registry {
         ensures { self.new ≡ record self.old { pins = without_slot self.old.pins slot } }
     {
         self.pins.retain(|pin| pin.slot != slot);
+    }
+
+    /// The part of the cookie's buffer from `offset` on that lies in one page: `None` where the cookie isn't registered, or
+    /// the offset isn't below the buffer's size. Takes no memory.
+    pub fn piece_at(&self, cookie: u64, offset: u64) -> Option<Piece>
+        ensures piece { result ≡ piece_at self.now.buffers cookie offset }
+        ensures in_ram { IfSome result IsPieceOfRam }
+    {
+        let buffer = self.buffers.get(cookie)?;
+        if offset >= buffer.size {
+            return None;
+        }
+        let start = u64::from(buffer.offset) + offset;
+        let left = buffer.size - offset;
+        Some(first_piece(buffer.pages.as_slice(), start, left))
     }
 
     /// The pieces of the `size` bytes at `offset` in the buffer of the cookie.
