@@ -1,5 +1,5 @@
 -- A message in which a request was written holds it.
-use Rattle.std.proofs.Common.{◌≡◌, ℕ, ◌+◌, ◌≤◌, List, [], length, ap, ◌∙◌, arith}
+use Rattle.std.proofs.Common.{◌≡◌, ℕ, ◌+◌, ◌≤◌, List, [], Some, length, ap, ◌∙◌, arith}
 use Rattle.msg_args.specs.Spelling.{spelling}
 use Rattle.ns_ram.specs.declared.ram.TheConstants.{RAM_BYTES}
 use Rattle.ns_ram.specs.Lane.{IsInRam, bytes_at, bytes_put}
@@ -47,11 +47,11 @@ at_start : (buffer : ℕ) → buffer + 0 ≡ buffer
 at_start buffer = omega arith
 
 pub held : (lane : List ℕ) (buffer cookie : ℕ) (rpc : Rpc) (payload : List ℕ) → length lane ≡ RAM_BYTES → IsInRam buffer 4096 → IsValue rpc → IsRequest rpc → IsPayloadOf rpc payload →
-    Holds (bytes_at (lane_after lane (request_writes buffer cookie rpc payload)) buffer 4096) buffer cookie rpc payload
+    Holds (bytes_at (lane_after lane (request_writes buffer (Some (buffer, cookie)) rpc payload)) buffer 4096) buffer cookie rpc payload
 unfolding BeginsWith
 held lane buffer cookie rpc payload whole inside value request is =
     let spelled = spelling (request_arg buffer cookie rpc) in
-    let after = lane_after lane (request_writes buffer cookie rpc payload) in
+    let after = lane_after lane (request_writes buffer (Some (buffer, cookie)) rpc payload) in
     let short = length-spelling buffer cookie rpc in
     let room = few rpc payload value request is in
     let front = in_front buffer (length spelled) inside short in

@@ -160,13 +160,13 @@ module _ (lane : List ℕ) (buffer : ℕ) (whole : length lane ≡ RAM_BYTES) (i
       (subst (λ c. P (half ret) (word v) c) (from_le_bytes-to_le_bytes_8 w small_w) read))
 
   piece_given : (most ret size : ℕ) (bytes : List ℕ) → ret < 2 ^ 32 → size < 2 ^ 64 → length bytes ≤ 3584 → length bytes ≡ cond (nat_le size most) size 0 →
-      Gives (lane_after lane (ret_write buffer ret ∷ number_write (q_at buffer 1) size ∷ payload_writes buffer bytes)) (piece_of buffer most) (record nothing_read { ret = ret; size = size; bytes = bytes })
+      Gives (lane_after lane (ret_write buffer ret ∷ number_write (q_at buffer 1) size ∷ payload_writes buffer bytes)) (piece_of buffer buffer most) (record nothing_read { ret = ret; size = size; bytes = bytes })
   unfolding behind
   piece_given most ret size bytes small_ret small_size few n =
       let later = number_write (q_at buffer 1) size ∷ payload_writes buffer bytes in
       let after = lane_after lane (ret_write buffer ret ∷ later) in
       let reply : ℕ → ℕ → List ℕ → RpcReply = λ a b got. record nothing_read { ret = a; size = b; bytes = got } in
-      let P : ℕ → ℕ → Type 0 = λ a b. Gives after (piece_of buffer most) (reply a b bytes) in
+      let P : ℕ → ℕ → Type 0 = λ a b. Gives after (piece_of buffer buffer most) (reply a b bytes) in
       let Q : ℕ → Type 0 = λ b. Gives after (payload_of buffer most b >>= (λ got. done (reply (half ret) b got))) (reply (half ret) b bytes) in
       let in_ram = payload_in_ram buffer bytes inside few in
       let of_ret = ret_there ret later (q1_in, in_ram) (inl ret_q1, payload_apart buffer (ret_at buffer) 4 bytes ret_payload) in
@@ -189,7 +189,7 @@ module _ (lane : List ℕ) (buffer : ℕ) (whole : length lane ≡ RAM_BYTES) (i
   few_bytes false size most count is n room = omega arith
 
   of_reply : (rpc : Rpc) (reply : RpcReply) → IsRequest rpc → IsReplyTo rpc reply → FitsReply reply →
-      Gives (lane_after lane (reply_writes buffer rpc reply)) (reply_reader buffer rpc) reply
+      Gives (lane_after lane (reply_writes buffer rpc reply)) (reply_reader buffer (Some buffer) rpc) reply
   of_reply Time reply request is fits =
       let after = lane_after lane (reply_writes buffer Time reply) in
       subst (λ r. Gives after (time_of buffer) r) (sym is) (time_given reply.ret reply.v reply.w fits.ret fits.v fits.w)
@@ -214,7 +214,7 @@ module _ (lane : List ℕ) (buffer : ℕ) (whole : length lane ≡ RAM_BYTES) (i
   of_reply (FsRead fd offset len) reply request is fits =
       let after = lane_after lane (reply_writes buffer (FsRead fd offset len) reply) in
       let few = few_bytes (nat_le reply.size len) reply.size len (length reply.bytes) refl is.1 request in
-      subst (λ r. Gives after (piece_of buffer len) r) (sym is.0)
+      subst (λ r. Gives after (piece_of buffer buffer len) r) (sym is.0)
       (piece_given len reply.ret reply.size reply.bytes fits.ret fits.size few is.1)
   of_reply (FsWrite fd offset len) reply request is fits =
       let after = lane_after lane (reply_writes buffer (FsWrite fd offset len) reply) in
@@ -224,6 +224,6 @@ module _ (lane : List ℕ) (buffer : ℕ) (whole : length lane ≡ RAM_BYTES) (i
       subst (λ r. Gives after (ret_alone buffer) r) (sym is) (ret_alone_given reply.ret fits.ret)
 
 pub read_again : (lane : List ℕ) (buffer : ℕ) (rpc : Rpc) (reply : RpcReply) → length lane ≡ RAM_BYTES → IsInRam buffer 4096 → IsRequest rpc → IsReplyTo rpc reply → FitsReply reply →
-    outcome_over (reply_reader buffer rpc) (lane_after lane (reply_writes buffer rpc reply)) ≡ Some reply
+    outcome_over (reply_reader buffer (Some buffer) rpc) (lane_after lane (reply_writes buffer rpc reply)) ≡ Some reply
 read_again lane buffer rpc reply whole inside request is fits =
-    outcome (lane_after lane (reply_writes buffer rpc reply)) (reply_reader buffer rpc) reply (of_reply lane buffer whole inside rpc reply request is fits)
+    outcome (lane_after lane (reply_writes buffer rpc reply)) (reply_reader buffer (Some buffer) rpc) reply (of_reply lane buffer whole inside rpc reply request is fits)

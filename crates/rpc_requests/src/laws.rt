@@ -16,12 +16,12 @@ ghost use Rattle.rpc_requests.specs.Holding.{Holds, IsValue};
 pub fn requests_are_held()
     ensures { (lane : List ℕ) (buffer cookie : ℕ) (rpc : Rpc) (payload : List ℕ) → length lane ≡ 0x400000
         → IsInRam buffer 4096 → IsValue rpc → IsRequest rpc → IsPayloadOf rpc payload
-        → Holds (bytes_at (lane_after lane (request_writes buffer cookie rpc payload)) buffer 4096) buffer cookie rpc payload }
+        → Holds (bytes_at (lane_after lane (request_writes buffer (Some (buffer, cookie)) rpc payload)) buffer 4096) buffer cookie rpc payload }
 {}
 
 /// What is read of a reply that was written is that reply.
 pub fn replies_are_read()
     ensures { (lane : List ℕ) (buffer : ℕ) (rpc : Rpc) (reply : RpcReply) → length lane ≡ 0x400000
         → IsInRam buffer 4096 → IsRequest rpc → IsReplyTo rpc reply → FitsReply reply
-        → outcome_over (reply_reader buffer rpc) (lane_after lane (reply_writes buffer rpc reply)) ≡ Some reply }
+        → outcome_over (reply_reader buffer (Some buffer) rpc) (lane_after lane (reply_writes buffer rpc reply)) ≡ Some reply }
 {}
