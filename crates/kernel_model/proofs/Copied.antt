@@ -36,7 +36,7 @@ use Rattle.ta_params.specs.declared.copied_params.Way.{Way}
 use Rattle.ta_params.specs.declared.copied_params.Way.TheVariants.{In, Out, Inout}
 use Rattle.kernel_model.specs.Argument.{Opening, invocation, opening, opening_with, params_in}
 use Rattle.kernel_model.specs.Decision.{Taken, Tested, taken_in}
-use Rattle.kernel_model.specs.NewCall.{has_argument}
+use Rattle.kernel_model.specs.Located.{Located, area_of, has_argument, has_bytes, has_room, whole_len}
 use Rattle.kernel_model.proofs.Parts.{AllOf}
 
 -- ---- what holds of each value that an attempt passes
@@ -333,13 +333,34 @@ invoked_room params invoked count e counted = by_test _ e
         omega (arith, length_is, counted)
     by_test false is = absurd cc
 
--- an argument of which the head is accepted lies in RAM
-pub argument_inside : (arg : ℕ) (head : MsgHead) → has_argument arg head ≡ true → IsInRam arg (argument_len head.count)
-argument_inside arg head e =
-    let second = (both (nat_le head.count 6) (is_in_ram arg (argument_len head.count)) e).1 in
-    let bounds = both (nat_le 0x40000000 arg) (nat_le (arg + argument_len head.count) (0x40000000 + 0x400000)) second in
-    (leb-true 0x40000000 arg bounds.0, leb-true (arg + argument_len head.count) (0x40000000 + 0x400000) bounds.1)
+-- an argument of which the head is accepted lies in RAM, with its area
+whole_inside : (at : Located) (head : MsgHead) → has_argument at head ≡ true → IsInRam at.addr (whole_len at head)
+whole_inside at head e =
+    let len = whole_len at head in
+    let bytes = (both (nat_le head.count 6) (has_bytes at len) e).1 in
+    let second = (both (is_in_ram at.addr len) (has_room at len) bytes).0 in
+    let bounds = both (nat_le 0x40000000 at.addr) (nat_le (at.addr + len) (0x40000000 + 0x400000)) second in
+    (leb-true 0x40000000 at.addr bounds.0, leb-true (at.addr + len) (0x40000000 + 0x400000) bounds.1)
   where
     both : (one other : Bool) → (one && other) ≡ true → (one ≡ true) × (other ≡ true)
     both true other e = (refl, e)
     both false other e = absurd cc
+
+pub argument_inside : (at : Located) (head : MsgHead) → has_argument at head ≡ true → IsInRam at.addr (argument_len head.count)
+argument_inside at head e =
+    let whole = whole_inside at head e in
+    let low = whole.0 in
+    let high = whole.1 in
+    (low, omega (arith, high))
+
+pub area_inside : (at : Located) (head : MsgHead) (area : ℕ) → has_argument at head ≡ true → area_of at head ≡ Some area → IsInRam area 160
+area_inside at head area e is = by_flag at.has_area (whole_inside at head e) is
+  where
+    by_flag : (has : Bool) → IsInRam at.addr (argument_len head.count + (if has then 160 else 0))
+        → (if has then Some (at.addr + argument_len head.count) else None) ≡ Some area → IsInRam area 160
+    by_flag true whole there =
+        let low = whole.0 in
+        let high = whole.1 in
+        let same : at.addr + argument_len head.count ≡ area = cc in
+        subst (λ (a : ℕ). IsInRam a 160) same (omega (arith, low), omega (arith, high))
+    by_flag false whole there = absurd cc

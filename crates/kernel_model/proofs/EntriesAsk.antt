@@ -1,7 +1,7 @@
 -- What an entry asks for lies in RAM.
 use Rattle.std.proofs.Common.{◌≡◌, ℕ, ◌+◌, ◌≤◌, Bool, true, false, List, [], ◌∷◌, Option, Some, None, Ok, refl, ap}
 use Rattle.std.proofs.Common.{subst, arith}
-use Rattle.std.specs.Prelude.{find, if◌then◌else◌, is_none, is_some, length, nat_le, nat_lt, not, ◌-◌, ◌==◌, ◌%◌}
+use Rattle.std.specs.Prelude.{find, if◌then◌else◌, is_none, is_some, length, nat_le, nat_lt, not, unwrap_or, ◌-◌, ◌==◌, ◌%◌}
 use Rattle.std.specs.List.{AllByRecursion}
 use Rattle.std.specs.Option.{option_and_then, option_map, option_map_or}
 use Rattle.std.proofs.lemmas.Bool.{and_parts}
@@ -9,7 +9,7 @@ use Rattle.std.proofs.lemmas.Bool.Decides.{nat_tests}
 use Rattle.event_journal.specs.declared.event.Event.{Event}
 use Rattle.job_model.specs.Job.{Job}
 use Rattle.kernel_model.specs.Application.{Booted, IsBooted}
-use Rattle.kernel_model.specs.Argument.{argument_at, invocation, opening, params_in, reg, registering, thread_in}
+use Rattle.kernel_model.specs.Argument.{invocation, opening, params_in, reg, registering, thread_in}
 use Rattle.kernel_model.specs.Argument.{unregistering}
 use Rattle.kernel_model.specs.Codes.{bad_parameters, busy, ebadaddr, ebadcmd, eresume, ethread_limit, item_not_found}
 use Rattle.kernel_model.specs.Codes.{out_of_memory, target_dead}
@@ -20,11 +20,13 @@ use Rattle.kernel_model.specs.History.{kernel_after}
 use Rattle.kernel_model.specs.Instances.{app_of}
 use Rattle.kernel_model.specs.Kernel.{Asks, CallPhase, Ends, Kernel, PendingCall, Runs, Tables, ThreadSlot, Visit}
 use Rattle.kernel_model.specs.Kernel.{Waits, lowest_free}
-use Rattle.kernel_model.specs.Leaving.{FreesBuffer, Finishes, Request, Requests, WantsBuffer, leaving_in}
+use Rattle.kernel_model.specs.Leaving.{FreesBuffer, Finishes, Request, Requests, WantsBuffer, asks_for, leaving_in}
+use Rattle.kernel_model.specs.Leaving.{place_of, plain_request}
+use Rattle.kernel_model.specs.Located.{Located, has_argument, has_bytes, has_head, has_room, located}
 use Rattle.kernel_model.specs.NewCall.{NewCall, cancel_calls, cancels, close_session, closes, command_of, commands}
-use Rattle.kernel_model.specs.NewCall.{copied_params, drops_buffer, has_argument, has_pages, has_session_room, invokes}
+use Rattle.kernel_model.specs.NewCall.{copied_params, drops_buffer, has_pages, has_session_room, invokes}
 use Rattle.kernel_model.specs.NewCall.{is_taken, keeps_buffer, offset_in, opens_or_waits, pages_touched, settles}
-use Rattle.kernel_model.specs.NewCall.{settles_invoke, settles_open, shares_one, invoke_command, is_head_address}
+use Rattle.kernel_model.specs.NewCall.{settles_invoke, settles_open, shares_one, invoke_command, new_call}
 use Rattle.kernel_model.specs.NewCall.{listed_pages, named_session, new_call_in, new_call_of, new_call_with}
 use Rattle.kernel_model.specs.NewCall.{open_session, parameters, register_memory, unregister_memory}
 use Rattle.kernel_model.specs.Resume.{call_resumed_by, resume_call, takes_call}
@@ -43,15 +45,19 @@ use Rattle.ns_ram.specs.Lane.{IsInRam, is_in_ram}
 use Rattle.ns_ram.specs.Reader.{done, take_bytes}
 use Rattle.param_copy.specs.Copying.{copying}
 use Rattle.rpc_msgs.specs.Answer.{nothing_read}
-use Rattle.rpc_msgs.specs.Reply.{descriptor_of, payload_of, reply_reader, take_u32, take_u64}
+use Rattle.rpc_msgs.specs.Place.{HasPlaces, arg_at, buffer_at, reader_at}
+use Rattle.rpc_msgs.specs.Reply.{descriptor_of, payload_of, piece_of, reply_reader, take_u32, take_u64}
 use Rattle.rpc_msgs.specs.Request.{IsRequest, payload_at}
+use Rattle.rpc_msgs.specs.declared.request_place.RequestPlace.{RequestPlace}
+use Rattle.rpc_msgs.proofs.Places.{buffer_whole, placed_whole}
 use Rattle.rpc_msgs.specs.declared.rpc.Rpc.{Rpc}
 use Rattle.rpc_msgs.specs.declared.rpc.Rpc.TheVariants.{Time, Sleep, Wake, Suspend, FsOpen, FsCreate, FsClose, FsRead}
 use Rattle.rpc_msgs.specs.declared.rpc.Rpc.TheVariants.{FsWrite, FsRemove}
+use Rattle.rpc_msgs.specs.declared.rpc.Rpc.TheVariants as rpc
 use Rattle.rpc_msgs.specs.declared.rpc_buffer.RpcBuffer.{RpcBuffer}
 use Rattle.smc_abi.specs.Call.{call_of}
 use Rattle.smc_abi.specs.declared.call.Call.{Call}
-use Rattle.smc_abi.specs.declared.call.Call.TheVariants.{Fast, Resume, Unknown, WithArg}
+use Rattle.smc_abi.specs.declared.call.Call.TheVariants.{Fast, Resume, Unknown, WithArg, WithRegdArg, WithRpcArg}
 use Rattle.ta_params.specs.declared.call_result.CallResult.{CallResult}
 use Rattle.ta_params.specs.declared.copied_params.CopiedParams.{CopiedParams}
 use Rattle.kernel_model.proofs.CopiesAsk.{asks_copies}
@@ -69,69 +75,77 @@ u64_asks : (addr : ℕ) → IsInRam addr 8 → AsksRam (take_u64 addr)
 u64_asks addr inside = asks_on (take_bytes addr 8) _ (asks_taken addr 8 inside)
     (λ bytes. asks_done _)
 
-module _ (buffer : ℕ) (inside : IsInRam buffer 4096) where
-  low : 0x40000000 ≤ buffer
+payload_asks : (buffer most size : ℕ) → IsInRam buffer 4096 → most ≤ 3584 → AsksRam (payload_of buffer most size)
+payload_asks buffer most size inside few =
+    let low = inside.0 in
+    let high = inside.1 in
+    asks_if (nat_le size most) _ _
+    (λ (fits : nat_le size most ≡ true).
+    let within : size ≤ most = grind (arith, nat_tests) in
+    asks_taken (payload_at buffer) size (omega (arith, low), omega (arith, high, within, few)))
+    (λ long. asks_done _)
+
+module _ (at : ℕ) (inside : IsInRam at 160) where
+  low : 0x40000000 ≤ at
   low = inside.0
 
-  high : buffer + 4096 ≤ 0x40000000 + 0x400000
+  high : at + 160 ≤ 0x40000000 + 0x400000
   high = inside.1
 
-  ret_asks : AsksRam (take_u32 (ret_at buffer))
-  ret_asks = u32_asks (ret_at buffer) (omega (arith, low), omega (arith, high))
+  ret_asks : AsksRam (take_u32 (ret_at at))
+  ret_asks = u32_asks (ret_at at) (omega (arith, low), omega (arith, high))
 
-  payload_asks : (most size : ℕ) → most ≤ 3584 → AsksRam (payload_of buffer most size)
-  payload_asks most size few =
-      asks_if (nat_le size most) _ _
-      (λ (fits : nat_le size most ≡ true).
-      let within : size ≤ most = grind (arith, nat_tests) in
-      asks_taken (payload_at buffer) size (omega (arith, low), omega (arith, high, within, few)))
-      (λ long. asks_done _)
-
-  descriptor_asks : AsksRam (descriptor_of buffer)
+  descriptor_asks : AsksRam (descriptor_of at)
   descriptor_asks =
-      asks_on (take_u32 (ret_at buffer)) _ ret_asks (λ ret.
-      asks_on (take_u64 (p_at buffer 2)) _ (u64_asks (p_at buffer 2) (omega (arith, low), omega (arith, high)))
+      asks_on (take_u32 (ret_at at)) _ ret_asks (λ ret.
+      asks_on (take_u64 (p_at at 2)) _ (u64_asks (p_at at 2) (omega (arith, low), omega (arith, high)))
       (λ fd. asks_done (record nothing_read { ret = ret; v = fd })))
 
-  reply_asks : (wanted : Rpc) → IsRequest wanted → AsksRam (reply_reader buffer wanted)
-  reply_asks Time fits =
-      asks_on (take_u32 (ret_at buffer)) _ ret_asks (λ ret.
-      asks_on (take_u64 (p_at buffer 0)) _
-      (u64_asks (p_at buffer 0) (omega (arith, low), omega (arith, high))) (λ seconds.
-      asks_on (take_u64 (q_at buffer 0)) _ (u64_asks (q_at buffer 0) (omega (arith, low), omega (arith, high)))
-      (λ nanoseconds. asks_done (record nothing_read { ret = ret; v = seconds; w = nanoseconds }))))
-  reply_asks (Sleep key) fits = asks_done _
-  reply_asks (Wake key) fits = asks_done _
-  reply_asks (Suspend ms) fits = asks_done _
-  reply_asks (FsOpen name) fits = descriptor_asks
-  reply_asks (FsCreate name) fits = descriptor_asks
-  reply_asks (FsClose fd) fits = asks_on (take_u32 (ret_at buffer)) _ ret_asks
-      (λ ret. asks_done (record nothing_read { ret = ret }))
-  reply_asks (FsRead fd offset len) fits =
-      asks_on (take_u32 (ret_at buffer)) _ ret_asks (λ ret.
-      asks_on (take_u64 (q_at buffer 1)) _
-      (u64_asks (q_at buffer 1) (omega (arith, low), omega (arith, high))) (λ size.
-      asks_on (payload_of buffer len size) _ (payload_asks len size fits)
+  piece_asks : (buffer len : ℕ) → IsInRam buffer 4096 → len ≤ 3584 → AsksRam (piece_of at buffer len)
+  piece_asks buffer len whole fits =
+      asks_on (take_u32 (ret_at at)) _ ret_asks (λ ret.
+      asks_on (take_u64 (q_at at 1)) _
+      (u64_asks (q_at at 1) (omega (arith, low), omega (arith, high))) (λ size.
+      asks_on (payload_of buffer len size) _ (payload_asks buffer len size whole fits)
       (λ bytes. asks_done (record nothing_read { ret = ret; size = size; bytes = bytes }))))
-  reply_asks (FsWrite fd offset len) fits = asks_on (take_u32 (ret_at buffer)) _ ret_asks
+
+  reply_asks : (buffer : Option ℕ) (wanted : Rpc) → HasPlaces at buffer wanted → IsRequest wanted → AsksRam (reply_reader at buffer wanted)
+  reply_asks buffer Time places fits =
+      asks_on (take_u32 (ret_at at)) _ ret_asks (λ ret.
+      asks_on (take_u64 (p_at at 0)) _
+      (u64_asks (p_at at 0) (omega (arith, low), omega (arith, high))) (λ seconds.
+      asks_on (take_u64 (q_at at 0)) _ (u64_asks (q_at at 0) (omega (arith, low), omega (arith, high)))
+      (λ nanoseconds. asks_done (record nothing_read { ret = ret; v = seconds; w = nanoseconds }))))
+  reply_asks buffer (Sleep key) places fits = asks_done _
+  reply_asks buffer (Wake key) places fits = asks_done _
+  reply_asks buffer (Suspend ms) places fits = asks_done _
+  reply_asks buffer (FsOpen name) places fits = descriptor_asks
+  reply_asks buffer (FsCreate name) places fits = descriptor_asks
+  reply_asks buffer (FsClose fd) places fits = asks_on (take_u32 (ret_at at)) _ ret_asks
       (λ ret. asks_done (record nothing_read { ret = ret }))
-  reply_asks (FsRemove name) fits = asks_on (take_u32 (ret_at buffer)) _ ret_asks
+  reply_asks buffer (FsRead fd offset len) places fits =
+      piece_asks (unwrap_or buffer 0) len (buffer_whole at buffer (FsRead fd offset len) places refl) fits
+  reply_asks buffer (FsWrite fd offset len) places fits = asks_on (take_u32 (ret_at at)) _ ret_asks
+      (λ ret. asks_done (record nothing_read { ret = ret }))
+  reply_asks buffer (FsRemove name) places fits = asks_on (take_u32 (ret_at at)) _ ret_asks
       (λ ret. asks_done (record nothing_read { ret = ret }))
 
 -- ---- what a resume gives
 
--- where the call has a buffer it lies in RAM, and what it asks for fits a message
+-- where the call has an area or a buffer it lies in RAM, and what it asks for fits a message
 record IsFitting (call : PendingCall) : Type 0 where
+  area : (area : ℕ) → call.area ≡ Some area → IsInRam area 160
   placed : (buffer : RpcBuffer) → call.buffer ≡ Some buffer → IsInRam buffer.addr 4096
   request : (job : Job) (wanted : Rpc) (payload : List ℕ) → call.phase ≡ Asks job wanted payload → IsRequest wanted
 
-asked_asks : (regs : List ℕ) (buffer : Option RpcBuffer) (request : Request)
-    → ((place : RpcBuffer) → buffer ≡ Some place → IsInRam place.addr 4096) → IsRequest request.wanted
-    → AsksRam (given_after regs (option_map_or (λ place. Requests place request) buffer WantsBuffer))
+asked_asks : (regs : List ℕ) (at : Option RequestPlace) (request : Request)
+    → ((place : RequestPlace) → at ≡ Some place → HasPlaces (arg_at place) (buffer_at place) request.wanted) → IsRequest request.wanted
+    → AsksRam (given_after regs (option_map_or (λ place. Requests place request) at WantsBuffer))
 asked_asks regs None request placed fits = asks_done _
 asked_asks regs (Some place) request placed fits =
-    asks_on (reply_reader place.addr request.wanted) _
-    (reply_asks place.addr (placed place refl) request.wanted fits)
+    let places = placed place refl in
+    asks_on (reader_at place request.wanted) _
+    (reply_asks (arg_at place) places.argument (buffer_at place) request.wanted places fits)
     (λ reply. asks_done _)
 
 ended_asks : (regs : List ℕ) (buffer : Option RpcBuffer) (result : CallResult) (params : CopiedParams)
@@ -142,11 +156,15 @@ ended_asks regs (Some place) result params = asks_done _
 resume_asks : (regs : List ℕ) (slot : ℕ) (call : PendingCall) → IsFitting call → AsksRam (given_to regs slot call)
 resume_asks regs slot call fits = by call.phase refl
   where
+    asks : (request : Request) → IsRequest request.wanted → AsksRam (given_after regs (asks_for call request))
+    asks request is = asked_asks regs (place_of call request) request
+        (λ place there. placed_whole call.area call.buffer request.wanted place there fits.area fits.placed) is
+
     by : (phase : CallPhase) → call.phase ≡ phase → AsksRam (given_after regs (leaving_in slot call phase))
     by (Runs job) is = asks_done _
-    by (Asks job wanted payload) is = asked_asks regs call.buffer _ fits.placed (fits.request job wanted payload is)
-    by (Waits params) is = asked_asks regs call.buffer _ fits.placed tt
-    by (Ends result params told (Some woken)) is = asked_asks regs call.buffer _ fits.placed tt
+    by (Asks job wanted payload) is = asks (record { wanted = wanted; payload = payload }) (fits.request job wanted payload is)
+    by (Waits params) is = asks (plain_request (rpc.Sleep slot)) tt
+    by (Ends result params told (Some woken)) is = asks (plain_request (rpc.Wake woken)) tt
     by (Ends result params told None) is = ended_asks regs call.buffer result params
 
 -- ---- new calls
@@ -251,25 +269,27 @@ module _ (c : NewCall) (good : HaveGoodPages c.tables.registered.buffers)
       (open_asks, (invoke_asks, (close_asks, (cancel_asks, (register_asks, (unregister_asks, tt)))))) is)
       (λ result. asks_done _)
 
--- the address of a head lies in RAM
-head_inside : (arg : ℕ) → is_head_address arg ≡ true → IsInRam arg 32
-head_inside arg is =
-    let inside : is_in_ram arg 32 ≡ true = (and_parts (arg % 8 == 0) (is_in_ram arg 32) is).1 in
+-- the bytes of a head lie in RAM
+head_inside : (at : Located) → has_head at ≡ true → IsInRam at.addr 32
+head_inside at is =
+    let bytes = (and_parts (at.addr % 8 == 0) (has_bytes at 32) is).1 in
+    let inside : is_in_ram at.addr 32 ≡ true = (and_parts (is_in_ram at.addr 32) (has_room at 32) bytes).0 in
     (grind (arith, nat_tests), grind (arith, nat_tests))
 
 slot_asks : (boot : Booted) (tables : Tables) (regs : List ℕ) (slot : ℕ) → HaveGoodPages tables.registered.buffers
     → AsksRam (new_call_in boot tables regs slot)
 slot_asks boot tables regs slot good =
-    needs_on (is_head_address (argument_at regs)) ebadaddr _ (λ head.
+    knows_on (located tables regs) ebadaddr _ (λ at lies.
+    needs_on (has_head at) ebadaddr _ (λ head.
     passes_on _ _
-    (reads_so (take_bytes (argument_at regs) 32)
-    (asks_taken (argument_at regs) 32 (head_inside (argument_at regs) head))) (λ bytes.
-    needs_on (has_argument (argument_at regs) (head_at bytes)) ebadaddr _ (λ fits.
+    (reads_so (take_bytes at.addr 32)
+    (asks_taken at.addr 32 (head_inside at head))) (λ bytes.
+    needs_on (has_argument at (head_at bytes)) ebadaddr _ (λ fits.
     knows_on (command_of (head_at bytes).cmd) ebadcmd _ (λ command is.
     reads_so _
-    (command_asks (new_call_of boot tables regs slot bytes) good
-    (argument_inside (argument_at regs) (head_at bytes) fits)
-    (head_at bytes).cmd command is)))))
+    (command_asks (new_call_of boot tables regs slot at bytes) good
+    (argument_inside at (head_at bytes) fits)
+    (head_at bytes).cmd command is))))))
 
 new_asks : (boot : Booted) (tables : Tables) (regs : List ℕ) (free : Option ℕ)
     → HaveGoodPages tables.registered.buffers
@@ -301,6 +321,7 @@ module _ (boot : Booted) (history : List Event) (kernel : Kernel) (boots : IsBoo
       let placed = calls_placed boot history kernel boots comes slot (unmarked call) there in
       let fits = calls_fit boot history kernel boots comes slot (unmarked call) there in
       record {
+        area = placed.area;
         placed = placed.buffer;
         request = fits.request;
       }
@@ -310,10 +331,14 @@ module _ (boot : Booted) (history : List Event) (kernel : Kernel) (boots : IsBoo
   resumes_asks regs None is = asks_done _
   resumes_asks regs (Some call) is = takes_asks boot kernel.tables regs call (resumed_fits regs call is)
 
+  new_ones : (regs : List ℕ) → AsksRam (new_call boot kernel regs)
+  new_ones regs = new_asks boot kernel.tables regs (lowest_free kernel.slots) (pages_kept boot history kernel comes)
+
   decision_asks : (regs : List ℕ) (call : Call) → AsksRam (decision_of boot kernel regs call)
   decision_asks regs (Fast call) = asks_done _
-  decision_asks regs WithArg = new_asks boot kernel.tables regs (lowest_free kernel.slots)
-      (pages_kept boot history kernel comes)
+  decision_asks regs WithArg = new_ones regs
+  decision_asks regs WithRpcArg = new_ones regs
+  decision_asks regs WithRegdArg = new_ones regs
   decision_asks regs Resume = resumes_asks regs (call_resumed_by kernel.slots regs) refl
   decision_asks regs Unknown = asks_done _
 

@@ -38,6 +38,7 @@ pub mod CopiesAsk
 pub mod SoundPages
 pub mod SoundPlaces
 pub mod SoundRequests
+pub mod SoundPinned
 pub mod SoundPins
 pub mod EntriesAsk
 pub mod ReadsOfRam

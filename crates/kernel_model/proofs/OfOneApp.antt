@@ -117,8 +117,8 @@ module _ (session instance : ℕ) where
       → StayOn kernel.tables.sessions → EventCases boot kernel cpu (λ next. StayOn next.tables.sessions)
   on_cases boot kernel cpu given on = record {
     answered = λ visit answer inside. on;
-    comes = λ visit slot bytes inside free fits.
-        let c = new_call_of boot kernel.tables visit.regs slot bytes in
+    comes = λ visit slot found bytes inside free lies fits.
+        let c = new_call_of boot kernel.tables visit.regs slot found bytes in
         cases_onward c (λ taken. StayOn taken.tables.sessions)
         (λ taken. StayOn (after_decision kernel visit (Takes slot taken)).tables.sessions) (λ taken kept. kept) (new_on c given on);
     resumes = λ visit call offer inside there offered.

@@ -47,8 +47,8 @@ new_pages c pages = record {
 event_pages : (boot : Booted) (kernel : Kernel) (cpu : ℕ) → HasPages kernel → EventCases boot kernel cpu HasPages
 event_pages boot kernel cpu pages = record {
   answered = λ visit answer inside. pages;
-  comes = λ visit slot bytes inside free fits.
-      let c = new_call_of boot kernel.tables visit.regs slot bytes in
+  comes = λ visit slot found bytes inside free lies fits.
+      let c = new_call_of boot kernel.tables visit.regs slot found bytes in
       cases_onward c KeepPages (λ taken. HasPages (after_decision kernel visit (Takes slot taken)))
       (λ taken kept. kept) (new_pages c pages);
   resumes = λ visit call given inside there offered.

@@ -19,6 +19,7 @@ use Rattle.kernel_model.specs.Given.{Buffer, Given, NoBuffer, Nothing as Nothing
 use Rattle.kernel_model.specs.History.{kernel_after}
 use Rattle.kernel_model.specs.Instances.{app_of, fresh_memory, is_held, program_on}
 use Rattle.kernel_model.specs.Kernel.{Active, Asks, CallPhase, Ends, Free, Instance, Kernel, PendingCall, Progress, Runs, Suspended, Tables, ThreadSlot, Waits}
+use Rattle.kernel_model.specs.Located.{cookie_of}
 use Rattle.kernel_model.specs.NewCall.{NewCall, beginner, new_call_of, no_copies, opener, shared_by, shares_one}
 use Rattle.kernel_model.specs.Resume.{Resumed, app_of_call, onward_of, phase_after, phase_seen, resumed_call, sees, who_resumes}
 use Rattle.kernel_model.specs.Sound.{Calls, call_at, call_in, unmarked}
@@ -32,6 +33,7 @@ use Rattle.kernel_model.proofs.SoundJobs.{IsAdvanceOf, IsSameBody, answered_onwa
 use Rattle.kernel_model.proofs.SoundJoined.{GoesOn, some_same}
 use Rattle.kernel_model.proofs.SoundMaps.{named_is}
 use Rattle.kernel_model.proofs.SoundMemory.{own_uuid}
+use Rattle.kernel_model.proofs.SoundPinned.{before_pinned}
 use Rattle.kernel_model.proofs.SoundNewCalls.{NewCases, cases_onward}
 use Rattle.kernel_model.proofs.SoundNewJoined.{Before, no_job, shared_there}
 use Rattle.kernel_model.proofs.SoundNumbers.{numbered}
@@ -192,13 +194,13 @@ module _ (So : OfBody) (stays : StaysSo So) where
       → AllHold So (call_at kernel.slots) → EventCases boot kernel cpu (λ next. AllHold So (call_at next.slots))
   body_cases boot kernel cpu sound begins all = record {
     answered = λ visit answer inside. all;
-    comes = λ visit slot bytes inside free fits.
-        let c = new_call_of boot kernel.tables visit.regs slot bytes in
+    comes = λ visit slot found bytes inside free lies fits.
+        let c = new_call_of boot kernel.tables visit.regs slot found bytes in
         let there = free_there kernel.slots slot free in
         cases_onward c (λ taken. HoldsIn So taken.call.phase) (λ taken. AllHold So (call_at (after_decision kernel visit (Takes slot taken)).slots))
         (λ taken so. bodies_change (call_at kernel.slots) _ slot (Some (unmarked taken.call))
         (takes_slot kernel.slots taken.cancels slot visit.cpu Free taken.call there) all so)
-        (new_bodies So (call_at kernel.slots) c sound (ap (λ (o : Option ThreadSlot). option_and_then call_in o) there) begins);
+        (new_bodies So (call_at kernel.slots) c (before_pinned (cookie_of found) kernel.tables slot (call_at kernel.slots) sound) (ap (λ (o : Option ThreadSlot). option_and_then call_in o) there) (record { made = begins.made; kept = begins.kept }));
     resumes = λ visit call given inside there offered.
         let slot = thread_in visit.regs in
         let r = resumed_call boot kernel.tables slot call given in

@@ -11,6 +11,7 @@ use Rattle.kernel_model.specs.Exit.{slot_left, tables_left}
 use Rattle.kernel_model.specs.History.{kernel_after}
 use Rattle.kernel_model.specs.Kernel.{Active, Free, Kernel, PendingCall, Progress, Suspended, ThreadSlot, first_kernel}
 use Rattle.kernel_model.specs.Leaving.{leaving_of}
+use Rattle.kernel_model.specs.Located.{cookie_of}
 use Rattle.kernel_model.specs.NewCall.{new_call_of}
 use Rattle.kernel_model.specs.Resume.{resumed_call}
 use Rattle.kernel_model.specs.Sound.{Always, Calls, call_at, call_in, unmarked}
@@ -19,6 +20,7 @@ use Rattle.kernel_model.proofs.SoundEndedJoined.{exit_fits}
 use Rattle.kernel_model.proofs.SoundEvents.{EventCases, holds_along, resumed_taken}
 use Rattle.kernel_model.proofs.SoundExits.{left_all, unbuffered}
 use Rattle.kernel_model.proofs.SoundJoined.{goes_on_joined, never_none, rests_joined, some_same}
+use Rattle.kernel_model.proofs.SoundPinned.{before_pinned}
 use Rattle.kernel_model.proofs.SoundNewCalls.{cases_onward}
 use Rattle.kernel_model.proofs.SoundNewJoined.{Before, NewFits, new_fits, no_job}
 use Rattle.kernel_model.proofs.SoundNumbers.{numbered}
@@ -40,12 +42,12 @@ nothing_is call e = absurd cc
 joined_cases : (boot : Booted) (kernel : Kernel) (cpu : ℕ) → Before (call_at kernel.slots) kernel.tables → EventCases boot kernel cpu AfterJoined
 joined_cases boot kernel cpu sound = record {
   answered = λ visit answer inside. sound.joined;
-  comes = λ visit slot bytes inside free fits.
-      let c = new_call_of boot kernel.tables visit.regs slot bytes in
+  comes = λ visit slot found bytes inside free lies fits.
+      let c = new_call_of boot kernel.tables visit.regs slot found bytes in
       let there = free_there kernel.slots slot free in
       cases_onward c (NewFits (call_at kernel.slots) c) (λ taken. AfterJoined (after_decision kernel visit (Takes slot taken)))
       (λ taken new. new _ (takes_slot kernel.slots taken.cancels slot visit.cpu Free taken.call there))
-      (new_fits (call_at kernel.slots) c sound (ap (λ (o : Option ThreadSlot). option_and_then call_in o) there));
+      (new_fits (call_at kernel.slots) c (before_pinned (cookie_of found) kernel.tables slot (call_at kernel.slots) sound) (ap (λ (o : Option ThreadSlot). option_and_then call_in o) there));
   resumes = λ visit call given inside there offered.
       let slot = thread_in visit.regs in
       let taken = resumed_taken boot kernel visit call given in

@@ -18,6 +18,7 @@ use Rattle.kernel_model.specs.Exit.{progress_of, slot_left, tables_left}
 use Rattle.kernel_model.specs.Instances.{app_of, given_back, held_by, is_single, killed, made_for}
 use Rattle.kernel_model.specs.Kernel.{Active, CallPhase, Free, Instance, Kernel, PendingCall, Progress, Runs, Suspended, Tables, ThreadSlot, Waits}
 use Rattle.kernel_model.specs.Leaving.{leaving_of}
+use Rattle.kernel_model.specs.Located.{cookie_of}
 use Rattle.kernel_model.specs.NewCall.{NewCall, new_call_of, shared_by}
 use Rattle.kernel_model.specs.Resume.{Resumed, onward_of, resumed_call, sees}
 use Rattle.kernel_model.specs.Sessions.{sessions_after, sessions_after_panic}
@@ -31,6 +32,7 @@ use Rattle.kernel_model.proofs.SoundExits.{exits_all, left_all, unbuffered}
 use Rattle.kernel_model.proofs.SoundJoined.{GoesOn, never_both, some_same}
 use Rattle.kernel_model.proofs.SoundMaps.{find-all, get-inserted, if_some, named_is}
 use Rattle.kernel_model.proofs.SoundMemory.{own_uuid}
+use Rattle.kernel_model.proofs.SoundPinned.{before_pinned}
 use Rattle.kernel_model.proofs.SoundNewCalls.{NewCases, cases_onward}
 use Rattle.kernel_model.proofs.SoundNewJoined.{Before, shared_there}
 use Rattle.kernel_model.proofs.SoundResumedJoined.{named_app, resumed_on, session_instance}
@@ -336,12 +338,13 @@ pub claim_cases : (boot : Booted) (P : Calls → NumberMap Instance → Type 0) 
     → Before (call_at kernel.slots) kernel.tables → AfterClaims P kernel → EventCases boot kernel cpu (AfterClaims P)
 claim_cases boot P kernel cpu keeps sound holds = record {
   answered = λ visit answer inside. holds;
-  comes = λ visit slot bytes inside free fits.
-      let c = new_call_of boot kernel.tables visit.regs slot bytes in
+  comes = λ visit slot found bytes inside free lies fits.
+      let c = new_call_of boot kernel.tables visit.regs slot found bytes in
       let there = free_there kernel.slots slot free in
       cases_onward c (NewClaims P (call_at kernel.slots) c) (λ taken. AfterClaims P (after_decision kernel visit (Takes slot taken)))
       (λ taken new. new _ (takes_slot kernel.slots taken.cancels slot visit.cpu Free taken.call there))
-      (new_claims P (call_at kernel.slots) c keeps sound (ap (λ (o : Option ThreadSlot). option_and_then call_in o) there) holds);
+      (new_claims P (call_at kernel.slots) c keeps (before_pinned (cookie_of found) kernel.tables slot (call_at kernel.slots) sound)
+      (ap (λ (o : Option ThreadSlot). option_and_then call_in o) there) holds);
   resumes = λ visit call given inside there offered.
       let slot = thread_in visit.regs in
       let taken = resumed_taken boot kernel visit call given in

@@ -13,10 +13,10 @@ use Rattle.smc_abi.specs.Call.{call_of}
 use Rattle.smc_abi.specs.FastAnswer.{fast_answer_of}
 use Rattle.smc_abi.specs.declared.answer.Answer.{Answer}
 use Rattle.smc_abi.specs.declared.call.Call.{Call}
-use Rattle.smc_abi.specs.declared.call.Call.TheVariants.{Fast, WithArg, Resume, Unknown}
+use Rattle.smc_abi.specs.declared.call.Call.TheVariants.{Fast, WithArg, WithRpcArg, WithRegdArg, Resume, Unknown}
 use Rattle.smc_abi.specs.declared.regs.Regs.{Regs}
 use Rattle.kernel_model.specs.Application.{Booted}
-use Rattle.kernel_model.specs.Argument.{argument_at, client_in, reg, thread_in}
+use Rattle.kernel_model.specs.Argument.{client_in, reg, thread_in}
 use Rattle.kernel_model.specs.Codes.{eresume, unknown_function}
 use Rattle.kernel_model.specs.Decision.{Decision, Answers, Takes, Taken, works_on}
 use Rattle.kernel_model.specs.Entry.{after_decision, after_entry, decision_of}
@@ -25,7 +25,8 @@ use Rattle.kernel_model.specs.Given.{Given, given_to}
 use Rattle.kernel_model.specs.History.{after_event, after_events, can_be_granted, entry_from, exit_to, is_outside, kernel_after}
 use Rattle.kernel_model.specs.Kernel.{Active, Fixed, Free, InSlot, Inside, Kernel, Outside, PendingCall, Processor, Progress, Suspended, ThreadSlot, Visit, first_kernel, lowest_free, with_visitor, without_visitor}
 use Rattle.kernel_model.specs.Laws.{IsFixed, IsOutside}
-use Rattle.kernel_model.specs.NewCall.{has_argument, new_call_of}
+use Rattle.kernel_model.specs.Located.{Located, has_argument, located}
+use Rattle.kernel_model.specs.NewCall.{new_call, new_call_of}
 use Rattle.kernel_model.specs.Resume.{call_resumed_by, onward_of, resumed_call, suspended_for, takes_call}
 use Rattle.kernel_model.specs.Turns.{cpu_of}
 use Rattle.kernel_model.proofs.FixedAnswer.{decides_all}
@@ -48,9 +49,9 @@ resumed_taken boot kernel visit call given =
 -- it holds after each entry of this processor, whatever its kind is
 pub record EntryCases (boot : Booted) (kernel : Kernel) (cpu : ℕ) (P : Kernel → Type 0) : Type 0 where
   pub answered : (visit : Visit) (answer : Answer) → ComesIn kernel cpu visit → P (with_visitor kernel visit (Fixed answer))
-  pub comes : (visit : Visit) (slot : ℕ) (bytes : List ℕ) → ComesIn kernel cpu visit → lowest_free kernel.slots ≡ Some slot →
-      has_argument (argument_at visit.regs) (head_at bytes) ≡ true →
-      NewCases (new_call_of boot kernel.tables visit.regs slot bytes) (λ taken. P (after_decision kernel visit (Takes slot taken)))
+  pub comes : (visit : Visit) (slot : ℕ) (found : Located) (bytes : List ℕ) → ComesIn kernel cpu visit → lowest_free kernel.slots ≡ Some slot →
+      located kernel.tables visit.regs ≡ Some found → has_argument found (head_at bytes) ≡ true →
+      NewCases (new_call_of boot kernel.tables visit.regs slot found bytes) (λ taken. P (after_decision kernel visit (Takes slot taken)))
   pub resumes : (visit : Visit) (call : PendingCall) (given : Given) → ComesIn kernel cpu visit →
       slice_get kernel.slots (thread_in visit.regs) ≡ Some (Suspended (client_in visit.regs) call) → IsOffered given →
       P (after_decision kernel visit (Takes (thread_in visit.regs) (resumed_taken boot kernel visit call given)))
@@ -66,9 +67,9 @@ pub record LeaveCases (boot : Booted) (kernel : Kernel) (cpu : ℕ) (P : Kernel 
 -- it holds after each event of this processor, whatever its kind is
 pub record EventCases (boot : Booted) (kernel : Kernel) (cpu : ℕ) (P : Kernel → Type 0) : Type 0 where
   pub answered : (visit : Visit) (answer : Answer) → ComesIn kernel cpu visit → P (with_visitor kernel visit (Fixed answer))
-  pub comes : (visit : Visit) (slot : ℕ) (bytes : List ℕ) → ComesIn kernel cpu visit → lowest_free kernel.slots ≡ Some slot →
-      has_argument (argument_at visit.regs) (head_at bytes) ≡ true →
-      NewCases (new_call_of boot kernel.tables visit.regs slot bytes) (λ taken. P (after_decision kernel visit (Takes slot taken)))
+  pub comes : (visit : Visit) (slot : ℕ) (found : Located) (bytes : List ℕ) → ComesIn kernel cpu visit → lowest_free kernel.slots ≡ Some slot →
+      located kernel.tables visit.regs ≡ Some found → has_argument found (head_at bytes) ≡ true →
+      NewCases (new_call_of boot kernel.tables visit.regs slot found bytes) (λ taken. P (after_decision kernel visit (Takes slot taken)))
   pub resumes : (visit : Visit) (call : PendingCall) (given : Given) → ComesIn kernel cpu visit →
       slice_get kernel.slots (thread_in visit.regs) ≡ Some (Suspended (client_in visit.regs) call) → IsOffered given →
       P (after_decision kernel visit (Takes (thread_in visit.regs) (resumed_taken boot kernel visit call given)))
@@ -121,11 +122,16 @@ module _ (boot : Booted) (kernel : Kernel) (cpu : ℕ) (P : Kernel → Type 0) (
       mapped (want_bytes addr len next) offered all = λ got. mapped (next got) (offered got) all
       mapped (want_words addr most test next) offered all = λ got. mapped (next got) (offered got) all
 
+  new_all : (visit : Visit) → ComesIn kernel cpu visit → AllOf (After visit) (new_call boot kernel visit.regs)
+  new_all visit inside =
+      new_decides (After visit) boot kernel.tables visit.regs (lowest_free kernel.slots) (λ answer. cases.answered visit answer inside)
+      (λ slot found bytes free lies fits. cases.comes visit slot found bytes inside free lies fits)
+
   decision_all : (visit : Visit) (call : Call) → ComesIn kernel cpu visit → AllOf (After visit) (decision_of boot kernel visit.regs call)
   decision_all visit (Fast call) inside = cases.answered visit (fast_answer_of call visit.regs boot.threads) inside
-  decision_all visit WithArg inside =
-      new_decides (After visit) boot kernel.tables visit.regs (lowest_free kernel.slots) (λ answer. cases.answered visit answer inside)
-      (λ slot bytes free fits. cases.comes visit slot bytes inside free fits)
+  decision_all visit WithArg inside = new_all visit inside
+  decision_all visit WithRpcArg inside = new_all visit inside
+  decision_all visit WithRegdArg inside = new_all visit inside
   decision_all visit Resume inside = resume_all visit (call_resumed_by kernel.slots visit.regs) inside refl
   decision_all visit Unknown inside = cases.answered visit unknown_function inside
 
@@ -205,8 +211,8 @@ pub events_onward : (boot : Booted) (kernel : Kernel) (cpu : ℕ) (P Q : Kernel 
     → EventCases boot kernel cpu Q
 events_onward boot kernel cpu P Q onward cases = record {
   answered = λ visit answer inside. onward _ (cases.answered visit answer inside);
-  comes = λ visit slot bytes inside free fits.
-      cases_onward _ (λ taken. P (after_decision kernel visit (Takes slot taken))) _ (λ taken. onward _) (cases.comes visit slot bytes inside free fits);
+  comes = λ visit slot found bytes inside free lies fits.
+      cases_onward _ (λ taken. P (after_decision kernel visit (Takes slot taken))) _ (λ taken. onward _) (cases.comes visit slot found bytes inside free lies fits);
   resumes = λ visit call given inside there offered. onward _ (cases.resumes visit call given inside there offered);
   told = λ visit answer its fixed. onward _ (cases.told visit answer its fixed);
   goes = λ visit slot worker call progress its inside there e. onward _ (cases.goes visit slot worker call progress its inside there e);

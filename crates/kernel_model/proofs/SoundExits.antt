@@ -7,13 +7,14 @@ use Rattle.job_model.specs.Steps.{End, Grant, Left, Stopped, grant_of}
 use Rattle.job_model.specs.Steps as steps
 use Rattle.rpc_msgs.specs.declared.rpc.Rpc.{Rpc}
 use Rattle.rpc_msgs.specs.declared.rpc.Rpc.TheVariants as rpc
+use Rattle.rpc_msgs.specs.declared.request_place.RequestPlace.{RequestPlace}
 use Rattle.rpc_msgs.specs.declared.rpc_buffer.RpcBuffer.{RpcBuffer}
 use Rattle.ta_params.specs.declared.call_result.CallResult.{CallResult}
 use Rattle.ta_params.specs.declared.copied_params.CopiedParams.{CopiedParams}
 use Rattle.kernel_model.specs.Codes.{target_dead}
 use Rattle.kernel_model.specs.Exit.{after_grant, further, progress_in, progress_of, shows_result, slot_left, tables_after_end, tables_after_panic, tables_unrun}
 use Rattle.kernel_model.specs.Kernel.{Active, Asks, CallPhase, Ends, Free, PendingCall, Progress, Runs, Suspended, Tables, ThreadSlot, Waits}
-use Rattle.kernel_model.specs.Leaving.{Finishes, FreesBuffer, Request, Requests, WantsBuffer, leaving_in, leaving_of, plain_request}
+use Rattle.kernel_model.specs.Leaving.{Finishes, FreesBuffer, Request, Requests, WantsBuffer, asks_for, leaving_in, leaving_of, place_of, plain_request}
 use Rattle.kernel_model.proofs.Parts.{option_map_some}
 
 -- it holds of each form
@@ -67,10 +68,13 @@ unbuffered call = record call { buffer = None }
 module _ (slot : ℕ) (call : PendingCall) (Q : ThreadSlot → Type 0) (still : Q (Suspended call.client call))
     (freed : Q (Suspended call.client (unbuffered call)))
     (finished : (result : CallResult) (params : CopiedParams) (told : Bool) → call.phase ≡ Ends result params told None → Q Free) where
-  asking_left : (buffer : Option RpcBuffer) (request : Request)
-      → Q (slot_left call (option_map_or (λ place. Requests place request) buffer WantsBuffer))
+  asking_left : (at : Option RequestPlace) (request : Request)
+      → Q (slot_left call (option_map_or (λ place. Requests place request) at WantsBuffer))
   asking_left None request = still
   asking_left (Some place) request = still
+
+  asks_left : (request : Request) → Q (slot_left call (asks_for call request))
+  asks_left request = asking_left (place_of call request) request
 
   ended_left : (buffer : Option RpcBuffer) (result : CallResult) (params : CopiedParams) (told : Bool) → call.phase ≡ Ends result params told None
       → Q (slot_left call (option_map_or FreesBuffer buffer (Finishes result params)))
@@ -79,9 +83,9 @@ module _ (slot : ℕ) (call : PendingCall) (Q : ThreadSlot → Type 0) (still : 
 
   phase_left : (phase : CallPhase) → call.phase ≡ phase → Q (slot_left call (leaving_in slot call phase))
   phase_left (Runs job) is = still
-  phase_left (Asks job wanted payload) is = asking_left call.buffer (record { wanted = wanted; payload = payload })
-  phase_left (Waits params) is = asking_left call.buffer (plain_request (rpc.Sleep slot))
-  phase_left (Ends result params told (Some woken)) is = asking_left call.buffer (plain_request (rpc.Wake woken))
+  phase_left (Asks job wanted payload) is = asks_left (record { wanted = wanted; payload = payload })
+  phase_left (Waits params) is = asks_left (plain_request (rpc.Sleep slot))
+  phase_left (Ends result params told (Some woken)) is = asks_left (plain_request (rpc.Wake woken))
   phase_left (Ends result params told None) is = ended_left call.buffer result params told is
 
 -- it holds of what a slot is left with: the call, perhaps without its buffer, or nothing once it has ended

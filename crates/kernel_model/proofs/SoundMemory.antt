@@ -28,6 +28,7 @@ use Rattle.kernel_model.specs.History.{kernel_after}
 use Rattle.kernel_model.specs.Instances.{app_of, fresh_memory, free_pages, given_back, held_by, instances_after, is_held, killed, made_for, pages_of, program_on}
 use Rattle.kernel_model.specs.Kernel.{Active, Asks, CallPhase, Ends, Free, Instance, Kernel, PendingCall, Progress, Runs, Suspended, Tables, ThreadSlot, Waits, first_kernel}
 use Rattle.kernel_model.specs.Leaving.{leaving_of}
+use Rattle.kernel_model.specs.Located.{cookie_of}
 use Rattle.kernel_model.specs.NewCall.{NewCall, beginner, has_pages, new_call_of, no_copies, opener, shared_by, shares_one}
 use Rattle.kernel_model.specs.Resume.{Resumed, app_of_call, onward_of, phase_after, phase_seen, resumed_call, sees, who_resumes}
 use Rattle.kernel_model.specs.Sessions.{sessions_after, sessions_after_panic}
@@ -42,6 +43,7 @@ use Rattle.kernel_model.proofs.SoundExits.{exits_all, left_all, unbuffered}
 use Rattle.kernel_model.proofs.SoundJobs.{IsAdvanceOf, IsSameBody, answered_onward, granted_onward, same_memory}
 use Rattle.kernel_model.proofs.SoundJoined.{GoesOn, never_none, some_same}
 use Rattle.kernel_model.proofs.SoundMaps.{get-insert-other, get-insert-same, get-remove-other, named_is}
+use Rattle.kernel_model.proofs.SoundPinned.{before_pinned, memory_pinned}
 use Rattle.kernel_model.proofs.SoundNewCalls.{NewCases, cases_onward}
 use Rattle.kernel_model.proofs.SoundNewJoined.{Before, awaited_uuids, gone, held_none, new_instance, no_job, shared_there}
 use Rattle.kernel_model.proofs.SoundNumbers.{numbered}
@@ -576,12 +578,13 @@ AfterMemory boot next = AreInMemory boot (call_at next.slots) next.tables
 memory_cases : (boot : Booted) (kernel : Kernel) (cpu : ℕ) → Before (call_at kernel.slots) kernel.tables → AfterMemory boot kernel → EventCases boot kernel cpu (AfterMemory boot)
 memory_cases boot kernel cpu sound memory = record {
   answered = λ visit answer inside. memory;
-  comes = λ visit slot bytes inside free fits.
-      let c = new_call_of boot kernel.tables visit.regs slot bytes in
+  comes = λ visit slot found bytes inside free lies fits.
+      let c = new_call_of boot kernel.tables visit.regs slot found bytes in
       let there = free_there kernel.slots slot free in
       cases_onward c (NewMemory (call_at kernel.slots) c) (λ taken. AfterMemory boot (after_decision kernel visit (Takes slot taken)))
       (λ taken new. new _ (takes_slot kernel.slots taken.cancels slot visit.cpu Free taken.call there))
-      (new_memory (call_at kernel.slots) c sound (ap (λ (o : Option ThreadSlot). option_and_then call_in o) there) memory);
+      (new_memory (call_at kernel.slots) c (before_pinned (cookie_of found) kernel.tables slot (call_at kernel.slots) sound)
+      (ap (λ (o : Option ThreadSlot). option_and_then call_in o) there) (memory_pinned (cookie_of found) kernel.tables slot boot (call_at kernel.slots) memory));
   resumes = λ visit call given inside there offered.
       let slot = thread_in visit.regs in
       let taken = resumed_taken boot kernel visit call given in

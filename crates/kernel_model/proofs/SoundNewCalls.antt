@@ -17,13 +17,14 @@ use Rattle.session_table.specs.declared.session.Session.{Session}
 use Rattle.shm_registry.specs.Registered.{lowest_slot}
 use Rattle.smc_abi.specs.declared.answer.Answer.{Answer}
 use Rattle.kernel_model.specs.Application.{Application, Booted}
-use Rattle.kernel_model.specs.Argument.{Opening, argument_at, invocation, opening, params_in, registering, unregistering}
+use Rattle.kernel_model.specs.Argument.{Opening, invocation, opening, params_in, registering, unregistering}
 use Rattle.kernel_model.specs.Begin.{Begun, awaited_number, begins_on, closing_points, opens_kept, opens_made, opens_new}
 use Rattle.kernel_model.specs.Codes.{bad_parameters, busy, ebadaddr, ebadcmd, item_not_found, out_of_memory, target_dead}
 use Rattle.kernel_model.specs.Decision.{Decision, Answers, Takes, Taken, Tested, decided_by}
 use Rattle.kernel_model.specs.Instances.{app_of, is_held}
 use Rattle.kernel_model.specs.Kernel.{Instance, Tables}
-use Rattle.kernel_model.specs.NewCall.{NewCall, about_open, about_session, beginner, cancel_calls, cancels, close_session, command_of, commands, copied_params, drops_buffer, has_argument, has_pages, has_session_room, invoke_command, is_head_address, is_taken, keeps_buffer, listed_pages, named_session, new_call_in, new_call_of, new_call_with, no_copies, offset_in, open_session, open_waits, opener, opens_or_waits, pages_touched, parameters, register_memory, runs_in, settles, settles_invoke, settles_open, shared_by, shares_one, unregister_memory, waits_in, with_session}
+use Rattle.kernel_model.specs.Located.{Located, has_argument, has_head, located}
+use Rattle.kernel_model.specs.NewCall.{NewCall, about_open, about_session, beginner, cancel_calls, cancels, close_session, command_of, commands, copied_params, drops_buffer, has_pages, has_session_room, invoke_command, is_taken, keeps_buffer, listed_pages, named_session, new_call_in, new_call_of, new_call_with, no_copies, offset_in, open_session, open_waits, opener, opens_or_waits, pages_touched, parameters, register_memory, runs_in, settles, settles_invoke, settles_open, shared_by, shares_one, unregister_memory, waits_in, with_session}
 use Rattle.kernel_model.proofs.Copied.{AreCopied, AreGoodPages, Shows, copying_all, faultless-shows, invoked_room, known-shows, opening_room, params_counted, read-shows, shows-then, walk_pages}
 use Rattle.kernel_model.proofs.Parts.{AllOf, option_map_some}
 use Rattle.kernel_model.proofs.Tests.{Ends, Fails, TakenIn, answer_known, answer_need, answer_read, known-fails, known-then, need-by, reads-fails, taken_ends, test-then}
@@ -272,15 +273,17 @@ module _ (c : NewCall) (P : Taken → Type 0) (cases : NewCases c P) where
 -- ---- a whole call
 
 call_ends : (boot : Booted) (tables : Tables) (regs : List ℕ) (slot : ℕ) (P : Taken → Type 0)
-    → ((bytes : List ℕ) → has_argument (argument_at regs) (head_at bytes) ≡ true → NewCases (new_call_of boot tables regs slot bytes) P)
+    → ((found : Located) (bytes : List ℕ) → located tables regs ≡ Some found → has_argument found (head_at bytes) ≡ true
+    → NewCases (new_call_of boot tables regs slot found bytes) P)
     → AllOf (TakenIn P) (new_call_in boot tables regs slot)
 call_ends boot tables regs slot P cases =
-    answer_need P (is_head_address (argument_at regs)) ebadaddr _ (
-    answer_read P (take_bytes (argument_at regs) 32) _ (λ bytes.
-    where_it_holds (has_argument (argument_at regs) (head_at bytes)) _ (λ fits.
+    answer_known P (located tables regs) ebadaddr _ (λ found lies.
+    answer_need P (has_head found) ebadaddr _ (
+    answer_read P (take_bytes found.addr 32) _ (λ bytes.
+    where_it_holds (has_argument found (head_at bytes)) _ (λ fits.
     answer_known P (command_of (head_at bytes).cmd) ebadcmd _ (λ command is.
-    let c = new_call_of boot tables regs slot bytes in
-    taken_ends P (command c) (command_ends c P (cases bytes fits) (head_at bytes).cmd command is)))))
+    let c = new_call_of boot tables regs slot found bytes in
+    taken_ends P (command c) (command_ends c P (cases found bytes lies fits) (head_at bytes).cmd command is))))))
   where
     where_it_holds : (test : Bool) (onward : Unit {0} → Attempt Answer Taken) → (test ≡ true → AllOf (TakenIn P) (onward tt))
         → AllOf (TakenIn P) (need test ebadaddr >>= onward)
@@ -296,10 +299,10 @@ slot_decides Q slot (want_words addr most test next) answers all = λ got. slot_
 
 -- it holds of what a new call decides where it holds of each answer and of each form
 pub new_decides : (Q : Decision → Type 0) (boot : Booted) (tables : Tables) (regs : List ℕ) (free : Option ℕ) → ((answer : Answer) → Q (Answers answer))
-    → ((slot : ℕ) (bytes : List ℕ) → free ≡ Some slot → has_argument (argument_at regs) (head_at bytes) ≡ true
-    → NewCases (new_call_of boot tables regs slot bytes) (λ taken. Q (Takes slot taken)))
+    → ((slot : ℕ) (found : Located) (bytes : List ℕ) → free ≡ Some slot → located tables regs ≡ Some found
+    → has_argument found (head_at bytes) ≡ true → NewCases (new_call_of boot tables regs slot found bytes) (λ taken. Q (Takes slot taken)))
     → AllOf Q (decided_by (new_call_with boot tables regs free))
 new_decides Q boot tables regs None answers cases = answers _
 new_decides Q boot tables regs (Some slot) answers cases =
     slot_decides Q slot (new_call_in boot tables regs slot) answers
-    (call_ends boot tables regs slot (λ taken. Q (Takes slot taken)) (λ bytes fits. cases slot bytes refl fits))
+    (call_ends boot tables regs slot (λ taken. Q (Takes slot taken)) (λ found bytes lies fits. cases slot found bytes refl lies fits))

@@ -23,6 +23,7 @@ use Rattle.kernel_model.specs.History.{kernel_after}
 use Rattle.kernel_model.specs.Instances.{given_back, instances_after, is_single, killed}
 use Rattle.kernel_model.specs.Kernel.{Active, Free, Instance, Kernel, PendingCall, Progress, Suspended, Tables, ThreadSlot, Visit, first_kernel}
 use Rattle.kernel_model.specs.Leaving.{leaving_of}
+use Rattle.kernel_model.specs.Located.{cookie_of, with_argument_pinned}
 use Rattle.kernel_model.specs.NewCall.{NewCall, has_session_room, named_session, new_call_of}
 use Rattle.kernel_model.specs.Resume.{Resumed, onward_of, resumed_call, sees}
 use Rattle.kernel_model.specs.Sessions.{sessions_after, sessions_after_panic}
@@ -53,6 +54,17 @@ pub record Onward (before now : Tables) : Type 0 where
   pub session : before.next_session ≤ now.next_session
   pub instance : before.next_instance ≤ now.next_instance
   pub numbers : AreIn now
+
+-- a slot may pin a cookie besides
+in_pinned : (named : Option ℕ) (tables : Tables) (slot : ℕ) → AreIn tables → AreIn (with_argument_pinned named tables slot)
+in_pinned named tables slot numbers = record {
+  from_one = numbers.from_one;
+  few = numbers.few;
+  fewer = numbers.fewer;
+  sessions = numbers.sessions;
+  instances = numbers.instances;
+  waiters = numbers.waiters;
+}
 
 in_tables : (calls : Calls) (tables : Tables) → AreNumbered calls tables → AreIn tables
 in_tables calls tables sound = record {
@@ -566,10 +578,12 @@ number_cases : (boot : Booted) (kernel : Kernel) (cpu : ℕ) → AreNumbered (ca
     → EventCases boot kernel cpu (AfterNumbers kernel.tables)
 number_cases boot kernel cpu sound = record {
   answered = λ visit answer inside. record { numbers = sound; rise = rises kernel.tables kernel.tables (stay kernel.tables whole) };
-  comes = λ visit slot bytes inside free fits.
-      let c = new_call_of boot kernel.tables visit.regs slot bytes in
+  comes = λ visit slot found bytes inside free lies fits.
+      let c = new_call_of boot kernel.tables visit.regs slot found bytes in
       cases_onward c (NewNumbers c) (λ taken. AfterNumbers kernel.tables (after_decision kernel visit (Takes slot taken)))
-      (λ taken new. taken_after visit slot taken Free (free_there kernel.slots slot free) new.on new.call) (new_numbers c whole);
+      (λ taken new. taken_after visit slot taken Free (free_there kernel.slots slot free)
+      (record { session = new.on.session; instance = new.on.instance; numbers = new.on.numbers }) new.call)
+      (new_numbers c (in_pinned (cookie_of found) kernel.tables slot whole));
   resumes = λ visit call given inside there offered.
       let slot = thread_in visit.regs in
       let r = resumed_call boot kernel.tables slot call given in

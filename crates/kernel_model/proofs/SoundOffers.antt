@@ -6,7 +6,7 @@ use Rattle.std.proofs.lemmas.Bool.{leb-true}
 use Rattle.std.proofs.lemmas.Bool.Decides.{Decides-eqb}
 use Rattle.ns_ram.specs.Lane.{IsInRam, is_in_ram}
 use Rattle.ns_ram.specs.Reader.{Reader, done, want_bytes, want_words, ◌>>=◌}
-use Rattle.rpc_msgs.specs.Reply.{reply_reader}
+use Rattle.rpc_msgs.specs.Place.{reader_at}
 use Rattle.rpc_msgs.specs.declared.rpc.RpcReply.{RpcReply}
 use Rattle.rpc_msgs.specs.declared.rpc_buffer.RpcBuffer.{RpcBuffer}
 use Rattle.kernel_model.specs.Argument.{pair_at}
@@ -51,7 +51,7 @@ after_offered : (regs : List ℕ) (leaving : Leaving) → AllOf IsOffered (given
 after_offered regs Interrupted = tt
 after_offered regs WantsBuffer =
     offer (record { addr = pair_at regs 1; cookie = pair_at regs 4 }) ((pair_at regs 1 % 8 == 0) && is_in_ram (pair_at regs 1) 4096) refl
-after_offered regs (Requests place request) = replies (reply_reader place.addr request.wanted)
+after_offered regs (Requests place request) = replies (reader_at place request.wanted)
 after_offered regs (FreesBuffer buffer) = tt
 after_offered regs (Finishes result params) = tt
 

@@ -21,6 +21,7 @@ use Rattle.kernel_model.specs.Exit.{progress_of, tables_left}
 use Rattle.kernel_model.specs.History.{kernel_after}
 use Rattle.kernel_model.specs.Instances.{given_back, instances_after, killed}
 use Rattle.kernel_model.specs.Kernel.{Instance, Kernel, PendingCall, Progress, Tables}
+use Rattle.kernel_model.specs.Located.{cookie_of}
 use Rattle.kernel_model.specs.NewCall.{NewCall, has_session_room, new_call_of}
 use Rattle.kernel_model.specs.Resume.{Resumed, onward_of, resumed_call}
 use Rattle.kernel_model.specs.Sessions.{sessions_after, sessions_after_panic, sessions_unrun}
@@ -29,6 +30,7 @@ use Rattle.kernel_model.specs.SoundOrder.{AreInOrder}
 use Rattle.kernel_model.proofs.Parts.{if-both}
 use Rattle.kernel_model.proofs.SoundEvents.{EventCases, holds_after}
 use Rattle.kernel_model.proofs.SoundExits.{exits_all, left_all}
+use Rattle.kernel_model.proofs.SoundPinned.{order_pinned}
 use Rattle.kernel_model.proofs.SoundNewCalls.{NewCases, cases_onward}
 use Rattle.kernel_model.proofs.SoundResumes.{resumes_all}
 
@@ -192,9 +194,9 @@ exit_order tables call granted progress order e = exits_all tables call granted 
 order_cases : (boot : Booted) (kernel : Kernel) (cpu : ℕ) → AreInOrder kernel.tables → EventCases boot kernel cpu (λ next. AreInOrder next.tables)
 order_cases boot kernel cpu order = record {
   answered = λ visit answer inside. order;
-  comes = λ visit slot bytes inside free fits.
-      let c = new_call_of boot kernel.tables visit.regs slot bytes in
-      cases_onward c (λ taken. AreInOrder taken.tables) _ (λ taken sound. sound) (new_order c order);
+  comes = λ visit slot found bytes inside free lies fits.
+      let c = new_call_of boot kernel.tables visit.regs slot found bytes in
+      cases_onward c (λ taken. AreInOrder taken.tables) _ (λ taken sound. sound) (new_order c (order_pinned (cookie_of found) kernel.tables slot order));
   resumes = λ visit call given inside there offered. resumed_order (resumed_call boot kernel.tables (thread_in visit.regs) call given) order;
   told = λ visit answer its fixed. order;
   goes = λ visit slot worker call progress its inside there e.

@@ -12,6 +12,7 @@ use Rattle.kernel_model.specs.Decision.{Taken, Takes}
 use Rattle.kernel_model.specs.Entry.{after_decision}
 use Rattle.kernel_model.specs.Exit.{tables_left}
 use Rattle.kernel_model.specs.Kernel.{Active, Free, Kernel, PendingCall, Suspended, first_kernel}
+use Rattle.kernel_model.specs.Located.{cookie_of, pins_with}
 use Rattle.kernel_model.specs.NewCall.{NewCall, new_call_of}
 use Rattle.kernel_model.specs.Resume.{resumed_call}
 use Rattle.kernel_model.specs.Sound.{Always, Calls, call_at, unmarked}
@@ -60,14 +61,23 @@ cookies_too calls slot (cookie ∷ cookies) pins has all =
     (if-both (PinsOf calls) (list_any (is_pin cookie slot) pins) pins (pins ++ record { cookie = cookie; slot = slot } ∷ []) all
     (All-push (HasCall calls) pins (record { cookie = cookie; slot = slot }) all has))
 
+-- the cookie that names an argument may be pinned too, once the slot has its call
+named_too : (calls : Calls) (slot : ℕ) (named : Option ℕ) (pins : List Pin) → IsSome (calls slot) → PinsOf calls pins → PinsOf calls (pins_with named pins slot)
+named_too calls slot None pins has all = all
+named_too calls slot (Some cookie) pins has all = cookies_too calls slot (cookie ∷ []) pins has all
+
 -- ---- new calls
 
 abbrev NewPins : Calls → NewCall → Taken → Type 0
 NewPins before c taken = (after : Calls) → Changes before after c.slot (Some (unmarked taken.call)) → PinsOf after taken.tables.registered.pins
 
-module _ (before : Calls) (c : NewCall) (all : PinsOf before c.tables.registered.pins) where
+module _ (before : Calls) (c : NewCall) (named : Option ℕ) (pins : List Pin) (pinned : c.tables.registered.pins ≡ pins_with named pins c.slot)
+    (all : PinsOf before pins) where
   same : (after : Calls) (call : PendingCall) → Changes before after c.slot (Some call) → PinsOf after c.tables.registered.pins
-  same after call changes = pins_later before after c.slot call c.tables.registered.pins changes all
+  same after call changes =
+      subst (PinsOf after) (sym pinned)
+      (named_too after c.slot named pins (subst (λ (o : Option PendingCall). IsSome o) (sym changes.here) refl)
+      (pins_later before after c.slot call pins changes all))
 
   more : (after : Calls) (call : PendingCall) (cookies : List ℕ) → Changes before after c.slot (Some call)
       → PinsOf after (fold (λ (ps : List Pin) cookie. with_pin ps cookie c.slot) c.tables.registered.pins cookies)
@@ -100,11 +110,11 @@ AfterPins next = PinsOf (call_at next.slots) next.tables.registered.pins
 pin_cases : (boot : Booted) (kernel : Kernel) (cpu : ℕ) → AfterPins kernel → EventCases boot kernel cpu AfterPins
 pin_cases boot kernel cpu all = record {
   answered = λ visit answer inside. all;
-  comes = λ visit slot bytes inside free fits.
-      let c = new_call_of boot kernel.tables visit.regs slot bytes in
+  comes = λ visit slot found bytes inside free lies fits.
+      let c = new_call_of boot kernel.tables visit.regs slot found bytes in
       cases_onward c (NewPins (call_at kernel.slots) c) (λ taken. AfterPins (after_decision kernel visit (Takes slot taken)))
       (λ taken new. new _ (takes_slot kernel.slots taken.cancels slot visit.cpu Free taken.call (free_there kernel.slots slot free)))
-      (new_pins (call_at kernel.slots) c all);
+      (new_pins (call_at kernel.slots) c (cookie_of found) kernel.tables.registered.pins refl all);
   resumes = λ visit call given inside there offered.
       let slot = thread_in visit.regs in
       let r = resumed_call boot kernel.tables slot call given in

@@ -24,7 +24,7 @@ use Rattle.kernel_model.specs.NewCall.{NewCall, new_call_of}
 use Rattle.kernel_model.specs.Resume.{Resumed, onward_of, phase_seen, resumed_call, sees}
 use Rattle.kernel_model.specs.Sound.{Always, Calls, call_at, call_in, unmarked}
 use Rattle.kernel_model.specs.SoundPlaces.{HasItsPlaces, HaveTheirPlaces}
-use Rattle.kernel_model.proofs.Copied.{HasGoodPages, HaveGoodPages, argument_inside}
+use Rattle.kernel_model.proofs.Copied.{HasGoodPages, HaveGoodPages, area_inside, argument_inside}
 use Rattle.kernel_model.proofs.Parts.{if-both}
 use Rattle.kernel_model.proofs.SoundEvents.{EventCases, holds_after, resumed_taken}
 use Rattle.kernel_model.proofs.SoundExits.{exits_all, left_all, unbuffered}
@@ -43,19 +43,27 @@ abbrev AllPlaced : Calls → Type 0
 AllPlaced calls = (slot : ℕ) → PlacedAt (calls slot)
 
 -- a call with the same places
-again : (call next : PendingCall) → next.arg ≡ call.arg → next.places ≡ call.places → next.buffer ≡ call.buffer → HasItsPlaces call → HasItsPlaces next
-again call next arg places buffer placed = record {
+again : (call next : PendingCall) → next.arg ≡ call.arg → next.area ≡ call.area → next.places ≡ call.places → next.buffer ≡ call.buffer
+    → HasItsPlaces call → HasItsPlaces next
+again call next arg area places buffer placed = record {
   argument = subst (λ (a : ℕ). IsInRam a 32) (sym arg) placed.argument;
   places = subst (λ (a : ℕ). AllByRecursion (IsWritable a) next.places) (sym arg)
       (subst (λ (all : List Place). AllByRecursion (IsWritable call.arg) all) (sym places) placed.places);
+  area = λ at is. placed.area at (sym area ∙ is);
   buffer = λ at is. placed.buffer at (sym buffer ∙ is);
   multiple = λ at is. placed.multiple at (sym buffer ∙ is);
 }
 
+-- the area of a call lies in RAM
+abbrev HasItsArea : PendingCall → Type 0
+HasItsArea call = (area : ℕ) → call.area ≡ Some area → IsInRam area 160
+
 -- one that has no buffer yet
-fresh : (call : PendingCall) → call.buffer ≡ None → IsInRam call.arg 32 → AllByRecursion (IsWritable call.arg) call.places → HasItsPlaces call
-fresh call none argument places = record {
+fresh : (call : PendingCall) → call.buffer ≡ None → IsInRam call.arg 32 → HasItsArea call → AllByRecursion (IsWritable call.arg) call.places
+    → HasItsPlaces call
+fresh call none argument area places = record {
   argument = argument;
+  area = area;
   places = places;
   buffer = λ at is. absurd (none_some at (sym none ∙ is));
   multiple = λ at is. absurd (none_some at (sym none ∙ is));
@@ -69,7 +77,8 @@ fresh call none argument places = record {
 abbrev NewPlaces : Taken → Type 0
 NewPlaces taken = HasItsPlaces taken.call × HaveGoodPages taken.tables.registered.buffers
 
-module _ (c : NewCall) (pages : HaveGoodPages c.tables.registered.buffers) (within : IsInRam c.arg (argument_len c.head.count)) where
+module _ (c : NewCall) (pages : HaveGoodPages c.tables.registered.buffers) (within : IsInRam c.arg (argument_len c.head.count))
+    (area : (area : ℕ) → c.area ≡ Some area → IsInRam area 160) where
   head_inside : IsInRam c.arg 32
   head_inside =
       let low = within.0 in
@@ -78,37 +87,37 @@ module _ (c : NewCall) (pages : HaveGoodPages c.tables.registered.buffers) (with
 
   new_places : NewCases c NewPlaces
   new_places = record {
-    settles = λ code. (fresh _ refl head_inside tt, pages);
-    settles_open = λ app login code. (fresh _ refl head_inside tt, pages);
-    settles_invoke = λ named code is. (fresh _ refl head_inside tt, pages);
-    cancels = λ named is. (fresh _ refl head_inside tt, pages);
+    settles = λ code. (fresh _ refl head_inside area tt, pages);
+    settles_open = λ app login code. (fresh _ refl head_inside area tt, pages);
+    settles_invoke = λ named code is. (fresh _ refl head_inside area tt, pages);
+    cancels = λ named is. (fresh _ refl head_inside area tt, pages);
     registers = λ param listed new room good.
-        (fresh _ refl head_inside tt, All-insert HasGoodPages c.tables.registered.buffers param.s _ pages good);
-    unregisters = λ param unpinned. (fresh _ refl head_inside tt, All-remove HasGoodPages c.tables.registered.buffers param.s pages);
-    opens_kept = λ wanted app copies copied kept shown shared free. (fresh _ refl head_inside (copied.places pages within), pages);
-    opens_awaited = λ wanted app copies copied number shown shared awaited. (fresh _ refl head_inside (copied.places pages within), pages);
-    opens_next = λ wanted app copies copied shown shared awaited. (fresh _ refl head_inside (copied.places pages within), pages);
-    open_waits = λ wanted app copies copied kept shown shared held. (fresh _ refl head_inside (copied.places pages within), pages);
-    invokes = λ named copies copied is alive free. (fresh _ refl head_inside (copied.places pages within), pages);
-    invoke_waits = λ named copies copied is alive held. (fresh _ refl head_inside (copied.places pages within), pages);
-    closes = λ named is free. (fresh _ refl head_inside tt, pages);
-    close_waits = λ named is held. (fresh _ refl head_inside tt, pages);
+        (fresh _ refl head_inside area tt, All-insert HasGoodPages c.tables.registered.buffers param.s _ pages good);
+    unregisters = λ param unpinned. (fresh _ refl head_inside area tt, All-remove HasGoodPages c.tables.registered.buffers param.s pages);
+    opens_kept = λ wanted app copies copied kept shown shared free. (fresh _ refl head_inside area (copied.places pages within), pages);
+    opens_awaited = λ wanted app copies copied number shown shared awaited. (fresh _ refl head_inside area (copied.places pages within), pages);
+    opens_next = λ wanted app copies copied shown shared awaited. (fresh _ refl head_inside area (copied.places pages within), pages);
+    open_waits = λ wanted app copies copied kept shown shared held. (fresh _ refl head_inside area (copied.places pages within), pages);
+    invokes = λ named copies copied is alive free. (fresh _ refl head_inside area (copied.places pages within), pages);
+    invoke_waits = λ named copies copied is alive held. (fresh _ refl head_inside area (copied.places pages within), pages);
+    closes = λ named is free. (fresh _ refl head_inside area tt, pages);
+    close_waits = λ named is held. (fresh _ refl head_inside area tt, pages);
   }
 
 -- ---- resumes and exits
 
 resumed_places : (r : Resumed) → HasItsPlaces r.call → HasItsPlaces (onward_of r).call
 resumed_places r placed = resumes_all r (λ progress. HasItsPlaces progress.call) (record {
-  runs = λ job is. again r.call _ refl refl refl placed;
-  asks_still = λ job wanted payload is. again r.call _ refl refl refl placed;
-  answered = λ job wanted payload answer advance is e. again r.call _ refl refl refl placed;
-  ends = λ result params told wakes left is. again r.call _ refl refl refl placed;
-  fails = λ params code is. again r.call _ refl refl refl placed;
-  sleeps = λ params is. again r.call _ refl refl refl placed;
-  opens = λ params session app instance ready alive opening is. again r.call _ refl refl refl placed;
-  opens_new = λ params session app awake none opening is pages. again r.call _ refl refl refl placed;
-  invokes = λ params session instance func ready alive is. again r.call _ refl refl refl placed;
-  closes = λ params session instance ready is. again r.call _ refl refl refl placed;
+  runs = λ job is. again r.call _ refl refl refl refl placed;
+  asks_still = λ job wanted payload is. again r.call _ refl refl refl refl placed;
+  answered = λ job wanted payload answer advance is e. again r.call _ refl refl refl refl placed;
+  ends = λ result params told wakes left is. again r.call _ refl refl refl refl placed;
+  fails = λ params code is. again r.call _ refl refl refl refl placed;
+  sleeps = λ params is. again r.call _ refl refl refl refl placed;
+  opens = λ params session app instance ready alive opening is. again r.call _ refl refl refl refl placed;
+  opens_new = λ params session app awake none opening is pages. again r.call _ refl refl refl refl placed;
+  invokes = λ params session instance func ready alive is. again r.call _ refl refl refl refl placed;
+  closes = λ params session instance ready is. again r.call _ refl refl refl refl placed;
 })
 
 pub resumed_registered : (r : Resumed) → (onward_of r).tables.registered ≡ r.tables.registered
@@ -128,14 +137,14 @@ resumed_registered r = resumes_all r (λ progress. progress.tables.registered �
 exit_places : (tables : Tables) (call : PendingCall) (granted : ℕ) (progress : Progress) → HasItsPlaces call
     → progress_of tables call granted ≡ Some progress → HasItsPlaces progress.call
 exit_places tables call granted progress placed e = exits_all tables call granted (λ (p : Progress). HasItsPlaces p.call) progress (record {
-  left = λ job later is grant. again call _ refl refl refl placed;
-  ends = λ job used end is grant. again call _ refl refl refl placed;
-  panics = λ job used code is grant. again call _ refl refl refl placed;
-  asks = λ job later used wanted payload is grant. again call _ refl refl refl placed;
+  left = λ job later is grant. again call _ refl refl refl refl placed;
+  ends = λ job used end is grant. again call _ refl refl refl refl placed;
+  panics = λ job used code is grant. again call _ refl refl refl refl placed;
+  asks = λ job later used wanted payload is grant. again call _ refl refl refl refl placed;
   asked = λ job wanted payload is. placed;
   waits = λ params is. placed;
   told = λ result params wakes is. placed;
-  tells = λ result params wakes is. again call _ refl refl refl placed;
+  tells = λ result params wakes is. again call _ refl refl refl refl placed;
 }) e
 
 pub exit_registered : (tables : Tables) (call : PendingCall) (granted : ℕ) (progress : Progress) → progress_of tables call granted ≡ Some progress
@@ -153,12 +162,13 @@ exit_registered tables call granted progress e = exits_all tables call granted (
 
 sees_places : (call : PendingCall) → HasItsPlaces call → HasItsPlaces (sees call)
 sees_places call placed =
-    if-both HasItsPlaces call.marked (record call { seen = true; phase = phase_seen call.phase }) call (again call _ refl refl refl placed) placed
+    if-both HasItsPlaces call.marked (record call { seen = true; phase = phase_seen call.phase }) call (again call _ refl refl refl refl placed) placed
 
 given_places : (given : Given) (call : PendingCall) → IsOffered given → HasItsPlaces call → HasItsPlaces (call_given given call)
 given_places Nothing call offered placed = placed
 given_places (Buffer buffer) call offered placed = record {
   argument = placed.argument;
+  area = placed.area;
   places = placed.places;
   buffer = λ at is. subst (λ (b : RpcBuffer). IsInRam b.addr 4096) (same at is) offered.0;
   multiple = λ at is. subst (λ (b : RpcBuffer). b.addr % 8 ≡ 0) (same at is) offered.1;
@@ -170,7 +180,7 @@ given_places NoBuffer call offered placed = placed
 given_places (Reply reply) call offered placed = placed
 
 unbuffered_places : (call : PendingCall) → HasItsPlaces call → HasItsPlaces (unbuffered call)
-unbuffered_places call placed = fresh (unbuffered call) refl placed.argument placed.places
+unbuffered_places call placed = fresh (unbuffered call) refl placed.argument placed.area placed.places
 
 -- ---- events
 
@@ -189,21 +199,21 @@ placed_change before after slot held changes all placed at =
 held_places : (kernel : Kernel) (slot : ℕ) (held : ThreadSlot) (call : PendingCall) → ArePlacedIn kernel
     → option_and_then call_in (Some held) ≡ Some (unmarked call) → option_and_then call_in (slice_get kernel.slots slot) ≡ option_and_then call_in (Some held)
     → HasItsPlaces call
-held_places kernel slot held call all is there = again (unmarked call) call refl refl refl (subst PlacedAt (there ∙ is) (all.calls slot))
+held_places kernel slot held call all is there = again (unmarked call) call refl refl refl refl (subst PlacedAt (there ∙ is) (all.calls slot))
 
 place_cases : (boot : Booted) (kernel : Kernel) (cpu : ℕ) → ArePlacedIn kernel → EventCases boot kernel cpu ArePlacedIn
 place_cases boot kernel cpu all = record {
   answered = λ visit answer inside. record { calls = all.calls; pages = all.pages };
-  comes = λ visit slot bytes inside free fits.
-      let c = new_call_of boot kernel.tables visit.regs slot bytes in
+  comes = λ visit slot found bytes inside free lies fits.
+      let c = new_call_of boot kernel.tables visit.regs slot found bytes in
       cases_onward c NewPlaces (λ taken. ArePlacedIn (after_decision kernel visit (Takes slot taken)))
       (λ taken new. record {
         calls = placed_change (call_at kernel.slots) _ slot (Some (unmarked taken.call))
             (takes_slot kernel.slots taken.cancels slot visit.cpu Free taken.call (free_there kernel.slots slot free)) all.calls
-            (again taken.call (unmarked taken.call) refl refl refl new.0);
+            (again taken.call (unmarked taken.call) refl refl refl refl new.0);
         pages = new.1;
       })
-      (new_places c all.pages (argument_inside c.arg c.head fits));
+      (new_places c all.pages (argument_inside found c.head fits) (λ area is. area_inside found c.head area fits is));
   resumes = λ visit call given inside there offered.
       let slot = thread_in visit.regs in
       let r = resumed_call boot kernel.tables slot call given in
@@ -213,7 +223,7 @@ place_cases boot kernel cpu all = record {
       record {
         calls = placed_change (call_at kernel.slots) _ slot (Some (unmarked taken.call))
             (takes_slot kernel.slots taken.cancels slot visit.cpu (Suspended (client_in visit.regs) call) taken.call there) all.calls
-            (again taken.call (unmarked taken.call) refl refl refl now);
+            (again taken.call (unmarked taken.call) refl refl refl refl now);
         pages = subst (λ (known : Registered). HaveGoodPages known.buffers) (sym (resumed_registered r)) all.pages;
       };
   told = λ visit answer its fixed. record { calls = all.calls; pages = all.pages };
@@ -227,13 +237,13 @@ place_cases boot kernel cpu all = record {
       (record {
         calls = placed_change (call_at kernel.slots) _ slot _
             (leaves_slot kernel.slots slot (Active worker call) (Suspended progress.call.client progress.call) there) all.calls
-            (again progress.call (unmarked progress.call) refl refl refl now);
+            (again progress.call (unmarked progress.call) refl refl refl refl now);
         pages = same;
       })
       (record {
         calls = placed_change (call_at kernel.slots) _ slot _
             (leaves_slot kernel.slots slot (Active worker call) (Suspended progress.call.client (unbuffered progress.call)) there) all.calls
-            (again (unbuffered progress.call) (unmarked (unbuffered progress.call)) refl refl refl (unbuffered_places progress.call now));
+            (again (unbuffered progress.call) (unmarked (unbuffered progress.call)) refl refl refl refl (unbuffered_places progress.call now));
         pages = same;
       })
       (λ result params told is. record {

@@ -27,6 +27,7 @@ use Rattle.kernel_model.specs.History.{kernel_after}
 use Rattle.kernel_model.specs.Instances.{app_of, given_back, held_by, instances_after, is_held, keeps_alive, killed, made_for}
 use Rattle.kernel_model.specs.Kernel.{Active, Asks, CallPhase, Free, Instance, Kernel, PendingCall, Progress, Runs, Suspended, Tables, ThreadSlot, Waits, first_kernel}
 use Rattle.kernel_model.specs.Leaving.{leaving_of}
+use Rattle.kernel_model.specs.Located.{cookie_of}
 use Rattle.kernel_model.specs.NewCall.{NewCall, beginner, new_call_of, no_copies, opener}
 use Rattle.kernel_model.specs.Resume.{Resumed, app_of_call, onward_of, phase_after, resumed_call, sees, who_resumes}
 use Rattle.kernel_model.specs.Sessions.{has_opened, sessions_after, sessions_after_panic, sessions_unrun}
@@ -45,6 +46,7 @@ use Rattle.kernel_model.proofs.SoundExits.{exits_all, left_all, unbuffered}
 use Rattle.kernel_model.proofs.SoundJoined.{GoesOn, never_both, never_none, some_same}
 use Rattle.kernel_model.proofs.SoundMaps.{get-insert-other, get-insert-same, get-remove-other, get-remove-same, named_is}
 use Rattle.kernel_model.proofs.SoundMemory.{all_in_memory, own_uuid}
+use Rattle.kernel_model.proofs.SoundPinned.{before_pinned, memory_pinned, order_pinned, reasoned_pinned}
 use Rattle.kernel_model.proofs.SoundNewCalls.{NewCases, cases_onward}
 use Rattle.kernel_model.proofs.SoundNewJoined.{Before, held_none, no_job, shared_there, gone, awaited_uuids, new_instance}
 use Rattle.kernel_model.proofs.SoundNumbers.{numbered}
@@ -503,12 +505,14 @@ reason_cases : (boot : Booted) (kernel : Kernel) (cpu : ℕ) → Before (call_at
     → AreInMemory boot (call_at kernel.slots) kernel.tables → AfterReasons boot kernel → EventCases boot kernel cpu (AfterReasons boot)
 reason_cases boot kernel cpu sound order memory reasons = record {
   answered = λ visit answer inside. reasons;
-  comes = λ visit slot bytes inside free fits.
-      let c = new_call_of boot kernel.tables visit.regs slot bytes in
+  comes = λ visit slot found bytes inside free lies fits.
+      let c = new_call_of boot kernel.tables visit.regs slot found bytes in
       let there = free_there kernel.slots slot free in
       cases_onward c (NewReasons (call_at kernel.slots) c) (λ taken. AfterReasons boot (after_decision kernel visit (Takes slot taken)))
       (λ taken new. new _ (takes_slot kernel.slots taken.cancels slot visit.cpu Free taken.call there))
-      (new_reasons (call_at kernel.slots) c sound order (ap (λ (o : Option ThreadSlot). option_and_then call_in o) there) memory reasons);
+      (new_reasons (call_at kernel.slots) c (before_pinned (cookie_of found) kernel.tables slot (call_at kernel.slots) sound) (order_pinned (cookie_of found) kernel.tables slot order)
+      (ap (λ (o : Option ThreadSlot). option_and_then call_in o) there) (memory_pinned (cookie_of found) kernel.tables slot boot (call_at kernel.slots) memory)
+      (reasoned_pinned (cookie_of found) kernel.tables slot boot (call_at kernel.slots) reasons));
   resumes = λ visit call given inside there offered.
       let slot = thread_in visit.regs in
       let taken = resumed_taken boot kernel visit call given in

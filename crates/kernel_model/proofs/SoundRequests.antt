@@ -128,8 +128,8 @@ exit_fits tables call granted progress fits e = exits_all tables call granted (�
 fit_cases : (boot : Booted) (kernel : Kernel) (cpu : ℕ) → AllFit (call_at kernel.slots) → EventCases boot kernel cpu (λ next. AllFit (call_at next.slots))
 fit_cases boot kernel cpu all = record {
   answered = λ visit answer inside. all;
-  comes = λ visit slot bytes inside free fits.
-      let c = new_call_of boot kernel.tables visit.regs slot bytes in
+  comes = λ visit slot found bytes inside free lies fits.
+      let c = new_call_of boot kernel.tables visit.regs slot found bytes in
       cases_onward c (λ taken. FitsIn taken.call.phase) (λ taken. AllFit (call_at (after_decision kernel visit (Takes slot taken)).slots))
       (λ taken new. fit_change (call_at kernel.slots) _ slot (Some (unmarked taken.call))
       (takes_slot kernel.slots taken.cancels slot visit.cpu Free taken.call (free_there kernel.slots slot free)) all new) (new_fit c);

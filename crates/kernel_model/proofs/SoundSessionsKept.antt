@@ -25,6 +25,7 @@ use Rattle.kernel_model.specs.History.{kernel_after}
 use Rattle.kernel_model.specs.Instances.{given_back, held_by, instances_after, killed, made_for}
 use Rattle.kernel_model.specs.Kernel.{Active, Asks, CallPhase, Free, Instance, Kernel, PendingCall, Progress, Runs, Suspended, Tables, ThreadSlot, first_kernel}
 use Rattle.kernel_model.specs.Leaving.{leaving_of}
+use Rattle.kernel_model.specs.Located.{cookie_of}
 use Rattle.kernel_model.specs.NewCall.{NewCall, beginner, new_call_of, no_copies, opener}
 use Rattle.kernel_model.specs.Resume.{Resumed, onward_of, resumed_call, who_resumes}
 use Rattle.kernel_model.specs.Sessions.{has_opened, sessions_after, sessions_after_panic, sessions_unrun}
@@ -38,6 +39,7 @@ use Rattle.kernel_model.proofs.SoundEvents.{EventCases, holds_along, resumed_tak
 use Rattle.kernel_model.proofs.SoundExits.{exits_all, left_all, unbuffered}
 use Rattle.kernel_model.proofs.SoundJoined.{GoesOn, never_both, never_none, some_same}
 use Rattle.kernel_model.proofs.SoundMaps.{get-insert-other, get-insert-same, get-inserted, get-remove-other, get-remove-same, get-removed}
+use Rattle.kernel_model.proofs.SoundPinned.{before_pinned}
 use Rattle.kernel_model.proofs.SoundNewCalls.{NewCases, cases_onward}
 use Rattle.kernel_model.proofs.SoundNewJoined.{Before, gone, awaited_uuids, new_instance, no_job}
 use Rattle.kernel_model.proofs.SoundNumbers.{numbered}
@@ -522,12 +524,13 @@ spared_cases : (boot : Booted) (kernel : Kernel) (cpu : ℕ) → Before (call_at
     → EventCases boot kernel cpu AfterSpared
 spared_cases boot kernel cpu sound spared = record {
   answered = λ visit answer inside. spared;
-  comes = λ visit slot bytes inside free fits.
-      let c = new_call_of boot kernel.tables visit.regs slot bytes in
+  comes = λ visit slot found bytes inside free lies fits.
+      let c = new_call_of boot kernel.tables visit.regs slot found bytes in
       let there = free_there kernel.slots slot free in
       cases_onward c (NewSpared (call_at kernel.slots) c) (λ taken. AfterSpared (after_decision kernel visit (Takes slot taken)))
       (λ taken new. new _ (takes_slot kernel.slots taken.cancels slot visit.cpu Free taken.call there))
-      (new_spared (call_at kernel.slots) c sound (ap (λ (o : Option ThreadSlot). option_and_then call_in o) there) spared);
+      (new_spared (call_at kernel.slots) c (before_pinned (cookie_of found) kernel.tables slot (call_at kernel.slots) sound)
+      (ap (λ (o : Option ThreadSlot). option_and_then call_in o) there) (record { kept = spared.kept; jobs = spared.jobs }));
   resumes = λ visit call given inside there offered.
       let slot = thread_in visit.regs in
       let taken = resumed_taken boot kernel visit call given in

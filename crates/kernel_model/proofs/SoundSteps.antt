@@ -47,7 +47,7 @@ length-replicated (suc count) x = ap suc (length-replicated count x)
 many_cases : (boot : Booted) (kernel : Kernel) (cpu : ℕ) → AreAsMany boot kernel → EventCases boot kernel cpu (AreAsMany boot)
 many_cases boot kernel cpu sound = record {
   answered = λ visit answer inside. record { slots = sound.slots; processors = length-set kernel.processors visit.cpu _ ∙ sound.processors };
-  comes = λ visit slot bytes inside free fits. all_cases _ _ (λ taken. taken_many visit slot taken);
+  comes = λ visit slot found bytes inside free lies fits. all_cases _ _ (λ taken. taken_many visit slot taken);
   resumes = λ visit call given inside there offered. taken_many visit (thread_in visit.regs) (resumed_taken boot kernel visit call given);
   told = λ visit answer its fixed. record { slots = sound.slots; processors = length-set kernel.processors visit.cpu _ ∙ sound.processors };
   goes = λ visit slot worker call progress its inside there e.
@@ -220,7 +220,7 @@ entry_steps : (boot : Booted) (entries : ℕ) (kernel : Kernel) (cpu : ℕ) → 
 entry_steps boot entries kernel cpu sound = record {
   answered = λ visit answer inside.
       later_granted entries (entries + 1) _ (one_more entries) (moved_steps entries kernel visit.cpu _ (λ regs steps slot e. cc) sound);
-  comes = λ visit slot bytes inside free fits.
+  comes = λ visit slot found bytes inside free lies fits.
       cases_onward _ _ _ (λ taken none. taken_steps entries kernel cpu visit slot taken sound inside (no_steps taken.call.steps entries none)) (new_steps _);
   resumes = λ visit call given inside there offered.
       let r = resumed_call boot kernel.tables (thread_in visit.regs) call given in

@@ -266,8 +266,8 @@ AfterWaiters next = AreWaiters (call_at next.slots) next.tables.waiters
 waiter_cases : (boot : Booted) (kernel : Kernel) (cpu : ℕ) → AfterWaiters kernel → EventCases boot kernel cpu AfterWaiters
 waiter_cases boot kernel cpu sound = record {
   answered = λ visit answer inside. sound;
-  comes = λ visit slot bytes inside free fits.
-      let c = new_call_of boot kernel.tables visit.regs slot bytes in
+  comes = λ visit slot found bytes inside free lies fits.
+      let c = new_call_of boot kernel.tables visit.regs slot found bytes in
       let there = free_there kernel.slots slot free in
       cases_onward c (NewWaiters (call_at kernel.slots) c) (λ taken. AfterWaiters (after_decision kernel visit (Takes slot taken)))
       (λ taken new. new _ (takes_slot kernel.slots taken.cancels slot visit.cpu Free taken.call there))

@@ -246,7 +246,7 @@ work_cases boot kernel cpu sound = record {
   answered = λ visit answer inside.
       other_work kernel visit.cpu Outside (Inside visit.regs visit.steps (Fixed answer)) inside.outside
       (λ regs steps slot e. cc) (λ regs steps slot e. cc) sound;
-  comes = λ visit slot bytes inside free fits.
+  comes = λ visit slot found bytes inside free lies fits.
       all_cases _ _ (λ taken. taken_work kernel cpu visit slot taken Free sound inside (free_there kernel.slots slot free) tt);
   resumes = λ visit call given inside there offered.
       taken_work kernel cpu visit (thread_in visit.regs) (resumed_taken boot kernel visit call given) (Suspended (client_in visit.regs) call) sound inside there tt;
@@ -353,7 +353,7 @@ apart_cases : (boot : Booted) (kernel : Kernel) (other cpu slot steps : ℕ) (re
 apart_cases boot kernel other cpu slot steps regs call apart worker = record {
   answered = λ visit answer inside.
       moved_apart kernel visit (Inside visit.regs visit.steps (Fixed answer)) cpu slot steps regs call (from visit inside.its) worker;
-  comes = λ visit at bytes inside free fits.
+  comes = λ visit at found bytes inside free lies fits.
       all_cases _ _ (λ taken. taken_apart kernel visit at taken Free cpu slot steps regs call (from visit inside.its) worker (free_there kernel.slots at free) tt);
   resumes = λ visit held given inside there offered.
       taken_apart kernel visit (thread_in visit.regs) (resumed_taken boot kernel visit held given) (Suspended (client_in visit.regs) held) cpu slot steps regs call (from visit inside.its) worker there tt;

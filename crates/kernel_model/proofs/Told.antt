@@ -1,5 +1,5 @@
 -- What each entry decides: the words that its answer can have, and where ETHREAD_LIMIT and ERESUME come.
-use Rattle.std.proofs.Common.{◌≡◌, ℕ, List, Option, Some, None, Bool, true, false, Result, Ok, Err, refl}
+use Rattle.std.proofs.Common.{◌≡◌, ℕ, List, Option, Some, None, Bool, true, false, Result, Ok, Err, refl, sym, ap, ◌∙◌}
 use Rattle.std.specs.Prelude.{if◌then◌else◌, nat_lt, slice_index}
 use Rattle.std.specs.Option.{option_map_or}
 use Rattle.msg_args.specs.Reading.{head_at}
@@ -10,17 +10,18 @@ use Rattle.smc_abi.specs.FastAnswer.{fast_answer_of}
 use Rattle.smc_abi.specs.declared.answer.Answer.{Answer}
 use Rattle.smc_abi.specs.declared.answer.Answer.TheVariants.{Words, Alloc, Free, Cmd, Interrupt}
 use Rattle.smc_abi.specs.declared.call.Call.{Call}
-use Rattle.smc_abi.specs.declared.call.Call.TheVariants.{Fast, WithArg, Resume, Unknown}
+use Rattle.smc_abi.specs.declared.call.Call.TheVariants.{Fast, WithArg, WithRpcArg, WithRegdArg, Resume, Unknown}
 use Rattle.smc_abi.specs.declared.call.FastCall.{FastCall}
 use Rattle.smc_abi.specs.declared.call.FastCall.TheVariants.{CallsUid, CallsRevision, OsUuid, OsRevision, ShmConfig, Capabilities, DisableShmCache, EnableShmCache, ThreadCount}
 use Rattle.kernel_model.specs.Application.{Booted}
-use Rattle.kernel_model.specs.Argument.{argument_at, reg}
+use Rattle.kernel_model.specs.Argument.{IsNew, is_new, reg}
 use Rattle.kernel_model.specs.Codes.{ethread_limit, ebadaddr, ebadcmd, eresume}
 use Rattle.kernel_model.specs.Decision.{Decision, Answers, Takes, Taken, decided_by, taken_by}
 use Rattle.kernel_model.specs.Entry.{decision_of}
 use Rattle.kernel_model.specs.Kernel.{Kernel, PendingCall, Tables, lowest_free}
 use Rattle.kernel_model.specs.Laws.{FindsNoSlot, FindsNoCall}
-use Rattle.kernel_model.specs.NewCall.{command_of, is_head_address, has_argument, new_call_of, new_call_in, new_call_with}
+use Rattle.kernel_model.specs.Located.{has_argument, has_head, located}
+use Rattle.kernel_model.specs.NewCall.{command_of, new_call_of, new_call_in, new_call_with}
 use Rattle.kernel_model.specs.Resume.{call_resumed_by, resume_call, takes_call}
 use Rattle.kernel_model.proofs.Parts.{AllOf, AllOf-mapped}
 
@@ -66,7 +67,7 @@ fast_other regs threads ThreadCount = (λ e. cc, λ e. cc)
 
 -- another answer to a call that is neither a new call nor a resume
 other_told : (kernel : Kernel) (regs : List ℕ) (answer : Answer) → IsOther answer
-    → (call_of (reg regs 0) ≡ WithArg → ⊥) → (call_of (reg regs 0) ≡ Resume → ⊥) → Told kernel regs (Answers answer)
+    → (IsNew regs → ⊥) → (call_of (reg regs 0) ≡ Resume → ⊥) → Told kernel regs (Answers answer)
 other_told kernel regs answer other new resumed = (
   (λ e. absurd (other.0 e), λ e. absurd (other.1 e)),
   (λ none. absurd (new none.0), λ none. absurd (resumed none.0)),
@@ -108,17 +109,24 @@ bad_command = (λ e. cc, λ e. cc)
 -- behind a free slot
 behind_slot : (boot : Booted) (tables : Tables) (regs : List ℕ) (slot : ℕ) → AllOf (Outcome Any IsOther) (new_call_in boot tables regs slot)
 behind_slot boot tables regs slot =
-    attempt-then IsOther (need (is_head_address (argument_at regs)) ebadaddr) _ (need-fails IsOther (is_head_address (argument_at regs)) ebadaddr bad_address) (λ _.
-    attempt-then IsOther (read (take_bytes (argument_at regs) 32)) _ (read-fails IsOther (take_bytes (argument_at regs) 32)) (λ bytes.
-    attempt-then IsOther (need (has_argument (argument_at regs) (head_at bytes)) ebadaddr) _ (need-fails IsOther (has_argument (argument_at regs) (head_at bytes)) ebadaddr bad_address) (λ _.
+    attempt-then IsOther (known (located tables regs) ebadaddr) _ (known-fails IsOther (located tables regs) ebadaddr bad_address) (λ found.
+    attempt-then IsOther (need (has_head found) ebadaddr) _ (need-fails IsOther (has_head found) ebadaddr bad_address) (λ _.
+    attempt-then IsOther (read (take_bytes found.addr 32)) _ (read-fails IsOther (take_bytes found.addr 32)) (λ bytes.
+    attempt-then IsOther (need (has_argument found (head_at bytes)) ebadaddr) _ (need-fails IsOther (has_argument found (head_at bytes)) ebadaddr bad_address) (λ _.
     attempt-then IsOther (known (command_of (head_at bytes).cmd) ebadcmd) _ (known-fails IsOther (command_of (head_at bytes).cmd) ebadcmd bad_command) (λ command.
-    read-fails IsOther (taken_by (command (new_call_of boot tables regs slot bytes)))))))
+    read-fails IsOther (taken_by (command (new_call_of boot tables regs slot found bytes))))))))
 
 some_slot : (kernel : Kernel) (slot : ℕ) → lowest_free kernel.slots ≡ Some slot → lowest_free kernel.slots ≡ None → ⊥
 some_slot kernel slot some none = cc
 
-not_resumed : (regs : List ℕ) → call_of (reg regs 0) ≡ WithArg → call_of (reg regs 0) ≡ Resume → ⊥
-not_resumed regs new resumed = cc
+-- a call of another kind is no new one
+not_new : (regs : List ℕ) (call : Call) → call_of (reg regs 0) ≡ call → is_new call ≡ false → IsNew regs → ⊥
+not_new regs call is other new =
+    let wrong : true ≡ false = sym new ∙ ap is_new is ∙ other in
+    cc
+
+not_resumed : (regs : List ℕ) → IsNew regs → call_of (reg regs 0) ≡ Resume → ⊥
+not_resumed regs new resumed = not_new regs Resume resumed refl new
 
 slot_told : (kernel : Kernel) (regs : List ℕ) (slot : ℕ) (attempt : Attempt Answer Taken)
     → (FindsNoSlot kernel regs → ⊥) → (FindsNoCall kernel regs → ⊥) → AllOf (Outcome Any IsOther) attempt
@@ -129,7 +137,7 @@ slot_told kernel regs slot (done (Err answer)) some new all =
 slot_told kernel regs slot (want_bytes addr len next) some new all = λ got. slot_told kernel regs slot (next got) some new (all got)
 slot_told kernel regs slot (want_words addr most test next) some new all = λ got. slot_told kernel regs slot (next got) some new (all got)
 
-new_told : (boot : Booted) (kernel : Kernel) (regs : List ℕ) (free : Option ℕ) → lowest_free kernel.slots ≡ free → call_of (reg regs 0) ≡ WithArg
+new_told : (boot : Booted) (kernel : Kernel) (regs : List ℕ) (free : Option ℕ) → lowest_free kernel.slots ≡ free → IsNew regs
     → AllOf (Told kernel regs) (decided_by (new_call_with boot kernel.tables regs free))
 new_told boot kernel regs None none is =
     ((λ e. (is, none), λ e. absurd cc), (λ found. refl, λ found. absurd (not_resumed regs is found.0)))
@@ -154,10 +162,12 @@ resume_told boot kernel regs (Some call) some is =
 
 call_told : (boot : Booted) (kernel : Kernel) (regs : List ℕ) (call : Call) → call_of (reg regs 0) ≡ call → AllOf (Told kernel regs) (decision_of boot kernel regs call)
 call_told boot kernel regs (Fast call) is =
-    other_told kernel regs (fast_answer_of call regs boot.threads) (fast_other regs boot.threads call) (λ new. cc) (λ resumed. cc)
-call_told boot kernel regs WithArg is = new_told boot kernel regs (lowest_free kernel.slots) refl is
+    other_told kernel regs (fast_answer_of call regs boot.threads) (fast_other regs boot.threads call) (not_new regs (Fast call) is refl) (λ resumed. cc)
+call_told boot kernel regs WithArg is = new_told boot kernel regs (lowest_free kernel.slots) refl (ap is_new is)
+call_told boot kernel regs WithRpcArg is = new_told boot kernel regs (lowest_free kernel.slots) refl (ap is_new is)
+call_told boot kernel regs WithRegdArg is = new_told boot kernel regs (lowest_free kernel.slots) refl (ap is_new is)
 call_told boot kernel regs Resume is = resume_told boot kernel regs (call_resumed_by kernel.slots regs) refl is
-call_told boot kernel regs Unknown is = other_told kernel regs (Words 0xffffffff 0 0 0) (λ e. cc, λ e. cc) (λ new. cc) (λ resumed. cc)
+call_told boot kernel regs Unknown is = other_told kernel regs (Words 0xffffffff 0 0 0) (λ e. cc, λ e. cc) (not_new regs Unknown is refl) (λ resumed. cc)
 
 pub decision_told : (boot : Booted) (kernel : Kernel) (regs : List ℕ) → AllOf (Told kernel regs) (decision_of boot kernel regs (call_of (reg regs 0)))
 decision_told boot kernel regs = call_told boot kernel regs (call_of (reg regs 0)) refl

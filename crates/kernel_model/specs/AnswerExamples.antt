@@ -26,7 +26,8 @@ pub record AnswerExamples : Type 0 where
   pub thread_count : Answers (fast 0xb200000f 0) (answered 0 1)
   pub unknown_function : Answers (fast 0x32000063 0) (refused 0xffffffff)
   pub no_reserved_memory : Answers (fast 0xb2000007 0) (refused 7)
-  pub bad_capability : Answers (fast 0xb2000009 3) (answered 7 0x14)
+  pub bad_capability : Answers (fast 0xb2000009 3) (answered 7 0x54)
+  pub capabilities : Answers (fast 0xb2000009 1) (0 ∷ 0x54 ∷ 0 ∷ 4 ∷ replicate 4 0, [])
   pub no_cache : Answers (fast 0xb200000a 0) (refused 7)
   -- a resume: of no slot, of a free one, of an active one
   pub absent_slot : returns_of (boot 1 1 1 add) (resume 0 1 1) ≡ Some (refused 3 ∷ [])

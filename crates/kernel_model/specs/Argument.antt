@@ -1,5 +1,5 @@
 -- What the registers and the message argument of a call say, by optee_smc.h and optee_msg.h.
-use Rattle.std.specs.Prelude.{◌≡◌, ℕ, ◌+◌, ◌*◌, ◌%◌, ◌^◌, nat_le, Bool, true, false, not, ◌&&◌, if◌then◌else◌, List, [], ◌∷◌}
+use Rattle.std.specs.Prelude.{◌≡◌, ℕ, ◌+◌, ◌*◌, ◌%◌, ◌^◌, nat_le, Bool, true, false, not, ◌&&◌, if◌then◌else◌, IsTrue, List, [], ◌∷◌}
 use Rattle.std.specs.Prelude.{◌++◌, length, Option, Some, None, slice_index, map}
 use Rattle.std.specs.Int.{w64, to_le_bytes}
 use Rattle.std.specs.List.{list_all}
@@ -10,7 +10,8 @@ use Rattle.msg_args.specs.declared.kind.ParamKind.TheVariants.{ValueIn, RmemIn, 
 use Rattle.msg_args.specs.declared.param.MsgParam.{MsgParam}
 use Rattle.msg_args.specs.Reading.{has_attribute, param_at}
 use Rattle.smc_abi.specs.Call.{call_of}
-use Rattle.smc_abi.specs.declared.call.Call.TheVariants.{WithArg}
+use Rattle.smc_abi.specs.declared.call.Call.{Call}
+use Rattle.smc_abi.specs.declared.call.Call.TheVariants.{Fast, WithArg, WithRpcArg, WithRegdArg, Resume, Unknown}
 use Rattle.ta_params.specs.declared.login.Login.{Login}
 
 -- ---- registers
@@ -23,13 +24,26 @@ reg regs number = slice_index regs number
 abbrev pub pair_at : List ℕ → ℕ → ℕ
 pair_at regs number = reg regs number * 2 ^ 32 + reg regs (number + 1)
 
+-- the call is a new one
+abbrev pub is_new : Call → Bool
+is_new (Fast call) = false
+is_new WithArg = true
+is_new WithRpcArg = true
+is_new WithRegdArg = true
+is_new Resume = false
+is_new Unknown = false
+
 -- they bring a new call
 abbrev pub IsNew : List ℕ → Type 0
-IsNew regs = call_of (reg regs 0) ≡ WithArg
+IsNew regs = IsTrue (is_new (call_of (reg regs 0)))
 
--- the address of the argument, in a1 and a2
+-- the address of the argument, or the cookie that names it, in a1 and a2
 abbrev pub argument_at : List ℕ → ℕ
 argument_at regs = pair_at regs 1
+
+-- and its offset behind that cookie's first byte
+abbrev pub offset_at : List ℕ → ℕ
+offset_at regs = reg regs 3
 
 -- the thread that is to be resumed
 abbrev pub thread_in : List ℕ → ℕ

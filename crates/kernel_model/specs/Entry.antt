@@ -5,7 +5,7 @@ use Rattle.ns_ram.specs.Reader.{Reader, done, reading, ◌>>=◌}
 use Rattle.smc_abi.specs.Call.{call_of}
 use Rattle.smc_abi.specs.FastAnswer.{fast_answer_of}
 use Rattle.smc_abi.specs.declared.call.Call.{Call}
-use Rattle.smc_abi.specs.declared.call.Call.TheVariants.{Fast, WithArg, Resume, Unknown}
+use Rattle.smc_abi.specs.declared.call.Call.TheVariants.{Fast, WithArg, WithRpcArg, WithRegdArg, Resume, Unknown}
 use Rattle.kernel_model.specs.Application.{Booted}
 use Rattle.kernel_model.specs.Argument.{reg}
 use Rattle.kernel_model.specs.Codes.{unknown_function}
@@ -18,6 +18,8 @@ use Rattle.kernel_model.specs.Resume.{resume}
 abbrev pub decision_of : Booted → Kernel → List ℕ → Call → Reader Decision
 decision_of boot kernel regs (Fast call) = done (Answers (fast_answer_of call regs boot.threads))
 decision_of boot kernel regs WithArg = new_call boot kernel regs
+decision_of boot kernel regs WithRpcArg = new_call boot kernel regs
+decision_of boot kernel regs WithRegdArg = new_call boot kernel regs
 decision_of boot kernel regs Resume = resume boot kernel regs
 decision_of boot kernel regs Unknown = done (Answers unknown_function)
 

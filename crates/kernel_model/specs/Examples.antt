@@ -6,6 +6,7 @@ use Rattle.event_journal.specs.declared.event.Event.{Event}
 use Rattle.event_journal.specs.declared.event.Event.TheVariants.{Entry, Exit}
 use Rattle.ns_ram.specs.Examples.{read_of}
 use Rattle.kernel_model.specs.AnswerExamples.{AnswerExamples}
+use Rattle.kernel_model.specs.AreaExamples.{AreaExamples}
 use Rattle.kernel_model.specs.Instances.{fresh_memory}
 use Rattle.kernel_model.specs.History.{IsLegal, held_after, kernel_after, left_before}
 use Rattle.kernel_model.specs.Kernel.{Active, Suspended, ThreadSlot, Kernel, first_kernel}
@@ -148,4 +149,5 @@ pub record Examples : Type 0 where
   pub answers : AnswerExamples
   pub results : ResultExamples
   pub requests : RpcExamples
+  pub areas : AreaExamples
   pub storage : StorageExamples

@@ -15,7 +15,7 @@ use Rattle.job_model.specs.Steps as steps
 use Rattle.msg_args.specs.Layout.{session_at, ret_at, origin_at}
 use Rattle.ns_ram.specs.Writes.{Write}
 use Rattle.param_copy.specs.WritingBack.{writes_back}
-use Rattle.rpc_msgs.specs.Request.{request_writes}
+use Rattle.rpc_msgs.specs.Place.{cookie_told, writes_at}
 use Rattle.session_table.specs.declared.session.Session.{Session}
 use Rattle.session_table.specs.Waiters.{first_of}
 use Rattle.shm_registry.specs.Registered.{without_slot}
@@ -130,7 +130,7 @@ progress_in_slot kernel steps_granted slot =
 abbrev pub answer_of : ℕ → Leaving → Answer
 answer_of slot Interrupted = Interrupt slot
 answer_of slot WantsBuffer = Alloc 4096 slot
-answer_of slot (Requests place request) = Cmd place.cookie slot
+answer_of slot (Requests place request) = Cmd (cookie_told place) slot
 answer_of slot (FreesBuffer buffer) = answer.Free buffer.cookie slot
 answer_of slot (Finishes result params) = ok
 
@@ -160,7 +160,7 @@ result_writes call result params =
 abbrev pub writes_of : PendingCall → Leaving → List Write
 writes_of call Interrupted = []
 writes_of call WantsBuffer = []
-writes_of call (Requests place request) = request_writes place.addr place.cookie request.wanted request.payload
+writes_of call (Requests place request) = writes_at place request.wanted request.payload
 writes_of call (FreesBuffer buffer) = []
 writes_of call (Finishes result params) = result_writes call result params
 

@@ -5,7 +5,7 @@ use Rattle.rpc_msgs.specs.declared.rpc_buffer.RpcBuffer.{RpcBuffer}
 use Rattle.ns_ram.specs.Lane.{is_in_ram}
 use Rattle.ns_ram.specs.Reader.{Reader, done, ◌>>=◌}
 use Rattle.rpc_msgs.specs.declared.rpc.RpcReply.{RpcReply}
-use Rattle.rpc_msgs.specs.Reply.{reply_reader}
+use Rattle.rpc_msgs.specs.Place.{reader_at}
 use Rattle.kernel_model.specs.Argument.{pair_at}
 use Rattle.kernel_model.specs.Kernel.{PendingCall}
 use Rattle.kernel_model.specs.Leaving.{Leaving, Interrupted, WantsBuffer, Requests, FreesBuffer, Finishes, leaving_of}
@@ -31,7 +31,7 @@ offered_buffer regs =
 abbrev pub given_after : List ℕ → Leaving → Reader Given
 given_after regs Interrupted = done Nothing
 given_after regs WantsBuffer = done (option_map_or Buffer (offered_buffer regs) NoBuffer)
-given_after regs (Requests place request) = reply_reader place.addr request.wanted >>= (λ reply. done (Reply reply))
+given_after regs (Requests place request) = reader_at place request.wanted >>= (λ reply. done (Reply reply))
 given_after regs (FreesBuffer buffer) = done Nothing
 given_after regs (Finishes result params) = done Nothing
 

@@ -53,6 +53,8 @@ pub record PendingCall : Type 0 where
   pub uuid : Option (List ℕ)
   -- the address of its argument
   pub arg : ℕ
+  -- and of the area behind it, for the arguments of its requests, if it has brought one along
+  pub area : Option ℕ
   -- where the results of its parameters go
   pub places : List Place
   -- its session and its instance, 0 where it has none

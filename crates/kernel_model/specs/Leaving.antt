@@ -1,7 +1,9 @@
 -- What a call goes out with, by the phase in which it is shown. By optee_smc.h.
 use Rattle.std.specs.Prelude.{ℕ, List, [], Option, Some, None}
 use Rattle.std.specs.Option.{option_map_or}
+use Rattle.rpc_msgs.specs.declared.request_place.RequestPlace.{RequestPlace}
 use Rattle.rpc_msgs.specs.declared.rpc_buffer.RpcBuffer.{RpcBuffer}
+use Rattle.rpc_msgs.specs.Place.{place_for}
 use Rattle.rpc_msgs.specs.declared.rpc.Rpc.{Rpc}
 use Rattle.rpc_msgs.specs.declared.rpc.Rpc.TheVariants as rpc
 use Rattle.ta_params.specs.declared.call_result.CallResult.{CallResult}
@@ -24,15 +26,15 @@ pub data Leaving : Type 0 where
   -- it asks for something, and wants a place for that first
   WantsBuffer : Leaving
   -- it asks for this, at this place
-  Requests : (place : RpcBuffer) (request : Request) → Leaving
+  Requests : (place : RequestPlace) (request : Request) → Leaving
   -- it has ended, and gives its buffer back first
   FreesBuffer : (buffer : RpcBuffer) → Leaving
   -- it has ended with this result, and leaves these parameters
   Finishes : (result : CallResult) (params : CopiedParams) → Leaving
 
--- where a request of the call goes, if it has a place: its buffer. Nothing else asks that
-abbrev pub place_of : PendingCall → Request → Option RpcBuffer
-place_of call request = call.buffer
+-- where a request of the call goes, if it has a place: its area, its buffer, or both. Nothing else asks that
+abbrev pub place_of : PendingCall → Request → Option RequestPlace
+place_of call request = place_for call.area call.buffer request.wanted
 
 -- the call asks for this
 abbrev pub asks_for : PendingCall → Request → Leaving

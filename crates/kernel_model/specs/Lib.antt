@@ -6,6 +6,7 @@ pub mod Sessions
 pub mod Argument
 pub mod Begin
 pub mod Leaving
+pub mod Located
 pub mod Given
 pub mod Decision
 pub mod NewCall
@@ -31,6 +32,7 @@ pub mod SoundSteps
 pub mod SoundPages
 pub mod Worked
 pub mod AnswerExamples
+pub mod AreaExamples
 pub mod ResultExamples
 pub mod RpcExamples
 pub mod StorageExamples

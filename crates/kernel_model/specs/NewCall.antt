@@ -1,5 +1,6 @@
--- A new call, OPTEE_SMC_CALL_WITH_ARG: its tests in their order, of which the first that fails decides. Tests 1
--- to 3 answer without a slot; 4 to 9 settle the call in its slot, with a result of TEE_ORIGIN_TEE; by 10 it waits.
+-- A new call, OPTEE_SMC_CALL_WITH_ARG, _WITH_RPC_ARG or _WITH_REGD_ARG: its tests in their order, of which the first that
+-- fails decides. Tests 1 to 3 answer without a slot; 4 to 9 settle the call in its slot, with a result of TEE_ORIGIN_TEE;
+-- by 10 it waits.
 use Rattle.std.specs.Prelude.{ℕ, ◌+◌, ◌-◌, ◌%◌, ◌==◌, nat_le, nat_lt, Bool, false, not, ◌&&◌, ◌||◌, if◌then◌else◌, List}
 use Rattle.std.specs.Prelude.{[], ◌∷◌, ◌++◌, length, fold, find, Option, Some, None, is_some, is_none}
 use Rattle.std.specs.Option.{option_map, option_map_or, option_and_then}
@@ -12,10 +13,9 @@ use Rattle.job_model.specs.declared.entry_point.EntryPoint.TheVariants.{Invoke}
 use Rattle.job_model.specs.Point.{no_params}
 use Rattle.msg_args.specs.declared.head.MsgHead.{MsgHead}
 use Rattle.msg_args.specs.declared.param.MsgParam.{MsgParam}
-use Rattle.msg_args.specs.Layout.{argument_len, params_at, params_len}
+use Rattle.msg_args.specs.Layout.{params_at, params_len}
 use Rattle.msg_args.specs.Reading.{head_at}
 use Rattle.ns_ram.specs.Attempt.{Attempt, passes, ◌>>=◌, ◌>>◌, need, known, read, faultless}
-use Rattle.ns_ram.specs.Lane.{is_in_ram}
 use Rattle.ns_ram.specs.Pages.{Walk, walk}
 use Rattle.ns_ram.specs.Reader.{Reader, take_bytes}
 use Rattle.param_copy.specs.Copying.{Copies, copying}
@@ -31,7 +31,7 @@ use Rattle.smc_abi.specs.declared.answer.Answer.{Answer}
 use Rattle.ta_params.specs.declared.login.Login.{Login}
 use Rattle.kernel_model.specs.Application.{Application, Booted, uuid_of}
 use Rattle.kernel_model.specs.Begin.{Beginner, Opener, has_pages_for, opens_kept, opens_made, begins_on, closing_points}
-use Rattle.kernel_model.specs.Argument.{argument_at, client_in, params_in, Opening, opening, invocation, registering}
+use Rattle.kernel_model.specs.Argument.{client_in, params_in, Opening, opening, invocation, registering}
 use Rattle.kernel_model.specs.Argument.{unregistering}
 use Rattle.kernel_model.specs.Codes.{ethread_limit, ebadaddr, ebadcmd, success, bad_parameters, item_not_found}
 use Rattle.kernel_model.specs.Codes.{out_of_memory, busy, target_dead}
@@ -39,16 +39,19 @@ use Rattle.kernel_model.specs.Decision.{Decision, Taken, Tested, taken_by, decid
 use Rattle.kernel_model.specs.Instances.{app_of, is_held, shared_instance, is_multi_session}
 use Rattle.kernel_model.specs.Kernel.{CallPhase, Runs, Waits, Ends, PendingCall, Untold, AnOpen, AnInvoke, ACancel}
 use Rattle.kernel_model.specs.Kernel.{Cancel, Instance, Kernel, Tables, lowest_free}
+use Rattle.kernel_model.specs.Located.{Located, area_of, cookie_of, has_argument, has_head, located}
+use Rattle.kernel_model.specs.Located.{with_argument_pinned}
 use Rattle.kernel_model.specs.Sessions.{opened_by, has_session}
 
--- a call that has passed tests 1 to 3: the tables that it found, its slot, its client, and its argument's address and
--- head
+-- a call that has passed tests 1 to 3: the tables that it found, in which its slot pins the cookie that names its
+-- argument, if one does; its slot, its client, its argument's address and head, and its area
 pub record NewCall : Type 0 where
   pub boot : Booted
   pub tables : Tables
   pub slot : ℕ
   pub client : ℕ
   pub arg : ℕ
+  pub area : Option ℕ
   pub head : MsgHead
 
 -- ---- what is decided
@@ -61,6 +64,7 @@ fresh_call c phase = record {
   settled = Untold;
   uuid = None;
   arg = c.arg;
+  area = c.area;
   places = [];
   session = 0;
   instance = 0;
@@ -376,33 +380,27 @@ commands =
 abbrev pub command_of : ℕ → Option (NewCall → Tested Taken)
 command_of cmd = option_map (λ row. row.1) (find (λ row. row.0 == cmd) commands)
 
--- a head is at an address: a multiple of 8 at which 32 bytes lie in RAM
-abbrev pub is_head_address : ℕ → Bool
-is_head_address arg = (arg % 8 == 0) && is_in_ram arg 32
-
--- the head counts at most six parameters, and they lie in RAM behind it
-abbrev pub has_argument : ℕ → MsgHead → Bool
-has_argument arg head = nat_le head.count 6 && is_in_ram arg (argument_len head.count)
-
--- a new call in a slot, with its head
-abbrev pub new_call_of : Booted → Tables → List ℕ → ℕ → List ℕ → NewCall
-new_call_of boot tables regs slot bytes = record {
+-- a new call in a slot, with its argument and its head there
+abbrev pub new_call_of : Booted → Tables → List ℕ → ℕ → Located → List ℕ → NewCall
+new_call_of boot tables regs slot at bytes = record {
   boot = boot;
-  tables = tables;
+  tables = with_argument_pinned (cookie_of at) tables slot;
   slot = slot;
   client = client_in regs;
-  arg = argument_at regs;
+  arg = at.addr;
+  area = area_of at (head_at bytes);
   head = head_at bytes;
 }
 
 -- the tests of every call behind that of a free slot, and then those of its command
 abbrev pub new_call_in : Booted → Tables → List ℕ → ℕ → Attempt Answer Taken
 new_call_in boot tables regs slot = do
-  need (is_head_address (argument_at regs)) ebadaddr  -- 2, the address and the count
-  bytes ← read (take_bytes (argument_at regs) 32)
-  need (has_argument (argument_at regs) (head_at bytes)) ebadaddr
+  at ← known (located tables regs) ebadaddr  -- 2, where the argument is, with its head, its parameters and its area
+  need (has_head at) ebadaddr
+  bytes ← read (take_bytes at.addr 32)
+  need (has_argument at (head_at bytes)) ebadaddr
   command ← known (command_of (head_at bytes).cmd) ebadcmd  -- 3, the command
-  read (taken_by (command (new_call_of boot tables regs slot bytes)))
+  read (taken_by (command (new_call_of boot tables regs slot at bytes)))
 
 -- where this is the lowest free slot, if one is free
 abbrev pub new_call_with : Booted → Tables → List ℕ → Option ℕ → Attempt Answer (ℕ × Taken)

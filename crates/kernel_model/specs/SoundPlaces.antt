@@ -12,6 +12,8 @@ pub record HasItsPlaces (call : PendingCall) : Type 0 where
   -- the head of its argument, and the places of its parameters there and in their pieces
   pub argument : IsInRam call.arg 32
   pub places : AllByRecursion (IsWritable call.arg) call.places
+  -- its area
+  pub area : (area : ℕ) → call.area ≡ Some area → IsInRam area 160
   -- its buffer, which begins at a multiple of 8
   pub buffer : (buffer : RpcBuffer) → call.buffer ≡ Some buffer → IsInRam buffer.addr 4096
   pub multiple : (buffer : RpcBuffer) → call.buffer ≡ Some buffer → buffer.addr % 8 ≡ 0
