@@ -45,6 +45,7 @@ pub record IsEntered {M : Type 0} (entered : CallEntry) (cont : Cont M) : Type 0
   pub login : cont.login ≡ entered.login
   pub context : cont.context ≡ entered.context
   pub arg : cont.arg ≡ entered.arg
+  pub area : cont.area ≡ entered.area
   pub places : cont.places ≡ entered.places
   pub session : cont.session ≡ entered.session
   pub instance : cont.instance ≡ entered.instance

@@ -15,6 +15,8 @@ pub struct CallEntry {
     pub params: Option<CopiedParams>,
     /// The address of its argument.
     pub arg: u64,
+    /// The address of the area behind its argument, if it has brought one along.
+    pub area: Option<u64>,
     /// Where the results of its parameters go.
     pub places: Places,
     pub session: u32,

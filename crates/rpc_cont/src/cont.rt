@@ -30,6 +30,8 @@ pub struct Cont<M: TaMemory> {
     pub params: Option<CopiedParams>,
     /// The address of its argument.
     pub arg: u64,
+    /// The address of the area behind its argument, for the arguments of its requests, if it has brought one along.
+    pub area: Option<u64>,
     /// Where the results of its parameters go.
     pub places: Places,
     pub session: u32,

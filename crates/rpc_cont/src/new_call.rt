@@ -71,6 +71,7 @@ impl<M: TaMemory + Drop> Cont<M> {
             context: entered.context,
             params: entered.params,
             arg: entered.arg,
+            area: entered.area,
             places: entered.places,
             session: entered.session,
             instance: entered.instance,
