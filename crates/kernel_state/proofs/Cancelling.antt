@@ -31,6 +31,7 @@ is_call_with_mark marked cont call is = record {
   app = is.app;
   login = is.login;
   arg = is.arg;
+  area = is.area;
   places = is.places;
   session = is.session;
   instance = is.instance;

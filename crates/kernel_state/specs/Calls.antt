@@ -75,6 +75,7 @@ pub record IsCall (cont : Cont (List ℕ)) (call : PendingCall) : Type 0 where
   pub app : IsAppOf cont.app call.uuid
   pub login : KeepsLogin cont call
   pub arg : cont.arg ≡ call.arg
+  pub area : cont.area ≡ call.area
   pub places : cont.places.items ≡ call.places
   pub session : cont.session ≡ call.session
   pub instance : cont.instance ≡ call.instance

@@ -85,6 +85,7 @@ fn blank(alloc: Global) -> Cont<Pages>
             context: 0,
             params: None,
             arg: 0,
+            area: None,
             places: ArrayVec::new_in(alloc),
             session: 0,
             instance: 0,
