@@ -13,6 +13,8 @@ use Rattle.rpc_cont.specs.declared.cont.Asked.{Asked as AskedFor}
 use Rattle.rpc_cont.specs.declared.cont.Cont.{Cont}
 use Rattle.rpc_cont.specs.declared.phase.Phase.{Phase}
 use Rattle.rpc_cont.specs.declared.phase.Phase.TheVariants as phase
+use Rattle.rpc_msgs.specs.Place.{place_for}
+use Rattle.rpc_msgs.specs.declared.request_place.RequestPlace.{RequestPlace}
 use Rattle.rpc_msgs.specs.declared.rpc.Rpc.TheVariants as rpc
 use Rattle.rpc_msgs.specs.declared.rpc_buffer.RpcBuffer.{RpcBuffer}
 
@@ -22,14 +24,6 @@ wanted_in slot phase.Runs request = None
 wanted_in slot phase.Asks request = option_map (λ asked. Asked) request
 wanted_in slot phase.Waits request = Some (Sleep slot)
 wanted_in slot phase.Ends request = option_map Wake (option_and_then (λ (asked : AskedFor). woken_slot asked.rpc) request)
-
--- what it goes out with, by that, by how far it has come, and by its buffer
-abbrev pub leaving_by : Option Wanted → Phase → Option RpcBuffer → Leaving
-leaving_by (Some wanted) at (Some place) = Requests place wanted
-leaving_by (Some wanted) at None = WantsBuffer
-leaving_by None phase.Ends (Some buffer) = FreesBuffer buffer
-leaving_by None phase.Ends None = Finishes
-leaving_by None _ buffer = Interrupted
 
 -- ---- as the kernel's definitions see it
 
@@ -44,6 +38,10 @@ request_of request Asked = asked_request request
 request_of request (Sleep slot) = plain_request (rpc.Sleep slot)
 request_of request (Wake slot) = plain_request (rpc.Wake slot)
 
+-- where that goes, by its area and its buffer
+abbrev pub place_of : Cont (List ℕ) → Wanted → Option RequestPlace
+place_of cont wanted = place_for cont.area cont.buffer (request_of cont.request wanted).wanted
+
 -- what it goes out with
 abbrev pub leaving_as : Cont (List ℕ) → Leaving → model.Leaving
 leaving_as cont Interrupted = model.Interrupted
@@ -51,3 +49,20 @@ leaving_as cont WantsBuffer = model.WantsBuffer
 leaving_as cont (Requests place wanted) = model.Requests place (request_of cont.request wanted)
 leaving_as cont (FreesBuffer buffer) = model.FreesBuffer buffer
 leaving_as cont Finishes = model.Finishes cont.result (kept_params cont.params)
+
+-- ---- what it goes out with
+
+-- one that asks for this, at a place or for one
+abbrev pub asking : Wanted → Option RequestPlace → Leaving
+asking wanted (Some place) = Requests place wanted
+asking wanted None = WantsBuffer
+
+-- one that asks for nothing, by how far it has come, and by its buffer
+abbrev pub asking_nothing : Phase → Option RpcBuffer → Leaving
+asking_nothing phase.Ends (Some buffer) = FreesBuffer buffer
+asking_nothing phase.Ends None = Finishes
+asking_nothing _ buffer = Interrupted
+
+abbrev pub leaving_by : Cont (List ℕ) → Option Wanted → Leaving
+leaving_by cont (Some wanted) = asking wanted (place_of cont wanted)
+leaving_by cont None = asking_nothing cont.phase cont.buffer

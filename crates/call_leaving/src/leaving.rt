@@ -1,14 +1,14 @@
-ghost use Rattle.std.specs.Prelude.{◌≡◌, ℕ, IsSome};
+ghost use Rattle.std.specs.Prelude.{◌≡◌, ℕ, IsSome, Some};
 ghost use Rattle.std.specs.Option.{option_and_then};
 ghost use Rattle.kernel_model.specs.Kernel.{PendingCall};
 ghost use Rattle.kernel_model.specs.Leaving.{leaving_of};
 ghost use Rattle.kernel_state.specs.Calls.{IsCall, woken_slot};
-ghost use Rattle.rpc_msgs.specs.declared.rpc_buffer.RpcBuffer.{RpcBuffer as AnyBuffer};
-ghost use Rattle.call_leaving.specs.Leaving.{leaving_as, leaving_by, wanted_in};
+ghost use Rattle.rpc_msgs.specs.declared.request_place.RequestPlace.{RequestPlace as AnyPlace};
+ghost use Rattle.call_leaving.specs.Leaving.{asking_nothing, leaving_as, leaving_by, place_of, wanted_in};
 
 use frame_pool::Pages;
 use rpc_cont::{Cont, Phase};
-use rpc_msgs::{Rpc, RpcBuffer};
+use rpc_msgs::{RequestPlace, Rpc, RpcBuffer};
 
 /// What a call asks the normal world for.
 #[derive(Clone, Copy, Debug, PartialEq, Eq)]
@@ -29,7 +29,7 @@ pub enum Leaving {
     /// It asks for something, and wants a place for that first.
     WantsBuffer,
     /// It asks for this, at this place.
-    Requests { place: RpcBuffer, wanted: Wanted },
+    Requests { place: RequestPlace, wanted: Wanted },
     /// It has ended, and gives its buffer back first.
     FreesBuffer(RpcBuffer),
     /// It has ended.
@@ -38,12 +38,12 @@ pub enum Leaving {
 
 impl Leaving {
     /// What the call of a slot goes out with.
-    #[tactic(auto, using(crate::proofs::Told::leaving_told, crate::proofs::Told::asked_there))]
+    #[tactic(auto, using(crate::proofs::Told::leaving_told, crate::proofs::Told::asked_there, crate::proofs::Told::asked_kept))]
     pub fn of(slot: u32, cont: &Cont<Pages>) -> Leaving
         ensures call { (call : PendingCall) → IsCall cont.now call → leaving_of slot call ≡ leaving_as cont.now result }
-        ensures asked { (place : AnyBuffer) → result ≡ Leaving.Requests place Wanted.Asked → IsSome cont.now.request }
+        ensures asked { (place : AnyPlace) → result ≡ Leaving.Requests place Wanted.Asked → IsSome cont.now.request }
     {
-        leaving_by(wanted_in(slot, cont), cont.phase, cont.buffer)
+        leaving_by(cont, wanted_in(slot, cont))
     }
 }
 
@@ -72,15 +72,42 @@ fn woken_slot(cont: &Cont<Pages>) -> Option<u32>
     }
 }
 
-/// By what it asks for, if it does, by how far it has come, and by its buffer.
-fn leaving_by(wanted: Option<Wanted>, phase: Phase, buffer: Option<RpcBuffer>) -> Leaving
-    ensures { result ≡ leaving_by wanted phase buffer }
+/// What it goes out with, by what it asks for, if it does.
+fn leaving_by(cont: &Cont<Pages>, wanted: Option<Wanted>) -> Leaving
+    requires { wanted ≡ Some Wanted.Asked → IsSome cont.now.request }
+    ensures { result ≡ leaving_by cont.now wanted }
 {
-    match (wanted, phase, buffer) {
-        (Some(wanted), _, Some(place)) => Leaving::Requests { place, wanted },
-        (Some(_), _, None) => Leaving::WantsBuffer,
-        (None, Phase::Ends, Some(buffer)) => Leaving::FreesBuffer(buffer),
-        (None, Phase::Ends, None) => Leaving::Finishes,
-        (None, Phase::Runs | Phase::Asks | Phase::Waits, _) => Leaving::Interrupted,
+    let Some(wanted) = wanted else {
+        return asking_nothing(cont.phase, cont.buffer);
+    };
+    match place_of(cont, wanted) {
+        Some(place) => Leaving::Requests { place, wanted },
+        None => Leaving::WantsBuffer,
+    }
+}
+
+/// Where the request of a call that asks for this goes, if it has a place.
+fn place_of(cont: &Cont<Pages>, wanted: Wanted) -> Option<RequestPlace>
+    requires { wanted ≡ Wanted.Asked → IsSome cont.now.request }
+    ensures { result ≡ place_of cont.now wanted }
+{
+    match wanted {
+        Wanted::Asked => match &cont.request {
+            Some(asked) => RequestPlace::of(cont.area, cont.buffer, &asked.rpc),
+            None => unreachable!(),
+        },
+        Wanted::Sleep(slot) => RequestPlace::of(cont.area, cont.buffer, &Rpc::Sleep(slot)),
+        Wanted::Wake(slot) => RequestPlace::of(cont.area, cont.buffer, &Rpc::Wake(slot)),
+    }
+}
+
+/// What a call goes out with that asks for nothing, by how far it has come, and by its buffer.
+fn asking_nothing(phase: Phase, buffer: Option<RpcBuffer>) -> Leaving
+    ensures { result ≡ asking_nothing phase buffer }
+{
+    match (phase, buffer) {
+        (Phase::Ends, Some(buffer)) => Leaving::FreesBuffer(buffer),
+        (Phase::Ends, None) => Leaving::Finishes,
+        (Phase::Runs | Phase::Asks | Phase::Waits, _) => Leaving::Interrupted,
     }
 }
