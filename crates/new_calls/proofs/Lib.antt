@@ -4,5 +4,6 @@ mod Commands
 mod Cookies
 mod Naming
 mod Params
+mod Pins
 mod Sharing
 mod Steps

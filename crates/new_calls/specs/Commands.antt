@@ -1,5 +1,7 @@
 -- What the code's words for what is decided of a call stand for in the kernel's definitions.
-use Rattle.std.specs.Prelude.{◌≡◌, ℕ, List, Option, Some, Result, Ok, Err}
+use Rattle.std.specs.Prelude.{◌≡◌, ℕ, List, Option, Some, IsSome, Result, Ok, Err}
+use Rattle.std.specs.Option.{ForSome}
+use Rattle.base.specs.NumberMap.{get}
 use Rattle.kernel_model.specs.Application.{Booted}
 use Rattle.kernel_model.specs.Decision as model
 use Rattle.kernel_model.specs.Decision.{Decision, Taken, Tested, taken_by}
@@ -29,13 +31,13 @@ tests_of command.UnregisterMemory = unregister_memory
 
 -- the tests of every call come to this: those of the command follow, or the call is answered so. Want of memory says
 -- nothing of them
-abbrev pub ComesIn : List ℕ → ℕ → List ℕ → List Read → List Read → Result (Entered × Command) Refused → Type 0
-ComesIn regs slot lane before after (Ok came) = (boot : Booted) (tables : Tables) →
+abbrev pub ComesIn : Tables → List ℕ → ℕ → List ℕ → List Read → List Read → Result (Entered × Command) Refused → Type 0
+ComesIn tables regs slot lane before after (Ok came) = (boot : Booted) →
     over_lane (new_call_in boot tables regs slot) lane before
     ≡ over_lane (read (taken_by (tests_of came.1 (call_with boot tables came.0)))) lane after
-ComesIn regs slot lane before after (Err (refused.Answer answer)) = (boot : Booted) (tables : Tables) →
+ComesIn tables regs slot lane before after (Err (refused.Answer answer)) = (boot : Booted) →
     over_lane (new_call_in boot tables regs slot) lane before ≡ Some (Err answer, after)
-ComesIn regs slot lane before after (Err refused.Memory) = Unit {0}
+ComesIn tables regs slot lane before after (Err refused.Memory) = Unit {0}
 
 -- what is decided
 abbrev pub decision_of : Booted → Tables → Decided → Decision
@@ -48,7 +50,11 @@ abbrev pub IsInSlot : Option ℕ → Decided → Type 0
 IsInSlot free (decided.Answers answer) = Unit {0}
 IsInSlot free (decided.Takes entered plan) = free ≡ Some entered.slot
 
+-- the cookie that names its argument is kept
+abbrev pub CanPin : Tables → Entered → Type 0
+CanPin tables entered = ForSome entered.cookie (λ cookie. IsSome (get tables.registered.buffers cookie))
+
 -- the slot can be taken for it
 abbrev pub CanTake : Booted → Tables → Decided → Type 0
 CanTake boot tables (decided.Answers answer) = Unit {0}
-CanTake boot tables (decided.Takes entered plan) = CanApply (call_with boot tables entered) plan
+CanTake boot tables (decided.Takes entered plan) = CanPin tables entered × CanApply (call_with boot tables entered) plan

@@ -10,6 +10,7 @@ use Rattle.kernel_model.specs.Argument.{Opening}
 use Rattle.kernel_model.specs.Codes.{bad_parameters}
 use Rattle.kernel_model.specs.Decision.{Taken, Tested}
 use Rattle.kernel_model.specs.Kernel as kernel
+use Rattle.kernel_model.specs.Located.{with_argument_pinned}
 use Rattle.kernel_model.specs.NewCall as model
 use Rattle.kernel_model.specs.NewCall.{cancels, closes, drops_buffer, invokes, keeps_buffers, opens_or_waits, settles, settles_invoke, settles_open}
 use Rattle.kernel_state.specs.Setup.{application_of, booted_with}
@@ -31,16 +32,21 @@ use Rattle.new_calls.specs.declared.plan.Plan.TheVariants as plan
 
 -- ---- a call
 
--- one that came in with this, and found these tables
-abbrev pub call_with : Booted → kernel.Tables → Entered → model.NewCall
-call_with boot tables entered = record {
+-- one that came in with this, and goes by these tables
+abbrev pub call_found : Booted → kernel.Tables → Entered → model.NewCall
+call_found boot tables entered = record {
   boot = boot;
   tables = tables;
   slot = entered.slot;
   client = entered.client;
   arg = entered.arg;
+  area = entered.area;
   head = entered.head;
 }
+
+-- one that found these tables: in those that it goes by, its slot pins the cookie that names its argument
+abbrev pub call_with : Booted → kernel.Tables → Entered → model.NewCall
+call_with boot tables entered = call_found boot (with_argument_pinned entered.cookie tables entered.slot) entered
 
 abbrev pub call_of : NewCall → model.NewCall
 call_of call = call_with (booted_with call.setup.now) (tables_of call.tables.now) call.entered

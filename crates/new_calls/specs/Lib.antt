@@ -3,3 +3,4 @@ pub mod Argument
 pub mod Commands
 pub mod Deciding
 pub mod Faults
+pub mod Locating

@@ -1,8 +1,11 @@
 //! The tests of every call.
-ghost use Rattle.std.specs.Prelude.{◌≡◌, ◌<◌, IfOk, IfSome, Some, length};
+ghost use Rattle.std.specs.Prelude.{◌≡◌, ◌<◌, IfOk, IfSome, IsSome, Some, length};
+ghost use Rattle.std.specs.Option.{ForSome};
+ghost use Rattle.base.specs.NumberMap.{get};
 ghost use Rattle.kernel_model.specs.Argument.{argument_at, client_in};
 ghost use Rattle.kernel_model.specs.Decision.{decided_by, taken_by};
-ghost use Rattle.kernel_model.specs.NewCall.{has_argument, is_head_address, new_call_with};
+ghost use Rattle.kernel_model.specs.Kernel.{Tables};
+ghost use Rattle.kernel_model.specs.NewCall.{new_call_with};
 ghost use Rattle.kernel_state.specs.Setup.{booted_with};
 ghost use Rattle.kernel_state.specs.Tables.{HasFreePages, tables_of};
 ghost use Rattle.msg_args.specs.Reading.{head_at};
@@ -17,13 +20,15 @@ use crate::command::{Command, command_of};
 use crate::decided::{Decided, Found};
 use crate::entered::Entered;
 use crate::halt::Halt;
+use crate::located::Located;
 use crate::plan::Plan;
 use crate::refused::Refused;
 use base::NoMemory;
 use frame_pool::Pages;
-use msg_args::{HEAD_LEN, MsgHead, PARAM_LEN, read_head};
-use ns_ram::{Lane, Reads, in_ram};
+use msg_args::{HEAD_LEN, MsgHead, read_head};
+use ns_ram::{Lane, Reads};
 use rpc_cont::Cont;
+use shm_registry::Registry;
 use smc_abi::{Answer, EBADADDR, EBADCMD, ETHREAD_LIMIT, Regs};
 use std::alloc::Global;
 use thread_slots::{Slot, Slots};
@@ -67,7 +72,7 @@ pub fn new_call(
     let Some(slot) = found.free else {
         return Ok(Decided::Answers(code(ETHREAD_LIMIT)));
     };
-    let (entered, command) = match come_in(alloc, slot, regs, lane, reads) {
+    let (entered, command) = match come_in(alloc, slot, &found.tables.registry, regs, lane, reads) {
         Ok(came) => came,
         Err(Refused::Answer(answer)) => return Ok(Decided::Answers(answer)),
         Err(Refused::Memory) => return Err(NoMemory),
@@ -86,31 +91,37 @@ pub fn new_call(
 fn come_in(
     alloc: Global,
     slot: u8,
+    registry: &Registry,
     regs: &Regs,
     lane: &Lane,
     reads: &mut Reads,
 ) -> Result<(Entered, Command), Refused>
     requires { slot < 16 }
-    ensures comes { ComesIn regs.now.a slot lane.now reads.old reads.new result }
+    ensures comes { (tables : Tables) → tables.registered ≡ registry.now
+        → ComesIn tables regs.now.a slot lane.now reads.old reads.new result }
     ensures slot { IfOk result (λ came. came.0.slot ≡ slot) }
+    ensures kept { IfOk result (λ came. ForSome came.0.cookie (λ cookie. IsSome (get registry.now.buffers cookie))) }
 {
-    let arg = argument_at(regs);
-    if !is_head_address(arg) {
+    let Some(at) = Located::of(registry, regs) else {
+        return Err(Refused::Answer(code(EBADADDR)));
+    };
+    if !at.has_head() {
         return Err(Refused::Answer(code(EBADADDR)));
     }
-    let bytes = reads.take_bytes(alloc, lane, arg, HEAD_LEN)?;
+    let bytes = reads.take_bytes(alloc, lane, at.addr, HEAD_LEN)?;
     let head = head_in(bytes);
-    if !has_argument(arg, &head) {
+    if !at.has_argument(&head) {
         return Err(Refused::Answer(code(EBADADDR)));
     }
     let Some(command) = command_of(head.cmd) else {
         return Err(Refused::Answer(code(EBADCMD)));
     };
-    let client = client_in(regs);
     let entered = Entered {
         slot,
-        client,
-        arg,
+        client: client_in(regs),
+        arg: at.addr,
+        area: at.area(&head),
+        cookie: at.cookie(),
         head,
     };
     Ok((entered, command))
@@ -170,8 +181,8 @@ fn code(code: u32) -> Answer
     Answer::Words(code, 0, 0, 0)
 }
 
-/// The address of the argument, in a1 and a2.
-fn argument_at(regs: &Regs) -> u64
+/// The address of the argument, or the cookie that names it, in a1 and a2.
+pub(crate) fn argument_at(regs: &Regs) -> u64
     ensures { result ≡ argument_at regs.now.a }
 {
     u64::from(regs.a[1]) * (1 << 32) + u64::from(regs.a[2])
@@ -184,13 +195,6 @@ fn client_in(regs: &Regs) -> u32
     regs.a[7]
 }
 
-/// A head is at the address: a multiple of 8 at which 32 bytes lie in RAM.
-fn is_head_address(arg: u64) -> bool
-    ensures { result ≡ is_head_address arg }
-{
-    arg % 8 == 0 && in_ram(arg, HEAD_LEN)
-}
-
 /// The head in the 32 bytes.
 fn head_in(bytes: &[u8]) -> MsgHead
     requires { length bytes.now ≡ 32 }
@@ -199,11 +203,4 @@ fn head_in(bytes: &[u8]) -> MsgHead
     let mut head = [0; 32];
     head.copy_from_slice(bytes);
     read_head(&head)
-}
-
-/// The head counts at most six parameters, and they lie in RAM behind it.
-fn has_argument(arg: u64, head: &MsgHead) -> bool
-    ensures { result ≡ has_argument arg head.now }
-{
-    head.count <= 6 && in_ram(arg, HEAD_LEN + PARAM_LEN * u64::from(head.count))
 }

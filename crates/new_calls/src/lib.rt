@@ -1,4 +1,4 @@
-//! A new call, OPTEE_SMC_CALL_WITH_ARG: what is decided of it.
+//! A new call, OPTEE_SMC_CALL_WITH_ARG, _WITH_RPC_ARG or _WITH_REGD_ARG: what is decided of it.
 //!
 //! Deciding is lent the tables to read, and does the tests and the reads. A test of every call that fails answers it, one
 //! of its command settles it in its slot, and want of memory ends it with nothing decided. What it comes to is a `Plan`,
@@ -18,6 +18,7 @@ mod entered;
 mod entering;
 mod halt;
 mod invoke;
+mod located;
 mod open;
 mod parameters;
 mod plan;

@@ -1,5 +1,6 @@
-ghost use Rattle.std.specs.Prelude.{IfOk};
+ghost use Rattle.std.specs.Prelude.{◌≡◌, IfOk, is_none, not};
 ghost use Rattle.kernel_model.specs.NewCall.{unregister_memory};
+ghost use Rattle.shm_registry.specs.Registered.{lowest_slot};
 ghost use Rattle.new_calls.specs.Applying.{CanApply};
 ghost use Rattle.new_calls.specs.Deciding.{Decides, call_of};
 
@@ -29,9 +30,16 @@ impl NewCall<'_> {
         if !self.tables.registry.contains(param.s) {
             return Err(Halt::Settled(Settled::Call(TEE_ERROR_BAD_PARAMETERS)));
         }
-        if self.tables.registry.pinned_by(param.s).is_some() {
+        if self.is_pinned(param.s) {
             return Err(Halt::Settled(Settled::Call(TEE_ERROR_BUSY)));
         }
         Ok(Plan::DropsBuffer { cookie: param.s })
+    }
+
+    /// Whether a slot pins the cookie, the call's own among them, which pins the one that names its argument.
+    fn is_pinned(&self, cookie: u64) -> bool
+        ensures { result ≡ not (is_none (lowest_slot (call_of self.now).tables.registered.pins cookie)) }
+    {
+        self.entered.cookie == Some(cookie) || self.tables.registry.pinned_by(cookie).is_some()
     }
 }

@@ -1,3 +1,4 @@
+use Rattle.std.proofs.Common.{refl}
 use Rattle.kernel_state.specs.Setup.{booted_with}
 use Rattle.kernel_state.specs.Tables.{tables_of}
 use Rattle.new_calls.proofs.Coming.{is_answered, is_taken}
@@ -11,7 +12,7 @@ returns-in-Err-Answer-clause-decides c =
     let tables = tables_of c.args.found.now.tables.now in
     rw c.in-Err-Answer.field-0-is
     (is_answered boot tables c.args.regs.now.a c.args.found.now.free c.in-Some.slot c.args.lane.now c.args.reads.now c.come_in.new.reads c.in-Err-Answer.answer
-    c.in-Some.is (rw c.in-Err-Answer.field-0-is at c.in-Err-Answer.ensures.comes boot tables))
+    c.in-Some.is (rw c.in-Err-Answer.field-0-is at c.in-Err-Answer.ensures.comes tables refl boot))
 
 pub returns-clause-decides : goal.returns-clause-decides
 returns-clause-decides c =
@@ -20,4 +21,4 @@ returns-clause-decides c =
     let call = call_with boot tables c.in-Ok.came.0 in
     is_taken boot tables c.args.regs.now.a c.args.found.now.free c.in-Some.slot c.args.lane.now c.args.reads.now c.come_in.new.reads c.plan.new.reads
     (tests_of c.in-Ok.came.1 call) (taken_of call c.in_ok-plan.plan) c.in-Ok.came.0.slot
-    c.in-Some.is c.in-Ok.ensures.slot (c.in-Ok.ensures.comes boot tables) c.in_ok-plan.ensures.decides
+    c.in-Some.is c.in-Ok.ensures.slot (c.in-Ok.ensures.comes tables refl boot) c.in_ok-plan.ensures.decides
