@@ -200,6 +200,7 @@ begun_call left cont after r params uuid came begun unsettled has tables job ins
     app = subst (IsAppOf after.app) (sym its) has.app;
     login = λ login settled opens. absurd (unsettled (sym (ap (λ (one : Cont (List ℕ)). one.kind) has.stays) ∙ settled));
     arg = ap (λ (one : Cont (List ℕ)). one.arg) has.stays ∙ waits.is.arg;
+    area = ap (λ (one : Cont (List ℕ)). one.area) has.stays ∙ waits.is.area;
     places = ap (λ (one : Cont (List ℕ)). one.places.items) has.stays ∙ waits.is.places;
     session = ap (λ (one : Cont (List ℕ)). one.session) has.stays ∙ waits.is.session;
     instance = has.instance ∙ instance ∙ waits.is.instance;

@@ -46,7 +46,7 @@ IsFound slots regs cont = (beside : List Cancellation) (held : List ThreadSlot) 
 given_by : (slots : List (Slot (Box (Cont (List ℕ))))) (regs : List ℕ) (cont : Cont (List ℕ)) → IsFound slots regs (Some cont) → CanDecide slots regs → CanBeGiven cont
 given_by slots regs cont finds can =
     let call : (one : PendingCall) × (call_resumed_by can.held regs ≡ Some one) × IsCall cont one = of_some cont (call_resumed_by can.held regs) (finds can.beside can.held can.stand) in
-    record { call = call.0; is = call.2; placed = λ buffer is. can.placed call.0 buffer call.1 is }
+    record { call = call.0; is = call.2; area = λ area is. can.area call.0 area call.1 is; placed = λ buffer is. can.placed call.0 buffer call.1 is }
 
 pub can_be_given : (slots : List (Slot (Box (Cont (List ℕ))))) (regs : List ℕ) (cont : Cont (List ℕ)) →
     ∥ CanDecide slots regs ∥₁ → IsFound slots regs (Some cont) → ∥ CanBeGiven cont ∥₁

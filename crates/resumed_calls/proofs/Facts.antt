@@ -3,8 +3,8 @@ use Rattle.std.proofs.Common.{ℕ, List, Option}
 use Rattle.std.proofs.Props.{props}
 use Rattle.kernel_model.specs.Application.{Booted}
 use Rattle.kernel_model.specs.Kernel.{Instance, Tables}
-use Rattle.ns_ram.specs.Lane.{IsInRam}
 use Rattle.rpc_cont.specs.declared.cont.Cont.{Cont}
+use Rattle.rpc_msgs.specs.Place.{HasPlaces}
 use Rattle.rpc_msgs.specs.Request.{IsRequest}
 use Rattle.rpc_msgs.specs.declared.rpc.Rpc.{Rpc}
 use Rattle.rpc_msgs.specs.declared.rpc.Rpc.TheVariants as rpc
@@ -13,8 +13,8 @@ use Rattle.begin_call.proofs.Facts.{can_begin_prop}
 
 -- ---- messages
 
-pub in_ram_prop : (addr len : ℕ) → IsProp (IsInRam addr len)
-in_ram_prop addr len = Prim.hlevel props
+pub places_prop : (at : ℕ) (buffer : Option ℕ) (wanted : Rpc) → IsProp (HasPlaces at buffer wanted)
+places_prop at buffer wanted = Prim.hlevel props
 
 pub request_prop : (wanted : Rpc) → IsProp (IsRequest wanted)
 request_prop rpc.Time = Prim.hlevel props

@@ -14,6 +14,7 @@ pub record Keeps (old new : Cont (List ℕ)) : Type 0 where
   pub app : new.app ≡ old.app
   pub login : new.login ≡ old.login
   pub arg : new.arg ≡ old.arg
+  pub area : new.area ≡ old.area
   pub places : new.places ≡ old.places
   pub session : new.session ≡ old.session
   pub instance : new.instance ≡ old.instance
@@ -29,6 +30,7 @@ in_phase old new call at keeps is phase = record {
   app = subst (λ (app : Option (ContApp)). IsAppOf app call.uuid) (sym keeps.app) is.app;
   login = λ login settled opens. keeps.login ∙ is.login login (sym keeps.kind ∙ settled) opens;
   arg = keeps.arg ∙ is.arg;
+  area = keeps.area ∙ is.area;
   places = ap (λ (places : _). places.items) keeps.places ∙ is.places;
   session = keeps.session ∙ is.session;
   instance = keeps.instance ∙ is.instance;

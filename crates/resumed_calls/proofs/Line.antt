@@ -51,6 +51,7 @@ ended_call cont call code none is = record {
   app = is.app;
   login = is.login;
   arg = is.arg;
+  area = is.area;
   places = is.places;
   session = is.session;
   instance = is.instance;

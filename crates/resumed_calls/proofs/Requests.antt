@@ -7,7 +7,7 @@ use Rattle.base.specs.NumberMap.{NumberMap, get}
 use Rattle.job_model.specs.Asking.{PendingRequest, bytes_at}
 use Rattle.job_model.specs.Owner.{Owner}
 use Rattle.kernel_model.specs.Kernel.{CallPhase, Runs, Asks, Waits, Ends, PendingCall}
-use Rattle.kernel_model.specs.Leaving.{Leaving, Request, Requests, WantsBuffer, FreesBuffer, Finishes, leaving_in}
+use Rattle.kernel_model.specs.Leaving.{Leaving, Request, Requests, WantsBuffer, FreesBuffer, Finishes, asks_for, leaving_in, place_of, plain_request}
 use Rattle.kernel_state.specs.Calls.{IsInPhase, bytes_of}
 use Rattle.rpc_cont.specs.Conts.{call_owner}
 use Rattle.rpc_cont.specs.Running.{Awaits, HasCome}
@@ -16,6 +16,8 @@ use Rattle.rpc_cont.specs.declared.cont.Cont.{Cont}
 use Rattle.rpc_msgs.specs.Answer.{RpcAnswer, Replied, NoBuffer}
 use Rattle.rpc_msgs.specs.Request.{IsRequest}
 use Rattle.rpc_msgs.specs.declared.rpc.Rpc.{Rpc}
+use Rattle.rpc_msgs.specs.declared.request_place.RequestPlace.{RequestPlace}
+use Rattle.rpc_msgs.specs.declared.rpc.Rpc.TheVariants as rpc
 use Rattle.rpc_msgs.specs.declared.rpc.Rpc.TheVariants.{FsOpen, FsCreate, FsRead, FsWrite, FsRemove}
 use Rattle.rpc_msgs.specs.declared.rpc.RpcReply.{RpcReply}
 use Rattle.rpc_msgs.specs.declared.rpc_buffer.RpcBuffer.{RpcBuffer}
@@ -199,30 +201,34 @@ awaits_fits owner cont pending (Some asked) (Some m) is waits =
     (subst (λ (one : Option Asked). HasCome owner range asked cont asked.request one cont.object) is waits.come)
 
 -- where a call goes out with a request, that goes to its buffer, and a message has room for it
-pub record GoesThere (call : PendingCall) (place : RpcBuffer) (request : Request) : Type 0 where
-  pub place_is : call.buffer ≡ Some place
+pub record GoesThere (call : PendingCall) (place : RequestPlace) (request : Request) : Type 0 where
+  pub place_is : place_of call request ≡ Some place
   pub fits : IsRequest request.wanted
 
-goes_there : (call : PendingCall) (buffer : Option RpcBuffer) (place : RpcBuffer) (one request : Request) → call.buffer ≡ buffer → IsRequest one.wanted →
-    option_map_or (λ place. Requests place one) buffer WantsBuffer ≡ Requests place request → GoesThere call place request
+goes_there : (call : PendingCall) (at : Option RequestPlace) (place : RequestPlace) (one request : Request) → place_of call one ≡ at → IsRequest one.wanted →
+    option_map_or (λ place. Requests place one) at WantsBuffer ≡ Requests place request → GoesThere call place request
 goes_there call None place one request is fits goes = absurd cc
-goes_there call (Some buffer) place one request is fits goes =
-    let same : buffer ≡ place = cc in
+goes_there call (Some there) place one request is fits goes =
+    let same : there ≡ place = cc in
     let it : one ≡ request = cc in
-    record { place_is = is ∙ ap Some same; fits = subst (λ (r : Request). IsRequest r.wanted) it fits }
+    subst (GoesThere call place) it (record { place_is = is ∙ ap Some same; fits = fits })
 
-goes_nowhere : (buffer : Option RpcBuffer) (last : Leaving) (place : RpcBuffer) (request : Request) → (last ≡ Requests place request → ⊥) →
+asks_there : (call : PendingCall) (place : RequestPlace) (one request : Request) → IsRequest one.wanted → asks_for call one ≡ Requests place request →
+    GoesThere call place request
+asks_there call place one request fits goes = goes_there call (place_of call one) place one request refl fits goes
+
+goes_nowhere : (buffer : Option RpcBuffer) (last : Leaving) (place : RequestPlace) (request : Request) → (last ≡ Requests place request → ⊥) →
     option_map_or FreesBuffer buffer last ≡ Requests place request → ⊥
 goes_nowhere None last place request other goes = other goes
 goes_nowhere (Some buffer) last place request other goes = absurd cc
 
-pub goes_in : (slot : ℕ) (cont : Cont (List ℕ)) (call : PendingCall) (at : CallPhase) (place : RpcBuffer) (request : Request) →
+pub goes_in : (slot : ℕ) (cont : Cont (List ℕ)) (call : PendingCall) (at : CallPhase) (place : RequestPlace) (request : Request) →
     IsInPhase cont at → leaving_in slot call at ≡ Requests place request → GoesThere call place request
 goes_in slot cont call (Runs job) place request is goes = absurd cc
 goes_in slot cont call (Asks job wanted payload) place request is goes =
-    goes_there call call.buffer place (record { wanted = wanted; payload = payload }) request refl
+    asks_there call place (record { wanted = wanted; payload = payload }) request
     (awaits_fits (call_owner cont) cont (record { rpc = wanted; payload = payload }) job.asked cont.machine is.1.1 is.1.0.asked) goes
-goes_in slot cont call (Waits params) place request is goes = goes_there call call.buffer place _ request refl tt goes
-goes_in slot cont call (Ends result params told (Some woken)) place request is goes = goes_there call call.buffer place _ request refl tt goes
+goes_in slot cont call (Waits params) place request is goes = asks_there call place (plain_request (rpc.Sleep slot)) request tt goes
+goes_in slot cont call (Ends result params told (Some woken)) place request is goes = asks_there call place (plain_request (rpc.Wake woken)) request tt goes
 goes_in slot cont call (Ends result params told None) place request is goes =
     absurd (goes_nowhere call.buffer (Finishes result params) place request (λ same. absurd cc) goes)

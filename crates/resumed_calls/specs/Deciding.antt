@@ -19,11 +19,13 @@ use Rattle.resumed_calls.specs.Giving.{given_as}
 use Rattle.resumed_calls.specs.Waiting.{IsAppFor}
 use Rattle.resumed_calls.specs.declared.deciding.Decided.{Decided}
 
--- the slots stand for a kernel's, and the buffer of the call that a resume with these registers is for lies in RAM
+-- the slots stand for a kernel's, and the area and the buffer of the call that a resume with these registers is for lie in
+-- RAM
 pub record CanDecide (slots : List (Slot (Box (Cont (List ℕ))))) (regs : List ℕ) : Type 0 where
   pub beside : List Cancellation
   pub held : List ThreadSlot
   pub stand : AreSlots slots beside held
+  pub area : (call : PendingCall) (area : ℕ) → call_resumed_by held regs ≡ Some call → call.area ≡ Some area → IsInRam area 160
   pub placed : (call : PendingCall) (buffer : RpcBuffer) → call_resumed_by held regs ≡ Some call →
       call.buffer ≡ Some buffer → IsInRam buffer.addr 4096
 

@@ -21,8 +21,9 @@ abbrev pub buffer_as : Option RpcBuffer → Given
 buffer_as (Some buffer) = Buffer buffer
 buffer_as None = NoBuffer
 
--- it is the call that a slot was left with, and its buffer, if it has one, lies in RAM
+-- it is the call that a slot was left with, and its area and its buffer, if it has them, lie in RAM
 pub record CanBeGiven (cont : Cont (List ℕ)) : Type 0 where
   pub call : PendingCall
   pub is : IsCall cont call
+  pub area : (area : ℕ) → call.area ≡ Some area → IsInRam area 160
   pub placed : (buffer : RpcBuffer) → call.buffer ≡ Some buffer → IsInRam buffer.addr 4096

@@ -5,9 +5,8 @@ ghost use Rattle.kernel_model.specs.Argument.{pair_at};
 ghost use Rattle.kernel_model.specs.Given.{given_to, offered_buffer};
 ghost use Rattle.kernel_model.specs.Kernel.{PendingCall};
 ghost use Rattle.kernel_state.specs.Calls.{IsCall};
-ghost use Rattle.ns_ram.specs.Lane.{IsInRam};
 ghost use Rattle.ns_ram.specs.Reader.{over_lane};
-ghost use Rattle.rpc_msgs.specs.Reply.{reply_reader};
+ghost use Rattle.rpc_msgs.specs.Place.{HasPlaces, arg_at, buffer_at, reader_at};
 ghost use Rattle.rpc_msgs.specs.Request.{IsRequest};
 ghost use Rattle.resumed_calls.specs.Giving.{CanBeGiven, buffer_as, given_as};
 
@@ -16,7 +15,7 @@ use call_leaving::{Leaving, Wanted};
 use frame_pool::Pages;
 use ns_ram::{Lane, Reads, in_ram};
 use rpc_cont::{Cont, ResumeInput};
-use rpc_msgs::{MESSAGE_BYTES, RpcBuffer, RpcReply, take_reply};
+use rpc_msgs::{MESSAGE_BYTES, RequestPlace, RpcBuffer, RpcReply, take_reply};
 use smc_abi::Regs;
 use std::alloc::Global;
 
@@ -42,7 +41,7 @@ pub(crate) fn given_to(
     match Leaving::of(slot, cont) {
         Leaving::WantsBuffer => Ok(buffer_or_none(offered_buffer(regs))),
         Leaving::Requests { place, wanted } => {
-            let reply = reply_at(alloc, cont, place, wanted, lane, reads)?;
+            let reply = reply_at(alloc, cont, &place, wanted, lane, reads)?;
             Ok(ResumeInput::Reply(reply))
         }
         Leaving::Interrupted | Leaving::FreesBuffer(_) | Leaving::Finishes => {
@@ -55,15 +54,15 @@ pub(crate) fn given_to(
 fn reply_at(
     alloc: Global,
     cont: &Cont<Pages>,
-    place: RpcBuffer,
+    place: &RequestPlace,
     wanted: Wanted,
     lane: &Lane,
     reads: &mut Reads,
 ) -> Result<Box<RpcReply>, NoMemory>
-    requires in_ram { IsInRam place.addr 4096 }
+    requires places { HasPlaces (arg_at place.now) (buffer_at place.now) (request_of cont.now.request wanted).wanted }
     requires request { IsRequest (request_of cont.now.request wanted).wanted }
     requires asked { wanted ≡ Wanted.Asked → IsSome cont.now.request }
-    ensures ok { IfOk result (λ reply. over_lane (reply_reader place.addr (request_of cont.now.request wanted).wanted) lane.now reads.old
+    ensures ok { IfOk result (λ reply. over_lane (reader_at place.now (request_of cont.now.request wanted).wanted) lane.now reads.old
         ≡ Some (reply.value, reads.new)) }
     ensures err { OnErr result (reads.new ≡ reads.old) }
 {
@@ -72,7 +71,7 @@ fn reply_at(
     };
     match wanted {
         Wanted::Asked => match &cont.request {
-            Some(asked) => take_reply(alloc, lane, place.addr, &asked.rpc, &mut reply, reads)?,
+            Some(asked) => take_reply(alloc, lane, place, &asked.rpc, &mut reply, reads)?,
             None => unreachable!(),
         },
         Wanted::Sleep(_) | Wanted::Wake(_) => {}
