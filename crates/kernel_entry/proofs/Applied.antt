@@ -8,7 +8,7 @@ use Rattle.kernel_model.specs.Decision.{Taken}
 use Rattle.kernel_model.specs.Kernel.{Instance}
 use Rattle.kernel_model.specs.NewCall as model
 use Rattle.new_calls.specs.Applying.{IsInSession}
-use Rattle.new_calls.specs.Deciding.{call_with, settled_of, taken_in_session}
+use Rattle.new_calls.specs.Deciding.{call_found, settled_of, taken_in_session}
 use Rattle.new_calls.specs.declared.entered.Entered.{Entered}
 use Rattle.new_calls.specs.declared.halt.Settled.{Settled}
 use Rattle.new_calls.specs.declared.halt.Settled.TheVariants as settled
@@ -22,8 +22,8 @@ use Rattle.kernel_entry.specs.Applying.{IsTaken}
 
 -- a test that failed leaves the tables as they were
 pub settled_taken : (boot : Booted) (tables : Tables) (entered : Entered) (how : Settled) (cont : Cont (List ℕ)) →
-    IsCall cont (settled_of (call_with boot (tables_of tables) entered) how).call →
-    IsTaken None entered tables cont (settled_of (call_with boot (tables_of tables) entered) how)
+    IsCall cont (settled_of (call_found boot (tables_of tables) entered) how).call →
+    IsTaken None entered tables cont (settled_of (call_found boot (tables_of tables) entered) how)
 settled_taken boot tables entered (settled.Call code) cont is = record { tables = refl; call = is; cancel_id = refl; marked = refl; cancels = refl }
 settled_taken boot tables entered (settled.Open app login code) cont is = record { tables = refl; call = is; cancel_id = refl; marked = refl; cancels = refl }
 settled_taken boot tables entered (settled.Invoke code) cont is = record { tables = refl; call = is; cancel_id = refl; marked = refl; cancels = refl }

@@ -38,6 +38,7 @@ pub record IsEntryAbout (c : NewCall) (about : About) (entry : CallEntry) : Type
   pub client : entry.client ≡ c.client
   pub kind : entry.kind ≡ about.kind
   pub arg : entry.arg ≡ c.arg
+  pub area : entry.area ≡ c.area
   pub places : entry.places.items ≡ about.places
   pub session : entry.session ≡ about.session
 
@@ -50,6 +51,7 @@ call_come c about entry after old new came is entered has same = record {
   app = has.app;
   login = λ login settled opens. absurd cc;
   arg = ap (λ cont. cont.arg) has.stays ∙ entered.arg ∙ is.arg;
+  area = ap (λ cont. cont.area) has.stays ∙ entered.area ∙ is.area;
   places = ap (λ cont. cont.places.items) has.stays ∙ ap (λ places. places.items) entered.places ∙ is.places;
   session = ap (λ cont. cont.session) has.stays ∙ entered.session ∙ is.session;
   instance = has.instance ∙ sym same;
@@ -117,6 +119,7 @@ call_numbered c about cont number phase start is = record {
   app = is.app;
   login = is.login;
   arg = is.arg;
+  area = is.area;
   places = is.places;
   session = refl;
   instance = is.instance;

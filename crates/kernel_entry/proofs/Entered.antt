@@ -70,6 +70,9 @@ can_decide parts regs fact = ∥∥₁_map fact (λ (so : Replays parts). record
   beside = parts.cancellations.items;
   held = so.kernel.slots;
   stand = so.stands.slots;
+  area = λ call area found has.
+      (calls_placed (booted_with parts.setup) parts.journal.events so.kernel (booted_so parts so) so.comes_to (thread_in regs) (unmarked call)
+      (ap (option_and_then call_in) (suspended_there so.kernel regs call found))).area area has;
   placed = λ call buffer found has.
       (calls_placed (booted_with parts.setup) parts.journal.events so.kernel (booted_so parts so) so.comes_to (thread_in regs) (unmarked call)
       (ap (option_and_then call_in) (suspended_there so.kernel regs call found))).buffer buffer has;

@@ -130,6 +130,7 @@ can_take_slot parts entered of fact blank begins = record {
   begins = begins;
   beside = beside_there parts entered.slot Free fact (free_at_lowest parts.slots entered.slot begins.lowest);
   takes = record {
+    pins = begins.pins;
     boot = booted_with parts.setup;
     applies = begins.applies;
     fits = fits_so parts entered of fact begins;

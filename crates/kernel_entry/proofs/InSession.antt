@@ -15,7 +15,7 @@ use Rattle.kernel_model.specs.Kernel as model
 use Rattle.kernel_model.specs.Kernel.{Instance}
 use Rattle.kernel_model.specs.NewCall.{About, NewCall, about_session, beginner, call_about, runs_in, takes, waits_in, with_pins, works_or_waits}
 use Rattle.new_calls.specs.Applying.{AreRegistered}
-use Rattle.new_calls.specs.Deciding.{call_with}
+use Rattle.new_calls.specs.Deciding.{call_found}
 use Rattle.new_calls.specs.declared.entered.Entered.{Entered}
 use Rattle.param_copy.specs.Copying.{Copies}
 use Rattle.rpc_cont.specs.Beginning.{IsEntered}
@@ -58,13 +58,13 @@ came_on false who session kept params points = refl
 pub session_taken : (boot : Booted) (before after : Tables) (entered : Entered) (entry : CallEntry) (old new : Cont (List ℕ)) (kind : CallKind)
     (session : Session) (instance : Instance) (copies : Copies) (points : List EntryPoint) (registry : Registered) →
     IsEntered entry old → kept_params old.params ≡ copies.params →
-    entry.client ≡ entered.client → entry.kind ≡ kind → entry.arg ≡ entered.arg → entry.places.items ≡ copies.places → entry.session ≡ entered.head.session →
+    entry.client ≡ entered.client → entry.kind ≡ kind → entry.arg ≡ entered.arg → entry.area ≡ entered.area → entry.places.items ≡ copies.places → entry.session ≡ entered.head.session →
     HasCome after old new instance.uuid (session_comes (who_begins boot before entered.slot old) session instance (kept_params old.params) points) →
     registry ≡ record after.registry { pins = fold (λ pins cookie. with_pin pins cookie entered.slot) after.registry.pins copies.cookies } →
     IsTaken None entered (record after { registry = registry }) new
-    (works_or_waits (call_with boot (tables_of before) entered) kind session instance copies points)
-session_taken boot before after entered entry old new kind session instance copies points registry is_entered params client kind_is arg places named come pinned =
-    let c = call_with boot (tables_of before) entered in
+    (works_or_waits (call_found boot (tables_of before) entered) kind session instance copies points)
+session_taken boot before after entered entry old new kind session instance copies points registry is_entered params client kind_is arg area places named come pinned =
+    let c = call_found boot (tables_of before) entered in
     let came = session_comes (beginner c) session instance copies.params points in
     let who : who_begins boot before entered.slot old ≡ beginner c =
     ap (λ (seen : Bool). record { boot = boot; tables = tables_of before; slot = entered.slot; seen = seen }) is_entered.cancelled in
@@ -78,7 +78,7 @@ session_taken boot before after entered entry old new kind session instance copi
     (record {
       tables = pins ∙ ap (λ (tables : model.Tables). with_pins c tables copies.cookies) has.tables;
       call = call_come c about entry after old new came
-          (record { client = client; kind = kind_is; arg = arg; places = places; session = named }) is_entered has
+          (record { client = client; kind = kind_is; arg = arg; area = area; places = places; session = named }) is_entered has
           (came_on (is_held instance) (beginner c) session instance copies.params points);
       cancel_id = refl;
       marked = refl;

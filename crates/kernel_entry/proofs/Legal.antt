@@ -3,7 +3,7 @@ use Rattle.std.proofs.Common.{◌≡◌, ℕ, ◌+◌, ◌*◌, ◌<◌, ◌≤�
 use Rattle.std.proofs.lemmas.Bool.Decides.{Decides-eqb, nat_tests}
 use Rattle.std.proofs.lemmas.List.Elements.{All-head, All-tail, All-weaker}
 use Rattle.std.proofs.lemmas.Slice.Eq.{bytes_eq-Decides}
-use Rattle.std.specs.Prelude.{All, nat_le, nat_lt, ◌==◌, ◌||◌, ◌&&◌, bytes_eq, find, if◌then◌else◌, is_some}
+use Rattle.std.specs.Prelude.{All, nat_le, nat_lt, ◌==◌, ◌||◌, bytes_eq, find, if◌then◌else◌, is_some}
 use Rattle.std.specs.Option.{IsSomeAnd, option_map_or}
 use Rattle.std.proofs.lemmas.Bool.{and_parts}
 use Rattle.base.proofs.MapLemmas.{All-get}
@@ -36,7 +36,7 @@ use Rattle.kernel_state.specs.Tables.{HasFreePages, tables_of}
 use Rattle.kernel_state.specs.declared.setup.Setup.{Setup}
 use Rattle.kernel_state.specs.declared.tables.Tables.{Tables}
 use Rattle.new_calls.specs.Applying.{CanApply, CanOpen, IsInSession}
-use Rattle.new_calls.specs.Deciding.{call_with}
+use Rattle.new_calls.specs.Deciding.{call_found, call_with}
 use Rattle.new_calls.specs.declared.entered.Entered.{Entered}
 use Rattle.new_calls.specs.declared.plan.Plan.{Plan}
 use Rattle.new_calls.specs.declared.plan.Plan.TheVariants as plan
@@ -184,7 +184,7 @@ can_make : (setup : Setup) (calls : Calls) (tables : Tables) (entered : Entered)
     calls entered.slot ≡ None → HasFreePages setup tables → has_pages (call_with (booted_with setup) (tables_of tables) entered) app ≡ true →
     has_room tables.sessions ≡ true → shared_instance (tables_of tables).instances app ≡ None → CanMake tables app
 can_make setup calls tables entered app sound free pages has room none =
-    let c = call_with (booted_with setup) (tables_of tables) entered in
+    let c = call_found (booted_with setup) (tables_of tables) entered in
     let rooms = and_parts (nat_lt (length tables.sessions.kept) 64) (nat_lt tables.sessions.next (2 ^ 32)) room in
     record {
       pages = pages_left setup tables entered app pages has none;

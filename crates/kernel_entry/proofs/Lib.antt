@@ -9,6 +9,7 @@ pub mod Following
 pub mod InSession
 pub mod Legal
 pub mod Opens
+pub mod Pinned
 pub mod Readying
 pub mod Replaying
 pub mod SettledCalls

@@ -16,7 +16,7 @@ use Rattle.kernel_model.specs.Kernel as model
 use Rattle.kernel_model.specs.Kernel.{Instance}
 use Rattle.kernel_model.specs.NewCall.{About, NewCall, about_open, beginner, call_about, open_waits, opener, opens_or_waits, runs_in, shared_by, takes, with_pins, with_session}
 use Rattle.new_calls.specs.Applying.{AreRegistered}
-use Rattle.new_calls.specs.Deciding.{asked_by, call_with}
+use Rattle.new_calls.specs.Deciding.{asked_by, call_found}
 use Rattle.new_calls.specs.declared.entered.Entered.{Entered}
 use Rattle.param_copy.specs.Copying.{Copies}
 use Rattle.param_copy.specs.Outcome.{copies_in}
@@ -100,16 +100,16 @@ tables_entered client login slot cookies after came next instance sessions regis
 pub open_taken : (boot : Booted) (before after : Tables) (entered : Entered) (entry : CallEntry) (old new : Cont (List ℕ)) (app : CodeApp) (login : Login)
     (copies : TakenParams) (number : ℕ) (sessions : SessionTable) (registry : Registered) →
     IsEntered entry old → old.params ≡ Some copies.params →
-    entry.client ≡ entered.client → entry.kind ≡ kind.Open → entry.arg ≡ entered.arg → entry.places ≡ copies.places → entry.session ≡ 0 →
+    entry.client ≡ entered.client → entry.kind ≡ kind.Open → entry.arg ≡ entered.arg → entry.area ≡ entered.area → entry.places ≡ copies.places → entry.session ≡ 0 →
     HasCome after old new (uuid_of (application_of app)) (open_comes (who_begins boot before entered.slot old)
     (brought (record { slot = entered.slot; app = app; login = login }) old) (shared_instance (tables_of before).instances (application_of app))) →
     number ≡ after.sessions.next →
     sessions ≡ record { kept = insert after.sessions.kept after.sessions.next (reserved_for entered.client login new.instance); next = after.sessions.next + 1 } →
     registry ≡ record after.registry { pins = fold (λ pins cookie. with_pin pins cookie entered.slot) after.registry.pins copies.cookies.items } →
     IsTaken None entered (record after { sessions = sessions; registry = registry }) (with_number new number)
-    (opens_or_waits (call_with boot (tables_of before) entered) (asked_by (application_of app) login) (application_of app) (copies_in copies))
-open_taken boot before after entered entry old new app login copies number sessions registry is_entered params client kind_is arg places none come number_is kept pinned =
-    let c = call_with boot (tables_of before) entered in
+    (opens_or_waits (call_found boot (tables_of before) entered) (asked_by (application_of app) login) (application_of app) (copies_in copies))
+open_taken boot before after entered entry old new app login copies number sessions registry is_entered params client kind_is arg area places none come number_is kept pinned =
+    let c = call_found boot (tables_of before) entered in
     let wanted = asked_by (application_of app) login in
     let shared = shared_by c (application_of app) in
     let came = open_comes (beginner c) (opener wanted (application_of app) (copies_in copies)) shared in
@@ -126,7 +126,7 @@ open_taken boot before after entered entry old new app login copies number sessi
     let about : About = record { kind = kind.Open; session = 0; instance = came.instance; uuid = uuid_of (application_of app); places = copies.places.items } in
     let at_first : IsCall new (call_about c about came.phase) =
     call_come c about entry after old new came
-    (record { client = client; kind = kind_is; arg = arg; places = ap (λ places. places.items) places; session = none }) is_entered has refl in
+    (record { client = client; kind = kind_is; arg = arg; area = area; places = ap (λ places. places.items) places; session = none }) is_entered has refl in
     let numbered : IsCall (with_number new number) (call_about c (record about { session = number }) came.phase) =
     call_numbered c about new number came.phase leaves.start at_first in
     subst (IsTaken None entered (record after { sessions = sessions; registry = registry }) (with_number new number))

@@ -21,7 +21,8 @@ decided_boxed parts boxes regs lane reads decided decides kernel stands =
 pub found_boxed : (parts : Parts) (boxes : Boxes) (regs : List ℕ) (decided : EntryDecision) →
     HasFound parts regs decided → HasFound (record parts { blanks = boxes }) regs decided
 found_boxed parts boxes regs (decision.Answers answer) found = tt
-found_boxed parts boxes regs (decision.Begins entered plan) found = record { lowest = found.lowest; applies = found.applies }
+found_boxed parts boxes regs (decision.Begins entered plan) found =
+    record { lowest = found.lowest; pins = found.pins; applies = found.applies }
 found_boxed parts boxes regs (decision.GoesOn decided) found = record { suspended = found.suspended; app = found.app }
 
 pub too_much : (parts : Parts) (regs lane : List ℕ) (reads : List Read) (decided : EntryDecision) (refusal : EnterRefusal) →

@@ -23,7 +23,8 @@ use Rattle.kernel_state.specs.Setup.{application_of}
 use Rattle.kernel_state.specs.Tables.{tables_of}
 use Rattle.kernel_state.specs.declared.tables.Tables.{Tables}
 use Rattle.new_calls.specs.Applying.{CanApply}
-use Rattle.new_calls.specs.Deciding.{call_with}
+use Rattle.new_calls.specs.Commands.{CanPin}
+use Rattle.new_calls.specs.Deciding.{call_found, call_with}
 use Rattle.new_calls.specs.declared.entered.Entered.{Entered}
 use Rattle.new_calls.specs.declared.plan.Plan.{Plan}
 use Rattle.new_calls.specs.declared.plan.Plan.TheVariants as plan
@@ -153,8 +154,15 @@ FitsPlan tables slot plan.Cancels = Unit {0}
 FitsPlan tables slot (plan.KeepsBuffer cookie buffer) = Unit {0}
 FitsPlan tables slot (plan.DropsBuffer cookie) = Unit {0}
 
--- the tests have come to the plan, for some boot, and the tables are such
+-- the tests have come to the plan, for some boot, and the tables are such, in which the cookie is pinned
+pub record CanTakeFor (tables : Tables) (entered : Entered) (plan : Plan) : Type 0 where
+  pub boot : Booted
+  pub applies : CanApply (call_found boot (tables_of tables) entered) plan
+  pub fits : FitsPlan tables entered.slot plan
+
+-- the same of tables in which it is to be pinned, and can be
 pub record CanTake (tables : Tables) (entered : Entered) (plan : Plan) : Type 0 where
+  pub pins : CanPin (tables_of tables) entered
   pub boot : Booted
   pub applies : CanApply (call_with boot (tables_of tables) entered) plan
   pub fits : FitsPlan tables entered.slot plan

@@ -12,6 +12,7 @@ use Rattle.kernel_state.specs.Setup.{booted_with}
 use Rattle.kernel_state.specs.Tables.{tables_of}
 use Rattle.kernel_state.specs.declared.parts.Parts.{Parts}
 use Rattle.new_calls.specs.Applying.{CanApply}
+use Rattle.new_calls.specs.Commands.{CanPin}
 use Rattle.new_calls.specs.Deciding.{call_with, taken_of}
 use Rattle.new_calls.specs.declared.entered.Entered.{Entered}
 use Rattle.new_calls.specs.declared.plan.Plan.{Plan}
@@ -56,6 +57,7 @@ IsDecided parts kernel regs lane before after decided =
 -- a new call can take the slot for this plan: it is the lowest free one
 pub record CanBegin (parts : Parts) (entered : Entered) (plan : Plan) : Type 0 where
   pub lowest : lowest_free parts.slots ≡ Some entered.slot
+  pub pins : CanPin (tables_of parts.tables) entered
   pub applies : CanApply (call_with (booted_with parts.setup) (tables_of parts.tables) entered) plan
 
 -- a call is suspended that can be resumed with this, and its application is the one that was found

@@ -48,7 +48,9 @@ pub(crate) fn decide(
             let answer = fast_answer(call, regs, parts.setup.threads);
             Ok(EntryDecision::Answers(answer))
         }
-        Call::WithArg => decide_new(alloc, parts, regs, lane, reads),
+        Call::WithArg | Call::WithRpcArg | Call::WithRegdArg => decide_new(
+            alloc, parts, regs, lane, reads,
+        ),
         Call::Resume => decide_resume(alloc, parts, regs, lane, reads),
         Call::Unknown => Ok(EntryDecision::Answers(code(UNKNOWN_FUNCTION))),
     }

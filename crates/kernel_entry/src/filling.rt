@@ -25,6 +25,7 @@ fn fills(cont: &mut Cont<Pages>, entered: CallEntry, outcome: CallResult, phase:
         context,
         params,
         arg,
+        area,
         places,
         session,
         instance,
@@ -35,6 +36,7 @@ fn fills(cont: &mut Cont<Pages>, entered: CallEntry, outcome: CallResult, phase:
     cont.context = context;
     cont.params = params;
     cont.arg = arg;
+    cont.area = area;
     cont.places = places;
     cont.session = session;
     cont.instance = instance;

@@ -11,7 +11,7 @@ ghost use Rattle.kernel_state.specs.Setup.{application_of};
 ghost use Rattle.kernel_state.specs.Tables.{HasFreePages, tables_of};
 ghost use Rattle.kernel_state.specs.declared.setup.Setup.{Setup as AnySetup};
 ghost use Rattle.new_calls.specs.Applying.{AreRegistered};
-ghost use Rattle.new_calls.specs.Deciding.{call_with};
+ghost use Rattle.new_calls.specs.Deciding.{call_found};
 ghost use Rattle.param_copy.specs.Outcome.{copies_in};
 ghost use Rattle.rpc_cont.specs.Conts.{kept_params};
 ghost use Rattle.kernel_state.specs.Blanks.{IsBlank};
@@ -69,7 +69,7 @@ pub(crate) fn invokes(
         → get (tables_of tables.old).instances session.instance ≡ Some instance
         → app_of boot instance.uuid ≡ Some (application_of app)
         → IsTaken None entered.now tables.new cont.new
-        (invokes (call_with boot (tables_of tables.old) entered.now) (session, instance) (copies_in copies)) }
+        (invokes (call_found boot (tables_of tables.old) entered.now) (session, instance) (copies_in copies)) }
     ensures pages { (setup : AnySetup) → HasFreePages setup tables.old → HasFreePages setup tables.new }
 {
     let TakenParams {
@@ -85,6 +85,7 @@ pub(crate) fn invokes(
         context: session.context,
         params: Some(params),
         arg: entered.arg,
+        area: entered.area,
         places,
         session: entered.head.session,
         instance: session.instance,
@@ -117,7 +118,7 @@ pub(crate) fn closes(
         → get (tables_of tables.old).instances session.instance ≡ Some instance
         → app_of boot instance.uuid ≡ Some (application_of app)
         → IsTaken None entered.now tables.new cont.new
-        (closes (call_with boot (tables_of tables.old) entered.now) (session, instance)) }
+        (closes (call_found boot (tables_of tables.old) entered.now) (session, instance)) }
     ensures pages { (setup : AnySetup) → HasFreePages setup tables.old → HasFreePages setup tables.new }
 {
     let number = entered.head.session;
@@ -128,6 +129,7 @@ pub(crate) fn closes(
         context: session.context,
         params: None,
         arg: entered.arg,
+        area: entered.area,
         places: ArrayVec::new_in(alloc),
         session: number,
         instance: session.instance,

@@ -9,7 +9,7 @@ ghost use Rattle.kernel_state.specs.Setup.{application_of, booted_with};
 ghost use Rattle.kernel_state.specs.Tables.{HasFreePages, tables_of};
 ghost use Rattle.kernel_state.specs.declared.setup.Setup.{Setup as AnySetup};
 ghost use Rattle.new_calls.specs.Applying.{AreRegistered};
-ghost use Rattle.new_calls.specs.Deciding.{asked_by, call_with};
+ghost use Rattle.new_calls.specs.Deciding.{asked_by, call_found};
 ghost use Rattle.param_copy.specs.Outcome.{copies_in};
 ghost use Rattle.session_table.specs.Session.{reserved_for};
 ghost use Rattle.session_table.specs.Sessions.{has_room};
@@ -79,7 +79,7 @@ pub(crate) fn opens(
     requires opens { MayOpen tables.old (application_of app) }
     requires buffers { AreRegistered (tables_of tables.old) copies.cookies.items }
     ensures taken { (boot : Booted) → IsTaken None entered.now tables.new cont.new
-        (opens_or_waits (call_with boot (tables_of tables.old) entered.now) (asked_by (application_of app) login)
+        (opens_or_waits (call_found boot (tables_of tables.old) entered.now) (asked_by (application_of app) login)
         (application_of app) (copies_in copies)) }
     ensures pages { (setup : AnySetup)
         → app_of (booted_with setup) (uuid_of (application_of app)) ≡ Some (application_of app)
@@ -97,6 +97,7 @@ pub(crate) fn opens(
         context: 0,
         params: Some(params),
         arg: entered.arg,
+        area: entered.area,
         places,
         session: 0,
         instance: 0,

@@ -4,7 +4,7 @@ ghost use Rattle.kernel_model.specs.Application.{Booted};
 ghost use Rattle.kernel_model.specs.Kernel.{SettledCall, Tables as AnyTables};
 ghost use Rattle.kernel_model.specs.NewCall.{settled_call};
 ghost use Rattle.kernel_state.specs.Calls.{IsCall};
-ghost use Rattle.new_calls.specs.Deciding.{call_with, settled_of};
+ghost use Rattle.new_calls.specs.Deciding.{call_found, settled_of};
 ghost use Rattle.kernel_state.specs.Blanks.{IsBlank};
 ghost use Rattle.kernel_entry.specs.Applying.{HasItsLogin, IsNoOpen};
 
@@ -33,7 +33,7 @@ fn settled_with(alloc: Global, cont: &mut Cont<Pages>, entered: &Entered, settli
     requires { IsBlank cont.old }
     ensures { (boot : Booted) (tables : AnyTables) (settled : SettledCall) (uuid : Option (List ℕ))
         → HasItsLogin settling.login settled → IsCall cont.new
-        (record (settled_call (call_with boot tables entered.now) settling.code)
+        (record (settled_call (call_found boot tables entered.now) settling.code)
         { settled = settled; uuid = uuid; session = settling.session }) }
 {
     let Settling {
@@ -50,6 +50,7 @@ fn settled_with(alloc: Global, cont: &mut Cont<Pages>, entered: &Entered, settli
             context: 0,
             params: None,
             arg: entered.arg,
+            area: entered.area,
             places: ArrayVec::new_in(alloc),
             session,
             instance: 0,
@@ -69,7 +70,7 @@ pub(crate) fn settled_call(
     requires { IsBlank cont.old }
     ensures { (boot : Booted) (tables : AnyTables) (settled : SettledCall) (uuid : Option (List ℕ))
         → IsNoOpen settled → IsCall cont.new
-        (record (settled_call (call_with boot tables entered.now) code)
+        (record (settled_call (call_found boot tables entered.now) code)
         { settled = settled; uuid = uuid; session = session }) }
 {
     let login = Login::public();
@@ -89,7 +90,7 @@ pub(crate) fn settled_call(
 pub(crate) fn settles(alloc: Global, cont: &mut Cont<Pages>, entered: &Entered, settled: &Settled)
     requires { IsBlank cont.old }
     ensures { (boot : Booted) (tables : AnyTables)
-        → IsCall cont.new (settled_of (call_with boot tables entered.now) settled.now).call }
+        → IsCall cont.new (settled_of (call_found boot tables entered.now) settled.now).call }
 {
     match settled {
         Settled::Call(code) => settled_call(alloc, cont, entered, 0, *code),

@@ -21,5 +21,6 @@ returns-in-Takes-clause-decides c kernel stands =
 pub returns-in-Takes-clause-found : goal.returns-in-Takes-clause-found
 returns-in-Takes-clause-found c = record {
   lowest = sym c.lowest_free-free.ensures.slot ∙ (rw c.in-Takes.is at c.in_ok-decided.ensures.slot);
-  applies = rw c.in-Takes.is at c.in_ok-decided.ensures.can_apply;
+  pins = (rw c.in-Takes.is at c.in_ok-decided.ensures.can_apply).0;
+  applies = (rw c.in-Takes.is at c.in_ok-decided.ensures.can_apply).1;
 }

@@ -1,68 +1,32 @@
-use Rattle.std.proofs.Common.{None, refl, ap}
-use Rattle.kernel_model.specs.Kernel.{ACancel, Untold}
-use Rattle.kernel_model.specs.NewCall.{closes, invokes}
-use Rattle.kernel_state.specs.Setup.{application_of}
-use Rattle.kernel_state.specs.Tables.{tables_of}
-use Rattle.new_calls.specs.Applying.{CanInvoke, IsInSession}
-use Rattle.new_calls.specs.Deciding.{call_with}
-use Rattle.param_copy.specs.Outcome.{copies_in}
-use Rattle.shm_registry.specs.Registered.{Registered}
-use Rattle.kernel_entry.proofs.Applied.{found_there, in_session_taken, settled_taken}
+use Rattle.std.proofs.Common.{sym, subst}
+use Rattle.kernel_model.specs.Kernel as model
+use Rattle.kernel_state.specs.Setup.{booted_with}
+use Rattle.new_calls.specs.Applying.{CanApply}
+use Rattle.new_calls.specs.Deciding.{call_found, taken_of}
+use Rattle.kernel_entry.specs.Applying.{IsTaken, meant_by}
+use Rattle.kernel_entry.proofs.Pinned.{can_take, pages_pinned, pinned_is}
 use Rattle.kernel_entry.proofs.plans.apply.Goals as goal
 
-pub returns-in-Settles-clause-taken : goal.returns-in-Settles-clause-taken
-returns-in-Settles-clause-taken c boot applies =
-    rw c.in-Settles.is (settled_taken boot c.args.tables.now c.args.entered.now c.in-Settles.settled c.settles.new.cont
-    (c.settles.ensures boot (tables_of c.args.tables.now)))
+pub pins_argument-requires : goal.pins_argument-requires
+pins_argument-requires c = c.requires.takes.pins
 
-pub returns-in-Invokes-clause-taken : goal.returns-in-Invokes-clause-taken
-returns-in-Invokes-clause-taken c boot applies =
-    let model = call_with boot (tables_of c.args.tables.now) c.args.entered.now in
-    let can : CanInvoke model c.in-Invokes.session (application_of c.in-Invokes.app) c.in-Invokes.copies.cookies.items = rw c.in-Invokes.is at applies in
-    rw c.in-Invokes.is (in_session_taken model c.in-Invokes.session (application_of c.in-Invokes.app) c.args.entered.now c.invokes.new.tables c.invokes.new.cont
-    (λ named. invokes model named (copies_in c.in-Invokes.copies)) can.there
-    (c.invokes.ensures.taken boot can.there.instance (found_there model c.in-Invokes.session (application_of c.in-Invokes.app) can.there) can.there.known))
+pub apply_plan-requires-clause-takes : goal.apply_plan-requires-clause-takes
+apply_plan-requires-clause-takes c =
+    can_take c.args.tables.now c.pins_argument.new.registry c.args.entered.now c.args.plan c.pins_argument.ensures c.requires.takes
 
-pub returns-in-Invokes-clause-pages : goal.returns-in-Invokes-clause-pages
-returns-in-Invokes-clause-pages c setup applies has = c.invokes.ensures.pages setup has
+pub returns-clause-taken : goal.returns-clause-taken
+returns-clause-taken c boot applies =
+    let entered = c.args.entered.now in
+    let is = pinned_is c.args.tables.now c.pins_argument.new.registry entered c.pins_argument.ensures in
+    subst (λ (t : model.Tables). IsTaken (meant_by entered c.args.plan) entered c.apply_plan.new.tables c.apply_plan.new.cont
+    (taken_of (call_found boot t entered) c.args.plan)) is
+    (c.apply_plan.ensures.taken boot
+    (subst (λ (t : model.Tables). CanApply (call_found boot t entered) c.args.plan) (sym is) applies))
 
-pub returns-in-Closes-clause-taken : goal.returns-in-Closes-clause-taken
-returns-in-Closes-clause-taken c boot applies =
-    let model = call_with boot (tables_of c.args.tables.now) c.args.entered.now in
-    let there : IsInSession model c.in-Closes.session (application_of c.in-Closes.app) = rw c.in-Closes.is at applies in
-    rw c.in-Closes.is (in_session_taken model c.in-Closes.session (application_of c.in-Closes.app) c.args.entered.now c.closes.new.tables c.closes.new.cont
-    (λ named. closes model named) there
-    (c.closes.ensures.taken boot there.instance (found_there model c.in-Closes.session (application_of c.in-Closes.app) there) there.known))
-
-pub returns-in-Closes-clause-pages : goal.returns-in-Closes-clause-pages
-returns-in-Closes-clause-pages c setup applies has = c.closes.ensures.pages setup has
-
-pub returns-in-Cancels-clause-taken : goal.returns-in-Cancels-clause-taken
-returns-in-Cancels-clause-taken c boot applies =
-    rw c.in-Cancels.is (record {
-      tables = refl;
-      call = c.settled_call.ensures boot (tables_of c.args.tables.now) ACancel None tt;
-      cancel_id = refl;
-      marked = refl;
-      cancels = refl;
-    })
-
-pub returns-in-KeepsBuffer-clause-taken : goal.returns-in-KeepsBuffer-clause-taken
-returns-in-KeepsBuffer-clause-taken c boot applies =
-    rw c.in-KeepsBuffer.is (record {
-      tables = ap (λ (registry : Registered). tables_of (record c.args.tables.now { registry = registry })) c.keeps_buffer.ensures;
-      call = c.settled_call-in-KeepsBuffer.ensures boot (tables_of c.args.tables.now) Untold None tt;
-      cancel_id = refl;
-      marked = refl;
-      cancels = refl;
-    })
-
-pub returns-in-DropsBuffer-clause-taken : goal.returns-in-DropsBuffer-clause-taken
-returns-in-DropsBuffer-clause-taken c boot applies =
-    rw c.in-DropsBuffer.is (record {
-      tables = ap (λ (registry : Registered). tables_of (record c.args.tables.now { registry = registry })) c.drops_buffer.ensures;
-      call = c.settled_call-in-DropsBuffer.ensures boot (tables_of c.args.tables.now) Untold None tt;
-      cancel_id = refl;
-      marked = refl;
-      cancels = refl;
-    })
+pub returns-clause-pages : goal.returns-clause-pages
+returns-clause-pages c setup applies has =
+    let entered = c.args.entered.now in
+    let is = pinned_is c.args.tables.now c.pins_argument.new.registry entered c.pins_argument.ensures in
+    c.apply_plan.ensures.pages setup
+    (subst (λ (t : model.Tables). CanApply (call_found (booted_with setup) t entered) c.args.plan) (sym is) applies)
+    (pages_pinned setup c.args.tables.now c.pins_argument.new.registry has)
