@@ -39,8 +39,12 @@ use Rattle.rpc_cont.specs.declared.app.ContApp.TheVariants as app
 use Rattle.rpc_cont.specs.declared.cont.Cont.{Cont}
 use Rattle.rpc_cont.specs.declared.phase.Phase.TheVariants as phase
 use Rattle.rpc_cont.specs.declared.stop.ContStop.{ContStop}
+use Rattle.rpc_msgs.proofs.Places.{placed_whole}
+use Rattle.rpc_msgs.specs.Place.{HasPlaces, arg_at, buffer_at}
 use Rattle.rpc_msgs.specs.Request.{IsPayloadOf, IsRequest}
+use Rattle.rpc_msgs.specs.declared.request_place.RequestPlace.{RequestPlace}
 use Rattle.rpc_msgs.specs.declared.rpc.Rpc.{Rpc}
+use Rattle.rpc_msgs.specs.declared.rpc.Rpc.TheVariants as rpc
 use Rattle.rpc_msgs.specs.declared.rpc_buffer.RpcBuffer.{RpcBuffer}
 use Rattle.session_table.specs.declared.session.Session.{Session}
 use Rattle.ta_params.specs.declared.call_result.CallResult.{CallResult}
@@ -54,6 +58,7 @@ use Rattle.kernel_exit.proofs.ComesTo.{kept_by_run}
 
 pub record Stays (before after : PendingCall) : Type 0 where
   pub arg : after.arg ≡ before.arg
+  pub area : after.area ≡ before.area
   pub places : after.places ≡ before.places
   pub session : after.session ≡ before.session
   pub cancel_id : after.cancel_id ≡ before.cancel_id
@@ -61,26 +66,27 @@ pub record Stays (before after : PendingCall) : Type 0 where
   pub buffer : after.buffer ≡ before.buffer
 
 as_it_is : (call : PendingCall) → Stays call call
-as_it_is call = record { arg = refl; places = refl; session = refl; cancel_id = refl; marked = refl; buffer = refl }
+as_it_is call = record { arg = refl; area = refl; places = refl; session = refl; cancel_id = refl; marked = refl; buffer = refl }
 
 pub stays_so : (tables : Tables) (call : PendingCall) (steps : ℕ) (progress : Progress) →
     progress_of tables call steps ≡ Some progress → Stays call progress.call
 stays_so tables call steps progress e = exits_all tables call steps (λ (p : Progress). Stays call p.call) progress (record {
-  left = λ job later is so. record { arg = refl; places = refl; session = refl; cancel_id = refl; marked = refl; buffer = refl };
-  ends = λ job used end is so. record { arg = refl; places = refl; session = refl; cancel_id = refl; marked = refl; buffer = refl };
-  panics = λ job used code is so. record { arg = refl; places = refl; session = refl; cancel_id = refl; marked = refl; buffer = refl };
-  asks = λ job later used wanted payload is so. record { arg = refl; places = refl; session = refl; cancel_id = refl; marked = refl; buffer = refl };
+  left = λ job later is so. record { arg = refl; area = refl; places = refl; session = refl; cancel_id = refl; marked = refl; buffer = refl };
+  ends = λ job used end is so. record { arg = refl; area = refl; places = refl; session = refl; cancel_id = refl; marked = refl; buffer = refl };
+  panics = λ job used code is so. record { arg = refl; area = refl; places = refl; session = refl; cancel_id = refl; marked = refl; buffer = refl };
+  asks = λ job later used wanted payload is so. record { arg = refl; area = refl; places = refl; session = refl; cancel_id = refl; marked = refl; buffer = refl };
   asked = λ job wanted payload is. as_it_is call;
   waits = λ params is. as_it_is call;
   told = λ result params wakes is. as_it_is call;
-  tells = λ result params wakes is. record { arg = refl; places = refl; session = refl; cancel_id = refl; marked = refl; buffer = refl };
+  tells = λ result params wakes is. record { arg = refl; area = refl; places = refl; session = refl; cancel_id = refl; marked = refl; buffer = refl };
 }) e
 
 -- ---- what it goes out with can be told
 
-asks_can : (call : PendingCall) (buffer : Option RpcBuffer) (request : model.Request) →
-    ((place : RpcBuffer) → buffer ≡ Some place → IsInRam place.addr 4096) → IsRequest request.wanted → IsPayloadOf request.wanted request.payload →
-    CanTell call (option_map_or (λ place. model.Requests place request) buffer model.WantsBuffer)
+asks_can : (call : PendingCall) (at : Option RequestPlace) (request : model.Request) →
+    ((place : RequestPlace) → at ≡ Some place → HasPlaces (arg_at place) (buffer_at place) request.wanted) → IsRequest request.wanted →
+    IsPayloadOf request.wanted request.payload →
+    CanTell call (option_map_or (λ place. model.Requests place request) at model.WantsBuffer)
 asks_can call None request lies fits with = tt
 asks_can call (Some place) request lies fits with = (lies place refl, fits, with)
 
@@ -90,16 +96,20 @@ ends_can call None result params argument places = (argument, places)
 ends_can call (Some buffer) result params argument places = tt
 
 pub can_tell : (slot : ℕ) (call : PendingCall) → IsInRam call.arg 32 → AllByRecursion (IsWritable call.arg) call.places →
-    ((place : RpcBuffer) → call.buffer ≡ Some place → IsInRam place.addr 4096) →
+    ((area : ℕ) → call.area ≡ Some area → IsInRam area 160) → ((buffer : RpcBuffer) → call.buffer ≡ Some buffer → IsInRam buffer.addr 4096) →
     ((its : Job) (wanted : Rpc) (payload : List ℕ) → call.phase ≡ Asks its wanted payload → IsRequest wanted × IsPayloadOf wanted payload) →
     CanTell call (model.leaving_of slot call)
-can_tell slot call argument places lies fits = by call.phase refl
+can_tell slot call argument places areas buffers fits = by call.phase refl
   where
+    asks : (request : model.Request) → IsRequest request.wanted → IsPayloadOf request.wanted request.payload → CanTell call (model.asks_for call request)
+    asks request is with = asks_can call (model.place_of call request) request
+        (λ place there. placed_whole call.area call.buffer request.wanted place there areas buffers) is with
+
     by : (at : CallPhase) → call.phase ≡ at → CanTell call (model.leaving_in slot call at)
     by (Runs its) is = tt
-    by (Asks its wanted payload) is = let so = fits its wanted payload is in asks_can call call.buffer _ lies so.0 so.1
-    by (Waits params) is = asks_can call call.buffer _ lies tt refl
-    by (Ends result params told (Some woken)) is = asks_can call call.buffer _ lies tt refl
+    by (Asks its wanted payload) is = let so = fits its wanted payload is in asks (record { wanted = wanted; payload = payload }) so.0 so.1
+    by (Waits params) is = asks (model.plain_request (rpc.Sleep slot)) tt refl
+    by (Ends result params told (Some woken)) is = asks (model.plain_request (rpc.Wake woken)) tt refl
     by (Ends result params told None) is = ends_can call call.buffer result params argument places
 
 -- ---- the exit
@@ -137,15 +147,16 @@ exits_from boot history kernel cpu slot steps regs call booted comes inside acti
     }
 
 -- a call that asks stays in its slot
-asks_left : (call : PendingCall) (buffer : Option RpcBuffer) (request : model.Request) →
-    slot_left call (option_map_or (λ place. model.Requests place request) buffer model.WantsBuffer) ≡ Suspended call.client call
+asks_left : (call : PendingCall) (at : Option RequestPlace) (request : model.Request) →
+    slot_left call (option_map_or (λ place. model.Requests place request) at model.WantsBuffer) ≡ Suspended call.client call
 asks_left call None request = refl
 asks_left call (Some place) request = refl
 
 pub asks_stays : (slot : ℕ) (call : PendingCall) (its : Job) (wanted : Rpc) (payload : List ℕ) → call.phase ≡ Asks its wanted payload →
     slot_left call (model.leaving_of slot call) ≡ Suspended call.client call
 asks_stays slot call its wanted payload is =
-    ap (λ (at : CallPhase). slot_left call (model.leaving_in slot call at)) is ∙ asks_left call call.buffer _
+    let request : model.Request = record { wanted = wanted; payload = payload } in
+    ap (λ (at : CallPhase). slot_left call (model.leaving_in slot call at)) is ∙ asks_left call (model.place_of call request) request
 
 pub asks_there : (slots : List ThreadSlot) (slot : ℕ) (held : ThreadSlot) (call : PendingCall) (its : Job) (wanted : Rpc) (payload : List ℕ) →
     slice_get slots slot ≡ Some held → call.phase ≡ Asks its wanted payload →
@@ -272,6 +283,7 @@ can_come boot history kernel cpu slot call cont None steps booted comes active o
       app = out.0.app;
       login = out.0.login;
       arg = out.0.arg;
+      area = out.0.area;
       places = out.0.places;
       session = out.0.session;
       instance = out.0.instance;

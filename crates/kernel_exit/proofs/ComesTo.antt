@@ -33,6 +33,7 @@ pub record Keeps (before after : Cont (List ℕ)) : Type 0 where
   pub app : after.app ≡ before.app
   pub login : after.login ≡ before.login
   pub arg : after.arg ≡ before.arg
+  pub area : after.area ≡ before.area
   pub places : after.places ≡ before.places
   pub session : after.session ≡ before.session
   pub instance : after.instance ≡ before.instance
@@ -48,6 +49,7 @@ still before after call steps phase keeps is did at = record {
   app = subst (λ (app : Option ContApp). IsAppOf app call.uuid) (sym keeps.app) is.app;
   login = λ login settled opens. keeps.login ∙ is.login login (sym keeps.kind ∙ settled) opens;
   arg = keeps.arg ∙ is.arg;
+  area = keeps.area ∙ is.area;
   places = ap (λ p. p.items) keeps.places ∙ is.places;
   session = keeps.session ∙ is.session;
   instance = keeps.instance ∙ is.instance;
@@ -65,6 +67,7 @@ kept_by_run steps before after why run = record {
   app = ap (λ (c : Cont (List ℕ)). c.app) run.stays;
   login = ap (λ (c : Cont (List ℕ)). c.login) run.stays;
   arg = ap (λ (c : Cont (List ℕ)). c.arg) run.stays;
+  area = ap (λ (c : Cont (List ℕ)). c.area) run.stays;
   places = ap (λ (c : Cont (List ℕ)). c.places) run.stays;
   session = ap (λ (c : Cont (List ℕ)). c.session) run.stays;
   instance = ap (λ (c : Cont (List ℕ)). c.instance) run.stays;
@@ -88,6 +91,7 @@ both one two three first second = record {
   app = second.app ∙ first.app;
   login = second.login ∙ first.login;
   arg = second.arg ∙ first.arg;
+  area = second.area ∙ first.area;
   places = second.places ∙ first.places;
   session = second.session ∙ first.session;
   instance = second.instance ∙ first.instance;
@@ -231,6 +235,7 @@ shows_by ran shown tables objects params is wakes = record {
     app = ap (λ (c : Cont (List ℕ)). c.app) is;
     login = ap (λ (c : Cont (List ℕ)). c.login) is;
     arg = ap (λ (c : Cont (List ℕ)). c.arg) is;
+    area = ap (λ (c : Cont (List ℕ)). c.area) is;
     places = ap (λ (c : Cont (List ℕ)). c.places) is;
     session = ap (λ (c : Cont (List ℕ)). c.session) is;
     instance = ap (λ (c : Cont (List ℕ)). c.instance) is;

@@ -121,6 +121,7 @@ goes_from_slot parts ran came slot its =
           (subst (λ (arg : ℕ). IsInRam arg 32) (sym stays.arg) has.argument)
           (subst (λ (arg : ℕ). AllByRecursion (IsWritable arg) exits.progress.call.places) (sym stays.arg)
           (subst (λ (places : List Place). AllByRecursion (IsWritable carries.call.arg) places) (sym stays.places) has.places))
+          (λ area there. has.area area (sym stays.area ∙ there))
           (λ place there. has.buffer place (sym stays.buffer ∙ there))
           (λ asking wanted payload is.
           let fits = next_asks parts ran came slot its carries.call carries.active exits asking wanted payload is in

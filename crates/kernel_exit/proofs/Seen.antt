@@ -5,8 +5,6 @@ use Rattle.std.specs.Option.{option_map, option_map_or}
 use Rattle.base.specs.NumberMap.{NumberMap, get, insert}
 use Rattle.kernel_state.proofs.Maps.{get_seen, insert_seen, seen_as}
 use Rattle.kernel_model.specs.Application.{Booted}
-use Rattle.kernel_model.specs.Instances.{given_back, killed}
-use Rattle.kernel_model.specs.Instances as model
 use Rattle.kernel_model.specs.Kernel.{Instance}
 use Rattle.kernel_state.specs.Calls.{bytes_of}
 use Rattle.kernel_state.specs.Tables.{instance_of}

@@ -20,7 +20,7 @@ use Rattle.rpc_cont.specs.declared.cont.Asked.{Asked as AskedFor}
 use Rattle.rpc_cont.specs.declared.cont.Cont.{Cont}
 use Rattle.rpc_cont.specs.declared.stop.ContStop.{ContStop}
 use Rattle.rpc_msgs.specs.Request.{IsPayloadOf, IsRequest}
-use Rattle.rpc_msgs.specs.declared.rpc_buffer.RpcBuffer.{RpcBuffer}
+use Rattle.rpc_msgs.specs.declared.request_place.RequestPlace.{RequestPlace}
 use Rattle.kernel_state.specs.declared.tables.Tables.{Tables as CoreTables}
 use Rattle.kernel_state.specs.Tables.{HasFreePages, tables_of}
 use Rattle.kernel_state.specs.declared.setup.Setup.{Setup}
@@ -66,11 +66,11 @@ asked_fits (Some asked) wanted there is fits with = (
 )
 
 told_as : (cont : Cont (List ℕ)) (call : PendingCall) (leaving : Leaving) → IsCall cont call →
-    ((place : RpcBuffer) → leaving ≡ Requests place Asked → IsSome cont.request) → CanTell call (leaving_as cont leaving) → CanBeTold cont leaving
+    ((place : RequestPlace) → leaving ≡ Requests place Asked → IsSome cont.request) → CanTell call (leaving_as cont leaving) → CanBeTold cont leaving
 told_as cont call Interrupted is asked can = tt
 told_as cont call WantsBuffer is asked can = tt
 told_as cont call (Requests place wanted) is asked can = record {
-  in_ram = can.0;
+  places = can.0;
   asked = λ so. asked_fits cont.request wanted (asked place (ap (λ (w : Wanted). Requests place w) so)) so can.1 can.2;
 }
 told_as cont call (FreesBuffer buffer) is asked can = tt
@@ -82,7 +82,7 @@ told_as cont call Finishes is asked can = record {
 
 -- by what it goes out with
 pub can_be_told : (slot : ℕ) (cont : Cont (List ℕ)) (call : PendingCall) (leaving : Leaving) → IsCall cont call →
-    model.leaving_of slot call ≡ leaving_as cont leaving → ((place : RpcBuffer) → leaving ≡ Requests place Asked → IsSome cont.request) →
+    model.leaving_of slot call ≡ leaving_as cont leaving → ((place : RequestPlace) → leaving ≡ Requests place Asked → IsSome cont.request) →
     CanTell call (model.leaving_of slot call) → CanBeTold cont leaving
 can_be_told slot cont call leaving is same asked can = told_as cont call leaving is asked (subst (CanTell call) same can)
 
@@ -92,7 +92,7 @@ pub carried_told : (tables : Tables) (slot : ℕ) (cont new : Cont (List ℕ)) (
     ((call : PendingCall) (steps : ℕ) → IsCarriedOut cont why call steps →
     IsSomeAnd (progress_in tables call steps call.phase) (λ progress. HasComeTo progress new after)) →
     ((call : PendingCall) → IsCall new call → model.leaving_of slot call ≡ leaving_as new leaving) →
-    ((place : RpcBuffer) → leaving ≡ Requests place Asked → IsSome new.request) → CanBeTold new leaving
+    ((place : RequestPlace) → leaving ≡ Requests place Asked → IsSome new.request) → CanBeTold new leaving
 carried_told tables slot cont new why after leaving carried comes of asked =
     by (progress_in tables carried.call carried.steps carried.call.phase) carried.told (comes carried.call carried.steps carried.is)
   where

@@ -30,6 +30,7 @@ use Rattle.rpc_cont.specs.Advancing.{phase_after}
 use Rattle.rpc_cont.specs.declared.cont.Cont.{Cont}
 use Rattle.rpc_cont.specs.declared.phase.Phase.TheVariants as phase
 use Rattle.rpc_cont.specs.declared.stop.ContStop.{ContStop}
+use Rattle.rpc_msgs.specs.Place.{HasPlaces, arg_at, buffer_at}
 use Rattle.rpc_msgs.specs.Request.{IsPayloadOf, IsRequest}
 use Rattle.smc_abi.specs.declared.answer.Answer.{Answer}
 use Rattle.smc_abi.specs.declared.regs.Regs.{Regs}
@@ -81,7 +82,7 @@ abbrev pub CanTell : PendingCall → model.Leaving → Type 0
 CanTell call model.Interrupted = Unit {0}
 CanTell call model.WantsBuffer = Unit {0}
 CanTell call (model.Requests place request) =
-    IsInRam place.addr 4096 × IsRequest request.wanted × IsPayloadOf request.wanted request.payload
+    HasPlaces (arg_at place) (buffer_at place) request.wanted × IsRequest request.wanted × IsPayloadOf request.wanted request.payload
 CanTell call (model.FreesBuffer buffer) = Unit {0}
 CanTell call (model.Finishes result params) = IsInRam call.arg 32 × AllByRecursion (IsWritable call.arg) call.places
 

@@ -2,6 +2,7 @@
 use Rattle.std.specs.Prelude.{◌≡◌, ℕ, List, Option, slice_set, IsSomeAnd}
 use Rattle.std.specs.Global.{Box}
 use Rattle.std.specs.List.{AllByRecursion}
+use Rattle.call_leaving.specs.Leaving.{request_of}
 use Rattle.call_leaving.specs.declared.leaving.Leaving.{Leaving}
 use Rattle.call_leaving.specs.declared.leaving.Leaving.TheVariants.{Interrupted, WantsBuffer, Requests, FreesBuffer, Finishes}
 use Rattle.call_leaving.specs.declared.leaving.Wanted.{Wanted}
@@ -14,8 +15,9 @@ use Rattle.ns_ram.specs.Lane.{IsInRam}
 use Rattle.param_copy.specs.Places.{IsWritable}
 use Rattle.rpc_cont.specs.declared.cont.Asked.{Asked as AskedFor}
 use Rattle.rpc_cont.specs.declared.cont.Cont.{Cont}
+use Rattle.rpc_msgs.specs.Place.{HasPlaces, arg_at, buffer_at}
 use Rattle.rpc_msgs.specs.Request.{IsPayloadOf, IsRequest}
-use Rattle.rpc_msgs.specs.declared.rpc_buffer.RpcBuffer.{RpcBuffer}
+use Rattle.rpc_msgs.specs.declared.request_place.RequestPlace.{RequestPlace}
 use Rattle.thread_slots.specs.declared.slot.Slot.{Slot}
 
 -- ---- what it takes
@@ -24,9 +26,9 @@ use Rattle.thread_slots.specs.declared.slot.Slot.{Slot}
 abbrev pub FitsMessage : AskedFor → Type 0
 FitsMessage asked = IsRequest asked.rpc × IsPayloadOf asked.rpc asked.payload
 
--- what is asked for is there, and its place is one of a message
-pub record CanBeAsked (request : Option AskedFor) (place : RpcBuffer) (wanted : Wanted) : Type 0 where
-  pub in_ram : IsInRam place.addr 4096
+-- what is asked for is there, and all of its place lies in RAM
+pub record CanBeAsked (request : Option AskedFor) (place : RequestPlace) (wanted : Wanted) : Type 0 where
+  pub places : HasPlaces (arg_at place) (buffer_at place) (request_of request wanted).wanted
   pub asked : wanted ≡ Asked → IsSomeAnd request FitsMessage
 
 -- where the results of a call go lies in RAM: the head of its argument, and the places of its parameters

@@ -13,7 +13,7 @@ ghost use Rattle.ns_ram.specs.Writes.{lane_after};
 ghost use Rattle.param_copy.specs.Places.{IsWritable};
 ghost use Rattle.rpc_cont.specs.Conts.{kept_params};
 ghost use Rattle.rpc_cont.specs.declared.cont.Cont.{Cont as AnyCont};
-ghost use Rattle.rpc_msgs.specs.Request.{request_writes};
+ghost use Rattle.rpc_msgs.specs.Place.{writes_at};
 ghost use Rattle.thread_slots.specs.Slots.{IsActiveAt};
 ghost use Rattle.kernel_exit.specs.Telling.{CanBeAsked, CanBeTold, HasRoomForResult, HoldsNow, boxes_left};
 
@@ -25,7 +25,7 @@ use msg_args::{origin_at, ret_at, session_at};
 use ns_ram::Lane;
 use param_copy::copy_out;
 use rpc_cont::Cont;
-use rpc_msgs::{Rpc, RpcBuffer, put_request};
+use rpc_msgs::{RequestPlace, Rpc, put_request_at};
 use smc_abi::{Answer, OK};
 use ta_params::CopiedParams;
 use ta_params::codes::{TEE_ORIGIN_TRUSTED_APP, TEE_SUCCESS};
@@ -45,7 +45,7 @@ pub fn answer_of(slot: u8, leaving: Leaving) -> Answer
             thread: slot,
         },
         Leaving::Requests { place, .. } => Answer::Cmd {
-            cookie: place.cookie,
+            cookie: place.cookie(),
             thread: slot,
         },
         Leaving::FreesBuffer(buffer) => Answer::Free {
@@ -64,22 +64,21 @@ fn put_word(lane: &mut Lane, addr: u64, number: u32)
     lane.write(addr, &number.to_le_bytes());
 }
 
-/// Writes what a call asks for into the message at this place.
-fn put_wanted(lane: &mut Lane, cont: &Cont<Pages>, place: RpcBuffer, wanted: Wanted)
-    requires { CanBeAsked cont.now.request place wanted }
+/// Writes what a call asks for at this place.
+fn put_wanted(lane: &mut Lane, cont: &Cont<Pages>, place: &RequestPlace, wanted: Wanted)
+    requires { CanBeAsked cont.now.request place.now wanted }
     ensures { let request = request_of cont.now.request wanted in
-        lane.new ≡ lane_after lane.old (request_writes place.addr place.cookie request.wanted request.payload) }
+        lane.new ≡ lane_after lane.old (writes_at place.now request.wanted request.payload) }
 {
-    let RpcBuffer { addr, cookie } = place;
     match wanted {
         Wanted::Asked => {
             let Some(asked) = &cont.request else {
                 unreachable!();
             };
-            put_request(lane, addr, cookie, &asked.rpc, asked.payload.bytes());
+            put_request_at(lane, place, &asked.rpc, asked.payload.bytes());
         }
-        Wanted::Sleep(slot) => put_request(lane, addr, cookie, &Rpc::Sleep(slot), &[]),
-        Wanted::Wake(slot) => put_request(lane, addr, cookie, &Rpc::Wake(slot), &[]),
+        Wanted::Sleep(slot) => put_request_at(lane, place, &Rpc::Sleep(slot), &[]),
+        Wanted::Wake(slot) => put_request_at(lane, place, &Rpc::Wake(slot), &[]),
     }
 }
 
@@ -133,7 +132,7 @@ pub fn tell(lane: &mut Lane, cont: &Cont<Pages>, leaving: Leaving)
 {
     match leaving {
         Leaving::Interrupted | Leaving::WantsBuffer | Leaving::FreesBuffer(_) => {}
-        Leaving::Requests { place, wanted } => put_wanted(lane, cont, place, wanted),
+        Leaving::Requests { place, wanted } => put_wanted(lane, cont, &place, wanted),
         Leaving::Finishes => put_result(lane, cont),
     }
 }
