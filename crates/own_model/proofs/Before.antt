@@ -1,7 +1,7 @@
 -- New calls before the open of a session and with it.
 use Rattle.std.proofs.Common.{◌≡◌, ℕ, ◌+◌, ◌<◌, ◌≤◌, Bool, true, false, List, [], ◌∷◌, Option, Some, None, refl, ap}
 use Rattle.std.proofs.Common.{subst, sym, ◌∙◌, arith}
-use Rattle.std.specs.Prelude.{◌==◌, if◌then◌else◌, slice_get}
+use Rattle.std.specs.Prelude.{◌==◌, if◌then◌else◌, slice_get, is_some}
 use Rattle.std.specs.Option.{option_map_or}
 use Rattle.std.proofs.lemmas.Bool.Decides.{nat_tests}
 use Rattle.base.proofs.MapLemmas.{All-get}
@@ -20,6 +20,7 @@ use Rattle.kernel_model.specs.Entry.{after_decision}
 use Rattle.kernel_model.specs.History.{after_event}
 use Rattle.kernel_model.specs.Instances.{app_of, is_held, is_single}
 use Rattle.kernel_model.specs.Kernel.{Active, Free, InSlot, Inside, Instance, Kernel, PendingCall, Tables, ThreadSlot}
+use Rattle.kernel_model.specs.Located.{cookie_of, with_argument_pinned}
 use Rattle.kernel_model.specs.Kernel.{Visit}
 use Rattle.kernel_model.specs.NewCall.{NewCall, cancels, keeps_buffers, named_session, new_call_of, open_waits, opens}
 use Rattle.kernel_model.specs.NewCall.{settles, settles_invoke, settles_open, shared_by}
@@ -30,11 +31,12 @@ use Rattle.kernel_model.proofs.Parts.{if-both}
 use Rattle.kernel_model.proofs.SoundMaps.{if_some}
 use Rattle.job_model.specs.declared.call_kind.CallKind.TheVariants as kind
 use Rattle.own_model.proofs.Lookups.{app_named}
-use Rattle.own_model.proofs.NewCalls.{OfAllEndings}
+use Rattle.own_model.proofs.NewCalls.{OfAllEndings, endings_weaker}
 use Rattle.own_model.proofs.NewEntries.{IsTaken, new_call_noted, new_call_taken}
 use Rattle.own_model.proofs.NotedCalls.{not_both, other_unnoted, same_event, untold_unnoted}
 use Rattle.own_model.proofs.OtherCalls.{named_parts}
-use Rattle.own_model.proofs.OwnOpens.{TakesOpen, begun_by, opened_solo, opens_tied}
+use Rattle.own_model.proofs.OwnOpens.{OpenBy, TakesOpen, begun_by, opened_solo, opens_tied}
+use Rattle.own_model.proofs.PinnedTables.{below_pinned}
 use Rattle.own_model.proofs.BelowNumbers.{AreBelow, IsBelow, below_numbers}
 use Rattle.own_model.specs.declared.own_event.OwnEvent.{OwnEvent}
 use Rattle.own_model.specs.declared.own_event.OwnEvent.TheVariants.{Open}
@@ -65,13 +67,14 @@ pub record OpensIt (boot : Booted) (session : ℕ) (slots : List ThreadSlot) (sl
   pub of : Application
   pub params : CopiedParams
   pub login : Login
+  pub area : Bool
   pub is_next : session ≡ before.next_session
   pub is_now : session < taken.tables.next_session
   pub of_boot : app_of boot (uuid_of of) ≡ Some of
   pub uuid : taken.call.uuid ≡ Some (uuid_of of)
-  pub noted : event_of session taken.call ≡ Some (Open params login)
+  pub noted : event_of session taken.call ≡ Some (Open params login area)
   pub opens : IsItsOpen session taken.call
-  pub tied : is_single of ≡ false → TakesOpen of slots slot before taken params login
+  pub tied : is_single of ≡ false → TakesOpen of slots slot before taken (record { params = params; login = login; area = area })
 
 -- before the open of a session, a new call isn't of it, or is its open, or has it wait for an instance that it shares
 pub data Coming (boot : Booted) (session : ℕ) (slots : List ThreadSlot) (slot : ℕ) (before : Tables)
@@ -132,18 +135,19 @@ begins_one session slots c wanted of copies early is true same =
       of = of;
       params = params_of (begun_by c wanted of copies).job;
       login = (begun_by c wanted of copies).job.login;
+      area = is_some c.area;
       is_next = sym (tied_numbers c.tables.next_session session same);
       is_now = next_is_more c.tables.next_session session (tied_numbers c.tables.next_session session same);
       of_boot = ap (λ u. app_of c.boot u) (app_named c.boot wanted.uuid of is) ∙ is;
       uuid = refl;
       noted = ap (λ b. if b then Some (Open (params_of (begun_by c wanted of copies).job)
-          (begun_by c wanted of copies).job.login) else None) same;
+          (begun_by c wanted of copies).job.login (is_some c.area)) else None) same;
       opens = record { kind = refl; untold = refl; of_session = tied_numbers c.tables.next_session session same };
       tied = λ alone. opens_tied c wanted of copies slots early.free early.below alone;
     })
 begins_one session slots c wanted of copies early is false other =
     Another (ap (λ b. if b then Some (Open (params_of (begun_by c wanted of copies).job)
-    (begun_by c wanted of copies).job.login) else None) other)
+    (begun_by c wanted of copies).job.login (is_some c.area)) else None) other)
     (next_is_less c.tables.next_session session early.before other)
 
 waits_one : (session : ℕ) (slots : List ThreadSlot) (c : NewCall) (wanted : Opening) (of : Application)
@@ -199,6 +203,33 @@ endings_early session slots c early = record {
 
 -- ---- the entry
 
+-- a cookie's pin makes no difference
+open_unpinned : (app : Application) (slots : List ThreadSlot) (at : ℕ) (tables : Tables) (taken : Taken)
+    (came : OpenBy) (named : Option ℕ) (slot : ℕ)
+    → TakesOpen app slots at (with_argument_pinned named tables slot) taken came → TakesOpen app slots at tables taken came
+open_unpinned app slots at tables taken came named slot takes = record { tied = takes.tied }
+
+coming_unpinned : (boot : Booted) (session : ℕ) (slots : List ThreadSlot) (at : ℕ) (tables : Tables) (taken : Taken)
+    (named : Option ℕ) (slot : ℕ)
+    → Coming boot session slots at (with_argument_pinned named tables slot) taken → Coming boot session slots at tables taken
+coming_unpinned boot session slots at tables taken named slot (Another none lower) = Another none lower
+coming_unpinned boot session slots at tables taken named slot (ItsOpen o) =
+    ItsOpen (record {
+      of = o.of;
+      params = o.params;
+      login = o.login;
+      area = o.area;
+      is_next = o.is_next;
+      is_now = o.is_now;
+      of_boot = o.of_boot;
+      uuid = o.uuid;
+      noted = o.noted;
+      opens = o.opens;
+      tied = λ alone. open_unpinned o.of slots at tables taken
+          (record { params = o.params; login = o.login; area = o.area }) named slot (o.tied alone);
+    })
+coming_unpinned boot session slots at tables taken named slot (Shares none more its) = Shares none more its
+
 pub early_call : (boot : Booted) (session : ℕ) (kernel next : Kernel) (cpu steps slot : ℕ) (regs : Regs)
     (reads : List Read) (now : PendingCall)
     → AreBelow kernel.slots kernel.tables → kernel.tables.next_session ≤ session → IsNew regs.a
@@ -210,20 +241,27 @@ pub early_call : (boot : Booted) (session : ℕ) (kernel next : Kernel) (cpu ste
 early_call boot session kernel next cpu steps slot regs reads now below before is inside there e =
     new_call_taken (λ at taken. Coming boot session kernel.slots at kernel.tables taken) boot kernel next cpu steps slot
     regs reads now is
-    (λ at free bytes. endings_early session kernel.slots (new_call_of boot kernel.tables regs.a at bytes)
-    (record { free = free; below = below; before = before }))
+    (λ at free place bytes.
+    let c = new_call_of boot kernel.tables regs.a at place bytes in
+    endings_weaker (Coming boot session kernel.slots at c.tables) (Coming boot session kernel.slots at kernel.tables) c
+    (λ taken. coming_unpinned boot session kernel.slots at kernel.tables taken (cookie_of place) at)
+    (endings_early session kernel.slots c (record {
+      free = free;
+      below = below_pinned kernel.slots kernel.tables (cookie_of place) at below;
+      before = before;
+    })))
     inside there e
 
 -- kernel and machine are tied from the open on
 pub open_along : (app : Application) (most : ℕ) (kernel : Kernel) (visit : Visit) (slot : ℕ) (taken : Taken)
-    (params : CopiedParams) (login : Login)
-    → TakesOpen app kernel.slots slot kernel.tables taken params login
+    (came : OpenBy)
+    → TakesOpen app kernel.slots slot kernel.tables taken came
     → GoesAlong (about_next app most kernel) no_notes unopened (after_decision kernel visit (Takes slot taken))
-    (numbered no_notes slot taken.call (Open params login))
-open_along app most kernel visit slot taken params login takes = record {
-  items = (Open params login, None) ∷ [];
+    (numbered no_notes slot taken.call (Open came.params came.login came.area))
+open_along app most kernel visit slot taken came takes = record {
+  items = (Open came.params came.login came.area, None) ∷ [];
   noted = refl;
-  then = opened_solo app params login;
+  then = opened_solo app came;
   replies = refl;
   tied = takes.tied visit.cpu;
 }
@@ -251,17 +289,18 @@ open_comes boot app most kernel next visit slot now came taken shares (Shares no
 open_comes boot app most kernel next visit slot now came taken shares (ItsOpen o) is gives noted uuid =
     let same : o.of ≡ app = same_open boot app o.of shares o.of_boot (sym o.uuid ∙ uuid) in
     let alone : is_single o.of ≡ false = ap is_single same ∙ shares.shares_none in
-    let takes : TakesOpen app kernel.slots slot kernel.tables taken o.params o.login =
-    subst (λ (a : Application). TakesOpen a kernel.slots slot kernel.tables taken o.params o.login) same
+    let by : OpenBy = record { params = o.params; login = o.login; area = o.area } in
+    let takes : TakesOpen app kernel.slots slot kernel.tables taken by =
+    subst (λ (a : Application). TakesOpen a kernel.slots slot kernel.tables taken by) same
     (o.tied alone) in
-    let its : Open o.params o.login ≡ came = same_event (Open o.params o.login) came (sym o.noted ∙ noted) in
+    let its : Open o.params o.login o.area ≡ came = same_event (Open o.params o.login o.area) came (sym o.noted ∙ noted) in
     subst (λ (came_in : OwnEvent). GoesAlong (about_next app most kernel) no_notes unopened next
     (numbered no_notes slot now came_in)) its
     (subst (λ (call : PendingCall). GoesAlong (about_next app most kernel) no_notes unopened next
-    (numbered no_notes slot call (Open o.params o.login))) is
+    (numbered no_notes slot call (Open o.params o.login o.area))) is
     (subst (λ (k : Kernel). GoesAlong (about_next app most kernel) no_notes unopened k
-    (numbered no_notes slot taken.call (Open o.params o.login))) gives
-    (open_along app most kernel visit slot taken o.params o.login takes)))
+    (numbered no_notes slot taken.call (Open o.params o.login o.area))) gives
+    (open_along app most kernel visit slot taken by takes)))
 
 no_more : (n : ℕ) → n ≤ n
 no_more n = omega arith

@@ -152,7 +152,7 @@ opens_next : (boot : Booted) (session most : ℕ) (kernel next : Kernel) (visit 
     (now : PendingCall) (notes : Notes)
     → (found : IsTaken (λ at taken. Coming boot session kernel.slots at kernel.tables taken) kernel next visit slot now)
     → (o : OpensIt boot session kernel.slots slot kernel.tables found.taken)
-    → notes ≡ numbered no_notes slot now (Open o.params o.login)
+    → notes ≡ numbered no_notes slot now (Open o.params o.login o.area)
     → HasOpen session (uuid_of o.of) next
     → (single : Bool) → is_single o.of ≡ single → EarlyNext boot session most kernel next notes
 opens_next boot session most kernel next visit slot now notes found o is has true shares =
@@ -163,10 +163,11 @@ opens_next boot session most kernel next visit slot now notes found o is has fal
     (sym found.call_is) ∙ o.uuid) alone
     (subst (GoesAlong (about_next o.of most kernel) no_notes unopened next) (sym is)
     (subst (λ (call : PendingCall). GoesAlong (about_next o.of most kernel) no_notes unopened next
-    (numbered no_notes slot call (Open o.params o.login))) found.call_is
+    (numbered no_notes slot call (Open o.params o.login o.area))) found.call_is
     (subst (λ (k : Kernel). GoesAlong (about_next o.of most kernel) no_notes unopened k
-    (numbered no_notes slot found.taken.call (Open o.params o.login))) found.gives
-    (open_along o.of most kernel visit slot found.taken o.params o.login (o.tied alone))))) has
+    (numbered no_notes slot found.taken.call (Open o.params o.login o.area))) found.gives
+    (open_along o.of most kernel visit slot found.taken
+    (record { params = o.params; login = o.login; area = o.area }) (o.tied alone))))) has
 
 call_next : (boot : Booted) (session most : ℕ) (kernel next : Kernel) (visit : Visit) (slot : ℕ)
     (now : PendingCall) (notes : Notes)

@@ -8,10 +8,10 @@ use Rattle.ns_ram.specs.Reader.{done}
 use Rattle.smc_abi.specs.Call.{call_of}
 use Rattle.smc_abi.specs.declared.answer.Answer.{Answer}
 use Rattle.smc_abi.specs.declared.call.Call.{Call}
-use Rattle.smc_abi.specs.declared.call.Call.TheVariants.{Fast, Resume, Unknown, WithArg}
+use Rattle.smc_abi.specs.declared.call.Call.TheVariants.{Fast, Resume, Unknown, WithArg, WithRegdArg, WithRpcArg}
 use Rattle.smc_abi.specs.declared.regs.Regs.{Regs}
 use Rattle.kernel_model.specs.Application.{Booted}
-use Rattle.kernel_model.specs.Argument.{IsNew, reg, thread_in}
+use Rattle.kernel_model.specs.Argument.{IsNew, is_new, reg, thread_in}
 use Rattle.kernel_model.specs.Codes.{eresume}
 use Rattle.kernel_model.specs.Decision.{Answers, Decision, Taken, Takes, works_on}
 use Rattle.kernel_model.specs.Entry.{after_decision, decision_of}
@@ -19,6 +19,7 @@ use Rattle.kernel_model.specs.Exit.{Exited, exit_of, goes_out_from, progress_in_
 use Rattle.kernel_model.specs.History.{after_event}
 use Rattle.kernel_model.specs.Kernel.{Active, Fixed, Free, InSlot, Inside, Kernel, Outside, PendingCall, Processor}
 use Rattle.kernel_model.specs.Kernel.{Progress, Visit, cancelled_slots, lowest_free}
+use Rattle.kernel_model.specs.NewCall.{new_call}
 use Rattle.kernel_model.specs.Resume.{call_resumed_by, resume_call, takes_call}
 use Rattle.kernel_model.proofs.FixedAnswer.{decides_all, inside_for, processors_after}
 use Rattle.kernel_model.proofs.Parts.{AllOf, AllOf-mapped, AllOf-onward, option_map_some, set_found}
@@ -71,15 +72,12 @@ resumes_for boot kernel regs (Some call) is some =
     (IsTakenFor kernel regs)
     (λ progress. ForResumed call is some refl)
 
-decision_for : (boot : Booted) (kernel : Kernel) (regs : List ℕ) (call : Call) → call_of (reg regs 0) ≡ call
-    → AllOf (IsTakenFor kernel regs) (decision_of boot kernel regs call)
-decision_for boot kernel regs (Fast call) is = tt
-decision_for boot kernel regs Unknown is = tt
-decision_for boot kernel regs Resume is = resumes_for boot kernel regs (call_resumed_by kernel.slots regs) is refl
-decision_for boot kernel regs WithArg is =
-    AllOf-onward (decision_of boot kernel regs WithArg) (TakesFree Anything kernel) (IsTakenFor kernel regs)
+-- each of the three new calls
+new_for : (boot : Booted) (kernel : Kernel) (regs : List ℕ) → IsNew regs → AllOf (IsTakenFor kernel regs) (new_call boot kernel regs)
+new_for boot kernel regs is =
+    AllOf-onward (new_call boot kernel regs) (TakesFree Anything kernel) (IsTakenFor kernel regs)
     (for_new kernel regs is)
-    (call_decides Anything boot kernel regs (lowest_free kernel.slots) refl (λ slot free bytes. record {
+    (call_decides Anything boot kernel regs (lowest_free kernel.slots) refl (λ slot free at bytes. record {
       settled = λ code. tt;
       settled_open = λ of login code. tt;
       opened = λ wanted of copies named. tt;
@@ -90,6 +88,15 @@ decision_for boot kernel regs WithArg is =
       cancelled = λ named there. tt;
       registered = λ buffers. tt;
     }))
+
+decision_for : (boot : Booted) (kernel : Kernel) (regs : List ℕ) (call : Call) → call_of (reg regs 0) ≡ call
+    → AllOf (IsTakenFor kernel regs) (decision_of boot kernel regs call)
+decision_for boot kernel regs (Fast call) is = tt
+decision_for boot kernel regs Unknown is = tt
+decision_for boot kernel regs Resume is = resumes_for boot kernel regs (call_resumed_by kernel.slots regs) is refl
+decision_for boot kernel regs WithArg is = new_for boot kernel regs (ap is_new is)
+decision_for boot kernel regs WithRpcArg is = new_for boot kernel regs (ap is_new is)
+decision_for boot kernel regs WithRegdArg is = new_for boot kernel regs (ap is_new is)
 
 entry_by : (kernel next : Kernel) (cpu steps : ℕ) (regs : Regs) (decision : Decision)
     → IsTakenFor kernel regs.a decision

@@ -33,7 +33,8 @@ use Rattle.own_model.specs.Laws.{StaysInOrder}
 use Rattle.own_model.specs.Solo.{Answered, Going, OwnCall, OwnSession, Solo, Start, Waiting, and_reply, begins, closes}
 use Rattle.own_model.specs.Solo.{comes_back, comes_back_in, counted, fresh_call, gives_back, gives_up, goes_on}
 use Rattle.own_model.specs.Solo.{goes_out, goes_out_in, going_in, home, instance_back, invokes, job_of, invokes_with}
-use Rattle.own_model.specs.Solo.{is_no_buffer, made, opens, opens_first, phase_at, phase_back, run, sees, session_unrun}
+use Rattle.own_model.specs.Solo.{is_no_buffer, made, opens, opens_first, phase_at, phase_back, run, sees}
+use Rattle.own_model.specs.Solo.{session_ended, session_panicked, session_unrun}
 use Rattle.own_model.specs.Solo.{settles, shows, silent, start_with, step, stopped, taken_on, tests_again, waits}
 use Rattle.own_model.specs.Solo.{waits_on, wakes_back, with_call, without_waiter, woken_by, works_or_waits}
 use Rattle.own_model.specs.declared.own_event.BackInput.{BackInput}
@@ -74,14 +75,14 @@ last_below a = omega arith
 
 -- ---- phases
 
--- a call in the one phase may be in the other instead
-pub record MayFollow (before after : CallPhase) : Type 0 where
-  pub fits : (call_kind : CallKind) → Fits call_kind before → Fits call_kind after
+-- a call of this kind in the one phase may be in the other instead
+pub record MayFollow (call_kind : CallKind) (before after : CallPhase) : Type 0 where
+  pub fits : Fits call_kind before → Fits call_kind after
   pub works : IsAtWork before → IsAtWork after
   pub waits : IsWaiting before → IsWaiting after
 
-itself : (phase : CallPhase) → MayFollow phase phase
-itself phase = record { fits = λ k fits. fits; works = λ works. works; waits = λ waits. waits }
+itself : (call_kind : CallKind) (phase : CallPhase) → MayFollow call_kind phase phase
+itself call_kind phase = record { fits = λ fits. fits; works = λ works. works; waits = λ waits. waits }
 
 work_fits : (call_kind : CallKind) (before after : CallPhase) → IsAtWork before → IsAtWork after → Fits call_kind before
     → Fits call_kind after
@@ -104,33 +105,57 @@ not_both (Asks job wanted payload) works waits = waits
 not_both (Waits params) works waits = works
 not_both (Ends result params told wakes) works waits = works
 
-works_on : (before after : CallPhase) → IsAtWork before → IsAtWork after → MayFollow before after
-works_on before after works on = record {
-  fits = λ k. work_fits k before after works on;
+works_on : (call_kind : CallKind) (before after : CallPhase) → IsAtWork before → IsAtWork after
+    → MayFollow call_kind before after
+works_on call_kind before after works on = record {
+  fits = work_fits call_kind before after works on;
   works = λ _. on;
   waits = λ waits. absurd (not_both before works waits);
 }
 
-end_fits : (call_kind : CallKind) (result : CallResult) (params : CopiedParams) (told : Bool) (wakes : Option ℕ)
-    → Fits call_kind (Ends result params told wakes)
-end_fits kind.Open result params told wakes = tt
-end_fits (kind.Invoke func) result params told wakes = tt
-end_fits kind.Close result params told wakes = tt
-end_fits kind.Settled result params told wakes = tt
+-- an end that wakes nobody
+quiet_fits : (call_kind : CallKind) (result : CallResult) (params : CopiedParams) (told : Bool)
+    → Fits call_kind (Ends result params told None)
+quiet_fits kind.Open result params told = tt
+quiet_fits (kind.Invoke func) result params told = tt
+quiet_fits kind.Close result params told = tt
+quiet_fits kind.Settled result params told = tt
 
-end_follows : (result other : CallResult) (params left : CopiedParams) (told shown : Bool) (wakes woken : Option ℕ)
-    → MayFollow (Ends result params told wakes) (Ends other left shown woken)
-end_follows result other params left told shown wakes woken = record {
-  fits = λ k fits. end_fits k other left shown woken;
-  works = λ works. absurd works;
-  waits = λ waits. absurd waits;
-}
+-- one that wakes whom its kind has it wake
+shown_fits : (rest : Solo) (call_kind : CallKind) (result : CallResult) (params : CopiedParams) (told : Bool)
+    → Fits call_kind (Ends result params told (woken_by rest call_kind))
+shown_fits rest kind.Open result params told = tt
+shown_fits rest (kind.Invoke func) result params told = tt
+shown_fits rest kind.Close result params told = tt
+shown_fits rest kind.Settled result params told = tt
 
-seen_follows : (phase : CallPhase) → MayFollow phase (phase_seen phase)
-seen_follows (Runs job) = works_on (Runs job) (phase_seen (Runs job)) tt tt
-seen_follows (Asks job wanted payload) = works_on (Asks job wanted payload) (phase_seen (Asks job wanted payload)) tt tt
-seen_follows (Waits params) = itself (Waits params)
-seen_follows (Ends result params told wakes) = itself (Ends result params told wakes)
+-- one that wakes as many as before at most
+back_fits : (call_kind : CallKind) (result : CallResult) (params : CopiedParams) (told : Bool) (wakes : Option ℕ)
+    (input : BackInput) → Fits call_kind (Ends result params told wakes)
+    → Fits call_kind (Ends result params told (wakes_back wakes input))
+back_fits kind.Open result params told wakes input fits = tt
+back_fits (kind.Invoke func) result params told wakes input fits = tt
+back_fits kind.Close result params told wakes input fits = tt
+back_fits kind.Settled result params told (Some woken) input fits = absurd fits
+back_fits kind.Settled result params told None Nothing fits = tt
+back_fits kind.Settled result params told None Buffer fits = tt
+back_fits kind.Settled result params told None NoBuffer fits = tt
+back_fits kind.Settled result params told None (Reply told_back) fits = tt
+
+-- an end is followed by an end that fits
+end_follows : (call_kind : CallKind) (result : CallResult) (params : CopiedParams) (told shown : Bool)
+    (wakes woken : Option ℕ)
+    → (Fits call_kind (Ends result params told wakes) → Fits call_kind (Ends result params shown woken))
+    → MayFollow call_kind (Ends result params told wakes) (Ends result params shown woken)
+end_follows call_kind result params told shown wakes woken fits =
+    record { fits = fits; works = λ works. absurd works; waits = λ waits. absurd waits }
+
+seen_follows : (call_kind : CallKind) (phase : CallPhase) → MayFollow call_kind phase (phase_seen phase)
+seen_follows call_kind (Runs job) = works_on call_kind (Runs job) (phase_seen (Runs job)) tt tt
+seen_follows call_kind (Asks job wanted payload) =
+    works_on call_kind (Asks job wanted payload) (phase_seen (Asks job wanted payload)) tt tt
+seen_follows call_kind (Waits params) = itself call_kind (Waits params)
+seen_follows call_kind (Ends result params told wakes) = itself call_kind (Ends result params told wakes)
 
 -- ---- one call changes
 
@@ -208,10 +233,10 @@ line_holds calls number call P (first ∷ rest) all found follows =
 -- a call in a phase that may follow its own
 pub follows : (z : Solo) (number : ℕ) (before now : OwnCall) → IsInOrder z → get z.calls number ≡ Some before
     → now.kind ≡ before.kind
-    → MayFollow before.phase now.phase → IsInOrder (with_call z number now)
+    → MayFollow before.kind before.phase now.phase → IsInOrder (with_call z number now)
 follows z number before now order found kinds may = has_call z number now order (record {
   numbered = order.numbered number before found;
-  fits = subst (λ k. Fits k now.phase) (sym kinds) (may.fits before.kind (order.fits number before found));
+  fits = subst (λ k. Fits k now.phase) (sym kinds) (may.fits (order.fits number before found));
   holder = λ holds. may.works (is_in_phase IsAtWork z.calls number before (order.holder number holds) found);
   waiting = line_holds z.calls number before (IsWaiting now.phase) z.waiting order.waiting found may.waits;
 })
@@ -249,14 +274,14 @@ next_call z call order fits = has_call (counted z) z.entered call (counts z orde
   waiting = none_next z (IsWaiting call.phase) z.waiting order order.waiting;
 })
 
-settles_so : (z : Solo) (code : ℕ) → IsInOrder z → IsInOrder (settles z code)
-settles_so z code order = next_call z (fresh_call kind.Settled (Ends (of_tee code) no_params false None)) order tt
+settles_so : (z : Solo) (area : Bool) (code : ℕ) → IsInOrder z → IsInOrder (settles z area code)
+settles_so z area code order = next_call z (fresh_call kind.Settled area (Ends (of_tee code) no_params false None)) order tt
 
 -- it waits behind the others
-waits_so : (z : Solo) (call_kind : CallKind) (params : CopiedParams) → IsInOrder z → Fits call_kind (Waits params)
-    → IsInOrder (waits z call_kind params)
-waits_so z call_kind params order fits =
-    let call : OwnCall = fresh_call call_kind (Waits params) in
+waits_so : (z : Solo) (call_kind : CallKind) (area : Bool) (params : CopiedParams) → IsInOrder z → Fits call_kind (Waits params)
+    → IsInOrder (waits z call_kind area params)
+waits_so z call_kind area params order fits =
+    let call : OwnCall = fresh_call call_kind area (Waits params) in
     let more = next_call z call order fits in
     let calls : NumberMap OwnCall = insert z.calls z.entered call in
     record {
@@ -303,14 +328,14 @@ begins_so app z number call start order below fits apart =
       numbered = has.numbered;
     }
 
-works_or_waits_so : (app : Application) (z : Solo) (call_kind : CallKind) (start : Start) → IsInOrder z
+works_or_waits_so : (app : Application) (z : Solo) (call_kind : CallKind) (area : Bool) (start : Start) → IsInOrder z
     → Fits call_kind (Waits start.params)
-    → ((job : Job) → Fits call_kind (Runs job)) → IsInOrder (works_or_waits app z call_kind start)
-works_or_waits_so app z call_kind start order waiting running =
-    if-both IsInOrder (is_held start.instance) (waits z call_kind start.params)
-    (begins app (counted z) z.entered (fresh_call call_kind (Waits start.params)) start)
-    (waits_so z call_kind start.params order waiting)
-    (begins_so app (counted z) z.entered (fresh_call call_kind (Waits start.params)) start (counts z order)
+    → ((job : Job) → Fits call_kind (Runs job)) → IsInOrder (works_or_waits app z call_kind area start)
+works_or_waits_so app z call_kind area start order waiting running =
+    if-both IsInOrder (is_held start.instance) (waits z call_kind area start.params)
+    (begins app (counted z) z.entered (fresh_call call_kind area (Waits start.params)) start)
+    (waits_so z call_kind area start.params order waiting)
+    (begins_so app (counted z) z.entered (fresh_call call_kind area (Waits start.params)) start (counts z order)
     (last_below z.entered) running
     (λ P. none_next z P z.waiting order order.waiting))
 
@@ -340,46 +365,48 @@ InOrderThen answered = IsInOrder answered.0
 
 -- ---- calls that come in
 
-opens_so : (app : Application) (z : Solo) (params : CopiedParams) (login : Login) → IsInOrder z
-    → IfAny IsInOrder (opens_first app z params login)
-opens_so app z params login order =
+opens_so : (app : Application) (z : Solo) (params : CopiedParams) (login : Login) (area : Bool) → IsInOrder z
+    → IfAny IsInOrder (opens_first app z params login area)
+opens_so app z params login area order =
     let session : OwnSession = record { login = login; context = 0; opened = false } in
     let with_session : Solo = record z { session = Some session } in
     let still : IsInOrder with_session = another_instance z (Some session) z.instance order order.holder in
     let start : Start = start_with (session, made app) params in
-    if-both (IfAny IsInOrder) (z.entered == 0) (Some (opens app z params login)) None
-    (begins_so app (counted with_session) z.entered (fresh_call kind.Open (Waits params)) start
+    if-both (IfAny IsInOrder) (z.entered == 0) (Some (opens app z params login area)) None
+    (begins_so app (counted with_session) z.entered (fresh_call kind.Open area (Waits params)) start
     (counts with_session still) (last_below z.entered)
     (λ job. tt) (λ P. none_next z P z.waiting order order.waiting))
     tt
 
-invokes_so : (app : Application) (z : Solo) (func : ℕ) (input : OwnInput) (at : OwnSession × Instance) → IsInOrder z
-    → IfAny IsInOrder (invokes app z func input at)
-invokes_so app z func input at order =
-    if-both (IfAny IsInOrder) at.1.dead (Some (settles z target_dead)) (invokes_with app z func input at)
-    (settles_so z target_dead order) (by_input input)
+invokes_so : (app : Application) (z : Solo) (func : ℕ) (input : OwnInput) (area : Bool) (at : OwnSession × Instance)
+    → IsInOrder z → IfAny IsInOrder (invokes app z func input area at)
+invokes_so app z func input area at order =
+    if-both (IfAny IsInOrder) at.1.dead (Some (settles z area target_dead)) (invokes_with app z func input area at)
+    (settles_so z area target_dead order) (by_input input)
   where
-    by_input : (came : OwnInput) → IfAny IsInOrder (invokes_with app z func came at)
-    by_input (Copied params) = works_or_waits_so app z (kind.Invoke func) (start_with at params) order tt (λ job. tt)
-    by_input Faulty = settles_so z bad_parameters order
+    by_input : (came : OwnInput) → IfAny IsInOrder (invokes_with app z func came area at)
+    by_input (Copied params) = works_or_waits_so app z (kind.Invoke func) area (start_with at params) order tt (λ job. tt)
+    by_input Faulty = settles_so z area bad_parameters order
     by_input Unread = tt
 
 -- ---- calls that come back
 
-phase_at_follows : (more : ℕ) (before now : CallPhase) → phase_at more before ≡ Some now → MayFollow before now
-phase_at_follows more (Runs job) now e = let left = option_map_some (λ (l : Job). Runs l) (after more job) now e in
-    subst (MayFollow (Runs job)) left.2 (works_on (Runs job) (Runs left.0) tt tt)
-phase_at_follows more (Asks job wanted payload) now e = let same : Asks job wanted payload ≡ now = cc in
-    subst (MayFollow (Asks job wanted payload)) same (itself _)
-phase_at_follows more (Waits params) now e = let same : Waits params ≡ now = cc in
-    subst (MayFollow (Waits params)) same (itself _)
-phase_at_follows more (Ends result params told wakes) now e =
+phase_at_follows : (call_kind : CallKind) (more : ℕ) (before now : CallPhase) → phase_at more before ≡ Some now
+    → MayFollow call_kind before now
+phase_at_follows k more (Runs job) now e = let left = option_map_some (λ (l : Job). Runs l) (after more job) now e in
+    subst (MayFollow k (Runs job)) left.2 (works_on k (Runs job) (Runs left.0) tt tt)
+phase_at_follows k more (Asks job wanted payload) now e = let same : Asks job wanted payload ≡ now = cc in
+    subst (MayFollow k (Asks job wanted payload)) same (itself k _)
+phase_at_follows k more (Waits params) now e = let same : Waits params ≡ now = cc in
+    subst (MayFollow k (Waits params)) same (itself k _)
+phase_at_follows k more (Ends result params told wakes) now e =
     let same : Ends result params told wakes ≡ now = cc in
-    subst (MayFollow (Ends result params told wakes)) same (itself _)
+    subst (MayFollow k (Ends result params told wakes)) same (itself k _)
 
-both_follow : (first second third : CallPhase) → MayFollow first second → MayFollow second third → MayFollow first third
-both_follow first second third one other = record {
-  fits = λ k fits. other.fits k (one.fits k fits);
+both_follow : (call_kind : CallKind) (first second third : CallPhase) → MayFollow call_kind first second
+    → MayFollow call_kind second third → MayFollow call_kind first third
+both_follow call_kind first second third one other = record {
+  fits = λ fits. other.fits (one.fits fits);
   works = λ works. other.works (one.works works);
   waits = λ waits. other.waits (one.waits waits);
 }
@@ -390,8 +417,8 @@ sees_so z number done_by_now call order found =
     if_any_map IsInOrder _ (phase_at (done_by_now - call.steps) call.phase)
     (λ phase there. follows z number call (record call { seen = true; steps = done_by_now; phase = phase_seen phase })
     order found refl
-    (both_follow call.phase phase (phase_seen phase)
-    (phase_at_follows (done_by_now - call.steps) call.phase phase there) (seen_follows phase)))
+    (both_follow call.kind call.phase phase (phase_seen phase)
+    (phase_at_follows call.kind (done_by_now - call.steps) call.phase phase there) (seen_follows call.kind phase)))
 
 -- a job that has asked stays at work
 advance_works : (before : CallPhase) (next : Advance) → IsAtWork before → IsAtWork (phase_after before next)
@@ -449,7 +476,7 @@ gives_up_so : (z : Solo) (number : ℕ) (call : OwnCall) (code : ℕ) → IsInOr
 gives_up_so z number call code order w =
     has_call (without_waiter z number) number _ (leaves_line z number order) (record {
       numbered = order.numbered number w.own w.there;
-      fits = end_fits call.kind (of_tee code) no_params false None;
+      fits = quiet_fits call.kind (of_tee code) no_params false;
       holder =
           λ holds.
           absurd (not_both w.own.phase (is_in_phase IsAtWork z.calls number w.own
@@ -476,7 +503,8 @@ tests_again_so app z w at order there =
     (if-both IsInOrder (is_no_buffer w.input) (gives_up z w.number w.call out_of_memory) (with_call z w.number w.call)
     (gives_up_so z w.number w.call out_of_memory order there)
     (follows z w.number there.own w.call order there.there there.kinds
-    (subst (λ (p : CallPhase). MayFollow there.own.phase p) (sym there.phases) (itself there.own.phase))))
+    (subst (λ (p : CallPhase). MayFollow there.own.kind there.own.phase p) (sym there.phases)
+    (itself there.own.kind there.own.phase))))
     (begins_so app (without_waiter z w.number) w.number w.call
     (record { session = at.0; instance = at.1; params = w.params; seen = w.call.seen })
     (leaves_line z w.number order) (order.numbered w.number there.own there.there)
@@ -492,7 +520,7 @@ back_in_so app z number own call input (Runs job) order found kinds phases is = 
 back_in_so app z number own call input (Asks job wanted payload) order found kinds phases is =
     let works : IsAtWork call.phase = subst IsAtWork (sym is) tt in
     follows z number own (record call { phase = phase_back call.phase job input }) order found kinds
-    (works_on own.phase (phase_back call.phase job input) (subst IsAtWork phases works)
+    (works_on own.kind own.phase (phase_back call.phase job input) (subst IsAtWork phases works)
     (back_works call.phase job input works))
 back_in_so app z number own call input (Waits params) order found kinds phases is =
     let there : WaitsThere z number call =
@@ -502,8 +530,9 @@ back_in_so app z number own call input (Waits params) order found kinds phases i
     (λ at. tests_again_so app z w at order there) (gives_up_so z number call bad_parameters order there)
 back_in_so app z number own call input (Ends result params told wakes) order found kinds phases is =
     follows z number own (record call { phase = Ends result params told (wakes_back wakes input) }) order found kinds
-    (subst (λ (p : CallPhase). MayFollow p (Ends result params told (wakes_back wakes input))) (sym is ∙ phases)
-    (end_follows result result params params told told wakes (wakes_back wakes input)))
+    (subst (λ (p : CallPhase). MayFollow own.kind p (Ends result params told (wakes_back wakes input))) (sym is ∙ phases)
+    (end_follows own.kind result params told told wakes (wakes_back wakes input)
+    (back_fits own.kind result params told wakes input)))
 
 back_so : (app : Application) (z : Solo) (number : ℕ) (input : BackInput) (call : OwnCall) → IsInOrder z
     → get z.calls number ≡ Some call
@@ -528,7 +557,7 @@ none_holds session is_last change (Some instance) frees =
 gives_back_so : (z : Solo) (number : ℕ) (call now : OwnCall) (session : Option OwnSession) (is_last : Bool)
     (change : Instance → Instance)
     → IsInOrder z → get z.calls number ≡ Some call → now.kind ≡ call.kind → IsAtWork call.phase
-    → ((call_kind : CallKind) → Fits call_kind now.phase)
+    → Fits now.kind now.phase
     → ((instance : Instance) → (change instance).holder ≡ None)
     → IsInOrder (with_call (gives_back z session is_last change) number now)
 gives_back_so z number call now session is_last change order found kinds works fits frees =
@@ -537,7 +566,7 @@ gives_back_so z number call now session is_last change order found kinds works f
     let free : IsInOrder back = another_instance z session back.instance order (λ n holds. no_holder n none holds) in
     has_call back number now free (record {
       numbered = order.numbered number call found;
-      fits = fits now.kind;
+      fits = fits;
       holder = λ holds. absurd (nobody number none holds);
       waiting = line_holds z.calls number call (IsWaiting now.phase) z.waiting order.waiting found
           (λ waits. absurd (not_both call.phase works waits));
@@ -556,17 +585,21 @@ stopped_so : (z : Solo) (number : ℕ) (call own : OwnCall) (why : JobStop) → 
     → call.kind ≡ own.kind
     → IsAtWork own.phase → InOrderGoing number (stopped z call why)
 stopped_so z number call own (steps.Ends end) order found kinds works =
-    gives_back_so z number own _ _ end.is_last (given_back end.memory end.objects) order found kinds works
-    (λ k. end_fits k _ _ true _) (λ instance. refl)
+    let session : Option OwnSession = option_and_then (session_ended call.kind end) z.session in
+    gives_back_so z number own _ session end.is_last (given_back end.memory end.objects) order found kinds works
+    (shown_fits (gives_back z session end.is_last (given_back end.memory end.objects)) call.kind _ _ true)
+    (λ instance. refl)
 stopped_so z number call own (steps.Panics code) order found kinds works =
-    gives_back_so z number own _ _ false killed order found kinds works (λ k. end_fits k _ _ true _) (λ instance. refl)
+    let session : Option OwnSession = option_and_then (session_panicked call.kind) z.session in
+    gives_back_so z number own _ session false killed order found kinds works
+    (shown_fits (gives_back z session false killed) call.kind _ _ true) (λ instance. refl)
 stopped_so z number call own (steps.Asks wanted payload left) order found kinds works =
     follows z number own (record call { phase = Asks left wanted payload }) order found kinds
-    (works_on own.phase (Asks left wanted payload) works tt)
+    (works_on own.kind own.phase (Asks left wanted payload) works tt)
 
 same_call : (z : Solo) (number : ℕ) (call : OwnCall) → IsInOrder z → get z.calls number ≡ Some call
     → IsInOrder (with_call z number call)
-same_call z number call order found = follows z number call call order found refl (itself call.phase)
+same_call z number call order found = follows z number call call order found refl (itself call.kind call.phase)
 
 granted_so : (z : Solo) (number : ℕ) (call : OwnCall) (grant : Grant) → IsInOrder z → get z.calls number ≡ Some call
     → IsAtWork call.phase
@@ -588,8 +621,9 @@ going_so most z number call (Ends result params false wakes) order found is =
     let without : Solo = record z { session = option_and_then (session_unrun call.kind) z.session } in
     let shown : Going = shows without call result params in
     follows without number call shown.call (another_instance z without.session z.instance order order.holder) found refl
-    (subst (λ (p : CallPhase). MayFollow p shown.call.phase) (sym is)
-    (end_follows result result params params false true wakes (woken_by without call.kind)))
+    (subst (λ (p : CallPhase). MayFollow call.kind p shown.call.phase) (sym is)
+    (end_follows call.kind result params false true wakes (woken_by without call.kind)
+    (λ fits. shown_fits without call.kind result params true)))
 
 -- a call that has ended is there no more
 gone_so : (z : Solo) (number : ℕ) (call : OwnCall) → IsInOrder z → get z.calls number ≡ Some call
@@ -628,7 +662,7 @@ again : (z : Solo) (number : ℕ) (call now : OwnCall) → IsInOrder (with_call 
 again z number call now order kinds phases =
     subst (λ (calls : NumberMap OwnCall). IsInOrder (record z { calls = calls })) (insert-again z.calls number call now)
     (follows (with_call z number call) number call now order (get-insert-same z.calls number call) kinds
-    (subst (MayFollow call.phase) (sym phases) (itself call.phase)))
+    (subst (MayFollow call.kind call.phase) (sym phases) (itself call.kind call.phase)))
 
 out_so : (z : Solo) (number : ℕ) (call : OwnCall) (phase : CallPhase) → IsInOrder (with_call z number call)
     → call.phase ≡ phase
@@ -662,15 +696,15 @@ silent_so (Some z) order = order
 
 pub step_so : (most : ℕ) (app : Application) (z : Solo) (came : OwnEvent) → IsInOrder z
     → IfAny InOrderThen (step most app z came)
-step_so most app z (Open params login) order =
-    silent_so (opens_first app z params login) (opens_so app z params login order)
-step_so most app z (Invoke func input) order =
-    silent_so (option_and_then (invokes app z func input) (home z))
-    (if_any_then IsInOrder (invokes app z func input) (home z) (λ at _. invokes_so app z func input at order))
-step_so most app z Close order =
-    if_any_map InOrderThen (λ at. silent (closes app z at)) (home z)
-    (λ at _. works_or_waits_so app z kind.Close (start_with at no_params) order tt (λ job. tt))
-step_so most app z Cancel order = settles_so z success order
+step_so most app z (Open params login area) order =
+    silent_so (opens_first app z params login area) (opens_so app z params login area order)
+step_so most app z (Invoke func input area) order =
+    silent_so (option_and_then (invokes app z func input area) (home z))
+    (if_any_then IsInOrder (invokes app z func input area) (home z) (λ at _. invokes_so app z func input area at order))
+step_so most app z (Close area) order =
+    if_any_map InOrderThen (λ at. silent (closes app z area at)) (home z)
+    (λ at _. works_or_waits_so app z kind.Close area (start_with at no_params) order tt (λ job. tt))
+step_so most app z Cancel order = settles_so z false success order
 step_so most app z (Seen number done_by_now) order =
     silent_so (option_and_then (sees z number done_by_now) (get z.calls number))
     (if_any_then IsInOrder (sees z number done_by_now) (get z.calls number)

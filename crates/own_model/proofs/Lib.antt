@@ -28,6 +28,7 @@ pub mod OwnTaken
 pub mod OwnCalls
 pub mod OwnEntries
 pub mod BelowNumbers
+pub mod PinnedTables
 pub mod OwnOpens
 pub mod Before
 pub mod EventKinds

@@ -52,9 +52,9 @@ out_more most more z number call answered le e =
 
 step_more : (most more : ℕ) (app : Application) (z : Solo) (came : OwnEvent) (answered : Answered) → most ≤ more
     → step most app z came ≡ Some answered → step more app z came ≡ Some answered
-step_more most more app z (Open params login) answered le e = e
-step_more most more app z (Invoke func input) answered le e = e
-step_more most more app z Close answered le e = e
+step_more most more app z (Open params login area) answered le e = e
+step_more most more app z (Invoke func input area) answered le e = e
+step_more most more app z (Close area) answered le e = e
 step_more most more app z Cancel answered le e = e
 step_more most more app z (Seen number done_by_now) answered le e = e
 step_more most more app z (Back number input) answered le e = e

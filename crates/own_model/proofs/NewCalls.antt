@@ -11,7 +11,7 @@ use Rattle.session_table.specs.declared.session.Session.{Session}
 use Rattle.shm_registry.specs.declared.page_buffer.PageBuffer.{PageBuffer}
 use Rattle.shm_registry.specs.Registered.{lowest_slot}
 use Rattle.kernel_model.specs.Application.{Application, Booted}
-use Rattle.kernel_model.specs.Argument.{Opening, argument_at, invocation, opening, params_in, registering}
+use Rattle.kernel_model.specs.Argument.{Opening, invocation, opening, params_in, registering}
 use Rattle.kernel_model.specs.Argument.{unregistering}
 use Rattle.kernel_model.specs.Codes.{bad_parameters, busy, ebadaddr, ebadcmd, item_not_found, out_of_memory}
 use Rattle.kernel_model.specs.Codes.{target_dead}
@@ -19,8 +19,9 @@ use Rattle.kernel_model.specs.Decision.{Taken, Tested}
 use Rattle.kernel_model.specs.Instances.{app_of}
 use Rattle.kernel_model.specs.Kernel.{Instance, Tables}
 use Rattle.kernel_model.specs.NewCall.{NewCall, cancel_calls, cancels, close_session, closes, command_of, commands}
-use Rattle.kernel_model.specs.NewCall.{copied_params, has_argument, has_pages, has_session_room, invoke_command}
-use Rattle.kernel_model.specs.NewCall.{invokes, is_head_address, is_taken, keeps_buffers, listed_pages, named_session}
+use Rattle.kernel_model.specs.NewCall.{copied_params, has_pages, has_session_room, invoke_command}
+use Rattle.kernel_model.specs.Located.{Located, has_argument, has_head, located}
+use Rattle.kernel_model.specs.NewCall.{invokes, is_taken, keeps_buffers, listed_pages, named_session}
 use Rattle.kernel_model.specs.NewCall.{new_call_in, new_call_of, open_session, opens_or_waits, pages_touched}
 use Rattle.kernel_model.specs.NewCall.{parameters, register_memory, settles, settles_invoke, settles_open, shares_one}
 use Rattle.kernel_model.specs.NewCall.{unregister_memory}
@@ -47,6 +48,21 @@ pub record OfAllEndings (P : Taken → Type 0) (c : NewCall) : Type 0 where
   pub closed : (named : Session × Instance) → named_session c ≡ Some named → P (closes c named)
   pub cancelled : (named : Session × Instance) → named_session c ≡ Some named → P (cancels c)
   pub registered : (buffers : NumberMap PageBuffer) → P (keeps_buffers c buffers)
+
+-- what holds in each way, where what holds there implies it
+pub endings_weaker : (P Q : Taken → Type 0) (c : NewCall) → ((taken : Taken) → P taken → Q taken)
+    → OfAllEndings P c → OfAllEndings Q c
+endings_weaker P Q c then all = record {
+  settled = λ code. then _ (all.settled code);
+  settled_open = λ of login code. then _ (all.settled_open of login code);
+  opened = λ wanted of copies is. then _ (all.opened wanted of copies is);
+  dead = λ named is that. then _ (all.dead named is that);
+  faulty = λ named is that. then _ (all.faulty named is that);
+  invoked = λ named copies is that. then _ (all.invoked named copies is that);
+  closed = λ named is. then _ (all.closed named is);
+  cancelled = λ named is. then _ (all.cancelled named is);
+  registered = λ buffers. then _ (all.registered buffers);
+}
 
 parameters_fails : (P : Taken → Type 0) (c : NewCall) → OfAllEndings P c → Fails P (parameters c)
 parameters_fails P c all =
@@ -143,12 +159,13 @@ command_ends P cmd command is c all =
 
 -- what an entry's call takes its slot for, where the tables are these
 pub call_ends : (boot : Booted) (tables : Tables) (regs : List ℕ) (slot : ℕ) (P : Taken → Type 0)
-    → ((bytes : List ℕ) → OfAllEndings P (new_call_of boot tables regs slot bytes))
+    → ((at : Located) (bytes : List ℕ) → OfAllEndings P (new_call_of boot tables regs slot at bytes))
     → AllOf (TakenIn P) (new_call_in boot tables regs slot)
 call_ends boot tables regs slot P all =
-    answer_need P (is_head_address (argument_at regs)) ebadaddr _ (
-    answer_read P (take_bytes (argument_at regs) 32) _ (λ bytes.
-    answer_need P (has_argument (argument_at regs) (head_at bytes)) ebadaddr _ (
+    answer_known P (located tables regs) ebadaddr _ (λ at there.
+    answer_need P (has_head at) ebadaddr _ (
+    answer_read P (take_bytes at.addr 32) _ (λ bytes.
+    answer_need P (has_argument at (head_at bytes)) ebadaddr _ (
     answer_known P (command_of (head_at bytes).cmd) ebadcmd _ (λ command is.
-    let c = new_call_of boot tables regs slot bytes in
-    taken_ends P (command c) (command_ends P (head_at bytes).cmd command is c (all bytes))))))
+    let c = new_call_of boot tables regs slot at bytes in
+    taken_ends P (command c) (command_ends P (head_at bytes).cmd command is c (all at bytes)))))))

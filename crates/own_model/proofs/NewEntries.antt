@@ -1,6 +1,6 @@
 -- An entry with a new call: what its slot is taken for, and what is noted of it.
-use Rattle.std.proofs.Common.{◌≡◌, ℕ, true, List, Option, Some, None, Ok, Err, refl, ap, subst, sym, ◌∙◌}
-use Rattle.std.specs.Prelude.{slice_get, slice_set}
+use Rattle.std.proofs.Common.{◌≡◌, ℕ, true, List, Option, Some, None, Ok, Err, refl, ap, subst, ◌∙◌}
+use Rattle.std.specs.Prelude.{IsTrue, slice_get, slice_set}
 use Rattle.std.proofs.lemmas.List.Quantifiers.{position-Some}
 use Rattle.std.proofs.lemmas.Option.{slice_get-get_or}
 use Rattle.event_journal.specs.declared.event.Event.TheVariants.{Entry}
@@ -8,15 +8,18 @@ use Rattle.ns_ram.specs.Attempt.{Attempt, passes, ◌>>=◌}
 use Rattle.ns_ram.specs.declared.read.Read.{Read}
 use Rattle.ns_ram.specs.Reader.{done, want_bytes, want_words}
 use Rattle.smc_abi.specs.declared.answer.Answer.{Answer}
+use Rattle.smc_abi.specs.Call.{call_of}
 use Rattle.smc_abi.specs.declared.call.Call.{Call}
+use Rattle.smc_abi.specs.declared.call.Call.TheVariants.{Fast, Resume, Unknown, WithArg, WithRegdArg, WithRpcArg}
 use Rattle.smc_abi.specs.declared.regs.Regs.{Regs}
 use Rattle.kernel_model.specs.Application.{Booted}
-use Rattle.kernel_model.specs.Argument.{IsNew}
+use Rattle.kernel_model.specs.Argument.{IsNew, is_new, reg}
 use Rattle.kernel_model.specs.Decision.{Answers, Decision, Taken, Takes, decided_by}
 use Rattle.kernel_model.specs.Entry.{after_decision, decision_of}
 use Rattle.kernel_model.specs.History.{after_event}
 use Rattle.kernel_model.specs.Kernel.{Active, Free, InSlot, Inside, Kernel, PendingCall, Processor, Suspended}
 use Rattle.kernel_model.specs.Kernel.{ThreadSlot, Visit, cancelled_slots, is_free, lowest_free}
+use Rattle.kernel_model.specs.Located.{Located}
 use Rattle.kernel_model.specs.NewCall.{new_call_in, new_call_of, new_call_with}
 use Rattle.kernel_model.proofs.FixedAnswer.{decided_errand, decides_all, errand_of}
 use Rattle.kernel_model.proofs.Parts.{AllOf, set_then_read}
@@ -55,8 +58,8 @@ slot_decides P kernel slot (want_words addr most test next) free all =
 
 -- whichever free slot it takes, it holds of each way in which the call can end
 abbrev pub OfAllCalls : (ℕ → Taken → Type 0) → Booted → Kernel → List ℕ → Type 0
-OfAllCalls P boot kernel regs = (slot : ℕ) → slice_get kernel.slots slot ≡ Some Free → (bytes : List ℕ) →
-    OfAllEndings (P slot) (new_call_of boot kernel.tables regs slot bytes)
+OfAllCalls P boot kernel regs = (slot : ℕ) → slice_get kernel.slots slot ≡ Some Free → (at : Located) (bytes : List ℕ) →
+    OfAllEndings (P slot) (new_call_of boot kernel.tables regs slot at bytes)
 
 pub call_decides : (P : ℕ → Taken → Type 0) (boot : Booted) (kernel : Kernel) (regs : List ℕ) (free : Option ℕ)
     → lowest_free kernel.slots ≡ free → OfAllCalls P boot kernel regs
@@ -111,12 +114,23 @@ pub new_call_taken : (P : ℕ → Taken → Type 0) (boot : Booted) (kernel next
     → IsTaken P kernel next (record { cpu = cpu; regs = regs.a; steps = steps }) slot now
 new_call_taken P boot kernel next cpu steps slot regs reads now is all inside there e =
     let visit : Visit = record { cpu = cpu; regs = regs.a; steps = steps } in
-    let decides = subst (λ (c : Call). AllOf (TakesFree P kernel) (decision_of boot kernel regs.a c)) (sym is)
-    (call_decides P boot kernel regs.a (lowest_free kernel.slots) refl all) in
+    let decides = by_call (call_of (reg regs.a 0)) is in
     let found = decides_all (TakesFree P kernel) boot kernel next visit reads decides
     (entered boot kernel next cpu steps regs reads e) in
     decided_taken P kernel next visit slot now found.value found.holds
     (decided_errand kernel next visit (InSlot slot) found.value found.gives inside) found.gives there
+  where
+    new : AllOf (TakesFree P kernel) (decided_by (new_call_with boot kernel.tables regs.a (lowest_free kernel.slots)))
+    new = call_decides P boot kernel regs.a (lowest_free kernel.slots) refl all
+
+    -- of each of the three calls
+    by_call : (call : Call) → IsTrue (is_new call) → AllOf (TakesFree P kernel) (decision_of boot kernel regs.a call)
+    by_call (Fast call) is_one = absurd cc
+    by_call WithArg is_one = new
+    by_call WithRpcArg is_one = new
+    by_call WithRegdArg is_one = new
+    by_call Resume is_one = absurd cc
+    by_call Unknown is_one = absurd cc
 
 -- what is noted of it
 pub new_call_noted : (session : ℕ) (kernel next : Kernel) (cpu steps slot : ℕ) (regs : Regs) (reads : List Read)

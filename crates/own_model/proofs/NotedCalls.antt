@@ -1,6 +1,6 @@
 -- Of which new calls an event of a session is noted.
 use Rattle.std.proofs.Common.{◌≡◌, ℕ, Bool, true, false, Option, Some, None, refl, ap, ◌∙◌, arith}
-use Rattle.std.specs.Prelude.{◌==◌, if◌then◌else◌}
+use Rattle.std.specs.Prelude.{◌==◌, if◌then◌else◌, is_some}
 use Rattle.std.proofs.lemmas.Bool.Decides.{nat_tests}
 use Rattle.kernel_model.specs.Kernel.{PendingCall}
 use Rattle.kernel_model.proofs.Parts.{if-both}
@@ -37,5 +37,5 @@ untold_unnoted session call of = of
 -- nor of a call of another session
 pub other_unnoted : (session : ℕ) (call : PendingCall) → (call.session ≡ session → ⊥) → event_of session call ≡ None
 other_unnoted session call apart =
-    ap (λ b. if b then event_in call.settled call.kind call.phase else None)
+    ap (λ b. if b then event_in (is_some call.area) call.settled call.kind call.phase else None)
     (apart_numbers call.session session apart (call.session == session) refl)

@@ -12,12 +12,15 @@ use Rattle.kernel_model.specs.Decision.{Taken, Takes}
 use Rattle.kernel_model.specs.Entry.{after_decision}
 use Rattle.kernel_model.specs.History.{after_event}
 use Rattle.kernel_model.specs.Kernel.{Active, Cancel, Free, InSlot, Inside, Kernel, PendingCall, Suspended, ThreadSlot}
+use Rattle.kernel_model.specs.Located.{Located, cookie_of}
 use Rattle.kernel_model.specs.Kernel.{Visit, cancelled_slot, cancelled_slots}
 use Rattle.kernel_model.specs.NewCall.{new_call_of}
 use Rattle.own_model.proofs.FixedAnswers.{goes_silently}
 use Rattle.own_model.proofs.NewEntries.{new_call_noted, new_call_taken}
-use Rattle.own_model.proofs.OtherCalls.{Beside, TakesOther, endings_other}
+use Rattle.own_model.proofs.NewCalls.{endings_weaker}
+use Rattle.own_model.proofs.OtherCalls.{Beside, IfUnnoted, TakesOther, endings_other}
 use Rattle.own_model.proofs.OtherExits.{held_other, slot_keeps}
+use Rattle.own_model.proofs.PinnedTables.{given_pinned, other_unpinned}
 use Rattle.kernel_model.specs.Sound.{unmarked}
 use Rattle.own_model.proofs.Others.{KeepsSlots, stays_tied, there_but_marked}
 use Rattle.own_model.specs.declared.own_event.OwnEvent.{OwnEvent}
@@ -28,15 +31,15 @@ use Rattle.own_model.specs.Tied.{IsOther, Whose, call_at, call_in}
 
 beside : (boot : Booted) (about : About) (kernel : Kernel) (notes : Notes) (solo : Solo) (regs : List ℕ) (slot : ℕ)
     → SharesNone boot about.app
-    → AreTied about kernel notes solo → (bytes : List ℕ)
-    → Beside about.app (whose_of about.session about.instance notes) (new_call_of boot kernel.tables regs slot bytes)
-beside boot about kernel notes solo regs slot shares tied bytes = record {
+    → AreTied about kernel notes solo → (at : Located) (bytes : List ℕ)
+    → Beside about.app (whose_of about.session about.instance notes) (new_call_of boot kernel.tables regs slot at bytes)
+beside boot about kernel notes solo regs slot shares tied at bytes = record {
   of_boot = shares.of_boot;
   shares_none = shares.shares_none;
   only = tied.alone.only;
   instances = tied.of_app;
   waiters = tied.waiters.uuids;
-  given = tied.given;
+  given = given_pinned (whose_of about.session about.instance notes) kernel.tables (cookie_of at) slot tied.given;
 }
 
 -- a free slot has no number
@@ -119,8 +122,12 @@ other_call boot about kernel next cpu steps slot regs reads now notes solo share
     new_call_taken (λ at (taken : Taken). event_of about.session taken.call ≡ None
     → TakesOther whose kernel.tables taken)
     boot kernel next cpu steps slot regs reads now is
-    (λ at free bytes. endings_other about.app whose (new_call_of boot kernel.tables regs.a at bytes)
-    (beside boot about kernel notes solo regs.a at shares tied bytes))
+    (λ at free place bytes.
+    let c = new_call_of boot kernel.tables regs.a at place bytes in
+    endings_weaker (IfUnnoted whose c)
+    (λ (taken : Taken). event_of about.session taken.call ≡ None → TakesOther whose kernel.tables taken) c
+    (λ taken holds none. other_unpinned whose kernel.tables taken (cookie_of place) at (holds none))
+    (endings_other about.app whose c (beside boot about kernel notes solo regs.a at shares tied place bytes)))
     inside there e in
     let takes = found.holds (ap (λ (c : PendingCall). event_of about.session c) found.call_is ∙ none) in
     let unnumbered = no_number about kernel notes solo slot (get notes.numbering.in_slots slot) refl found.free tied in

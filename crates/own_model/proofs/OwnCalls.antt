@@ -44,10 +44,10 @@ use Rattle.own_model.specs.declared.own_event.OwnInput.{OwnInput}
 use Rattle.own_model.specs.declared.own_event.OwnInput.TheVariants.{Copied, Faulty, Unread}
 use Rattle.own_model.specs.Own.{Notes, event_of, input_settled, uuid_by}
 use Rattle.own_model.specs.Parameters.{params_of}
-use Rattle.own_model.specs.Solo.{OwnSession, Solo, Start, counted, fresh_call, home, invokes_with, job_of, points_of}
+use Rattle.own_model.specs.Solo.{OwnCall, OwnSession, Solo, Start, counted, fresh_call, home, invokes_with, job_of, points_of}
 use Rattle.own_model.specs.Solo.{settles, silent, start_with, step, waits, begins}
 use Rattle.own_model.specs.Solo as solo
-use Rattle.own_model.specs.Tied.{AreTiedWaiters, FoundAlike, HoldersAlike, InstancesAlike, IsOn, PhasesAlike, Tied}
+use Rattle.own_model.specs.Tied.{AreTiedWaiters, AreasAlike, FoundAlike, HoldersAlike, InstancesAlike, IsOn, PhasesAlike, Tied}
 use Rattle.own_model.specs.Tied.{Whose, shown}
 
 -- a new call where a session of this application is tied: what is known of the kernel. It has a free slot
@@ -82,16 +82,16 @@ unnoted app most whose slots z c taken none = λ came noted. not_both came (sym 
 -- ---- calls that are settled in the session
 
 settled_takes : (app : Application) (whose : Whose) (slots : List ThreadSlot) (z : Solo) (c : NewCall)
-    (settled : SettledCall) (cancelled : Option Cancel) (code : ℕ)
+    (settled : SettledCall) (cancelled : Option Cancel) (area : Bool) (code : ℕ)
     → Within app whose slots z c → c.head.session ≡ whose.session
     → TakesOwn app whose slots c.slot c.tables z
     (record {
       call = record (settled_call c code) { settled = settled; session = c.head.session };
       tables = c.tables;
       cancels = cancelled;
-    }) (settles z code)
-settled_takes app whose slots z c settled cancelled code w session = record {
-  own = fresh_call kind.Settled (Ends (of_tee code) no_params false None);
+    }) (settles z area code)
+settled_takes app whose slots z c settled cancelled area code w session = record {
+  own = fresh_call kind.Settled area (Ends (of_tee code) no_params false None);
   enters = record {
     free = w.free;
     none = w.none;
@@ -100,6 +100,7 @@ settled_takes app whose slots z c settled cancelled code w session = record {
       on_instance = tt;
       kinds = refl;
       seen = refl;
+      areas = tt;
       buffers = refl;
       phases = (refl, refl, refl, tt);
       flagged = λ no. absurd cc;
@@ -123,9 +124,9 @@ cancels_own : (app : Application) (most : ℕ) (whose : Whose) (slots : List Thr
 cancels_own app most whose slots z c w = λ came noted.
     let is = noted_is c.head.session whose.session (Some event.Cancel) came noted in
     let at : ComesIn app most whose slots z c.slot c.tables (cancels c) event.Cancel = record {
-      machine = settles z success;
+      machine = settles z false success;
       steps = refl;
-      takes = settled_takes app whose slots z c _ _ success w is.0;
+      takes = settled_takes app whose slots z c _ _ false success w is.0;
       keeps_uuid = λ notes. refl;
     } in
     subst (ComesIn app most whose slots z c.slot c.tables (cancels c)) (same_event event.Cancel came is.1) at
@@ -247,6 +248,13 @@ is_on instance call (kind.Invoke func) here = here
 is_on instance call kind.Close here = here
 is_on instance call kind.Settled here = tt
 
+areas_alike : (call : PendingCall) (own : OwnCall) (call_kind : CallKind) → is_some call.area ≡ own.area
+    → AreasAlike call own call_kind
+areas_alike call own kind.Open same = same
+areas_alike call own (kind.Invoke func) same = same
+areas_alike call own kind.Close same = same
+areas_alike call own kind.Settled same = tt
+
 no_more : 0 ≤ 0
 no_more = omega arith
 
@@ -256,7 +264,7 @@ enters_so : (app : Application) (whose : Whose) (slots : List ThreadSlot) (z : S
     (phase own_phase : CallPhase) → Within app whose slots z c → AtHome whose z c named → c.head.session ≡ whose.session
     → ((kept : Option ℕ) → PhasesAlike kept 0 0 phase own_phase)
     → Entrant whose slots c.slot (call_about c (about_session c call_kind named.0 named.1 copies) phase)
-    (fresh_call call_kind own_phase)
+    (fresh_call call_kind (is_some c.area) own_phase)
 enters_so app whose slots z c named call_kind copies phase own_phase w h session phases = record {
   free = w.free;
   none = w.none;
@@ -266,6 +274,8 @@ enters_so app whose slots z c named call_kind copies phase own_phase w h session
         call_kind h.number;
     kinds = refl;
     seen = refl;
+    areas = areas_alike (call_about c (about_session c call_kind named.0 named.1 copies) phase)
+        (fresh_call call_kind (is_some c.area) own_phase) call_kind refl;
     buffers = refl;
     phases = phases kept;
     flagged = λ no. absurd cc;
@@ -277,11 +287,11 @@ waits_takes : (app : Application) (whose : Whose) (slots : List ThreadSlot) (z :
     (named : Session × Instance) (call_kind : CallKind) (copies : Copies)
     → Within app whose slots z c → AtHome whose z c named → c.head.session ≡ whose.session
     → TakesOwn app whose slots c.slot c.tables z (waits_in c c.tables (about_session c call_kind named.0 named.1 copies)
-    copies) (waits z call_kind copies.params)
+    copies) (waits z call_kind (is_some c.area) copies.params)
 waits_takes app whose slots z c named call_kind copies w h session =
     let last : Waiter = record { instance = named.0.instance; uuid = named.1.uuid; slot = c.slot } in
     record {
-      own = fresh_call call_kind (Waits copies.params);
+      own = fresh_call call_kind (is_some c.area) (Waits copies.params);
       enters = enters_so app whose slots z c named call_kind copies (Waits copies.params)
           (Waits copies.params) w h session (λ kept. (refl, refl));
       sessions = refl;
@@ -309,7 +319,7 @@ runs_takes : (app : Application) (whose : Whose) (slots : List ThreadSlot) (z : 
     (runs_in c (begins_on (beginner c) named.0 named.1 copies.params points).tables
     (about_session c call_kind named.0 named.1 copies) copies.cookies
     (begins_on (beginner c) named.0 named.1 copies.params points).job)
-    (begins app (counted z) z.entered (fresh_call call_kind (Waits copies.params))
+    (begins app (counted z) z.entered (fresh_call call_kind (is_some c.area) (Waits copies.params))
     (start_with (shown named.0, h.own) copies.params))
 runs_takes app whose slots z c named call_kind copies points w h session same =
     let start : Start = start_with (shown named.0, h.own) copies.params in
@@ -317,7 +327,7 @@ runs_takes app whose slots z c named call_kind copies points w h session same =
     let held : Instance = held_by c.slot named.1 in
     let begun : Begun = begins_on (beginner c) named.0 named.1 copies.params points in
     record {
-      own = fresh_call call_kind (Runs (job_of app call_kind start));
+      own = fresh_call call_kind (is_some c.area) (Runs (job_of app call_kind start));
       enters = enters_so app whose slots z c named call_kind copies (Runs begun.job)
           (Runs (job_of app call_kind start)) w h session (λ kept. record {
             more = no_more;
@@ -355,17 +365,17 @@ works_takes : (app : Application) (whose : Whose) (slots : List ThreadSlot) (z :
     (points : List EntryPoint) → Within app whose slots z c → (h : AtHome whose z c named)
     → c.head.session ≡ whose.session → points ≡ points_of call_kind
     → TakesOwn app whose slots c.slot c.tables z (new.works_or_waits c call_kind named.0 named.1 copies points)
-    (solo.works_or_waits app z call_kind (start_with (shown named.0, h.own) copies.params))
+    (solo.works_or_waits app z call_kind (is_some c.area) (start_with (shown named.0, h.own) copies.params))
 works_takes app whose slots z c named call_kind copies points w h session same =
     subst (λ b. TakesOwn app whose slots c.slot c.tables z
     (new.works_or_waits c call_kind named.0 named.1 copies points) (if b then waiting else working))
     (sym (held_alike whose.numbering.in_slots named.1.holder h.own.holder h.alike.holders)) (by_test (is_held named.1))
   where
     waiting : Solo
-    waiting = waits z call_kind copies.params
+    waiting = waits z call_kind (is_some c.area) copies.params
 
     working : Solo
-    working = begins app (counted z) z.entered (fresh_call call_kind (Waits copies.params))
+    working = begins app (counted z) z.entered (fresh_call call_kind (is_some c.area) (Waits copies.params))
         (start_with (shown named.0, h.own) copies.params)
 
     by_test : (test : Bool) → TakesOwn app whose slots c.slot c.tables z
@@ -380,36 +390,37 @@ works_takes app whose slots z c named call_kind copies points w h session same =
 -- ---- invoke
 
 -- the machine's step at an invoke
-invoke_step : (app : Application) (most : ℕ) (z : Solo) (func : ℕ) (input : OwnInput) (at : OwnSession × Instance)
-    → home z ≡ Some at
-    → step most app z (event.Invoke func input)
-    ≡ option_map silent (if at.1.dead then Some (settles z target_dead) else invokes_with app z func input at)
-invoke_step app most z func input at is =
-    ap (λ (o : Option (OwnSession × Instance)). option_map silent (option_and_then (solo.invokes app z func input) o))
+invoke_step : (app : Application) (most : ℕ) (z : Solo) (func : ℕ) (input : OwnInput) (area : Bool)
+    (at : OwnSession × Instance) → home z ≡ Some at
+    → step most app z (event.Invoke func input area)
+    ≡ option_map silent (if at.1.dead then Some (settles z area target_dead) else invokes_with app z func input area at)
+invoke_step app most z func input area at is =
+    ap (λ (o : Option (OwnSession × Instance)). option_map silent (option_and_then (solo.invokes app z func input area) o))
     is
 
-living_step : (app : Application) (most : ℕ) (z : Solo) (func : ℕ) (input : OwnInput) (at : OwnSession × Instance)
-    → home z ≡ Some at → at.1.dead ≡ false
-    → step most app z (event.Invoke func input) ≡ option_map silent (invokes_with app z func input at)
-living_step app most z func input at is alive =
-    invoke_step app most z func input at is
-    ∙ ap (λ b. option_map silent (if b then Some (settles z target_dead) else invokes_with app z func input at)) alive
+living_step : (app : Application) (most : ℕ) (z : Solo) (func : ℕ) (input : OwnInput) (area : Bool)
+    (at : OwnSession × Instance) → home z ≡ Some at → at.1.dead ≡ false
+    → step most app z (event.Invoke func input area) ≡ option_map silent (invokes_with app z func input area at)
+living_step app most z func input area at is alive =
+    invoke_step app most z func input area at is
+    ∙ ap (λ b. option_map silent (if b then Some (settles z area target_dead) else invokes_with app z func input area at))
+    alive
 
 -- an invoke that is settled in the named session
 settled_own : (app : Application) (most : ℕ) (whose : Whose) (slots : List ThreadSlot) (z : Solo) (c : NewCall)
     (named : Session × Instance) (code : ℕ) → Within app whose slots z c → named_session c ≡ Some named
     → ((h : AtHome whose z c named)
-    → step most app z (event.Invoke c.head.func (input_settled (of_tee code))) ≡ Some (silent (settles z code)))
+    → step most app z (event.Invoke c.head.func (input_settled (of_tee code)) (is_some c.area)) ≡ Some (silent (settles z (is_some c.area) code)))
     → IfNoted app most whose slots z c.slot c.tables (settles_invoke c code)
 settled_own app most whose slots z c named code w is steps =
     if_home app most whose slots z c named (settles_invoke c code)
-    (Some (event.Invoke c.head.func (input_settled (of_tee code)))) w is refl
+    (Some (event.Invoke c.head.func (input_settled (of_tee code)) (is_some c.area))) w is refl
     (λ came session noted h.
     let at : ComesIn app most whose slots z c.slot c.tables (settles_invoke c code)
-    (event.Invoke c.head.func (input_settled (of_tee code))) = record {
-      machine = settles z code;
+    (event.Invoke c.head.func (input_settled (of_tee code)) (is_some c.area)) = record {
+      machine = settles z (is_some c.area) code;
       steps = steps h;
-      takes = settled_takes app whose slots z c _ _ code w session;
+      takes = settled_takes app whose slots z c _ _ (is_some c.area) code w session;
       keeps_uuid = λ notes. refl;
     } in
     subst (ComesIn app most whose slots z c.slot c.tables (settles_invoke c code)) (same_event _ came noted) at)
@@ -420,8 +431,8 @@ dead_own : (app : Application) (most : ℕ) (whose : Whose) (slots : List Thread
     → IfNoted app most whose slots z c.slot c.tables (settles_invoke c target_dead)
 dead_own app most whose slots z c named w is dead =
     settled_own app most whose slots z c named target_dead w is
-    (λ h. invoke_step app most z c.head.func Unread (shown named.0, h.own) h.home_is
-    ∙ ap (λ b. option_map silent (if b then Some (settles z target_dead) else None)) (sym h.alike.dead ∙ dead))
+    (λ h. invoke_step app most z c.head.func Unread (is_some c.area) (shown named.0, h.own) h.home_is
+    ∙ ap (λ b. option_map silent (if b then Some (settles z (is_some c.area) target_dead) else None)) (sym h.alike.dead ∙ dead))
 
 faulty_own : (app : Application) (most : ℕ) (whose : Whose) (slots : List ThreadSlot) (z : Solo) (c : NewCall)
     (named : Session × Instance) → Within app whose slots z c
@@ -429,7 +440,7 @@ faulty_own : (app : Application) (most : ℕ) (whose : Whose) (slots : List Thre
     → IfNoted app most whose slots z c.slot c.tables (settles_invoke c bad_parameters)
 faulty_own app most whose slots z c named w is alive =
     settled_own app most whose slots z c named bad_parameters w is
-    (λ h. living_step app most z c.head.func Faulty (shown named.0, h.own) h.home_is (sym h.alike.dead ∙ alive))
+    (λ h. living_step app most z c.head.func Faulty (is_some c.area) (shown named.0, h.own) h.home_is (sym h.alike.dead ∙ alive))
 
 invokes_own : (app : Application) (most : ℕ) (whose : Whose) (slots : List ThreadSlot) (z : Solo) (c : NewCall)
     (named : Session × Instance) (copies : Copies)
@@ -439,8 +450,8 @@ invokes_own app most whose slots z c named copies w is alive =
     if_home app most whose slots z c named (invokes c named copies) (Some came_in) w is (of_session (is_held named.1))
     (λ came session noted h.
     let at : ComesIn app most whose slots z c.slot c.tables (invokes c named copies) came_in = record {
-      machine = solo.works_or_waits app z (kind.Invoke c.head.func) (start_with (shown named.0, h.own) copies.params);
-      steps = living_step app most z c.head.func (Copied copies.params) (shown named.0, h.own) h.home_is
+      machine = solo.works_or_waits app z (kind.Invoke c.head.func) (is_some c.area) (start_with (shown named.0, h.own) copies.params);
+      steps = living_step app most z c.head.func (Copied copies.params) (is_some c.area) (shown named.0, h.own) h.home_is
           (sym h.alike.dead ∙ alive);
       takes = works_takes app whose slots z c named (kind.Invoke c.head.func) copies
           (point.Invoke c.head.func ∷ []) w h session refl;
@@ -449,7 +460,7 @@ invokes_own app most whose slots z c named copies w is alive =
     subst (ComesIn app most whose slots z c.slot c.tables (invokes c named copies)) (same_event came_in came noted) at)
   where
     came_in : OwnEvent
-    came_in = event.Invoke c.head.func (Copied copies.params)
+    came_in = event.Invoke c.head.func (Copied copies.params) (is_some c.area)
 
     job_params : (program : Option Program)
         → params_of (job_with program named.1 named.0.login named.0.context copies.params
@@ -468,7 +479,7 @@ invokes_own app most whose slots z c named copies w is alive =
     of_session true = refl
     of_session false =
         ap (λ (ps : CopiedParams). if c.head.session == whose.session then Some
-        (event.Invoke c.head.func (Copied ps)) else None)
+        (event.Invoke c.head.func (Copied ps) (is_some c.area)) else None)
         (job_params (program_on c.boot named.1))
 
 -- ---- close
@@ -504,17 +515,17 @@ closes_own : (app : Application) (most : ℕ) (whose : Whose) (slots : List Thre
     → Within app whose slots z c → named_session c ≡ Some named
     → IfNoted app most whose slots z c.slot c.tables (closes c named)
 closes_own app most whose slots z c named w is =
-    if_home app most whose slots z c named (closes c named) (Some event.Close) w is (of_session (is_held named.1))
+    if_home app most whose slots z c named (closes c named) (Some (event.Close (is_some c.area))) w is (of_session (is_held named.1))
     (λ came session noted h.
     let points : List EntryPoint = closing_points (beginner c) c.head.session named.0 named.1 in
-    let at : ComesIn app most whose slots z c.slot c.tables (closes c named) event.Close = record {
-      machine = solo.closes app z (shown named.0, h.own);
-      steps = ap (λ (o : Option (OwnSession × Instance)). option_map (λ at. silent (solo.closes app z at)) o) h.home_is;
+    let at : ComesIn app most whose slots z c.slot c.tables (closes c named) (event.Close (is_some c.area)) = record {
+      machine = solo.closes app z (is_some c.area) (shown named.0, h.own);
+      steps = ap (λ (o : Option (OwnSession × Instance)). option_map (λ at. silent (solo.closes app z (is_some c.area) at)) o) h.home_is;
       takes = works_takes app whose slots z c named kind.Close no_copies points w h session
           (closing app whose slots z c named w h session);
       keeps_uuid = λ notes. refl;
     } in
-    subst (ComesIn app most whose slots z c.slot c.tables (closes c named)) (same_event event.Close came noted) at)
+    subst (ComesIn app most whose slots z c.slot c.tables (closes c named)) (same_event (event.Close (is_some c.area)) came noted) at)
   where
     points_now : List EntryPoint
     points_now = closing_points (beginner c) c.head.session named.0 named.1
@@ -524,7 +535,7 @@ closes_own app most whose slots z c named w is =
         else runs_in c (begins_on (beginner c) named.0 named.1 no_copies.params points_now).tables
         (about_session c kind.Close named.0 named.1 no_copies) no_copies.cookies
         (begins_on (beginner c) named.0 named.1 no_copies.params points_now).job).call
-        ≡ (if c.head.session == whose.session then Some event.Close else None)
+        ≡ (if c.head.session == whose.session then Some (event.Close (is_some c.area)) else None)
     of_session true = refl
     of_session false = refl
 

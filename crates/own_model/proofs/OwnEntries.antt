@@ -6,15 +6,19 @@ use Rattle.base.specs.NumberMap.{IsRising, get}
 use Rattle.event_journal.specs.declared.event.Event.TheVariants.{Entry}
 use Rattle.ns_ram.specs.declared.read.Read.{Read}
 use Rattle.smc_abi.specs.declared.regs.Regs.{Regs}
-use Rattle.kernel_model.specs.Application.{Booted}
+use Rattle.kernel_model.specs.Application.{Application, Booted}
 use Rattle.kernel_model.specs.Argument.{IsNew}
+use Rattle.kernel_model.specs.Decision.{Taken}
 use Rattle.kernel_model.specs.History.{after_event}
-use Rattle.kernel_model.specs.Kernel.{Active, Free, InSlot, Inside, Kernel, PendingCall, Visit}
+use Rattle.kernel_model.specs.Kernel.{Active, Free, InSlot, Inside, Kernel, PendingCall, Tables, ThreadSlot, Visit}
+use Rattle.kernel_model.specs.Located.{Located, cookie_of, with_argument_pinned}
 use Rattle.kernel_model.specs.NewCall.{new_call_of}
 use Rattle.own_model.proofs.NewEntries.{new_call_noted, new_call_taken}
 use Rattle.own_model.proofs.OtherEntries.{no_number}
-use Rattle.own_model.proofs.OwnCalls.{IfNoted, Within, endings_own}
-use Rattle.own_model.proofs.OwnTaken.{own_taken}
+use Rattle.own_model.proofs.NewCalls.{endings_weaker}
+use Rattle.own_model.proofs.OwnCalls.{ComesIn, IfNoted, Within, endings_own}
+use Rattle.own_model.proofs.OwnTaken.{TakesOwn, own_taken}
+use Rattle.own_model.proofs.PinnedTables.{tied_pinned}
 use Rattle.own_model.specs.declared.own_event.OwnEvent.{OwnEvent}
 use Rattle.own_model.specs.Laws.{About, AreTied, GoesAlong, SharesNone, whose_of}
 use Rattle.own_model.specs.Own.{Notes, event_noted, event_of, numbered}
@@ -24,16 +28,47 @@ use Rattle.own_model.specs.Tied.{Whose}
 within : (boot : Booted) (about : About) (kernel : Kernel) (notes : Notes) (solo : Solo) (regs : List ℕ) (slot : ℕ)
     → SharesNone boot about.app
     → IsRising kernel.tables.sessions → AreTied about kernel notes solo → slice_get kernel.slots slot ≡ Some Free
-    → (bytes : List ℕ)
+    → (at : Located) (bytes : List ℕ)
     → Within about.app (whose_of about.session about.instance notes) kernel.slots solo
-    (new_call_of boot kernel.tables regs slot bytes)
-within boot about kernel notes solo regs slot shares rising tied free bytes = record {
+    (new_call_of boot kernel.tables regs slot at bytes)
+within boot about kernel notes solo regs slot shares rising tied free at bytes = record {
   of_boot = shares.of_boot;
   shares_none = shares.shares_none;
   rising = rising;
   free = free;
   none = no_number about kernel notes solo slot (get notes.numbering.in_slots slot) refl free tied;
-  tied = tied;
+  tied = tied_pinned about.app (whose_of about.session about.instance notes) kernel.slots kernel.tables solo
+      (cookie_of at) slot tied;
+}
+
+-- a pin makes no difference to what is shown of it
+own_unpinned : (app : Application) (whose : Whose) (slots : List ThreadSlot) (at : ℕ) (tables : Tables)
+    (solo : Solo) (taken : Taken) (then : Solo) (named : Option ℕ) (slot : ℕ)
+    → TakesOwn app whose slots at (with_argument_pinned named tables slot) solo taken then
+    → TakesOwn app whose slots at tables solo taken then
+own_unpinned app whose slots at tables solo taken then named slot takes = record {
+  own = takes.own;
+  enters = takes.enters;
+  sessions = takes.sessions;
+  next_session = takes.next_session;
+  next_instance = takes.next_instance;
+  of_app = takes.of_app;
+  instance = takes.instance;
+  waiters = takes.waiters;
+  session_stays = takes.session_stays;
+  entered = takes.entered;
+  calls = takes.calls;
+}
+
+comes_unpinned : (app : Application) (most : ℕ) (whose : Whose) (slots : List ThreadSlot) (z : Solo) (at : ℕ)
+    (tables : Tables) (taken : Taken) (came : OwnEvent) (named : Option ℕ) (slot : ℕ)
+    → ComesIn app most whose slots z at (with_argument_pinned named tables slot) taken came
+    → ComesIn app most whose slots z at tables taken came
+comes_unpinned app most whose slots z at tables taken came named slot comes = record {
+  machine = comes.machine;
+  steps = comes.steps;
+  takes = own_unpinned app whose slots at tables z taken comes.machine named slot comes.takes;
+  keeps_uuid = comes.keeps_uuid;
 }
 
 pub own_call : (boot : Booted) (about : About) (kernel next : Kernel) (cpu steps slot : ℕ) (regs : Regs)
@@ -50,9 +85,14 @@ own_call boot about kernel next cpu steps slot regs reads now came notes solo sh
     let visit : Visit = record { cpu = cpu; regs = regs.a; steps = steps } in
     let found = new_call_taken (λ at taken. IfNoted about.app about.most whose kernel.slots solo at kernel.tables taken)
     boot kernel next cpu steps slot regs reads now is
-    (λ at free bytes. endings_own about.app about.most whose kernel.slots solo
-    (new_call_of boot kernel.tables regs.a at bytes)
-    (within boot about kernel notes solo regs.a at shares rising tied free bytes))
+    (λ at free place bytes.
+    let c = new_call_of boot kernel.tables regs.a at place bytes in
+    endings_weaker (IfNoted about.app about.most whose kernel.slots solo at c.tables)
+    (IfNoted about.app about.most whose kernel.slots solo at kernel.tables) c
+    (λ taken holds came noted. comes_unpinned about.app about.most whose kernel.slots solo at kernel.tables taken came
+    (cookie_of place) at (holds came noted))
+    (endings_own about.app about.most whose kernel.slots solo c
+    (within boot about kernel notes solo regs.a at shares rising tied free place bytes)))
     inside there e in
     let comes = found.holds came (ap (λ (c : PendingCall). event_of about.session c) found.call_is ∙ noted) in
     let along : GoesAlong about notes solo next (numbered notes slot now came) =

@@ -1,12 +1,19 @@
 -- An exit from a call of the session that isn't an interrupt leaves kernel and machine tied: the machine's call goes
 -- out.
 use Rattle.std.proofs.Common.{◌≡◌, ℕ, ◌≤◌, Bool, false, List, [], ◌∷◌, Option, Some, None, refl, ap, subst, sym, ◌∙◌}
-use Rattle.std.specs.Prelude.{All, if◌then◌else◌, is_some, slice_get, slice_set}
+use Rattle.std.specs.Prelude.{◌&&◌, ◌||◌, All, if◌then◌else◌, is_some, not, slice_get, slice_set}
 use Rattle.std.specs.Option.{option_map, option_map_or, option_and_then}
 use Rattle.std.proofs.lemmas.List.Elements.{All-cons, All-head, All-nil, All-tail}
 use Rattle.std.proofs.lemmas.Option.{option_and_then_some}
 use Rattle.base.specs.NumberMap.{IsRising, get, insert, remove}
 use Rattle.event_journal.specs.declared.event.Event.TheVariants.{Exit}
+use Rattle.job_model.specs.declared.call_kind.CallKind.{CallKind}
+use Rattle.job_model.specs.declared.call_kind.CallKind.TheVariants as kind
+use Rattle.rpc_msgs.proofs.Places.{placed_somewhere}
+use Rattle.rpc_msgs.specs.Place.{is_placed}
+use Rattle.rpc_msgs.specs.Request.{has_payload}
+use Rattle.rpc_msgs.specs.declared.request_place.RequestPlace.{RequestPlace}
+use Rattle.rpc_msgs.specs.declared.rpc.Rpc.{Rpc}
 use Rattle.rpc_msgs.specs.declared.rpc.Rpc.TheVariants as rpc
 use Rattle.rpc_msgs.specs.declared.rpc_buffer.RpcBuffer.{RpcBuffer}
 use Rattle.smc_abi.specs.declared.regs.Regs.{Regs}
@@ -19,7 +26,7 @@ use Rattle.kernel_model.specs.History.{after_event}
 use Rattle.kernel_model.specs.Kernel.{Active, Asks, CallPhase, Ends, Free, InSlot, Inside, Instance, Kernel}
 use Rattle.kernel_model.specs.Kernel.{PendingCall, Processor, Progress, Runs, Suspended, ThreadSlot, Visit, Waits}
 use Rattle.kernel_model.specs.Leaving.{FreesBuffer, Finishes, Interrupted, Leaving, Request, Requests, WantsBuffer}
-use Rattle.kernel_model.specs.Leaving.{leaving_in, leaving_of, plain_request}
+use Rattle.kernel_model.specs.Leaving.{leaving_in, leaving_of, place_of, plain_request}
 use Rattle.own_model.proofs.FixedAnswers.{left}
 use Rattle.own_model.proofs.InOrder.{InOrderGoing, going_so, if_any_of, is_in_phase}
 use Rattle.own_model.proofs.Maps.{get-insert-same}
@@ -27,12 +34,12 @@ use Rattle.own_model.proofs.OwnChanges.{IsIdle, call_changes, call_goes, some_nu
 use Rattle.own_model.proofs.OwnProgress.{Comes, OwnThere, comes_to}
 use Rattle.own_model.proofs.OwnTaken.{one_step}
 use Rattle.own_model.proofs.OwnWakes.{woken_of}
-use Rattle.own_model.specs.InOrder.{IsAtWork, IsIn, IsInOrder, IsWaiting, holder_of}
+use Rattle.own_model.specs.InOrder.{Fits, IsAtWork, IsIn, IsInOrder, IsWaiting, holder_of}
 use Rattle.own_model.specs.Laws.{About, AreTied, GoesAlong, whose_of}
 use Rattle.own_model.specs.Own.{Notes, Numbering, ended, event_noted, exit_noted, out_noted, reply_of, request_reply}
 use Rattle.own_model.specs.Own.{slot_kept, with_reply, with_wake, woken_in}
 use Rattle.own_model.specs.Solo.{Answered, Going, OwnCall, Solo, asks, going_in, goes_out, goes_out_in, with_call}
-use Rattle.own_model.specs.Tied.{CallsAlike, FoundAlike, HoldersAlike, PhasesAlike, Tied, WasTold, Whose, call_at}
+use Rattle.own_model.specs.Tied.{AreasAlike, CallsAlike, FoundAlike, HoldersAlike, PhasesAlike, Tied, WasTold, Whose, call_at}
 use Rattle.own_model.specs.Tied.{call_in}
 use Rattle.own_model.specs.declared.own_event.OwnEvent.TheVariants.{Out}
 use Rattle.own_model.specs.declared.own_reply.OwnReply.{OwnReply}
@@ -145,21 +152,41 @@ buffer_is : (call : PendingCall) (own : OwnCall) (buffer : Option RpcBuffer) →
     → call.buffer ≡ buffer → own.buffer ≡ is_some buffer
 buffer_is call own buffer alike is = sym alike ∙ ap (λ (o : Option RpcBuffer). is_some o) is
 
+-- an area is there exactly where the machine has one, but for a call that was settled as it came in
+area_is : (call : PendingCall) (own : OwnCall) (call_kind : CallKind) → AreasAlike call own call_kind
+    → (call_kind ≡ kind.Settled → ⊥) → is_some call.area ≡ own.area
+area_is call own kind.Open alike works = alike
+area_is call own (kind.Invoke func) alike works = alike
+area_is call own kind.Close alike works = alike
+area_is call own kind.Settled alike works = absurd (works refl)
+
+-- it is placed exactly where the machine's is
+placed_alike : (call : PendingCall) (own : OwnCall) (request : Request) (wanted : Rpc) → is_some call.area ≡ own.area
+    → is_some call.buffer ≡ own.buffer → has_payload request.wanted ≡ has_payload wanted
+    → is_some (place_of call request) ≡ is_placed own.area own.buffer wanted
+placed_alike call own request wanted areas buffers paid =
+    placed_somewhere call.area call.buffer request.wanted
+    ∙ ap (λ b. is_placed b (is_some call.buffer) request.wanted) areas
+    ∙ ap (λ b. is_placed own.area b request.wanted) buffers
+    ∙ ap (λ b. own.buffer || (own.area && not b)) paid
+
 request_so : (about : About) (kernel : Kernel) (notes : Notes) (solo : Solo) (slot number : ℕ) (own : OwnCall)
-    (progress : Progress) (request : Request) (told : OwnReply)
-    (phase : CallPhase) (buffer : Option RpcBuffer) → (c : Coming about kernel notes solo slot number own progress)
+    (progress : Progress) (request : Request) (wanted : Rpc) (told : OwnReply)
+    (phase : CallPhase) (place : Option RequestPlace) → (c : Coming about kernel notes solo slot number own progress)
     → leaving_of slot progress.call
-    ≡ option_map_or (λ (place : RpcBuffer). Requests place request) progress.call.buffer WantsBuffer
+    ≡ option_map_or (λ (at : RequestPlace). Requests at request) (place_of progress.call request) WantsBuffer
     → request_reply (woken_in notes.numbering slot progress.call.phase) progress.call.phase ≡ Some told
     → c.comes.going.call.phase ≡ phase
     → goes_out_in c.comes.going.solo number c.comes.going.call phase
-    ≡ Some (asks c.comes.going.solo number c.comes.going.call told)
-    → progress.call.buffer ≡ buffer → GoesOut about kernel notes solo slot number own progress
-request_so about kernel notes solo slot number own progress request told phase None c leaving tells is goes has_none =
+    ≡ Some (asks c.comes.going.solo number c.comes.going.call wanted told)
+    → is_some (place_of progress.call request) ≡ is_placed c.comes.going.call.area c.comes.going.call.buffer wanted
+    → place_of progress.call request ≡ place → GoesOut about kernel notes solo slot number own progress
+request_so about kernel notes solo slot number own progress request wanted told phase None
+    c leaving tells is goes placed has_none =
     record {
       leaving = WantsBuffer;
       leaves_so = leaving
-          ∙ ap (λ (o : Option RpcBuffer). option_map_or (λ (place : RpcBuffer). Requests place request) o WantsBuffer)
+          ∙ ap (λ (o : Option RequestPlace). option_map_or (λ (at : RequestPlace). Requests at request) o WantsBuffer)
           has_none;
       told = reply.Alloc;
       tells = refl;
@@ -171,15 +198,16 @@ request_so about kernel notes solo slot number own progress request told phase N
             with_call c.comes.going.solo number c.comes.going.call,
             Some (if b then told else reply.Alloc),
           ))
-          (buffer_is progress.call c.comes.going.call None c.comes.alike.buffers has_none));
+          (sym placed ∙ ap (λ (o : Option RequestPlace). is_some o) has_none));
       tied = stays_in about kernel notes solo slot number own progress progress.call c.comes.going.call c
           c.comes.alike (λ was. was);
     }
-request_so about kernel notes solo slot number own progress request told phase
-    (Some place) c leaving tells is goes has_one = record {
+request_so about kernel notes solo slot number own progress request wanted told phase (Some place)
+    c leaving tells is goes placed has_one =
+    record {
       leaving = Requests place request;
       leaves_so = leaving
-          ∙ ap (λ (o : Option RpcBuffer). option_map_or (λ (at : RpcBuffer). Requests at request) o WantsBuffer)
+          ∙ ap (λ (o : Option RequestPlace). option_map_or (λ (at : RequestPlace). Requests at request) o WantsBuffer)
           has_one;
       told = told;
       tells = tells;
@@ -191,10 +219,39 @@ request_so about kernel notes solo slot number own progress request told phase
             with_call c.comes.going.solo number c.comes.going.call,
             Some (if b then told else reply.Alloc),
           ))
-          (buffer_is progress.call c.comes.going.call (Some place) c.comes.alike.buffers has_one));
+          (sym placed ∙ ap (λ (o : Option RequestPlace). is_some o) has_one));
       tied = stays_in about kernel notes solo slot number own progress progress.call c.comes.going.call c
           c.comes.alike (λ was. was);
     }
+
+-- a call that asks, waits or wakes was not settled as it came in
+abbrev AsksFor : CallPhase → Type 0
+AsksFor (Asks job wanted payload) = Unit {0}
+AsksFor (Waits params) = Unit {0}
+AsksFor (Ends result params told (Some woken)) = Unit {0}
+AsksFor _ = ⊥
+
+not_settled : (call_kind : CallKind) (phase : CallPhase) → AsksFor phase → Fits call_kind phase
+    → call_kind ≡ kind.Settled → ⊥
+not_settled kind.Settled (Runs job) asks fits e = asks
+not_settled kind.Settled (Asks job wanted payload) asks fits e = fits
+not_settled kind.Settled (Waits params) asks fits e = fits
+not_settled kind.Settled (Ends result params told (Some woken)) asks fits e = fits
+not_settled kind.Settled (Ends result params told None) asks fits e = asks
+not_settled kind.Open phase asks fits e = cc
+not_settled (kind.Invoke func) phase asks fits e = cc
+not_settled kind.Close phase asks fits e = cc
+
+-- so its area is the machine's
+area_out : (about : About) (kernel : Kernel) (notes : Notes) (solo : Solo) (slot number : ℕ) (own : OwnCall)
+    (progress : Progress) (phase : CallPhase) → (c : Coming about kernel notes solo slot number own progress)
+    → c.comes.going.call.phase ≡ phase → AsksFor phase → is_some progress.call.area ≡ c.comes.going.call.area
+area_out about kernel notes solo slot number own progress phase c is asks =
+    let last : OwnCall = c.comes.going.call in
+    let fits : Fits last.kind last.phase = c.order.fits number last (get-insert-same c.comes.going.solo.calls number last) in
+    area_is progress.call last progress.call.kind c.comes.alike.areas
+    (λ settled. not_settled last.kind phase asks (subst (λ (p : CallPhase). Fits last.kind p) is fits)
+    (sym c.comes.alike.kinds ∙ settled))
 
 -- ---- the end
 
@@ -288,6 +345,7 @@ frees_so about kernel notes solo slot number own progress result params buffer c
             on_instance = c.comes.alike.on_instance;
             kinds = c.comes.alike.kinds;
             seen = c.comes.alike.seen;
+            areas = c.comes.alike.areas;
             buffers = refl;
             phases = c.comes.alike.phases;
             flagged = c.comes.alike.flagged;
@@ -346,6 +404,11 @@ same_end result answer params remains told shown results remain tolds =
     ∙ ap (λ (p : CopiedParams). Ends result p shown None) (sym remain)
     ∙ ap (λ b. Ends result params b None) (sym tolds)
 
+-- bytes go with what one in this phase asks for
+abbrev paid_in : CallPhase → Bool
+paid_in (Asks job wanted payload) = has_payload wanted
+paid_in _ = false
+
 by_phase : (about : About) (kernel : Kernel) (notes : Notes) (solo : Solo) (slot number : ℕ) (own : OwnCall)
     (progress : Progress) (phase own_phase : CallPhase)
     → (c : Coming about kernel notes solo slot number own progress) → progress.call.phase ≡ phase
@@ -356,24 +419,35 @@ by_phase about kernel notes solo slot number own progress (Runs job) own_phase c
     absurd (out (ap (λ (p : CallPhase). leaving_in slot progress.call p) is))
 by_phase about kernel notes solo slot number own progress (Asks job wanted payload)
     (Asks from asked bytes) c is own_is alike out =
-    request_so about kernel notes solo slot number own progress (record { wanted = wanted; payload = payload })
+    let request : Request = record { wanted = wanted; payload = payload } in
+    request_so about kernel notes solo slot number own progress request asked
     (reply.Ask asked bytes) (Asks from asked bytes)
-    progress.call.buffer c (ap (λ (p : CallPhase). leaving_in slot progress.call p) is)
+    (place_of progress.call request) c (ap (λ (p : CallPhase). leaving_in slot progress.call p) is)
     (ap (λ (p : CallPhase). request_reply (woken_in notes.numbering slot progress.call.phase) p) (is ∙ alike.1))
-    own_is refl refl
+    own_is refl
+    (placed_alike progress.call c.comes.going.call request asked
+    (area_out about kernel notes solo slot number own progress (Asks from asked bytes) c own_is tt) c.comes.alike.buffers
+    (ap paid_in alike.1)) refl
 by_phase about kernel notes solo slot number own progress (Waits params) (Waits copied) c is own_is alike out =
-    request_so about kernel notes solo slot number own progress (plain_request (rpc.Sleep slot))
+    let request : Request = plain_request (rpc.Sleep slot) in
+    request_so about kernel notes solo slot number own progress request (rpc.Sleep number)
     reply.Sleep (Waits copied)
-    progress.call.buffer c (ap (λ (p : CallPhase). leaving_in slot progress.call p) is)
-    (ap (λ (p : CallPhase). request_reply (woken_in notes.numbering slot progress.call.phase) p) is) own_is refl refl
+    (place_of progress.call request) c (ap (λ (p : CallPhase). leaving_in slot progress.call p) is)
+    (ap (λ (p : CallPhase). request_reply (woken_in notes.numbering slot progress.call.phase) p) is) own_is refl
+    (placed_alike progress.call c.comes.going.call request (rpc.Sleep number)
+    (area_out about kernel notes solo slot number own progress (Waits copied) c own_is tt) c.comes.alike.buffers refl) refl
 by_phase about kernel notes solo slot number own progress (Ends result params told (Some woken))
     (Ends answer remains shown (Some other)) c is own_is alike out =
-    request_so about kernel notes solo slot number own progress (plain_request (rpc.Wake woken)) (reply.Wake other)
+    let request : Request = plain_request (rpc.Wake woken) in
+    request_so about kernel notes solo slot number own progress request (rpc.Wake other) (reply.Wake other)
     (Ends answer remains shown (Some other))
-    progress.call.buffer c (ap (λ (p : CallPhase). leaving_in slot progress.call p) is)
+    (place_of progress.call request) c (ap (λ (p : CallPhase). leaving_in slot progress.call p) is)
     (ap (λ (p : CallPhase). request_reply (woken_in notes.numbering slot progress.call.phase) p) is
     ∙ ap (λ (o : Option ℕ). option_map (λ number. reply.Wake number) o)
-    (c.comes.keeps.number ∙ ap (λ (p : CallPhase). woken_of p) own_is)) own_is refl refl
+    (c.comes.keeps.number ∙ ap (λ (p : CallPhase). woken_of p) own_is)) own_is refl
+    (placed_alike progress.call c.comes.going.call request (rpc.Wake other)
+    (area_out about kernel notes solo slot number own progress (Ends answer remains shown (Some other)) c own_is tt)
+    c.comes.alike.buffers refl) refl
 by_phase about kernel notes solo slot number own progress (Ends result params told None)
     (Ends answer remains shown None) c is own_is alike out =
     ended_so about kernel notes solo slot number own progress result params progress.call.buffer c

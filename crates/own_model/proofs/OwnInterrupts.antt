@@ -13,6 +13,7 @@ use Rattle.job_model.specs.Job.{Job, of_tee}
 use Rattle.job_model.specs.Steps.{Grant, JobStop, Left, Stopped, after, grant_of}
 use Rattle.job_model.specs.Steps as steps
 use Rattle.job_model.proofs.JobSteps.{after-sum, granted-IsGrant}
+use Rattle.rpc_msgs.specs.declared.request_place.RequestPlace.{RequestPlace}
 use Rattle.rpc_msgs.specs.declared.rpc_buffer.RpcBuffer.{RpcBuffer}
 use Rattle.smc_abi.specs.declared.regs.Regs.{Regs}
 use Rattle.kernel_model.specs.Application.{Booted}
@@ -23,7 +24,7 @@ use Rattle.kernel_model.specs.History.{after_event}
 use Rattle.kernel_model.specs.Kernel.{Active, Asks, CallPhase, Ends, Free, InSlot, Inside, Kernel, PendingCall}
 use Rattle.kernel_model.specs.Kernel.{Processor, Progress, Runs, Suspended, Tables, ThreadSlot, Visit, Waits}
 use Rattle.kernel_model.specs.Leaving.{FreesBuffer, Finishes, Interrupted, Leaving, Request, Requests, WantsBuffer}
-use Rattle.kernel_model.specs.Leaving.{leaving_in, leaving_of, plain_request}
+use Rattle.kernel_model.specs.Leaving.{leaving_in, leaving_of, place_of, plain_request}
 use Rattle.rpc_msgs.specs.declared.rpc.Rpc.TheVariants as rpc
 use Rattle.job_model.specs.Point.{no_params}
 use Rattle.kernel_model.specs.Codes.{target_dead}
@@ -38,8 +39,8 @@ use Rattle.own_model.specs.Tied.{Whose, call_at, call_in}
 
 -- ---- which calls are interrupted
 
-pub asks_not : (o : Option RpcBuffer) (request : Request)
-    → option_map_or (λ (place : RpcBuffer). Requests place request) o WantsBuffer ≡ Interrupted → ⊥
+pub asks_not : (o : Option RequestPlace) (request : Request)
+    → option_map_or (λ (place : RequestPlace). Requests place request) o WantsBuffer ≡ Interrupted → ⊥
 asks_not None request e = cc
 asks_not (Some place) request e = cc
 
@@ -51,7 +52,7 @@ frees_not (Some buffer) other apart e = cc
 pub ends_not : (slot : ℕ) (call : PendingCall) (result : CallResult) (params : CopiedParams) (told : Bool)
     (wakes : Option ℕ)
     → leaving_in slot call (Ends result params told wakes) ≡ Interrupted → ⊥
-ends_not slot call result params told (Some woken) e = asks_not call.buffer _ e
+ends_not slot call result params told (Some woken) e = asks_not (place_of call (plain_request (rpc.Wake woken))) _ e
 ends_not slot call result params told None e = frees_not call.buffer (Finishes result params) (λ no. cc) e
 
 shows_not : (slot : ℕ) (tables : Tables) (call : PendingCall) (result : CallResult) (params : CopiedParams)
@@ -75,7 +76,7 @@ stop_not slot tables call (steps.Ends end) e =
 stop_not slot tables call (steps.Panics code) e =
     shows_not slot (tables_after_panic tables call) call (of_tee target_dead) no_params e
 stop_not slot tables call (steps.Asks wanted payload job) e =
-    asks_not call.buffer (record { wanted = wanted; payload = payload }) e
+    asks_not (place_of call (record { wanted = wanted; payload = payload })) (record { wanted = wanted; payload = payload }) e
 
 grant_left : (slot : ℕ) (tables : Tables) (call : PendingCall) (granted : ℕ) (job : Job) (grant : Grant)
     → grant_of granted job ≡ Some grant
@@ -100,12 +101,12 @@ is_left slot tables call granted (Runs job) progress in_it e interrupted =
     subst (IsLeft tables call granted (Runs job)) found.2
     (grant_left slot tables call granted job found.0 found.1 interrupts)
 is_left slot tables call granted (Asks job wanted payload) progress in_it e interrupted =
-    absurd (asks_not call.buffer (record { wanted = wanted; payload = payload })
+    absurd (asks_not (place_of call (record { wanted = wanted; payload = payload })) (record { wanted = wanted; payload = payload })
     (ap (λ p. leaving_in slot call p) (sym in_it)
     ∙ ap (λ (p : Progress). leaving_of slot p.call) (same_progress (record { call = call; tables = tables }) progress e)
     ∙ interrupted))
 is_left slot tables call granted (Waits params) progress in_it e interrupted =
-    absurd (asks_not call.buffer (plain_request (rpc.Sleep slot))
+    absurd (asks_not (place_of call (plain_request (rpc.Sleep slot))) (plain_request (rpc.Sleep slot))
     (ap (λ p. leaving_in slot call p) (sym in_it)
     ∙ ap (λ (p : Progress). leaving_of slot p.call) (same_progress (record { call = call; tables = tables }) progress e)
     ∙ interrupted))
@@ -237,6 +238,7 @@ runs_alike whose kept call own granted job left_job runs grant alike = record {
   on_instance = alike.on_instance;
   kinds = alike.kinds;
   seen = alike.seen;
+  areas = alike.areas;
   buffers = alike.buffers;
   phases = phases_on kept call.steps own.steps granted job left_job own.phase
       (subst (λ (p : CallPhase). PhasesAlike kept call.steps own.steps p own.phase) runs alike.phases) grant;

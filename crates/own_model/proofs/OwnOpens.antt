@@ -1,7 +1,7 @@
 -- What the open of a session on an instance of its own takes its slot for, and the machine that begins with it.
-use Rattle.std.proofs.Common.{◌≡◌, ℕ, ◌+◌, ◌<◌, ◌≤◌, false, cond, List, [], ◌∷◌, Option, Some, None, refl, ap, subst}
+use Rattle.std.proofs.Common.{◌≡◌, ℕ, ◌+◌, ◌<◌, ◌≤◌, Bool, false, cond, List, [], ◌∷◌, Option, Some, None, refl, ap, subst}
 use Rattle.std.proofs.Common.{sym, ◌∙◌, arith}
-use Rattle.std.specs.Prelude.{All, ◌||◌, ◌&&◌, ◌==◌, bytes_eq, find, if◌then◌else◌, map, slice_get, slice_set}
+use Rattle.std.specs.Prelude.{All, ◌||◌, ◌&&◌, ◌==◌, bytes_eq, find, if◌then◌else◌, map, slice_get, slice_set, is_some}
 use Rattle.std.specs.Option.{option_map, option_map_or}
 use Rattle.std.proofs.lemmas.Bool.Decides.{nat_tests}
 use Rattle.std.proofs.lemmas.List.Elements.{All-head, All-nil, All-tail, All-weaker}
@@ -149,16 +149,22 @@ begins_new c wanted of copies alone =
     (opener wanted of copies) number c.tables.next_instance) found (begun_new c wanted of copies))
     (ap (λ b. if b then instance_with c.tables.waiters (uuid_of of) else None) alone)
 
+-- what an open brings: its parameters, its login, and whether it has an area
+pub record OpenBy : Type 0 where
+  pub params : CopiedParams
+  pub login : Login
+  pub area : Bool
+
 -- the machine that begins
-abbrev pub opened_solo : Application → CopiedParams → Login → Solo
-opened_solo app params login = solo.opens app unopened params login
+abbrev pub opened_solo : Application → OpenBy → Solo
+opened_solo app came = solo.opens app unopened came.params came.login came.area
 
 -- what the open takes its slot for, and the machine, tied for the session that it gets
 pub record TakesOpen (app : Application) (slots : List ThreadSlot) (slot : ℕ) (before : Tables) (taken : Taken)
-    (params : CopiedParams) (login : Login) : Type 0 where
+    (came : OpenBy) : Type 0 where
   pub tied : (cpu : ℕ) → Tied app (with_next (whose_next before) slot)
       (slice_set (cancelled_slots slots taken.cancels) slot (Active cpu taken.call)) taken.tables
-      (opened_solo app params login)
+      (opened_solo app came)
 
 same_job : (c : NewCall) (wanted : Opening) (of : Application) (copies : Copies) (slots : List ThreadSlot)
     → AreBelow slots c.tables → is_single of ≡ false
@@ -182,7 +188,7 @@ opens_begun : (c : NewCall) (wanted : Opening) (of : Application) (copies : Copi
     → slice_get slots c.slot ≡ Some Free
     → AreBelow slots c.tables → is_single of ≡ false
     → TakesOpen of slots c.slot c.tables (takes_begun c wanted of copies (begun_new c wanted of copies))
-    copies.params wanted.login
+    (record { params = copies.params; login = wanted.login; area = is_some c.area })
 opens_begun c wanted of copies slots free b alone =
     let whose : Whose = whose_next c.tables in
     let taken : Taken = takes_begun c wanted of copies (begun_new c wanted of copies) in
@@ -207,7 +213,7 @@ opens_begun c wanted of copies slots free b alone =
             c.tables.instances b.instances)
             (λ here. refl);
         calls = calls_taken whose slots taken.cancels c.slot cpu [] taken.call
-            (fresh_call kind.Open (Runs (job_of of kind.Open start)))
+            (fresh_call kind.Open (is_some c.area) (Runs (job_of of kind.Open start)))
             (record {
               free = free;
               none = refl;
@@ -216,6 +222,7 @@ opens_begun c wanted of copies slots free b alone =
                 on_instance = refl;
                 kinds = refl;
                 seen = refl;
+                areas = refl;
                 buffers = refl;
                 phases =
                     record {
@@ -265,17 +272,20 @@ opens_begun c wanted of copies slots free b alone =
 pub opens_tied : (c : NewCall) (wanted : Opening) (of : Application) (copies : Copies) (slots : List ThreadSlot)
     → slice_get slots c.slot ≡ Some Free
     → AreBelow slots c.tables → is_single of ≡ false
-    → TakesOpen of slots c.slot c.tables (opens c wanted of copies) (params_of (begun_by c wanted of copies).job)
-    (begun_by c wanted of copies).job.login
+    → TakesOpen of slots c.slot c.tables (opens c wanted of copies) (record {
+      params = params_of (begun_by c wanted of copies).job;
+      login = (begun_by c wanted of copies).job.login;
+      area = is_some c.area;
+    })
 opens_tied c wanted of copies slots free b alone =
     subst (λ (begun : Begun). TakesOpen of slots c.slot c.tables (takes_begun c wanted of copies begun)
-    (params_of begun.job) begun.job.login)
+    (record { params = params_of begun.job; login = begun.job.login; area = is_some c.area }))
     (sym (begins_new c wanted of copies alone))
     (subst (λ (ps : CopiedParams). TakesOpen of slots c.slot c.tables (takes_begun c wanted of copies new)
-    ps new.job.login)
+    (record { params = ps; login = new.job.login; area = is_some c.area }))
     (sym (open_params (program_of of) (fresh_memory (pages_in of)) (owner_of (uuid_of of)) wanted.login copies.params behind))
     (subst (λ (login : Login). TakesOpen of slots c.slot c.tables (takes_begun c wanted of copies new)
-    copies.params login)
+    (record { params = copies.params; login = login; area = is_some c.area }))
     (sym (open_login (program_of of) (fresh_memory (pages_in of)) (owner_of (uuid_of of)) wanted.login copies.params behind))
     (opens_begun c wanted of copies slots free b alone)))
   where

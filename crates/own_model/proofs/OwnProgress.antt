@@ -33,7 +33,7 @@ use Rattle.own_model.specs.Own.{Notes, with_wake, woken_in}
 use Rattle.own_model.specs.Solo.{Going, OwnCall, OwnSession, Solo, gives_back, going_in, session_ended}
 use Rattle.own_model.specs.Solo.{session_panicked, session_unrun, shows, stopped, taken_on}
 use Rattle.own_model.specs.Solo as machine
-use Rattle.own_model.specs.Tied.{CallsAlike, HoldersAlike, IsFurther, IsOn, PhasesAlike, Tied, WakesAlike, WasTold}
+use Rattle.own_model.specs.Tied.{AreasAlike, CallsAlike, HoldersAlike, IsFurther, IsOn, PhasesAlike, Tied, WakesAlike, WasTold}
 use Rattle.own_model.specs.Tied.{Whose}
 
 -- ---- a call of the session
@@ -99,6 +99,7 @@ record Shows (about : About) (kernel : Kernel) (notes : Notes) (solo z : Solo) (
   on_instance : IsOn about.instance call call.kind
   kinds : call.kind ≡ shown.kind
   seen : call.seen ≡ shown.seen
+  areas : AreasAlike call shown call.kind
   buffers : is_some call.buffer ≡ shown.buffer
   goes : going_in about.most solo own own.phase ≡ Some (shows z shown result params)
 
@@ -125,6 +126,7 @@ shows_so about kernel notes solo z slot own shown tables call result params s =
         on_instance = s.on_instance;
         kinds = s.kinds;
         seen = s.seen;
+        areas = s.areas;
         buffers = s.buffers;
         phases = (refl, refl, refl, end.alike);
         flagged = λ _. refl;
@@ -238,6 +240,7 @@ ends_so about kernel notes solo slot number call own job from used end r s =
       on_instance = r.there.alike.on_instance;
       kinds = r.there.alike.kinds;
       seen = r.there.alike.seen;
+      areas = r.there.alike.areas;
       buffers = r.there.alike.buffers;
       goes = s.goes;
     })
@@ -265,6 +268,7 @@ panics_so about kernel notes solo slot number call own job from used code r s =
       on_instance = r.there.alike.on_instance;
       kinds = r.there.alike.kinds;
       seen = r.there.alike.seen;
+      areas = r.there.alike.areas;
       buffers = r.there.alike.buffers;
       goes = s.goes;
     })
@@ -300,6 +304,7 @@ asks_so about kernel notes solo slot number call own job from used wanted payloa
         on_instance = r.there.alike.on_instance;
         kinds = r.there.alike.kinds;
         seen = r.there.alike.seen;
+        areas = r.there.alike.areas;
         buffers = r.there.alike.buffers;
         phases = (sym s.sums, refl);
         flagged = λ seen. asks_flagged own from left s.total wanted payload r.own_runs
@@ -389,6 +394,7 @@ told_so about kernel notes solo slot number call own result answer params left w
         on_instance = h.alike.on_instance;
         kinds = h.alike.kinds;
         seen = h.alike.seen;
+        areas = h.alike.areas;
         buffers = h.alike.buffers;
         phases =
             subst (λ (p : CallPhase). PhasesAlike (get end.keeps.wakes slot) call.steps own.steps p own.phase) (sym is)
@@ -421,6 +427,7 @@ unrun_so about kernel notes solo slot number call own result answer params left 
       on_instance = h.alike.on_instance;
       kinds = h.alike.kinds;
       seen = h.alike.seen;
+      areas = h.alike.areas;
       buffers = h.alike.buffers;
       goes = ap (λ (p : CallPhase). going_in about.most solo own p) own_is
           ∙ ap (λ (r : CallResult). Some (shows z own r left)) (sym results)

@@ -27,7 +27,7 @@ use Rattle.kernel_model.specs.Instances.{is_held}
 use Rattle.kernel_model.specs.Kernel.{Active, Asks, CallPhase, Ends, Free, InSlot, Inside, Instance, Kernel}
 use Rattle.kernel_model.specs.Kernel.{PendingCall, Processor, Progress, Runs, Suspended, ThreadSlot, Visit, Waits}
 use Rattle.kernel_model.specs.Leaving.{FreesBuffer, Finishes, Interrupted, Leaving, Requests, WantsBuffer, leaving_in}
-use Rattle.kernel_model.specs.Leaving.{leaving_of, plain_request}
+use Rattle.kernel_model.specs.Leaving.{leaving_of, place_of, plain_request}
 use Rattle.kernel_model.specs.Resume.{Resumed, app_of_call, begins, begins_in, begins_open, call_resumed_by, ends_with}
 use Rattle.kernel_model.specs.Resume.{goes_on, is_without_buffer, onward_in, onward_of, phase_seen, resumed_call, sees}
 use Rattle.kernel_model.specs.Resume.{sleeps_on, suspended_for, tested_again, who_resumes}
@@ -107,8 +107,9 @@ asked_not : (slot : ℕ) (call : PendingCall) (phase : CallPhase) → ((job : Jo
     → leaving_in slot call phase ≡ Interrupted → ⊥
 asked_not slot call (Runs job) asked e = asked job refl
 asked_not slot call (Asks job wanted payload) asked e =
-    asks_not call.buffer (record { wanted = wanted; payload = payload }) e
-asked_not slot call (Waits params) asked e = asks_not call.buffer (plain_request (rpc.Sleep slot)) e
+    asks_not (place_of call (record { wanted = wanted; payload = payload })) (record { wanted = wanted; payload = payload }) e
+asked_not slot call (Waits params) asked e =
+    asks_not (place_of call (plain_request (rpc.Sleep slot))) (plain_request (rpc.Sleep slot)) e
 asked_not slot call (Ends result params told wakes) asked e = ends_not slot call result params told wakes e
 
 -- seeing a cancellation leaves it running, or not

@@ -222,6 +222,7 @@ module _ (about : About) (kernel : Kernel) (notes : Notes) (solo : Solo) (slot n
         on_instance = h.alike.on_instance;
         kinds = h.alike.kinds;
         seen = sym own_seen;
+        areas = h.alike.areas;
         buffers = h.alike.buffers;
         phases =
             subst (λ (p : CallPhase). PhasesAlike (get notes.numbering.wakes slot) call.steps own.steps p own.phase)
@@ -248,6 +249,7 @@ module _ (about : About) (kernel : Kernel) (notes : Notes) (solo : Solo) (slot n
         on_instance = h.alike.on_instance;
         kinds = h.alike.kinds;
         seen = refl;
+        areas = h.alike.areas;
         buffers = h.alike.buffers;
         phases = up.alike;
         flagged = λ _. seen_twice up.up;

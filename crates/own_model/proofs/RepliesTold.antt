@@ -31,9 +31,9 @@ use Rattle.own_model.specs.Solo.{Answered, Going, Solo, OwnCall, going_in, goes_
 
 -- a call goes out, and is told something
 abbrev pub has_reply : OwnEvent → Bool
-has_reply (Open params login) = false
-has_reply (Invoke func input) = false
-has_reply Close = false
+has_reply (Open params login area) = false
+has_reply (Invoke func input area) = false
+has_reply (Close area) = false
 has_reply Cancel = false
 has_reply (Seen number done_by_now) = false
 has_reply (Back number input) = false
@@ -57,35 +57,36 @@ added (first ∷ log) last all told = (all.0, added log last all.1 told)
 abbrev Told : Notes → Type 0
 Told notes = AreTold notes.log
 
-settled_untold : (settled : SettledCall) (result : CallResult) (came : OwnEvent) → settled_event settled result ≡ Some came
+settled_untold : (area : Bool) (settled : SettledCall) (result : CallResult) (came : OwnEvent)
+    → settled_event area settled result ≡ Some came
     → has_reply came ≡ false
-settled_untold Untold result came e = absurd cc
-settled_untold (AnOpen login) result came e = absurd cc
-settled_untold (AnInvoke func) result came e =
-    let is : Invoke func (input_settled result) ≡ came = cc in
+settled_untold area Untold result came e = absurd cc
+settled_untold area (AnOpen login) result came e = absurd cc
+settled_untold area (AnInvoke func) result came e =
+    let is : Invoke func (input_settled result) area ≡ came = cc in
     subst (λ (one : OwnEvent). has_reply one ≡ false) is refl
-settled_untold ACancel result came e =
+settled_untold area ACancel result came e =
     let is : Cancel ≡ came = cc in
     subst (λ (one : OwnEvent). has_reply one ≡ false) is refl
 
 by_event : (one came : OwnEvent) → Some one ≡ Some came → has_reply one ≡ false → has_reply came ≡ false
 by_event one came e silent_one = let is : one ≡ came = cc in subst (λ (c : OwnEvent). has_reply c ≡ false) is silent_one
 
-coming_untold : (settled : SettledCall) (of_kind : CallKind) (phase : CallPhase) (came : OwnEvent)
-    → event_in settled of_kind phase ≡ Some came → has_reply came ≡ false
-coming_untold settled kind.Open (Runs job) came e = by_event _ came e refl
-coming_untold settled kind.Open (Asks job wanted payload) came e = absurd cc
-coming_untold settled kind.Open (Waits params) came e = absurd cc
-coming_untold settled kind.Open (Ends result params told wakes) came e = absurd cc
-coming_untold settled (kind.Invoke func) (Runs job) came e = by_event _ came e refl
-coming_untold settled (kind.Invoke func) (Asks job wanted payload) came e = absurd cc
-coming_untold settled (kind.Invoke func) (Waits params) came e = by_event _ came e refl
-coming_untold settled (kind.Invoke func) (Ends result params told wakes) came e = absurd cc
-coming_untold settled kind.Close phase came e = by_event Close came e refl
-coming_untold settled kind.Settled (Runs job) came e = absurd cc
-coming_untold settled kind.Settled (Asks job wanted payload) came e = absurd cc
-coming_untold settled kind.Settled (Waits params) came e = absurd cc
-coming_untold settled kind.Settled (Ends result params told wakes) came e = settled_untold settled result came e
+coming_untold : (area : Bool) (settled : SettledCall) (of_kind : CallKind) (phase : CallPhase) (came : OwnEvent)
+    → event_in area settled of_kind phase ≡ Some came → has_reply came ≡ false
+coming_untold area settled kind.Open (Runs job) came e = by_event _ came e refl
+coming_untold area settled kind.Open (Asks job wanted payload) came e = absurd cc
+coming_untold area settled kind.Open (Waits params) came e = absurd cc
+coming_untold area settled kind.Open (Ends result params told wakes) came e = absurd cc
+coming_untold area settled (kind.Invoke func) (Runs job) came e = by_event _ came e refl
+coming_untold area settled (kind.Invoke func) (Asks job wanted payload) came e = absurd cc
+coming_untold area settled (kind.Invoke func) (Waits params) came e = by_event _ came e refl
+coming_untold area settled (kind.Invoke func) (Ends result params told wakes) came e = absurd cc
+coming_untold area settled kind.Close phase came e = by_event (Close area) came e refl
+coming_untold area settled kind.Settled (Runs job) came e = absurd cc
+coming_untold area settled kind.Settled (Asks job wanted payload) came e = absurd cc
+coming_untold area settled kind.Settled (Waits params) came e = absurd cc
+coming_untold area settled kind.Settled (Ends result params told wakes) came e = settled_untold area settled result came e
 
 call_told : (session : ℕ) (notes : Notes) (slot : ℕ) (call : PendingCall) → Told notes
     → Told (call_noted session notes slot call)
@@ -93,15 +94,15 @@ call_told session notes slot call told = by (call.session == session)
   where
     by : (test : Bool)
         → Told (option_map_or (numbered notes slot call)
-        (if test then event_in call.settled call.kind call.phase else None) notes)
+        (if test then event_in (is_some call.area) call.settled call.kind call.phase else None) notes)
     by false = told
-    by true = of (event_in call.settled call.kind call.phase) refl
+    by true = of (event_in (is_some call.area) call.settled call.kind call.phase) refl
       where
-        of : (found : Option OwnEvent) → event_in call.settled call.kind call.phase ≡ found
+        of : (found : Option OwnEvent) → event_in (is_some call.area) call.settled call.kind call.phase ≡ found
             → Told (option_map_or (numbered notes slot call) found notes)
         of None is = told
         of (Some came) is =
-            added notes.log (came, None) told (sym (coming_untold call.settled call.kind call.phase came is))
+            added notes.log (came, None) told (sym (coming_untold (is_some call.area) call.settled call.kind call.phase came is))
 
 seen_told : (notes : Notes) (number : ℕ) (before now : PendingCall) → Told notes
     → Told (seen_noted notes number before now)
@@ -260,9 +261,9 @@ goes_told most z number call answered e =
 
 pub steps_told : (most : ℕ) (app : Application) (z : Solo) (came : OwnEvent) (answered : Answered)
     → step most app z came ≡ Some answered → is_some answered.1 ≡ has_reply came
-steps_told most app z (Open params login) answered e = silent_told (Open params login) _ answered e refl
-steps_told most app z (Invoke func input) answered e = silent_told (Invoke func input) _ answered e refl
-steps_told most app z Close answered e =
+steps_told most app z (Open params login area) answered e = silent_told (Open params login area) _ answered e refl
+steps_told most app z (Invoke func input area) answered e = silent_told (Invoke func input area) _ answered e refl
+steps_told most app z (Close area) answered e =
     let made = option_map_some _ _ answered e in
     ap (λ (a : Answered). is_some a.1) (sym made.2)
 steps_told most app z Cancel answered e =

@@ -161,7 +161,7 @@ entry_keeps boot session kernel next cpu steps regs reads notes given e (HasAnsw
 entry_keeps boot session kernel next cpu steps regs reads notes given e (IsNewCall slot now is inside there) =
     let found = new_call_taken (λ at taken. KeepsNamed session taken.call) boot kernel next cpu steps slot
     regs reads now is
-    (λ at free bytes. never_opens session (new_call_of boot kernel.tables regs.a at bytes) given) inside there e in
+    (λ at free place bytes. never_opens session (new_call_of boot kernel.tables regs.a at place bytes) given) inside there e in
     ap (λ (n : Notes). n.uuid) (new_call_noted session kernel next cpu steps slot regs reads now notes inside
     found.free there)
     ∙ call_keeps session notes slot now (event_of session now) refl

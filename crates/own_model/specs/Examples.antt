@@ -1,14 +1,15 @@
 -- What happens to sessions of small boots and what they are answered, worked out by hand.
-use Rattle.std.specs.Prelude.{◌≡◌, ℕ, false, List, [], ◌∷◌, ◌++◌, Option, Some, replicate}
+use Rattle.std.specs.Prelude.{◌≡◌, ℕ, false, List, [], ◌∷◌, ◌++◌, Option, Some, replicate, true}
 use Rattle.std.specs.Option.{option_map, option_and_then}
 use Rattle.event_journal.specs.declared.event.Event.{Event}
 use Rattle.job_model.specs.Point.{no_params}
 use Rattle.kernel_model.specs.Application.{Application, Booted}
 use Rattle.kernel_model.specs.Instances.{is_single}
 use Rattle.kernel_model.specs.RpcExamples.{two_waits}
+use Rattle.kernel_model.specs.AreaExamples.{area_call, area_call_of, invokes_in, named_call, named_call_of, with_page}
 use Rattle.kernel_model.specs.Worked.{Move, Comes, Leaves, boot, boot_native, add, panic, wait, wait_unmasked}
 use Rattle.kernel_model.specs.Worked.{create_fails, open_fails, open_panics, adds, argument, head, param, invokes}
-use Rattle.kernel_model.specs.Worked.{invokes_by, cancels, closes, call, call_of, offer, opens, resume, history_of}
+use Rattle.kernel_model.specs.Worked.{invokes_by, cancels, closes, call, call_of, offer, opens, open_argument, resume, history_of}
 use Rattle.rpc_msgs.specs.Answer.{nothing_read}
 use Rattle.rpc_msgs.specs.declared.rpc.Rpc.TheVariants.{Suspend}
 use Rattle.ta_params.specs.declared.copied_params.CopiedParams.{CopiedParams}
@@ -41,7 +42,7 @@ abbrev pub nobody : Login
 nobody = record { client = replicate 16 0; kind = 0 }
 
 abbrev pub opened : OwnEvent
-opened = Open no_params nobody
+opened = Open no_params nobody false
 
 -- two numbers, which come back as two others
 abbrev pub numbers : ℕ → ℕ → CopiedParams
@@ -60,7 +61,7 @@ step_by_step =
     opens ++ call 0 1 (adds 5 7) ++ resume 0 1 0 ++ resume 0 1 0 ++ resume 0 1 0 ++ resume 0 1 0 ++ resume 0 1 0
 
 abbrev pub sum_events : List OwnEvent
-sum_events = opened ∷ Out 0 ∷ Invoke 0 (Copied (numbers 5 7)) ∷ Out 1 ∷ []
+sum_events = opened ∷ Out 0 ∷ Invoke 0 (Copied (numbers 5 7)) false ∷ Out 1 ∷ []
 
 abbrev pub sum_replies : List OwnReply
 sum_replies = ended 0 4 ∷ reply.Ended 0 4 (numbers 12 0) ∷ []
@@ -73,7 +74,7 @@ woken =
 
 abbrev pub woken_events : List OwnEvent
 woken_events =
-    opened ∷ Out 0 ∷ Invoke 250 (Copied no_params) ∷ Out 1 ∷ Invoke 250 (Copied no_params) ∷ Out 2
+    opened ∷ Out 0 ∷ Invoke 250 (Copied no_params) false ∷ Out 1 ∷ Invoke 250 (Copied no_params) false ∷ Out 2
     ∷ Back 2 back.Buffer ∷ Out 2
     ∷ Back 2 (back.Reply nothing_read) ∷ Out 2
     ∷ Back 1 back.NoBuffer ∷ Out 1
@@ -113,6 +114,34 @@ back_to thread = resume thread 9 thread
 abbrev pub adds_inside : List Move
 adds_inside = opens ++ Comes 0 (call_of 0) 1000 (adds 5 7) ∷ []
 
+-- an invoke that brings an area along asks there, and is resumed
+abbrev pub asks_in_area : List Move
+asks_in_area = opens ++ area_call 0 9 (invokes 1 250) ++ resume 0 9 0
+
+-- so does one whose argument is in a registered buffer
+abbrev pub asks_in_buffer : List Move
+asks_in_buffer = with_page ++ named_call 0 9 0x31 0x100 (invokes_in 0x40200100) ++ resume 0 9 0
+
+abbrev pub area_events : List OwnEvent
+area_events =
+    opened ∷ Out 0 ∷ Invoke 250 (Copied no_params) true ∷ Out 1 ∷ Back 1 (back.Reply nothing_read) ∷ Out 1 ∷ []
+
+abbrev pub area_replies : List OwnReply
+area_replies = ended 0 4 ∷ reply.Ask (Suspend 250) [] ∷ ended 0 4 ∷ []
+
+-- an invoke that brings an area along asks there, and is cancelled by a call that brings one along too, before it is resumed
+abbrev pub masked_in_area : List Move
+masked_in_area = opens ++ area_call 0 9 (invokes_by 1 250 9) ++ area_call 1 9 (cancels 1 9) ++ resume 0 9 0
+
+-- an open and a close that bring an area along
+abbrev pub opened_in_area : List Move
+opened_in_area = area_call 0 1000 open_argument ++ area_call 0 1000 (closes 1)
+
+-- a new call with these registers finds no thread, and goes out when its session is gone
+abbrev pub turned_away : List ℕ → List Move
+turned_away regs =
+    opens ++ Comes 0 (call_of 0) 9 (closes 1) ∷ Comes 1 regs 9 [] ∷ Leaves 0 ∷ Leaves 1 ∷ []
+
 -- an invoke that panics is, and a close and an invoke wait
 abbrev pub dies_awaited : List Move
 dies_awaited =
@@ -132,16 +161,16 @@ pub record Examples : Type 0 where
   pub woken_replies_are : Agrees (boot 2 2 1 wait) woken 1 woken_replies
   -- a session that panics, and another beside it
   pub first_events : events_of (boot 1 1 2 panic) one_panics 1
-      ≡ Some (opened ∷ Out 0 ∷ Invoke 1 (Copied no_params) ∷ Out 1 ∷ Invoke 1 Unread ∷ Out 2 ∷ Close ∷ Out 3 ∷ [])
+      ≡ Some (opened ∷ Out 0 ∷ Invoke 1 (Copied no_params) false ∷ Out 1 ∷ Invoke 1 Unread false ∷ Out 2 ∷ Close false ∷ Out 3 ∷ [])
   pub first_replies : Agrees (boot 1 1 2 panic) one_panics 1
       (ended 0 4 ∷ ended 0xffff3024 3 ∷ ended 0xffff3024 3 ∷ ended 0 3 ∷ [])
   pub second_events : events_of (boot 1 1 2 panic) one_panics 2
-      ≡ Some (opened ∷ Out 0 ∷ Invoke 0 (Copied no_params) ∷ Out 1 ∷ Close ∷ Out 2 ∷ [])
+      ≡ Some (opened ∷ Out 0 ∷ Invoke 0 (Copied no_params) false ∷ Out 1 ∷ Close false ∷ Out 2 ∷ [])
   pub second_replies : Agrees (boot 1 1 2 panic) one_panics 2 (ended 0 4 ∷ ended 0 4 ∷ ended 0 3 ∷ [])
   -- a cancel is seen at the next resume, also by a call that waits, and by one that has one step at a time
   pub seen_events : events_of (boot 2 2 1 wait_unmasked)
       (opens ++ call 0 1 (invokes_by 1 250 9) ++ call 1 9 (cancels 1 9) ++ resume 0 9 0) 1
-      ≡ Some (opened ∷ Out 0 ∷ Invoke 250 (Copied no_params) ∷ Cancel ∷ Out 2 ∷ Seen 1 1 ∷ Out 1 ∷ [])
+      ≡ Some (opened ∷ Out 0 ∷ Invoke 250 (Copied no_params) false ∷ Cancel ∷ Out 2 ∷ Seen 1 1 ∷ Out 1 ∷ [])
   pub seen : Agrees (boot 2 2 1 wait_unmasked)
       (opens ++ call 0 1 (invokes_by 1 250 9) ++ call 1 9 (cancels 1 9) ++ resume 0 1 0 ++ resume 0 1 0 ++ resume 0 1 0
       ++ resume 0 1 0) 1
@@ -166,13 +195,38 @@ pub record Examples : Type 0 where
       ∷ call 1 9 (adds 1 2)) 1
       (ended 0 4 ∷ reply.Alloc ∷ ended 0xffff000c 3 ∷ sum 12 ∷ sum 3 ∷ [])
   -- a call that finds no thread, and goes out when its session is gone
-  pub limited : Agrees (boot 2 1 1 add) (opens ++ Comes 0 (call_of 0) 9 (closes 1) ∷ Comes 1 (call_of 0) 9 [] ∷ Leaves 0
-      ∷ Leaves 1 ∷ []) 1
+  pub limited : Agrees (boot 2 1 1 add) (turned_away (call_of 0)) 1 (ended 0 4 ∷ ended 0 3 ∷ reply.Limited ∷ [])
+  -- each of the two that bring an area along does so too, even where nothing has its cookie
+  pub area_limited : Agrees (boot 2 1 1 add) (turned_away (area_call_of 0x40000000)) 1
       (ended 0 4 ∷ ended 0 3 ∷ reply.Limited ∷ [])
+  pub named_limited : Agrees (boot 2 1 1 add) (turned_away (named_call_of 0x31 0x100)) 1
+      (ended 0 4 ∷ ended 0 3 ∷ reply.Limited ∷ [])
+  -- calls with an area ask without a buffer
+  pub area_events_are : events_of (boot 1 1 1 wait) asks_in_area 1 ≡ Some area_events
+  pub area_replies_are : Agrees (boot 1 1 1 wait) asks_in_area 1 area_replies
+  pub named_events_are : events_of (boot 1 1 1 wait) asks_in_buffer 1 ≡ Some area_events
+  pub named_replies_are : Agrees (boot 1 1 1 wait) asks_in_buffer 1 area_replies
+  -- one that waits sleeps so
+  pub sleeps_in_area : Agrees (boot 2 2 1 wait) (opens ++ call 0 9 (invokes 1 250) ++ area_call 1 9 (invokes 1 250)) 1
+      (ended 0 4 ∷ reply.Alloc ∷ reply.Sleep ∷ [])
+  -- a cancel's event doesn't tell its area
+  pub area_cancelled : events_of (boot 2 2 1 wait_unmasked)
+      (opens ++ area_call 0 1 (invokes_by 1 250 9) ++ area_call 1 9 (cancels 1 9) ++ resume 0 9 0) 1
+      ≡ Some (opened ∷ Out 0 ∷ Invoke 250 (Copied no_params) true ∷ Cancel ∷ Out 2 ∷ Seen 1 1 ∷ Out 1 ∷ [])
+  -- and it is seen by a call that asks in its area, which has masked it
+  pub masked_in_area_events : events_of (boot 2 2 1 wait) masked_in_area 1
+      ≡ Some (opened ∷ Out 0 ∷ Invoke 250 (Copied no_params) true ∷ Out 1 ∷ Cancel ∷ Out 2 ∷ Seen 1 1
+      ∷ Back 1 (back.Reply nothing_read) ∷ Out 1 ∷ [])
+  pub masked_in_area_replies : Agrees (boot 2 2 1 wait) masked_in_area 1
+      (ended 0 4 ∷ reply.Ask (Suspend 250) [] ∷ ended 0 3 ∷ ended 0 4 ∷ [])
+  -- an open and a close tell their areas
+  pub opened_in_area_events : events_of (boot 1 1 1 add) opened_in_area 1
+      ≡ Some (Open no_params nobody true ∷ Out 0 ∷ Close true ∷ Out 1 ∷ [])
+  pub opened_in_area_replies : Agrees (boot 1 1 1 add) opened_in_area 1 (ended 0 4 ∷ ended 0 3 ∷ [])
   -- one of another client that finds none
   pub limit_of_another : events_of (boot 2 1 1 add)
       (opens ++ Comes 0 (call_of 0) 9 (closes 1) ∷ Comes 1 (call_of 6) 9 [] ∷ Leaves 1 ∷ Leaves 0 ∷ []) 1
-      ≡ Some (opened ∷ Out 0 ∷ Close ∷ Out 1 ∷ [])
+      ≡ Some (opened ∷ Out 0 ∷ Close false ∷ Out 1 ∷ [])
   -- who is to be woken has gone on by itself, and another call is in its slot when the wake is asked for
   pub woken_before : Agrees (boot 3 3 1 add)
       (adds_inside ++ call 1 9 (adds 1 2) ++ Leaves 0 ∷ back_to 1 ++ call 1 1 (adds 3 4) ++ offer 0 9 0 0x40010000 0x77
@@ -187,4 +241,4 @@ pub record Examples : Type 0 where
       (ended 0 3 ∷ ended 7 4 ∷ ended 0 3 ∷ [])
   -- a fault of copying
   pub faulty : events_of (boot 1 1 1 add) (opens ++ call 0 9 (argument (head 1 0 1 1) (param 9 0x40002000 65537 0))) 1
-      ≡ Some (opened ∷ Out 0 ∷ Invoke 0 Faulty ∷ Out 1 ∷ [])
+      ≡ Some (opened ∷ Out 0 ∷ Invoke 0 Faulty false ∷ Out 1 ∷ [])

@@ -1,5 +1,5 @@
 -- What holds of the machine of a session at all times, whatever happens to it. This project's own.
-use Rattle.std.specs.Prelude.{◌≡◌, ℕ, ◌<◌, Option, Some, All}
+use Rattle.std.specs.Prelude.{◌≡◌, ℕ, ◌<◌, Option, Some, None, All}
 use Rattle.std.specs.Option.{option_and_then}
 use Rattle.base.specs.NumberMap.{NumberMap, get}
 use Rattle.job_model.specs.declared.call_kind.CallKind.{CallKind}
@@ -20,9 +20,9 @@ IsWaiting (Asks job wanted payload) = ⊥
 IsWaiting (Waits params) = Unit {0}
 IsWaiting (Ends result params told wakes) = ⊥
 
--- a call that was settled as it came in has ended, and an open never waits
+-- a call that was settled as it came in has ended and wakes nobody, and an open never waits
 abbrev pub Fits : CallKind → CallPhase → Type 0
-Fits Settled (Ends result params told wakes) = Unit {0}
+Fits Settled (Ends result params told None) = Unit {0}
 Fits Settled _ = ⊥
 Fits Open (Waits params) = ⊥
 Fits _ _ = Unit {0}

@@ -1,7 +1,7 @@
 -- What happens to one session in a history and what it is answered, read off the kernels that the history goes
 -- through: which call a slot holds after an entry, what its resume gave it, and what an exit has it go out with. This
 -- project's own.
-use Rattle.std.specs.Prelude.{ℕ, ◌+◌, ◌==◌, ◌&&◌, not, Bool, false, List, [], ◌∷◌, ◌++◌, Option, Some, None, slice_get}
+use Rattle.std.specs.Prelude.{ℕ, ◌+◌, ◌==◌, ◌&&◌, not, Bool, false, List, [], ◌∷◌, ◌++◌, Option, Some, None, is_some, slice_get}
 use Rattle.std.specs.Prelude.{map, filter, filter_map, if◌then◌else◌}
 use Rattle.std.specs.List.{list_any}
 use Rattle.std.specs.Option.{option_map, option_map_or, option_and_then, option_or}
@@ -77,29 +77,30 @@ with_event notes came = record notes { log = notes.log ++ (came, None) ∷ [] }
 abbrev pub input_settled : CallResult → OwnInput
 input_settled result = if result.result == target_dead then Unread else Faulty
 
--- the event of a call that was settled with this result
-abbrev pub settled_event : SettledCall → CallResult → Option OwnEvent
-settled_event Untold result = None
-settled_event (AnOpen login) result = None
-settled_event (AnInvoke func) result = Some (Invoke func (input_settled result))
-settled_event ACancel result = Some Cancel
+-- the event of a call, with an area or without one, that was settled with this result
+abbrev pub settled_event : Bool → SettledCall → CallResult → Option OwnEvent
+settled_event area Untold result = None
+settled_event area (AnOpen login) result = None
+settled_event area (AnInvoke func) result = Some (Invoke func (input_settled result) area)
+settled_event area ACancel result = Some Cancel
 
--- the event of a call that comes in, by its kind and the phase in which it is taken in
-abbrev pub event_in : SettledCall → CallKind → CallPhase → Option OwnEvent
-event_in settled kind.Open (Runs job) = Some (Open (params_of job) job.login)
-event_in settled (kind.Invoke func) (Runs job) = Some (Invoke func (Copied (params_of job)))
-event_in settled (kind.Invoke func) (Waits params) = Some (Invoke func (Copied params))
-event_in settled kind.Close phase = Some Close
-event_in settled kind.Settled (Ends result params told wakes) = settled_event settled result
-event_in settled _ _ = None
+-- the event of a call that comes in, by whether it has an area, its kind and the phase in which it is taken in
+abbrev pub event_in : Bool → SettledCall → CallKind → CallPhase → Option OwnEvent
+event_in area settled kind.Open (Runs job) = Some (Open (params_of job) job.login area)
+event_in area settled (kind.Invoke func) (Runs job) = Some (Invoke func (Copied (params_of job)) area)
+event_in area settled (kind.Invoke func) (Waits params) = Some (Invoke func (Copied params) area)
+event_in area settled kind.Close phase = Some (Close area)
+event_in area settled kind.Settled (Ends result params told wakes) = settled_event area settled result
+event_in area settled _ _ = None
 
 -- where it is a call of the session
 abbrev pub event_of : ℕ → PendingCall → Option OwnEvent
-event_of session call = if call.session == session then event_in call.settled call.kind call.phase else None
+event_of session call =
+    if call.session == session then event_in (is_some call.area) call.settled call.kind call.phase else None
 
 -- the application's UUID by this event: the open brings it
 abbrev pub uuid_by : OwnEvent → PendingCall → Notes → Option (List ℕ)
-uuid_by (Open params login) call notes = call.uuid
+uuid_by (Open params login area) call notes = call.uuid
 uuid_by _ call notes = notes.uuid
 
 -- a call of the session comes into a slot: it gets the next number

@@ -15,6 +15,9 @@ use Rattle.job_model.specs.Steps.{End, JobStop, Grant, Left, Stopped, after, gra
 use Rattle.job_model.specs.Steps as steps
 use Rattle.job_model.specs.Owner.{owner_of}
 use Rattle.rpc_msgs.specs.Answer as answer
+use Rattle.rpc_msgs.specs.Place.{is_placed}
+use Rattle.rpc_msgs.specs.declared.rpc.Rpc.{Rpc}
+use Rattle.rpc_msgs.specs.declared.rpc.Rpc.TheVariants as rpc
 use Rattle.ta_params.specs.declared.call_result.CallResult.{CallResult}
 use Rattle.ta_params.specs.declared.copied_params.CopiedParams.{CopiedParams}
 use Rattle.ta_params.specs.declared.login.Login.{Login}
@@ -50,7 +53,8 @@ pub record OwnCall : Type 0 where
   pub seen : Bool
   -- the steps that its application has done
   pub steps : ℕ
-  -- it has a buffer
+  -- it has an area, and a buffer, for its requests
+  pub area : Bool
   pub buffer : Bool
   -- how far it has come; whom it wakes is the number of a call
   pub phase : CallPhase
@@ -111,32 +115,33 @@ begins app z number call start = record z {
 
 -- ---- calls that come in
 
-abbrev pub fresh_call : CallKind → CallPhase → OwnCall
-fresh_call call_kind phase = record { kind = call_kind; seen = false; steps = 0; buffer = false; phase = phase }
+abbrev pub fresh_call : CallKind → Bool → CallPhase → OwnCall
+fresh_call call_kind area phase =
+    record { kind = call_kind; seen = false; steps = 0; area = area; buffer = false; phase = phase }
 
 -- the machine after a call has got the next number
 abbrev pub counted : Solo → Solo
 counted z = record z { entered = z.entered + 1 }
 
 -- a call comes in and has this result at once, which no application returned
-abbrev pub settles : Solo → ℕ → Solo
-settles z code =
-    let call = fresh_call kind.Settled (Ends (of_tee code) no_params false None) in
+abbrev pub settles : Solo → Bool → ℕ → Solo
+settles z area code =
+    let call = fresh_call kind.Settled area (Ends (of_tee code) no_params false None) in
     record (counted z) { calls = insert z.calls z.entered call }
 
 -- one comes in and waits, behind those that wait already
-abbrev pub waits : Solo → CallKind → CopiedParams → Solo
-waits z call_kind params = record (counted z) {
+abbrev pub waits : Solo → CallKind → Bool → CopiedParams → Solo
+waits z call_kind area params = record (counted z) {
   waiting = z.waiting ++ z.entered ∷ [];
-  calls = insert z.calls z.entered (fresh_call call_kind (Waits params));
+  calls = insert z.calls z.entered (fresh_call call_kind area (Waits params));
 }
 
 -- one comes in on an instance: it waits where another holds that, and else begins
-abbrev pub works_or_waits : Application → Solo → CallKind → Start → Solo
-works_or_waits app z call_kind start =
+abbrev pub works_or_waits : Application → Solo → CallKind → Bool → Start → Solo
+works_or_waits app z call_kind area start =
     if is_held start.instance
-    then waits z call_kind start.params
-    else begins app (counted z) z.entered (fresh_call call_kind (Waits start.params)) start
+    then waits z call_kind area start.params
+    else begins app (counted z) z.entered (fresh_call call_kind area (Waits start.params)) start
 
 -- the session with its instance, where both are there
 abbrev pub home : Solo → Option (OwnSession × Instance)
@@ -152,28 +157,30 @@ made app =
     record { uuid = uuid_of app; dead = false; holder = None; memory = fresh_memory (pages_in app); objects = [] }
 
 -- the open makes session and instance, and begins
-abbrev pub opens : Application → Solo → CopiedParams → Login → Solo
-opens app z params login =
+abbrev pub opens : Application → Solo → CopiedParams → Login → Bool → Solo
+opens app z params login area =
     let session : OwnSession = record { login = login; context = 0; opened = false } in
-    works_or_waits app (record z { session = Some session }) kind.Open (start_with (session, made app) params)
+    works_or_waits app (record z { session = Some session }) kind.Open area
+    (start_with (session, made app) params)
 
 -- it comes once, before all other calls
-abbrev pub opens_first : Application → Solo → CopiedParams → Login → Option Solo
-opens_first app z params login = if z.entered == 0 then Some (opens app z params login) else None
+abbrev pub opens_first : Application → Solo → CopiedParams → Login → Bool → Option Solo
+opens_first app z params login area = if z.entered == 0 then Some (opens app z params login area) else None
 
 -- an invoke: of a dead instance it has a result at once; else with faulty parameters; else it begins or waits
-abbrev pub invokes_with : Application → Solo → ℕ → OwnInput → OwnSession × Instance → Option Solo
-invokes_with app z func (Copied params) at = Some (works_or_waits app z (kind.Invoke func) (start_with at params))
-invokes_with app z func Faulty at = Some (settles z bad_parameters)
-invokes_with app z func Unread at = None
+abbrev pub invokes_with : Application → Solo → ℕ → OwnInput → Bool → OwnSession × Instance → Option Solo
+invokes_with app z func (Copied params) area at =
+    Some (works_or_waits app z (kind.Invoke func) area (start_with at params))
+invokes_with app z func Faulty area at = Some (settles z area bad_parameters)
+invokes_with app z func Unread area at = None
 
-abbrev pub invokes : Application → Solo → ℕ → OwnInput → OwnSession × Instance → Option Solo
-invokes app z func input at =
-    if at.1.dead then Some (settles z target_dead) else invokes_with app z func input at
+abbrev pub invokes : Application → Solo → ℕ → OwnInput → Bool → OwnSession × Instance → Option Solo
+invokes app z func input area at =
+    if at.1.dead then Some (settles z area target_dead) else invokes_with app z func input area at
 
 -- a close begins or waits, also where the instance is dead
-abbrev pub closes : Application → Solo → OwnSession × Instance → Solo
-closes app z at = works_or_waits app z kind.Close (start_with at no_params)
+abbrev pub closes : Application → Solo → Bool → OwnSession × Instance → Solo
+closes app z area at = works_or_waits app z kind.Close area (start_with at no_params)
 
 -- ---- calls that come back
 
@@ -344,9 +351,10 @@ going_in most z call (Ends result params false wakes) =
     Some (shows (record z { session = session }) call result params)
 going_in most z call _ = Some (record { solo = z; call = call })
 
--- it asks for something, in the buffer that it has, or for a buffer first
-abbrev pub asks : Solo → ℕ → OwnCall → OwnReply → Answered
-asks z number call wanted = (with_call z number call, Some (if call.buffer then wanted else reply.Alloc))
+-- it asks for something, where that has a place in its area or its buffer, or for a buffer first
+abbrev pub asks : Solo → ℕ → OwnCall → Rpc → OwnReply → Answered
+asks z number call wanted told =
+    (with_call z number call, Some (if is_placed call.area call.buffer wanted then told else reply.Alloc))
 
 -- it has ended: it gives its buffer back, or is told its result
 abbrev pub leaves : Solo → ℕ → OwnCall → OwnReply → Answered
@@ -357,9 +365,10 @@ leaves z number call result =
 
 abbrev pub goes_out_in : Solo → ℕ → OwnCall → CallPhase → Option Answered
 goes_out_in z number call (Runs job) = None
-goes_out_in z number call (Asks job wanted payload) = Some (asks z number call (reply.Ask wanted payload))
-goes_out_in z number call (Waits params) = Some (asks z number call reply.Sleep)
-goes_out_in z number call (Ends result params told (Some woken)) = Some (asks z number call (reply.Wake woken))
+goes_out_in z number call (Asks job wanted payload) = Some (asks z number call wanted (reply.Ask wanted payload))
+goes_out_in z number call (Waits params) = Some (asks z number call (rpc.Sleep number) reply.Sleep)
+goes_out_in z number call (Ends result params told (Some woken)) =
+    Some (asks z number call (rpc.Wake woken) (reply.Wake woken))
 goes_out_in z number call (Ends result params told None) = Some (leaves z number call (ended result params))
 
 abbrev pub goes_out : ℕ → Solo → ℕ → OwnCall → Option Answered
@@ -371,10 +380,10 @@ goes_out most z number call =
 
 -- what it does at one: none where the event can't come. A job takes at most so many steps to its stop
 abbrev pub step : ℕ → Application → Solo → OwnEvent → Option Answered
-step most app z (Open params login) = option_map silent (opens_first app z params login)
-step most app z (Invoke func input) = option_map silent (option_and_then (invokes app z func input) (home z))
-step most app z Close = option_map (λ at. silent (closes app z at)) (home z)
-step most app z Cancel = Some (silent (settles z success))
+step most app z (Open params login area) = option_map silent (opens_first app z params login area)
+step most app z (Invoke func input area) = option_map silent (option_and_then (invokes app z func input area) (home z))
+step most app z (Close area) = option_map (λ at. silent (closes app z area at)) (home z)
+step most app z Cancel = Some (silent (settles z false success))
 step most app z (Seen number done_by_now) =
     option_map silent (option_and_then (sees z number done_by_now) (get z.calls number))
 step most app z (Back number input) =

@@ -84,12 +84,19 @@ abbrev pub IsOn : ℕ → PendingCall → CallKind → Type 0
 IsOn instance call kind.Settled = Unit {0}
 IsOn instance call _ = call.instance ≡ instance
 
+-- the one has an area exactly where the other does. Of one that was settled as it came in nothing shows that: a cancel's
+-- own event doesn't tell it
+abbrev pub AreasAlike : PendingCall → OwnCall → CallKind → Type 0
+AreasAlike call own kind.Settled = Unit {0}
+AreasAlike call own _ = is_some call.area ≡ own.area
+
 -- a call of the session, and the machine's
 pub record CallsAlike (session instance : ℕ) (kept : Option ℕ) (call : PendingCall) (own : OwnCall) : Type 0 where
   pub of_session : call.session ≡ session
   pub on_instance : IsOn instance call call.kind
   pub kinds : call.kind ≡ own.kind
   pub seen : call.seen ≡ own.seen
+  pub areas : AreasAlike call own call.kind
   pub buffers : is_some call.buffer ≡ own.buffer
   pub phases : PhasesAlike kept call.steps own.steps call.phase own.phase
   -- a job that has the flag keeps it, so that it makes no difference at which resumes the call sees it again

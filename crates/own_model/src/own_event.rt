@@ -29,20 +29,39 @@ pub enum BackInput {
 /// own.
 #[derive(Debug, Drop)]
 pub enum OwnEvent {
-    /// The open comes in, which is the session's first call.
-    Open { params: CopiedParams, login: Login },
+    /// The open comes in, which is the session's first call. Of each call `area` says whether it has an area for the
+    /// arguments of its requests.
+    Open {
+        params: CopiedParams,
+        login: Login,
+        area: bool,
+    },
     /// An invoke of a function comes in.
-    Invoke { func: u32, input: OwnInput },
+    Invoke {
+        func: u32,
+        input: OwnInput,
+        area: bool,
+    },
     /// A close comes in.
-    Close,
+    Close {
+        area: bool,
+    },
     /// A cancel comes in.
     Cancel,
     /// A call sees that it was cancelled, after so many steps.
-    Seen { call: u32, steps: u128 },
+    Seen {
+        call: u32,
+        steps: u128,
+    },
     /// A call comes back with what it had asked for.
-    Back { call: u32, input: BackInput },
+    Back {
+        call: u32,
+        input: BackInput,
+    },
     /// A call goes out, other than interrupted.
-    Out { call: u32 },
+    Out {
+        call: u32,
+    },
     /// A new call of the session's client goes out since no thread was free. Its argument was not read: it may have
     /// been meant for another session of that client.
     Limited,
