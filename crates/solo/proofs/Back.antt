@@ -33,6 +33,7 @@ has_buffer old new buffer call becomes is =
       kind = is.kind;
       seen = is.seen;
       steps = is.steps;
+      area = is.area;
       buffer = refl;
       phase = relabelled old (record { steps = old.steps; buffer = Some buffer }) call.phase is.phase;
     })
@@ -41,11 +42,13 @@ has_buffer old new buffer call becomes is =
 
 -- the call in another phase
 pub in_phase : (old new : Cont (List ℕ)) (call : OwnCall) (at : CallPhase) → new.kind ≡ old.kind → new.cancelled ≡ old.cancelled →
-    new.steps ≡ old.steps → new.buffer ≡ old.buffer → IsCall old call → IsInPhase new at → IsCall new (record call { phase = at })
-in_phase old new call at kind seen did buffer is here = record {
+    new.steps ≡ old.steps → new.area ≡ old.area → new.buffer ≡ old.buffer → IsCall old call → IsInPhase new at →
+    IsCall new (record call { phase = at })
+in_phase old new call at kind seen did area buffer is here = record {
   kind = kind ∙ is.kind;
   seen = seen ∙ is.seen;
   steps = did ∙ is.steps;
+  area = ap (λ (a : Option ℕ). is_some a) area ∙ is.area;
   buffer = ap (λ (b : Option RpcBuffer). is_some b) buffer ∙ is.buffer;
   phase = here;
 }
@@ -104,7 +107,7 @@ taken : (old new : Cont (List ℕ)) (answer : RpcAnswer) (call : OwnCall) (at : 
     IsInPhase new at → IsCall new (record call { phase = at })
 taken old new answer call at takes is here =
     in_phase old new call at (ap (λ (c : Cont (List ℕ)). c.kind) takes.stays) (ap (λ (c : Cont (List ℕ)). c.cancelled) takes.stays)
-    (ap (λ (c : Cont (List ℕ)). c.steps) takes.stays) takes.buffer is here
+    (ap (λ (c : Cont (List ℕ)). c.steps) takes.stays) (ap (λ (c : Cont (List ℕ)). c.area) takes.stays) takes.buffer is here
 
 answered_in : (app : Application) (solo next : Solo) (number : ℕ) (input : BackInput) (answer : RpcAnswer) (old new : Cont (List ℕ)) (call : OwnCall) (at : CallPhase) →
     (old.phase ≡ phase.Waits → ⊥) → IsAnswer input answer → TakesAnswer old new answer → IsCall old call → IsInPhase old at →
@@ -143,6 +146,7 @@ ended_so old new call code becomes undone is = record {
   kind = ap (λ (c : Cont (List ℕ)). c.kind) becomes ∙ is.kind;
   seen = ap (λ (c : Cont (List ℕ)). c.cancelled) becomes ∙ is.seen;
   steps = ap (λ (c : Cont (List ℕ)). c.steps) becomes ∙ is.steps;
+  area = ap (λ (c : Cont (List ℕ)). is_some c.area) becomes ∙ is.area;
   buffer = ap (λ (c : Cont (List ℕ)). is_some c.buffer) becomes ∙ is.buffer;
   phase = record {
     phase = ap (λ (c : Cont (List ℕ)). c.phase) becomes;

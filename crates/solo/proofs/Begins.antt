@@ -126,6 +126,7 @@ begun_so s held cont new solo call session at params number beside is stays hold
     kind = ap (λ (c : Cont (List ℕ)). c.kind) becomes ∙ is.kind;
     seen = ap (λ (c : Cont (List ℕ)). c.cancelled) becomes ∙ is.seen;
     steps = ap (λ (c : Cont (List ℕ)). c.steps) becomes ∙ is.steps;
+    area = ap (λ (c : Cont (List ℕ)). is_some c.area) becomes ∙ is.area;
     buffer = ap (λ (c : Cont (List ℕ)). is_some c.buffer) becomes ∙ is.buffer;
     phase = subst (λ (kind : CallKind). IsInPhase new (Runs (job_of (app_in s) kind (start_of at params cont)))) is.kind runs;
   };

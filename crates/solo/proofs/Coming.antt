@@ -139,38 +139,38 @@ held_so s solo at held beside e says =
 found_then : {A B : Type 0} (f : A → Option B) (o : Option A) (a : A) (b : B) → o ≡ Some a → option_and_then f o ≡ Some b → f a ≡ Some b
 found_then f o a b is e = sym (ap (option_and_then f) is) ∙ e
 
-pub invoked_nowhere : (app : Application) (solo next : Solo) (func : ℕ) (input : OwnInput) → home solo ≡ None →
-    option_and_then (invokes app solo func input) (home solo) ≡ Some next → ⊥
-invoked_nowhere app solo next func input none e =
-    let no : None ≡ Some next = sym (ap (option_and_then (invokes app solo func input)) none) ∙ e in absurd cc
+pub invoked_nowhere : (app : Application) (solo next : Solo) (func : ℕ) (input : OwnInput) (area : Bool) → home solo ≡ None →
+    option_and_then (invokes app solo func input area) (home solo) ≡ Some next → ⊥
+invoked_nowhere app solo next func input area none e =
+    let no : None ≡ Some next = sym (ap (option_and_then (invokes app solo func input area)) none) ∙ e in absurd cc
 
-invoked_as : (app : Application) (solo next : Solo) (func : ℕ) (input : OwnInput) (at : OwnSession × Instance) (dead : Bool) → at.1.dead ≡ dead →
-    invokes app solo func input at ≡ Some next → (if dead then Some (settles solo target_dead) else invokes_with app solo func input at) ≡ Some next
-invoked_as app solo next func input at dead is e =
-    ap (λ (b : Bool). if b then Some (settles solo target_dead) else invokes_with app solo func input at) (sym is) ∙ e
+invoked_as : (app : Application) (solo next : Solo) (func : ℕ) (input : OwnInput) (area : Bool) (at : OwnSession × Instance) (dead : Bool) → at.1.dead ≡ dead →
+    invokes app solo func input area at ≡ Some next → (if dead then Some (settles solo area target_dead) else invokes_with app solo func input area at) ≡ Some next
+invoked_as app solo next func input area at dead is e =
+    ap (λ (b : Bool). if b then Some (settles solo area target_dead) else invokes_with app solo func input area at) (sym is) ∙ e
 
-pub invoked_dead : (app : Application) (solo next : Solo) (func : ℕ) (input : OwnInput) (found : Found) → FindsHome solo found → found.dead ≡ true →
-    option_and_then (invokes app solo func input) (home solo) ≡ Some next → settles solo target_dead ≡ next
-invoked_dead app solo next func input found its dead e =
-    let so : Some (settles solo target_dead) ≡ Some next =
-    invoked_as app solo next func input its.at true (sym its.dead ∙ dead) (found_then (invokes app solo func input) _ its.at next its.home e) in cc
+pub invoked_dead : (app : Application) (solo next : Solo) (func : ℕ) (input : OwnInput) (area : Bool) (found : Found) → FindsHome solo found → found.dead ≡ true →
+    option_and_then (invokes app solo func input area) (home solo) ≡ Some next → settles solo area target_dead ≡ next
+invoked_dead app solo next func input area found its dead e =
+    let so : Some (settles solo area target_dead) ≡ Some next =
+    invoked_as app solo next func input area its.at true (sym its.dead ∙ dead) (found_then (invokes app solo func input area) _ its.at next its.home e) in cc
 
-pub invoked_alive : (app : Application) (solo next : Solo) (func : ℕ) (input : OwnInput) (found : Found) → (its : FindsHome solo found) → found.dead ≡ false →
-    option_and_then (invokes app solo func input) (home solo) ≡ Some next → invokes_with app solo func input its.at ≡ Some next
-invoked_alive app solo next func input found its alive e =
-    invoked_as app solo next func input its.at false (sym its.dead ∙ alive) (found_then (invokes app solo func input) _ its.at next its.home e)
+pub invoked_alive : (app : Application) (solo next : Solo) (func : ℕ) (input : OwnInput) (area : Bool) (found : Found) → (its : FindsHome solo found) → found.dead ≡ false →
+    option_and_then (invokes app solo func input area) (home solo) ≡ Some next → invokes_with app solo func input area its.at ≡ Some next
+invoked_alive app solo next func input area found its alive e =
+    invoked_as app solo next func input area its.at false (sym its.dead ∙ alive) (found_then (invokes app solo func input area) _ its.at next its.home e)
 
-pub invoked_copied : (app : Application) (solo next : Solo) (func : ℕ) (input : OwnInput) (params : CopiedParams) (at : OwnSession × Instance) →
-    input ≡ came.Copied params → invokes_with app solo func input at ≡ Some next → works_or_waits app solo (kind.Invoke func) (start_with at params) ≡ next
-invoked_copied app solo next func input params at is e =
-    let so : Some (works_or_waits app solo (kind.Invoke func) (start_with at params)) ≡ Some next =
-    ap (λ (i : OwnInput). invokes_with app solo func i at) (sym is) ∙ e in cc
+pub invoked_copied : (app : Application) (solo next : Solo) (func : ℕ) (input : OwnInput) (area : Bool) (params : CopiedParams) (at : OwnSession × Instance) →
+    input ≡ came.Copied params → invokes_with app solo func input area at ≡ Some next → works_or_waits app solo (kind.Invoke func) area (start_with at params) ≡ next
+invoked_copied app solo next func input area params at is e =
+    let so : Some (works_or_waits app solo (kind.Invoke func) area (start_with at params)) ≡ Some next =
+    ap (λ (i : OwnInput). invokes_with app solo func i area at) (sym is) ∙ e in cc
 
-pub invoked_faulty : (app : Application) (solo next : Solo) (func : ℕ) (input : OwnInput) (at : OwnSession × Instance) →
-    ((params : CopiedParams) → input ≡ came.Copied params → ⊥) → invokes_with app solo func input at ≡ Some next → settles solo bad_parameters ≡ next
-invoked_faulty app solo next func (came.Copied params) at apart e = absurd (apart params refl)
-invoked_faulty app solo next func came.Faulty at apart e = cc
-invoked_faulty app solo next func came.Unread at apart e = absurd cc
+pub invoked_faulty : (app : Application) (solo next : Solo) (func : ℕ) (input : OwnInput) (area : Bool) (at : OwnSession × Instance) →
+    ((params : CopiedParams) → input ≡ came.Copied params → ⊥) → invokes_with app solo func input area at ≡ Some next → settles solo area bad_parameters ≡ next
+invoked_faulty app solo next func (came.Copied params) area at apart e = absurd (apart params refl)
+invoked_faulty app solo next func came.Faulty area at apart e = cc
+invoked_faulty app solo next func came.Unread area at apart e = absurd cc
 
 -- ---- an open
 
@@ -187,31 +187,31 @@ made_stands s new solo session instance becomes stands =
 
 -- ---- a call that works on the instance, or waits for it
 
-by_holder : (app : Application) (solo : Solo) (call_kind : CallKind) (start : Start) (held : Bool) → held ≡ is_held start.instance →
-    works_or_waits app solo call_kind start
-    ≡ (if held then waits solo call_kind start.params else begins app (counted solo) solo.entered (fresh_call call_kind (Waits start.params)) start)
-by_holder app solo call_kind start held same =
-    ap (λ (b : Bool). if b then waits solo call_kind start.params else begins app (counted solo) solo.entered (fresh_call call_kind (Waits start.params)) start)
+by_holder : (app : Application) (solo : Solo) (call_kind : CallKind) (area : Bool) (start : Start) (held : Bool) → held ≡ is_held start.instance →
+    works_or_waits app solo call_kind area start
+    ≡ (if held then waits solo call_kind area start.params else begins app (counted solo) solo.entered (fresh_call call_kind area (Waits start.params)) start)
+by_holder app solo call_kind area start held same =
+    ap (λ (b : Bool). if b then waits solo call_kind area start.params else begins app (counted solo) solo.entered (fresh_call call_kind area (Waits start.params)) start)
     (sym same)
 
-pub works_held : (app : Application) (solo : Solo) (call_kind : CallKind) (start : Start) (held : Bool) → held ≡ is_held start.instance → held ≡ true →
-    waits solo call_kind start.params ≡ works_or_waits app solo call_kind start
-works_held app solo call_kind start held same is = sym (by_holder app solo call_kind start true (sym is ∙ same))
+pub works_held : (app : Application) (solo : Solo) (call_kind : CallKind) (area : Bool) (start : Start) (held : Bool) → held ≡ is_held start.instance → held ≡ true →
+    waits solo call_kind area start.params ≡ works_or_waits app solo call_kind area start
+works_held app solo call_kind area start held same is = sym (by_holder app solo call_kind area start true (sym is ∙ same))
 
-pub works_free : (app : Application) (solo : Solo) (call_kind : CallKind) (start : Start) (held : Bool) → held ≡ is_held start.instance → held ≡ false →
-    begins app (counted solo) solo.entered (fresh_call call_kind (Waits start.params)) start ≡ works_or_waits app solo call_kind start
-works_free app solo call_kind start held same is = sym (by_holder app solo call_kind start false (sym is ∙ same))
+pub works_free : (app : Application) (solo : Solo) (call_kind : CallKind) (area : Bool) (start : Start) (held : Bool) → held ≡ is_held start.instance → held ≡ false →
+    begins app (counted solo) solo.entered (fresh_call call_kind area (Waits start.params)) start ≡ works_or_waits app solo call_kind area start
+works_free app solo call_kind area start held same is = sym (by_holder app solo call_kind area start false (sym is ∙ same))
 
 -- the session and the instance that an open makes
-pub opened_at_once : (app : Application) (solo : Solo) (params copy : CopiedParams) (login : Login) (number : ℕ) → number ≡ solo.entered → copy ≡ params →
+pub opened_at_once : (app : Application) (solo : Solo) (params copy : CopiedParams) (login : Login) (area : Bool) (number : ℕ) → number ≡ solo.entered → copy ≡ params →
     (let session : OwnSession = record { login = login; context = 0; opened = false } in
-    counted (begins app (record solo { session = Some session; instance = Some (made app) }) number (fresh_call kind.Open (Waits copy))
-    (start_with (session, made app) copy))) ≡ opens app solo params login
-opened_at_once app solo params copy login number next same =
+    counted (begins app (record solo { session = Some session; instance = Some (made app) }) number (fresh_call kind.Open area (Waits copy))
+    (start_with (session, made app) copy))) ≡ opens app solo params login area
+opened_at_once app solo params copy login area number next same =
     let session : OwnSession = record { login = login; context = 0; opened = false } in
-    ap (λ (n : ℕ). counted (begins app (record solo { session = Some session; instance = Some (made app) }) n (fresh_call kind.Open (Waits copy))
+    ap (λ (n : ℕ). counted (begins app (record solo { session = Some session; instance = Some (made app) }) n (fresh_call kind.Open area (Waits copy))
     (start_with (session, made app) copy))) next
-    ∙ ap (λ (ps : CopiedParams). opens app solo ps login) same
+    ∙ ap (λ (ps : CopiedParams). opens app solo ps login area) same
 
 pub not_copied : (input : OwnInput) → (input ≡ came.Faulty) ⊎ (input ≡ came.Unread) → (params : CopiedParams) → input ≡ came.Copied params → ⊥
 not_copied input (inl is) params e = let no : came.Faulty ≡ came.Copied params = sym is ∙ e in absurd cc

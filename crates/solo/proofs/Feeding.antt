@@ -20,9 +20,9 @@ use Rattle.solo.specs.declared.solo_session.SoloSession.{SoloSession}
 -- ---- what a step asks for
 
 number_prop : (entered : ℕ) (event : OwnEvent) → IsProp (HasNumber entered event)
-number_prop entered (Open params login) = Prim.hlevel props
-number_prop entered (Invoke func input) = Prim.hlevel props
-number_prop entered Close = Prim.hlevel props
+number_prop entered (Open params login area) = Prim.hlevel props
+number_prop entered (Invoke func input area) = Prim.hlevel props
+number_prop entered (Close area) = Prim.hlevel props
 number_prop entered Cancel = Prim.hlevel props
 number_prop entered (Seen number steps) = Prim.hlevel props
 number_prop entered (Back number input) = Prim.hlevel props

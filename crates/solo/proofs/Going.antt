@@ -28,6 +28,7 @@ use Rattle.ta_params.specs.declared.copied_params.CopiedParams.{CopiedParams}
 pub record Keeps (old new : Cont (List ℕ)) : Type 0 where
   pub kind : new.kind ≡ old.kind
   pub seen : new.cancelled ≡ old.cancelled
+  pub area : new.area ≡ old.area
   pub buffer : new.buffer ≡ old.buffer
 
 -- the call, which has done so many steps, as it shows its result
@@ -39,6 +40,7 @@ shown old new rest call used result params keeps is did at outcome left told wak
   kind = keeps.kind ∙ is.kind;
   seen = keeps.seen ∙ is.seen;
   steps = did;
+  area = ap (λ (a : Option ℕ). is_some a) keeps.area ∙ is.area;
   buffer = ap (λ (b : Option RpcBuffer). is_some b) keeps.buffer ∙ is.buffer;
   phase = record { phase = at; result = outcome; params = left; told = told; wakes = wakes };
 }
@@ -77,6 +79,7 @@ both : (one two three : Cont (List ℕ)) → Keeps one two → Keeps two three �
 both one two three first second = record {
   kind = second.kind ∙ first.kind;
   seen = second.seen ∙ first.seen;
+  area = second.area ∙ first.area;
   buffer = second.buffer ∙ first.buffer;
 }
 
@@ -148,6 +151,7 @@ unrun_so s now old new before call result params is keeps at did still outcome l
         kind = keeps.kind ∙ is.kind;
         seen = keeps.seen ∙ is.seen;
         steps = did ∙ is.steps;
+        area = ap (λ (a : Option ℕ). is_some a) keeps.area ∙ is.area;
         buffer = ap (λ (b : Option RpcBuffer). is_some b) keeps.buffer ∙ is.buffer;
         phase = record {
           phase = still ∙ at;

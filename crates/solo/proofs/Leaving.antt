@@ -1,6 +1,6 @@
 -- What a call that goes out leaves.
 use Rattle.std.proofs.Common.{◌≡◌, ℕ, Bool, true, false, List, Option, Some, None, refl, sym, ap, subst, ◌∙◌}
-use Rattle.std.specs.Prelude.{if◌then◌else◌, is_some, slice_get, slice_set}
+use Rattle.std.specs.Prelude.{◌&&◌, ◌||◌, not, if◌then◌else◌, is_some, slice_get, slice_set}
 use Rattle.std.specs.Global.{Box}
 use Rattle.std.specs.Option.{option_and_then}
 use Rattle.base.specs.NumberMap.{get, remove}
@@ -14,10 +14,13 @@ use Rattle.own_model.specs.declared.own_reply.OwnReply.{OwnReply}
 use Rattle.own_model.specs.declared.own_reply.OwnReply.TheVariants as reply
 use Rattle.rpc_cont.specs.Conts.{kept_params}
 use Rattle.rpc_cont.specs.declared.cont.Cont.{Cont}
+use Rattle.rpc_msgs.specs.Request.{has_payload}
+use Rattle.rpc_msgs.specs.declared.rpc.Rpc.{Rpc}
+use Rattle.rpc_msgs.specs.declared.rpc.Rpc.TheVariants as rpc
 use Rattle.kernel_state.proofs.CallPhases.{relabelled}
 use Rattle.solo.proofs.Putting.{aside, comes_with, found_call, put_back, was_there}
 use Rattle.solo.specs.Calls.{IsCall}
-use Rattle.solo.specs.GoingOut.{Ending, IsGoing, asked_in, phase_of}
+use Rattle.solo.specs.GoingOut.{Ending, IsGoing, asked_in, asks_with_payload, phase_of, placed_or_alloc}
 use Rattle.solo.specs.Short.{AreShort}
 use Rattle.solo.specs.Standing.{IsAside, IsCallAt, StandsFor}
 use Rattle.solo.specs.declared.solo_session.SoloSession.{SoloSession}
@@ -32,20 +35,28 @@ Kept = Option (Box (Cont (List ℕ)))
 pair_is : (first second : Answered) → Some first ≡ Some second → (first.0 ≡ second.0) × (first.1 ≡ second.1)
 pair_is first second e = let same : first ≡ second = cc in (ap (λ (a : Answered). a.0) same, ap (λ (a : Answered). a.1) same)
 
-asks_this : (solo next : Solo) (number : ℕ) (own : OwnCall) (told : Option OwnReply) (wanted asked : OwnReply) → asked ≡ wanted →
-    Some (asks solo number own asked) ≡ Some (next, told) → (with_call solo number own ≡ next) × (Some (if own.buffer then wanted else reply.Alloc) ≡ told)
-asks_this solo next number own told wanted asked same e =
-    let both = pair_is (asks solo number own asked) (next, told) e in
-    (both.0, ap (λ (r : OwnReply). Some (if own.buffer then r else reply.Alloc)) (sym same) ∙ both.1)
+-- the call with what is told of it
+abbrev AsksSo : (solo next : Solo) (number : ℕ) (own : OwnCall) (told : Option OwnReply) (wanted : OwnReply) → Type 0
+AsksSo solo next number own told wanted =
+    (with_call solo number own ≡ next) × (Some (placed_or_alloc own.area own.buffer wanted) ≡ told)
+
+asks_this : (solo next : Solo) (number : ℕ) (own : OwnCall) (told : Option OwnReply) (request : Rpc) (wanted asked : OwnReply) → asked ≡ wanted →
+    has_payload request ≡ asks_with_payload asked → Some (asks solo number own request asked) ≡ Some (next, told) → AsksSo solo next number own told wanted
+asks_this solo next number own told request wanted asked same paid e =
+    let both = pair_is (asks solo number own request asked) (next, told) e in (
+      both.0,
+      ap (λ (r : OwnReply). Some (placed_or_alloc own.area own.buffer r)) (sym same)
+          ∙ ap (λ (b : Bool). Some (if own.buffer || (own.area && not b) then asked else reply.Alloc)) (sym paid)
+          ∙ both.1,
+    )
 
 -- a call that asks for something
 pub asks_out : (solo next : Solo) (number : ℕ) (own : OwnCall) (told : Option OwnReply) (at : CallPhase) (wanted : OwnReply) → Some wanted ≡ asked_in at →
-    goes_out_in solo number own at ≡ Some (next, told) →
-    (with_call solo number own ≡ next) × (Some (if own.buffer then wanted else reply.Alloc) ≡ told)
+    goes_out_in solo number own at ≡ Some (next, told) → AsksSo solo next number own told wanted
 asks_out solo next number own told (Runs job) wanted is e = absurd cc
-asks_out solo next number own told (Asks job rpc payload) wanted is e = asks_this solo next number own told wanted (reply.Ask rpc payload) (cc) e
-asks_out solo next number own told (Waits params) wanted is e = asks_this solo next number own told wanted reply.Sleep (cc) e
-asks_out solo next number own told (Ends result params was (Some woken)) wanted is e = asks_this solo next number own told wanted (reply.Wake woken) (cc) e
+asks_out solo next number own told (Asks job request payload) wanted is e = asks_this solo next number own told request wanted (reply.Ask request payload) (cc) refl e
+asks_out solo next number own told (Waits params) wanted is e = asks_this solo next number own told (rpc.Sleep number) wanted reply.Sleep (cc) refl e
+asks_out solo next number own told (Ends result params was (Some woken)) wanted is e = asks_this solo next number own told (rpc.Wake woken) wanted (reply.Wake woken) (cc) refl e
 asks_out solo next number own told (Ends result params was None) wanted is e = absurd cc
 
 -- one that asks for nothing more has ended
@@ -57,7 +68,7 @@ pub record HasLeft (solo next : Solo) (number : ℕ) (own : OwnCall) (told : Opt
 pub leaves_out : (solo next : Solo) (number : ℕ) (own : OwnCall) (told : Option OwnReply) (at : CallPhase) → None ≡ asked_in at →
     goes_out_in solo number own at ≡ Some (next, told) → HasLeft solo next number own told at
 leaves_out solo next number own told (Runs job) none e = absurd cc
-leaves_out solo next number own told (Asks job rpc payload) none e = absurd cc
+leaves_out solo next number own told (Asks job request payload) none e = absurd cc
 leaves_out solo next number own told (Waits params) none e = absurd cc
 leaves_out solo next number own told (Ends result params was (Some woken)) none e = absurd cc
 leaves_out solo next number own told (Ends result params was None) none e =
@@ -81,6 +92,7 @@ unbuffered old new own becomes is =
       kind = is.kind;
       seen = is.seen;
       steps = is.steps;
+      area = is.area;
       buffer = refl;
       phase = relabelled old (record { steps = old.steps; buffer = None }) own.phase is.phase;
     })

@@ -75,6 +75,7 @@ keeps_run : (old ran : Cont (List ℕ)) → ran ≡ record (worked old ran) { st
 keeps_run old ran stays = record {
   kind = ap (λ (c : Cont (List ℕ)). c.kind) stays;
   seen = ap (λ (c : Cont (List ℕ)). c.cancelled) stays;
+  area = ap (λ (c : Cont (List ℕ)). c.area) stays;
   buffer = ap (λ (c : Cont (List ℕ)). c.buffer) stays;
 }
 
@@ -103,6 +104,7 @@ asks_so now old ran answer before call used (steps.Asks wanted payload left) run
         kind = keeps.kind ∙ is.kind;
         seen = keeps.seen ∙ is.seen;
         steps = did;
+        area = ap (λ (a : Option ℕ). is_some a) keeps.area ∙ is.area;
         buffer = ap (λ (b : Option RpcBuffer). is_some b) keeps.buffer ∙ is.buffer;
         phase = (run.phase ∙ ap phase_after its.0, its.1, run.asks its.0);
       };
@@ -140,6 +142,7 @@ ends_so s now old ran new answer before call used (steps.Ends end) run ended bes
       keeps = record {
         kind = ap (λ (c : Cont (List ℕ)). c.kind) ended.stays;
         seen = ap (λ (c : Cont (List ℕ)). c.cancelled) ended.stays;
+        area = ap (λ (c : Cont (List ℕ)). c.area) ended.stays;
         buffer = ap (λ (c : Cont (List ℕ)). c.buffer) ended.stays;
       };
       did = ap (λ (c : Cont (List ℕ)). c.steps) ended.stays;
@@ -181,6 +184,7 @@ panics_so s now old ran new answer before call used (steps.Panics code) run pani
       keeps = record {
         kind = ap (λ (c : Cont (List ℕ)). c.kind) panicked.stays;
         seen = ap (λ (c : Cont (List ℕ)). c.cancelled) panicked.stays;
+        area = ap (λ (c : Cont (List ℕ)). c.area) panicked.stays;
         buffer = ap (λ (c : Cont (List ℕ)). c.buffer) panicked.stays;
       };
       did = ap (λ (c : Cont (List ℕ)). c.steps) panicked.stays;
@@ -287,6 +291,7 @@ shows_now s now old new solo call going most unrun beside is ends fresh e =
     (record {
       kind = ap (λ (c : Cont (List ℕ)). c.kind) unrun.stays;
       seen = ap (λ (c : Cont (List ℕ)). c.cancelled) unrun.stays;
+      area = ap (λ (c : Cont (List ℕ)). c.area) unrun.stays;
       buffer = ap (λ (c : Cont (List ℕ)). c.buffer) unrun.stays;
     })
     ends (ap (λ (c : Cont (List ℕ)). c.steps) unrun.stays) (ap (λ (c : Cont (List ℕ)). c.phase) unrun.stays)

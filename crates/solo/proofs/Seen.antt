@@ -51,21 +51,24 @@ taken_on old new more (Ends result params told wakes) at on is e =
 -- what a run leaves of a call
 pub record LeavesIt (old new : Cont (List ℕ)) : Type 0 where
   pub kind : new.kind ≡ old.kind
+  pub area : new.area ≡ old.area
   pub buffer : new.buffer ≡ old.buffer
 
 left_by_run : (old new : Cont (List ℕ)) → new ≡ record (worked old new) { steps = new.steps; phase = new.phase } → LeavesIt old new
 left_by_run old new stays = record {
   kind = ap (λ (c : Cont (List ℕ)). c.kind) stays;
+  area = ap (λ (c : Cont (List ℕ)). c.area) stays;
   buffer = ap (λ (c : Cont (List ℕ)). c.buffer) stays;
 }
 
 labels : (cont : Cont (List ℕ)) (call : OwnCall) (at : CallPhase) (done_by_now : ℕ) → cont.kind ≡ call.kind → cont.cancelled ≡ true →
-    is_some cont.buffer ≡ call.buffer → IsInPhase cont at →
+    is_some cont.area ≡ call.area → is_some cont.buffer ≡ call.buffer → IsInPhase cont at →
     IsCall (record cont { steps = done_by_now }) (record call { seen = true; steps = done_by_now; phase = at })
-labels cont call at done_by_now kind seen buffer is = record {
+labels cont call at done_by_now kind seen area buffer is = record {
   kind = kind;
   seen = seen;
   steps = refl;
+  area = area;
   buffer = buffer;
   phase = relabelled cont (record { steps = done_by_now; buffer = cont.buffer }) at is;
 }
@@ -106,5 +109,6 @@ sees_so old ran flagged new call at done_by_now more count runs rests worked_so 
     subst (λ (c : Cont (List ℕ)). IsCall c (record call { seen = true; steps = done_by_now; phase = phase_seen at })) (sym becomes)
     (labels flagged call (phase_seen at) done_by_now (ap (λ (c : Cont (List ℕ)). c.kind) flag_stays ∙ leaves.kind ∙ is.kind)
     (ap (λ (c : Cont (List ℕ)). c.cancelled) flag_stays)
+    (ap (λ (c : Cont (List ℕ)). is_some c.area) flag_stays ∙ ap (λ (a : Option ℕ). is_some a) leaves.area ∙ is.area)
     (ap (λ (c : Cont (List ℕ)). is_some c.buffer) flag_stays ∙ ap (λ (b : Option RpcBuffer). is_some b) leaves.buffer ∙ is.buffer)
     (flag at reached))

@@ -1,5 +1,5 @@
 -- The parameters of a session's calls stay short, whatever happens to its machine that brings no longer ones.
-use Rattle.std.proofs.Common.{◌≡◌, ◌≤◌, ℕ, ◌+◌, ◌-◌, true, false, List, [], ◌∷◌, Option, Some, None, refl, subst, sym, arith}
+use Rattle.std.proofs.Common.{◌≡◌, ◌≤◌, ℕ, ◌+◌, ◌-◌, Bool, true, false, List, [], ◌∷◌, Option, Some, None, refl, subst, sym, arith}
 use Rattle.std.specs.Prelude.{◌==◌, ◌&&◌, not}
 use Rattle.std.specs.List.{AllByRecursion}
 use Rattle.std.specs.Option.{option_and_then, option_map, option_map_or}
@@ -96,35 +96,35 @@ module _ (longest : ℕ) where
       IsShortSolo longest (begins app z number call start)
   begins_short app z number call start all short = with_one z.calls number _ all (job_short app call.kind start short)
 
-  settles_short : (z : Solo) (code : ℕ) → IsShortSolo longest z → IsShortSolo longest (settles z code)
-  settles_short z code all = with_one z.calls z.entered _ all (none_short longest)
+  settles_short : (z : Solo) (area : Bool) (code : ℕ) → IsShortSolo longest z → IsShortSolo longest (settles z area code)
+  settles_short z area code all = with_one z.calls z.entered _ all (none_short longest)
 
-  works_short : (app : Application) (z : Solo) (call_kind : CallKind) (start : Start) → IsShortSolo longest z → AreShort longest start.params →
-      IsShortSolo longest (works_or_waits app z call_kind start)
-  works_short app z call_kind start all short =
-      if-both (IsShortSolo longest) (is_held start.instance) (waits z call_kind start.params)
-      (begins app (counted z) z.entered (fresh_call call_kind (Waits start.params)) start)
+  works_short : (app : Application) (z : Solo) (call_kind : CallKind) (area : Bool) (start : Start) → IsShortSolo longest z → AreShort longest start.params →
+      IsShortSolo longest (works_or_waits app z call_kind area start)
+  works_short app z call_kind area start all short =
+      if-both (IsShortSolo longest) (is_held start.instance) (waits z call_kind area start.params)
+      (begins app (counted z) z.entered (fresh_call call_kind area (Waits start.params)) start)
       (with_one z.calls z.entered _ all short)
-      (begins_short app (counted z) z.entered (fresh_call call_kind (Waits start.params)) start all short)
+      (begins_short app (counted z) z.entered (fresh_call call_kind area (Waits start.params)) start all short)
 
   -- ---- calls that come in
 
-  opens_short : (app : Application) (z : Solo) (params : CopiedParams) (login : Login) → IsShortSolo longest z → AreShort longest params →
-      IfAny (IsShortSolo longest) (opens_first app z params login)
-  opens_short app z params login all short =
+  opens_short : (app : Application) (z : Solo) (params : CopiedParams) (login : Login) (area : Bool) → IsShortSolo longest z → AreShort longest params →
+      IfAny (IsShortSolo longest) (opens_first app z params login area)
+  opens_short app z params login area all short =
       let session : OwnSession = record { login = login; context = 0; opened = false } in
-      if-both (IfAny (IsShortSolo longest)) (z.entered == 0) (Some (opens app z params login)) None
-      (works_short app (record z { session = Some session }) kind.Open (start_with (session, made app) params) all short) tt
+      if-both (IfAny (IsShortSolo longest)) (z.entered == 0) (Some (opens app z params login area)) None
+      (works_short app (record z { session = Some session }) kind.Open area (start_with (session, made app) params) all short) tt
 
-  invokes_short : (app : Application) (z : Solo) (func : ℕ) (input : OwnInput) (at : OwnSession × Instance) → IsShortSolo longest z → IsShortInput longest input →
-      IfAny (IsShortSolo longest) (invokes app z func input at)
-  invokes_short app z func input at all short =
-      if-both (IfAny (IsShortSolo longest)) at.1.dead (Some (settles z target_dead)) (invokes_with app z func input at) (settles_short z target_dead all)
+  invokes_short : (app : Application) (z : Solo) (func : ℕ) (input : OwnInput) (area : Bool) (at : OwnSession × Instance) → IsShortSolo longest z → IsShortInput longest input →
+      IfAny (IsShortSolo longest) (invokes app z func input area at)
+  invokes_short app z func input area at all short =
+      if-both (IfAny (IsShortSolo longest)) at.1.dead (Some (settles z area target_dead)) (invokes_with app z func input area at) (settles_short z area target_dead all)
       (by_input input short)
     where
-      by_input : (came : OwnInput) → IsShortInput longest came → IfAny (IsShortSolo longest) (invokes_with app z func came at)
-      by_input (Copied params) is = works_short app z (kind.Invoke func) (start_with at params) all is
-      by_input Faulty is = settles_short z bad_parameters all
+      by_input : (came : OwnInput) → IsShortInput longest came → IfAny (IsShortSolo longest) (invokes_with app z func came area at)
+      by_input (Copied params) is = works_short app z (kind.Invoke func) area (start_with at params) all is
+      by_input Faulty is = settles_short z area bad_parameters all
       by_input Unread is = tt
 
   -- ---- calls that come back
@@ -255,14 +255,14 @@ module _ (longest : ℕ) where
   silent_short (Some z) all = all
 
   step_short : (most : ℕ) (app : Application) (z : Solo) (came : OwnEvent) → IsShortSolo longest z → IsShortEvent longest came → IfAny IsShortThen (step most app z came)
-  step_short most app z (Open params login) all short = silent_short (opens_first app z params login) (opens_short app z params login all short)
-  step_short most app z (Invoke func input) all short =
-      silent_short (option_and_then (invokes app z func input) (home z))
-      (if_any_then (IsShortSolo longest) (invokes app z func input) (home z) (λ at there. invokes_short app z func input at all short))
-  step_short most app z Close all short =
-      if_any_map IsShortThen (λ at. silent (closes app z at)) (home z)
-      (λ at there. works_short app z kind.Close (start_with at no_params) all (none_short longest))
-  step_short most app z Cancel all short = settles_short z success all
+  step_short most app z (Open params login area) all short = silent_short (opens_first app z params login area) (opens_short app z params login area all short)
+  step_short most app z (Invoke func input area) all short =
+      silent_short (option_and_then (invokes app z func input area) (home z))
+      (if_any_then (IsShortSolo longest) (invokes app z func input area) (home z) (λ at there. invokes_short app z func input area at all short))
+  step_short most app z (Close area) all short =
+      if_any_map IsShortThen (λ at. silent (closes app z area at)) (home z)
+      (λ at there. works_short app z kind.Close area (start_with at no_params) all (none_short longest))
+  step_short most app z Cancel all short = settles_short z false success all
   step_short most app z (Seen number done_by_now) all short =
       silent_short (option_and_then (sees z number done_by_now) (get z.calls number))
       (if_any_then (IsShortSolo longest) (sees z number done_by_now) (get z.calls number)

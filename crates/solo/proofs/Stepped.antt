@@ -45,17 +45,17 @@ on_err_always (Err fault) P holds = holds
 
 -- one of those
 abbrev IsUnanswered : OwnEvent → Type 0
-IsUnanswered came = ((params : CopiedParams) × (login : Login) × (came ≡ event.Open params login))
-    ⊎ (((func : ℕ) × (input : OwnInput) × (came ≡ event.Invoke func input))
-    ⊎ ((came ≡ event.Close)
+IsUnanswered came = ((params : CopiedParams) × (login : Login) × (area : Bool) × (came ≡ event.Open params login area))
+    ⊎ (((func : ℕ) × (input : OwnInput) × (area : Bool) × (came ≡ event.Invoke func input area))
+    ⊎ (((area : Bool) × (came ≡ event.Close area))
     ⊎ ((came ≡ event.Cancel)
     ⊎ (((call : ℕ) × (done_by_now : ℕ) × (came ≡ event.Seen call done_by_now))
     ⊎ ((call : ℕ) × (input : BackInput) × (came ≡ event.Back call input))))))
 
 pub silent_then : (came : OwnEvent) → IsUnanswered came → IsSilent came
-silent_then came (inl comes) = subst IsSilent (sym comes.2) tt
-silent_then came (inr (inl invoke)) = subst IsSilent (sym invoke.2) tt
-silent_then came (inr (inr (inl close))) = subst IsSilent (sym close) tt
+silent_then came (inl comes) = subst IsSilent (sym comes.3) tt
+silent_then came (inr (inl invoke)) = subst IsSilent (sym invoke.3) tt
+silent_then came (inr (inr (inl close))) = subst IsSilent (sym close.1) tt
 silent_then came (inr (inr (inr (inl cancel)))) = subst IsSilent (sym cancel) tt
 silent_then came (inr (inr (inr (inr (inl seen))))) = subst IsSilent (sym seen.2) tt
 silent_then came (inr (inr (inr (inr (inr back))))) = subst IsSilent (sym back.2) tt
@@ -79,9 +79,9 @@ by_count n one next e = by (n == 0) refl e
     by false is there = absurd cc
 
 -- an open comes first
-pub opened_first : (app : Application) (solo next : Solo) (params : CopiedParams) (login : Login) → opens_first app solo params login ≡ Some next →
-    (solo.entered ≡ 0) × (opens app solo params login ≡ next)
-opened_first app solo next params login e = by_count solo.entered (opens app solo params login) next e
+pub opened_first : (app : Application) (solo next : Solo) (params : CopiedParams) (login : Login) (area : Bool) → opens_first app solo params login area ≡ Some next →
+    (solo.entered ≡ 0) × (opens app solo params login area ≡ next)
+opened_first app solo next params login area e = by_count solo.entered (opens app solo params login area) next e
 
 -- ---- the machine then
 
@@ -123,30 +123,30 @@ still_solo longest s new solo is more same stands = record {
 
 -- ---- what each event finds
 
-pub opened : (most : ℕ) (app : Application) (solo next : Solo) (came : OwnEvent) (params : CopiedParams) (login : Login) (told : Option OwnReply) →
-    came ≡ event.Open params login → step most app solo came ≡ Some (next, told) → (solo.entered ≡ 0) × ((opens app solo params login ≡ next) × (None ≡ told))
-opened most app solo next came params login told is e =
-    let so = silent_step (opens_first app solo params login) next told (ap (step most app solo) (sym is) ∙ e) in
-    let first = opened_first app solo next params login so.0 in
+pub opened : (most : ℕ) (app : Application) (solo next : Solo) (came : OwnEvent) (params : CopiedParams) (login : Login) (area : Bool)
+    (told : Option OwnReply) → came ≡ event.Open params login area → step most app solo came ≡ Some (next, told) → (solo.entered ≡ 0) × ((opens app solo params login area ≡ next) × (None ≡ told))
+opened most app solo next came params login area told is e =
+    let so = silent_step (opens_first app solo params login area) next told (ap (step most app solo) (sym is) ∙ e) in
+    let first = opened_first app solo next params login area so.0 in
     (first.0, (first.1, so.1))
 
-pub invoked : (most : ℕ) (app : Application) (solo next : Solo) (came : OwnEvent) (func : ℕ) (input : OwnInput) (told : Option OwnReply) →
-    came ≡ event.Invoke func input → step most app solo came ≡ Some (next, told) →
-    (option_and_then (invokes app solo func input) (home solo) ≡ Some next) × (None ≡ told)
-invoked most app solo next came func input told is e =
-    silent_step (option_and_then (invokes app solo func input) (home solo)) next told (ap (step most app solo) (sym is) ∙ e)
+pub invoked : (most : ℕ) (app : Application) (solo next : Solo) (came : OwnEvent) (func : ℕ) (input : OwnInput) (area : Bool) (told : Option OwnReply) →
+    came ≡ event.Invoke func input area → step most app solo came ≡ Some (next, told) →
+    (option_and_then (invokes app solo func input area) (home solo) ≡ Some next) × (None ≡ told)
+invoked most app solo next came func input area told is e =
+    silent_step (option_and_then (invokes app solo func input area) (home solo)) next told (ap (step most app solo) (sym is) ∙ e)
 
-pub closed : (most : ℕ) (app : Application) (solo next : Solo) (came : OwnEvent) (told : Option OwnReply) → came ≡ event.Close →
-    step most app solo came ≡ Some (next, told) → (at : OwnSession × Instance) × ((home solo ≡ Some at) × ((closes app solo at ≡ next) × (None ≡ told)))
-closed most app solo next came told is e =
-    let found = some_map (λ (at : OwnSession × Instance). silent (closes app solo at)) (home solo) (next, told) (ap (step most app solo) (sym is) ∙ e) in
+pub closed : (most : ℕ) (app : Application) (solo next : Solo) (came : OwnEvent) (area : Bool) (told : Option OwnReply) → came ≡ event.Close area →
+    step most app solo came ≡ Some (next, told) → (at : OwnSession × Instance) × ((home solo ≡ Some at) × ((closes app solo area at ≡ next) × (None ≡ told)))
+closed most app solo next came area told is e =
+    let found = some_map (λ (at : OwnSession × Instance). silent (closes app solo area at)) (home solo) (next, told) (ap (step most app solo) (sym is) ∙ e) in
     (found.0, (found.1.0, (ap (λ (a : Answered). a.0) found.1.1, ap (λ (a : Answered). a.1) found.1.1)))
 
 pub cancelled : (most : ℕ) (app : Application) (solo next : Solo) (came : OwnEvent) (told : Option OwnReply) → came ≡ event.Cancel →
-    step most app solo came ≡ Some (next, told) → (settles solo success ≡ next) × (None ≡ told)
+    step most app solo came ≡ Some (next, told) → (settles solo false success ≡ next) × (None ≡ told)
 cancelled most app solo next came told is e =
-    let so : Some (silent (settles solo success)) ≡ Some (next, told) = ap (step most app solo) (sym is) ∙ e in
-    let same : silent (settles solo success) ≡ (next, told) = cc in
+    let so : Some (silent (settles solo false success)) ≡ Some (next, told) = ap (step most app solo) (sym is) ∙ e in
+    let same : silent (settles solo false success) ≡ (next, told) = cc in
     (ap (λ (a : Answered). a.0) same, ap (λ (a : Answered). a.1) same)
 
 -- a call of that number is there, and does this

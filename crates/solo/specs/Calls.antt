@@ -9,5 +9,6 @@ pub record IsCall (cont : Cont (List ℕ)) (call : OwnCall) : Type 0 where
   pub kind : cont.kind ≡ call.kind
   pub seen : cont.cancelled ≡ call.seen
   pub steps : cont.steps ≡ call.steps
+  pub area : is_some cont.area ≡ call.area
   pub buffer : is_some cont.buffer ≡ call.buffer
   pub phase : IsInPhase cont call.phase

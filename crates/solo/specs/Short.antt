@@ -49,9 +49,9 @@ IsShortInput longest Unread = Unit {0}
 
 -- the event brings such
 abbrev pub IsShortEvent : ℕ → OwnEvent → Type 0
-IsShortEvent longest (Open params login) = AreShort longest params
-IsShortEvent longest (Invoke func input) = IsShortInput longest input
-IsShortEvent longest Close = Unit {0}
+IsShortEvent longest (Open params login area) = AreShort longest params
+IsShortEvent longest (Invoke func input area) = IsShortInput longest input
+IsShortEvent longest (Close area) = Unit {0}
 IsShortEvent longest Cancel = Unit {0}
 IsShortEvent longest (Seen call steps) = Unit {0}
 IsShortEvent longest (Back call input) = Unit {0}

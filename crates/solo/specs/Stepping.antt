@@ -11,9 +11,9 @@ use Rattle.solo.specs.declared.solo_session.SoloSession.{SoloSession}
 
 -- a call that comes in gets a number of 32 bits, as events name calls
 abbrev pub HasNumber : ℕ → OwnEvent → Type 0
-HasNumber entered (Open params login) = entered < 2 ^ 32
-HasNumber entered (Invoke func input) = entered < 2 ^ 32
-HasNumber entered Close = entered < 2 ^ 32
+HasNumber entered (Open params login area) = entered < 2 ^ 32
+HasNumber entered (Invoke func input area) = entered < 2 ^ 32
+HasNumber entered (Close area) = entered < 2 ^ 32
 HasNumber entered Cancel = entered < 2 ^ 32
 HasNumber entered (Seen number steps) = Unit {0}
 HasNumber entered (Back number input) = Unit {0}
@@ -29,9 +29,9 @@ HasRoomIn most steps (Ends result params told wakes) = Unit {0}
 
 -- nor does a call that goes out
 abbrev pub HasRoom : ℕ → Solo → OwnEvent → Type 0
-HasRoom most solo (Open params login) = Unit {0}
-HasRoom most solo (Invoke func input) = Unit {0}
-HasRoom most solo Close = Unit {0}
+HasRoom most solo (Open params login area) = Unit {0}
+HasRoom most solo (Invoke func input area) = Unit {0}
+HasRoom most solo (Close area) = Unit {0}
 HasRoom most solo Cancel = Unit {0}
 HasRoom most solo (Seen number steps) = Unit {0}
 HasRoom most solo (Back number input) = Unit {0}
@@ -45,9 +45,9 @@ HasStepped s answer next told = (answer ≡ told) × IsSolo s next
 
 -- it has no reply
 abbrev pub IsSilent : OwnEvent → Type 0
-IsSilent (Open params login) = Unit {0}
-IsSilent (Invoke func input) = Unit {0}
-IsSilent Close = Unit {0}
+IsSilent (Open params login area) = Unit {0}
+IsSilent (Invoke func input area) = Unit {0}
+IsSilent (Close area) = Unit {0}
 IsSilent Cancel = Unit {0}
 IsSilent (Seen call steps) = Unit {0}
 IsSilent (Back call input) = Unit {0}

@@ -1,5 +1,5 @@
 //! Calls that come in.
-ghost use Rattle.std.specs.Prelude.{◌≡◌, ◌≢◌, ◌<◌, ◌^◌, [], IfOk, None, OnErr, OnOk, Some, false, vec_capacity, vec_len};
+ghost use Rattle.std.specs.Prelude.{◌≡◌, ◌≢◌, ◌<◌, ◌^◌, [], IfOk, None, OnErr, OnOk, Some, false, is_some, vec_capacity, vec_len};
 ghost use Rattle.std.specs.Option.{option_and_then, option_copied};
 ghost use Rattle.base.specs.NumberMap.{insert};
 ghost use Rattle.begin_call.specs.Begins.{CanBegin, IsValidApp};
@@ -15,6 +15,7 @@ ghost use Rattle.solo.specs.Standing.{StandsFor, app_in, entered_in};
 
 use crate::beginning::Ready;
 use crate::copies::copied_if_some;
+use crate::entering::Entering;
 use crate::kept_session::KeptSession;
 use crate::made::made;
 use crate::solo_session::SoloSession;
@@ -29,19 +30,21 @@ use ta_params::{CallResult, CopiedParams, Login};
 use ta_step::Plain;
 use uuid::Uuid;
 
-/// What a call has from its entry on. No other session is there, no client and no argument; who opened the session is
-/// told to a call as it begins.
-fn entry_of(alloc: Global, kind: CallKind, params: Option<CopiedParams>) -> CallEntry
-    ensures kind { result.kind ≡ kind }
+/// What a call has from its entry on. No other session is there, no client and no argument, and of an area only whether
+/// there is one; who opened the session is told to a call as it begins.
+fn entry_of(alloc: Global, entering: Entering, params: Option<CopiedParams>) -> CallEntry
+    ensures kind { result.kind ≡ entering.kind }
+    ensures area { is_some result.area ≡ entering.area }
     ensures params { result.params ≡ params }
 {
     CallEntry {
         client: 0,
-        kind,
+        kind: entering.kind,
         login: Login::public(),
         context: 0,
         params,
         arg: 0,
+        area: entering.area.then_some(0),
         places: ArrayVec::new_in(alloc),
         session: 0,
         instance: 0,
@@ -52,25 +55,29 @@ fn entry_of(alloc: Global, kind: CallKind, params: Option<CopiedParams>) -> Call
 fn fresh_call(
     alloc: Global,
     uuid: Uuid,
-    kind: CallKind,
+    entering: Entering,
     params: Option<&CopiedParams>,
 ) -> Result<Box<Cont<Plain>>, NoMemory>
     ensures call { IfOk result (λ call. IsCall call.value
-        (fresh_call kind (Waits (kept_params (option_copied params.entry))))) }
+        (fresh_call entering.kind entering.area (Waits (kept_params (option_copied params.entry))))) }
     ensures fresh { IfOk result (λ call. CanBegin call.value) }
 {
     let params = copied_if_some(alloc, params)?;
-    let mut cont = Cont::waiting(entry_of(alloc, kind, params));
+    let mut cont = Cont::waiting(entry_of(alloc, entering, params));
     cont.app = Some(ContApp::Dead { uuid });
     Ok(Box::new(alloc, cont)?)
 }
 
 /// A call that has this result as it comes in, which no application returned.
-fn settled_call(alloc: Global, code: u32) -> Result<Box<Cont<Plain>>, NoMemory>
-    ensures { IfOk result (λ call. IsCall call.value (fresh_call CallKind.Settled
+fn settled_call(alloc: Global, area: bool, code: u32) -> Result<Box<Cont<Plain>>, NoMemory>
+    ensures { IfOk result (λ call. IsCall call.value (fresh_call CallKind.Settled area
         (Ends (of_tee code) no_params false None))) }
 {
-    let entered = entry_of(alloc, CallKind::Settled, None);
+    let entering = Entering {
+        kind: CallKind::Settled,
+        area,
+    };
+    let entered = entry_of(alloc, entering, None);
     let cont = Cont::settled(entered, CallResult::of_tee(code));
     Ok(Box::new(alloc, cont)?)
 }
@@ -88,12 +95,12 @@ impl SoloSession {
     }
 
     /// A call comes in and has this result at once.
-    pub(crate) fn settles(&mut self, alloc: Global, code: u32) -> Result<(), NoMemory>
-        ensures ok { (solo : AnySolo) → StandsFor self.old solo → OnOk result (StandsFor self.new (settles solo code)) }
+    pub(crate) fn settles(&mut self, alloc: Global, area: bool, code: u32) -> Result<(), NoMemory>
+        ensures ok { (solo : AnySolo) → StandsFor self.old solo → OnOk result (StandsFor self.new (settles solo area code)) }
         ensures err { (solo : AnySolo) → StandsFor self.old solo → OnErr result (StandsFor self.new solo) }
         ensures app { self.new.app ≡ self.old.app }
     {
-        let call = settled_call(alloc, code)?;
+        let call = settled_call(alloc, area, code)?;
         self.counted(call)
     }
 
@@ -101,18 +108,18 @@ impl SoloSession {
     fn waits(
         &mut self,
         alloc: Global,
-        kind: CallKind,
+        entering: Entering,
         params: Option<&CopiedParams>,
     ) -> Result<(), NoMemory>
         requires { entered_in self.old < 2 ^ 32 }
         ensures ok { (solo : AnySolo) → StandsFor self.old solo
-            → OnOk result (StandsFor self.new (waits solo kind (kept_params (option_copied params.entry)))) }
+            → OnOk result (StandsFor self.new (waits solo entering.kind entering.area (kept_params (option_copied params.entry)))) }
         ensures err { (solo : AnySolo) → StandsFor self.old solo → OnErr result (StandsFor self.new solo) }
         ensures app { self.new.app ≡ self.old.app }
     {
         let number = self.next_number();
         self.waiting.reserve(1)?;
-        let call = fresh_call(alloc, self.app.uuid(), kind, params)?;
+        let call = fresh_call(alloc, self.app.uuid(), entering, params)?;
         self.counted(call)?;
         self.waiting.push_reserved(number);
         Ok(())
@@ -141,22 +148,22 @@ impl SoloSession {
     fn begins_new(
         &mut self,
         alloc: Global,
-        kind: CallKind,
+        entering: Entering,
         params: Option<&CopiedParams>,
     ) -> Result<(), NoMemory>
         requires valid { IsValidApp (app_in self.old) }
         requires number { entered_in self.old < 2 ^ 32 }
         ensures ok { (solo : AnySolo) (at : AnySession × AnyInstance) → StandsFor self.old solo → home solo ≡ Some at
-            → kind ≢ CallKind.Settled
+            → entering.kind ≢ CallKind.Settled
             → OnOk result (StandsFor self.new (begins (app_in self.old) (counted solo) solo.entered
-            (fresh_call kind (Waits (kept_params (option_copied params.entry))))
+            (fresh_call entering.kind entering.area (Waits (kept_params (option_copied params.entry))))
             (start_with at (kept_params (option_copied params.entry))))) }
         ensures err { (solo : AnySolo) → StandsFor self.old solo → OnErr result (StandsFor self.new solo) }
         ensures app { self.new.app ≡ self.old.app }
     {
         let number = self.next_number();
         self.calls.reserve(1)?;
-        let call = fresh_call(alloc, self.app.uuid(), kind, params)?;
+        let call = fresh_call(alloc, self.app.uuid(), entering, params)?;
         let ready = self.ready(alloc)?;
         self.begins_last(number, call, ready);
         Ok(())
@@ -166,22 +173,22 @@ impl SoloSession {
     fn works_or_waits(
         &mut self,
         alloc: Global,
-        kind: CallKind,
+        entering: Entering,
         params: Option<&CopiedParams>,
     ) -> Result<(), NoMemory>
         requires valid { IsValidApp (app_in self.old) }
         requires number { entered_in self.old < 2 ^ 32 }
         ensures ok { (solo : AnySolo) (at : AnySession × AnyInstance) → StandsFor self.old solo → home solo ≡ Some at
-            → kind ≢ CallKind.Settled → OnOk result (StandsFor self.new
-            (works_or_waits (app_in self.old) solo kind (start_with at (kept_params (option_copied params.entry))))) }
+            → entering.kind ≢ CallKind.Settled → OnOk result (StandsFor self.new
+            (works_or_waits (app_in self.old) solo entering.kind entering.area (start_with at (kept_params (option_copied params.entry))))) }
         ensures err { (solo : AnySolo) → StandsFor self.old solo → OnErr result (StandsFor self.new solo) }
         ensures app { self.new.app ≡ self.old.app }
     {
         let held = self.is_held();
         if held {
-            self.waits(alloc, kind, params)
+            self.waits(alloc, entering, params)
         } else {
-            self.begins_new(alloc, kind, params)
+            self.begins_new(alloc, entering, params)
         }
     }
 
@@ -191,17 +198,22 @@ impl SoloSession {
         alloc: Global,
         params: &CopiedParams,
         login: Login,
+        area: bool,
     ) -> Result<(), NoMemory>
         requires valid { IsValidApp (app_in self.old) }
         requires number { entered_in self.old < 2 ^ 32 }
         ensures ok { (solo : AnySolo) → StandsFor self.old solo → solo.entered ≡ 0
-            → OnOk result (StandsFor self.new (opens (app_in self.old) solo params.now login)) }
+            → OnOk result (StandsFor self.new (opens (app_in self.old) solo params.now login area)) }
         ensures err { (solo : AnySolo) → StandsFor self.old solo → OnErr result (StandsFor self.new solo) }
         ensures app { self.new.app ≡ self.old.app }
     {
         let number = self.next_number();
         self.calls.reserve(1)?;
-        let call = fresh_call(alloc, self.app.uuid(), CallKind::Open, Some(params))?;
+        let entering = Entering {
+            kind: CallKind::Open,
+            area,
+        };
+        let call = fresh_call(alloc, self.app.uuid(), entering, Some(params))?;
         let instance = made(alloc, &self.app)?;
         let ready = self.ready(alloc)?;
         self.session = Some(KeptSession {
@@ -221,38 +233,43 @@ impl SoloSession {
         alloc: Global,
         func: u32,
         input: &OwnInput,
+        area: bool,
     ) -> Result<(), NoMemory>
         requires valid { IsValidApp (app_in self.old) }
         requires number { entered_in self.old < 2 ^ 32 }
         ensures ok { (solo next : AnySolo) → StandsFor self.old solo
-            → option_and_then (invokes (app_in self.old) solo func input.now) (home solo) ≡ Some next
+            → option_and_then (invokes (app_in self.old) solo func input.now area) (home solo) ≡ Some next
             → OnOk result (StandsFor self.new next) }
         ensures err { (solo : AnySolo) → StandsFor self.old solo → OnErr result (StandsFor self.new solo) }
         ensures app { self.new.app ≡ self.old.app }
     {
         let Some(found) = self.home() else {
-            return self.settles(alloc, TEE_ERROR_BAD_PARAMETERS);
+            return self.settles(alloc, area, TEE_ERROR_BAD_PARAMETERS);
         };
         if found.dead {
-            return self.settles(alloc, TEE_ERROR_TARGET_DEAD);
+            return self.settles(alloc, area, TEE_ERROR_TARGET_DEAD);
         }
         match input {
             OwnInput::Copied(params) => {
-                self.works_or_waits(alloc, CallKind::Invoke { func }, Some(params))
+                let kind = CallKind::Invoke { func };
+                self.works_or_waits(alloc, Entering { kind, area }, Some(params))
             }
-            OwnInput::Faulty | OwnInput::Unread => self.settles(alloc, TEE_ERROR_BAD_PARAMETERS),
+            OwnInput::Faulty | OwnInput::Unread => {
+                self.settles(alloc, area, TEE_ERROR_BAD_PARAMETERS)
+            }
         }
     }
 
     /// A close comes in: it begins or waits, also where the instance is dead.
-    pub(crate) fn closes(&mut self, alloc: Global) -> Result<(), NoMemory>
+    pub(crate) fn closes(&mut self, alloc: Global, area: bool) -> Result<(), NoMemory>
         requires valid { IsValidApp (app_in self.old) }
         requires number { entered_in self.old < 2 ^ 32 }
         ensures ok { (solo : AnySolo) (at : AnySession × AnyInstance) → StandsFor self.old solo → home solo ≡ Some at
-            → OnOk result (StandsFor self.new (closes (app_in self.old) solo at)) }
+            → OnOk result (StandsFor self.new (closes (app_in self.old) solo area at)) }
         ensures err { (solo : AnySolo) → StandsFor self.old solo → OnErr result (StandsFor self.new solo) }
         ensures app { self.new.app ≡ self.old.app }
     {
-        self.works_or_waits(alloc, CallKind::Close, None)
+        let kind = CallKind::Close;
+        self.works_or_waits(alloc, Entering { kind, area }, None)
     }
 }

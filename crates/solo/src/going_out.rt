@@ -1,5 +1,5 @@
 //! Calls that go out.
-ghost use Rattle.std.specs.Prelude.{◌≡◌, ◌+◌, ◌<◌, ◌≤◌, ◌^◌, ℕ, [], IfOk, OnErr, Option, Some, if◌then◌else◌, vec_capacity};
+ghost use Rattle.std.specs.Prelude.{◌≡◌, ◌+◌, ◌<◌, ◌≤◌, ◌^◌, ℕ, [], IfOk, OnErr, Option, Some, vec_capacity};
 ghost use Rattle.std.specs.Option.{option_and_then};
 ghost use Rattle.base.specs.NumberMap.{get};
 ghost use Rattle.job_model.specs.Job.{Job as AnyJob};
@@ -10,7 +10,7 @@ ghost use Rattle.own_model.specs.Solo.{Going as AnyGoing, OwnCall as AnyCall, So
 ghost use Rattle.own_model.specs.declared.own_reply.OwnReply.{OwnReply as AnyReply};
 ghost use Rattle.rpc_cont.specs.Advancing.{CanAdvance};
 ghost use Rattle.solo.specs.Calls.{IsCall};
-ghost use Rattle.solo.specs.GoingOut.{Ending as AnyEnding, IsGoing, asked_in, phase_of};
+ghost use Rattle.solo.specs.GoingOut.{Ending as AnyEnding, IsGoing, asked_in, asks_with_payload, phase_of, placed_or_alloc};
 ghost use Rattle.solo.specs.Rooms.{HoldsBytes, IsOutputRoom, IsRoom};
 ghost use Rattle.solo.specs.Short.{AreShort, IsShortPhase, IsShortSolo};
 ghost use Rattle.solo.specs.Stepping.{HasRoomIn};
@@ -64,7 +64,7 @@ fn woken_call(cont: &Cont<Plain>) -> Option<u32>
     }
 }
 
-/// What a call asks for, if it does, where it has a buffer for that.
+/// What a call asks for, if it does, where that has a place.
 #[tactic(auto, using(crate::proofs::Answering::runs_told, crate::proofs::Answering::asks_told, crate::proofs::Answering::asks_something, crate::proofs::Answering::waits_told, crate::proofs::Answering::ends_told))]
 fn asked_in(cont: &Cont<Plain>, room: Vec<u8>) -> Option<OwnReply>
     requires empty { room.items ≡ [] }
@@ -81,11 +81,25 @@ fn asked_in(cont: &Cont<Plain>, room: Vec<u8>) -> Option<OwnReply>
     }
 }
 
-/// A request, or first a buffer for it.
-fn in_buffer(asked: OwnReply, has_buffer: bool) -> OwnReply
-    ensures { result ≡ (if has_buffer then asked else OwnReply.Alloc) }
+/// Whether bytes go with what is asked for, in a buffer.
+fn asks_with_payload(asked: &OwnReply) -> bool
+    ensures { result ≡ asks_with_payload asked.now }
 {
-    if has_buffer { asked } else { OwnReply::Alloc }
+    match asked {
+        OwnReply::Ask { rpc, .. } => rpc.has_payload(),
+        _ => false,
+    }
+}
+
+/// What is asked for, where an area or a buffer gives it a place, or first a buffer.
+fn placed_or_alloc(asked: OwnReply, has_area: bool, has_buffer: bool) -> OwnReply
+    ensures { result ≡ placed_or_alloc has_area has_buffer asked }
+{
+    if has_buffer || (has_area && !asks_with_payload(&asked)) {
+        asked
+    } else {
+        OwnReply::Alloc
+    }
 }
 
 impl SoloSession {
@@ -174,7 +188,9 @@ impl SoloSession {
         let Room { payload, outputs } = room;
         match asked_in(&call, payload) {
             Some(asked) => {
-                let told = in_buffer(asked, call.buffer.is_some());
+                let has_area = call.area.is_some();
+                let has_buffer = call.buffer.is_some();
+                let told = placed_or_alloc(asked, has_area, has_buffer);
                 self.put(number, call);
                 told
             }

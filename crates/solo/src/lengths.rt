@@ -58,7 +58,7 @@ pub(crate) fn longest_with_event(longest: usize, event: &OwnEvent) -> usize
     match event {
         OwnEvent::Open { params, .. } => longest_with(longest, params),
         OwnEvent::Invoke { input, .. } => longest_with_input(longest, input),
-        OwnEvent::Close
+        OwnEvent::Close { .. }
         | OwnEvent::Cancel
         | OwnEvent::Seen { .. }
         | OwnEvent::Back { .. }

@@ -13,6 +13,7 @@ mod coming_back;
 mod coming_in;
 mod copies;
 mod ending;
+mod entering;
 mod found;
 mod going_out;
 mod kept_instance;

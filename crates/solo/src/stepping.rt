@@ -53,7 +53,7 @@ impl SoloSession {
             OwnEvent::Limited => Ok(Some(OwnReply::Limited)),
             OwnEvent::Open { .. }
             | OwnEvent::Invoke { .. }
-            | OwnEvent::Close
+            | OwnEvent::Close { .. }
             | OwnEvent::Cancel
             | OwnEvent::Seen { .. }
             | OwnEvent::Back { .. } => {
@@ -75,10 +75,14 @@ impl SoloSession {
         ensures app { self.new.app ≡ self.old.app }
     {
         match event {
-            OwnEvent::Open { params, login } => self.opens(alloc, params, *login),
-            OwnEvent::Invoke { func, input } => self.invokes(alloc, *func, input),
-            OwnEvent::Close => self.closes(alloc),
-            OwnEvent::Cancel => self.settles(alloc, TEE_SUCCESS),
+            OwnEvent::Open {
+                params,
+                login,
+                area,
+            } => self.opens(alloc, params, *login, *area),
+            OwnEvent::Invoke { func, input, area } => self.invokes(alloc, *func, input, *area),
+            OwnEvent::Close { area } => self.closes(alloc, *area),
+            OwnEvent::Cancel => self.settles(alloc, false, TEE_SUCCESS),
             OwnEvent::Seen { call, steps } => {
                 self.sees(*call, *steps);
                 Ok(())

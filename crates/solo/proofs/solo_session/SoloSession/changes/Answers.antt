@@ -16,17 +16,17 @@ closes-requires-clause-valid c = valid_when_kept c.args.self.now c.requires.some
 
 pub returns-in-Open-clause-ok : goal.returns-in-Open-clause-ok
 returns-in-Open-clause-ok c most solo next told is silent e =
-    let o = opened most (app_in c.args.self.now) solo next c.args.event.now c.in-Open.params c.in-Open.login told c.in-Open.is e in
+    let o = opened most (app_in c.args.self.now) solo next c.args.event.now c.in-Open.params c.in-Open.login c.in-Open.area told c.in-Open.is e in
     on_ok c.opens.result _ _ (λ stands. (o.1.1, subst (StandsFor c.opens.new.self) o.1.0 stands)) (c.opens.ensures.ok solo is.stands o.0)
 
 pub returns-in-Invoke-clause-ok : goal.returns-in-Invoke-clause-ok
 returns-in-Invoke-clause-ok c most solo next told is silent e =
-    let o = invoked most (app_in c.args.self.now) solo next c.args.event.now c.in-Invoke.func c.in-Invoke.input told c.in-Invoke.is e in
+    let o = invoked most (app_in c.args.self.now) solo next c.args.event.now c.in-Invoke.func c.in-Invoke.input c.in-Invoke.area told c.in-Invoke.is e in
     on_ok c.invokes.result _ _ (λ stands. (o.1, stands)) (c.invokes.ensures.ok solo next is.stands o.0)
 
 pub returns-in-Close-clause-ok : goal.returns-in-Close-clause-ok
 returns-in-Close-clause-ok c most solo next told is silent e =
-    let o = closed most (app_in c.args.self.now) solo next c.args.event.now told c.in-Close.is e in
+    let o = closed most (app_in c.args.self.now) solo next c.args.event.now c.in-Close.area told c.in-Close.is e in
     on_ok c.closes.result _ _ (λ stands. (o.1.1.1, subst (StandsFor c.closes.new.self) o.1.1.0 stands)) (c.closes.ensures.ok solo o.0 is.stands o.1.0)
 
 pub returns-in-Cancel-clause-ok : goal.returns-in-Cancel-clause-ok

@@ -11,25 +11,25 @@ returns-then-found-clause-ok c solo next stands e =
     let home = some_home s solo c.in-Some.found c.in-Some.ensures stands.beside in
     on_ok c.settles-then-found.result _ _
     (λ then_stands. subst (StandsFor c.settles-then-found.new.self)
-    (invoked_dead (app_in s) solo next c.args.func c.args.input.now c.in-Some.found home c.if-found.true e) then_stands)
+    (invoked_dead (app_in s) solo next c.args.func c.args.input.now c.args.area c.in-Some.found home c.if-found.true e) then_stands)
     (c.settles-then-found.ensures.ok solo stands)
 
 pub returns-in-Copied-clause-ok : goal.returns-in-Copied-clause-ok
 returns-in-Copied-clause-ok c solo next stands e =
     let s = c.args.self.now in
     let home = some_home s solo c.in-Some.found c.in-Some.ensures stands.beside in
-    let alive = invoked_alive (app_in s) solo next c.args.func c.args.input.now c.in-Some.found home c.if-found.false e in
+    let alive = invoked_alive (app_in s) solo next c.args.func c.args.input.now c.args.area c.in-Some.found home c.if-found.false e in
     on_ok c.works_or_waits.result _ _
     (λ then_stands. subst (StandsFor c.works_or_waits.new.self)
-    (invoked_copied (app_in s) solo next c.args.func c.args.input.now c.in-Copied.params home.at c.in-Copied.is alive) then_stands)
+    (invoked_copied (app_in s) solo next c.args.func c.args.input.now c.args.area c.in-Copied.params home.at c.in-Copied.is alive) then_stands)
     (c.works_or_waits.ensures.ok solo home.at stands home.home (λ e. absurd cc))
 
 pub returns-in-Faulty-clause-ok : goal.returns-in-Faulty-clause-ok
 returns-in-Faulty-clause-ok c solo next stands e =
     let s = c.args.self.now in
     let home = some_home s solo c.in-Some.found c.in-Some.ensures stands.beside in
-    let alive = invoked_alive (app_in s) solo next c.args.func c.args.input.now c.in-Some.found home c.if-found.false e in
+    let alive = invoked_alive (app_in s) solo next c.args.func c.args.input.now c.args.area c.in-Some.found home c.if-found.false e in
     on_ok c.settles-in-Faulty.result _ _
     (λ then_stands. subst (StandsFor c.settles-in-Faulty.new.self)
-    (invoked_faulty (app_in s) solo next c.args.func c.args.input.now home.at (not_copied c.args.input.now c.in-Faulty.is) alive) then_stands)
+    (invoked_faulty (app_in s) solo next c.args.func c.args.input.now c.args.area home.at (not_copied c.args.input.now c.in-Faulty.is) alive) then_stands)
     (c.settles-in-Faulty.ensures.ok solo stands)

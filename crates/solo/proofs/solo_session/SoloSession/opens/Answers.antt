@@ -36,8 +36,8 @@ returns-clause-ok c solo stands first =
     let now : SoloSession = record roomy { session = Some own; instance = Some c.in_ok-instance.instance } in
     let next = next_is s solo number c.next_number-number.ensures stands in
     let kept = made_stands roomy now solo own c.in_ok-instance.instance refl (stands_still s roomy solo refl c.reserve.ensures.items stands) in
-    subst (StandsFor c.begins_last.new.self) (opened_at_once (app_in s) solo c.args.params.now c.args.params.now c.args.login number next refl)
-    (c.begins_last.ensures.begins (record solo { session = Some session; instance = Some (made (app_in s)) }) (fresh_call kind.Open (Waits c.args.params.now))
+    subst (StandsFor c.begins_last.new.self) (opened_at_once (app_in s) solo c.args.params.now c.args.params.now c.args.login c.args.area number next refl)
+    (c.begins_last.ensures.begins (record solo { session = Some session; instance = Some (made (app_in s)) }) (fresh_call kind.Open c.args.area (Waits c.args.params.now))
     (session, made (app_in s)) c.args.params.now
     (subst (λ (i : Instance). StandsFor now (record solo { session = Some session; instance = Some i })) c.in_ok-instance.ensures kept)
     next c.in_ok-call.ensures.call refl (λ e. absurd cc) refl)

@@ -24,7 +24,7 @@ returns-in_err-counted-clause-err c solo stands =
 pub returns-clause-ok : goal.returns-clause-ok
 returns-clause-ok c solo stands =
     let s = c.args.self.now in
-    let call = fresh_call c.args.kind (Waits (kept_params (option_copied c.args.params))) in
+    let call = fresh_call c.args.entering.kind c.args.entering.area (Waits (kept_params (option_copied c.args.params))) in
     let with_it : Solo = record (counted solo) { calls = insert solo.calls solo.entered call } in
     let number = c.next_number-number.result in
     let next = next_is s solo number c.next_number-number.ensures stands in

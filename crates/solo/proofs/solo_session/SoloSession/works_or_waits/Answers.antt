@@ -14,7 +14,7 @@ returns-then-held-clause-ok c solo at stands home works =
     let is : c.is_held-held.result ≡ true = search rules in
     let same = held_so s solo at c.is_held-held.result stands.beside home c.is_held-held.ensures in
     on_ok c.waits.result _ _
-    (λ stands. subst (StandsFor c.waits.new.self) (works_held (app_in s) solo c.args.kind start c.is_held-held.result same is) stands) (c.waits.ensures.ok solo stands)
+    (λ stands. subst (StandsFor c.waits.new.self) (works_held (app_in s) solo c.args.entering.kind c.args.entering.area start c.is_held-held.result same is) stands) (c.waits.ensures.ok solo stands)
 
 pub returns-else-held-clause-ok : goal.returns-else-held-clause-ok
 returns-else-held-clause-ok c solo at stands home works =
@@ -23,5 +23,5 @@ returns-else-held-clause-ok c solo at stands home works =
     let is : c.is_held-held.result ≡ false = search rules in
     let same = held_so s solo at c.is_held-held.result stands.beside home c.is_held-held.ensures in
     on_ok c.begins_new.result _ _
-    (λ stands. subst (StandsFor c.begins_new.new.self) (works_free (app_in s) solo c.args.kind start c.is_held-held.result same is) stands)
+    (λ stands. subst (StandsFor c.begins_new.new.self) (works_free (app_in s) solo c.args.entering.kind c.args.entering.area start c.is_held-held.result same is) stands)
     (c.begins_new.ensures.ok solo at stands home works)
