@@ -1,6 +1,6 @@
 -- What an entry is for a session is what the kernel's decision makes of it.
 use Rattle.std.proofs.Common.{◌≡◌, ℕ, ◌==◌, ◌<◌, length, Bool, true, false, List, [], Option, Some, None, refl, ap, sym, subst, ◌∙◌}
-use Rattle.std.specs.Prelude.{◌&&◌, not, if◌then◌else◌, slice_get}
+use Rattle.std.specs.Prelude.{◌&&◌, not, if◌then◌else◌, slice_get, is_some}
 use Rattle.std.specs.Option.{option_map_or}
 use Rattle.std.proofs.Math.Logic.{∥∥₁_elim}
 use Rattle.std.proofs.Props.{props}
@@ -17,7 +17,7 @@ use Rattle.kernel_entry.proofs.Decisions.{new_so, resume_refused, same_lowest}
 use Rattle.kernel_entry.proofs.Following.{call_found}
 use Rattle.kernel_entry.specs.Resuming.{IsSuspended}
 use Rattle.kernel_entry.specs.Resuming.{goes_on_as}
-use Rattle.kernel_model.specs.Argument.{client_in, reg, thread_in}
+use Rattle.kernel_model.specs.Argument.{client_in, is_new, reg, thread_in}
 use Rattle.kernel_model.specs.Begin.{Opener, has_pages_for, opens_new}
 use Rattle.kernel_model.specs.Application.{Application, Booted}
 use Rattle.kernel_model.specs.Codes.{bad_parameters, eresume, out_of_memory, target_dead, unknown_function}
@@ -56,7 +56,7 @@ use Rattle.session_table.specs.declared.session.Session.{Session}
 use Rattle.smc_abi.specs.Call.{call_of}
 use Rattle.smc_abi.specs.FastAnswer.{fast_answer_of}
 use Rattle.smc_abi.specs.declared.call.Call.{Call}
-use Rattle.smc_abi.specs.declared.call.Call.TheVariants.{Fast, Unknown}
+use Rattle.smc_abi.specs.declared.call.Call.TheVariants.{Fast, Resume, Unknown, WithArg, WithRegdArg, WithRpcArg}
 use Rattle.smc_abi.specs.declared.call.FastCall.{FastCall}
 use Rattle.ta_params.specs.declared.copied_params.CopiedParams.{CopiedParams}
 use Rattle.thread_slots.specs.Slots as code
@@ -88,6 +88,19 @@ answered_unknown boot k regs lane is =
 
 -- ---- new calls
 
+-- each of the three is decided alike
+pub decided_new : (boot : Booted) (k : Kernel) (regs : List ℕ) (call : Call) → call_of (reg regs 0) ≡ call → is_new call ≡ true
+    → decision_of boot k regs (call_of (reg regs 0)) ≡ new_call boot k regs
+decided_new boot k regs call is new = ap (decision_of boot k regs) is ∙ by_call call new
+  where
+    by_call : (named : Call) → is_new named ≡ true → decision_of boot k regs named ≡ new_call boot k regs
+    by_call (Fast fast) one = absurd cc
+    by_call WithArg one = refl
+    by_call WithRpcArg one = refl
+    by_call WithRegdArg one = refl
+    by_call Resume one = absurd cc
+    by_call Unknown one = absurd cc
+
 -- a call is answered: nothing happens to a session
 pub answered_new : (parts : Parts) (k : Kernel) (regs lane : List ℕ) (reads : List Read) (answer : _) → StandsFor parts k
     → over_lane (new_call (booted_with parts.setup) k regs) lane [] ≡ Some (model.Answers answer, reads)
@@ -104,14 +117,14 @@ pub planned_new : (parts : Parts) (k : Kernel) (regs lane : List ℕ) (reads : L
     → (let c = call_with (booted_with parts.setup) (tables_of parts.tables) entered in
     StandsFor parts k → code.lowest_free parts.slots ≡ Some entered.slot → CanApply c plan
     → over_lane (new_call (booted_with parts.setup) k regs) lane [] ≡ Some (model.Takes entered.slot (taken_of c plan), reads)
-    → IsArrivalFrom k regs lane (new_call (booted_with parts.setup) k regs) (arrival_of (event_by entered.head.func plan)))
+    → IsArrivalFrom k regs lane (new_call (booted_with parts.setup) k regs) (arrival_of (event_by entered.head.func (is_some entered.area) plan)))
 planned_new parts k regs lane reads entered plan stands lowest can is =
     let c = call_with (booted_with parts.setup) (tables_of parts.tables) entered in
     record {
       decision = model.Takes entered.slot (taken_of c plan);
       reads = reads;
       decides = is;
-      is = new_in k regs reads entered.slot (taken_of c plan).call (event_by entered.head.func plan) (record {
+      is = new_in k regs reads entered.slot (taken_of c plan).call (event_by entered.head.func (is_some entered.area) plan) (record {
         free = free_there k.slots entered.slot
             (same_lowest parts.slots parts.cancellations.items k.slots stands.slots ∙ lowest);
         event = λ session. plan_event_is session c plan can;
@@ -128,7 +141,7 @@ new_arrives parts k regs lane reads (decided.Answers answer) free lowest slot ca
     answered_new parts k regs lane reads answer stands
     (new_so parts k regs lane [] reads (decided.Answers answer) free (model.Answers answer) lowest refl stands is)
 new_arrives parts k regs lane reads (decided.Takes entered plan) free lowest slot can stands is =
-    planned_new parts k regs lane reads entered plan stands (sym lowest ∙ slot) can
+    planned_new parts k regs lane reads entered plan stands (sym lowest ∙ slot) can.1
     (new_so parts k regs lane [] reads (decided.Takes entered plan) free
     (model.Takes entered.slot (taken_of (call_with (booted_with parts.setup) (tables_of parts.tables) entered) plan))
     lowest refl stands is)

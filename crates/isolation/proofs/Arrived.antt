@@ -10,7 +10,7 @@ use Rattle.job_model.specs.declared.call_kind.CallKind.{CallKind}
 use Rattle.job_model.specs.declared.call_kind.CallKind.TheVariants as kind
 use Rattle.kernel_model.specs.Given.{Given}
 use Rattle.kernel_model.specs.Kernel.{CallPhase, Runs, Asks, Waits, Ends, Kernel, PendingCall}
-use Rattle.kernel_model.specs.Leaving.{Leaving, Interrupted, WantsBuffer, Requests, FreesBuffer, Finishes, Request, leaving_in, leaving_of}
+use Rattle.kernel_model.specs.Leaving.{Leaving, Interrupted, WantsBuffer, Requests, FreesBuffer, Finishes, Request, leaving_in, leaving_of, place_of, plain_request}
 use Rattle.kernel_state.specs.Calls.{IsCall}
 use Rattle.kernel_state.specs.Work.{IsCarriedAs}
 use Rattle.kernel_state.specs.declared.carried.Carried.{Carried}
@@ -22,6 +22,8 @@ use Rattle.own_model.specs.declared.own_event.OwnEvent.{OwnEvent}
 use Rattle.own_model.specs.declared.own_event.OwnEvent.TheVariants.{Seen, Back}
 use Rattle.rpc_cont.specs.declared.cont.Cont.{Cont}
 use Rattle.rpc_cont.specs.declared.phase.Phase.{Phase}
+use Rattle.rpc_msgs.specs.declared.request_place.RequestPlace.{RequestPlace}
+use Rattle.rpc_msgs.specs.declared.rpc.Rpc.TheVariants as rpc
 use Rattle.rpc_msgs.specs.declared.rpc_buffer.RpcBuffer.{RpcBuffer}
 
 -- ---- new calls
@@ -145,7 +147,7 @@ back_so notes number slot kernel regs reads now back is =
 
 -- ---- what a call was left with
 
-asks_input : (o : Option RpcBuffer) (request : Request) (given : Given)
+asks_input : (o : Option RequestPlace) (request : Request) (given : Given)
     → input_then (option_map_or (λ place. Requests place request) o WantsBuffer) given ≡ Some (input_of given)
 asks_input None request given = refl
 asks_input (Some place) request given = refl
@@ -159,11 +161,11 @@ input_in : (slot : ℕ) (cont : Cont (List ℕ)) (before : PendingCall) (given :
     → input_then (leaving_in slot before at) given ≡ input_at cont.phase given
 input_in slot cont before given (Runs job) is = sym (ap (λ (p : Phase). input_at p given) is)
 input_in slot cont before given (Asks job wanted payload) is =
-    asks_input before.buffer _ given ∙ sym (ap (λ (p : Phase). input_at p given) is.0)
+    asks_input (place_of before (record { wanted = wanted; payload = payload })) _ given ∙ sym (ap (λ (p : Phase). input_at p given) is.0)
 input_in slot cont before given (Waits params) is =
-    asks_input before.buffer _ given ∙ sym (ap (λ (p : Phase). input_at p given) is)
+    asks_input (place_of before (plain_request (rpc.Sleep slot))) _ given ∙ sym (ap (λ (p : Phase). input_at p given) is)
 input_in slot cont before given (Ends result params told (Some woken)) is =
-    asks_input before.buffer _ given ∙ sym (ap (λ (p : Phase). input_at p given) is.0)
+    asks_input (place_of before (plain_request (rpc.Wake woken))) _ given ∙ sym (ap (λ (p : Phase). input_at p given) is.0)
 input_in slot cont before given (Ends result params told None) is =
     ends_input before.buffer (Finishes result params) given refl ∙ sym (ap (λ (p : Phase). input_at p given) is.0)
 

@@ -1,6 +1,6 @@
 -- The entry of each call of a session has read at least the 32 bytes of its argument's head, so that a session has few calls.
 use Rattle.std.proofs.Common.{◌⊎◌, inl, inr, ◌≡◌, ℕ, zero, suc, ◌+◌, ◌*◌, ◌≤◌, Bool, true, false, ◌&&◌, List, [], ◌∷◌, length, Option, Some, None, refl, ap, sym, subst, ◌∙◌, arith}
-use Rattle.std.specs.Prelude.{IsSome, ◌==◌, if◌then◌else◌, not, slice_get}
+use Rattle.std.specs.Prelude.{IsSome, IsTrue, ◌==◌, if◌then◌else◌, not, slice_get}
 use Rattle.std.specs.List.{list_any}
 use Rattle.std.specs.Option.{option_map_or}
 use Rattle.std.proofs.lemmas.Bool.Decides.{nat_tests}
@@ -14,7 +14,7 @@ use Rattle.event_journal.specs.declared.event.Event.TheVariants.{Entry, Exit}
 use Rattle.kernel_model.proofs.FixedAnswer.{decided_errand}
 use Rattle.kernel_model.proofs.Parts.{if-both, map_or-both, some_of}
 use Rattle.kernel_model.specs.Application.{Booted}
-use Rattle.kernel_model.specs.Argument.{argument_at, client_in, reg, thread_in}
+use Rattle.kernel_model.specs.Argument.{IsNew, client_in, is_new, reg, thread_in}
 use Rattle.kernel_model.specs.Codes.{ebadaddr}
 use Rattle.kernel_model.specs.Decision.{Answers, Decision, Taken, decided_by}
 use Rattle.kernel_model.specs.Entry.{after_decision, decision_of, entry}
@@ -24,9 +24,10 @@ use Rattle.kernel_model.specs.History.{after_event, after_events, kernel_after}
 use Rattle.kernel_model.specs.Kernel.{Active, Fixed, Free, InSlot, Inside, Kernel, Outside, PendingCall, Processor}
 use Rattle.kernel_model.specs.Kernel.{Progress, Suspended, ThreadSlot, Visit, first_kernel, lowest_free}
 use Rattle.kernel_model.specs.Leaving.{FreesBuffer, Finishes, Interrupted, Leaving, Requests, WantsBuffer, leaving_of}
-use Rattle.kernel_model.specs.NewCall.{is_head_address, new_call_with}
+use Rattle.kernel_model.specs.Located.{Located, has_head, located}
+use Rattle.kernel_model.specs.NewCall.{new_call_with}
 use Rattle.kernel_model.specs.Resume.{suspended_for}
-use Rattle.ns_ram.specs.Attempt.{Attempt, need, passes, ◌>>=◌ as attempt_then}
+use Rattle.ns_ram.specs.Attempt.{Attempt, known, need, passes, ◌>>=◌ as attempt_then}
 use Rattle.ns_ram.specs.Reader.{Reader, done, if_used_up, next_bytes, over_reads, reading, want_bytes, want_words, ◌>>=◌}
 use Rattle.ns_ram.specs.Reads.{total_bytes}
 use Rattle.ns_ram.specs.declared.read.Read.{Read}
@@ -38,7 +39,7 @@ use Rattle.own_model.specs.Own.{with_wake, woken_in}
 use Rattle.smc_abi.specs.Call.{call_of}
 use Rattle.smc_abi.specs.declared.answer.Answer.{Answer}
 use Rattle.smc_abi.specs.declared.call.Call.{Call}
-use Rattle.smc_abi.specs.declared.call.Call.TheVariants.{WithArg}
+use Rattle.smc_abi.specs.declared.call.Call.TheVariants.{Fast, WithArg, WithRpcArg, WithRegdArg, Resume, Unknown}
 use Rattle.smc_abi.specs.declared.regs.Regs.{Regs}
 
 -- ---- a reader whose first wish is for at least 32 bytes
@@ -112,18 +113,34 @@ module _ (boot : Booted) (kernel : Kernel) (visit : Visit) where
   all_there : (n : ℕ) → n ≤ n
   all_there n = omega arith
 
+  -- and so does a value that isn't there
+  known_first : (found : Option Located) (rest : Located → Attempt Answer Taken) (slot : ℕ)
+      → ((at : Located) → IsHeadFirst IsAnswered (decided_on (decided_by (attempt_then (rest at) (λ taken. passes (slot, taken))))))
+      → IsHeadFirst IsAnswered (decided_on (decided_by (attempt_then (attempt_then (known found ebadaddr) rest) (λ taken. passes (slot, taken)))))
+  known_first None rest slot first = (_, refl)
+  known_first (Some at) rest slot first = first at
+
   by_slot : (free : Option ℕ) → IsHeadFirst IsAnswered (decided_on (decided_by (new_call_with boot kernel.tables visit.regs free)))
   by_slot None = (_, refl)
-  by_slot (Some slot) = need_first (is_head_address (argument_at visit.regs)) _ slot (all_there 32)
+  by_slot (Some slot) =
+      known_first (located kernel.tables visit.regs) _ slot (λ at. need_first (has_head at) _ slot (all_there 32))
+
+  -- of each of the three calls
+  by_call : (call : Call) → IsTrue (is_new call) → IsHeadFirst IsAnswered (decided_on (decision_of boot kernel visit.regs call))
+  by_call (Fast call) is = absurd cc
+  by_call WithArg is = by_slot (lowest_free kernel.slots)
+  by_call WithRpcArg is = by_slot (lowest_free kernel.slots)
+  by_call WithRegdArg is = by_slot (lowest_free kernel.slots)
+  by_call Resume is = absurd cc
+  by_call Unknown is = absurd cc
 
 -- it takes a slot only where it has read the head
-head_read : (boot : Booted) (kernel next : Kernel) (cpu steps slot : ℕ) (regs : Regs) (reads : List Read) → call_of (reg regs.a 0) ≡ WithArg
+head_read : (boot : Booted) (kernel next : Kernel) (cpu steps slot : ℕ) (regs : Regs) (reads : List Read) → IsNew regs.a
     → slice_get next.processors cpu ≡ Some (Inside regs.a steps (InSlot slot))
     → after_event boot kernel (Entry cpu regs steps reads) ≡ Some next → 32 ≤ total_bytes reads
 head_read boot kernel next cpu steps slot regs reads is inside e =
     by_end (reads_first (IsAnswered boot kernel visit) (entry boot kernel visit) reads next
-    (subst (λ (c : Call). IsHeadFirst (IsAnswered boot kernel visit) (decided_on boot kernel visit (decision_of boot kernel regs.a c))) (sym is)
-    (by_slot boot kernel visit (lowest_free kernel.slots)))
+    (by_call boot kernel visit (call_of (reg regs.a 0)) is)
     (entered boot kernel next cpu steps regs reads e))
   where
     visit : Visit

@@ -1,7 +1,7 @@
 -- The machine of a session can be fed with what has happened to the session: what comes next has a number and room for
 -- its steps, since the machine is tied to the kernel before each event of the history.
-use Rattle.std.proofs.Common.{◌≡◌, ℕ, zero, suc, ◌+◌, ◌*◌, ◌^◌, ◌<◌, ◌≤◌, true, false, List, [], ◌∷◌, ◌++◌, length, Option, Some, None, refl, ap, sym, subst, ◌∙◌, arith}
-use Rattle.std.specs.Prelude.{Err, IfOk, IsSomeAnd, Ok, Result, ◌==◌, ◌&&◌, not, slice_get}
+use Rattle.std.proofs.Common.{◌≡◌, ℕ, zero, suc, ◌+◌, ◌*◌, ◌^◌, ◌<◌, ◌≤◌, Bool, true, false, List, [], ◌∷◌, ◌++◌, length, Option, Some, None, refl, ap, sym, subst, ◌∙◌, arith}
+use Rattle.std.specs.Prelude.{Err, IfOk, IsSomeAnd, Ok, Result, ◌==◌, ◌&&◌, not, slice_get, is_some}
 use Rattle.std.specs.List.{list_any}
 use Rattle.std.specs.Option.{option_and_then, option_map_or}
 use Rattle.std.proofs.lemmas.List.{append_assoc, append_cancel_left, append-nil, map-append}
@@ -86,9 +86,9 @@ ready-append most app solo then (event ∷ events) more replies all e rest = (
 
 -- neither a call that comes in nor one that goes out
 abbrev IsQuiet : OwnEvent → Type 0
-IsQuiet (Open params login) = ⊥
-IsQuiet (Invoke func input) = ⊥
-IsQuiet Close = ⊥
+IsQuiet (Open params login area) = ⊥
+IsQuiet (Invoke func input area) = ⊥
+IsQuiet (Close area) = ⊥
 IsQuiet Cancel = ⊥
 IsQuiet (Seen number steps) = Unit {0}
 IsQuiet (Back number input) = Unit {0}
@@ -97,9 +97,9 @@ IsQuiet Limited = Unit {0}
 
 -- a call that comes in
 abbrev IsComing : OwnEvent → Type 0
-IsComing (Open params login) = Unit {0}
-IsComing (Invoke func input) = Unit {0}
-IsComing Close = Unit {0}
+IsComing (Open params login area) = Unit {0}
+IsComing (Invoke func input area) = Unit {0}
+IsComing (Close area) = Unit {0}
 IsComing Cancel = Unit {0}
 IsComing (Seen number steps) = ⊥
 IsComing (Back number input) = ⊥
@@ -116,9 +116,9 @@ FirstReady most solo [] = Unit {0}
 FirstReady most solo (logged ∷ items) = IsFine most solo logged.0 × AreQuiet items
 
 quiet_ready : (most : ℕ) (solo : Solo) (event : OwnEvent) → IsQuiet event → IsFine most solo event
-quiet_ready most solo (Open params login) quiet = absurd quiet
-quiet_ready most solo (Invoke func input) quiet = absurd quiet
-quiet_ready most solo Close quiet = absurd quiet
+quiet_ready most solo (Open params login area) quiet = absurd quiet
+quiet_ready most solo (Invoke func input area) quiet = absurd quiet
+quiet_ready most solo (Close area) quiet = absurd quiet
 quiet_ready most solo Cancel quiet = absurd quiet
 quiet_ready most solo (Seen number steps) quiet = record { number = tt; room = tt }
 quiet_ready most solo (Back number input) quiet = record { number = tt; room = tt }
@@ -126,9 +126,9 @@ quiet_ready most solo (Out number) quiet = absurd quiet
 quiet_ready most solo Limited quiet = record { number = tt; room = tt }
 
 coming_ready : (most : ℕ) (solo : Solo) (event : OwnEvent) → IsComing event → solo.entered < 2 ^ 32 → IsFine most solo event
-coming_ready most solo (Open params login) coming few = record { number = few; room = tt }
-coming_ready most solo (Invoke func input) coming few = record { number = few; room = tt }
-coming_ready most solo Close coming few = record { number = few; room = tt }
+coming_ready most solo (Open params login area) coming few = record { number = few; room = tt }
+coming_ready most solo (Invoke func input area) coming few = record { number = few; room = tt }
+coming_ready most solo (Close area) coming few = record { number = few; room = tt }
 coming_ready most solo Cancel coming few = record { number = few; room = tt }
 coming_ready most solo (Seen number steps) coming few = absurd coming
 coming_ready most solo (Back number input) coming few = absurd coming
@@ -194,30 +194,31 @@ resume_quiet r before now notes number =
 abbrev Comes : Option OwnEvent → Type 0
 Comes found = IfAny IsComing found
 
-settled_comes : (settled : SettledCall) (result : CallResult) → Comes (settled_event settled result)
-settled_comes Untold result = tt
-settled_comes (AnOpen login) result = tt
-settled_comes (AnInvoke func) result = tt
-settled_comes ACancel result = tt
+settled_comes : (area : Bool) (settled : SettledCall) (result : CallResult) → Comes (settled_event area settled result)
+settled_comes area Untold result = tt
+settled_comes area (AnOpen login) result = tt
+settled_comes area (AnInvoke func) result = tt
+settled_comes area ACancel result = tt
 
-in_comes : (settled : SettledCall) (call_kind : CallKind) (phase : CallPhase) → Comes (event_in settled call_kind phase)
-in_comes settled kind.Open (Runs job) = tt
-in_comes settled kind.Open (Asks job wanted payload) = tt
-in_comes settled kind.Open (Waits params) = tt
-in_comes settled kind.Open (Ends result params told wakes) = tt
-in_comes settled (kind.Invoke func) (Runs job) = tt
-in_comes settled (kind.Invoke func) (Asks job wanted payload) = tt
-in_comes settled (kind.Invoke func) (Waits params) = tt
-in_comes settled (kind.Invoke func) (Ends result params told wakes) = tt
-in_comes settled kind.Close phase = tt
-in_comes settled kind.Settled (Runs job) = tt
-in_comes settled kind.Settled (Asks job wanted payload) = tt
-in_comes settled kind.Settled (Waits params) = tt
-in_comes settled kind.Settled (Ends result params told wakes) = settled_comes settled result
+in_comes : (area : Bool) (settled : SettledCall) (call_kind : CallKind) (phase : CallPhase) → Comes (event_in area settled call_kind phase)
+in_comes area settled kind.Open (Runs job) = tt
+in_comes area settled kind.Open (Asks job wanted payload) = tt
+in_comes area settled kind.Open (Waits params) = tt
+in_comes area settled kind.Open (Ends result params told wakes) = tt
+in_comes area settled (kind.Invoke func) (Runs job) = tt
+in_comes area settled (kind.Invoke func) (Asks job wanted payload) = tt
+in_comes area settled (kind.Invoke func) (Waits params) = tt
+in_comes area settled (kind.Invoke func) (Ends result params told wakes) = tt
+in_comes area settled kind.Close phase = tt
+in_comes area settled kind.Settled (Runs job) = tt
+in_comes area settled kind.Settled (Asks job wanted payload) = tt
+in_comes area settled kind.Settled (Waits params) = tt
+in_comes area settled kind.Settled (Ends result params told wakes) = settled_comes area settled result
 
 of_comes : (session : ℕ) (call : PendingCall) → Comes (event_of session call)
 of_comes session call =
-    if-both Comes (call.session == session) (event_in call.settled call.kind call.phase) None (in_comes call.settled call.kind call.phase) tt
+    if-both Comes (call.session == session) (event_in (is_some call.area) call.settled call.kind call.phase) None
+    (in_comes (is_some call.area) call.settled call.kind call.phase) tt
 
 -- nothing, or one that comes in
 abbrev OneComes : List Logged → Type 0

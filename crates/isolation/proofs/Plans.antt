@@ -1,6 +1,6 @@
 -- What a plan makes of a new call, as an event of its session.
 use Rattle.std.proofs.Common.{◌≡◌, ℕ, ◌+◌, ◌==◌, Bool, true, false, List, [], ◌∷◌, Option, Some, None, refl, ap, sym, subst, ◌∙◌}
-use Rattle.std.specs.Prelude.{◌&&◌, if◌then◌else◌}
+use Rattle.std.specs.Prelude.{◌&&◌, if◌then◌else◌, is_some}
 use Rattle.std.proofs.lemmas.Option.{option_and_then_some}
 use Rattle.std.specs.Option.{option_map, option_map_or}
 use Rattle.base.specs.NumberMap.{get}
@@ -54,18 +54,18 @@ some_both false came = refl
 -- ---- settled calls
 
 settled_event_is : (session : ℕ) (c : NewCall) (settled : Settled)
-    → IsEventOf session (taken_of c (plan.Settles settled)) (event_by c.head.func (plan.Settles settled))
+    → IsEventOf session (taken_of c (plan.Settles settled)) (event_by c.head.func (is_some c.area) (plan.Settles settled))
 settled_event_is session c (settled.Call code) = none_both (0 == session) true
 settled_event_is session c (settled.Open app login code) = none_both (0 == session) true
 settled_event_is session c (settled.Invoke code) =
-    some_both (c.head.session == session) (Some (event.Invoke c.head.func (input_by code)))
+    some_both (c.head.session == session) (Some (event.Invoke c.head.func (input_by code) (is_some c.area)))
 
 -- ---- opens
 
 -- a job of an open has the parameters that it brought, and the login
 module _ (session : ℕ) (c : NewCall) (app : Application) (login : Login) (copies : Copies) where
   abbrev IsOpenEvent : Taken → Type 0
-  IsOpenEvent taken = IsEventOf session taken (Some (event.Open copies.params login))
+  IsOpenEvent taken = IsEventOf session taken (Some (event.Open copies.params login (is_some c.area)))
 
   abbrev opens_as : Begun → Taken
   opens_as begun =
@@ -74,9 +74,9 @@ module _ (session : ℕ) (c : NewCall) (app : Application) (login : Login) (copi
 
   runs_open : (begun : Begun) → params_of begun.job ≡ copies.params → begun.job.login ≡ login → IsOpenEvent (opens_as begun)
   runs_open begun params its =
-      ap (λ (p : CopiedParams). if c.tables.next_session == session then Some (event.Open p begun.job.login) else None) params
-      ∙ ap (λ (l : Login). if c.tables.next_session == session then Some (event.Open copies.params l) else None) its
-      ∙ some_both (c.tables.next_session == session) (Some (event.Open copies.params login))
+      ap (λ (p : CopiedParams). if c.tables.next_session == session then Some (event.Open p begun.job.login (is_some c.area)) else None) params
+      ∙ ap (λ (l : Login). if c.tables.next_session == session then Some (event.Open copies.params l (is_some c.area)) else None) its
+      ∙ some_both (c.tables.next_session == session) (Some (event.Open copies.params login (is_some c.area)))
 
   kept_open : (kept : ℕ × Instance) (of : Application) → app ≡ of
       → IsOpenEvent (opens_as (opens_kept (beginner c) (opener (asked_by app login) app copies) kept))
@@ -112,7 +112,7 @@ module _ (session : ℕ) (c : NewCall) (app : Application) (login : Login) (copi
   waiting_open kept = waits (c.tables.next_session == session)
     where
       waits : (a : Bool) → ◌≡◌ {A = Option OwnEvent} (if a then None else None)
-          (if a && false then Some (event.Open copies.params login) else None)
+          (if a && false then Some (event.Open copies.params login (is_some c.area)) else None)
       waits true = refl
       waits false = refl
 
@@ -155,7 +155,7 @@ module _ (session : ℕ) (c : NewCall) (app : Application) (login : Login) (copi
 
 module _ (session : ℕ) (c : NewCall) (named : Session × Instance) (copies : Copies) where
   abbrev invoked : OwnEvent
-  invoked = event.Invoke c.head.func (input.Copied copies.params)
+  invoked = event.Invoke c.head.func (input.Copied copies.params) (is_some c.area)
 
   abbrev invoke_points : List EntryPoint
   invoke_points = point.Invoke c.head.func ∷ []
@@ -178,11 +178,11 @@ module _ (session : ℕ) (c : NewCall) (named : Session × Instance) (copies : C
       by_held true = some_both (c.head.session == session) (Some invoked)
       by_held false =
           ap (λ (ps : CopiedParams). if c.head.session == session
-          then Some (event.Invoke c.head.func (input.Copied ps)) else None) (job_params (program_on c.boot named.1))
+          then Some (event.Invoke c.head.func (input.Copied ps) (is_some c.area)) else None) (job_params (program_on c.boot named.1))
           ∙ some_both (c.head.session == session) (Some invoked)
 
 module _ (session : ℕ) (c : NewCall) (named : Session × Instance) where
-  pub close_event_is : IsEventOf session (closes c named) (Some event.Close)
+  pub close_event_is : IsEventOf session (closes c named) (Some (event.Close (is_some c.area)))
   close_event_is = by_held (is_held named.1)
     where
       by_held : (held : Bool) → IsEventOf session
@@ -191,9 +191,9 @@ module _ (session : ℕ) (c : NewCall) (named : Session × Instance) where
           (closing_points (beginner c) c.head.session named.0 named.1)).tables
           (about_session c kind.Close named.0 named.1 no_copies) no_copies.cookies
           (begins_on (beginner c) named.0 named.1 no_copies.params
-          (closing_points (beginner c) c.head.session named.0 named.1)).job) (Some event.Close)
-      by_held true = some_both (c.head.session == session) (Some event.Close)
-      by_held false = some_both (c.head.session == session) (Some event.Close)
+          (closing_points (beginner c) c.head.session named.0 named.1)).job) (Some (event.Close (is_some c.area)))
+      by_held true = some_both (c.head.session == session) (Some (event.Close (is_some c.area)))
+      by_held false = some_both (c.head.session == session) (Some (event.Close (is_some c.area)))
 
 -- ---- the session that the argument names
 
@@ -228,16 +228,16 @@ begins_there c session instance begins e =
 -- ---- all plans
 
 pub plan_event_is : (session : ℕ) (c : NewCall) (plan : Plan) → CanApply c plan
-    → IsEventOf session (taken_of c plan) (event_by c.head.func plan)
+    → IsEventOf session (taken_of c plan) (event_by c.head.func (is_some c.area) plan)
 plan_event_is session c (plan.Settles settled) can = settled_event_is session c settled
 plan_event_is session c (plan.Opens app login copies) can =
     open_event_is session c (application_of app) login (copies_in copies)
 plan_event_is session c (plan.Invokes in_session app copies) can =
-    subst (λ (taken : Taken). IsEventOf session taken (Some (event.Invoke c.head.func (input.Copied copies.params))))
+    subst (λ (taken : Taken). IsEventOf session taken (Some (event.Invoke c.head.func (input.Copied copies.params) (is_some c.area))))
     (begins_there c in_session can.there.instance (λ named. invokes c named (copies_in copies)) can.there.named)
     (invoke_event_is session c (in_session, can.there.instance) (copies_in copies))
 plan_event_is session c (plan.Closes in_session app) can =
-    subst (λ (taken : Taken). IsEventOf session taken (Some event.Close))
+    subst (λ (taken : Taken). IsEventOf session taken (Some (event.Close (is_some c.area))))
     (begins_there c in_session can.instance (λ named. closes c named) can.named)
     (close_event_is session c (in_session, can.instance))
 plan_event_is session c plan.Cancels can = some_both (c.head.session == session) (Some event.Cancel)

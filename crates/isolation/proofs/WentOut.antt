@@ -17,7 +17,7 @@ use Rattle.kernel_model.proofs.SoundExits.{exits_all}
 use Rattle.kernel_model.specs.Exit.{progress_of, slot_left}
 use Rattle.kernel_model.specs.Kernel.{CallPhase, Runs, Asks, Waits, Ends, PendingCall, Progress, Tables, ThreadSlot}
 use Rattle.kernel_model.specs.Kernel as model
-use Rattle.kernel_model.specs.Leaving.{Leaving, Interrupted, WantsBuffer, Requests, FreesBuffer, Finishes, Request, leaving_in, leaving_of}
+use Rattle.kernel_model.specs.Leaving.{Leaving, Interrupted, WantsBuffer, Requests, FreesBuffer, Finishes, Request, leaving_in, leaving_of, place_of, plain_request}
 use Rattle.kernel_state.specs.Calls.{IsCall, IsInPhase, bytes_of}
 use Rattle.kernel_state.specs.StandsFor.{IsSlotAt}
 use Rattle.kernel_state.specs.declared.cancellation.Cancellation.{Cancellation}
@@ -28,7 +28,8 @@ use Rattle.rpc_cont.specs.Advancing.{IsAdvance, phase_after}
 use Rattle.rpc_cont.specs.Conts.{kept_params}
 use Rattle.rpc_cont.specs.declared.cont.Cont.{Cont}
 use Rattle.rpc_cont.specs.declared.stop.ContStop.{ContStop}
-use Rattle.rpc_msgs.specs.declared.rpc_buffer.RpcBuffer.{RpcBuffer}
+use Rattle.rpc_msgs.specs.declared.request_place.RequestPlace.{RequestPlace}
+use Rattle.rpc_msgs.specs.declared.rpc.Rpc.TheVariants as rpc
 use Rattle.ta_params.specs.declared.call_result.CallResult.{CallResult}
 use Rattle.ta_params.specs.declared.copied_params.CopiedParams.{CopiedParams}
 use Rattle.thread_slots.specs.declared.slot.Slot.{Slot}
@@ -182,14 +183,15 @@ module _ (there : Option CodeSlot) (beside : Option Cancellation) (slot : ℕ) (
       (λ cpu other. nobody_works call (leaving_of slot call) cpu other)
 
 -- a slot that was left free is that of a call which has ended
-asks_stays : (call : PendingCall) (buffer : Option RpcBuffer) (request : Request)
-    → slot_left call (option_map_or (λ place. Requests place request) buffer WantsBuffer) ≡ model.Free → ⊥
+asks_stays : (call : PendingCall) (place : Option RequestPlace) (request : Request)
+    → slot_left call (option_map_or (λ there. Requests there request) place WantsBuffer) ≡ model.Free → ⊥
 asks_stays call None request e = cc
-asks_stays call (Some place) request e = cc
+asks_stays call (Some there) request e = cc
 
 pub must_end : (slot : ℕ) (call : PendingCall) (at : CallPhase) → slot_left call (leaving_in slot call at) ≡ model.Free
     → ended_in at ≡ None → ⊥
 must_end slot call (Runs its) free none = cc
-must_end slot call (Asks its wanted payload) free none = asks_stays call call.buffer _ free
-must_end slot call (Waits params) free none = asks_stays call call.buffer _ free
+must_end slot call (Asks its wanted payload) free none =
+    asks_stays call (place_of call (record { wanted = wanted; payload = payload })) _ free
+must_end slot call (Waits params) free none = asks_stays call (place_of call (plain_request (rpc.Sleep slot))) _ free
 must_end slot call (Ends result params told wakes) free none = cc

@@ -1,5 +1,5 @@
 -- What an entry is for a session, by what the kernel decides of it.
-use Rattle.std.specs.Prelude.{◌≡◌, ℕ, ◌==◌, ◌&&◌, not, Bool, true, false, if◌then◌else◌, List, [], Option, Some, None, slice_get}
+use Rattle.std.specs.Prelude.{◌≡◌, ℕ, ◌==◌, ◌&&◌, not, Bool, true, false, if◌then◌else◌, List, [], Option, Some, None, is_some, slice_get}
 use Rattle.std.specs.Global.{Box}
 use Rattle.isolation.specs.declared.entering.Arrival.{Arrival}
 use Rattle.isolation.specs.declared.entering.Arrival.TheVariants as arrival
@@ -43,17 +43,17 @@ use Rattle.smc_abi.specs.Call.{call_of}
 abbrev pub input_by : ℕ → OwnInput
 input_by code = if code == target_dead then input.Unread else input.Faulty
 
--- what a new call of this function is for its session, by its plan
-abbrev pub event_by : ℕ → Plan → Option OwnEvent
-event_by func (plan.Settles (settled.Call code)) = None
-event_by func (plan.Settles (settled.Open app login code)) = None
-event_by func (plan.Settles (settled.Invoke code)) = Some (event.Invoke func (input_by code))
-event_by func (plan.Opens app login copies) = Some (event.Open copies.params login)
-event_by func (plan.Invokes session app copies) = Some (event.Invoke func (input.Copied copies.params))
-event_by func (plan.Closes session app) = Some event.Close
-event_by func plan.Cancels = Some event.Cancel
-event_by func (plan.KeepsBuffer cookie buffer) = None
-event_by func (plan.DropsBuffer cookie) = None
+-- what a new call of this function, with an area or without one, is for its session, by its plan
+abbrev pub event_by : ℕ → Bool → Plan → Option OwnEvent
+event_by func area (plan.Settles (settled.Call code)) = None
+event_by func area (plan.Settles (settled.Open app login code)) = None
+event_by func area (plan.Settles (settled.Invoke code)) = Some (event.Invoke func (input_by code) area)
+event_by func area (plan.Opens app login copies) = Some (event.Open copies.params login area)
+event_by func area (plan.Invokes session app copies) = Some (event.Invoke func (input.Copied copies.params) area)
+event_by func area (plan.Closes session app) = Some (event.Close area)
+event_by func area plan.Cancels = Some event.Cancel
+event_by func area (plan.KeepsBuffer cookie buffer) = None
+event_by func area (plan.DropsBuffer cookie) = None
 
 -- by the event that it is, if it is one
 abbrev pub arrival_of : Option OwnEvent → Arrival
@@ -63,7 +63,7 @@ arrival_of (Some came) = arrival.New came
 -- what a new call is, by what was decided of it
 abbrev pub arrival_by : NewDecided → Arrival
 arrival_by (decided.Answers answer) = arrival.Nothing
-arrival_by (decided.Takes entered plan) = arrival_of (event_by entered.head.func plan)
+arrival_by (decided.Takes entered plan) = arrival_of (event_by entered.head.func (is_some entered.area) plan)
 
 -- an open counts only where it runs at once
 abbrev pub is_at_once : CallKind → CallPhase → Bool

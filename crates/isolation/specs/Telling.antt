@@ -1,5 +1,5 @@
 -- What is told of a call as data that goes out.
-use Rattle.std.specs.Prelude.{ℕ, Bool, true, false, List, Option, Some, None, is_some}
+use Rattle.std.specs.Prelude.{ℕ, Bool, true, false, not, ◌&&◌, ◌||◌, List, Option, Some, None, is_some}
 use Rattle.std.specs.Option.{option_and_then, option_map}
 use Rattle.kernel_state.specs.Calls.{woken_slot}
 use Rattle.kernel_state.specs.declared.carried.Carried.{Carried}
@@ -12,6 +12,7 @@ use Rattle.rpc_cont.specs.declared.cont.Asked.{Asked}
 use Rattle.rpc_cont.specs.declared.cont.Cont.{Cont}
 use Rattle.rpc_cont.specs.declared.phase.Phase.{Phase}
 use Rattle.rpc_cont.specs.declared.phase.Phase.TheVariants as phase
+use Rattle.rpc_msgs.specs.Request.{has_payload}
 
 -- the slot of the call that one in this phase wakes
 abbrev pub wakes_in : Phase → Option Asked → Option ℕ
@@ -25,26 +26,35 @@ wakes_as cont = wakes_in cont.phase cont.request
 abbrev pub asked_reply : Asked → OwnReply
 asked_reply asked = reply.Ask asked.rpc asked.payload
 
+-- bytes go with what one in this phase asks for, in a buffer
+abbrev pub asks_with_payload : Phase → Option Asked → Bool
+asks_with_payload phase.Asks (Some asked) = has_payload asked.rpc
+asks_with_payload _ _ = false
+
+-- what it asks for has a place
+abbrev pub has_place : Cont (List ℕ) → Bool
+has_place cont = is_some cont.buffer || (is_some cont.area && not (asks_with_payload cont.phase cont.request))
+
 -- ---- a call that stays in its slot
 
--- it has ended: whether it has a call to wake, whether it has a buffer, and the number of the call that it wakes. One that
+-- it has ended: whether it has a call to wake, whether that has a place, and the number of the call that it wakes. One that
 -- asks for nothing has given its buffer back
 abbrev pub told_behind : Bool → Bool → Option ℕ → Option OwnReply
-told_behind false has_buffer woken = Some reply.Free
+told_behind false has_place woken = Some reply.Free
 told_behind true false woken = Some reply.Alloc
 told_behind true true woken = option_map (λ number. reply.Wake number) woken
 
--- by how far it has come, and whether it has a buffer
+-- by how far it has come, and whether what it asks for has a place
 abbrev pub told_in : Cont (List ℕ) → Option ℕ → Phase → Bool → Option OwnReply
-told_in cont woken phase.Runs has_buffer = None
+told_in cont woken phase.Runs placed = None
 told_in cont woken phase.Asks false = Some reply.Alloc
 told_in cont woken phase.Asks true = option_map asked_reply cont.request
 told_in cont woken phase.Waits false = Some reply.Alloc
 told_in cont woken phase.Waits true = Some reply.Sleep
-told_in cont woken phase.Ends has_buffer = told_behind (is_some (wakes_as cont)) has_buffer woken
+told_in cont woken phase.Ends placed = told_behind (is_some (wakes_as cont)) placed woken
 
 abbrev pub told_by : Cont (List ℕ) → Option ℕ → Option OwnReply
-told_by cont woken = told_in cont woken cont.phase (is_some cont.buffer)
+told_by cont woken = told_in cont woken cont.phase (has_place cont)
 
 -- ---- a call that has finished
 

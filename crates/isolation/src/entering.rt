@@ -45,24 +45,28 @@ fn input_settled(code: u32) -> OwnInput
     }
 }
 
-/// What a new call is for its session, by what its slot is taken for; the function is the one that its argument names.
-fn event_by(func: u32, plan: Plan) -> Option<OwnEvent>
-    ensures { result ≡ event_by func plan }
+/// What a new call is for its session, by what its slot is taken for; the function is the one that its argument names, and it
+/// has an area or not.
+fn event_by(func: u32, area: bool, plan: Plan) -> Option<OwnEvent>
+    ensures { result ≡ event_by func area plan }
 {
     match plan {
         Plan::Settles(Settled::Invoke(code)) => Some(OwnEvent::Invoke {
             func,
             input: input_settled(code),
+            area,
         }),
         Plan::Opens { login, copies, .. } => Some(OwnEvent::Open {
             params: copies.params,
             login,
+            area,
         }),
         Plan::Invokes { copies, .. } => Some(OwnEvent::Invoke {
             func,
             input: OwnInput::Copied(copies.params),
+            area,
         }),
-        Plan::Closes { .. } => Some(OwnEvent::Close),
+        Plan::Closes { .. } => Some(OwnEvent::Close { area }),
         Plan::Cancels => Some(OwnEvent::Cancel),
         Plan::Settles(Settled::Call(_) | Settled::Open(..))
         | Plan::KeepsBuffer { .. }
@@ -76,10 +80,12 @@ fn arrival_by(decided: Decided) -> Arrival
 {
     match decided {
         Decided::Answers(_) => Arrival::Nothing,
-        Decided::Takes(entered, plan) => match event_by(entered.head.func, plan) {
-            Some(came) => Arrival::New(came),
-            None => Arrival::Nothing,
-        },
+        Decided::Takes(entered, plan) => {
+            match event_by(entered.head.func, entered.area.is_some(), plan) {
+                Some(came) => Arrival::New(came),
+                None => Arrival::Nothing,
+            }
+        }
     }
 }
 
@@ -166,7 +172,9 @@ pub(crate) fn arrives(
         → IfOk result (IsArrival (booted_of core.now) kernel regs.now.a lane.now) }
 {
     match decode_call(regs) {
-        Call::WithArg => new_arrival(alloc, core, regs, lane),
+        Call::WithArg | Call::WithRpcArg | Call::WithRegdArg => {
+            new_arrival(alloc, core, regs, lane)
+        }
         Call::Resume => back_arrival(alloc, core, regs, lane),
         Call::Fast(_) | Call::Unknown => Ok(Arrival::Nothing),
     }

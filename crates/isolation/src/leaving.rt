@@ -1,7 +1,7 @@
 //! What is told of a call that goes out.
 ghost use Rattle.std.specs.Prelude.{◌≡◌, IfOk, is_some};
 ghost use Rattle.std.specs.Option.{option_and_then, option_map};
-ghost use Rattle.isolation.specs.Telling.{asked_reply, ended_as, told_at_end, told_behind, told_by, wakes_as};
+ghost use Rattle.isolation.specs.Telling.{asked_reply, asks_with_payload, ended_as, has_place, told_at_end, told_behind, told_by, wakes_as};
 ghost use Rattle.kernel_state.specs.Calls.{woken_slot};
 
 use crate::copies::buffer_of;
@@ -50,12 +50,29 @@ fn asked_reply(alloc: Global, request: &Option<Asked>) -> Result<Option<OwnReply
     }
 }
 
-/// What is told of a call that has ended, may have a call to wake, and may have a buffer. One that has nothing to ask for
-/// has given its buffer back.
-fn told_behind(wakes: bool, has_buffer: bool, woken: Option<u32>) -> Option<OwnReply>
-    ensures { result ≡ told_behind wakes has_buffer woken }
+/// Whether bytes go with what a call asks for, in a buffer.
+fn asks_with_payload(cont: &Cont<Pages>) -> bool
+    ensures { result ≡ asks_with_payload cont.now.phase cont.now.request }
 {
-    match (wakes, has_buffer) {
+    match (cont.phase, &cont.request) {
+        (Phase::Asks, Some(asked)) => asked.rpc.has_payload(),
+        _ => false,
+    }
+}
+
+/// Whether what a call asks for has a place, in its area or its buffer.
+fn has_place(cont: &Cont<Pages>) -> bool
+    ensures { result ≡ has_place cont.now }
+{
+    cont.buffer.is_some() || (cont.area.is_some() && !asks_with_payload(cont))
+}
+
+/// What is told of a call that has ended, may have a call to wake, and may have a place to ask for that. One that has nothing
+/// to ask for has given its buffer back.
+fn told_behind(wakes: bool, has_place: bool, woken: Option<u32>) -> Option<OwnReply>
+    ensures { result ≡ told_behind wakes has_place woken }
+{
+    match (wakes, has_place) {
         (false, _) => Some(OwnReply::Free),
         (true, false) => Some(OwnReply::Alloc),
         (true, true) => match woken {
@@ -73,12 +90,12 @@ pub(crate) fn reply_of(
 ) -> Result<Option<OwnReply>, NoMemory>
     ensures { IfOk result (λ reply. reply ≡ told_by cont.now woken) }
 {
-    match (cont.phase, cont.buffer.is_some()) {
+    match (cont.phase, has_place(cont)) {
         (Phase::Runs, _) => Ok(None),
         (Phase::Asks | Phase::Waits, false) => Ok(Some(OwnReply::Alloc)),
         (Phase::Asks, true) => asked_reply(alloc, &cont.request),
         (Phase::Waits, true) => Ok(Some(OwnReply::Sleep)),
-        (Phase::Ends, has_buffer) => Ok(told_behind(wakes(cont).is_some(), has_buffer, woken)),
+        (Phase::Ends, has_place) => Ok(told_behind(wakes(cont).is_some(), has_place, woken)),
     }
 }
 
