@@ -4,13 +4,15 @@ use Rattle.std.specs.Option.{option_map, option_and_then}
 use Rattle.event_journal.specs.declared.event.Event.{Event}
 use Rattle.job_model.specs.Point.{no_params}
 use Rattle.kernel_model.specs.Application.{Application, Booted, booted}
+use Rattle.kernel_model.specs.AreaExamples.{area_call}
 use Rattle.kernel_model.specs.Instances.{app_of}
 use Rattle.kernel_model.specs.Worked.{Move, Comes, Leaves, add, adds, app_with, argument, boot, boot_with, call, call_of, cancels}
 use Rattle.kernel_model.specs.Worked.{closes, create_fails, flagged, head, history_of, invokes, invokes_by, mark, open_argument}
 use Rattle.kernel_model.specs.Worked.{open_panics, opens, panic, param, resume, resume_of, uuid, wait, wait_unmasked}
 use Rattle.ns_ram.specs.declared.read.Read.{Read}
-use Rattle.own_model.specs.Examples.{nobody, numbers, woken, woken_replies}
-use Rattle.own_model.specs.declared.own_event.BackInput.TheVariants.{NoBuffer}
+use Rattle.rpc_msgs.specs.Answer.{nothing_read}
+use Rattle.own_model.specs.Examples.{area_replies, asks_in_area, nobody, numbers, woken, woken_replies}
+use Rattle.own_model.specs.declared.own_event.BackInput.TheVariants.{NoBuffer, Reply}
 use Rattle.own_model.specs.declared.own_event.OwnInput.TheVariants.{Copied, Unread}
 use Rattle.own_model.specs.declared.own_reply.OwnReply.TheVariants as reply
 use Rattle.ta_isa.specs.declared.boot.App.{App}
@@ -63,10 +65,10 @@ alloc = record { reply = reply.Alloc; opened = None }
 
 -- an open whose parameters were copied, and one that was stopped before
 abbrev pub copied : GroupEvent
-copied = Open (Copied no_params) nobody false
+copied = Open (Copied no_params) nobody false false
 
 abbrev pub stopped : GroupEvent
-stopped = Open Unread nobody false
+stopped = Open Unread nobody false false
 
 -- ---- boots
 
@@ -106,7 +108,7 @@ two_sessions = opens ++ opens ++ call 0 1000 (adds 5 7) ++ call 0 1000 (closes 1
 
 abbrev pub two_events : List GroupEvent
 two_events =
-    copied ∷ Out 0 ∷ copied ∷ Out 1 ∷ Invoke 0 0 (Copied (numbers 5 7)) ∷ Out 2 ∷ Close 0 ∷ Out 3 ∷ Close 1 ∷ Out 4 ∷ []
+    copied ∷ Out 0 ∷ copied ∷ Out 1 ∷ Invoke 0 0 (Copied (numbers 5 7)) false ∷ Out 2 ∷ Close 0 false ∷ Out 3 ∷ Close 1 false ∷ Out 4 ∷ []
 
 -- the last session's close is inside, an open comes to wait, and then the close ends and takes the instance away
 abbrev pub gone_awaited : List Move
@@ -114,12 +116,16 @@ gone_awaited = opens ++ Comes 0 (call_of 0) 9 (closes 1) ∷ call 1 9 open_argum
 
 abbrev pub gone_events : List GroupEvent
 gone_events =
-    copied ∷ Out 0 ∷ Close 0 ∷ copied ∷ Out 2 ∷ Out 1 ∷ Room 2 true ∷ Back 2 NoBuffer ∷ Out 2 ∷ Back 1 NoBuffer ∷ Out 1
+    copied ∷ Out 0 ∷ Close 0 false ∷ copied ∷ Out 2 ∷ Out 1 ∷ Room 2 true ∷ Back 2 NoBuffer ∷ Out 2 ∷ Back 1 NoBuffer ∷ Out 1
     ∷ []
 
 -- and then another open comes in, before the one that waits comes back
 abbrev pub made_again : List Move
 made_again = gone_awaited ++ call 2 9 open_argument ++ back_to 1 ++ back_to 0 ++ back_to 2
+
+-- behind an open, calls with an area: an open that finds it busy, a cancel and a close
+abbrev pub told_areas : List Move
+told_areas = opens ++ area_call 0 9 open_argument ++ area_call 0 9 (cancels 1 9) ++ area_call 0 9 (closes 1)
 
 -- a panic in the first of two sessions, and what comes behind it
 abbrev pub dies : List Move
@@ -129,8 +135,8 @@ dies =
 
 abbrev pub dead_events : List GroupEvent
 dead_events =
-    copied ∷ Out 0 ∷ copied ∷ Out 1 ∷ Invoke 0 1 (Copied no_params) ∷ Out 2 ∷ stopped ∷ Out 3 ∷ Invoke 1 0 Unread ∷ Out 4
-    ∷ Close 1 ∷ Out 5 ∷ Close 0 ∷ Out 6 ∷ copied ∷ Out 7 ∷ []
+    copied ∷ Out 0 ∷ copied ∷ Out 1 ∷ Invoke 0 1 (Copied no_params) false ∷ Out 2 ∷ stopped ∷ Out 3 ∷ Invoke 1 0 Unread false ∷ Out 4
+    ∷ Close 1 false ∷ Out 5 ∷ Close 0 false ∷ Out 6 ∷ copied ∷ Out 7 ∷ []
 
 -- a close that has waited finds its session gone, and while it is inside another instance is made, for which an open waits
 abbrev pub older_waiter : List Move
@@ -146,11 +152,11 @@ pub record Examples : Type 0 where
       (opened 0 ∷ opened 1 ∷ sum 12 ∷ ended 0 3 ∷ ended 0 3 ∷ [])
   -- one session at a time: the next is told that it is busy, and gets no number
   pub busy_events : events_of (boot 1 1 1 (alone add)) (opens ++ opens ++ call 0 9 (closes 1) ++ opens)
-      ≡ Some (copied ∷ Out 0 ∷ stopped ∷ Out 1 ∷ Close 0 ∷ Out 2 ∷ copied ∷ Out 3 ∷ [])
+      ≡ Some (copied ∷ Out 0 ∷ stopped ∷ Out 1 ∷ Close 0 false ∷ Out 2 ∷ copied ∷ Out 3 ∷ [])
   pub busy_replies : Agrees (boot 1 1 1 (alone add)) (opens ++ opens ++ call 0 9 (closes 1) ++ opens)
       (opened 0 ∷ ended 0xffff000d 3 ∷ ended 0 3 ∷ opened 1 ∷ [])
   -- an open that finds too few pages
-  pub limited_events : events_of (boot 1 1 1 (two_pages (shared add))) opens ≡ Some (Open Unread nobody true ∷ Out 0 ∷ [])
+  pub limited_events : events_of (boot 1 1 1 (two_pages (shared add))) opens ≡ Some (Open Unread nobody true false ∷ Out 0 ∷ [])
   pub limited_replies : Agrees (boot 1 1 1 (two_pages (shared add))) opens (ended 0xffff000c 3 ∷ [])
   -- a panic in one session kills the instance of both; once both are closed, an open makes another
   pub dead_events_are : events_of (boot 1 1 2 (shared panic)) dies ≡ Some dead_events
@@ -177,17 +183,30 @@ pub record Examples : Type 0 where
       (opened 0 ∷ alloc ∷ alloc ∷ ended 0xffff000c 3 ∷ ended 0 3 ∷ [])
   pub no_room_events : events_of (beside 1 (shared add))
       (gone_awaited ++ call 2 9 opens_other ++ back_to 1 ++ back_to 0)
-      ≡ Some (copied ∷ Out 0 ∷ Close 0 ∷ copied ∷ Out 2 ∷ Out 1 ∷ Room 2 false ∷ Back 2 NoBuffer ∷ Out 2 ∷ Back 1 NoBuffer
+      ≡ Some (copied ∷ Out 0 ∷ Close 0 false ∷ copied ∷ Out 2 ∷ Out 1 ∷ Room 2 false ∷ Back 2 NoBuffer ∷ Out 2 ∷ Back 1 NoBuffer
       ∷ Out 1 ∷ [])
   -- or that another open has made it again, under its number, which wakes it
   pub made_again_events : events_of (boot 3 3 1 (shared add)) made_again
-      ≡ Some (copied ∷ Out 0 ∷ Close 0 ∷ copied ∷ Out 2 ∷ Out 1 ∷ copied ∷ Out 3 ∷ Back 2 NoBuffer ∷ Out 2 ∷ Back 1 NoBuffer
+      ≡ Some (copied ∷ Out 0 ∷ Close 0 false ∷ copied ∷ Out 2 ∷ Out 1 ∷ copied ∷ Out 3 ∷ Back 2 NoBuffer ∷ Out 2 ∷ Back 1 NoBuffer
       ∷ Out 1 ∷ Back 3 NoBuffer ∷ Out 3 ∷ [])
   pub made_again_replies : Agrees (boot 3 3 1 (shared add)) made_again
       (opened 0 ∷ alloc ∷ alloc ∷ alloc ∷ opened 1 ∷ ended 0 3 ∷ opened 2 ∷ [])
   -- a call that sleeps until another wakes it, each with a buffer
   pub woken_replies_are : Agrees (boot 2 2 1 (shared wait)) woken
       (opened 0 ∷ map (λ told. record { reply = told; opened = None }) (drop 1 woken_replies))
+  -- a call with an area asks without a buffer
+  pub area_events_are : events_of (boot 1 1 1 (shared wait)) asks_in_area
+      ≡ Some (copied ∷ Out 0 ∷ Invoke 0 250 (Copied no_params) true ∷ Out 1 ∷ Back 1 (Reply nothing_read) ∷ Out 1 ∷ [])
+  pub area_replies_are : Agrees (boot 1 1 1 (shared wait)) asks_in_area
+      (opened 0 ∷ map (λ told. record { reply = told; opened = None }) (drop 1 area_replies))
+  -- each call says whether it has an area, also where a test stops it, but for a cancel, which asks for nothing
+  pub area_sum_events : events_of (boot 1 1 1 (shared add)) (opens ++ area_call 0 1000 (adds 5 7))
+      ≡ Some (copied ∷ Out 0 ∷ Invoke 0 0 (Copied (numbers 5 7)) true ∷ Out 1 ∷ [])
+  pub area_sum : Agrees (boot 1 1 1 (shared add)) (opens ++ area_call 0 1000 (adds 5 7)) (opened 0 ∷ sum 12 ∷ [])
+  pub areas_told : events_of (boot 1 1 1 (alone add)) told_areas
+      ≡ Some (copied ∷ Out 0 ∷ Open Unread nobody false true ∷ Out 1 ∷ Cancel 0 ∷ Out 2 ∷ Close 0 true ∷ Out 3 ∷ [])
+  pub areas_replies : Agrees (boot 1 1 1 (alone add)) told_areas
+      (opened 0 ∷ ended 0xffff000d 3 ∷ ended 0 3 ∷ ended 0 3 ∷ [])
   -- calls of another application are none of the group's
   pub of_others : events_of (beside 2 (shared add)) (call 0 9 opens_other ++ opens) ≡ Some (copied ∷ Out 0 ∷ [])
   -- who waits for an instance is not woken by a call that had waited for an older one
@@ -196,7 +215,7 @@ pub record Examples : Type 0 where
   -- a cancel is seen at the next resume
   pub cancelled_events : events_of (boot 2 2 1 (shared wait_unmasked))
       (opens ++ opens ++ call 0 1 (invokes_by 1 250 9) ++ call 1 9 (cancels 1 9) ++ resume 0 9 0)
-      ≡ Some (copied ∷ Out 0 ∷ copied ∷ Out 1 ∷ Invoke 0 250 (Copied no_params) ∷ Cancel 0 ∷ Out 3 ∷ Seen 2 1 ∷ Out 2 ∷ [])
+      ≡ Some (copied ∷ Out 0 ∷ copied ∷ Out 1 ∷ Invoke 0 250 (Copied no_params) false ∷ Cancel 0 ∷ Out 3 ∷ Seen 2 1 ∷ Out 2 ∷ [])
   pub cancelled : Agrees (boot 2 2 1 (shared wait_unmasked))
       (opens ++ opens ++ call 0 1 (invokes_by 1 250 9) ++ call 1 9 (cancels 1 9) ++ resume 0 9 0)
       (opened 0 ∷ opened 1 ∷ ended 0 3 ∷ ended 0xffff0002 4 ∷ [])

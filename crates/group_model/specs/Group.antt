@@ -31,6 +31,9 @@ use Rattle.own_model.specs.declared.own_event.OwnInput.{OwnInput}
 use Rattle.own_model.specs.declared.own_event.OwnInput.TheVariants.{Copied, Faulty, Unread}
 use Rattle.own_model.specs.declared.own_reply.OwnReply.{OwnReply}
 use Rattle.own_model.specs.declared.own_reply.OwnReply.TheVariants as reply
+use Rattle.rpc_msgs.specs.Place.{is_placed}
+use Rattle.rpc_msgs.specs.declared.rpc.Rpc.{Rpc}
+use Rattle.rpc_msgs.specs.declared.rpc.Rpc.TheVariants as rpc
 use Rattle.group_model.specs.declared.group_event.GroupEvent.{GroupEvent}
 use Rattle.group_model.specs.declared.group_event.GroupEvent.TheVariants.{Open, Invoke, Close, Cancel, Seen, Room, Back}
 use Rattle.group_model.specs.declared.group_event.GroupEvent.TheVariants.{Out}
@@ -57,7 +60,8 @@ pub record GroupCall : Type 0 where
   pub seen : Bool
   -- the steps that its application has done
   pub steps : ℕ
-  -- it has a buffer
+  -- it has an area, and a buffer, for its requests
+  pub area : Bool
   pub buffer : Bool
   -- of an open that has waited and finds its instance gone: whether there are pages for a new one, once it was told
   pub room : Option Bool
@@ -140,15 +144,16 @@ home g number =
 
 -- ---- calls that come in
 
--- a call of a session on an instance
+-- a call of a session on an instance, and whether it has an area
 pub record About : Type 0 where
   pub kind : CallKind
+  pub area : Bool
   pub session : ℕ
   pub instance : ℕ
 
 -- a call that was settled as it came in is about no session
-abbrev pub about_none : About
-about_none = record { kind = kind.Settled; session = 0; instance = 0 }
+abbrev pub about_none : Bool → About
+about_none area = record { kind = kind.Settled; area = area; session = 0; instance = 0 }
 
 abbrev pub fresh_call : About → CallPhase → GroupCall
 fresh_call about phase = record {
@@ -157,6 +162,7 @@ fresh_call about phase = record {
   instance = about.instance;
   seen = false;
   steps = 0;
+  area = about.area;
   buffer = false;
   room = None;
   phase = phase;
@@ -167,8 +173,8 @@ abbrev pub comes_in : Group → GroupCall → Group
 comes_in g call = record g { entered = g.entered + 1; calls = insert g.calls g.entered call }
 
 -- it comes in and has this result at once, which no application returned
-abbrev pub settles : Group → ℕ → Group
-settles g code = comes_in g (fresh_call about_none (Ends (of_tee code) no_params false None))
+abbrev pub settles : Group → Bool → ℕ → Group
+settles g area code = comes_in g (fresh_call (about_none area) (Ends (of_tee code) no_params false None))
 
 -- it comes in and waits for its instance, behind those that wait already
 abbrev pub waits : Group → About → CopiedParams → Group
@@ -240,39 +246,47 @@ opens_made app g start =
 
 -- ---- opens
 
+-- who opens: the login, and whether the call has an area
+pub record Opener : Type 0 where
+  pub login : Login
+  pub area : Bool
+
 -- its session gets the next number; it isn't opened yet
 abbrev pub with_session : Group → Login → ℕ → Group
 with_session g login instance =
     let session : GroupSession = record { login = login; context = 0; opened = false; instance = instance } in
     record g { sessions = insert g.sessions g.next_session session; next_session = g.next_session + 1 }
 
-abbrev pub about_open : Group → ℕ → About
-about_open g instance = record { kind = kind.Open; session = g.next_session; instance = instance }
+abbrev pub about_open : Group → Bool → ℕ → About
+about_open g area instance =
+    record { kind = kind.Open; area = area; session = g.next_session; instance = instance }
 
 abbrev pub start_of_open : Group → CopiedParams → Login → Start
 start_of_open g params login =
     record { number = g.entered; login = login; context = 0; params = params; seen = false }
 
 -- it comes in and begins
-abbrev pub open_begins : Group → Login → Begun → Group
-open_begins g login begun =
-    comes_in (with_session begun.group login begun.instance) (fresh_call (about_open g begun.instance) (Runs begun.job))
+abbrev pub open_begins : Group → Opener → Begun → Group
+open_begins g opener begun =
+    comes_in (with_session begun.group opener.login begun.instance)
+    (fresh_call (about_open g opener.area begun.instance) (Runs begun.job))
 
 -- it comes in on an instance that another call holds
-abbrev pub open_waits : Group → CopiedParams → Login → ℕ → Group
-open_waits g params login number = waits (with_session g login number) (about_open g number) params
+abbrev pub open_waits : Group → CopiedParams → Opener → ℕ → Group
+open_waits g params opener number =
+    waits (with_session g opener.login number) (about_open g opener.area number) params
 
 -- on the instance that is there: it waits where another call holds that
-abbrev pub opens_there : Application → Group → CopiedParams → Login → ℕ × Instance → Group
-opens_there app g params login there =
+abbrev pub opens_there : Application → Group → CopiedParams → Opener → ℕ × Instance → Group
+opens_there app g params opener there =
     if is_held there.1
-    then open_waits g params login there.0
-    else open_begins g login (opens_kept app g (start_of_open g params login) there)
+    then open_waits g params opener there.0
+    else open_begins g opener (opens_kept app g (start_of_open g params opener.login) there)
 
-abbrev pub opens : Application → Group → CopiedParams → Login → Group
-opens app g params login =
-    option_map_or (opens_there app g params login) g.instance
-    (open_begins g login (opens_made app g (start_of_open g params login)))
+abbrev pub opens : Application → Group → CopiedParams → Opener → Group
+opens app g params opener =
+    option_map_or (opens_there app g params opener) g.instance
+    (open_begins g opener (opens_made app g (start_of_open g params opener.login)))
 
 -- the instance is dead
 abbrev pub is_dead : Group → Bool
@@ -285,54 +299,63 @@ is_taken app g =
     && option_map_or (λ (there : ℕ × Instance). has_session g.sessions there.0) g.instance false
 
 -- an open that passed the tests before its parameters, by what these came to
-abbrev pub opens_with : Application → Group → OwnInput → Login → Option Group
-opens_with app g (Copied params) login = Some (opens app g params login)
-opens_with app g Faulty login = Some (settles g bad_parameters)
-opens_with app g Unread login = None
+abbrev pub opens_with : Application → Group → OwnInput → Opener → Option Group
+opens_with app g (Copied params) opener = Some (opens app g params opener)
+opens_with app g Faulty opener = Some (settles g opener.area bad_parameters)
+opens_with app g Unread opener = None
 
 -- an open's tests in their order: a dead instance, a session that has it alone, a shared limit, and faulty parameters
-abbrev pub opens_tested : Application → Group → OwnInput → Login → Bool → Option Group
-opens_tested app g input login limited =
-    if is_dead g then Some (settles g target_dead)
-    else if is_taken app g then Some (settles g busy)
-    else if limited then Some (settles g out_of_memory)
-    else opens_with app g input login
+abbrev pub opens_tested : Application → Group → OwnInput → Opener → Bool → Option Group
+opens_tested app g input opener limited =
+    if is_dead g then Some (settles g opener.area target_dead)
+    else if is_taken app g then Some (settles g opener.area busy)
+    else if limited then Some (settles g opener.area out_of_memory)
+    else opens_with app g input opener
 
 -- ---- invokes, closes and cancels
 
-abbrev pub about_home : CallKind → Home → About
-about_home call_kind at = record { kind = call_kind; session = at.number; instance = at.session.instance }
+-- a call of an opened session that comes in: its kind, and whether it has an area
+pub record Coming : Type 0 where
+  pub kind : CallKind
+  pub area : Bool
+
+abbrev pub about_home : Coming → Home → About
+about_home coming at =
+    record { kind = coming.kind; area = coming.area; session = at.number; instance = at.session.instance }
 
 abbrev pub start_at : ℕ → GroupSession → CopiedParams → Bool → Start
 start_at number session params seen =
     record { number = number; login = session.login; context = session.context; params = params; seen = seen }
 
 -- a call of an opened session waits where another call holds the instance, and else begins these entry points
-abbrev pub works_or_waits : Application → Group → CallKind → Home → CopiedParams → List EntryPoint → Group
-works_or_waits app g call_kind at params points =
-    let about = about_home call_kind at in
+abbrev pub works_or_waits : Application → Group → Coming → Home → CopiedParams → List EntryPoint → Group
+works_or_waits app g coming at params points =
+    let about = about_home coming at in
     let start = start_at g.entered at.session params false in
     let begun = begins_on app g start at.session.instance at.instance points in
     if is_held at.instance then waits g about params else comes_in begun.group (fresh_call about (Runs begun.job))
 
 -- an invoke: of a dead instance it has a result at once; else with faulty parameters; else it begins or waits
-abbrev pub invokes_with : Application → Group → ℕ → OwnInput → Home → Option Group
-invokes_with app g func (Copied params) at =
-    Some (works_or_waits app g (kind.Invoke func) at params (point.Invoke func ∷ []))
-invokes_with app g func Faulty at = Some (settles g bad_parameters)
-invokes_with app g func Unread at = None
+abbrev pub invokes_with : Application → Group → ℕ → OwnInput → Bool → Home → Option Group
+invokes_with app g func (Copied params) area at =
+    let coming : Coming = record { kind = kind.Invoke func; area = area } in
+    Some (works_or_waits app g coming at params (point.Invoke func ∷ []))
+invokes_with app g func Faulty area at = Some (settles g area bad_parameters)
+invokes_with app g func Unread area at = None
 
-abbrev pub invokes : Application → Group → ℕ → OwnInput → Home → Option Group
-invokes app g func input at = if at.instance.dead then Some (settles g target_dead) else invokes_with app g func input at
+abbrev pub invokes : Application → Group → ℕ → OwnInput → Bool → Home → Option Group
+invokes app g func input area at =
+    if at.instance.dead then Some (settles g area target_dead) else invokes_with app g func input area at
 
 -- the entry points of a close: close, and destroy behind it where no other session keeps the instance
 abbrev pub closing_points : Application → Group → ℕ → ℕ → List EntryPoint
 closing_points app g session instance = point.Close ∷ destroy_after app (remove g.sessions session) instance
 
 -- a close begins or waits, also where the instance is dead
-abbrev pub closes : Application → Group → Home → Group
-closes app g at =
-    works_or_waits app g kind.Close at no_params (closing_points app g at.number at.session.instance)
+abbrev pub closes : Application → Group → Bool → Home → Group
+closes app g area at =
+    let coming : Coming = record { kind = kind.Close; area = area } in
+    works_or_waits app g coming at no_params (closing_points app g at.number at.session.instance)
 
 -- ---- calls that come back
 
@@ -381,7 +404,7 @@ abbrev pub goes_on : Waiting → Begun → Group
 goes_on w begun =
     with_call (without_waiter begun.group w.number) w.number (record w.call { phase = Runs begun.job })
 
--- another call holds its instance: it waits on, where it has got a buffer for that or has one
+-- another call holds its instance: it waits on, unless it has come back without a buffer that it needs for that
 abbrev pub waits_on : Group → Waiting → Group
 waits_on g w = if is_no_buffer w.input then gives_up g w out_of_memory else with_call g w.number w.call
 
@@ -529,9 +552,11 @@ going_in most g call _ = Some (record { group = g; call = call })
 abbrev pub plain : OwnReply → GroupReply
 plain told = record { reply = told; opened = None }
 
--- it asks for something, in the buffer that it has, or for a buffer first
-abbrev pub asks : Group → ℕ → GroupCall → OwnReply → Answered
-asks g number call wanted = (with_call g number call, Some (plain (if call.buffer then wanted else reply.Alloc)))
+-- it asks for something, where that has a place in its area or its buffer, or for a buffer first
+abbrev pub asks : Group → ℕ → GroupCall → Rpc → OwnReply → Answered
+asks g number call wanted told =
+    let placed = is_placed call.area call.buffer wanted in
+    (with_call g number call, Some (plain (if placed then told else reply.Alloc)))
 
 -- the session that a call has opened which ends with this result
 abbrev pub opened_by : CallKind → ℕ → CallResult → Option ℕ
@@ -549,9 +574,10 @@ leaves g number call result params =
 
 abbrev pub goes_out_in : Group → ℕ → GroupCall → CallPhase → Option Answered
 goes_out_in g number call (Runs job) = None
-goes_out_in g number call (Asks job wanted payload) = Some (asks g number call (reply.Ask wanted payload))
-goes_out_in g number call (Waits params) = Some (asks g number call reply.Sleep)
-goes_out_in g number call (Ends result params told (Some woken)) = Some (asks g number call (reply.Wake woken))
+goes_out_in g number call (Asks job wanted payload) = Some (asks g number call wanted (reply.Ask wanted payload))
+goes_out_in g number call (Waits params) = Some (asks g number call (rpc.Sleep number) reply.Sleep)
+goes_out_in g number call (Ends result params told (Some woken)) =
+    Some (asks g number call (rpc.Wake woken) (reply.Wake woken))
 goes_out_in g number call (Ends result params told None) = Some (leaves g number call result params)
 
 abbrev pub goes_out : ℕ → Group → ℕ → GroupCall → Option Answered
@@ -564,11 +590,13 @@ goes_out most g number call =
 -- what it does at one: none where there is no such call or opened session, where the input isn't what the tests leave, or
 -- where a job doesn't come so far. Not every event that it takes can come. A job takes at most so many steps to its stop
 abbrev pub step : ℕ → Application → Group → GroupEvent → Option Answered
-step most app g (Open input login limited) = option_map silent (opens_tested app g input login limited)
-step most app g (Invoke session func input) =
-    option_map silent (option_and_then (invokes app g func input) (home g session))
-step most app g (Close session) = option_map (λ at. silent (closes app g at)) (home g session)
-step most app g (Cancel session) = option_map (λ (at : Home). silent (settles g success)) (home g session)
+step most app g (Open input login limited area) =
+    let opener : Opener = record { login = login; area = area } in
+    option_map silent (opens_tested app g input opener limited)
+step most app g (Invoke session func input area) =
+    option_map silent (option_and_then (invokes app g func input area) (home g session))
+step most app g (Close session area) = option_map (λ at. silent (closes app g area at)) (home g session)
+step most app g (Cancel session) = option_map (λ (at : Home). silent (settles g false success)) (home g session)
 step most app g (Seen number done_by_now) =
     option_map silent (option_and_then (sees g number done_by_now) (get g.calls number))
 step most app g (Room number enough) =

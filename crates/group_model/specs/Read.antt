@@ -2,7 +2,7 @@
 -- is one of the group's where it is an open that names the application, in the right shape, whatever its later tests come
 -- to; or an invoke, a close or a cancel, in the right shape, by the client of one of the group's sessions while that is
 -- opened. This project's own.
-use Rattle.std.specs.Prelude.{ℕ, ◌+◌, ◌==◌, ◌&&◌, not, Bool, false, List, [], ◌∷◌, ◌++◌, Option, Some, None, slice_get}
+use Rattle.std.specs.Prelude.{ℕ, ◌+◌, ◌==◌, ◌&&◌, not, Bool, false, List, [], ◌∷◌, ◌++◌, Option, Some, None, slice_get, is_some}
 use Rattle.std.specs.Prelude.{map, filter_map, bytes_eq, if◌then◌else◌}
 use Rattle.std.specs.Option.{is_none, option_map, option_map_or, option_and_then}
 use Rattle.base.specs.NumberMap.{NumberMap, get, insert}
@@ -67,15 +67,15 @@ is_open_of app call = option_map_or (λ uuid. bytes_eq uuid (uuid_of app)) call.
 -- an open that got a session, with the parameters that were copied; its login is kept with the session
 abbrev pub open_event : Tables → PendingCall → CopiedParams → Option GroupEvent
 open_event tables call params =
-    option_map (λ (session : Session). Open (Copied params) session.login false) (get tables.sessions call.session)
+    option_map (λ (session : Session). Open (Copied params) session.login false (is_some call.area)) (get tables.sessions call.session)
 
 -- what came of the parameters of an open that was settled with this result
 abbrev pub open_input : CallResult → OwnInput
 open_input result = if result.result == bad_parameters then Faulty else Unread
 
 -- its event: a shared limit stopped it where there was too little memory
-abbrev pub settled_open_event : Login → CallResult → GroupEvent
-settled_open_event login result = Open (open_input result) login (result.result == out_of_memory)
+abbrev pub settled_open_event : Login → CallResult → Bool → GroupEvent
+settled_open_event login result area = Open (open_input result) login (result.result == out_of_memory) area
 
 -- the event of an open, by the phase in which it is taken in
 abbrev pub open_event_in : Tables → PendingCall → CallPhase → Option GroupEvent
@@ -83,19 +83,19 @@ open_event_in tables call (Runs job) = open_event tables call (params_of job)
 open_event_in tables call (Waits params) = open_event tables call params
 open_event_in tables call _ = None
 
--- the event of a call in a session of the group, by the phase in which it is taken in
-abbrev pub invoke_event : ℕ → ℕ → CallPhase → Option GroupEvent
-invoke_event session func (Runs job) = Some (Invoke session func (Copied (params_of job)))
-invoke_event session func (Waits params) = Some (Invoke session func (Copied params))
-invoke_event session func _ = None
+-- the event of a call, with an area or without one, in a session of the group, by the phase in which it is taken in
+abbrev pub invoke_event : ℕ → ℕ → Bool → CallPhase → Option GroupEvent
+invoke_event session func area (Runs job) = Some (Invoke session func (Copied (params_of job)) area)
+invoke_event session func area (Waits params) = Some (Invoke session func (Copied params) area)
+invoke_event session func area _ = None
 
 -- that of a call that was settled with this result
 abbrev pub settled_event : Application → Notes → PendingCall → SettledCall → CallResult → Option GroupEvent
 settled_event app notes call Untold result = None
 settled_event app notes call (AnOpen login) result =
-    if is_open_of app call then Some (settled_open_event login result) else None
+    if is_open_of app call then Some (settled_open_event login result (is_some call.area)) else None
 settled_event app notes call (AnInvoke func) result =
-    option_map (λ session. Invoke session func (input_settled result)) (get notes.sessions call.session)
+    option_map (λ session. Invoke session func (input_settled result) (is_some call.area)) (get notes.sessions call.session)
 settled_event app notes call ACancel result = option_map (λ session. Cancel session) (get notes.sessions call.session)
 
 abbrev pub settled_event_in : Application → Notes → PendingCall → CallPhase → Option GroupEvent
@@ -107,8 +107,9 @@ abbrev pub event_of : Application → Tables → Notes → PendingCall → CallK
 event_of app tables notes call kind.Open =
     if is_open_of app call then open_event_in tables call call.phase else None
 event_of app tables notes call (kind.Invoke func) =
-    option_and_then (λ session. invoke_event session func call.phase) (get notes.sessions call.session)
-event_of app tables notes call kind.Close = option_map (λ session. Close session) (get notes.sessions call.session)
+    option_and_then (λ session. invoke_event session func (is_some call.area) call.phase) (get notes.sessions call.session)
+event_of app tables notes call kind.Close =
+    option_map (λ session. Close session (is_some call.area)) (get notes.sessions call.session)
 event_of app tables notes call kind.Settled = settled_event_in app notes call call.phase
 
 -- an open that got a session gives that the group's next number

@@ -6,21 +6,25 @@ use ta_params::Login;
 #[derive(Debug, Drop)]
 pub enum GroupEvent {
     /// An open comes in. Its input is unread where a dead instance, a session that has the instance alone, or a shared
-    /// limit stopped it; `limited` says that a limit did.
+    /// limit stopped it; `limited` says that a limit did. Of each call `area` says whether it has an area for the arguments
+    /// of its requests.
     Open {
         input: OwnInput,
         login: Login,
         limited: bool,
+        area: bool,
     },
     /// An invoke of a function comes in.
     Invoke {
         session: u32,
         func: u32,
         input: OwnInput,
+        area: bool,
     },
     /// A close comes in.
     Close {
         session: u32,
+        area: bool,
     },
     /// A cancel comes in.
     Cancel {
