@@ -10,11 +10,12 @@ use Rattle.kernel_model.specs.Application.{Booted}
 use Rattle.kernel_model.specs.Argument.{Opening, argument_at, invocation, opening, opening_with, params_in}
 use Rattle.kernel_model.specs.Decision.{Taken, Tested}
 use Rattle.kernel_model.specs.Kernel.{Kernel}
+use Rattle.kernel_model.specs.Located.{Located, at_address}
 use Rattle.kernel_model.specs.NewCall.{NewCall, command_of, invoke_command, new_call, new_call_of, open_session}
 use Rattle.workload.specs.Message.{head, param}
 use Rattle.workload.specs.Work.{invoke_argument, open_argument}
 use Rattle.made_play.proofs.AtMost.{AtMost, few_more}
-use Rattle.made_play.proofs.NewCalls.{HasNamesAlone, HasValuesAlone, invoke_few, new_call_few, open_few}
+use Rattle.made_play.proofs.NewCalls.{CommandFew, EachFew, HasNamesAlone, HasValuesAlone, invoke_few, new_call_few, open_few}
 
 -- RAM where an argument was written
 abbrev pub with_argument : List ℕ → List ℕ → List ℕ
@@ -111,26 +112,43 @@ values_alone old session c one there params invoked spelled shape =
 same_command : (one other : NewCall → Tested Taken) → Some one ≡ Some other → one ≡ other
 same_command one other e = cc
 
+-- where its argument is
+abbrev called_at : Located
+called_at = at_address false (argument_at call_regs)
+
+same_place : (one other : Located) → Some one ≡ Some other → one ≡ other
+same_place one other e = cc
+
+-- the call in a slot
+abbrev called_in : List ℕ → Booted → Kernel → ℕ → Located → NewCall
+called_in lane boot kernel slot at = new_call_of boot kernel.tables call_regs slot at (bytes_at lane at.addr 32)
+
+-- it is there, wherever else a call might be
+at_its_place : (lane : List ℕ) (boot : Booted) (kernel : Kernel) (slot most : ℕ)
+    → CommandFew lane (called_in lane boot kernel slot called_at) most → EachFew lane boot kernel call_regs most slot
+at_its_place lane boot kernel slot most few at there =
+    subst (λ (a : Located). CommandFew lane (called_in lane boot kernel slot a) most) (same_place called_at at there) few
+
 -- a call with either wants at most 96 bytes
 pub open_call_few : (old : List ℕ) (boot : Booted) (kernel : Kernel)
     → AtMost (with_argument old open_argument) (new_call boot kernel call_regs) 96
 open_call_few old boot kernel =
     let lane = with_argument old open_argument in
-    new_call_few lane boot kernel call_regs 64 (λ slot command is.
-    let c = new_call_of boot kernel.tables call_regs slot (bytes_at lane (argument_at call_regs) 32) in
+    new_call_few lane boot kernel call_regs 64 (λ slot. at_its_place lane boot kernel slot 64 (λ command is.
+    let c = called_in lane boot kernel slot called_at in
     let two : c.head.count ≡ 2 = open_count old in
     let opens : Some open_session ≡ Some command =
     subst (λ (cmd : ℕ). command_of cmd ≡ Some command) (open_cmd old) is in
     let few : AtMost lane (open_session c) 64 =
     subst (λ (n : ℕ). AtMost lane (open_session c) (32 * n)) two (open_few lane c (opens_alone old c two refl)) in
-    subst (λ (f : NewCall → Tested Taken). AtMost lane (f c) 64) (same_command open_session command opens) few)
+    subst (λ (f : NewCall → Tested Taken). AtMost lane (f c) 64) (same_command open_session command opens) few))
 
 pub invoke_call_few : (old : List ℕ) (session : ℕ) (boot : Booted) (kernel : Kernel)
     → AtMost (with_argument old (invoke_argument session)) (new_call boot kernel call_regs) 96
 invoke_call_few old session boot kernel =
     let lane = with_argument old (invoke_argument session) in
-    new_call_few lane boot kernel call_regs 64 (λ slot command is.
-    let c = new_call_of boot kernel.tables call_regs slot (bytes_at lane (argument_at call_regs) 32) in
+    new_call_few lane boot kernel call_regs 64 (λ slot. at_its_place lane boot kernel slot 64 (λ command is.
+    let c = called_in lane boot kernel slot called_at in
     let one : c.head.count ≡ 1 = invoke_count old session in
     let invokes : Some invoke_command ≡ Some command =
     subst (λ (cmd : ℕ). command_of cmd ≡ Some command) (invoke_cmd old session) is in
@@ -138,4 +156,4 @@ invoke_call_few old session boot kernel =
     subst (λ (n : ℕ). AtMost lane (invoke_command c) (32 * n)) one
     (invoke_few lane c (values_alone old session c one refl)) in
     subst (λ (f : NewCall → Tested Taken). AtMost lane (f c) 64) (same_command invoke_command command invokes)
-    (few_more lane (invoke_command c) 32 64 (omega arith) few))
+    (few_more lane (invoke_command c) 32 64 (omega arith) few)))

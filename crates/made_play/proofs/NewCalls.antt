@@ -9,12 +9,13 @@ use Rattle.ns_ram.specs.Reader.{done}
 use Rattle.param_copy.specs.Copying.{copying}
 use Rattle.smc_abi.specs.declared.answer.Answer.{Answer}
 use Rattle.kernel_model.specs.Application.{Booted}
-use Rattle.kernel_model.specs.Argument.{Opening, argument_at, invocation, opening, params_in}
+use Rattle.kernel_model.specs.Argument.{Opening, invocation, opening, params_in}
 use Rattle.kernel_model.specs.Codes.{bad_parameters, busy, ebadaddr, ebadcmd, ethread_limit, item_not_found, out_of_memory, target_dead}
 use Rattle.kernel_model.specs.Decision.{Taken, Tested, taken_by, taken_in}
 use Rattle.kernel_model.specs.Instances.{app_of}
 use Rattle.kernel_model.specs.Kernel.{Kernel, lowest_free}
-use Rattle.kernel_model.specs.NewCall.{NewCall, command_of, has_argument, has_pages, has_session_room, invoke_command, is_head_address, is_taken, named_session, new_call, new_call_in, new_call_of, new_call_with, open_session, settles, settles_invoke, settles_open, shares_one}
+use Rattle.kernel_model.specs.Located.{Located, has_argument, has_head, located}
+use Rattle.kernel_model.specs.NewCall.{NewCall, command_of, has_pages, has_session_room, invoke_command, is_taken, named_session, new_call, new_call_in, new_call_of, new_call_with, open_session, settles, settles_invoke, settles_open, shares_one}
 use Rattle.made_play.proofs.AtMost.{AtMost, faultless_then, known_then, need_then, read_alone, then_nothing}
 
 -- the bytes of the parameters
@@ -80,25 +81,29 @@ with_slot lane slot (Err answer) = tt
 
 -- a new call wants its head, and what its command wants
 module _ (lane : List ℕ) (boot : Booted) (kernel : Kernel) (regs : List ℕ) (most : ℕ) where
-  abbrev pub head_bytes : List ℕ
-  head_bytes = bytes_at lane (argument_at regs) 32
+  abbrev pub head_bytes : Located → List ℕ
+  head_bytes at = bytes_at lane at.addr 32
 
-  abbrev pub call : ℕ → NewCall
-  call slot = new_call_of boot kernel.tables regs slot head_bytes
+  abbrev pub call : ℕ → Located → NewCall
+  call slot at = new_call_of boot kernel.tables regs slot at (head_bytes at)
 
-  in_slot : (slot : ℕ) → CommandFew lane (call slot) most
-      → AtMost lane (new_call_in boot kernel.tables regs slot) (32 + most)
+  -- wherever its argument is
+  abbrev pub EachFew : ℕ → Type 0
+  EachFew slot = (at : Located) → located kernel.tables regs ≡ Some at → CommandFew lane (call slot at) most
+
+  in_slot : (slot : ℕ) → EachFew slot → AtMost lane (new_call_in boot kernel.tables regs slot) (32 + most)
   in_slot slot few =
-      need_then lane (is_head_address (argument_at regs)) ebadaddr _ (32 + most) (
+      known_then lane (located kernel.tables regs) ebadaddr _ (32 + most) (λ at there.
+      need_then lane (has_head at) ebadaddr _ (32 + most) (
         omega arith,
-        need_then lane (has_argument (argument_at regs) (head_at head_bytes)) ebadaddr _ (32 + most - 32)
-            (known_then lane (command_of (head_at head_bytes).cmd) ebadcmd _ (32 + most - 32) (λ command is.
+        need_then lane (has_argument at (head_at (head_bytes at))) ebadaddr _ (32 + most - 32)
+            (known_then lane (command_of (head_at (head_bytes at)).cmd) ebadcmd _ (32 + most - 32) (λ command is.
             let same : most ≡ 32 + most - 32 = omega arith in
-            in_answer lane (command (call slot)) (32 + most - 32)
-            (subst (λ (n : ℕ). AtMost lane (command (call slot)) n) same (few command is)))),
-      )
+            in_answer lane (command (call slot at)) (32 + most - 32)
+            (subst (λ (n : ℕ). AtMost lane (command (call slot at)) n) same (few at there command is)))),
+      ))
 
-  pub new_call_few : ((slot : ℕ) → CommandFew lane (call slot) most) → AtMost lane (new_call boot kernel regs) (32 + most)
+  pub new_call_few : ((slot : ℕ) → EachFew slot) → AtMost lane (new_call boot kernel regs) (32 + most)
   new_call_few each =
       then_nothing lane (new_call_with boot kernel.tables regs (lowest_free kernel.slots)) _ (32 + most)
       (known_then lane (lowest_free kernel.slots) ethread_limit _ (32 + most) (λ slot free.

@@ -1,13 +1,15 @@
 -- A resume reads at most the reply to a request that fits a message.
 use Rattle.std.proofs.Common.{◌≡◌, ℕ, ◌≤◌, Bool, true, false, List, [], Option, Some, None, refl, ap, ◌∙◌, arith}
-use Rattle.std.specs.Prelude.{◌==◌, if◌then◌else◌, nat_le, slice_get}
+use Rattle.std.specs.Prelude.{◌==◌, if◌then◌else◌, nat_le, slice_get, unwrap_or}
 use Rattle.std.specs.Option.{option_and_then, option_map_or}
 use Rattle.std.proofs.lemmas.Bool.{leb-true}
 use Rattle.ns_ram.specs.Reader.{done, take_bytes}
+use Rattle.rpc_msgs.specs.Place.{arg_at, buffer_at, reader_at}
 use Rattle.rpc_msgs.specs.Reply.{payload_of, reply_reader}
 use Rattle.rpc_msgs.specs.Request.{IsRequest, payload_at}
 use Rattle.rpc_msgs.specs.declared.rpc.Rpc.{Rpc}
 use Rattle.rpc_msgs.specs.declared.rpc.Rpc.TheVariants.{Time, Sleep, Wake, Suspend, FsOpen, FsCreate, FsClose, FsRead, FsWrite, FsRemove}
+use Rattle.rpc_msgs.specs.declared.request_place.RequestPlace.{RequestPlace}
 use Rattle.rpc_msgs.specs.declared.rpc_buffer.RpcBuffer.{RpcBuffer}
 use Rattle.kernel_model.specs.Application.{Booted}
 use Rattle.kernel_model.specs.Argument.{client_in, thread_in}
@@ -15,7 +17,7 @@ use Rattle.kernel_model.specs.Codes.{eresume}
 use Rattle.kernel_model.specs.Decision.{Answers}
 use Rattle.kernel_model.specs.Given.{given_after, given_to}
 use Rattle.kernel_model.specs.Kernel.{Active, Asks, CallPhase, Ends, Free, Kernel, PendingCall, Runs, Suspended, ThreadSlot, Waits}
-use Rattle.kernel_model.specs.Leaving.{FreesBuffer, Finishes, Interrupted, Leaving, Request, Requests, WantsBuffer, leaving_in, leaving_of, plain_request}
+use Rattle.kernel_model.specs.Leaving.{FreesBuffer, Finishes, Interrupted, Leaving, Request, Requests, WantsBuffer, leaving_in, leaving_of, place_of, plain_request}
 use Rattle.kernel_model.specs.Resume.{call_resumed_by, resume, resume_call, suspended_for, takes_call}
 use Rattle.kernel_model.specs.Sound.{call_at, call_in, unmarked}
 use Rattle.kernel_model.specs.SoundRequests.{HasFittingRequest, HaveFittingRequests}
@@ -28,24 +30,24 @@ by_size : (lane : List ℕ) (buffer size most : ℕ) (fits : Bool) → nat_le si
 by_size lane buffer size most true is few = let le = leb-true size most is in (omega (arith, le, few), tt)
 by_size lane buffer size most false is few = tt
 
-reply_few : (lane : List ℕ) (buffer : ℕ) (wanted : Rpc) → IsRequest wanted → AtMost lane (reply_reader buffer wanted) 4096
-reply_few lane buffer Time fits = (omega arith, (omega arith, (omega arith, tt)))
-reply_few lane buffer (Sleep key) fits = tt
-reply_few lane buffer (Wake key) fits = tt
-reply_few lane buffer (Suspend ms) fits = tt
-reply_few lane buffer (FsOpen name) fits = (omega arith, (omega arith, tt))
-reply_few lane buffer (FsCreate name) fits = (omega arith, (omega arith, tt))
-reply_few lane buffer (FsClose fd) fits = (omega arith, tt)
-reply_few lane buffer (FsRead fd offset len) fits = (
+reply_few : (lane : List ℕ) (at : ℕ) (buffer : Option ℕ) (wanted : Rpc) → IsRequest wanted → AtMost lane (reply_reader at buffer wanted) 4096
+reply_few lane at buffer Time fits = (omega arith, (omega arith, (omega arith, tt)))
+reply_few lane at buffer (Sleep key) fits = tt
+reply_few lane at buffer (Wake key) fits = tt
+reply_few lane at buffer (Suspend ms) fits = tt
+reply_few lane at buffer (FsOpen name) fits = (omega arith, (omega arith, tt))
+reply_few lane at buffer (FsCreate name) fits = (omega arith, (omega arith, tt))
+reply_few lane at buffer (FsClose fd) fits = (omega arith, tt)
+reply_few lane at buffer (FsRead fd offset len) fits = (
   omega arith,
   (
     omega arith,
-    then_nothing lane (payload_of buffer len _) _ 4084
-        (by_size lane buffer _ len (nat_le _ len) refl (omega (arith, fits))) (λ bytes. tt),
+    then_nothing lane (payload_of (unwrap_or buffer 0) len _) _ 4084
+        (by_size lane (unwrap_or buffer 0) _ len (nat_le _ len) refl (omega (arith, fits))) (λ bytes. tt),
   ),
 )
-reply_few lane buffer (FsWrite fd offset len) fits = (omega arith, tt)
-reply_few lane buffer (FsRemove name) fits = (omega arith, tt)
+reply_few lane at buffer (FsWrite fd offset len) fits = (omega arith, tt)
+reply_few lane at buffer (FsRemove name) fits = (omega arith, tt)
 
 -- ---- what a call was left with
 
@@ -57,8 +59,8 @@ Fits (Requests place request) = IsRequest request.wanted
 Fits (FreesBuffer buffer) = Unit {0}
 Fits (Finishes result params) = Unit {0}
 
-asks_fit : (call : PendingCall) (request : Request) (buffer : Option RpcBuffer) → IsRequest request.wanted
-    → Fits (option_map_or (λ place. Requests place request) buffer WantsBuffer)
+asks_fit : (call : PendingCall) (request : Request) (place : Option RequestPlace) → IsRequest request.wanted
+    → Fits (option_map_or (λ at. Requests at request) place WantsBuffer)
 asks_fit call request (Some place) fits = fits
 asks_fit call request None fits = tt
 
@@ -71,10 +73,12 @@ leaving_fits : (slot : ℕ) (call : PendingCall) (phase : CallPhase) → HasFitt
     → Fits (leaving_in slot call phase)
 leaving_fits slot call (Runs job) fitting is = tt
 leaving_fits slot call (Asks job wanted payload) fitting is =
-    asks_fit call (record { wanted = wanted; payload = payload }) call.buffer (fitting.request job wanted payload is)
-leaving_fits slot call (Waits params) fitting is = asks_fit call (plain_request (Sleep slot)) call.buffer tt
+    let request : Request = record { wanted = wanted; payload = payload } in
+    asks_fit call request (place_of call request) (fitting.request job wanted payload is)
+leaving_fits slot call (Waits params) fitting is =
+    asks_fit call (plain_request (Sleep slot)) (place_of call (plain_request (Sleep slot))) tt
 leaving_fits slot call (Ends result params told (Some woken)) fitting is =
-    asks_fit call (plain_request (Wake woken)) call.buffer tt
+    asks_fit call (plain_request (Wake woken)) (place_of call (plain_request (Wake woken))) tt
 leaving_fits slot call (Ends result params told None) fitting is =
     frees_fit call (Finishes result params) call.buffer tt
 
@@ -82,7 +86,8 @@ given_few : (lane regs : List ℕ) (leaving : Leaving) → Fits leaving → AtMo
 given_few lane regs Interrupted fits = tt
 given_few lane regs WantsBuffer fits = tt
 given_few lane regs (Requests place request) fits =
-    then_nothing lane (reply_reader place.addr request.wanted) _ 4096 (reply_few lane place.addr request.wanted fits)
+    then_nothing lane (reader_at place request.wanted) _ 4096
+    (reply_few lane (arg_at place) (buffer_at place) request.wanted fits)
     (λ reply. tt)
 given_few lane regs (FreesBuffer buffer) fits = tt
 given_few lane regs (Finishes result params) fits = tt
