@@ -1,10 +1,9 @@
 //! What an exit asks of the desk.
 
-ghost use Rattle.std.specs.Prelude.{◌≡◌, length, slice_index};
+ghost use Rattle.std.specs.Prelude.{◌≡◌, length};
+ghost use Rattle.kernel_model.specs.Argument.{IsNew};
 ghost use Rattle.msg_args.specs.Reading.{head_at};
 ghost use Rattle.notify_play.specs.Duty.{came_with, duty_of, duty_of_command, duty_of_head, duty_of_new};
-ghost use Rattle.smc_abi.specs.Call.{call_of};
-ghost use Rattle.smc_abi.specs.declared.call.Call.TheVariants.{WithArg};
 ghost use Rattle.desk_answers.specs.Duties.{HasHeadFirst, duty_in};
 
 use msg_args::{OPTEE_MSG_CMD_DO_BOTTOM_HALF, OPTEE_MSG_CMD_STOP_ASYNC_NOTIF, read_head};
@@ -81,7 +80,7 @@ fn duty_of_new(reads: &[Read], a0: u32) -> Duty
 /// What an exit asks whose processor came in with these registers and read this, and to which the kernel says this in a0.
 /// Two function ids are the desk's own. A new call's first read is the head of its argument.
 pub fn duty_of(regs: &Regs, reads: &[Read], a0: u32) -> Duty
-    requires { call_of (slice_index regs.now.a 0) ≡ WithArg → HasHeadFirst reads.now }
+    requires { IsNew regs.now.a → HasHeadFirst reads.now }
     ensures { duty_in result ≡ duty_of (came_with regs.now.a reads.now) a0 }
 {
     match regs.a[0] {
@@ -91,7 +90,7 @@ pub fn duty_of(regs: &Regs, reads: &[Read], a0: u32) -> Duty
     }
     match decode_call(regs) {
         Call::Fast(FastCall::Capabilities) => Duty::Offers,
-        Call::WithArg => duty_of_new(reads, a0),
+        Call::WithArg | Call::WithRpcArg | Call::WithRegdArg => duty_of_new(reads, a0),
         Call::Fast(_) | Call::Resume | Call::Unknown => Duty::Nothing,
     }
 }
