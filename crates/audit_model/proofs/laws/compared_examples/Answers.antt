@@ -95,10 +95,10 @@ value_in _ = 0
 
 -- the first number that an invoke brings
 first_number : Option OwnEvent → ℕ
-first_number (Some (Invoke func (Copied params))) = value_in params.p0
+first_number (Some (Invoke func (Copied params) area)) = value_in params.p0
 first_number _ = 0
 
-not_six : Some (Invoke 0 (Copied (numbers 5 7))) ≡ Some (Invoke 0 (Copied (numbers 6 7))) → ⊥
+not_six : Some (Invoke 0 (Copied (numbers 5 7)) false) ≡ Some (Invoke 0 (Copied (numbers 6 7)) false) → ⊥
 unfolding first_number value_in
 not_six e = five_or_six (ap first_number e)
 
@@ -125,7 +125,7 @@ returns c = record {
   same = ((done_can, stepped_can), record { app = OfImage (app_with add); in_one = refl; in_two = refl }, refl, refl);
   another_invoke = ((done_can, another_can), record { app = OfImage (app_with add); in_one = refl; in_two = refl }, record { same_before = refl; differ = not_six });
   shorter = ((done_can, invoked_can), record { app = OfImage (app_with add); in_one = refl; in_two = refl }, record { same_before = refl; differ = one_is_missing (Out 1) });
-  longer = ((opened_can, done_can), record { app = OfImage (app_with add); in_one = refl; in_two = refl }, record { same_before = refl; differ = one_is_more (Invoke 0 (Copied (numbers 5 7))) });
+  longer = ((opened_can, done_can), record { app = OfImage (app_with add); in_one = refl; in_two = refl }, record { same_before = refl; differ = one_is_more (Invoke 0 (Copied (numbers 5 7)) false) });
   absent = ((done_can, done_can), inl (refl, refl));
   absent_in_two = ((done_can, answered_can), inr (refl, refl, refl));
   other = (
