@@ -43,9 +43,9 @@ few : (n : ℕ) → nat_lt n (2 ^ 32) ≡ true → n < 2 ^ 32
 few n e = grind (arith, nat_tests)
 
 has_room_at : (solo : Solo) → list_all has_room solo.calls ≡ true → (event : OwnEvent) → HasRoom 1000 solo event
-has_room_at solo e (Open params login) = tt
-has_room_at solo e (Invoke func input) = tt
-has_room_at solo e Close = tt
+has_room_at solo e (Open params login area) = tt
+has_room_at solo e (Invoke func input area) = tt
+has_room_at solo e (Close area) = tt
 has_room_at solo e Cancel = tt
 has_room_at solo e (Seen number steps) = tt
 has_room_at solo e (Back number input) = tt
@@ -55,9 +55,9 @@ has_room_at solo e Limited = tt
 -- ---- events in a row
 
 number_at : (entered : ℕ) (event : OwnEvent) → entered < 2 ^ 32 → HasNumber entered event
-number_at entered (Open params login) few = few
-number_at entered (Invoke func input) few = few
-number_at entered Close few = few
+number_at entered (Open params login area) few = few
+number_at entered (Invoke func input area) few = few
+number_at entered (Close area) few = few
 number_at entered Cancel few = few
 number_at entered (Seen number steps) few = tt
 number_at entered (Back number input) few = tt

@@ -1,12 +1,12 @@
 -- The applications are valid, and the events of each case are those of its history and can come.
 use Rattle.std.proofs.Common.{rules, refl}
 use Rattle.base.specs.Zeros.{zeros}
-use Rattle.own_model.specs.Examples.{at_once, one_panics, step_by_step, woken}
+use Rattle.own_model.specs.Examples.{asks_in_area as in_area, at_once, one_panics, step_by_step, woken}
 use Rattle.solo_cases.specs.Cases.{IsCase}
 use Rattle.solo_cases.specs.Feeding.{image_in}
-use Rattle.solo_cases.specs.Histories.{filled, stored, two_clients}
-use Rattle.solo_cases.specs.declared.cases.TheConstants.{ADDER, AWAITED, UNCANCELLED, BESIDE_A_PANIC, CANCELLED}
-use Rattle.solo_cases.specs.declared.cases.TheConstants.{FILLER, FILLS, PANICKER, PANICS, STORER, STORES, SUM}
+use Rattle.solo_cases.specs.Histories.{filled, stored, stored_beside_area, two_clients}
+use Rattle.solo_cases.specs.declared.cases.TheConstants.{ADDER, ASKS_IN_AREA, AWAITED, UNCANCELLED, BESIDE_A_PANIC, CANCELLED}
+use Rattle.solo_cases.specs.declared.cases.TheConstants.{FILLER, FILLS, PANICKER, PANICS, STORER, STORES, STORES_BESIDE_AREA, SUM}
 use Rattle.solo_cases.specs.declared.cases.TheConstants.{WAITER, STRICT_WAITER}
 use Rattle.ta_isa.specs.InstructionTable.{is_instruction}
 use Rattle.ta_isa.specs.Spelling.{IsValid, are_allowed}
@@ -117,5 +117,23 @@ uncancelled = record {
   valid = valid_strict_waiter;
   can = refl;
   history = record { cpus = 2; threads = 2; frames = 2; moves = two_clients; session = 2 };
+  own = refl;
+}
+
+pub asks_in_area : IsCase WAITER ASKS_IN_AREA
+unfolding zeros
+asks_in_area = record {
+  valid = valid_waiter;
+  can = refl;
+  history = record { cpus = 1; threads = 1; frames = 1; moves = in_area; session = 1 };
+  own = refl;
+}
+
+pub stores_beside_area : IsCase STORER STORES_BESIDE_AREA
+unfolding zeros
+stores_beside_area = record {
+  valid = valid_storer;
+  can = refl;
+  history = record { cpus = 1; threads = 1; frames = 1; moves = stored_beside_area; session = 1 };
   own = refl;
 }

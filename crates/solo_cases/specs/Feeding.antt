@@ -9,7 +9,7 @@ use Rattle.own_model.specs.Examples.{numbers, opened}
 use Rattle.own_model.specs.declared.own_event.BackInput.TheVariants as back
 use Rattle.own_model.specs.Solo.{Answered, OwnCall, Solo, step}
 use Rattle.own_model.specs.declared.own_event.OwnEvent.{OwnEvent}
-use Rattle.own_model.specs.declared.own_event.OwnEvent.TheVariants.{Open, Invoke, Close, Cancel, Seen, Back, Out, Limited}
+use Rattle.own_model.specs.declared.own_event.OwnEvent.TheVariants.{Invoke, Close, Cancel, Seen, Back, Out, Limited}
 use Rattle.own_model.specs.declared.own_event.OwnInput.TheVariants.{Copied, Unread}
 use Rattle.rpc_msgs.specs.Answer.{nothing_read}
 use Rattle.solo_cases.specs.declared.fed.Fed.{Fed}
@@ -36,11 +36,12 @@ application_in code = OfImage (app_with (image_in code))
 -- the event that an entry of a table is
 abbrev pub event_in : Fed → OwnEvent
 event_in fed.Open = opened
-event_in (fed.Add a b) = Invoke 0 (Copied (numbers a b))
-event_in (fed.Invoke func) = Invoke func (Copied no_params)
-event_in (fed.Fill func len) = Invoke func (Copied (record no_params { p0 = Memref way.Out (replicate len 0) len }))
-event_in (fed.InvokeOfDead func) = Invoke func Unread
-event_in fed.Close = Close
+event_in (fed.Add a b) = Invoke 0 (Copied (numbers a b)) false
+event_in (fed.Invoke func) = Invoke func (Copied no_params) false
+event_in (fed.InvokeInArea func) = Invoke func (Copied no_params) true
+event_in (fed.Fill func len) = Invoke func (Copied (record no_params { p0 = Memref way.Out (replicate len 0) len })) false
+event_in (fed.InvokeOfDead func) = Invoke func Unread false
+event_in fed.Close = Close false
 event_in fed.Cancel = Cancel
 event_in (fed.Seen call steps) = Seen call steps
 event_in (fed.Buffer call) = Back call back.Buffer

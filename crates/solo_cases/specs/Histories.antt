@@ -1,5 +1,6 @@
 -- The histories of the cases, beside those that are worked out elsewhere.
 use Rattle.std.specs.Prelude.{ℕ, List, [], ◌∷◌, ◌++◌}
+use Rattle.kernel_model.specs.AreaExamples.{makes_object}
 use Rattle.kernel_model.specs.RpcExamples.{replies}
 use Rattle.kernel_model.specs.Worked.{Move, argument, both, call, call_of, cancels, closes, half, head, invokes}
 use Rattle.kernel_model.specs.Worked.{invokes_by, offer, open_argument, opens, param, resume, resume_of, word}
@@ -24,6 +25,10 @@ went_well = replies (read_of 0x40010014 (half 0) ∷ [])
 
 abbrev pub stored : List Move
 stored = opens ++ call 0 9 (invokes 1 0) ++ offer 0 9 0 0x40010000 0x77 ++ opened_file ++ went_well ++ resume 0 9 0
+
+-- the same by a call that brings an area along, where the argument of each request stands
+abbrev pub stored_beside_area : List Move
+stored_beside_area = opens ++ makes_object
 
 -- ---- two clients, 0 and 6, with a session each, and two threads
 

@@ -111,6 +111,35 @@ pub(crate) const STORES: [Fed; 12] = [
     Fed::Out(1),
 ];
 
+/// Call 1 asks in its area, and wants no buffer.
+pub(crate) const ASKS_IN_AREA: [Fed; 6] = [
+    Fed::Open,
+    Fed::Out(0),
+    Fed::InvokeInArea { func: 250 },
+    Fed::Out(1),
+    Fed::Reply(1),
+    Fed::Out(1),
+];
+
+/// The object and its header again: bytes go with what call 1 asks for, so that it wants a buffer though it has an area.
+pub(crate) const STORES_BESIDE_AREA: [Fed; 12] = [
+    Fed::Open,
+    Fed::Out(0),
+    Fed::InvokeInArea { func: 0 },
+    Fed::Out(1),
+    Fed::Buffer(1),
+    Fed::Out(1),
+    Fed::Opened {
+        call: 1,
+        descriptor: 3,
+    },
+    Fed::Out(1),
+    Fed::Reply(1),
+    Fed::Out(1),
+    Fed::Nothing(1),
+    Fed::Out(1),
+];
+
 /// Call 1 waits for its time and call 2 for call 1, which gets no buffer at first and wakes call 2 in its second.
 pub(crate) const AWAITED: [Fed; 24] = [
     Fed::Open,

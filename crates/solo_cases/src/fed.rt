@@ -1,5 +1,5 @@
 //! What sessions are fed with, as tables hold it.
-ghost use Rattle.std.specs.Prelude.{◌≡◌, IfOk, replicate};
+ghost use Rattle.std.specs.Prelude.{◌≡◌, IfOk, false, replicate};
 ghost use Rattle.job_model.specs.Point.{no_params};
 ghost use Rattle.own_model.specs.Examples.{nobody};
 ghost use Rattle.rpc_msgs.specs.Answer.{nothing_read};
@@ -20,6 +20,8 @@ pub(crate) enum Fed {
     Add { a: u32, b: u32 },
     /// An invoke of a function without parameters.
     Invoke { func: u32 },
+    /// The same of a call that has an area.
+    InvokeInArea { func: u32 },
     /// An invoke of a function with room for so many bytes, which may come back.
     Fill { func: u32, len: u8 },
     /// An invoke whose parameters weren't read, since the instance was dead.
@@ -62,11 +64,12 @@ fn params_of(p0: GpParam) -> CopiedParams
 
 /// An invoke with one parameter at most.
 fn invoke(func: u32, p0: GpParam) -> OwnEvent
-    ensures { result ≡ OwnEvent.Invoke func (OwnInput.Copied (record no_params { p0 = p0 })) }
+    ensures { result ≡ OwnEvent.Invoke func (OwnInput.Copied (record no_params { p0 = p0 })) false }
 {
     OwnEvent::Invoke {
         func,
         input: OwnInput::Copied(params_of(p0)),
+        area: false,
     }
 }
 
@@ -94,11 +97,12 @@ fn room(alloc: Global, len: u8) -> Result<GpParam, NoMemory>
 
 /// An open without parameters.
 fn opening() -> OwnEvent
-    ensures { result ≡ OwnEvent.Open no_params nobody }
+    ensures { result ≡ OwnEvent.Open no_params nobody false }
 {
     OwnEvent::Open {
         params: params_of(GpParam::Empty),
         login: NOBODY,
+        area: false,
     }
 }
 
@@ -127,12 +131,18 @@ pub(crate) fn event_of(alloc: Global, fed: Fed) -> Result<OwnEvent, NoMemory>
         Fed::Open => opening(),
         Fed::Add { a, b } => invoke(0, numbers(a, b)),
         Fed::Invoke { func } => invoke(func, GpParam::Empty),
+        Fed::InvokeInArea { func } => OwnEvent::Invoke {
+            func,
+            input: OwnInput::Copied(params_of(GpParam::Empty)),
+            area: true,
+        },
         Fed::Fill { func, len } => invoke(func, room(alloc, len)?),
         Fed::InvokeOfDead { func } => OwnEvent::Invoke {
             func,
             input: OwnInput::Unread,
+            area: false,
         },
-        Fed::Close => OwnEvent::Close,
+        Fed::Close => OwnEvent::Close { area: false },
         Fed::Cancel => OwnEvent::Cancel,
         Fed::Seen { call, steps } => OwnEvent::Seen { call, steps },
         Fed::Buffer(call) => back(call, BackInput::Buffer),

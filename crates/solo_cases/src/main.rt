@@ -10,8 +10,8 @@ mod fed;
 mod sessions;
 
 use crate::cases::{
-    ADDER, AWAITED, BESIDE_A_PANIC, CANCELLED, FILLER, FILLS, PANICKER, PANICS, STORER, STORES,
-    STRICT_WAITER, SUM, UNCANCELLED, WAITER,
+    ADDER, ASKS_IN_AREA, AWAITED, BESIDE_A_PANIC, CANCELLED, FILLER, FILLS, PANICKER, PANICS,
+    STORER, STORES, STORES_BESIDE_AREA, STRICT_WAITER, SUM, UNCANCELLED, WAITER,
 };
 use crate::sessions::answers;
 use anyhow::Result;
@@ -26,5 +26,13 @@ fn main(rt: HostRuntime) -> Result<()> {
     answers(&rt, alloc, "a panic", &PANICKER, &PANICS)?;
     answers(&rt, alloc, "beside a panic", &PANICKER, &BESIDE_A_PANIC)?;
     answers(&rt, alloc, "a cancel", &STRICT_WAITER, &CANCELLED)?;
-    answers(&rt, alloc, "beside a cancel", &STRICT_WAITER, &UNCANCELLED)
+    answers(&rt, alloc, "beside a cancel", &STRICT_WAITER, &UNCANCELLED)?;
+    answers(&rt, alloc, "in an area", &WAITER, &ASKS_IN_AREA)?;
+    answers(
+        &rt,
+        alloc,
+        "an object beside an area",
+        &STORER,
+        &STORES_BESIDE_AREA,
+    )
 }

@@ -27,3 +27,9 @@ answers-requires-8 c = worked.cancelled
 
 pub answers-requires-9 : goal.answers-requires-9
 answers-requires-9 c = worked.uncancelled
+
+pub answers-requires-10 : goal.answers-requires-10
+answers-requires-10 c = worked.asks_in_area
+
+pub answers-requires-11 : goal.answers-requires-11
+answers-requires-11 c = worked.stores_beside_area
