@@ -51,15 +51,15 @@ of_only : (boot : Boot) (history : List Event) (session : ℕ) (app : App) (even
     → boot.apps ≡ app ∷ [] → is_single (OfImage app) ≡ false → BeginWithOpen events → own_events (booted boot []) history session ≡ events
     → IsSessionOf (booted boot []) history session (OfImage app)
 of_only boot history session app [] legal only shares opens own = absurd opens
-of_only boot history session app (Invoke func input ∷ events) legal only shares opens own = absurd opens
-of_only boot history session app (Close ∷ events) legal only shares opens own = absurd opens
+of_only boot history session app (Invoke func input area ∷ events) legal only shares opens own = absurd opens
+of_only boot history session app (Close area ∷ events) legal only shares opens own = absurd opens
 of_only boot history session app (Cancel ∷ events) legal only shares opens own = absurd opens
 of_only boot history session app (Seen call steps ∷ events) legal only shares opens own = absurd opens
 of_only boot history session app (Back call input ∷ events) legal only shares opens own = absurd opens
 of_only boot history session app (Out call ∷ events) legal only shares opens own = absurd opens
 of_only boot history session app (Limited ∷ events) legal only shares opens own = absurd opens
-of_only boot history session app (Open params login ∷ events) legal only shares opens own =
-    let found = opened_app (booted boot []) history session params login events legal own in record {
+of_only boot history session app (Open params login area ∷ events) legal only shares opens own =
+    let found = opened_app (booted boot []) history session params login area events legal own in record {
       legal = legal;
       of_app = found.1 ∙ ap (λ (a : Application). Some a)
           (option_and_then_some (app_of (booted boot [])) _ found.0 found.1

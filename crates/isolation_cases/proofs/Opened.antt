@@ -1,5 +1,5 @@
 -- A session to which an open has come has an application.
-use Rattle.std.proofs.Common.{◌⊎◌, inl, inr, ◌≡◌, ℕ, zero, suc, ◌<◌, ◌≤◌, List, [], ◌∷◌, ◌++◌, Option}
+use Rattle.std.proofs.Common.{◌⊎◌, inl, inr, ◌≡◌, ℕ, zero, suc, ◌<◌, ◌≤◌, Bool, List, [], ◌∷◌, ◌++◌, Option}
 use Rattle.std.proofs.Common.{Some, None, refl, ap, subst, sym, ◌∙◌, arith}
 use Rattle.std.specs.Prelude.{◌==◌, ◌&&◌, not, slice_get}
 use Rattle.std.specs.List.{list_any}
@@ -35,9 +35,9 @@ use Rattle.ta_params.specs.declared.login.Login.{Login}
 -- ---- events that are no opens
 
 abbrev IsNoOpen : OwnEvent → Type 0
-IsNoOpen (Open params login) = ⊥
-IsNoOpen (Invoke func input) = Unit {0}
-IsNoOpen Close = Unit {0}
+IsNoOpen (Open params login area) = ⊥
+IsNoOpen (Invoke func input area) = Unit {0}
+IsNoOpen (Close area) = Unit {0}
 IsNoOpen Cancel = Unit {0}
 IsNoOpen (Seen call steps) = Unit {0}
 IsNoOpen (Back call input) = Unit {0}
@@ -60,12 +60,12 @@ call_opens_none : (session : ℕ) (notes : Notes) (slot : ℕ) (call : PendingCa
     → KeepsAny (λ n. option_map_or (with_number n slot call) found n) → NoOpens notes.log
     → NoOpens (option_map_or (with_number notes slot call) found notes).log
 call_opens_none session notes slot call None keeps none = none
-call_opens_none session notes slot call (Some (Open params login)) keeps none =
+call_opens_none session notes slot call (Some (Open params login area)) keeps none =
     let unnamed : call.uuid ≡ None = keeps no_notes in
     let named : call.uuid ≡ Some [] = keeps (record no_notes { uuid = Some [] }) in
     let no : None ≡ Some [] = sym unnamed ∙ named in absurd cc
-call_opens_none session notes slot call (Some (Invoke func input)) keeps none = one_more notes.log _ none tt
-call_opens_none session notes slot call (Some Close) keeps none = one_more notes.log _ none tt
+call_opens_none session notes slot call (Some (Invoke func input area)) keeps none = one_more notes.log _ none tt
+call_opens_none session notes slot call (Some (Close area)) keeps none = one_more notes.log _ none tt
 call_opens_none session notes slot call (Some Cancel) keeps none = one_more notes.log _ none tt
 call_opens_none session notes slot call (Some (Seen number steps)) keeps none = one_more notes.log _ none tt
 call_opens_none session notes slot call (Some (Back number input)) keeps none = one_more notes.log _ none tt
@@ -230,20 +230,20 @@ from_boot boot (suc n) most history at = early_on boot (suc n) most [] (first_ke
     from_one : (m : ℕ) → 1 ≤ suc m
     from_one m = omega arith
 
-by_log : (boot : Booted) (notes : Notes) (log : List Logged) (params : CopiedParams) (login : Login)
-    (rest : List OwnEvent) → notes.log ≡ log → events_in log ≡ Open params login ∷ rest → IsSettled boot notes
+by_log : (boot : Booted) (notes : Notes) (log : List Logged) (params : CopiedParams) (login : Login) (area : Bool)
+    (rest : List OwnEvent) → notes.log ≡ log → events_in log ≡ Open params login area ∷ rest → IsSettled boot notes
     → (app : Application) × (option_and_then (app_of boot) notes.uuid ≡ Some app)
-by_log boot notes [] params login rest is opens settled = absurd cc
-by_log boot notes (first ∷ log) params login rest is opens (inr named) = named
-by_log boot notes (first ∷ log) params login rest is opens (inl none) =
-    let came : first.0 ≡ Open params login = cc in
+by_log boot notes [] params login area rest is opens settled = absurd cc
+by_log boot notes (first ∷ log) params login area rest is opens (inr named) = named
+by_log boot notes (first ∷ log) params login area rest is opens (inl none) =
+    let came : first.0 ≡ Open params login area = cc in
     let no : ⊥ = subst IsNoOpen came (subst NoOpens is none).0 in absurd no
 
 -- in a legal history, where an open is the first event of a session, it has an application
 pub opened_app : (boot : Booted) (history : List Event) (session : ℕ) (params : CopiedParams) (login : Login)
-    (rest : List OwnEvent) → IsLegal boot history → own_events boot history session ≡ Open params login ∷ rest
+    (area : Bool) (rest : List OwnEvent) → IsLegal boot history → own_events boot history session ≡ Open params login area ∷ rest
     → (app : Application) × (own_app boot history session ≡ Some app)
-opened_app boot history session params login rest legal opens =
+opened_app boot history session params login area rest legal opens =
     let last = some_of (kernel_after boot history) legal.follows in
-    by_log boot (noted boot history session) (noted boot history session).log params login rest refl opens
+    by_log boot (noted boot history session) (noted boot history session).log params login area rest refl opens
     (from_boot boot session (steps_in history) history (from_first boot history last.0 last.1))

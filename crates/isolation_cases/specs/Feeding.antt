@@ -18,7 +18,7 @@ pub record HasOneApp (boot : Boot) : Type 0 where
 
 -- the first event is an open
 abbrev pub BeginWithOpen : List OwnEvent → Type 0
-BeginWithOpen (Open params login ∷ events) = Unit {0}
+BeginWithOpen (Open params login area ∷ events) = Unit {0}
 BeginWithOpen _ = ⊥
 
 -- they are those of a session of that application

@@ -22,13 +22,25 @@ fn back_word(input: &BackInput) -> &'static str {
     }
 }
 
+/// Behind the word of a call that comes in: whether it has an area.
+fn area_word(area: bool) -> &'static str {
+    if area { " area" } else { "" }
+}
+
 /// Tells an event: `open`, `invoke FUNCTION INPUT`, `close`, `cancel`, `seen CALL STEPS`, `back CALL INPUT`, `out CALL` or
-/// `limited`. Numbers are decimal.
+/// `limited`; the first three with ` area` behind them where the call has one. Numbers are decimal.
 fn tell_event(event: &OwnEvent, told: &mut String) -> Result<()> {
     match event {
-        OwnEvent::Open { .. } => write!(told, "open")?,
-        OwnEvent::Invoke { func, input } => write!(told, "invoke {func} {}", input_word(input))?,
-        OwnEvent::Close => write!(told, "close")?,
+        OwnEvent::Open { area, .. } => write!(told, "open{}", area_word(*area))?,
+        OwnEvent::Invoke { func, input, area } => {
+            write!(
+                told,
+                "invoke {func} {}{}",
+                input_word(input),
+                area_word(*area)
+            )?;
+        }
+        OwnEvent::Close { area } => write!(told, "close{}", area_word(*area))?,
         OwnEvent::Cancel => write!(told, "cancel")?,
         OwnEvent::Seen { call, steps } => write!(told, "seen {call} {steps}")?,
         OwnEvent::Back { call, input } => write!(told, "back {call} {}", back_word(input))?,
