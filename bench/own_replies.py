@@ -6,15 +6,16 @@ application is a generator that yields what it asks for, in the place of instruc
 repository
 
     bench/own_replies.py | diff - crates/solo_cases/stdout
-    bench/own_replies.py histories | diff - crates/isolation_cases/stdout
+    bench/own_replies.py histories | diff - <(grep -v '^  events ' crates/isolation_cases/stdout)
 
 say nothing. The histories from which the events are read off stand in `specs/Histories.antt` of the one crate and in
-`stdin` of the other; they were read by hand.
+`stdin` of the other; they were read by hand. Behind an event of a call that comes in, `area` says that it has an area.
 """
 
 import sys
 
 SUCCESS, CANCEL, BAD_PARAMETERS, OUT_OF_MEMORY, TARGET_DEAD = 0, 0xFFFF0002, 0xFFFF0006, 0xFFFF000C, 0xFFFF3024
+HAVE_PAYLOADS = {"create", "write"}  # of what the applications below ask for
 
 
 class Panic(Exception):
@@ -75,8 +76,8 @@ def waits_and_panics(call):
 # ---- a session
 
 class Call:
-    def __init__(self, kind, func=0, params=None):
-        self.kind, self.func, self.params = kind, func, params
+    def __init__(self, kind, area=False, func=0, params=None):
+        self.kind, self.area, self.func, self.params = kind, area, func, params
         self.seen = self.buffer = False
         self.phase, self.job, self.asked = "waits", None, None
         self.result, self.origin, self.told, self.wakes = None, 3, False, None
@@ -108,18 +109,18 @@ class Session:
         self.holder, call.phase = number, "runs"
         call.job = self.invoke(call) if call.kind == "invoke" else iter(())
 
-    def open(self):
+    def open(self, area):
         self.there = True
-        self.comes_in(Call("open"))
+        self.comes_in(Call("open", area))
 
-    def call(self, func, params=None):
-        call = Call("invoke", int(func), params)
+    def call(self, area, func, params=None):
+        call = Call("invoke", area, int(func), params)
         if self.dead:
             call.ends(TARGET_DEAD)
         self.comes_in(call)
 
-    def close(self):
-        self.comes_in(Call("close"))
+    def close(self, area):
+        self.comes_in(Call("close", area))
 
     def cancel(self):
         call = Call("settled")
@@ -190,7 +191,9 @@ class Session:
         elif call.wakes is not None:
             wanted = f"wake {call.wakes}"
         if wanted:
-            return wanted if call.buffer else "alloc"
+            has_payload = call.phase == "asks" and call.asked.split()[0] in HAVE_PAYLOADS
+            is_placed = call.buffer or call.area and not has_payload
+            return wanted if is_placed else "alloc"
         if call.buffer:
             call.buffer = False
             return "free"
@@ -209,16 +212,17 @@ class Session:
 
     def happens(self, event):
         word, *rest = event.split()
+        area = rest[-1:] == ["area"]
         if word == "open":
-            return self.open()
+            return self.open(area)
         if word == "add":
-            return self.call(0, (int(rest[0]), int(rest[1])))
+            return self.call(area, 0, (int(rest[0]), int(rest[1])))
         if word == "fill":
-            return self.call(rest[0], bytes(int(rest[1])))
+            return self.call(area, rest[0], bytes(int(rest[1])))
         if word == "invoke":
-            return self.call(rest[0])
+            return self.call(area, rest[0])
         if word == "close":
-            return self.close()
+            return self.close(area)
         if word == "cancel":
             return self.cancel()
         if word == "seen":
@@ -250,6 +254,9 @@ CASES = [
      "cancel, out 5, close, out 6"),
     ("beside a cancel", waits_and_panics,
      "open, out 0, invoke 100, out 1, limited, buffer 1, out 1, reply 1, out 1, nothing 1, out 1, limited, close, out 2"),
+    ("in an area", waits, "open, out 0, invoke 250 area, out 1, reply 1, out 1"),
+    ("an object beside an area", stores,
+     "open, out 0, invoke 0 area, out 1, buffer 1, out 1, opened 1 3, out 1, reply 1, out 1, nothing 1, out 1"),
 ]
 
 # ---- the histories: a title, the application, and the events of some sessions by their numbers
@@ -266,6 +273,7 @@ HISTORIES = [
          "buffer 1, out 1, reply 2, out 2, reply 1, out 1, nothing 1, out 1, reply 2, out 2, nothing 2, out 2"}),
     ("cancel-of-a-masked-call", waits,
      {1: "open, out 0, invoke 250, out 1, cancel, out 2, seen 1, buffer 1, out 1, reply 1, out 1, nothing 1, out 1"}),
+    ("rpc-argument-beside-the-message", waits, {1: "open, out 0, invoke 250 area, out 1, reply 1, out 1"}),
     ("thread-limit-and-session-numbers", adds,
      {1: "open, limited, out 0", 2: "open, limited, out 0", 3: "open, out 0"}),
     ("panic-leaves-other-sessions", panics,

@@ -172,6 +172,9 @@ def check_examples(comparison):
     check_folder(comparison)
     said = [entry.note for entry in plays.lay_out(expected.TRACE, expected.OUTPUT) if entry.printed]
     comparison.same("annotate.py at a play of calls that are refused", said, expected.OUTPUT_NOTES)
+    trace = lift.lifted(expected.AREA_SCRIPT, shipped.SCRIPTS)
+    said = [entry.note for entry in plays.lay_out(trace, expected.AREA_OUTPUT) if entry.printed]
+    comparison.same("annotate.py at a play of calls with areas", said, expected.AREA_NOTES)
     for trace, output in expected.NO_PLAYS:
         comparison.same(f"annotate.py at {trace!r}", laid_out(trace, output), None)
     for name in ("annotate.py", "answers.py"):

@@ -177,8 +177,11 @@ NOTES = {
         ),
         "ret 0 00000002 00000000 00000000 00000000 00000000 00000000 00000000 00000000": "CALLS_REVISION 2.0",
         "ret 0 00000004 00000000 00000000 00000000 00000000 00000000 00000000 00000000": "GET_OS_REVISION 4.0",
-        "ret 0 00000007 00000014 00000000 00000000 00000000 00000000 00000000 00000000": (
-            "ENOTAVAIL, capabilities: dynamic, null reference"
+        "ret 0 00000000 00000054 00000000 00000004 00000000 00000000 00000000 00000000": (
+            "OK, capabilities: dynamic, null reference, RPC argument of 4 parameters"
+        ),
+        "ret 0 00000007 00000054 00000000 00000000 00000000 00000000 00000000 00000000": (
+            "ENOTAVAIL, capabilities: dynamic, null reference, RPC argument"
         ),
         "ret 0 00000000 00000004 00000000 00000000 00000000 00000000 00000000 00000000": "OK, threads 4",
         "ret 0 ffffffff 00000000 00000000 00000000 00000000 00000000 00000000 00000000": "UNKNOWN_FUNCTION",
@@ -250,6 +253,42 @@ OUTPUT_NOTES = [
     "OK",
     "cmd INVOKE_COMMAND; session 9; ret BAD_PARAMETERS; origin TEE",
     "cmd CANCEL; session 9; ret BAD_PARAMETERS; origin TEE",
+]
+
+# Another, as a script: an invoke with an area behind its one parameter, whose application waits. There stands the request,
+# which goes out without a buffer; then the result of the invoke; and a call with a cookie that nothing has.
+AREA_SCRIPT = f"""image waits ../../examples/applications/wait.hex
+argument opens open {FIRST}
+argument invokes invoke 1 250 value_inout 5 7
+boot 1 1 1
+ta {FIRST} $waits
+mem 40000000 $opens
+smc 0 9 CALL_WITH_RPC_ARG argument=40000000
+write 0 40000000 $invokes
+smc 0 9 CALL_WITH_RPC_ARG argument=40000000
+show 0 40000040 64
+show 0 40000014 8
+smc 0 9 RETURN_FROM_RPC thread=0
+show 0 40000014 8
+smc 0 9 CALL_WITH_REGD_ARG a2=31
+"""
+AREA_OUTPUT = """ret 0 00000000 00000000 00000000 00000000 00000000 00000000 00000000 00000000
+ret 0 ffff0005 00000000 00000000 00000000 00000000 00000000 00000000 00000000
+mem 0 40000040 05000000000000000000000000000000000000000000ffff0000000001000000\
+0100000000000000fa0000000000000000000000000000000000000000000000
+mem 0 40000014 0000000000000000
+ret 0 00000000 00000000 00000000 00000000 00000000 00000000 00000000 00000000
+mem 0 40000014 0000000004000000
+ret 0 00000004 00000000 00000000 00000000 00000000 00000000 00000000 00000000
+"""
+AREA_NOTES = [
+    "OK",
+    "CMD, cookie 0x0, thread 0",
+    "Suspend; cmd SUSPEND; ret GENERIC; num_params 1; parameter 0: value_in p 250, q 0, s 0",
+    "ret SUCCESS",
+    "OK",
+    "ret SUCCESS; origin TRUSTED_APP",
+    "EBADADDR",
 ]
 
 # Traces that are none, with outputs that aren't theirs.

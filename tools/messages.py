@@ -16,13 +16,16 @@ ARGUMENT_BYTES = formats.HEAD_BYTES + formats.PARAMETER_BYTES * formats.MOST_PAR
 
 
 class Places:
-    """Where arguments and lent buffers lie, the latest first."""
+    """Where arguments, areas and lent buffers lie, the latest first."""
 
     def __init__(self):
         self.known = []
 
     def argument_at(self, address):
         self.add(address, ARGUMENT_BYTES, formats.COMMANDS)
+
+    def area_at(self, address):
+        self.add(address, formats.AREA_BYTES, formats.RPC_COMMANDS)
 
     def buffer_at(self, address):
         self.add(address, formats.BUFFER_BYTES, formats.RPC_COMMANDS)
@@ -35,7 +38,7 @@ class Places:
         """What shown bytes say, and the result, as (result, origin), where they are an argument's; each may be None."""
         for start, length, commands in self.known:
             if start <= address < start + length:
-                return said(address - start, data, commands)
+                return said(address - start, data[: start + length - address], commands)
         return None, None
 
 

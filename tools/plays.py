@@ -56,12 +56,32 @@ def with_fault(lines, place, output, kind):
         yield Entry(place, "", output, said)
 
 
+class Lanes:
+    """The RAM of each processor as far as lines of the trace have written it, and zeros elsewhere."""
+
+    def __init__(self):
+        self.filled = {}
+        self.written = collections.defaultdict(dict)
+
+    def fill(self, address, digits):
+        self.filled |= enumerate(bytes.fromhex(digits), int(address, 16))
+
+    def write(self, cpu, address, digits):
+        self.written[cpu] |= enumerate(bytes.fromhex(digits), int(address, 16))
+
+    def half(self, cpu, address):
+        """A number of four bytes."""
+        places = range(address, address + 4)
+        return int.from_bytes([self.written[cpu].get(at, self.filled.get(at, 0)) for at in places], "little")
+
+
 class Play:
-    """What is known of a run up to a line: each processor's last answer and function, and the arguments in RAM."""
+    """What is known of a run up to a line: each processor's last answer, function and RAM, and the arguments there."""
 
     def __init__(self):
         self.last_answer = collections.defaultdict(lambda: [0] * 8)
         self.function = {}
+        self.lanes = Lanes()
         self.lends = set()  # the threads whose call asked for a buffer
         self.places = messages.Places()
 
@@ -78,6 +98,8 @@ class Play:
 
     def item(self, number, item, operands, printed):
         """What an item has printed, and what that says, as further fields of an Entry."""
+        if item in ("mem", "write"):
+            (self.lanes.fill if item == "mem" else self.lanes.write)(*operands)
         if item in ("smc", "enter"):
             self.enter(operands[0], operands[2:])
         if item in ("smc", "leave"):
@@ -92,13 +114,17 @@ class Play:
         return ()
 
     def enter(self, cpu, registers):
-        """Reads what an entry brings: its function, and where an argument or a lent buffer lies."""
+        """Reads what an entry brings: its function, and where an argument, its area or a lent buffer lies. Where an argument
+        lies that a cookie names isn't known."""
         last = self.last_answer[cpu]
         a0, a1, a2, a3 = (last[int(word[1])] if word[0] == "=" else int(word, 16) for word in registers[:4])
         address = a1 << 32 | a2
         self.function[cpu] = a0
-        if a0 == formats.CALL_WITH_ARG:
+        if a0 in (formats.CALL_WITH_ARG, formats.CALL_WITH_RPC_ARG):
             self.places.argument_at(address)
+        count = self.lanes.half(cpu, address + formats.COUNT_AT)
+        if a0 == formats.CALL_WITH_RPC_ARG and count <= formats.MOST_PARAMETERS:
+            self.places.area_at(address + formats.HEAD_BYTES + formats.PARAMETER_BYTES * count)
         if a0 == formats.RETURN_FROM_RPC and a3 in self.lends and address:
             self.places.buffer_at(address)
 
@@ -112,10 +138,10 @@ class Play:
             return function, f"{function} {'-'.join(re.findall('^.{8}|.{12}$|.{4}', digits))}"
         if function in formats.REVISION_FUNCTIONS:
             return function, f"{function} {a0}.{a1}"
-        if a0 in formats.RPCS and function in ("CALL_WITH_ARG", "RETURN_FROM_RPC"):
+        if a0 in formats.RPCS and function in formats.YIELDING_FUNCTIONS:
             return self.rpc(formats.RPCS[a0], a1, a2, a3)
         name = formats.CODES.get(a0, f"{a0:08x}")
-        return name, name + said_beside(function, a0, a1)
+        return name, name + said_beside(function, a0, a1, a3)
 
     def rpc(self, name, a1, a2, thread):
         """An answer that asks for something."""
@@ -127,13 +153,13 @@ class Play:
         return name, f"{name}{cookie}, thread {thread}"
 
 
-def said_beside(function, a0, a1):
+def said_beside(function, a0, a1, a3):
     """What an answer with a code says beside it."""
     if function == "GET_THREAD_COUNT" and a0 == 0:
         return f", threads {a1}"
     if function == "EXCHANGE_CAPABILITIES":
         names = [name for bit, name in enumerate(formats.CAPABILITIES) if a1 >> bit & 1]
-        return f", capabilities: {', '.join(names)}"
+        return f", capabilities: {', '.join(names)}" + (f" of {a3} parameters" if a3 else "")
     return ""
 
 
