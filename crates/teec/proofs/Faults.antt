@@ -151,7 +151,7 @@ stopped_so {A = A} limits smcs has_room stage fault here is stops =
 
 -- ---- a call, as contracts see it
 
-since : (old smcs new : List Smc) → new ≡ old ++ smcs → smcs ≡ made_since old new
+pub since : (old smcs new : List Smc) → new ≡ old ++ smcs → smcs ≡ made_since old new
 since old smcs new same = sym (ap (λ (list : List Smc). drop (length old) list) same ∙ drop-append_seam old smcs)
 
 pub has_its_cause : {A : Type 0} (limits : Limits) (call : Call) (old : Scene) (old_made : List Smc) (result : Result A TeecFault) (new : Scene) (new_made : List Smc) (has_room : Regs → Bool)

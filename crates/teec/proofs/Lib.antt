@@ -1,4 +1,5 @@
 pub mod Answering
+pub mod Bounds
 pub mod Counting
 pub mod Faults
 pub mod Going

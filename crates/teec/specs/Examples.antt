@@ -7,6 +7,7 @@ use Rattle.teec_calls.specs.declared.answer.RpcReturn.{RpcReturn}
 use Rattle.teec_calls.specs.Answers.{call_with_arg, return_from_rpc}
 use Rattle.teec.specs.declared.fault.TeecFault.TheVariants.{Retried, Rounds, Strange}
 use Rattle.teec.specs.declared.limits.Limits.{Limits}
+use Rattle.teec.specs.Bounds.{most_smcs}
 use Rattle.teec.specs.Causes.{is_strange, refusals_in, returns_in}
 use Rattle.teec.specs.Rounds.{Calls, Cancels, Ended, Failed, Resumes, stage_after}
 
@@ -62,6 +63,10 @@ pub record Examples : Type 0 where
   pub answered_meanwhile : stage_after (limits (Some 2)) (interrupt ∷ interrupt ∷ interrupt ∷ []) ≡ Resumes 2 interrupted
   pub no_cancel_at_the_bound : stage_after (limits (Some 3)) (interrupt ∷ interrupt ∷ interrupt ∷ []) ≡ Failed (Rounds 2)
   pub never_at_none : stage_after (limits (Some 0)) (interrupt ∷ []) ≡ Resumes 1 interrupted
+  -- three tries, the cancellation, and the answers to two returns
+  pub five_at_most : most_smcs (limits None) ≡ 5
+  pub six_at_most : most_smcs (limits (Some 1)) ≡ 6
+  pub makes_a_sixth : stage_after (limits (Some 1)) (no_thread ∷ no_thread ∷ interrupt ∷ ok ∷ interrupt ∷ []) ≡ Resumes 2 interrupted
   -- strange answers
   pub strange : stage_after (limits None) (bad_address ∷ []) ≡ Failed (Strange bad_address)
   pub strange_to_a_cancel : stage_after (limits (Some 1)) (interrupt ∷ bad_address ∷ []) ≡ Failed (Strange bad_address)

@@ -1,6 +1,7 @@
 ghost use Rattle.std.specs.Prelude.{◌≡◌, ◌≤◌, ℕ, [], length, All, None, Some, Err, IfOk, IfErr, OnOk, OnErr, IsErrOf};
 ghost use Rattle.msg_args.specs.Attribute.{IsAllowed};
 ghost use Rattle.teec.specs.declared.fault.TeecFault.{TeecFault as AnyFault};
+ghost use Rattle.teec.specs.Bounds.{most_smcs};
 ghost use Rattle.teec.specs.Calls.{Call, call_of, close_call, invoke_call, open_call};
 ghost use Rattle.teec.specs.Causes.{HasItsCause};
 ghost use Rattle.teec.specs.Client.{HasRun, KeepsFault, ends_client, limits_of, made_since};
@@ -103,6 +104,8 @@ impl<W: World> Client<W> {
         // Why it ended.
         ensures causes { self.old.failed ≡ None → HasItsCause (limits_of self.old op.old.cancel_after)
             (made_since (W.made self.old.world) (W.made self.new.world)) (W.has_room self.new.world) result }
+        // How many SMCs were made, whatever was answered.
+        ensures few { length (made_since (W.made self.old.world) (W.made self.new.world)) ≤ most_smcs (limits_of self.old op.old.cancel_after) }
         // What stands afterwards.
         ensures keeps { self.old.failed ≡ None → KeepsFault result self.new }
         ensures retried_stays { (number : ℕ) → IsErrOf result (TeecFault.Retried number) → self.new.storage ≡ self.old.storage }
@@ -136,6 +139,8 @@ impl<W: World> Client<W> {
         // Why it ended.
         ensures causes { self.old.failed ≡ None → HasItsCause (limits_of self.old op.old.cancel_after)
             (made_since (W.made self.old.world) (W.made self.new.world)) (W.has_room self.new.world) result }
+        // How many SMCs were made, whatever was answered.
+        ensures few { length (made_since (W.made self.old.world) (W.made self.new.world)) ≤ most_smcs (limits_of self.old op.old.cancel_after) }
         // What stands afterwards.
         ensures keeps { self.old.failed ≡ None → KeepsFault result self.new }
         ensures retried_stays { (number : ℕ) → IsErrOf result (TeecFault.Retried number) → self.new.storage ≡ self.old.storage }
@@ -171,6 +176,8 @@ impl<W: World> Client<W> {
         // Why it ended.
         ensures causes { self.old.failed ≡ None → HasItsCause (limits_of self.old op.old.cancel_after)
             (made_since (W.made self.old.world) (W.made self.new.world)) (W.has_room self.new.world) result }
+        // How many SMCs were made, whatever was answered.
+        ensures few { length (made_since (W.made self.old.world) (W.made self.new.world)) ≤ most_smcs (limits_of self.old op.old.cancel_after) }
         // What stands afterwards.
         ensures keeps { self.old.failed ≡ None → KeepsFault result self.new }
         ensures retried_stays { (number : ℕ) → IsErrOf result (TeecFault.Retried number) → self.new.storage ≡ self.old.storage }
@@ -204,6 +211,8 @@ impl<W: World> Client<W> {
         // Why it ended.
         ensures causes { self.old.failed ≡ None → HasItsCause (limits_of self.old op.old.cancel_after)
             (made_since (W.made self.old.world) (W.made self.new.world)) (W.has_room self.new.world) result }
+        // How many SMCs were made, whatever was answered.
+        ensures few { length (made_since (W.made self.old.world) (W.made self.new.world)) ≤ most_smcs (limits_of self.old op.old.cancel_after) }
         // What stands afterwards.
         ensures keeps { self.old.failed ≡ None → KeepsFault result self.new }
         ensures retried_stays { (number : ℕ) → IsErrOf result (TeecFault.Retried number) → self.new.storage ≡ self.old.storage }
@@ -232,6 +241,8 @@ impl<W: World> Client<W> {
         // Why it ended.
         ensures causes { self.old.failed ≡ None → HasItsCause (limits_of self.old None)
             (made_since (W.made self.old.world) (W.made self.new.world)) (W.has_room self.new.world) result }
+        // How many SMCs were made, whatever was answered.
+        ensures few { length (made_since (W.made self.old.world) (W.made self.new.world)) ≤ most_smcs (limits_of self.old None) }
         // What stands afterwards.
         ensures keeps { self.old.failed ≡ None → KeepsFault result self.new }
         ensures retried_stays { (number : ℕ) → IsErrOf result (TeecFault.Retried number) → self.new.storage ≡ self.old.storage }

@@ -5,6 +5,7 @@ use Rattle.teec.specs.Calls.{Call, close_call}
 use Rattle.teec.specs.Client.{limits_of}
 use Rattle.teec.specs.Rounds.{Calls, Ended}
 use Rattle.teec.specs.Runs.{Scene, Stopped, Went, moment, scene_of}
+use Rattle.teec.proofs.Bounds.{makes_few}
 use Rattle.teec.proofs.Faults.{has_its_cause}
 use Rattle.teec.proofs.Sending.{close_of, retried_kept, run_stopped, same_storage}
 use Rattle.teec.proofs.client.Client.close.Goals as goal
@@ -41,3 +42,13 @@ pub returns-clause-causes : goal.returns-clause-causes
 returns-clause-causes g c = λ alive.
     has_its_cause (limits_of c.args.self.now None) (close_call c.args.session) (scene_of (g.W.SmcPort.ram c.args.self.now.world) c.args.self.now.storage) (g.W.SmcPort.made c.args.self.now.world) (Ok c.result_in.result) (scene_of (g.W.SmcPort.ram c.finish.new.self.world) c.finish.new.self.storage) (g.W.SmcPort.made c.finish.new.self.world) (g.W.SmcPort.has_room c.finish.new.self.world)
     c.check_alive.ensures.tries (returns-clause-run g c alive)
+
+pub returns-in_err-finish-clause-few : goal.returns-in_err-finish-clause-few
+returns-in_err-finish-clause-few g c =
+    makes_few (limits_of c.args.self.now None) (close_call c.args.session) (scene_of (g.W.SmcPort.ram c.args.self.now.world) c.args.self.now.storage) (g.W.SmcPort.made c.args.self.now.world) c.from_residual-in_err-finish.result (scene_of (g.W.SmcPort.ram c.finish.new.self.world) c.finish.new.self.storage) (g.W.SmcPort.made c.finish.new.self.world) (g.W.SmcPort.has_room c.finish.new.self.world)
+    c.check_alive.ensures.tries (returns-in_err-finish-clause-run g c c.in_ok-check_alive.ensures.alive)
+
+pub returns-clause-few : goal.returns-clause-few
+returns-clause-few g c =
+    makes_few (limits_of c.args.self.now None) (close_call c.args.session) (scene_of (g.W.SmcPort.ram c.args.self.now.world) c.args.self.now.storage) (g.W.SmcPort.made c.args.self.now.world) (Ok c.result_in.result) (scene_of (g.W.SmcPort.ram c.finish.new.self.world) c.finish.new.self.storage) (g.W.SmcPort.made c.finish.new.self.world) (g.W.SmcPort.has_room c.finish.new.self.world)
+    c.check_alive.ensures.tries (returns-clause-run g c c.in_ok-check_alive.ensures.alive)

@@ -6,6 +6,7 @@ use Rattle.teec.specs.Calls.{call_of, invoke_call}
 use Rattle.teec.specs.Client.{limits_of}
 use Rattle.teec.specs.Rounds.{Calls, Ended}
 use Rattle.teec.specs.Runs.{Stopped, Went, moment, scene_of}
+use Rattle.teec.proofs.Bounds.{makes_few}
 use Rattle.teec.proofs.Faults.{has_its_cause}
 use Rattle.teec.proofs.Sending.{invoke_allowed, retried_kept, run_stopped}
 use Rattle.teec.proofs.client.Client.invoke_sending.Goals as goal
@@ -39,3 +40,13 @@ pub returns-clause-causes : goal.returns-clause-causes
 returns-clause-causes g c = λ alive.
     has_its_cause (limits_of c.args.self.now c.args.op.now.cancel_after) (invoke_call c.args.session c.args.func c.args.op.now c.args.sent) (scene_of (g.W.SmcPort.ram c.args.self.now.world) c.args.self.now.storage) (g.W.SmcPort.made c.args.self.now.world) (Ok c.result_in.result) (scene_of (g.W.SmcPort.ram c.run.new.self.world) c.run.new.self.storage) (g.W.SmcPort.made c.run.new.self.world) (g.W.SmcPort.has_room c.run.new.self.world)
     c.check_alive.ensures.tries (returns-clause-run g c alive)
+
+pub returns-in_err-run-clause-few : goal.returns-in_err-run-clause-few
+returns-in_err-run-clause-few g c =
+    makes_few (limits_of c.args.self.now c.args.op.now.cancel_after) (invoke_call c.args.session c.args.func c.args.op.now c.args.sent) (scene_of (g.W.SmcPort.ram c.args.self.now.world) c.args.self.now.storage) (g.W.SmcPort.made c.args.self.now.world) c.from_residual-in_err-run.result (scene_of (g.W.SmcPort.ram c.run.new.self.world) c.run.new.self.storage) (g.W.SmcPort.made c.run.new.self.world) (g.W.SmcPort.has_room c.run.new.self.world)
+    c.check_alive.ensures.tries (returns-in_err-run-clause-run g c c.in_ok-check_alive.ensures.alive)
+
+pub returns-clause-few : goal.returns-clause-few
+returns-clause-few g c =
+    makes_few (limits_of c.args.self.now c.args.op.now.cancel_after) (invoke_call c.args.session c.args.func c.args.op.now c.args.sent) (scene_of (g.W.SmcPort.ram c.args.self.now.world) c.args.self.now.storage) (g.W.SmcPort.made c.args.self.now.world) (Ok c.result_in.result) (scene_of (g.W.SmcPort.ram c.run.new.self.world) c.run.new.self.storage) (g.W.SmcPort.made c.run.new.self.world) (g.W.SmcPort.has_room c.run.new.self.world)
+    c.check_alive.ensures.tries (returns-clause-run g c c.in_ok-check_alive.ensures.alive)
