@@ -141,7 +141,7 @@ int main(void) {
     call("invoke WAIT", 9, SECOND, a);
     uint32_t waiting = a[3];
     resume("lend a buffer", 9, waiting, BUFFER, COOKIE, a);
-    printf("  request %" PRIu64 " under cookie %" PRIx32 ": wait %" PRIu64 " ms\n", get(BUFFER, 4), a[2], get(BUFFER + 40, 8));
+    printf("  command %" PRIu64 " in the buffer of cookie %" PRIx32 ": wait %" PRIu64 " ms\n", get(BUFFER, 4), a[2], get(BUFFER + 40, 8));
     resume("the wait is over", 9, waiting, 0, 0, a);
     resume("the buffer is back", 9, waiting, 0, 0, a);
     result("WAIT", SECOND);
