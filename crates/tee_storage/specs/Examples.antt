@@ -3,12 +3,15 @@ use Rattle.std.specs.Prelude.{◌≡◌, ℕ, [], ◌∷◌, Some, None, replica
 use Rattle.base.specs.NumberMap.{NumberMap, get, insert, remove}
 use Rattle.tee_storage.specs.declared.handle.Handle.{Handle}
 use Rattle.tee_storage.specs.Handles.{lowest_free, numbered_from}
+use Rattle.tee_storage.specs.KnownTags.{KnownTags}
 use Rattle.tee_storage.specs.OpenObjectExamples.{OpenObjectExamples}
 use Rattle.tee_storage.specs.OpeningExamples.{OpeningExamples}
+use Rattle.tee_storage.specs.TagBorders.{TagBorders}
+use Rattle.tee_storage.specs.TagExamples.{TagExamples}
 
 -- an object of ten bytes, read up to the third; its file is named `1/A`
 abbrev pub object : ℕ → Handle
-object fd = record { name = 0x31 ∷ 0x2f ∷ 0x41 ∷ []; fd = fd; length = 10; position = 3 }
+object fd = record { name = 0x31 ∷ 0x2f ∷ 0x41 ∷ []; fd = fd; length = 10; position = 3; format = 1 }
 
 abbrev pub two : NumberMap Handle
 two = (0, object 70) ∷ (2, object 72) ∷ []
@@ -28,3 +31,6 @@ pub record Examples : Type 0 where
   pub handles : HandleExamples
   pub opening : OpeningExamples
   pub open_objects : OpenObjectExamples
+  pub tags : TagExamples
+  pub borders : TagBorders
+  pub known : KnownTags

@@ -1,5 +1,7 @@
 pub mod Examples
 pub mod Handles
+pub mod KeptData
+pub mod KnownTags
 pub mod ObjectCalls
 pub mod ObjectFiles
 pub mod OpenObjectExamples
@@ -9,4 +11,7 @@ pub mod OpeningExamples
 pub mod Program
 pub mod Replies
 pub mod States
+pub mod TagBorders
+pub mod TagExamples
+pub mod Tags
 pub mod Transfers

@@ -30,15 +30,15 @@ range_len (Seek handle position) = 0
 range_len (Close handle) = 0
 range_len (Delete handle) = 0
 
--- what the call of an application of this UUID does
-abbrev pub program_of : ObjectCall → List ℕ → Now → Program
-program_of (Create id len) uuid now = on_file file.Create uuid len now
-program_of (Opened id len) uuid now = on_file file.Open uuid len now
-program_of (Read handle addr len) uuid now = read handle len now
-program_of (Write handle addr len) uuid now = write handle len now
-program_of (Seek handle position) uuid now = seek handle position now
-program_of (Close handle) uuid now = close handle now
-program_of (Delete handle) uuid now = delete handle now
+-- what the call of an application of this UUID does, under this key of tags
+abbrev pub program_of : ObjectCall → List ℕ → List ℕ → Now → Program
+program_of (Create id len) uuid key now = on_file file.Create uuid key len now
+program_of (Opened id len) uuid key now = on_file file.Open uuid key len now
+program_of (Read handle addr len) uuid key now = read key handle len now
+program_of (Write handle addr len) uuid key now = write key handle len now
+program_of (Seek handle position) uuid key now = seek handle position now
+program_of (Close handle) uuid key now = close handle now
+program_of (Delete handle) uuid key now = delete handle now
 
 -- the step that a program is at
 abbrev pub shown : Program → Serving
@@ -46,13 +46,13 @@ shown (Asks rpc payload now onward) = record { step = Ask rpc payload; range = n
 shown (Ends step now) = record { step = step; range = now.range; objects = now.objects }
 
 -- what is left of a call after these answers to its requests, by the range and the objects at the call
-abbrev pub left_of : ObjectCall → List ℕ → List ℕ → NumberMap Handle → List RpcAnswer → Option Program
-left_of call uuid range objects answers = after (Some (program_of call uuid (now_at range objects))) answers
+abbrev pub left_of : ObjectCall → List ℕ → List ℕ → List ℕ → NumberMap Handle → List RpcAnswer → Option Program
+left_of call uuid key range objects answers = after (Some (program_of call uuid key (now_at range objects))) answers
 
 -- the step of a call after these answers, by the range and the objects at the call; none where the answers go on
 -- behind the end
-abbrev pub serving : ObjectCall → List ℕ → List ℕ → NumberMap Handle → List RpcAnswer → Option Serving
-serving call uuid range objects answers = option_map shown (left_of call uuid range objects answers)
+abbrev pub serving : ObjectCall → List ℕ → List ℕ → List ℕ → NumberMap Handle → List RpcAnswer → Option Serving
+serving call uuid key range objects answers = option_map shown (left_of call uuid key range objects answers)
 
 -- ---- panics
 

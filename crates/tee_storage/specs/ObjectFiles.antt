@@ -1,9 +1,11 @@
 -- The file of an object in the storage of the normal world: its name, its header, and the pieces in which its
--- bytes are carried. This project's own.
+-- bytes are carried. Format 1 has the header and the data, format 2 a tag behind them. This project's own.
 use Rattle.std.specs.Prelude.{ℕ, zero, suc, ◌+◌, ◌-◌, ◌/◌, ◌&&◌, nat_le, nat_lt, min, Bool, List, [], ◌∷◌, ◌++◌, drop, take, Option, Some, None, if◌then◌else◌}
+use Rattle.std.specs.Option.{option_map}
 use Rattle.std.specs.Str.{bytes_eq}
 use Rattle.std.specs.Int.{w32, to_le_bytes, from_le_bytes}
 use Rattle.hex.specs.Hex.{encode_lower}
+use Rattle.tee_storage.specs.declared.object_file.Header.{Header}
 
 -- an id may have so many bytes
 abbrev pub is_id_length : ℕ → Bool
@@ -13,19 +15,29 @@ is_id_length len = nat_lt 0 len && nat_le len 64
 abbrev pub file_name : List ℕ → List ℕ → List ℕ
 file_name uuid id = encode_lower uuid ++ 47 ∷ encode_lower id
 
--- the four bytes OTO1
+-- the four bytes OTO1, with which a file of format 1 begins
+abbrev pub first_magic : List ℕ
+first_magic = 0x4f ∷ 0x54 ∷ 0x4f ∷ 0x31 ∷ []
+
+-- the four bytes OTO2, with which one of format 2 begins, as all files that are written
 abbrev pub magic : List ℕ
-magic = 0x4f ∷ 0x54 ∷ 0x4f ∷ 0x31 ∷ []
+magic = 0x4f ∷ 0x54 ∷ 0x4f ∷ 0x32 ∷ []
+
+-- the format of a file that begins with these four bytes
+abbrev pub format_of : List ℕ → Option ℕ
+format_of bytes = if bytes_eq bytes first_magic then Some 1 else if bytes_eq bytes magic then Some 2 else None
 
 -- what the file of an object of so many bytes begins with: eight bytes
 abbrev pub header : ℕ → List ℕ
 header len = magic ++ to_le_bytes w32 len
 
--- the length that eight bytes give as a header, if they are one
-abbrev pub header_length : List ℕ → Option ℕ
-header_length bytes =
+-- what eight bytes say as a header, if they are one: the format and the length
+abbrev pub header_of : List ℕ → Option Header
+header_of bytes =
     let len = from_le_bytes w32 (drop 4 bytes) in
-    if bytes_eq (take 4 bytes) magic && nat_le len 32768 then Some len else None
+    if nat_le len 32768
+    then option_map (λ (format : ℕ). record { format = format; length = len }) (format_of (take 4 bytes))
+    else None
 
 -- where an object's byte stands in its file
 abbrev pub offset_of : ℕ → ℕ

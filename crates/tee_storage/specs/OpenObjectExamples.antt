@@ -2,7 +2,7 @@
 use Rattle.std.specs.Prelude.{◌≡◌, ℕ, List, [], ◌∷◌, Option, Some}
 use Rattle.std.specs.Option.{option_map}
 use Rattle.base.specs.NumberMap.{NumberMap}
-use Rattle.rpc_msgs.specs.declared.rpc.Rpc.TheVariants.{FsClose, FsRead, FsWrite, FsRemove}
+use Rattle.rpc_msgs.specs.declared.rpc.Rpc.TheVariants.{FsClose, FsRead, FsRemove}
 use Rattle.rpc_msgs.specs.Answer.{RpcAnswer, Replied, NoBuffer}
 use Rattle.ta_params.specs.declared.object_call.ObjectCall.{ObjectCall}
 use Rattle.ta_params.specs.declared.object_call.ObjectCall.TheVariants.{Read, Write, Seek, Close, Delete}
@@ -10,8 +10,8 @@ use Rattle.tee_storage.specs.declared.handle.Handle.{Handle}
 use Rattle.tee_storage.specs.declared.step.StorageStep.TheVariants.{Ask, Done, Panic}
 use Rattle.tee_storage.specs.ObjectCalls.{Serving, serving, shown}
 use Rattle.tee_storage.specs.ObjectFiles.{Piece, pieces}
-use Rattle.tee_storage.specs.OpeningExamples.{application, file, object, replied, brought, at}
-use Rattle.tee_storage.specs.OpenObjects.{reading, writing}
+use Rattle.tee_storage.specs.OpeningExamples.{application, file, key, object, replied, brought, at}
+use Rattle.tee_storage.specs.OpenObjects.{reading}
 use Rattle.tee_storage.specs.Program.{now_at, after}
 
 -- an object of ten bytes at its fourth, under the handle 2, and no other
@@ -24,7 +24,7 @@ moved len position = (2, object 7 len position) ∷ []
 
 -- a call over this range
 abbrev pub calls : ObjectCall → List ℕ → List RpcAnswer → Option Serving
-calls call range answers = serving call application range one answers
+calls call range answers = serving call application key range one answers
 
 abbrev pub range : List ℕ
 range = 60 ∷ 61 ∷ 62 ∷ 63 ∷ []
@@ -39,9 +39,6 @@ two_pieces = piece 0 2 ∷ piece 2 1 ∷ []
 abbrev pub reads_in_two : List RpcAnswer → Option Serving
 reads_in_two answers = option_map shown (after (Some (reading 2 (object 7 10 3) 3 two_pieces (now_at range one))) answers)
 
-abbrev pub writes_in_two : List RpcAnswer → Option Serving
-writes_in_two answers = option_map shown (after (Some (writing 2 (object 7 10 8) 3 two_pieces (now_at range one))) answers)
-
 pub record OpenObjectExamples : Type 0 where
   -- pieces
   pub one_piece : pieces 3584 ≡ piece 0 3584 ∷ []
@@ -50,8 +47,8 @@ pub record OpenObjectExamples : Type 0 where
   -- a read: no more than stands behind the position
   pub read_asked : calls (Read 2 0 4) range [] ≡ at (Ask (FsRead 7 11 4) []) range one
   pub read : calls (Read 2 0 4) range (brought (1 ∷ 2 ∷ 3 ∷ 4 ∷ []) ∷ []) ≡ at (Done 0 4) (1 ∷ 2 ∷ 3 ∷ 4 ∷ []) (moved 10 7)
-  pub read_rest : serving (Read 2 0 4) application range (moved 10 8) [] ≡ at (Ask (FsRead 7 16 2) []) range (moved 10 8)
-  pub read_at_end : serving (Read 2 0 4) application range (moved 10 10) [] ≡ at (Done 0 0) range (moved 10 10)
+  pub read_rest : serving (Read 2 0 4) application key range (moved 10 8) [] ≡ at (Ask (FsRead 7 16 2) []) range (moved 10 8)
+  pub read_at_end : serving (Read 2 0 4) application key range (moved 10 10) [] ≡ at (Done 0 0) range (moved 10 10)
   pub read_nothing : calls (Read 2 0 0) [] [] ≡ at (Done 0 0) [] one
   pub short_piece : calls (Read 2 0 4) range (brought (1 ∷ 2 ∷ 3 ∷ []) ∷ []) ≡ at (Done 0xf0100001 0) range one
   pub long_piece : calls (Read 2 0 1) (60 ∷ []) (Replied (record { ret = 0; v = 0; w = 0; size = 2; bytes = [] }) ∷ []) ≡ at (Done 0xf0100001 0) (60 ∷ []) one
@@ -61,16 +58,6 @@ pub record OpenObjectExamples : Type 0 where
   pub both_read : reads_in_two (brought (1 ∷ 2 ∷ []) ∷ brought (3 ∷ []) ∷ []) ≡ at (Done 0 3) (1 ∷ 2 ∷ 3 ∷ 63 ∷ []) (moved 10 6)
   pub second_failed : reads_in_two (brought (1 ∷ 2 ∷ []) ∷ replied 9 0 ∷ []) ≡ at (Done 0xf0100003 0) (1 ∷ 2 ∷ 62 ∷ 63 ∷ []) one
   pub second_without_buffer : reads_in_two (brought (1 ∷ 2 ∷ []) ∷ NoBuffer ∷ []) ≡ at (Done 0xffff000c 0) (1 ∷ 2 ∷ 62 ∷ 63 ∷ []) one
-  -- a write within the object, and one that makes it longer
-  pub write_asked : calls (Write 2 0 4) range [] ≡ at (Ask (FsWrite 7 11 4) range) range one
-  pub written : calls (Write 2 0 4) range (replied 0 0 ∷ []) ≡ at (Done 0 0) range (moved 10 7)
-  pub write_failed : calls (Write 2 0 4) range (replied 0xffff0008 0 ∷ []) ≡ at (Done 0xffff0008 0) range one
-  pub last_asked : writes_in_two (replied 0 0 ∷ []) ≡ at (Ask (FsWrite 7 18 1) (62 ∷ [])) range one
-  pub header_asked : writes_in_two (replied 0 0 ∷ replied 0 0 ∷ []) ≡ at (Ask (FsWrite 7 0 8) (0x4f ∷ 0x54 ∷ 0x4f ∷ 0x31 ∷ 11 ∷ 0 ∷ 0 ∷ 0 ∷ [])) range one
-  pub longer : writes_in_two (replied 0 0 ∷ replied 0 0 ∷ replied 0 0 ∷ []) ≡ at (Done 0 0) range (moved 11 11)
-  pub header_failed : writes_in_two (replied 0 0 ∷ replied 0 0 ∷ replied 1 0 ∷ []) ≡ at (Done 0xf0100003 0) range one
-  pub write_nothing : calls (Write 2 0 0) [] [] ≡ at (Done 0 0) [] one
-  pub write_too_long : (much : List ℕ) → calls (Write 2 0 32766) much [] ≡ at (Done 0xffff0006 0) much one
   -- a seek to the end, and past it
   pub to_the_end : calls (Seek 2 10) [] [] ≡ at (Done 0 0) [] (moved 10 10)
   pub past_the_end : calls (Seek 2 11) [] [] ≡ at (Done 0xffff0006 0) [] one

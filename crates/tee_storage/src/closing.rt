@@ -4,7 +4,7 @@ ghost use Rattle.rpc_msgs.specs.declared.rpc.RpcReply.{RpcReply};
 ghost use Rattle.tee_storage.specs.OpenObjects.{seek as seek_program, close as close_program, delete as delete_program};
 ghost use Rattle.tee_storage.specs.ObjectCalls.{panic_at, panic_code};
 ghost use Rattle.tee_storage.specs.Program.{Now, now_at};
-ghost use Rattle.tee_storage.specs.States.{onward, left_at, IsReady};
+ghost use Rattle.tee_storage.specs.States.{Taken, onward, left_at, IsReady};
 
 use crate::handles::Handles;
 use crate::object_file::{copy_of, payload_of};
@@ -16,8 +16,8 @@ use ta_params::codes::*;
 
 /// Moves to a position, which needs no reply.
 pub(crate) fn seek(handle: u32, position: u32, handles: &mut Handles) -> Turn
-    ensures left { (range : List ℕ) → seek_program handle position (now_at range handles.old)
-        ≡ left_at result (now_at range handles.new) }
+    ensures left { (taken : Taken) (range : List ℕ) → seek_program handle position (now_at range handles.old)
+        ≡ left_at result taken (now_at range handles.new) }
     ensures ready { (range : List ℕ) → IsReady result.waits range }
     ensures panics { panic_code result.step ≡ panic_at handles.old handle }
 {
@@ -34,8 +34,8 @@ pub(crate) fn seek(handle: u32, position: u32, handles: &mut Handles) -> Turn
 
 /// Asks for the file to be closed.
 pub(crate) fn close(handle: u32, handles: &Handles) -> Turn
-    ensures left { (range : List ℕ) → close_program handle (now_at range handles.now)
-        ≡ left_at result (now_at range handles.now) }
+    ensures left { (taken : Taken) (range : List ℕ) → close_program handle (now_at range handles.now)
+        ≡ left_at result taken (now_at range handles.now) }
     ensures ready { (range : List ℕ) → IsReady result.waits range }
     ensures panics { panic_code result.step ≡ panic_at handles.now handle }
 {
@@ -48,8 +48,8 @@ pub(crate) fn close(handle: u32, handles: &Handles) -> Turn
 
 /// The file is closed, or isn't: the handle is given back.
 pub(crate) fn closed(handle: u32, reply: &RpcReply, handles: &mut Handles) -> Turn
-    ensures left { (range : List ℕ) → onward (Waits.Closed handle) (now_at range handles.old) reply.now
-        ≡ left_at result (now_at range handles.new) }
+    ensures left { (taken : Taken) (range : List ℕ) → onward (Waits.Closed handle) taken (now_at range handles.old) reply.now
+        ≡ left_at result taken (now_at range handles.new) }
     ensures ready { (range : List ℕ) → IsReady result.waits range }
     ensures no_panic { panic_code result.step ≡ None }
 {
@@ -59,8 +59,8 @@ pub(crate) fn closed(handle: u32, reply: &RpcReply, handles: &mut Handles) -> Tu
 
 /// Asks for the file to be closed, before it is removed.
 pub(crate) fn delete(handle: u32, handles: &Handles) -> Turn
-    ensures left { (range : List ℕ) → delete_program handle (now_at range handles.now)
-        ≡ left_at result (now_at range handles.now) }
+    ensures left { (taken : Taken) (range : List ℕ) → delete_program handle (now_at range handles.now)
+        ≡ left_at result taken (now_at range handles.now) }
     ensures ready { (range : List ℕ) → IsReady result.waits range }
     ensures panics { panic_code result.step ≡ panic_at handles.now handle }
 {
@@ -74,9 +74,9 @@ pub(crate) fn delete(handle: u32, handles: &Handles) -> Turn
 
 /// The file is closed, or isn't: the handle is given back, and the file is to be removed.
 pub(crate) fn closed_to_delete(handle: u32, name: FileName, handles: &mut Handles) -> Turn
-    ensures left { (range : List ℕ) (reply : RpcReply) →
-        onward (Waits.ClosedToDelete handle name) (now_at range handles.old) reply
-        ≡ left_at result (now_at range handles.new) }
+    ensures left { (taken : Taken) (range : List ℕ) (reply : RpcReply) →
+        onward (Waits.ClosedToDelete handle name) taken (now_at range handles.old) reply
+        ≡ left_at result taken (now_at range handles.new) }
     ensures ready { (range : List ℕ) → IsReady result.waits range }
     ensures no_panic { panic_code result.step ≡ None }
 {
@@ -87,7 +87,7 @@ pub(crate) fn closed_to_delete(handle: u32, name: FileName, handles: &mut Handle
 
 /// The last reply of a close or a delete: its ret decides.
 pub(crate) fn removed(reply: &RpcReply) -> Turn
-    ensures left { (now : Now) → onward Waits.Removed now reply.now ≡ left_at result now }
+    ensures left { (taken : Taken) (now : Now) → onward Waits.Removed taken now reply.now ≡ left_at result taken now }
     ensures ready { (range : List ℕ) → IsReady result.waits range }
     ensures no_panic { panic_code result.step ≡ None }
 {

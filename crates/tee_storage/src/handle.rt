@@ -11,4 +11,6 @@ pub struct Handle {
     pub length: u32,
     /// Where the next byte is read or written, at most the length.
     pub position: u32,
+    /// The format of the object's file: 1, or 2 where a tag stands behind the bytes.
+    pub format: u8,
 }

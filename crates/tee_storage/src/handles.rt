@@ -90,6 +90,7 @@ impl Handles {
             fd: object.fd,
             length: object.length,
             position: object.position,
+            format: object.format,
         })
     }
 

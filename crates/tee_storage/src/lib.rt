@@ -5,6 +5,7 @@
 #![tactic(auto)]
 
 mod closing;
+mod data_reading;
 mod examples;
 mod handle;
 mod handles;
@@ -15,6 +16,7 @@ mod replies;
 mod span;
 mod state;
 mod step;
+mod tags;
 mod turn;
 mod waits;
 mod writing;
@@ -22,8 +24,10 @@ mod writing;
 pub use examples::worked_examples;
 pub use handle::Handle;
 pub use handles::{Handles, MAX_HANDLES};
+pub use hmac::hmac;
 pub use object_file::{MAX_ID, MAX_LENGTH};
 pub use rpc_msgs::FileName;
 pub use span::Span;
 pub use state::ObjectState;
 pub use step::{BAD_HANDLE, StorageStep};
+pub use tags::Key;

@@ -1,7 +1,7 @@
 //! The file of an object in the storage of the normal world: its name and its header. This project's own.
 ghost use Rattle.std.specs.Prelude.{◌≡◌, ◌*◌, ◌+◌, ◌≤◌, ◌++◌, length};
 ghost use Rattle.hex.specs.Hex.{encode_lower};
-ghost use Rattle.tee_storage.specs.ObjectFiles.{file_name as name_of, header as header_of, header_length as length_of};
+ghost use Rattle.tee_storage.specs.ObjectFiles.{file_name as name_of, format_of as format_by, header as header_with, header_of as header_by, offset_of as offset_by};
 
 use arrayvec::ArrayVec;
 use rpc_msgs::{FileName, MAX_FILE_NAME, Payload};
@@ -14,10 +14,25 @@ pub(crate) const HEADER_BYTES: u32 = 8;
 /// The most bytes of an object.
 pub const MAX_LENGTH: u32 = 32_768;
 
-/// The bytes that each object's file begins with: OTO1.
-const MAGIC: [u8; 4] = [0x4f, 0x54, 0x4f, 0x31];
+/// The format of a file of the header and the data alone.
+pub(crate) const FIRST_FORMAT: u8 = 1;
+/// The format of one that ends with a tag, as all files that are written.
+pub(crate) const TAGGED_FORMAT: u8 = 2;
+
+/// The bytes that a file of format 1 begins with: OTO1.
+const FIRST_MAGIC: [u8; 4] = [0x4f, 0x54, 0x4f, 0x31];
+/// Those of a file of format 2: OTO2.
+const MAGIC: [u8; 4] = [0x4f, 0x54, 0x4f, 0x32];
 /// The most digits of an object's id.
 const MAX_DIGITS: usize = 128;
+
+/// What the header of an object's file says.
+#[derive(Clone, Copy, Debug, Drop)]
+pub struct Header {
+    pub(crate) format: u8,
+    /// How many bytes the object has.
+    pub(crate) length: u32,
+}
 
 /// The name of the file of an application's object.
 pub(crate) fn file_name(uuid: Uuid, id: &[u8]) -> FileName
@@ -66,24 +81,44 @@ pub(crate) fn copy_of(name: &FileName) -> FileName
     }
 }
 
+/// Where an object's byte stands in its file; and behind so many bytes, the tag.
+pub(crate) fn offset_of(place: u32) -> u64
+    ensures { result ≡ offset_by place }
+{
+    u64::from(HEADER_BYTES) + u64::from(place)
+}
+
 /// What the file of an object of so many bytes begins with.
-pub(crate) fn header(len: u32) -> Payload
-    ensures { result ≡ header_of len }
+pub(crate) fn header_bytes(len: u32) -> [u8; HEADER_BYTES as usize]
+    ensures { result ≡ header_with len }
 {
     let [m0, m1, m2, m3] = MAGIC;
     let [b0, b1, b2, b3] = len.to_le_bytes();
-    Payload::of(&[m0, m1, m2, m3, b0, b1, b2, b3])
+    [m0, m1, m2, m3, b0, b1, b2, b3]
 }
 
-/// The length that eight bytes give as a header, if they are one.
-pub(crate) fn header_length(bytes: &[u8]) -> Option<u32>
-    requires { length bytes.now ≡ 8 }
-    ensures { result ≡ length_of bytes.now }
+/// The format of a file that begins with these bytes.
+fn format_of(magic: &[u8]) -> Option<u8>
+    ensures { result ≡ format_by magic.now }
 {
-    let len = u32::from_le_bytes([bytes[4], bytes[5], bytes[6], bytes[7]]);
-    if &bytes[..4] == MAGIC.as_slice() && len <= MAX_LENGTH {
-        Some(len)
+    if magic == FIRST_MAGIC.as_slice() {
+        Some(FIRST_FORMAT)
+    } else if magic == MAGIC.as_slice() {
+        Some(TAGGED_FORMAT)
     } else {
         None
     }
+}
+
+/// What eight bytes say as a header, if they are one.
+pub(crate) fn header_of(bytes: &[u8]) -> Option<Header>
+    requires { length bytes.now ≡ 8 }
+    ensures { result ≡ header_by bytes.now }
+{
+    let length = u32::from_le_bytes([bytes[4], bytes[5], bytes[6], bytes[7]]);
+    if length > MAX_LENGTH {
+        return None;
+    }
+    let format = format_of(&bytes[..4])?;
+    Some(Header { format, length })
 }

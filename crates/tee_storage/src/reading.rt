@@ -1,26 +1,37 @@
 //! To read an object.
-ghost use Rattle.std.specs.Prelude.{◌≡◌, None, ℕ, ◌+◌, ◌^◌, ◌<◌, ◌≤◌, List, length};
+ghost use Rattle.std.specs.Prelude.{◌≡◌, None, true, ℕ, ◌+◌, ◌^◌, ◌<◌, ◌≤◌, List, length};
 ghost use Rattle.tee_storage.specs.ObjectFiles.{pieces_from};
-ghost use Rattle.tee_storage.specs.OpenObjects.{read as read_program, reading};
+ghost use Rattle.tee_storage.specs.OpenObjects.{all_read as all_read_program, read as read_program, reading, reading_checked};
+ghost use Rattle.base.specs.NumberMap.{NumberMap};
+ghost use Rattle.tee_storage.specs.declared.handle.Handle.{Handle};
+ghost use Rattle.tee_storage.specs.Tags.{is_tagged};
 ghost use Rattle.tee_storage.specs.ObjectCalls.{panic_at, panic_code};
 ghost use Rattle.tee_storage.specs.Program.{now_at};
-ghost use Rattle.tee_storage.specs.States.{onward, left_at, IsReady};
+ghost use Rattle.tee_storage.specs.States.{IsLeft, Taken, TakesNothing, onward, left_at, IsReady};
 ghost use Rattle.tee_storage.specs.Transfers.{IsRead};
 
 use crate::handles::Handles;
 use crate::replies::is_whole;
 use crate::span::Span;
 use crate::step::BAD_HANDLE;
+use crate::tags::{Key, is_tagged as has_tag, tag_hasher};
 use crate::turn::Turn;
-use crate::waits::{Transfer, Waits};
+use crate::waits::{DataRead, Tagging, Transfer, Waits};
 use rpc_msgs::{Payload, Rpc, RpcReply};
 use ta_params::codes::*;
 
 /// Asks for the first piece, where there is anything to read.
-pub(crate) fn read(handle: u32, len: u32, handles: &mut Handles) -> Turn
-    ensures left { (range : List ℕ) → read_program handle len (now_at range handles.old)
-        ≡ left_at result (now_at range handles.new) }
-    ensures ready { (range : List ℕ) → len ≤ length range → IsReady result.waits range }
+pub(crate) fn read<M: Span>(
+    key: &Key,
+    handle: u32,
+    len: u32,
+    span: &M,
+    handles: &mut Handles,
+) -> Turn
+    requires { len ≤ length (M.bytes span.now) }
+    ensures left { IsLeft (read_program key.now handle len (now_at (M.bytes span.now) handles.old))
+        result key.now (now_at (M.bytes span.now) handles.new) }
+    ensures ready { IsReady result.waits (M.bytes span.now) }
     ensures panics { panic_code result.step ≡ panic_at handles.old handle }
 {
     let Some(object) = handles.copy_of(handle) else {
@@ -33,7 +44,30 @@ pub(crate) fn read(handle: u32, len: u32, handles: &mut Handles) -> Turn
         len,
         done: 0,
     };
+    if has_tag(&transfer.object) && len > 0 {
+        return read_checked(key, transfer, span);
+    }
     next_piece(transfer, handles)
+}
+
+/// Asks for the first piece of the data, whose tag is checked.
+fn read_checked<M: Span>(key: &Key, transfer: Transfer, span: &M) -> Turn
+    requires read { IsRead transfer (M.bytes span.now) }
+    requires start { transfer.done ≡ 0 }
+    requires tagged { is_tagged transfer.object ≡ true }
+    ensures left { (objects : NumberMap Handle) →
+        IsLeft (reading_checked key.now transfer.handle transfer.object transfer.len (now_at (M.bytes span.now) objects))
+        result key.now (now_at (M.bytes span.now) objects) }
+    ensures ready { IsReady result.waits (M.bytes span.now) }
+    ensures no_panic { panic_code result.step ≡ None }
+{
+    let kept = tag_hasher(key, &transfer.object.name, transfer.object.length);
+    let read = DataRead {
+        transfer,
+        start: 0,
+        tagging: Tagging::Check(kept),
+    };
+    read.next(span)
 }
 
 /// A piece is read, and stands in the range where it has the size that was asked for.
@@ -44,8 +78,9 @@ pub(crate) fn piece_read<M: Span>(
     handles: &mut Handles,
 ) -> Turn
     requires { IsRead transfer (M.bytes span.old) }
-    ensures left { onward (Waits.PieceRead transfer) (now_at (M.bytes span.old) handles.old) reply.now
-        ≡ left_at result (now_at (M.bytes span.new) handles.new) }
+    ensures left { (taken : Taken) → onward (Waits.PieceRead transfer) taken (now_at (M.bytes span.old) handles.old) reply.now
+        ≡ left_at result taken (now_at (M.bytes span.new) handles.new) }
+    ensures hashes { TakesNothing result.waits }
     ensures rest { M.rest span.new ≡ M.rest span.old }
     ensures ready { IsReady result.waits (M.bytes span.new) }
     ensures no_panic { panic_code result.step ≡ None }
@@ -64,22 +99,15 @@ pub(crate) fn piece_read<M: Span>(
 fn next_piece(transfer: Transfer, handles: &mut Handles) -> Turn
     requires handle { transfer.handle < 8 }
     requires end { transfer.object.position + transfer.len < 2 ^ 32 }
-    ensures left { (range : List ℕ) →
+    ensures left { (taken : Taken) (range : List ℕ) →
         reading transfer.handle transfer.object transfer.len (pieces_from transfer.done transfer.len) (now_at range handles.old)
-        ≡ left_at result (now_at range handles.new) }
+        ≡ left_at result taken (now_at range handles.new) }
+    ensures hashes { TakesNothing result.waits }
     ensures ready { (range : List ℕ) → transfer.len ≤ length range → IsReady result.waits range }
     ensures no_panic { panic_code result.step ≡ None }
 {
     if transfer.done >= transfer.len {
-        let Transfer {
-            handle,
-            mut object,
-            len,
-            ..
-        } = transfer;
-        object.position += len;
-        handles.put(handle, object);
-        return Turn::ended(len);
+        return all_read(transfer, handles);
     }
     let rpc = Rpc::FsRead {
         fd: transfer.object.fd,
@@ -87,4 +115,25 @@ fn next_piece(transfer: Transfer, handles: &mut Handles) -> Turn
         len: transfer.piece_len(),
     };
     Turn::asking(Waits::PieceRead(transfer), rpc, Payload::new())
+}
+
+/// All the bytes are read: the position moves behind them.
+pub(crate) fn all_read(transfer: Transfer, handles: &mut Handles) -> Turn
+    requires handle { transfer.handle < 8 }
+    requires end { transfer.object.position + transfer.len < 2 ^ 32 }
+    ensures left { (taken : Taken) (range : List ℕ) →
+        all_read_program transfer.handle transfer.object transfer.len (now_at range handles.old)
+        ≡ left_at result taken (now_at range handles.new) }
+    ensures ready { (range : List ℕ) → IsReady result.waits range }
+    ensures no_panic { panic_code result.step ≡ None }
+{
+    let Transfer {
+        handle,
+        mut object,
+        len,
+        ..
+    } = transfer;
+    object.position += len;
+    handles.put(handle, object);
+    Turn::ended(len)
 }

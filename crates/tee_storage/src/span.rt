@@ -1,7 +1,9 @@
 //! The memory range that a call on an object names.
-ghost use Rattle.std.specs.Prelude.{◌≡◌, ℕ, ◌<◌, ◌≤◌, ◌+◌, List, length, take, drop, slice_get, slice_set, Some};
+ghost use Rattle.std.specs.Prelude.{◌≡◌, ℕ, ◌<◌, ◌≤◌, ◌+◌, ◌++◌, List, length, take, drop, slice_get, slice_set, Some};
 ghost use Rattle.base.specs.Bytes.{overwritten};
+ghost use Rattle.hmac.specs.Hashing.{Holds};
 
+use hmac::HmacSha256;
 use rpc_msgs::{MAX_PAYLOAD, Payload};
 
 /// The bytes of a memory range, of which the first stands at 0.
@@ -30,6 +32,12 @@ pub trait Span {
         requires { at + length out.old ≤ length (bytes self.now) }
         ensures { out.new ≡ take (length out.old) (drop at (bytes self.now)) };
 
+    /// Some bytes from a place on, at least one: as many as can be lent in one piece.
+    fn part(&self, at: u32) -> &[u8]
+        requires { at < length (bytes self.now) }
+        ensures part { result.now ≡ take (length result.now) (drop at (bytes self.now)) }
+        ensures some { 0 < length result.now };
+
     /// Writes a part over the bytes from a place on, which are all there, and over no others.
     fn write(&mut self, at: u32, part: &[u8])
         requires { at + length part.now ≤ length (bytes self.old) }
@@ -47,4 +55,19 @@ pub(crate) fn bytes_of<M: Span>(span: &M, start: u32, len: u32) -> Payload
     let bytes = &mut room[..len as usize];
     span.read(start, bytes);
     Payload::of(bytes)
+}
+
+/// Puts the first bytes of the range behind a message, so many as are asked for.
+pub(crate) fn hash_range<M: Span>(hasher: &mut HmacSha256, span: &M, len: u32)
+    requires { len ≤ length (M.bytes span.now) }
+    ensures { (key message : List ℕ) → Holds hasher.old key message
+        → Holds hasher.new key (message ++ take len (M.bytes span.now)) }
+{
+    let mut done = 0;
+    while done < len {
+        let part = span.part(done);
+        let count = part.len().min((len - done) as usize);
+        hasher.update(&part[..count]);
+        done += count as u32;
+    }
 }

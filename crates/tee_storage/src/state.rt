@@ -6,15 +6,16 @@ ghost use Rattle.ta_params.specs.declared.object_call.ObjectCall.{ObjectCall};
 ghost use Rattle.tee_storage.specs.declared.handle.Handle.{Handle};
 ghost use Rattle.tee_storage.specs.ObjectCalls.{Serving, panic_code, panic_of, program_of, range_len, serving};
 ghost use Rattle.tee_storage.specs.Program.{now_at};
-ghost use Rattle.tee_storage.specs.States.{CanGoOn, IsReady, StandsFor, left_at, onward};
+ghost use Rattle.tee_storage.specs.States.{Hashes, IsLeft, Taken, CanGoOn, IsReady, StandsFor, left_at, onward};
 
 use crate::handles::Handles;
 use crate::opening::FileCall;
 use crate::span::Span;
 use crate::step::StorageStep;
+use crate::tags::Key;
 use crate::turn::Turn;
 use crate::waits::Waits;
-use crate::{closing, opening, reading, writing};
+use crate::{closing, data_reading, opening, reading, writing};
 use rpc_msgs::RpcReply;
 use std::mem;
 use ta_params::ObjectCall;
@@ -30,7 +31,8 @@ pub struct ObjectState {
 
 impl ObjectState {
     /// Begins a call of the application of this UUID. The span is the memory range that the call names: the id
-    /// of a create or an open, the bytes of a read or a write, and else empty. Takes no memory.
+    /// of a create or an open, the bytes of a read or a write, and else empty. The key is that of the tags of its files. Takes
+    /// no memory.
     ///
     /// Panics with BAD_HANDLE exactly where the call's handle isn't open.
     pub fn start<M: Span>(
@@ -38,14 +40,15 @@ impl ObjectState {
         uuid: Uuid,
         span: &M,
         handles: &mut Handles,
+        key: &Key,
     ) -> (ObjectState, StorageStep)
         requires { length (M.bytes span.now) ≡ range_len call }
         ensures panics { panic_code result.1 ≡ panic_of call handles.old }
         ensures ready { CanGoOn result.0 (M.bytes span.now) }
-        ensures stands { StandsFor result.0 call uuid (M.bytes span.now) handles.old []
+        ensures stands { StandsFor result.0 call uuid key.now (M.bytes span.now) handles.old []
             (record { step = result.1; range = M.bytes span.now; objects = handles.new }) }
     {
-        let turn = begun(call, uuid, span, handles);
+        let turn = begun(call, uuid, span, handles, key);
         (ObjectState { waits: turn.waits }, turn.step)
     }
 
@@ -61,11 +64,11 @@ impl ObjectState {
         ensures no_panic { panic_code result ≡ None }
         ensures rest { M.rest span.new ≡ M.rest span.old }
         ensures ready { CanGoOn self.new (M.bytes span.new) }
-        ensures stands { (call : ObjectCall) (uuid range : List ℕ) (objects : NumberMap Handle) (answers : List RpcAnswer)
+        ensures stands { (call : ObjectCall) (uuid key range : List ℕ) (objects : NumberMap Handle) (answers : List RpcAnswer)
             (rpc : Rpc) (payload : List ℕ)
-            → StandsFor self.old call uuid range objects answers
+            → StandsFor self.old call uuid key range objects answers
             (record { step = StorageStep.Ask rpc payload; range = M.bytes span.old; objects = handles.old })
-            → StandsFor self.new call uuid range objects (answers ++ Replied reply.now ∷ [])
+            → StandsFor self.new call uuid key range objects (answers ++ Replied reply.now ∷ [])
             (record { step = result; range = M.bytes span.new; objects = handles.new }) }
     {
         let waits = mem::replace(&mut self.waits, Waits::Nothing);
@@ -77,11 +80,11 @@ impl ObjectState {
     /// Ends the call, since there is no buffer for what it asks: its result. Takes no memory.
     pub fn no_buffer(self) -> u32
         ensures code { result ≡ 0xffff000c }
-        ensures serves { (call : ObjectCall) (uuid range now : List ℕ) (objects then : NumberMap Handle)
+        ensures serves { (call : ObjectCall) (uuid key range now : List ℕ) (objects then : NumberMap Handle)
             (answers : List RpcAnswer) (rpc : Rpc) (payload : List ℕ)
-            → StandsFor self call uuid range objects answers
+            → StandsFor self call uuid key range objects answers
             (record { step = StorageStep.Ask rpc payload; range = now; objects = then })
-            → serving call uuid range objects (answers ++ NoBuffer ∷ [])
+            → serving call uuid key range objects (answers ++ NoBuffer ∷ [])
             ≡ Some (record { step = StorageStep.Done result 0; range = now; objects = then }) }
     {
         TEE_ERROR_OUT_OF_MEMORY
@@ -89,18 +92,18 @@ impl ObjectState {
 }
 
 /// What a call begins with.
-fn begun<M: Span>(call: ObjectCall, uuid: Uuid, span: &M, handles: &mut Handles) -> Turn
+fn begun<M: Span>(call: ObjectCall, uuid: Uuid, span: &M, handles: &mut Handles, key: &Key) -> Turn
     requires { length (M.bytes span.now) ≡ range_len call }
-    ensures left { program_of call uuid (now_at (M.bytes span.now) handles.old)
-        ≡ left_at result (now_at (M.bytes span.now) handles.new) }
+    ensures left { IsLeft (program_of call uuid key.now (now_at (M.bytes span.now) handles.old))
+        result key.now (now_at (M.bytes span.now) handles.new) }
     ensures ready { IsReady result.waits (M.bytes span.now) }
     ensures panics { panic_code result.step ≡ panic_of call handles.old }
 {
     match call {
-        ObjectCall::Create { len, .. } => FileCall::Create.begin(uuid, len, span, handles),
-        ObjectCall::Opened { len, .. } => FileCall::Open.begin(uuid, len, span, handles),
-        ObjectCall::Read { handle, len, .. } => reading::read(handle, len, handles),
-        ObjectCall::Write { handle, len, .. } => writing::write(handle, len, span, handles),
+        ObjectCall::Create { len, .. } => FileCall::Create.begin(uuid, key, len, span, handles),
+        ObjectCall::Opened { len, .. } => FileCall::Open.begin(uuid, key, len, span, handles),
+        ObjectCall::Read { handle, len, .. } => reading::read(key, handle, len, span, handles),
+        ObjectCall::Write { handle, len, .. } => writing::write(key, handle, len, span, handles),
         ObjectCall::Seek { handle, position } => closing::seek(handle, position, handles),
         ObjectCall::Close { handle } => closing::close(handle, handles),
         ObjectCall::Delete { handle } => closing::delete(handle, handles),
@@ -110,21 +113,30 @@ fn begun<M: Span>(call: ObjectCall, uuid: Uuid, span: &M, handles: &mut Handles)
 /// What a call goes on with after a reply.
 fn answered<M: Span>(waits: Waits, reply: &RpcReply, span: &mut M, handles: &mut Handles) -> Turn
     requires { IsReady waits (M.bytes span.old) }
-    ensures left { onward waits (now_at (M.bytes span.old) handles.old) reply.now
-        ≡ left_at result (now_at (M.bytes span.new) handles.new) }
+    ensures left { (taken : Taken) → Hashes waits taken (M.bytes span.old)
+        → IsLeft (onward waits taken (now_at (M.bytes span.old) handles.old) reply.now)
+        result taken.key (now_at (M.bytes span.new) handles.new) }
     ensures rest { M.rest span.new ≡ M.rest span.old }
     ensures ready { IsReady result.waits (M.bytes span.new) }
     ensures no_panic { panic_code result.step ≡ None }
 {
     match waits {
         Waits::Nothing => Turn::ended(0),
-        Waits::Created(new) => opening::created(new, reply),
+        Waits::Created(new, key) => opening::created(new, &key, reply),
         Waits::HeaderWritten(new, fd) => opening::header_written(new, fd, reply, handles),
         Waits::Opened(new) => opening::file_opened(new, reply),
         Waits::HeaderRead(new, fd) => opening::header_read(new, fd, reply, handles),
         Waits::PieceRead(transfer) => reading::piece_read(transfer, reply, span, handles),
-        Waits::PieceWritten(transfer) => writing::piece_written(transfer, reply, span, handles),
-        Waits::LengthWritten(transfer) => writing::length_written(transfer, reply, handles),
+        Waits::DataRead(read) => data_reading::piece_read(read, reply, span),
+        Waits::ReadChecked(transfer, tag) => {
+            data_reading::read_checked(transfer, &tag, reply, handles)
+        }
+        Waits::WriteChecked(transfer, tag, new) => {
+            data_reading::write_checked(transfer, &tag, new, reply, span)
+        }
+        Waits::PieceWritten(transfer, tag) => writing::piece_written(transfer, tag, reply, span),
+        Waits::TagWritten(transfer) => writing::tag_written(transfer, reply, handles),
+        Waits::NewHeaderWritten(transfer) => writing::header_written(transfer, reply, handles),
         Waits::Closed(handle) => closing::closed(handle, reply, handles),
         Waits::ClosedToDelete(handle, name) => closing::closed_to_delete(handle, name, handles),
         Waits::Removed => closing::removed(reply),

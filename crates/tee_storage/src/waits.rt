@@ -1,9 +1,12 @@
 ghost use Rattle.std.specs.Prelude.{◌≡◌, ◌+◌, ◌≤◌};
 ghost use Rattle.tee_storage.specs.ObjectFiles.{offset_of};
-ghost use Rattle.tee_storage.specs.Transfers.{this_len};
+ghost use Rattle.tee_storage.specs.OpenObjects.{new_length};
+ghost use Rattle.tee_storage.specs.Transfers.{data_len, this_len};
 
 use crate::handle::Handle;
 use crate::object_file::HEADER_BYTES;
+use crate::tags::{Key, Tag};
+use hmac::HmacSha256;
 use rpc_msgs::{FileName, MAX_PAYLOAD};
 
 /// An object that is being created or opened, and the number that its handle is to have.
@@ -43,6 +46,14 @@ impl Transfer {
         Transfer { done, ..self }
     }
 
+    /// How many bytes the object has after they are written.
+    pub(crate) fn new_length(&self) -> u32
+        requires { self.now.object.position + self.now.len ≤ 32768 }
+        ensures { result ≡ new_length self.now.object self.now.len }
+    {
+        self.object.length.max(self.object.position + self.len)
+    }
+
     /// Where the piece stands in the object's file.
     pub(crate) fn offset(&self) -> u64
         ensures { result ≡ offset_of (self.now.object.position + self.now.done) }
@@ -51,23 +62,61 @@ impl Transfer {
     }
 }
 
+/// The tags that an object's data go into as they are read.
+#[derive(Drop)]
+pub enum Tagging {
+    /// The one that the file has: of a read.
+    Check(HmacSha256),
+    /// The one that the file is to have: of a write, where it has none.
+    Make(HmacSha256),
+    /// Both: of a write, where it has one.
+    Replace { kept: HmacSha256, new: HmacSha256 },
+}
+
+/// All the data of an object, which a call reads for its tags.
+#[derive(Drop)]
+pub struct DataRead {
+    /// What the call is to read or write, of which nothing is done yet.
+    pub(crate) transfer: Transfer,
+    /// How many bytes of the data stand before the piece that was asked for.
+    pub(crate) start: u32,
+    pub(crate) tagging: Tagging,
+}
+
+impl DataRead {
+    /// How many bytes the piece has that was asked for, or is to be.
+    pub(crate) fn piece_len(&self) -> u32
+        requires { self.now.start ≤ self.now.transfer.object.length }
+        ensures { result ≡ data_len self.now }
+    {
+        (self.transfer.object.length - self.start).min(MAX_PAYLOAD as u32)
+    }
+}
+
 /// The request of a call whose reply is awaited, with what the call goes on with.
 #[derive(Drop)]
 pub enum Waits {
     /// None: the call has ended.
     Nothing,
-    /// The file of a new object is created.
-    Created(NewObject),
-    /// Its header is written, under this descriptor.
+    /// The file of a new object is created, and its tag made under this key.
+    Created(NewObject, Key),
+    /// Its header and tag are written, under this descriptor.
     HeaderWritten(NewObject, u64),
     /// The file of an object is opened.
     Opened(NewObject),
     /// Its header is read, under this descriptor.
     HeaderRead(NewObject, u64),
     PieceRead(Transfer),
-    PieceWritten(Transfer),
-    /// The header of an object that has become longer is written.
-    LengthWritten(Transfer),
+    DataRead(DataRead),
+    /// The tag is read of the object of a read, and has to be this one.
+    ReadChecked(Transfer, Tag),
+    /// The tag is read of the object of a write, and has to be the first; the second is to be written.
+    WriteChecked(Transfer, Tag, Tag),
+    /// A piece is written, and behind the last one this tag.
+    PieceWritten(Transfer, Tag),
+    TagWritten(Transfer),
+    /// The header is written of an object that has become longer, or had no tag.
+    NewHeaderWritten(Transfer),
     Closed(u32),
     /// The file is closed, and then the one of this name removed.
     ClosedToDelete(u32, FileName),
