@@ -20,4 +20,6 @@ pub struct Boot {
     pub frames: u16,
     /// The applications, at most 16, no two with one UUID.
     pub apps: Sequence<App>,
+    /// The key of the tags of object files.
+    pub key: [u8; 32],
 }
