@@ -92,6 +92,20 @@ impl<M: TaMemory> Machine<M> {
         }
     }
 
+    /// Bytes from an address on, of which there are some in its range: as many as lie in one piece, and at least one.
+    pub fn part(&self, addr: u32) -> &[u8]
+        requires { is_inside (state_of M.bytes self.now) addr 1 ≡ true }
+        ensures part { let place = addr % 0x10000000 in
+            result.now ≡ take (length result.now) (drop place (range_at (state_of M.bytes self.now) addr)) }
+        ensures some { 0 < length result.now }
+    {
+        let place = addr % RANGE;
+        match addr / RANGE {
+            0 => self.memory.part(place),
+            number => parameters::part(&self.params, number - 1, place),
+        }
+    }
+
     /// Writes bytes from an address on, or answers `false` where they are not all in one range.
     pub fn write(&mut self, addr: u32, bytes: &[u8]) -> bool
         requires some { 0 < length bytes.now }

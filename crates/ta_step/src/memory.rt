@@ -37,6 +37,12 @@ pub trait TaMemory {
         requires { addr + length out.old ≤ length (bytes self.now) }
         ensures { out.new ≡ take (length out.old) (drop addr (bytes self.now)) };
 
+    /// Bytes from an address on, of which there are some: as many as lie in one piece, and at least one.
+    fn part(&self, addr: u32) -> &[u8]
+        requires { addr < length (bytes self.now) }
+        ensures part { result.now ≡ take (length result.now) (drop addr (bytes self.now)) }
+        ensures some { 0 < length result.now };
+
     /// Writes a part over the bytes from an address on, which are all there, and over no others.
     fn write(&mut self, addr: u32, part: &[u8])
         requires { addr + length part.now ≤ length (bytes self.old) }
@@ -93,6 +99,10 @@ impl TaMemory for Plain {
 
     fn read(&self, addr: u32, out: &mut [u8]) {
         part_access::copy_part(self.bytes.as_slice(), addr as usize, out);
+    }
+
+    fn part(&self, addr: u32) -> &[u8] {
+        &self.bytes.as_slice()[addr as usize..]
     }
 
     fn write(&mut self, addr: u32, part: &[u8]) {

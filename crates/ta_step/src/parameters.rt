@@ -37,6 +37,10 @@ impl TaMemory for Buf {
         part_access::copy_part(self.bytes(), addr as usize, out);
     }
 
+    fn part(&self, addr: u32) -> &[u8] {
+        &self.bytes()[addr as usize..]
+    }
+
     fn write(&mut self, addr: u32, part: &[u8]) {
         part_access::put_part(self.bytes_mut(), addr as usize, part);
     }
@@ -78,6 +82,19 @@ pub(crate) fn load_word(params: &CopiedParams, number: u32, place: u32) -> Optio
     ensures { result ≡ word_at (slice_index_or (map buffer (four params.now)) number []) place }
 {
     buffer_at(params, number)?.load_word(place)
+}
+
+/// The bytes of a parameter's buffer from a place on, of which there are some.
+pub(crate) fn part(params: &CopiedParams, number: u32, place: u32) -> &[u8]
+    requires { place < length (slice_index_or (map buffer (four params.now)) number []) }
+    ensures part { let buffers = map buffer (four params.now) in
+        result.now ≡ take (length result.now) (drop place (slice_index_or buffers number [])) }
+    ensures some { 0 < length result.now }
+{
+    match buffer_at(params, number) {
+        Some(buf) => buf.part(place),
+        None => unreachable!(),
+    }
 }
 
 /// Copies bytes of a parameter's buffer from a place on out, which are all there.
