@@ -81,6 +81,14 @@ impl Frame {
         copy_part(self.bytes.as_slice(), at, out);
     }
 
+    /// The bytes from a place on.
+    pub(crate) fn part(&self, at: usize) -> &[u8]
+        requires { at ≤ length self.now }
+        ensures { result.now ≡ drop at self.now }
+    {
+        &self.bytes.as_slice()[at..]
+    }
+
     /// Writes a part over the bytes from a place on, which are all there.
     pub(crate) fn write(&mut self, at: usize, part: &[u8])
         requires { at + length part.now ≤ length self.old }

@@ -205,6 +205,11 @@ impl TaMemory for Pages {
         }
     }
 
+    fn part(&self, addr: u32) -> &[u8] {
+        let frame = &self.frames[addr as usize / PAGE_BYTES];
+        frame.part(addr as usize % PAGE_BYTES)
+    }
+
     fn write(&mut self, addr: u32, part: &[u8]) {
         let mut done = 0;
         while done < part.len() {
