@@ -10,7 +10,7 @@ abbrev pub uuid : ℕ → List ℕ
 uuid octet = replicate 16 octet
 
 abbrev pub object : Handle
-object = record { name = 0x31 ∷ 0x2f ∷ 0x41 ∷ []; fd = 70; length = 10; position = 3 }
+object = record { name = 0x31 ∷ 0x2f ∷ 0x41 ∷ []; fd = 70; length = 10; position = 3; format = 1 }
 
 -- an instance with two bytes of memory and one open object
 abbrev pub busy : Instance
