@@ -1,10 +1,12 @@
 -- What a job asks for fits a message, at its stop and behind each answer.
 use Rattle.std.proofs.Common.{◌≡◌, ℕ, zero, suc, ◌+◌, ◌-◌, ◌/◌, ◌%◌, ◌^◌, ◌≤◌, Bool, true, false, List, [], ◌∷◌, ◌++◌, length, take, drop, min, Option, Some, None, refl, ap, sym, subst, ◌∙◌, arith}
-use Rattle.std.specs.Prelude.{◌==◌, if◌then◌else◌, nat_lt}
+use Rattle.std.specs.Prelude.{◌==◌, ◌&&◌, ◌||◌, not, if◌then◌else◌, nat_lt}
 use Rattle.std.specs.Option.{option_map, option_and_then}
-use Rattle.std.proofs.lemmas.List.{length-take, length-drop}
+use Rattle.std.proofs.lemmas.List.{length-append, length-take, length-drop}
 use Rattle.std.proofs.lemmas.Option.{option_and_then_some}
+use Rattle.base.specs.Bytes.{overwritten}
 use Rattle.base.specs.NumberMap.{NumberMap, get}
+use Rattle.hmac.proofs.Digests.{length-hmac}
 use Rattle.rpc_msgs.specs.Answer.{RpcAnswer, Replied, NoBuffer}
 use Rattle.rpc_msgs.specs.Request.{IsPayloadOf, IsRequest}
 use Rattle.rpc_msgs.specs.declared.rpc.Rpc.{Rpc}
@@ -25,13 +27,16 @@ use Rattle.ta_step.specs.declared.stop.Request.{Request}
 use Rattle.ta_step.specs.declared.stop.Request.TheVariants as request
 use Rattle.ta_step.specs.declared.stop.Stop.TheVariants as stop
 use Rattle.ta_step.proofs.Kept.{runs-names}
+use Rattle.tee_storage.specs.declared.object_file.Header.{Header}
 use Rattle.tee_storage.specs.Handles.{lowest_free}
+use Rattle.tee_storage.specs.KeptData.{Storing, reading_data, storing_none}
 use Rattle.tee_storage.specs.ObjectCalls.{program_of, serving, shown}
 use Rattle.tee_storage.specs.ObjectFiles.{Piece, bytes_of, cut, file_name, header, is_id_length, offset_of, pieces}
-use Rattle.tee_storage.specs.OpenObjects.{on_found, readable, reading, removing, without, write_some, writing, writing_length}
-use Rattle.tee_storage.specs.Opening.{creating, header_in, opened_as, opening, with_handle, with_number}
+use Rattle.tee_storage.specs.OpenObjects.{all_read, new_length, new_tag, on_found, read_checked, read_some, readable, reading, removing, storing_read, without, write_checked, write_some, writing, writing_header}
+use Rattle.tee_storage.specs.Opening.{creating, first_bytes, header_in, opened_as, opening, with_handle, with_number}
 use Rattle.tee_storage.specs.Program.{Now, Program, Asks, Ends, after, after_one, fails, now_at}
 use Rattle.tee_storage.specs.Replies.{asks, failure_of, is_whole, unless_failed}
+use Rattle.tee_storage.specs.Tags.{brings, checking, first_tag, is_tagged, kept_tag, tag_front, tag_of, tag_offset}
 use Rattle.tee_storage.specs.declared.handle.Handle.{Handle}
 use Rattle.tee_storage.specs.declared.object_file.TheConstants.{MAX_LENGTH}
 use Rattle.tee_storage.specs.declared.step.StorageStep.TheVariants as storage
@@ -75,14 +80,27 @@ handle_fits len now onward rest =
 header_room : 8 ≤ 3584
 header_room = omega arith
 
-opened_fits : (found : Option ℕ) (name : List ℕ) (number fd : ℕ) (now : Now) → IsFitting (opened_as found name number fd now)
+opened_fits : (found : Option Header) (name : List ℕ) (number fd : ℕ) (now : Now) → IsFitting (opened_as found name number fd now)
 opened_fits None name number fd now = tt
-opened_fits (Some len) name number fd now = tt
+opened_fits (Some header) name number fd now = tt
 
-creating_fits : (name : List ℕ) (now : Now) (number : ℕ) → IsFitting (creating name now number)
-creating_fits name now number =
+-- and a tag 32
+tag_room : 32 ≤ 3584
+tag_room = omega arith
+
+long_tag : (key name : List ℕ) (len : ℕ) (content : List ℕ) → length (tag_of key name len content) ≡ 32
+long_tag key name len content = length-hmac key (tag_front name len ++ content)
+
+first_room : 40 ≤ 3584
+first_room = omega arith
+
+long_first : (key name : List ℕ) → length (first_bytes key name) ≡ 40
+long_first key name = omega (arith, long_tag key name 0 [], length-append (header 0) (first_tag key name))
+
+creating_fits : (key name : List ℕ) (now : Now) (number : ℕ) → IsFitting (creating key name now number)
+creating_fits key name now number =
     asks_fit (rpc.FsCreate name) name now _ tt refl (λ created.
-    asks_fit (rpc.FsWrite created.v 0 8) (header 0) now _ header_room refl (λ written. tt))
+    asks_fit (rpc.FsWrite created.v 0 40) (first_bytes key name) now _ first_room (long_first key name) (λ written. tt))
 
 opening_fits : (name : List ℕ) (now : Now) (number : ℕ) → IsFitting (opening name now number)
 opening_fits name now number =
@@ -114,43 +132,74 @@ reading_fits handle object len [] now short = tt
 reading_fits handle object len (piece ∷ others) now short =
     asks_fit (rpc.FsRead object.fd (offset_of (object.position + piece.start)) piece.len) [] now _ short.0 refl (λ reply. if_fits (is_whole reply piece.len) _ _ (reading_fits handle object len others _ short.1) tt)
 
-length_fits : (handle : ℕ) (object : Handle) (len : ℕ) (now : Now) → IsFitting (writing_length handle object len now)
-length_fits handle object len now =
-    if_fits (nat_lt object.length (object.position + len)) _ _
-    (asks_fit (rpc.FsWrite object.fd 0 8) (header (object.position + len)) now _ header_room refl (λ reply. tt)) tt
+-- what holds of each state of the range holds behind all of the data
+data_fits : (object : Handle) (storing : Storing) (P : Now → Type 0) (some : List Piece) (content : List ℕ) (now : Now) (onward : List ℕ → Now → Program)
+    → ((later : Now) (start : ℕ) (bytes : List ℕ) → P later → P (storing later start bytes)) → AreShort some → P now
+    → ((all : List ℕ) (later : Now) → P later → IsFitting (onward all later)) → IsFitting (reading_data object storing some content now onward)
+data_fits object storing P [] content now onward stays short here rest = rest content now here
+data_fits object storing P (piece ∷ others) content now onward stays short here rest =
+    asks_fit (rpc.FsRead object.fd (offset_of piece.start) piece.len) [] now _ short.0 refl (λ reply. if_fits (is_whole reply piece.len) _ _
+    (data_fits object storing P others (content ++ reply.bytes) (storing now piece.start reply.bytes) onward stays short.1 (stays now piece.start reply.bytes here) rest) tt)
 
-writing_fits : (handle : ℕ) (object : Handle) (len : ℕ) (some : List Piece) (now : Now) → AreShort some → AreThere now.range some
-    → IsFitting (writing handle object len some now)
-writing_fits handle object len [] now short there = length_fits handle object len now
-writing_fits handle object len (piece ∷ others) now short there =
+checking_fits : (object : Handle) (tag : List ℕ) (now : Now) (onward : Program) → IsFitting onward → IsFitting (checking object tag now onward)
+checking_fits object tag now onward fits =
+    asks_fit (rpc.FsRead object.fd (tag_offset object.length) 32) [] now _ tag_room refl (λ reply. if_fits (brings reply tag) _ _ fits tt)
+
+read_fits : (key : List ℕ) (handle : ℕ) (object : Handle) (len : ℕ) (now : Now) → IsFitting (read_some key handle object len now)
+read_fits key handle object len now =
+    if_fits (is_tagged object && nat_lt 0 len) _ _
+    (data_fits object (storing_read object len) (λ later. Unit {0}) (pieces object.length) [] now (read_checked key handle object len) (λ later start bytes here. tt) (cut_short _ 0 object.length) tt
+    (λ all later here. checking_fits object (kept_tag key object all) later (all_read handle object len later) tt))
+    (reading_fits handle object len (pieces len) now (cut_short _ 0 len))
+
+length_fits : (handle : ℕ) (object : Handle) (len : ℕ) (now : Now) → IsFitting (writing_header handle object len now)
+length_fits handle object len now =
+    if_fits (nat_lt object.length (object.position + len) || not (is_tagged object)) _ _
+    (asks_fit (rpc.FsWrite object.fd 0 8) (header (new_length object len)) now _ header_room refl (λ reply. tt)) tt
+
+writing_fits : (handle : ℕ) (object : Handle) (len : ℕ) (tag : List ℕ) (some : List Piece) (now : Now) → length tag ≡ 32 → AreShort some → AreThere now.range some
+    → IsFitting (writing handle object len tag some now)
+writing_fits handle object len tag [] now whole short there =
+    asks_fit (rpc.FsWrite object.fd (tag_offset (new_length object len)) 32) tag now _ tag_room whole (λ reply. length_fits handle object len now)
+writing_fits handle object len tag (piece ∷ others) now whole short there =
     asks_fit (rpc.FsWrite object.fd (offset_of (object.position + piece.start)) piece.len) (bytes_of now.range piece) now _ short.0 there.0
-    (λ reply. writing_fits handle object len others now short.1 there.1)
+    (λ reply. writing_fits handle object len tag others now whole short.1 there.1)
 
 found_fits : (found : Option Handle) (now : Now) (onward : Handle → Program) → ((object : Handle) → IsFitting (onward object)) → IsFitting (on_found found now onward)
 found_fits None now onward rest = tt
 found_fits (Some object) now onward rest = rest object
 
-written_fits : (handle len : ℕ) (now : Now) (object : Handle) → len ≤ length now.range
-    → IsFitting (if nat_lt MAX_LENGTH (object.position + len) then fails TEE_ERROR_BAD_PARAMETERS now else write_some handle object len now)
-written_fits handle len now object within =
+checked_fits : (key : List ℕ) (handle : ℕ) (object : Handle) (len : ℕ) (content : List ℕ) (now : Now) → len ≤ length now.range
+    → IsFitting (write_checked key handle object len content now)
+checked_fits key handle object len content now within =
+    let written = take len now.range in
+    let tag = new_tag key object content written in
+    let whole = long_tag key object.name (new_length object (length written)) (overwritten content object.position written) in
+    let onward = writing_fits handle object len tag (pieces len) now whole (cut_short _ 0 len) (cut_there now.range _ 0 len within) in
+    if_fits (is_tagged object) _ _ (checking_fits object (kept_tag key object content) now (writing handle object len tag (pieces len) now) onward) onward
+
+written_fits : (key : List ℕ) (handle len : ℕ) (now : Now) (object : Handle) → len ≤ length now.range
+    → IsFitting (if nat_lt MAX_LENGTH (object.position + len) then fails TEE_ERROR_BAD_PARAMETERS now else write_some key handle object len now)
+written_fits key handle len now object within =
     if_fits (nat_lt MAX_LENGTH (object.position + len)) _ _ tt (if_fits (len == 0) _ _ tt
-    (writing_fits handle object len (pieces len) now (cut_short _ 0 len) (cut_there now.range _ 0 len within)))
+    (data_fits object storing_none (λ (later : Now). len ≤ length later.range) (pieces object.length) [] now (write_checked key handle object len) (λ later start bytes here. here) (cut_short _ 0 object.length) within
+    (checked_fits key handle object len)))
 
 removing_fits : (name : List ℕ) (now : Now) → IsFitting (removing name now)
 removing_fits name now = asks_fit (rpc.FsRemove name) name now _ tt refl (λ removed. tt)
 
-calls_fit : (call : ObjectCall) (uuid : List ℕ) (now : Now) → length now.range ≡ (object_span call).1 → IsFitting (program_of call uuid now)
-calls_fit (Create id len) uuid now e = handle_fits len now (creating (file_name uuid now.range) now) (creating_fits (file_name uuid now.range) now)
-calls_fit (Opened id len) uuid now e = handle_fits len now (opening (file_name uuid now.range) now) (opening_fits (file_name uuid now.range) now)
-calls_fit (Read handle addr len) uuid now e =
+calls_fit : (call : ObjectCall) (uuid key : List ℕ) (now : Now) → length now.range ≡ (object_span call).1 → IsFitting (program_of call uuid key now)
+calls_fit (Create id len) uuid key now e = handle_fits len now (creating key (file_name uuid now.range) now) (creating_fits key (file_name uuid now.range) now)
+calls_fit (Opened id len) uuid key now e = handle_fits len now (opening (file_name uuid now.range) now) (opening_fits (file_name uuid now.range) now)
+calls_fit (Read handle addr len) uuid key now e =
     found_fits (get now.objects handle) now _
-    (λ object. reading_fits handle object (readable object len) (pieces (readable object len)) now (cut_short _ 0 (readable object len)))
-calls_fit (Write handle addr len) uuid now e =
-    found_fits (get now.objects handle) now _ (λ object. written_fits handle len now object (omega (arith, e)))
-calls_fit (Seek handle position) uuid now e = found_fits (get now.objects handle) now _ (λ object. if_fits (nat_lt object.length position) _ _ tt tt)
-calls_fit (Close handle) uuid now e =
+    (λ object. read_fits key handle object (readable object len) now)
+calls_fit (Write handle addr len) uuid key now e =
+    found_fits (get now.objects handle) now _ (λ object. written_fits key handle len now object (omega (arith, e)))
+calls_fit (Seek handle position) uuid key now e = found_fits (get now.objects handle) now _ (λ object. if_fits (nat_lt object.length position) _ _ tt tt)
+calls_fit (Close handle) uuid key now e =
     found_fits (get now.objects handle) now _ (λ object. (tt, refl, λ reply. unless_fits reply.ret (without now handle) _ tt))
-calls_fit (Delete handle) uuid now e =
+calls_fit (Delete handle) uuid key now e =
     found_fits (get now.objects handle) now _ (λ object. (tt, refl, λ reply. removing_fits object.name (without now handle)))
 
 -- ---- after answers
@@ -220,10 +269,10 @@ comes_fit owner cancelled asked request.Time e = time_fits asked asked.answers
 comes_fit owner cancelled asked (request.Suspend ms) e = wait_fits asked ms cancelled asked.answers
 comes_fit owner cancelled asked (request.Object call) e =
     let now = now_at asked.range asked.objects in
-    let program = program_of call owner.uuid now in
+    let program = program_of call owner.uuid owner.key now in
     object_fits (after (Some program) asked.answers) (later_fits (Some program) asked.answers (λ other is.
     let same : program ≡ other = cc in
-    subst IsFitting same (calls_fit call owner.uuid now e)))
+    subst IsFitting same (calls_fit call owner.uuid owner.key now e)))
 
 -- ---- one advance
 

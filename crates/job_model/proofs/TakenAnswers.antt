@@ -104,20 +104,20 @@ object_on (Some (program.Ends (storage.Ask rpc payload) now)) answer calm needed
 object_on (Some (program.Ends (storage.Done result value) now)) answer calm needed = absurd needed
 object_on (Some (program.Ends (storage.Panic code) now)) answer calm needed = absurd needed
 
-call_on : (call : ObjectCall) (uuid range : List ℕ) (objects : NumberMap Handle) (answers : List RpcAnswer) (answer : RpcAnswer)
-    → IsNeededBy (option_map object_ask (serving call uuid range objects answers))
-    → ComesOn (option_map object_ask (serving call uuid range objects (answers ++ answer ∷ [])))
-call_on call uuid range objects answers answer needed =
-    let first = Some (program_of call uuid (now_at range objects)) in
+call_on : (call : ObjectCall) (uuid key range : List ℕ) (objects : NumberMap Handle) (answers : List RpcAnswer) (answer : RpcAnswer)
+    → IsNeededBy (option_map object_ask (serving call uuid key range objects answers))
+    → ComesOn (option_map object_ask (serving call uuid key range objects (answers ++ answer ∷ [])))
+call_on call uuid key range objects answers answer needed =
+    let first = Some (program_of call uuid key (now_at range objects)) in
     let so_far = after first answers in
-    let comes = object_on so_far answer (λ p is. left-calm call uuid (now_at range objects) answers p is) needed in
+    let comes = object_on so_far answer (λ p is. left-calm call uuid key (now_at range objects) answers p is) needed in
     subst (λ (o : Option Program). ComesOn (option_map object_ask (option_map shown o))) (sym (after-append first answers answer)) comes
 
 answer_on : (owner : Owner) (cancelled : Bool) (asked : PendingRequest) (answer : RpcAnswer) (wanted : Request)
     → IsNeededBy (comes_to owner cancelled asked wanted) → ComesOn (comes_to owner cancelled (record asked { answers = asked.answers ++ answer ∷ [] }) wanted)
 answer_on owner cancelled asked answer request.Time needed = time_on asked asked.answers answer needed
 answer_on owner cancelled asked answer (request.Suspend ms) needed = wait_on asked ms cancelled asked.answers answer needed
-answer_on owner cancelled asked answer (request.Object call) needed = call_on call owner.uuid asked.range asked.objects asked.answers answer needed
+answer_on owner cancelled asked answer (request.Object call) needed = call_on call owner.uuid owner.key asked.range asked.objects asked.answers answer needed
 
 -- ---- on from there
 

@@ -99,7 +99,7 @@ comes_to owner cancelled asked request.Time = option_map (ask_unchanged asked) (
 comes_to owner cancelled asked (request.Suspend ms) =
     option_map (ask_unchanged asked) (asks_wait ms cancelled asked.answers)
 comes_to owner cancelled asked (request.Object call) =
-    option_map object_ask (serving call owner.uuid asked.range asked.objects asked.answers)
+    option_map object_ask (serving call owner.uuid owner.key asked.range asked.objects asked.answers)
 
 abbrev pub ask : Owner → Bool → PendingRequest → Option Ask
 ask owner cancelled asked = comes_to owner cancelled asked asked.request

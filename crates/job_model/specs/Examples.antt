@@ -29,7 +29,7 @@ use Rattle.job_model.specs.Steps.{JobStop, Ends, Panics, Asks, Advance, Goes, St
 use Rattle.job_model.specs.Steps.{stop_at, grant_of, advance_on_answer, after_run, grant_after}
 
 abbrev pub owner : Owner
-owner = owner_of (1 ∷ 2 ∷ 3 ∷ [])
+owner = owner_of (1 ∷ 2 ∷ 3 ∷ []) (replicate 32 0)
 
 -- 5 and 7 in a value that goes both ways, and their sum, beside which the adder leaves its r2: the context
 abbrev pub terms : CopiedParams
@@ -71,7 +71,7 @@ memory = 1 ∷ 2 ∷ 0 ∷ 0 ∷ 9 ∷ 0 ∷ 0 ∷ 0 ∷ []
 
 -- an open object
 abbrev pub one_object : NumberMap Handle
-one_object = (3, record { name = 0x31 ∷ []; fd = 70; length = 10; position = 3 }) ∷ []
+one_object = (3, record { name = 0x31 ∷ []; fd = 70; length = 10; position = 3; format = 1 }) ∷ []
 
 abbrev pub nothing_to_run : Job
 nothing_to_run = idle_job owner somebody 20 one_object no_params
@@ -126,7 +126,7 @@ invokes_with func context image =
 
 -- the same object, at another position
 abbrev pub object_at : ℕ → NumberMap Handle
-object_at position = (3, record { name = 0x31 ∷ []; fd = 70; length = 10; position = position }) ∷ []
+object_at position = (3, record { name = 0x31 ∷ []; fd = 70; length = 10; position = position; format = 1 }) ∷ []
 
 -- what an invoke ends with that leaves this memory and these objects
 abbrev pub ends_as : ℕ → ℕ → List ℕ → NumberMap Handle → JobStop
