@@ -292,18 +292,18 @@ wait-gives {M} bytes cont job m ms w answer r0 is =
 
 pub come-object : {M : Type 0} (owner : Owner) (range : List ℕ) (asked : PendingRequest) (cont : Cont M) (call : ObjectCall) (pending : Option Asked) (object : Option ObjectState)
     (state : ObjectState) → object ≡ Some state → HasCome owner range asked cont (request.Object call) pending object
-    → (p : Asked) × StandsFor state call owner.uuid asked.range asked.objects asked.answers (record { step = storage.Ask p.rpc p.payload; range = range; objects = cont.objects })
+    → (p : Asked) × StandsFor state call owner.uuid owner.key asked.range asked.objects asked.answers (record { step = storage.Ask p.rpc p.payload; range = range; objects = cont.objects })
 come-object owner range asked cont call None object state is come = absurd come
 come-object owner range asked cont call (Some pending) None state is come = absurd come
 come-object owner range asked cont call (Some pending) (Some other) state is come =
     let same : other ≡ state = cc in
     let now : Serving = record { step = storage.Ask pending.rpc pending.payload; range = range; objects = cont.objects } in
-    (pending, subst (λ (o : ObjectState). StandsFor o call owner.uuid asked.range asked.objects asked.answers now) same come)
+    (pending, subst (λ (o : ObjectState). StandsFor o call owner.uuid owner.key asked.range asked.objects asked.answers now) same come)
 
 pub object-fails : {M : Type 0} (bytes : M → List ℕ) (cont : Cont M) (job : Job) (m : AnyMachine M) (call : ObjectCall)
     (w : Waiting bytes cont job m (request.Object call)) (answer : RpcAnswer) (code : ℕ)
     → (let span = object_span call in
-    serving call (call_owner cont).uuid w.asked.range w.asked.objects (w.asked.answers ++ answer ∷ [])
+    serving call (call_owner cont).uuid (call_owner cont).key w.asked.range w.asked.objects (w.asked.answers ++ answer ∷ [])
     ≡ Some (record { step = storage.Done code 0; range = bytes_at (state_of bytes m) span.0 span.1; objects = cont.objects }))
     → GivesFor bytes cont job m (request.Object call) w answer code 0 0
 object-fails {M} bytes cont job m call w answer code serves =

@@ -97,7 +97,7 @@ object_turn bytes owner image cont here m asked step =
 abbrev pub Came : {M : Type 0} → (M → List ℕ) → Owner → Cont M → AnyMachine M → ObjectCall → PendingRequest → ObjectState → StorageStep → Type 0
 Came bytes owner cont m call asked state step =
     let span = object_span call in
-    StandsFor state call owner.uuid asked.range asked.objects asked.answers
+    StandsFor state call owner.uuid owner.key asked.range asked.objects asked.answers
     (record { step = step; range = bytes_at (state_of bytes m) span.0 span.1; objects = cont.objects })
 
 pub object-asks : {M : Type 0} (bytes : M → List ℕ) (owner : Owner) (image : Image) (old new : Cont M) (answer : ContStop)
@@ -175,7 +175,7 @@ on_alike job body held before image point machine asked objects (Gives r0 r1 r2)
 on_alike job body held before image point machine asked objects (Bad code) = refl
 
 pub served-object : (job : Job) (image : Image) (point : EntryPoint) (machine : State) (call : ObjectCall) (asked : PendingRequest) (now : Serving)
-    → asked.request ≡ request.Object call → serving call job.owner.uuid asked.range asked.objects asked.answers ≡ Some now
+    → asked.request ≡ request.Object call → serving call job.owner.uuid job.owner.key asked.range asked.objects asked.answers ≡ Some now
     → advance_on_answers job image point machine asked
     ≡ Some (on_from job image point (with_bytes machine (request.Object call) now.range) asked now.objects (object_asking now.step))
 served-object job image point machine call asked now names serves =
@@ -192,19 +192,19 @@ abbrev pub moved : {M : Type 0} → Cont M → AnyMachine M → NumberMap Handle
 moved cont machine objects = record cont { machine = Some machine; objects = objects }
 
 -- an object call has come so far, over the bytes of the machine that it left
-pub came-over : (s : State) (call : ObjectCall) (uuid range left : List ℕ) (objects held : NumberMap Handle) (answers : List RpcAnswer) (state : ObjectState) (step : StorageStep)
+pub came-over : (s : State) (call : ObjectCall) (uuid key range left : List ℕ) (objects held : NumberMap Handle) (answers : List RpcAnswer) (state : ObjectState) (step : StorageStep)
     → (let span = object_span call in bytes_at s span.0 span.1 ≡ left)
-    → StandsFor state call uuid range objects answers (record { step = step; range = left; objects = held })
-    → (let span = object_span call in StandsFor state call uuid range objects answers (record { step = step; range = bytes_at s span.0 span.1; objects = held }))
-came-over s call uuid range left objects held answers state step here came =
-    subst (λ (r : List ℕ). StandsFor state call uuid range objects answers (record { step = step; range = r; objects = held })) (sym here) came
+    → StandsFor state call uuid key range objects answers (record { step = step; range = left; objects = held })
+    → (let span = object_span call in StandsFor state call uuid key range objects answers (record { step = step; range = bytes_at s span.0 span.1; objects = held }))
+came-over s call uuid key range left objects held answers state step here came =
+    subst (λ (r : List ℕ). StandsFor state call uuid key range objects answers (record { step = step; range = r; objects = held })) (sym here) came
 
 -- what it comes to is what its next step does
 pub object-served : {M : Type 0} (bytes : M → List ℕ) (owner : Owner) (image : Image) (old : Cont M)
     (here : EntryPoint) (m n : AnyMachine M) (before : Option PendingRequest) (call : ObjectCall) (asked : PendingRequest) (state : ObjectState) (now : Serving) (Q : Advance → Type 0)
     → asked.request ≡ request.Object call
     → state_of bytes n ≡ with_bytes (state_of bytes m) (request.Object call) now.range
-    → StandsFor state call owner.uuid asked.range asked.objects asked.answers now
+    → StandsFor state call owner.uuid owner.key asked.range asked.objects asked.answers now
     → Q (object_turn bytes owner image (moved old n now.objects) here n asked now.step)
     → IsSomeAnd (advance_on_answers (record (job_at bytes owner image old) { asked = before }) image here (state_of bytes m) asked) Q
 object-served {M} bytes owner image old here m n before call asked state now Q names stored stands turn =

@@ -65,7 +65,7 @@ grant-pending : {M : Type 0} (bytes : M → List ℕ) (whose : Option ContApp) (
     → IsAdvance bytes whose cont before steps grant answer → answer ≡ stop.Asks → IsPending bytes cont
 grant-pending bytes whose cont before steps (Left job) answer (interrupted, same, can, count) asks = absurd cc
 grant-pending bytes whose cont before steps (Stopped n why) answer (is, count) asks =
-    stop-pending bytes (owner_for whose) cont (job_for bytes whose cont) why answer is asks
+    stop-pending bytes (owner_for whose cont.key) cont (job_for bytes whose cont) why answer is asks
 
 pub advance-pending : {M : Type 0} (bytes : M → List ℕ) (whose : Option ContApp) (cont : Cont M) (before steps : ℕ) (o : Option Grant) (answer : ContStop)
     → IsSomeAnd o (λ grant. IsAdvance bytes whose cont before steps grant answer) → answer ≡ stop.Asks → IsPending bytes cont
@@ -75,7 +75,7 @@ advance-pending bytes whose cont before steps (Some grant) answer is asks = gran
 -- only an image asks
 abbrev Advanced : {M : Type 0} → (M → List ℕ) → Option ContApp → Cont M → Cont M → ℕ → ContStop → Option EntryPoint → Option (AnyMachine M) → Type 0
 Advanced bytes whose old new steps answer point machine =
-    IsSomeAnd (grant_of steps (job_with (body_of bytes whose point machine) (owner_for whose) old)) (λ grant. IsAdvance bytes whose new old.steps steps grant answer)
+    IsSomeAnd (grant_of steps (job_with (body_of bytes whose point machine) (owner_for whose old.key) old)) (λ grant. IsAdvance bytes whose new old.steps steps grant answer)
 
 image_at : {M : Type 0} (bytes : M → List ℕ) (whose : Option ContApp) (old new : Cont M) (steps : ℕ) (answer : ContStop) (point : Option EntryPoint) (machine : Option (AnyMachine M))
     → IsRunnable bytes old.cancelled whose point machine → Advanced bytes whose old new steps answer point machine → answer ≡ stop.Asks → HasImage whose

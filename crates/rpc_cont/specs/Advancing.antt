@@ -74,4 +74,4 @@ abbrev pub IsAdvance : {M : Type 0} → (M → List ℕ) → Option ContApp → 
 IsAdvance bytes app cont before steps (Left job) answer =
     (answer ≡ stop.Interrupted) × (job ≡ job_for bytes app cont) × CanRun bytes app cont × (cont.steps ≡ before + steps)
 IsAdvance bytes app cont before steps (Stopped used why) answer =
-    IsStop bytes (owner_for app) cont (job_for bytes app cont) why answer × (cont.steps ≡ before + used)
+    IsStop bytes (owner_for app cont.key) cont (job_for bytes app cont) why answer × (cont.steps ≡ before + used)

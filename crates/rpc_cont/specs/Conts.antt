@@ -23,13 +23,13 @@ uuid_of (Some (app.Image uuid image)) = uuid
 uuid_of (Some (app.Native native)) = native.uuid
 uuid_of (Some (app.Dead uuid)) = uuid
 
--- whose application this is
-abbrev pub owner_for : Option ContApp → Owner
-owner_for app = owner_of (uuid_of app)
+-- whose application this is, under a key
+abbrev pub owner_for : Option ContApp → List ℕ → Owner
+owner_for app key = owner_of (uuid_of app) key
 
 -- whose application a call is of
 abbrev pub call_owner : {M : Type 0} → Cont M → Owner
-call_owner cont = owner_for cont.app
+call_owner cont = owner_for cont.app cont.key
 
 -- the parameters that no machine has
 abbrev pub kept_params : Option CopiedParams → CopiedParams
@@ -76,7 +76,7 @@ job_at bytes owner image cont = job_with (body_at bytes image cont.point cont.ma
 
 -- the same of this application
 abbrev pub job_for : {M : Type 0} → (M → List ℕ) → Option ContApp → Cont M → Job
-job_for bytes app cont = job_with (body_of bytes app cont.point cont.machine) (owner_for app) cont
+job_for bytes app cont = job_with (body_of bytes app cont.point cont.machine) (owner_for app cont.key) cont
 
 -- the job that a call stands for
 abbrev pub job_of : {M : Type 0} → (M → List ℕ) → Cont M → Job

@@ -54,7 +54,7 @@ pub record IsRunning {M : Type 0} (bytes : M → List ℕ) (cont : Cont M) : Typ
 abbrev pub HasCome : {M : Type 0} → Owner → List ℕ → PendingRequest → Cont M → Request → Option Asked → Option ObjectState → Type 0
 HasCome owner range asked cont (request.Object call) (Some pending) (Some state) =
     let step = storage.Ask pending.rpc pending.payload in
-    StandsFor state call owner.uuid asked.range asked.objects asked.answers (record { step = step; range = range; objects = cont.objects })
+    StandsFor state call owner.uuid owner.key asked.range asked.objects asked.answers (record { step = step; range = range; objects = cont.objects })
 HasCome owner range asked cont request.Time (Some pending) None =
     (asked ≡ record { request = request.Time; range = []; objects = cont.objects; answers = [] })
     × (pending ≡ record { rpc = rpc.Time; payload = [] })

@@ -90,8 +90,8 @@ impl<M: TaMemory + Drop> Cont<M> {
         requires running { IsRunning M.bytes self.old }
         requires image { IsValid image.now }
         requires steps { self.old.steps + steps < 2 ^ 128 }
-        ensures runs { IsSomeAnd (run_for steps (job_at M.bytes (owner_of uuid) image.now self.old))
-            (λ grant. IsRun M.bytes (owner_of uuid) image.now self.new self.old.steps steps grant result) }
+        ensures runs { IsSomeAnd (run_for steps (job_at M.bytes (owner_of uuid self.old.key) image.now self.old))
+            (λ grant. IsRun M.bytes (owner_of uuid self.old.key) image.now self.new self.old.steps steps grant result) }
         ensures size { memory_size M.bytes self.new ≡ memory_size M.bytes self.old }
         ensures stays { self.new ≡ record (worked self.old self.new) { steps = self.new.steps } }
     {
@@ -114,8 +114,8 @@ impl<M: TaMemory + Drop> Cont<M> {
         requires some { 0 < steps }
         requires steps { self.old.steps + steps < 2 ^ 128 }
         ensures turns { IsSomeAnd self.old.machine (λ m. (here : AnyPoint) → self.old.point ≡ Some here
-            → IsSomeAnd (turn_of (job_with Nothing (owner_of uuid) self.old) image.now here (state_of M.bytes m) steps)
-            (λ turn. (turn.0 ≡ result.1) × IsTurn M.bytes (owner_of uuid) image.now self.new turn.1 result.0)) }
+            → IsSomeAnd (turn_of (job_with Nothing (owner_of uuid self.old.key) self.old) image.now here (state_of M.bytes m) steps)
+            (λ turn. (turn.0 ≡ result.1) × IsTurn M.bytes (owner_of uuid self.old.key) image.now self.new turn.1 result.0)) }
         ensures some { 0 < result.1 }
         ensures most { result.1 ≤ steps }
         ensures used { self.new.steps ≡ self.old.steps + result.1 }
@@ -135,8 +135,8 @@ impl<M: TaMemory + Drop> Cont<M> {
     fn stopped(&mut self, uuid: Uuid, image: &Image, stop: Stop) -> Option<ContStop>
         requires { HasRunTo M.bytes self.old stop }
         ensures serves { IsSomeAnd self.old.machine (λ m. (here : AnyPoint) → self.old.point ≡ Some here
-            → IsSomeAnd (after_run (job_with Nothing (owner_of uuid) self.old) image.now here (state_of M.bytes m) stop)
-            (λ turn. IsTurn M.bytes (owner_of uuid) image.now self.new turn result)) }
+            → IsSomeAnd (after_run (job_with Nothing (owner_of uuid self.old.key) self.old) image.now here (state_of M.bytes m) stop)
+            (λ turn. IsTurn M.bytes (owner_of uuid self.old.key) image.now self.new turn result)) }
         ensures size { memory_size M.bytes self.new ≡ memory_size M.bytes self.old }
         ensures stays { self.new ≡ worked self.old self.new }
     {

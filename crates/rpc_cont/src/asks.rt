@@ -50,10 +50,10 @@ impl<M: TaMemory + Drop> Cont<M> {
     pub(crate) fn ask(&mut self, uuid: Uuid, request: Request) -> Option<ContStop>
         requires { IsAsking M.bytes self.old request }
         ensures asks { (image : AnyImage) → IsSomeAnd self.old.machine (λ m. (here : AnyPoint) → self.old.point ≡ Some here
-            → (let job = job_at M.bytes (owner_of uuid) image self.old in
+            → (let job = job_at M.bytes (owner_of uuid self.old.key) image self.old in
             let machine = state_of M.bytes m in
             IsSomeAnd (advance_on_answers job image here machine (new_request job machine request))
-            (λ turn. IsTurn M.bytes (owner_of uuid) image self.new turn result))) }
+            (λ turn. IsTurn M.bytes (owner_of uuid self.old.key) image self.new turn result))) }
         ensures size { memory_size M.bytes self.new ≡ memory_size M.bytes self.old }
         ensures stays { self.new ≡ worked self.old self.new }
     {
@@ -63,7 +63,13 @@ impl<M: TaMemory + Drop> Cont<M> {
             Request::Object(call) => {
                 let machine = self.machine.take().unwrap();
                 let span = MachineSpan::of(call, machine);
-                let (state, step) = ObjectState::start(call, uuid, &span, &mut self.objects);
+                let (state, step) = ObjectState::start(
+                    call,
+                    uuid,
+                    &span,
+                    &mut self.objects,
+                    &self.key,
+                );
                 self.machine = Some(span.into_machine());
                 self.go_on(call, state, step)
             }
@@ -82,7 +88,7 @@ impl<M: TaMemory + Drop> Cont<M> {
             → IsSomeAnd self.old.machine (λ m. (here : AnyPoint) → self.old.point ≡ Some here
             → (let machine = state_of M.bytes m in
             let range = (let span = object_span call in bytes_at machine span.0 span.1) in
-            StandsFor state call owner.uuid asked.range asked.objects asked.answers
+            StandsFor state call owner.uuid owner.key asked.range asked.objects asked.answers
             (record { step = step; range = range; objects = self.old.objects })
             → IsTurn M.bytes owner image self.new (on_from (job_at M.bytes owner image self.old) image here
             machine asked self.old.objects (object_asking step)) result)) }

@@ -6,7 +6,7 @@ use param_copy::Places;
 use rpc_msgs::{Payload, Rpc, RpcBuffer};
 use ta_params::{CallResult, CopiedParams, Login};
 use ta_step::{Machine, TaMemory};
-use tee_storage::{Handles, ObjectState};
+use tee_storage::{Handles, Key, ObjectState};
 
 /// What a call asks the normal world for, and the bytes that go with it.
 #[derive(Debug, Drop)]
@@ -36,6 +36,8 @@ pub struct Cont<M: TaMemory> {
     pub places: Places,
     pub session: u32,
     pub instance: u32,
+    /// The key of the tags of object files, which the boot brings.
+    pub key: Key,
     /// The instance's memory, while no machine has it.
     pub memory: Option<M>,
     /// The entry point that it has come to: the one that runs, or else the last one that ran.

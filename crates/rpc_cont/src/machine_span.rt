@@ -77,6 +77,12 @@ impl<M: TaMemory> Span for MachineSpan<M> {
         }
     }
 
+    fn part(&self, at: u32) -> &[u8] {
+        let part = self.machine.part(self.addr + at);
+        let len = part.len().min((self.len - at) as usize);
+        &part[..len]
+    }
+
     fn write(&mut self, at: u32, part: &[u8]) {
         if !part.is_empty() {
             self.machine.write(self.addr + at, part);

@@ -22,11 +22,12 @@ use job_model::EntryPoint;
 use ta_params::CallResult;
 use ta_params::codes::TEE_SUCCESS;
 use ta_step::TaMemory;
-use tee_storage::Handles;
+use tee_storage::{Handles, Key};
 
 impl<M: TaMemory + Drop> Cont<M> {
     /// A call that was settled at its entry, with this result.
-    pub fn settled(entered: CallEntry, outcome: CallResult) -> Self
+    pub fn settled(key: Key, entered: CallEntry, outcome: CallResult) -> Self
+        ensures key { result.key ≡ key }
         ensures fresh { IsFresh result }
         ensures entered { IsEntered entered result }
         ensures params { result.params ≡ entered.params }
@@ -35,11 +36,12 @@ impl<M: TaMemory + Drop> Cont<M> {
         ensures phase { result.phase ≡ Phase.Ends }
         ensures shape { IsShaped M.bytes result }
     {
-        Cont::fresh(entered, outcome, Phase::Ends)
+        Cont::fresh(key, entered, outcome, Phase::Ends)
     }
 
     /// A call that waits for its instance.
-    pub fn waiting(entered: CallEntry) -> Self
+    pub fn waiting(key: Key, entered: CallEntry) -> Self
+        ensures key { result.key ≡ key }
         ensures fresh { IsFresh result }
         ensures entered { IsEntered entered result }
         ensures params { result.params ≡ entered.params }
@@ -49,11 +51,12 @@ impl<M: TaMemory + Drop> Cont<M> {
         ensures phase { result.phase ≡ Phase.Waits }
         ensures shape { IsShaped M.bytes result }
     {
-        Cont::fresh(entered, CallResult::of_tee(TEE_SUCCESS), Phase::Waits)
+        Cont::fresh(key, entered, CallResult::of_tee(TEE_SUCCESS), Phase::Waits)
     }
 
     /// A call that has come to no entry point yet, with this result so far.
-    fn fresh(entered: CallEntry, outcome: CallResult, phase: Phase) -> Self
+    fn fresh(key: Key, entered: CallEntry, outcome: CallResult, phase: Phase) -> Self
+        ensures key { result.key ≡ key }
         ensures fresh { IsFresh result }
         ensures entered { IsEntered entered result }
         ensures params { result.params ≡ entered.params }
@@ -75,6 +78,7 @@ impl<M: TaMemory + Drop> Cont<M> {
             places: entered.places,
             session: entered.session,
             instance: entered.instance,
+            key,
             memory: None,
             point: None,
             machine: None,
@@ -96,7 +100,7 @@ impl<M: TaMemory + Drop> Cont<M> {
         requires fresh { IsFresh self.old }
         requires image { HasValidImage held }
         ensures begins { job_of M.bytes self.new ≡ begun_job (beginning_on M.bytes held self.old.cancelled)
-            (job_with Nothing (owner_of (held_uuid held)) self.old) (first ∷ behind.items) }
+            (job_with Nothing (owner_of (held_uuid held) self.old.key) self.old) (first ∷ behind.items) }
         ensures runs { CanAdvance M.bytes self.new }
         ensures shape { IsShaped M.bytes self.new }
         ensures size { memory_size M.bytes self.new ≡ length (beginning_on M.bytes held self.old.cancelled).memory }

@@ -51,16 +51,16 @@ returns-in-Object-clause-asks g c image =
     in
     let stored = c.into_machine.ensures s span.0 span.1 asks.in_range c.of-span.ensures.rest in
     let kept = unread s (state_of bytes n) span.0 span.1 _ asks.in_range stored c.of-span.ensures.bytes in
-    let asked = new_request (job_at bytes (owner_of c.args.uuid) image old) s c.args.request in
+    let asked = new_request (job_at bytes (owner_of c.args.uuid c.args.self.now.key) image old) s c.args.request in
     let range = bytes_at (state_of bytes c.of-span.result.machine) c.of-span.result.addr c.of-span.result.len in
     let now : Serving = record { step = c.start-state.result.1; range = range; objects = c.start-state.new.handles } in
     let named = c.of-span.ensures.bytes ∙ ap (λ (r : Request). range_of r s) (sym c.in-Object.is) in
-    let stands = subst (λ (r : List ℕ). StandsFor c.start-state.result.0 call c.args.uuid r old.objects [] now) named c.start-state.ensures.stands in
+    let stands = subst (λ (r : List ℕ). StandsFor c.start-state.result.0 call c.args.uuid old.key r old.objects [] now) named c.start-state.ensures.stands in
     holds_as old.machine (Some m) _ is
     (λ here at.
-    object-served bytes (owner_of c.args.uuid) image old here m n None call asked c.start-state.result.0 now _ c.in-Object.is stored stands
-    (c.go_on.ensures.turns (owner_of c.args.uuid) image asked c.in-Object.is here at
-    (came-over (state_of bytes n) call c.args.uuid asked.range range asked.objects c.start-state.new.handles [] c.start-state.result.0 c.start-state.result.1
+    object-served bytes (owner_of c.args.uuid c.args.self.now.key) image old here m n None call asked c.start-state.result.0 now _ c.in-Object.is stored stands
+    (c.go_on.ensures.turns (owner_of c.args.uuid c.args.self.now.key) image asked c.in-Object.is here at
+    (came-over (state_of bytes n) call c.args.uuid old.key asked.range range asked.objects c.start-state.new.handles [] c.start-state.result.0 c.start-state.result.1
     (ap (λ (t : State). bytes_at t span.0 span.1) kept ∙ sym c.of-span.ensures.bytes) stands)))
 
 pub returns-in-Object-clause-size : goal.returns-in-Object-clause-size

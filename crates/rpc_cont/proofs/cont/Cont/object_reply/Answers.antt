@@ -58,10 +58,10 @@ returns-clause-answers g c job waits =
     let asking = storage.Ask come.0.rpc come.0.payload in
     let came =
     subst (λ (r : List ℕ).
-    StandsFor c.unwrap-state.result call owner.uuid w.asked.range w.asked.objects w.asked.answers (record { step = asking; range = r; objects = old.objects }))
+    StandsFor c.unwrap-state.result call owner.uuid owner.key w.asked.range w.asked.objects w.asked.answers (record { step = asking; range = r; objects = old.objects }))
     (sym c.of-span.ensures.bytes) come.1
     in
-    let stands = c.answer-step.ensures.stands call owner.uuid w.asked.range w.asked.objects w.asked.answers come.0.rpc come.0.payload came in
+    let stands = c.answer-step.ensures.stands call owner.uuid owner.key w.asked.range w.asked.objects w.asked.answers come.0.rpc come.0.payload came in
     let step = c.answer-step.result in
     let objects = c.answer-step.new.handles in
     let now : Serving = record { step = step; range = range; objects = objects } in
@@ -71,7 +71,7 @@ returns-clause-answers g c job waits =
     let calm = goes_or_asks (job_at bytes owner w.image mid) w.image w.here (state_of bytes n) more objects step c.answer-step.ensures.no_panic in
     let turn =
     c.go_on-stop.ensures.turns owner w.image more w.names w.here w.at
-    (came-over (state_of bytes n) call owner.uuid more.range range more.objects objects more.answers c.answer-step.new.self step here stands)
+    (came-over (state_of bytes n) call owner.uuid owner.key more.range range more.objects objects more.answers c.answer-step.new.self step here stands)
     in
     let done = ran-answered bytes mid c.go_on-stop.new.self w.image c.go_on-stop.result c.phase_behind-self.result next c.go_on-stop.ensures.stays w.runs c.phase_behind-self.ensures calm turn in
     let goes_on = λ (t : Advance). IsAnswered bytes (in_phase c.go_on-stop.new.self c.phase_behind-self.result) t in

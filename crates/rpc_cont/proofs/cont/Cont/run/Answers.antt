@@ -1,7 +1,8 @@
-use Rattle.std.proofs.Common.{rules, ◌≡◌, ◌+◌, ◌-◌, ℕ, Option, subst, ◌∙◌, arith}
+use Rattle.std.proofs.Common.{rules, ◌≡◌, ◌+◌, ◌-◌, ℕ, Option, ap, subst, ◌∙◌, arith}
 use Rattle.job_model.specs.Owner.{owner_of}
 use Rattle.job_model.specs.Steps.{run_for}
 use Rattle.rpc_cont.specs.Conts.{job_at}
+use Rattle.rpc_cont.specs.declared.cont.Cont.{Cont}
 use Rattle.rpc_cont.specs.declared.stop.ContStop.{ContStop}
 use Rattle.rpc_cont.proofs.Runs.{IsTaken, Rests, rests-more, run_stops, turn_taken}
 use Rattle.rpc_cont.proofs.cont.Cont.run.Goals as goal
@@ -14,11 +15,13 @@ returns-in-Some-clause-runs g c =
     let new = c.turn-stop.new.self in
     let left = c.loop-left.left in
     let used = c.turn-stop.result.1 in
-    let grant = run_for left (job_at bytes (owner_of c.args.uuid) image before) in
-    let taken = turn_taken bytes (owner_of c.args.uuid) image before new left used c.turn-stop.result.0 c.loop-left.invariant.running c.turn-stop.ensures.turns in
-    let stops = subst (λ (answer : Option ContStop). IsTaken bytes (owner_of c.args.uuid) image grant left used new answer) c.in-Some.is taken in
-    run_stops bytes (owner_of c.args.uuid) image new c.args.self.now.steps c.args.steps (c.args.steps - left) used c.in-Some.stop
-    (run_for c.args.steps (job_at bytes (owner_of c.args.uuid) image c.args.self.now)) grant c.loop-left.invariant.grant stops
+    let same : before.key ≡ c.args.self.now.key = ap (λ (cont : Cont _). cont.key) c.loop-left.invariant.stays in
+    let turns = rw same at c.turn-stop.ensures.turns in
+    let grant = run_for left (job_at bytes (owner_of c.args.uuid c.args.self.now.key) image before) in
+    let taken = turn_taken bytes (owner_of c.args.uuid c.args.self.now.key) image before new left used c.turn-stop.result.0 c.loop-left.invariant.running turns in
+    let stops = subst (λ (answer : Option ContStop). IsTaken bytes (owner_of c.args.uuid c.args.self.now.key) image grant left used new answer) c.in-Some.is taken in
+    run_stops bytes (owner_of c.args.uuid c.args.self.now.key) image new c.args.self.now.steps c.args.steps (c.args.steps - left) used c.in-Some.stop
+    (run_for c.args.steps (job_at bytes (owner_of c.args.uuid c.args.self.now.key) image c.args.self.now)) grant c.loop-left.invariant.grant stops
     (omega (arith, c.turn-stop.ensures.used, c.loop-left.invariant.used))
 
 pub loop-left-preserved : goal.loop-left-preserved
@@ -29,11 +32,13 @@ loop-left-preserved g c =
     let new = c.turn-stop.new.self in
     let left = c.loop-left.left in
     let used = c.turn-stop.result.1 in
-    let grant = run_for left (job_at bytes (owner_of c.args.uuid) image before) in
-    let all = run_for c.args.steps (job_at bytes (owner_of c.args.uuid) image c.args.self.now) in
-    let rest = run_for (left - used) (job_at bytes (owner_of c.args.uuid) image new) in
-    let taken = turn_taken bytes (owner_of c.args.uuid) image before new left used c.turn-stop.result.0 c.loop-left.invariant.running c.turn-stop.ensures.turns in
-    let goes = subst (λ (answer : Option ContStop). IsTaken bytes (owner_of c.args.uuid) image grant left used new answer) c.in_default.is taken in
+    let same : before.key ≡ c.args.self.now.key = ap (λ (cont : Cont _). cont.key) c.loop-left.invariant.stays in
+    let turns = rw same at c.turn-stop.ensures.turns in
+    let grant = run_for left (job_at bytes (owner_of c.args.uuid c.args.self.now.key) image before) in
+    let all = run_for c.args.steps (job_at bytes (owner_of c.args.uuid c.args.self.now.key) image c.args.self.now) in
+    let rest = run_for (left - used) (job_at bytes (owner_of c.args.uuid c.args.self.now.key) image new) in
+    let taken = turn_taken bytes (owner_of c.args.uuid c.args.self.now.key) image before new left used c.turn-stop.result.0 c.loop-left.invariant.running turns in
+    let goes = subst (λ (answer : Option ContStop). IsTaken bytes (owner_of c.args.uuid c.args.self.now.key) image grant left used new answer) c.in_default.is taken in
     let most = c.turn-stop.ensures.most in
     let within = c.loop-left.invariant.left in
     let count : (c.args.steps - left) + used ≡ c.args.steps - (left - used) = omega (arith, most, within) in

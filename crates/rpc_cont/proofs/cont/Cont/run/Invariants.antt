@@ -11,7 +11,7 @@ invariant-loop-left g l = record {
   running : IsRunning g.M.TaMemory.bytes l.self;
   left : l.left ≤ l.steps;
   grant : (let bytes = g.M.TaMemory.bytes in
-      Rests (run_for l.steps (job_at bytes (owner_of l.uuid) l.image l.initial.self)) (l.steps - l.left) (run_for l.left (job_at bytes (owner_of l.uuid) l.image l.self)));
+      Rests (run_for l.steps (job_at bytes (owner_of l.uuid l.initial.self.key) l.image l.initial.self)) (l.steps - l.left) (run_for l.left (job_at bytes (owner_of l.uuid l.initial.self.key) l.image l.self)));
   used : l.self.steps ≡ l.initial.self.steps + (l.steps - l.left);
   size : memory_size g.M.TaMemory.bytes l.self ≡ memory_size g.M.TaMemory.bytes l.initial.self;
   stays : l.self ≡ record (worked l.initial.self l.self) { steps = l.self.steps };

@@ -24,9 +24,9 @@ returns-in-Some-clause-serves g c =
     let is : cont.machine ≡ Some m = cc in
     holds_as cont.machine (Some m) _ is
     (λ here at.
-    stops_so (job_with Nothing (owner_of c.args.uuid) cont) image here (state_of bytes m) c.args.stop (stop.Ended c.in-Ended.result c.in-Ended.context)
-    (λ (turn : Advance). IsTurn bytes (owner_of c.args.uuid) image c.returned.new.self turn c.returned.result)
-    c.in-Ended.is (c.returned.ensures.goes (owner_of c.args.uuid) here at))
+    stops_so (job_with Nothing (owner_of c.args.uuid c.args.self.now.key) cont) image here (state_of bytes m) c.args.stop (stop.Ended c.in-Ended.result c.in-Ended.context)
+    (λ (turn : Advance). IsTurn bytes (owner_of c.args.uuid c.args.self.now.key) image c.returned.new.self turn c.returned.result)
+    c.in-Ended.is (c.returned.ensures.goes (owner_of c.args.uuid c.args.self.now.key) here at))
 
 pub returns-in-Asks-clause-serves : goal.returns-in-Asks-clause-serves
 returns-in-Asks-clause-serves g c =
@@ -35,7 +35,7 @@ returns-in-Asks-clause-serves g c =
     let cont = c.args.self.now in
     where_there cont.machine _ _ c.requires.machine
     (λ m is has here at.
-    asks_so (job_with Nothing (owner_of c.args.uuid) cont) (body_at bytes image cont.point (Some m)) image here (state_of bytes m)
+    asks_so (job_with Nothing (owner_of c.args.uuid c.args.self.now.key) cont) (body_at bytes image cont.point (Some m)) image here (state_of bytes m)
     c.args.stop c.in-Asks.request
-    (λ (turn : Advance). IsTurn bytes (owner_of c.args.uuid) image c.ask.new.self turn c.ask.result)
+    (λ (turn : Advance). IsTurn bytes (owner_of c.args.uuid c.args.self.now.key) image c.ask.new.self turn c.ask.result)
     c.in-Asks.is (holds_there cont.machine _ m is (c.ask.ensures.asks image) here at))

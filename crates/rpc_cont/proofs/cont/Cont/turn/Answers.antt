@@ -18,6 +18,6 @@ returns-clause-turns g c =
     let is : old.machine ≡ Some m = cc in
     holds_as old.machine (Some m) _ is
     (λ here at.
-    ran_turn (job_with Nothing (owner_of c.args.uuid) old) image here (state_of bytes m) c.args.steps _
-    (λ (turn : Advance). IsTurn bytes (owner_of c.args.uuid) image c.stopped-stop.new.self turn c.stopped-stop.result)
+    ran_turn (job_with Nothing (owner_of c.args.uuid c.args.self.now.key) old) image here (state_of bytes m) c.args.steps _
+    (λ (turn : Advance). IsTurn bytes (owner_of c.args.uuid c.args.self.now.key) image c.stopped-stop.new.self turn c.stopped-stop.result)
     c.run_machine-stop.ensures.runs (c.stopped-stop.ensures.serves here at))

@@ -60,4 +60,4 @@ returns-in-Object-clause-answers g c job waits =
     (answered_plain (record old { object = c.take.new.self }) c.answer-in-Object.new.self c.take.ensures.after c.answer-in-Object.ensures.stays)
     (holds_there old.machine _ m there c.answer-in-Object.ensures.gives (request.Object call) object)
     (object-fails bytes old job m call w NoBuffer code
-    (c.no_buffer.ensures.serves call owner.uuid w.asked.range range w.asked.objects old.objects w.asked.answers come.0.rpc come.0.payload come.1)))
+    (c.no_buffer.ensures.serves call owner.uuid owner.key w.asked.range range w.asked.objects old.objects w.asked.answers come.0.rpc come.0.payload come.1)))
