@@ -318,8 +318,8 @@ kept_so who brought kept = by (destroys brought.app who.tables.sessions kept.0)
         ⊎ ((has_opened who.tables.sessions kept.0 ≡ true) ⊎ (keeps_alive brought.app ≡ true)) → OpensSo who brought kept.0 (opens_kept who brought kept).job
     by (inl e) =
         inl (subst (λ (behind : List EntryPoint). BeginsDestined true (Some (program_of brought.app)) kept.1.memory who.seen
-        (idle_job (owner_of (uuid_of brought.app)) brought.login 0 kept.1.objects brought.params) (Open ∷ behind)) (sym e)
-        (kept_destined brought.app kept.1.memory (owner_of (uuid_of brought.app)) who.seen brought.login kept.1.objects brought.params))
+        (idle_job (owner_of (uuid_of brought.app) who.boot.key) brought.login 0 kept.1.objects brought.params) (Open ∷ behind)) (sym e)
+        (kept_destined brought.app kept.1.memory (owner_of (uuid_of brought.app) who.boot.key) who.seen brought.login kept.1.objects brought.params))
     by (inr either) = inr either
 
 pub made_so : (who : Beginner) (brought : Opener) (number next : ℕ) → OpensSo who brought number (opens_new who brought number next).job
@@ -329,14 +329,14 @@ made_so who brought number next = by (destroys brought.app who.tables.sessions n
         ⊎ ((has_opened who.tables.sessions number ≡ true) ⊎ (keeps_alive brought.app ≡ true)) → OpensSo who brought number (opens_new who brought number next).job
     by (inl e) =
         inl (subst (λ (behind : List EntryPoint). BeginsDestined true (Some (program_of brought.app)) (fresh_memory (pages_in brought.app)) who.seen
-        (idle_job (owner_of (uuid_of brought.app)) brought.login 0 [] brought.params) (Create ∷ Open ∷ behind)) (sym e)
-        (made_destined brought.app (fresh_memory (pages_in brought.app)) (owner_of (uuid_of brought.app)) who.seen brought.login [] brought.params))
+        (idle_job (owner_of (uuid_of brought.app) who.boot.key) brought.login 0 [] brought.params) (Create ∷ Open ∷ behind)) (sym e)
+        (made_destined brought.app (fresh_memory (pages_in brought.app)) (owner_of (uuid_of brought.app) who.boot.key) who.seen brought.login [] brought.params))
     by (inr either) = inr either
 
 -- of one that a close begins with
 abbrev ClosesSo : Beginner → ℕ → Session → Instance → CopiedParams → Application → Type 0
 ClosesSo who number session instance params app =
-    BeginsDestined false (program_on who.boot instance) instance.memory who.seen (idle_job (owner_of instance.uuid) session.login session.context instance.objects params)
+    BeginsDestined false (program_on who.boot instance) instance.memory who.seen (idle_job (owner_of instance.uuid who.boot.key) session.login session.context instance.objects params)
     (Close ∷ destroy_of who.boot instance.uuid (remove who.tables.sessions number) session.instance)
     ⊎ ((has_opened (remove who.tables.sessions number) session.instance ≡ true) ⊎ ((keeps_alive app ≡ true) ⊎ (instance.dead ≡ true)))
 
@@ -357,11 +357,11 @@ close_so who number session instance params app is = by_dead instance.dead refl
         ⊎ ((has_opened (remove who.tables.sessions number) session.instance ≡ true) ⊎ (keeps_alive app ≡ true)) → ClosesSo who number session instance params app
     by alive (inl e) =
         inl (subst (λ (found : Option Program). BeginsDestined false found instance.memory who.seen
-        (idle_job (owner_of instance.uuid) session.login session.context instance.objects params)
+        (idle_job (owner_of instance.uuid who.boot.key) session.login session.context instance.objects params)
         (Close ∷ destroy_of who.boot instance.uuid (remove who.tables.sessions number) session.instance)) (sym (program_is alive))
         (subst (λ (behind : List EntryPoint). BeginsDestined false (Some (program_of app)) instance.memory who.seen
-        (idle_job (owner_of instance.uuid) session.login session.context instance.objects params) (Close ∷ behind)) (sym (points_are ∙ e))
-        (close_destined app instance.memory (owner_of instance.uuid) who.seen session.login session.context instance.objects params)))
+        (idle_job (owner_of instance.uuid who.boot.key) session.login session.context instance.objects params) (Close ∷ behind)) (sym (points_are ∙ e))
+        (close_destined app instance.memory (owner_of instance.uuid who.boot.key) who.seen session.login session.context instance.objects params)))
     by alive (inr (inl opened)) = inr (inl opened)
     by alive (inr (inr kept)) = inr (inr (inl kept))
 

@@ -178,22 +178,22 @@ module _ (Allowed : Type 0) (who : Beginner) where
   pub opens_kept_spared : (brought : Opener) (kept : ℕ × Instance) → (has_opened who.tables.sessions kept.0 ≡ false → Allowed)
       → HoldsOf (Spared Allowed true) (opens_kept who brought kept).job
   opens_kept_spared brought kept allows =
-      kept_spared Allowed kept.1.memory (owner_of (uuid_of brought.app)) who.seen brought.login 0 kept.1.objects brought.params brought.app _
+      kept_spared Allowed kept.1.memory (owner_of (uuid_of brought.app) who.boot.key) who.seen brought.login 0 kept.1.objects brought.params brought.app _
       (destroy_may Allowed brought.app who.tables.sessions kept.0 allows)
 
   pub opens_new_spared : (brought : Opener) (number next : ℕ) → Allowed → HoldsOf (Spared Allowed true) (opens_new who brought number next).job
   opens_new_spared brought number next allowed =
-      made_spared Allowed (fresh_memory (pages_in brought.app)) (owner_of (uuid_of brought.app)) who.seen brought.login 0 [] brought.params brought.app _ allowed
+      made_spared Allowed (fresh_memory (pages_in brought.app)) (owner_of (uuid_of brought.app) who.boot.key) who.seen brought.login 0 [] brought.params brought.app _ allowed
       (destroy_may Allowed brought.app who.tables.sessions number (λ none. allowed))
 
   pub invokes_spared : (opening : Bool) (session : Session) (instance : Instance) (params : CopiedParams) (func : ℕ)
       → HoldsOf (Spared Allowed opening) (begins_on who session instance params (Invoke func ∷ [])).job
   invokes_spared opening session instance params func =
-      invoke_spared Allowed instance.memory (owner_of instance.uuid) who.seen session.login session.context instance.objects params opening (program_on who.boot instance) func
+      invoke_spared Allowed instance.memory (owner_of instance.uuid who.boot.key) who.seen session.login session.context instance.objects params opening (program_on who.boot instance) func
 
   pub closes_spared : (number : ℕ) (session : Session) (instance : Instance) (params : CopiedParams)
       → (has_opened (remove who.tables.sessions number) session.instance ≡ false → Allowed)
       → HoldsOf (Spared Allowed false) (begins_on who session instance params (closing_points who number session instance)).job
   closes_spared number session instance params allows =
-      close_spared Allowed instance.memory (owner_of instance.uuid) who.seen session.login session.context instance.objects params (program_on who.boot instance) _
+      close_spared Allowed instance.memory (owner_of instance.uuid who.boot.key) who.seen session.login session.context instance.objects params (program_on who.boot instance) _
       (destroys_may Allowed who.boot instance.uuid (remove who.tables.sessions number) session.instance allows)

@@ -44,17 +44,17 @@ module _ (So : OfBody) where
   pub kept_starts : (who : Beginner) (brought : Opener) (kept : ℕ × Instance) → Starts So (Some (program_of brought.app)) kept.1.memory
       → So (opens_kept who brought kept).job.body
   kept_starts who brought kept starts =
-      begun_starts (Some (program_of brought.app)) kept.1.memory who.seen (idle_job (owner_of (uuid_of brought.app)) brought.login 0 kept.1.objects brought.params)
+      begun_starts (Some (program_of brought.app)) kept.1.memory who.seen (idle_job (owner_of (uuid_of brought.app) who.boot.key) brought.login 0 kept.1.objects brought.params)
       Open _ refl starts
 
   pub made_starts : (who : Beginner) (brought : Opener) (number next : ℕ) → Starts So (Some (program_of brought.app)) (fresh_memory (pages_in brought.app))
       → So (opens_new who brought number next).job.body
   made_starts who brought number next starts =
-      begun_starts (Some (program_of brought.app)) (fresh_memory (pages_in brought.app)) who.seen (idle_job (owner_of (uuid_of brought.app)) brought.login 0 [] brought.params)
+      begun_starts (Some (program_of brought.app)) (fresh_memory (pages_in brought.app)) who.seen (idle_job (owner_of (uuid_of brought.app) who.boot.key) brought.login 0 [] brought.params)
       Create _ refl starts
 
   pub session_starts : (who : Beginner) (session : Session) (instance : Instance) (params : CopiedParams) (first : EntryPoint) (behind : List EntryPoint)
       → Starts So (program_on who.boot instance) instance.memory → So (begins_on who session instance params (first ∷ behind)).job.body
   session_starts who session instance params first behind starts =
-      begun_starts (program_on who.boot instance) instance.memory who.seen (idle_job (owner_of instance.uuid) session.login session.context instance.objects params)
+      begun_starts (program_on who.boot instance) instance.memory who.seen (idle_job (owner_of instance.uuid who.boot.key) session.login session.context instance.objects params)
       first behind refl starts

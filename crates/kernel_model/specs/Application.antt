@@ -43,6 +43,8 @@ pub record Booted : Type 0 where
   pub threads : ℕ
   pub frames : ℕ
   pub apps : List Application
+  -- the key of the tags of object files
+  pub key : List ℕ
 
 -- by a boot beside built-in applications
 abbrev pub booted : Boot → List Native → Booted
@@ -51,6 +53,7 @@ booted boot natives = record {
   threads = boot.threads;
   frames = boot.frames;
   apps = map (λ app. OfImage app) boot.apps ++ map (λ (native : Native). BuiltIn native.0 native.1) natives;
+  key = boot.key;
 }
 
 -- at most sixteen are built in, no two with one UUID and none with that of an application of the boot

@@ -6,7 +6,7 @@ use Rattle.ns_ram.specs.Writes.{Write}
 use Rattle.ns_ram.specs.declared.read.Read.{Read}
 use Rattle.ta_isa.specs.declared.image.Image.{Image}
 use Rattle.ta_step.specs.Examples.{instr}
-use Rattle.kernel_model.specs.StorageExamples.{file, header}
+use Rattle.kernel_model.specs.StorageExamples.{file, first_bytes, header}
 use Rattle.kernel_model.specs.Worked.{add, store, load, time, wait, boot, half, word, head, used_head, param, image_with}
 use Rattle.kernel_model.specs.Worked.{invoked_at_one, names, adds, invokes, Comes, Leaves, Move, call_of, open_argument}
 use Rattle.kernel_model.specs.Worked.{resume_of, both, call, resume, offer, opens, returns_after, Return, answer}
@@ -82,12 +82,12 @@ file_request a5 count params payload = (
   writes_at 0x40000020 (used_head 2 0 0 0 0xffff0000 0 count ++ params) ∷ payload_of payload,
 )
 
--- the file is to be created, and a header of no bytes is to be written to it
+-- the file is to be created, and the header and the tag of no bytes are to be written to it
 abbrev pub creates_file : Return
 creates_file = file_request 0x77 3 (param 1 1 0 0 ++ param 9 0x40010200 35 0x77 ++ param 2 0 0 0) file
 
-abbrev pub writes_header : ℕ → Return
-writes_header fd = file_request 0 2 (param 1 4 fd 0 ++ param 9 0x40010200 8 0x77) (header 0)
+abbrev pub writes_first : ℕ → Return
+writes_first fd = file_request 0 2 (param 1 4 fd 0 ++ param 9 0x40010200 40 0x77) first_bytes
 
 -- the file is to be opened, and so many bytes of it are to be read from an offset on
 abbrev pub opens_file : Return
@@ -156,7 +156,7 @@ store_and_ask = image_with 0 invoked_at_one (
 abbrev pub buffer_given : List Move
 buffer_given = offer 0 20 0 0x40010000 0x77 ++ replies (opened_in_area 0 3)
 
--- an object made over the area: its file, its header, and the buffer is given back
+-- an object made over the area: its file, its header and tag, and the buffer is given back
 abbrev pub makes_object : List Move
 makes_object = area_call 0 20 (invokes 1 0) ++ buffer_given ++ replies (ret_in_area 0) ++ resume 0 20 0
 
@@ -276,7 +276,7 @@ pub record AreaExamples : Type 0 where
   pub without_a_buffer : returns_after (boot 1 1 1 store) opens (area_call 0 9 (invokes 1 0) ++ resume 0 9 0)
       ≡ Some (wants_buffer 0 ∷ ok 0xffff000c 4 ∷ [])
   pub with_a_buffer : returns_after (boot 1 1 1 store) opens makes_object
-      ≡ Some (wants_buffer 0 ∷ creates_file ∷ writes_header 3 ∷ gives_back 0 0x77 ∷ ok 0 4 ∷ [])
+      ≡ Some (wants_buffer 0 ∷ creates_file ∷ writes_first 3 ∷ gives_back 0 0x77 ∷ ok 0 4 ∷ [])
   -- a reply is read in both: what the argument has in the area, and the bytes in the buffer
   pub reads_in_both : returns_after (boot 1 1 1 load) opens
       (area_call 0 20 (invokes 1 0) ++ buffer_given ++ replies (piece_in_area (header 4))
@@ -286,7 +286,7 @@ pub record AreaExamples : Type 0 where
   pub asks_beside_a_buffer : returns_after (boot 1 1 1 store_and_ask) opens
       (area_call 0 20 (invokes 1 0) ++ buffer_given ++ replies (ret_in_area 0) ++ replies (time_in_area 5 6)
       ++ resume 0 20 0)
-      ≡ Some (wants_buffer 0 ∷ creates_file ∷ writes_header 3 ∷ asks_in 0 0x40000020 0 asks_time ∷ gives_back 0 0x77
+      ≡ Some (wants_buffer 0 ∷ creates_file ∷ writes_first 3 ∷ asks_in 0 0x40000020 0 asks_time ∷ gives_back 0 0x77
       ∷ ok 0 4 ∷ [])
   -- of a delete the close goes by the area, and the removal then gets no buffer
   pub removal_without_a_buffer : returns_after (boot 1 1 1 keep) (opens ++ makes_object)
@@ -302,7 +302,7 @@ pub record AreaExamples : Type 0 where
   pub wakes_and_gives_back : returns_after (boot 2 2 1 store) opens
       (area_call 0 20 (invokes 1 0) ++ call 1 20 (invokes 1 0) ++ buffer_given ++ replies (ret_in_area 0)
       ++ resume 0 20 0 ++ resume 0 20 0)
-      ≡ Some (wants_buffer 0 ∷ wants_buffer 1 ∷ creates_file ∷ writes_header 3 ∷ asks_in 0 0x40000020 0 (tells 4 1 1)
+      ≡ Some (wants_buffer 0 ∷ wants_buffer 1 ∷ creates_file ∷ writes_first 3 ∷ asks_in 0 0x40000020 0 (tells 4 1 1)
       ∷ gives_back 0 0x77 ∷ ok 0 4 ∷ [])
   -- no slot is free: nothing is read or tested
   pub no_slot : returns_after (boot 2 1 1 add) (opens ++ Comes 0 (call_of 0) 9 (adds 5 7) ∷ [])

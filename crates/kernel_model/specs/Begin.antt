@@ -53,7 +53,7 @@ pub record InstanceFound : Type 0 where
 -- the job of an open there; its destroy, if any, is for an open that fails
 abbrev pub opening_job : Beginner → Opener → InstanceFound → Job
 opening_job who opener found =
-    let idle = idle_job (owner_of (uuid_of opener.app)) opener.login 0 found.objects opener.params in
+    let idle = idle_job (owner_of (uuid_of opener.app) who.boot.key) opener.login 0 found.objects opener.params in
     begun_job (record { program = Some (program_of opener.app); memory = found.memory; seen = who.seen }) idle
     (found.points ++ destroy_after opener.app who.tables.sessions found.number)
 
@@ -103,7 +103,7 @@ has_pages_for boot tables app = nat_le (pages_in app) (free_pages boot tables.in
 -- the job of a call in an opened session on its instance, with these parameters and entry points
 abbrev pub session_job : Beginner → Session → Instance → CopiedParams → List EntryPoint → Job
 session_job who session instance params points =
-    let idle = idle_job (owner_of instance.uuid) session.login session.context instance.objects params in
+    let idle = idle_job (owner_of instance.uuid who.boot.key) session.login session.context instance.objects params in
     begun_job (record { program = program_on who.boot instance; memory = instance.memory; seen = who.seen }) idle points
 
 -- it begins there

@@ -127,9 +127,9 @@ load = image_with 0 invoked_at_one (
 abbrev pub flagged : ℕ → Image → Image
 flagged flags image = record image { flags = flags }
 
--- so many processors, threads and frames, and these applications
+-- so many processors, threads and frames, and these applications, under a key of zeros
 abbrev pub boot_with : ℕ → ℕ → ℕ → List App → Boot
-boot_with cpus threads frames apps = record { cpus = cpus; threads = threads; frames = frames; apps = apps }
+boot_with cpus threads frames apps = record { cpus = cpus; threads = threads; frames = frames; apps = apps; key = replicate 32 0 }
 
 -- an application of this image
 abbrev pub app_with : Image → App
