@@ -15,9 +15,13 @@ use Rattle.ta_step.specs.declared.machine.Machine.{Machine}
 use Rattle.ta_step.specs.declared.stop.Request.{Request}
 use Rattle.ta_step.specs.declared.stop.Request.TheVariants as request
 use Rattle.tee_storage.specs.States.{IsReady}
+use Rattle.tee_storage.specs.Transfers.{IsWithinLimit}
 use Rattle.tee_storage.specs.declared.state.ObjectState.{ObjectState}
+use Rattle.tee_storage.specs.declared.waits.Tagging.{Tagging}
+use Rattle.tee_storage.specs.declared.waits.Tagging.TheVariants.{Check, Make, Replace}
+use Rattle.tee_storage.specs.declared.waits.Transfer.{Transfer}
 use Rattle.tee_storage.specs.declared.waits.Waits.{Waits}
-use Rattle.tee_storage.specs.declared.waits.Waits.TheVariants.{Nothing, Created, HeaderWritten, Opened, HeaderRead, PieceRead, PieceWritten, LengthWritten, Closed, ClosedToDelete, Removed}
+use Rattle.tee_storage.specs.declared.waits.Waits.TheVariants.{Nothing, Created, HeaderWritten, Opened, HeaderRead, PieceRead, DataRead, ReadChecked, WriteChecked, PieceWritten, TagWritten, NewHeaderWritten, Closed, ClosedToDelete, Removed}
 use Rattle.kernel_state.specs.Calls.{bytes_of}
 
 pub valid_prop : (image : Image) → IsProp (IsValid image)
@@ -57,15 +61,24 @@ image_prop (Some (app.Image uuid image)) = Prim.hlevel (props, valid_prop)
 image_prop (Some (app.Native native)) = Prim.hlevel props
 image_prop (Some (app.Dead uuid)) = Prim.hlevel props
 
+limit_prop : (tagging : Tagging) (t : Transfer) → IsProp (IsWithinLimit tagging t)
+limit_prop (Check kept) t = Prim.hlevel props
+limit_prop (Make new) t = Prim.hlevel props
+limit_prop (Replace kept new) t = Prim.hlevel props
+
 ready_prop : (waits : Waits) (range : List ℕ) → IsProp (IsReady waits range)
 ready_prop Nothing range = Prim.hlevel props
-ready_prop (Created new) range = Prim.hlevel props
+ready_prop (Created new key) range = Prim.hlevel props
 ready_prop (HeaderWritten new fd) range = Prim.hlevel props
 ready_prop (Opened new) range = Prim.hlevel props
 ready_prop (HeaderRead new fd) range = Prim.hlevel props
 ready_prop (PieceRead t) range = Prim.hlevel props
-ready_prop (PieceWritten t) range = Prim.hlevel props
-ready_prop (LengthWritten t) range = Prim.hlevel props
+ready_prop (DataRead read) range = Prim.hlevel (props, limit_prop)
+ready_prop (ReadChecked t tag) range = Prim.hlevel props
+ready_prop (WriteChecked t tag new) range = Prim.hlevel props
+ready_prop (PieceWritten t tag) range = Prim.hlevel props
+ready_prop (TagWritten t) range = Prim.hlevel props
+ready_prop (NewHeaderWritten t) range = Prim.hlevel props
 ready_prop (Closed handle) range = Prim.hlevel props
 ready_prop (ClosedToDelete handle name) range = Prim.hlevel props
 ready_prop Removed range = Prim.hlevel props

@@ -18,6 +18,7 @@ boot_of setup = record {
   threads = setup.threads;
   frames = setup.frames;
   apps = map app_of setup.apps;
+  key = setup.key;
 }
 
 -- an application

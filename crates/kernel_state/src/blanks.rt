@@ -10,6 +10,7 @@ use std::alloc::Global;
 use std::marker::Model;
 use ta_params::codes::TEE_SUCCESS;
 use ta_params::{CallResult, Login};
+use tee_storage::Key;
 
 /// Boxes of calls that have finished, kept for new ones, so that a call is neither moved nor cleared as it begins. Contracts
 /// see how many there are, and how many can be kept.
@@ -53,13 +54,16 @@ impl Blanks {
         Ok(())
     }
 
-    /// Takes a box, in which nothing of a call is there yet. Takes no memory.
-    pub fn take(&mut self) -> Box<Cont<Pages>>
+    /// Takes a box, in which nothing of a call is there yet but the boot's key. Takes no memory.
+    pub fn take(&mut self, key: Key) -> Box<Cont<Pages>>
         requires { 0 < self.old.kept }
         ensures blank { IsBlank result.value }
+        ensures key { result.value.key ≡ key }
         ensures left { self.old ≡ record self.new { kept = self.new.kept + 1 } }
     {
-        self.boxes.pop().unwrap()
+        let mut cont = self.boxes.pop().unwrap();
+        cont.key = key;
+        cont
     }
 
     /// Keeps the box of a call that has finished, where there is room for it. Takes no memory.
@@ -73,11 +77,12 @@ impl Blanks {
     }
 }
 
-/// A call of which nothing is there yet.
+/// A call of which nothing is there yet. The boot's key comes as its box is taken.
 fn blank(alloc: Global) -> Cont<Pages>
     ensures { IsBlank result }
 {
     Cont::settled(
+        [0; 32],
         CallEntry {
             client: 0,
             kind: CallKind::Settled,

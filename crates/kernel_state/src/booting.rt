@@ -119,12 +119,14 @@ fn setup_of(alloc: Global, boot: Boot, natives: &Natives) -> Result<Setup, NoMem
         threads,
         frames,
         apps,
+        key,
     } = boot;
     Ok(Setup {
         cpus,
         threads,
         frames,
         apps: shared_apps(alloc, apps)?,
+        key,
         natives: Sequence::of(natives.apps(alloc)?),
     })
 }

@@ -9,6 +9,7 @@ ghost use Rattle.kernel_state.specs.Setup.{application_of, booted_with};
 use crate::shared_app::SharedApp;
 use base::{NoMemory, Sequence};
 use native_tas::NativeApp;
+use tee_storage::Key;
 use uuid::Uuid;
 
 /// What a core was booted with. No call changes it.
@@ -20,7 +21,9 @@ pub struct Setup {
     pub frames: u16,
     /// The applications of the boot.
     pub apps: Sequence<SharedApp>,
-    /// Those that are built in.
+    /// The key of the tags of object files.
+    pub key: Key,
+    /// The applications that are built in.
     pub natives: Sequence<NativeApp>,
 }
 
