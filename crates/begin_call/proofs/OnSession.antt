@@ -92,10 +92,10 @@ beginning_is boot instance app program memory seen found is kept =
 pub job_is : (boot : Booted) (tables : Tables) (slot : ℕ) (old : Cont (List ℕ)) (session : Session) (instance : Instance) (points : List EntryPoint)
     (app : Application) (program : Option (Application)) (memory : Option (List ℕ)) (objects : NumberMap Handle) →
     app_of boot instance.uuid ≡ Some (application_of app) → program ≡ alive_app instance.dead app → kept_memory bytes_of memory ≡ instance.memory → objects ≡ instance.objects →
-    begun_job (beginning_with program memory old.cancelled) (idle_job (owner_of instance.uuid) session.login session.context objects (kept_params old.params)) points
+    begun_job (beginning_with program memory old.cancelled) (idle_job (owner_of instance.uuid old.key) session.login session.context objects (kept_params old.params)) points
     ≡ session_job (who_begins boot tables slot old) session instance (kept_params old.params) points
 job_is boot tables slot old session instance points app program memory objects found is kept same =
-    ap₂ (λ (from : Beginning) (objects : NumberMap Handle). begun_job from (idle_job (owner_of instance.uuid) session.login session.context objects (kept_params old.params)) points)
+    ap₂ (λ (from : Beginning) (objects : NumberMap Handle). begun_job from (idle_job (owner_of instance.uuid old.key) session.login session.context objects (kept_params old.params)) points)
     (beginning_is boot instance app program memory old.cancelled found is kept) same
 
 -- ---- what stays
@@ -133,7 +133,7 @@ session_begun : (boot : Booted) (tables after : Tables) (old new : Cont (List �
     (app : Application) (program : Option (Application)) (memory : Option (List ℕ)) (objects : NumberMap Handle) →
     app_of boot instance.uuid ≡ Some (application_of app) → program ≡ alive_app instance.dead app → kept_memory bytes_of memory ≡ instance.memory → objects ≡ instance.objects →
     tables_of after ≡ with_instance (tables_of tables) session.instance (held_by slot instance) →
-    IsInPhase new (Runs (begun_job (beginning_with program memory old.cancelled) (idle_job (owner_of instance.uuid) session.login session.context objects (kept_params old.params)) points)) →
+    IsInPhase new (Runs (begun_job (beginning_with program memory old.cancelled) (idle_job (owner_of instance.uuid old.key) session.login session.context objects (kept_params old.params)) points)) →
     IsAppOf new.app (Some instance.uuid) → new ≡ started_from (placed old session objects) new →
     HasBegun after old new instance.uuid (begins_on (who_begins boot tables slot old) session instance (kept_params old.params) points)
 session_begun boot tables after old new slot session instance points app program memory objects found is kept same held runs of_app stays = record {
@@ -150,7 +150,7 @@ pub begun_on : (boot : Booted) (tables after : Tables) (old new : Cont (List ℕ
     get tables.instances session.instance ≡ Some found → get (kept_as tables.instances) session.instance ≡ Some instance →
     app_of boot instance.uuid ≡ Some (application_of app) → program ≡ alive_app found.dead app → kept_memory bytes_of memory ≡ instance.memory → objects ≡ instance.objects →
     tables_of after ≡ with_instance (tables_of tables) session.instance (held_by slot instance) →
-    IsInPhase new (Runs (begun_job (beginning_with program memory old.cancelled) (idle_job (owner_of found.uuid) session.login session.context objects (kept_params old.params)) points)) →
+    IsInPhase new (Runs (begun_job (beginning_with program memory old.cancelled) (idle_job (owner_of found.uuid old.key) session.login session.context objects (kept_params old.params)) points)) →
     IsAppOf new.app (Some found.uuid) → new ≡ started_from (placed old session objects) new →
     HasBegun after old new instance.uuid (begins_on (who_begins boot tables slot old) session instance (kept_params old.params) points)
 begun_on boot tables after old new slot session found instance points app program memory objects is seen of_boot runs_app kept same held runs of_app stays =
@@ -159,5 +159,5 @@ begun_on boot tables after old new slot session found instance points app progra
     let uuid : found.uuid ≡ instance.uuid = ap (λ (one : Instance). one.uuid) this in
     session_begun boot tables after old new slot session instance points app program memory objects of_boot
     (runs_app ∙ ap (λ (dead : Bool). alive_app dead app) dead) kept same held
-    (subst (λ (uuid : List ℕ). IsInPhase new (Runs (begun_job (beginning_with program memory old.cancelled) (idle_job (owner_of uuid) session.login session.context objects (kept_params old.params)) points))) uuid runs)
+    (subst (λ (uuid : List ℕ). IsInPhase new (Runs (begun_job (beginning_with program memory old.cancelled) (idle_job (owner_of uuid old.key) session.login session.context objects (kept_params old.params)) points))) uuid runs)
     (subst (λ (uuid : List ℕ). IsAppOf new.app (Some uuid)) uuid of_app) stays

@@ -55,12 +55,12 @@ app_begun cont from job points begun =
 -- the job of a call that begins on what it holds is the one on what it finds
 pub job_starts : (cont new : Cont (List ℕ)) (held : Held (List ℕ)) (from : Beginning) (uuid : List ℕ) (objects : NumberMap Handle) (points : List EntryPoint) →
     CanBegin cont → held_uuid held ≡ uuid → ((job : Job) → begun_job (beginning_on bytes_of held cont.cancelled) job points ≡ begun_job from job points) →
-    job_of bytes_of new ≡ begun_job (beginning_on bytes_of held cont.cancelled) (record (job_with Nothing (owner_of (held_uuid held)) cont) { objects = objects }) points →
-    begun_job from (idle_job (owner_of uuid) cont.login cont.context objects (kept_params cont.params)) points ≡ job_of bytes_of new
+    job_of bytes_of new ≡ begun_job (beginning_on bytes_of held cont.cancelled) (record (job_with Nothing (owner_of (held_uuid held) cont.key) cont) { objects = objects }) points →
+    begun_job from (idle_job (owner_of uuid cont.key) cont.login cont.context objects (kept_params cont.params)) points ≡ job_of bytes_of new
 job_starts cont new held from uuid objects points can same fits begun =
-    let plain = idle cont (owner_of (held_uuid held)) objects can in
-    let named = ap (λ (uuid : List ℕ). idle_job (owner_of uuid) cont.login cont.context objects (kept_params cont.params)) same in
-    sym (begun ∙ fits (record (job_with Nothing (owner_of (held_uuid held)) cont) { objects = objects }) ∙ ap (λ (job : Job). begun_job from job points) (plain ∙ named))
+    let plain = idle cont (owner_of (held_uuid held) cont.key) objects can in
+    let named = ap (λ (uuid : List ℕ). idle_job (owner_of uuid cont.key) cont.login cont.context objects (kept_params cont.params)) same in
+    sym (begun ∙ fits (record (job_with Nothing (owner_of (held_uuid held) cont.key) cont) { objects = objects }) ∙ ap (λ (job : Job). begun_job from job points) (plain ∙ named))
 
 -- ---- when it can start
 

@@ -18,10 +18,10 @@ use Rattle.begin_call.specs.declared.opens.OpenCall.{OpenCall}
 
 -- ---- who begins
 
--- the call of a slot, which has seen whether it was cancelled
+-- the call of a slot, under the key that it has, which has seen whether it was cancelled
 abbrev pub who_begins : Booted → Tables → ℕ → Cont (List ℕ) → Beginner
 who_begins boot tables slot cont =
-    record { boot = boot; tables = tables_of tables; slot = slot; seen = cont.cancelled }
+    record { boot = record boot { key = cont.key }; tables = tables_of tables; slot = slot; seen = cont.cancelled }
 
 -- what an open brings along: the parameters that it keeps
 abbrev pub brought : OpenCall → Cont (List ℕ) → Opener

@@ -26,7 +26,7 @@ beginning_with program memory seen = record {
 -- the job of the call there
 abbrev pub job_on : InstanceFound → Cont (List ℕ) → Job
 job_on found cont =
-    let idle = idle_job (owner_of found.uuid) cont.login cont.context cont.objects (kept_params cont.params) in
+    let idle = idle_job (owner_of found.uuid cont.key) cont.login cont.context cont.objects (kept_params cont.params) in
     begun_job (beginning_with found.program found.memory cont.cancelled) idle (points_of found.points)
 
 -- what is found fits together: an image is valid, and its memory is there; what is built in has the UUID
