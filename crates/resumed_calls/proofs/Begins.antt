@@ -188,9 +188,13 @@ settled left tables cont after slot session found boot is ends given call params
 
 -- ---- what has begun
 
+-- a call that begins gets the boot's key
+abbrev pub keyed : Cont (List ℕ) → Booted → Cont (List ℕ)
+keyed cont boot = record cont { key = boot.key }
+
 begun_call : (left : Tables) (cont after : Cont (List ℕ)) (r : Resumed) (params : CopiedParams) (uuid : List ℕ) (came begun : Begun) →
     (cont.kind ≡ kind.Settled → ⊥) →
-    HasBegun left cont after uuid came → came.tables ≡ without_waiter begun.tables r.slot → came.job ≡ begun.job → came.instance ≡ cont.instance →
+    HasBegun left (keyed cont r.boot) after uuid came → came.tables ≡ without_waiter begun.tables r.slot → came.job ≡ begun.job → came.instance ≡ cont.instance →
     IsWaitingCall cont r.call params → r.call.uuid ≡ Some uuid → HasCome (tables_of left) after (begins r begun)
 begun_call left cont after r params uuid came begun unsettled has tables job instance waits its = record {
   tables = has.tables ∙ tables;
@@ -215,8 +219,8 @@ begun_call left cont after r params uuid came begun unsettled has tables job ins
 pub begun_on : (old mid left : Tables) (cont after : Cont (List ℕ)) (slot : ℕ) (session : Session) (points : List EntryPoint) (app : Application) (boot : Booted) →
     (cont.kind ≡ kind.Settled → ⊥) →
     mid ≡ without_slot old slot → IsInLine boot (tables_of old) slot cont → IsItsApp boot cont app → get (tables_of old).sessions cont.session ≡ Some session →
-    ((boot : Booted) (instance : Instance) → get (tables_of mid).instances session.instance ≡ Some instance → app_of boot instance.uuid ≡ Some app →
-    HasBegun left cont after instance.uuid (begins_on (who_begins boot mid slot cont) session instance (kept_params cont.params) points)) →
+    ((any : Booted) (instance : Instance) → get (tables_of mid).instances session.instance ≡ Some instance → app_of any instance.uuid ≡ Some app →
+    HasBegun left (keyed cont boot) after instance.uuid (begins_on (who_begins any mid slot (keyed cont boot)) session instance (kept_params cont.params) points)) →
     BeginsAt (tables_of left) cont after boot slot (tables_of old) session points
 begun_on old mid left cont after slot session points app boot unsettled becomes line its there begins given call params instance waits found =
     let r = resumed_in boot (tables_of old) slot given call in
@@ -225,11 +229,11 @@ begun_on old mid left cont after slot session points app boot unsettled becomes 
     let at : session.instance ≡ cont.instance = line.session session there in
     let in_mid : get (tables_of mid).instances session.instance ≡ Some instance =
     ap₂ (λ (tables : Tables) (number : ℕ). get (tables_of tables).instances number) becomes at ∙ found in
-    let has : HasBegun left cont after instance.uuid (begins_on (who_begins boot mid slot cont) session instance (kept_params cont.params) points) =
+    let has : HasBegun left (keyed cont boot) after instance.uuid (begins_on (who_begins boot mid slot (keyed cont boot)) session instance (kept_params cont.params) points) =
     begins boot instance in_mid (ap (app_of boot) (sym uuid) ∙ its.found) in
-    begun_call left cont after r params instance.uuid (begins_on (who_begins boot mid slot cont) session instance (kept_params cont.params) points)
+    begun_call left cont after r params instance.uuid (begins_on (who_begins boot mid slot (keyed cont boot)) session instance (kept_params cont.params) points)
     (begins_on (who_resumes r) session instance params points) unsettled has
-    (ap (λ (tables : Tables). (begins_on (who_begins boot tables slot cont) session instance (kept_params cont.params) points).tables) becomes)
+    (ap (λ (tables : Tables). (begins_on (who_begins boot tables slot (keyed cont boot)) session instance (kept_params cont.params) points).tables) becomes)
     (ap₂ (λ (seen : Bool) (kept : CopiedParams). (begins_on (record { boot = boot; tables = tables_of old; slot = slot; seen = seen }) session instance kept points).job) waits.is.seen
     (its_params cont call params waits))
     at waits (its_uuid cont call line.app waits.is ∙ ap Some uuid)
@@ -259,8 +263,8 @@ ready_in old mid cont slot session app boot becomes line its there some ready =
 pub opened_kept : (old mid left : Tables) (cont after : Cont (List ℕ)) (slot : ℕ) (opener : Opener) (boot : Booted) →
     cont.kind ≡ kind.Open →
     mid ≡ without_slot old slot → IsInLine boot (tables_of old) slot cont → IsItsApp boot cont opener.app → is_some (get (tables_of old).instances cont.instance) ≡ true →
-    ((boot : Booted) (instance : Instance) → get (tables_of mid).instances cont.instance ≡ Some instance →
-    HasBegun left cont after (uuid_of opener.app) (opens_kept (who_begins boot mid slot cont) opener (cont.instance, instance))) →
+    ((any : Booted) (instance : Instance) → get (tables_of mid).instances cont.instance ≡ Some instance →
+    HasBegun left (keyed cont boot) after (uuid_of opener.app) (opens_kept (who_begins any mid slot (keyed cont boot)) opener (cont.instance, instance))) →
     (given : Given) (call : PendingCall) (params : CopiedParams) → IsWaitingCall cont call params →
     HasCome (tables_of left) after (begins_open (resumed_in boot (tables_of old) slot given call) opener (get (tables_of old).instances cont.instance))
 opened_kept old mid left cont after slot opener boot opens becomes line its some begins given call params waits =
@@ -270,10 +274,10 @@ opened_kept old mid left cont after slot opener boot opens becomes line its some
     let in_mid : get (tables_of mid).instances cont.instance ≡ Some found.0 =
     ap (λ (tables : Tables). get (tables_of tables).instances cont.instance) becomes ∙ found.1 in
     subst (λ (one : Option Instance). HasCome (tables_of left) after (begins_open r opener one)) (sym found.1)
-    (begun_call left cont after r params (uuid_of opener.app) (opens_kept (who_begins boot mid slot cont) opener (cont.instance, found.0))
+    (begun_call left cont after r params (uuid_of opener.app) (opens_kept (who_begins boot mid slot (keyed cont boot)) opener (cont.instance, found.0))
     (opens_kept (who_resumes r) opener (call.instance, found.0)) (open_unsettled cont.kind opens) (begins boot found.0 in_mid)
-    (ap₂ (λ (tables : Tables) (number : ℕ). (opens_kept (who_begins boot tables slot cont) opener (number, found.0)).tables) becomes waits.is.instance)
-    (ap (λ (tables : Tables). (opens_kept (who_begins boot tables slot cont) opener (cont.instance, found.0)).job) becomes
+    (ap₂ (λ (tables : Tables) (number : ℕ). (opens_kept (who_begins boot tables slot (keyed cont boot)) opener (number, found.0)).tables) becomes waits.is.instance)
+    (ap (λ (tables : Tables). (opens_kept (who_begins boot tables slot (keyed cont boot)) opener (cont.instance, found.0)).job) becomes
     ∙ ap₂ (λ (seen : Bool) (number : ℕ). (opens_kept (record { boot = boot; tables = tables_of old; slot = slot; seen = seen }) opener (number, found.0)).job) waits.is.seen waits.is.instance)
     refl waits (its_uuid cont call line.app waits.is ∙ ap Some (sym uuid)))
 
@@ -308,17 +312,17 @@ pub opened_new : (old mid left : Tables) (cont after : Cont (List ℕ)) (slot : 
     cont.kind ≡ kind.Open →
     mid ≡ without_slot old slot → IsInLine boot (tables_of old) slot cont → IsItsApp boot cont opener.app → is_some (get (tables_of old).instances cont.instance) ≡ false →
     has_pages_for boot (tables_of old) opener.app ≡ true →
-    ((boot : Booted) → HasBegun left cont after (uuid_of opener.app) (opens_new (who_begins boot mid slot cont) opener cont.instance (tables_of mid).next_instance)) →
+    ((any : Booted) → HasBegun left (keyed cont boot) after (uuid_of opener.app) (opens_new (who_begins any mid slot (keyed cont boot)) opener cont.instance (tables_of mid).next_instance)) →
     (given : Given) (call : PendingCall) (params : CopiedParams) → IsWaitingCall cont call params →
     HasCome (tables_of left) after (begins_open (resumed_in boot (tables_of old) slot given call) opener (get (tables_of old).instances cont.instance))
 opened_new old mid left cont after slot opener boot opens becomes line its gone pages begins given call params waits =
     let r = resumed_in boot (tables_of old) slot given call in
     let uuid : uuid_of opener.app ≡ conts.uuid_of cont.app = found_uuid boot (conts.uuid_of cont.app) opener.app its.found in
     subst (HasCome (tables_of left) after) (sym (opened_on r opener (get (tables_of old).instances cont.instance) true gone pages))
-    (begun_call left cont after r params (uuid_of opener.app) (opens_new (who_begins boot mid slot cont) opener cont.instance (tables_of mid).next_instance)
+    (begun_call left cont after r params (uuid_of opener.app) (opens_new (who_begins boot mid slot (keyed cont boot)) opener cont.instance (tables_of mid).next_instance)
     (opens_new (who_resumes r) opener call.instance (tables_of old).next_instance) (open_unsettled cont.kind opens) (begins boot)
-    (ap₂ (λ (tables : Tables) (number : ℕ). (opens_new (who_begins boot tables slot cont) opener number (tables_of tables).next_instance).tables) becomes waits.is.instance)
-    (ap (λ (tables : Tables). (opens_new (who_begins boot tables slot cont) opener cont.instance (tables_of tables).next_instance).job) becomes
+    (ap₂ (λ (tables : Tables) (number : ℕ). (opens_new (who_begins boot tables slot (keyed cont boot)) opener number (tables_of tables).next_instance).tables) becomes waits.is.instance)
+    (ap (λ (tables : Tables). (opens_new (who_begins boot tables slot (keyed cont boot)) opener cont.instance (tables_of tables).next_instance).job) becomes
     ∙ ap₂ (λ (seen : Bool) (number : ℕ). (opens_new (record { boot = boot; tables = tables_of old; slot = slot; seen = seen }) opener number (tables_of old).next_instance).job) waits.is.seen waits.is.instance)
     refl waits (its_uuid cont call line.app waits.is ∙ ap Some (sym uuid)))
 

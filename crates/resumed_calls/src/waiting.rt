@@ -189,7 +189,7 @@ fn begins_in(setup: &Setup, tables: &mut Tables, cont: &mut Cont<Pages>, turn: S
     }
 }
 
-/// An open begins on its instance or, where that is gone, on a new one of the same number.
+/// An open begins on its instance or, where that is gone, on a new one of the same number, under the boot's key.
 #[tactic(auto, using(crate::proofs::Begins::ready_for, crate::proofs::Begins::absent_in, crate::proofs::Begins::room_in, crate::proofs::Line::pages_beside))]
 fn begins_open(setup: &Setup, tables: &mut Tables, cont: &mut Cont<Pages>, opener: OpenCall)
     requires line { IsInLine (booted_with setup.now) (tables_of tables.old) opener.slot cont.old }
@@ -206,16 +206,18 @@ fn begins_open(setup: &Setup, tables: &mut Tables, cont: &mut Cont<Pages>, opene
     let number = cont.instance;
     if tables.is_kept(number) {
         tables.waiters.leave(opener.slot);
+        cont.key = setup.key;
         opens_kept(tables, cont, opener, number);
     } else if has_pages_for(setup, tables, &opener.app) {
         tables.waiters.leave(opener.slot);
+        cont.key = setup.key;
         opens_new(tables, cont, opener, number);
     } else {
         ends_with(tables, cont, opener.slot, TEE_ERROR_OUT_OF_MEMORY);
     }
 }
 
-/// Begins in its session, and waits no more.
+/// Begins in its session, under the boot's key, and waits no more.
 fn begins(setup: &Setup, tables: &mut Tables, cont: &mut Cont<Pages>, call: SessionCall)
     requires line { IsInLine (booted_with setup.now) (tables_of tables.old) call.slot cont.old }
     requires app { IsItsApp (booted_with setup.now) cont.old (application_of call.app) }
@@ -231,6 +233,7 @@ fn begins(setup: &Setup, tables: &mut Tables, cont: &mut Cont<Pages>, call: Sess
     ensures pages { HasFreePages setup.now tables.new }
 {
     tables.waiters.leave(call.slot);
+    cont.key = setup.key;
     begins_on(tables, cont, call);
 }
 
