@@ -1,5 +1,5 @@
 -- A call in a session comes to what the definition takes its slot for.
-use Rattle.std.proofs.Common.{◌≡◌, ℕ, Bool, true, false, List, Option, Some, None, refl, sym, ap, ◌∙◌, subst}
+use Rattle.std.proofs.Common.{◌≡◌, ℕ, Bool, true, false, List, Option, Some, None, refl, sym, ap, ap₂, ◌∙◌, subst}
 use Rattle.std.specs.Prelude.{IsSome, if◌then◌else◌, fold}
 use Rattle.std.specs.List.{AllByRecursion}
 use Rattle.std.specs.Option.{IsSomeAnd, option_map_or}
@@ -57,17 +57,17 @@ came_on false who session kept params points = refl
 -- what its slot is taken for, by what it has come to
 pub session_taken : (boot : Booted) (before after : Tables) (entered : Entered) (entry : CallEntry) (old new : Cont (List ℕ)) (kind : CallKind)
     (session : Session) (instance : Instance) (copies : Copies) (points : List EntryPoint) (registry : Registered) →
-    IsEntered entry old → kept_params old.params ≡ copies.params →
+    IsEntered entry old → kept_params old.params ≡ copies.params → old.key ≡ boot.key →
     entry.client ≡ entered.client → entry.kind ≡ kind → entry.arg ≡ entered.arg → entry.area ≡ entered.area → entry.places.items ≡ copies.places → entry.session ≡ entered.head.session →
     HasCome after old new instance.uuid (session_comes (who_begins boot before entered.slot old) session instance (kept_params old.params) points) →
     registry ≡ record after.registry { pins = fold (λ pins cookie. with_pin pins cookie entered.slot) after.registry.pins copies.cookies } →
     IsTaken None entered (record after { registry = registry }) new
     (works_or_waits (call_found boot (tables_of before) entered) kind session instance copies points)
-session_taken boot before after entered entry old new kind session instance copies points registry is_entered params client kind_is arg area places named come pinned =
+session_taken boot before after entered entry old new kind session instance copies points registry is_entered params keyed client kind_is arg area places named come pinned =
     let c = call_found boot (tables_of before) entered in
     let came = session_comes (beginner c) session instance copies.params points in
     let who : who_begins boot before entered.slot old ≡ beginner c =
-    ap (λ (seen : Bool). record { boot = boot; tables = tables_of before; slot = entered.slot; seen = seen }) is_entered.cancelled in
+    ap₂ (λ (seen : Bool) (key : List ℕ). record { boot = record boot { key = key }; tables = tables_of before; slot = entered.slot; seen = seen }) is_entered.cancelled keyed in
     let has : HasCome after old new instance.uuid came =
     subst (λ (params : CopiedParams). HasCome after old new instance.uuid (session_comes (beginner c) session instance params points)) params
     (subst (λ (who : Beginner). HasCome after old new instance.uuid (session_comes who session instance (kept_params old.params) points)) who come) in

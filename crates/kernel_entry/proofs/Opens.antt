@@ -99,7 +99,7 @@ tables_entered client login slot cookies after came next instance sessions regis
 -- what its slot is taken for, by what it has come to
 pub open_taken : (boot : Booted) (before after : Tables) (entered : Entered) (entry : CallEntry) (old new : Cont (List ℕ)) (app : CodeApp) (login : Login)
     (copies : TakenParams) (number : ℕ) (sessions : SessionTable) (registry : Registered) →
-    IsEntered entry old → old.params ≡ Some copies.params →
+    IsEntered entry old → old.params ≡ Some copies.params → old.key ≡ boot.key →
     entry.client ≡ entered.client → entry.kind ≡ kind.Open → entry.arg ≡ entered.arg → entry.area ≡ entered.area → entry.places ≡ copies.places → entry.session ≡ 0 →
     HasCome after old new (uuid_of (application_of app)) (open_comes (who_begins boot before entered.slot old)
     (brought (record { slot = entered.slot; app = app; login = login }) old) (shared_instance (tables_of before).instances (application_of app))) →
@@ -108,13 +108,13 @@ pub open_taken : (boot : Booted) (before after : Tables) (entered : Entered) (en
     registry ≡ record after.registry { pins = fold (λ pins cookie. with_pin pins cookie entered.slot) after.registry.pins copies.cookies.items } →
     IsTaken None entered (record after { sessions = sessions; registry = registry }) (with_number new number)
     (opens_or_waits (call_found boot (tables_of before) entered) (asked_by (application_of app) login) (application_of app) (copies_in copies))
-open_taken boot before after entered entry old new app login copies number sessions registry is_entered params client kind_is arg area places none come number_is kept pinned =
+open_taken boot before after entered entry old new app login copies number sessions registry is_entered params keyed client kind_is arg area places none come number_is kept pinned =
     let c = call_found boot (tables_of before) entered in
     let wanted = asked_by (application_of app) login in
     let shared = shared_by c (application_of app) in
     let came = open_comes (beginner c) (opener wanted (application_of app) (copies_in copies)) shared in
     let who : who_begins boot before entered.slot old ≡ beginner c =
-    ap (λ (seen : Bool). record { boot = boot; tables = tables_of before; slot = entered.slot; seen = seen }) is_entered.cancelled in
+    ap₂ (λ (seen : Bool) (key : List ℕ). record { boot = record boot { key = key }; tables = tables_of before; slot = entered.slot; seen = seen }) is_entered.cancelled keyed in
     let what : brought (record { slot = entered.slot; app = app; login = login }) old ≡ opener wanted (application_of app) (copies_in copies) =
     ap (λ (params : Option CopiedParams). record { app = application_of app; login = login; params = kept_params params }) params in
     let same : open_comes (who_begins boot before entered.slot old) (brought (record { slot = entered.slot; app = app; login = login }) old) shared ≡ came =
@@ -156,7 +156,7 @@ still_kept before after came cookies is leaves kept =
 
 -- what is the same for each boot is so for one of this application alone
 abbrev pub boot_of_one : Application → Booted
-boot_of_one app = record { cpus = 1; threads = 1; frames = 1; apps = app ∷ [] }
+boot_of_one app = record { cpus = 1; threads = 1; frames = 1; apps = app ∷ []; key = [] }
 
 pub known_alone : (app : Application) (uuid : List ℕ) → uuid ≡ uuid_of app → app_of (boot_of_one app) uuid ≡ Some app
 known_alone app uuid same = let test : bytes_eq (uuid_of app) uuid ≡ true = (bytes_eq-Decides (uuid_of app) uuid).1 (sym same) in rw test refl

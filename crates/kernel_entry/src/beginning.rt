@@ -56,7 +56,7 @@ pub fn enters_new(
 {
     let slot = entered.slot;
     let cancels = is_cancel(&plan);
-    let mut cont = parts.blanks.take();
+    let mut cont = parts.blanks.take(parts.setup.key);
     apply(alloc, &mut parts.tables, &entered, plan, &mut cont);
     let beside = Cancellation {
         session: cont.session,

@@ -17,6 +17,7 @@ fn fills(cont: &mut Cont<Pages>, entered: CallEntry, outcome: CallResult, phase:
     ensures params { cont.new.params ≡ entered.params }
     ensures outcome { cont.new.result ≡ outcome }
     ensures phase { cont.new.phase ≡ phase }
+    ensures key { cont.new.key ≡ cont.old.key }
 {
     let CallEntry {
         client,
@@ -50,6 +51,7 @@ pub(crate) fn waits_as(cont: &mut Cont<Pages>, entered: CallEntry)
     ensures new { IsNew cont.new }
     ensures entered { IsEntered entered cont.new }
     ensures params { cont.new.params ≡ entered.params }
+    ensures key { cont.new.key ≡ cont.old.key }
 {
     fills(cont, entered, CallResult::of_tee(TEE_SUCCESS), Phase::Waits);
 }

@@ -65,7 +65,7 @@ pub(crate) fn invokes(
     requires comes { MayCome tables.old entered.now.slot (application_of app) }
     requires works { MayWork tables.old (application_of app) session }
     requires buffers { AreRegistered (tables_of tables.old) copies.cookies.items }
-    ensures taken { (boot : Booted) (instance : AnyInstance)
+    ensures taken { (boot : Booted) (instance : AnyInstance) → cont.old.key ≡ boot.key
         → get (tables_of tables.old).instances session.instance ≡ Some instance
         → app_of boot instance.uuid ≡ Some (application_of app)
         → IsTaken None entered.now tables.new cont.new
@@ -114,7 +114,7 @@ pub(crate) fn closes(
     requires comes { MayCome tables.old entered.now.slot (application_of app) }
     requires works { MayWork tables.old (application_of app) session }
     requires session { KeepsSession tables.old entered.now.head.session session }
-    ensures taken { (boot : Booted) (instance : AnyInstance)
+    ensures taken { (boot : Booted) (instance : AnyInstance) → cont.old.key ≡ boot.key
         → get (tables_of tables.old).instances session.instance ≡ Some instance
         → app_of boot instance.uuid ≡ Some (application_of app)
         → IsTaken None entered.now tables.new cont.new

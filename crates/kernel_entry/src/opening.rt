@@ -78,7 +78,7 @@ pub(crate) fn opens(
     requires comes { MayCome tables.old entered.now.slot (application_of app) }
     requires opens { MayOpen tables.old (application_of app) }
     requires buffers { AreRegistered (tables_of tables.old) copies.cookies.items }
-    ensures taken { (boot : Booted) → IsTaken None entered.now tables.new cont.new
+    ensures taken { (boot : Booted) → cont.old.key ≡ boot.key → IsTaken None entered.now tables.new cont.new
         (opens_or_waits (call_found boot (tables_of tables.old) entered.now) (asked_by (application_of app) login)
         (application_of app) (copies_in copies)) }
     ensures pages { (setup : AnySetup)

@@ -35,7 +35,7 @@ pub fn apply(
 )
     requires takes { CanTake tables.old entered.now plan }
     requires blank { IsBlank cont.old }
-    ensures taken { (boot : Booted) → CanApply (call_with boot (tables_of tables.old) entered.now) plan
+    ensures taken { (boot : Booted) → cont.old.key ≡ boot.key → CanApply (call_with boot (tables_of tables.old) entered.now) plan
         → IsTaken (meant_by entered.now plan) entered.now tables.new cont.new
         (taken_of (call_with boot (tables_of tables.old) entered.now) plan) }
     ensures pages { (setup : AnySetup)
@@ -66,7 +66,7 @@ fn apply_plan(
 )
     requires takes { CanTakeFor tables.old entered.now plan }
     requires blank { IsBlank cont.old }
-    ensures taken { (boot : Booted) → CanApply (call_found boot (tables_of tables.old) entered.now) plan
+    ensures taken { (boot : Booted) → cont.old.key ≡ boot.key → CanApply (call_found boot (tables_of tables.old) entered.now) plan
         → IsTaken (meant_by entered.now plan) entered.now tables.new cont.new
         (taken_of (call_found boot (tables_of tables.old) entered.now) plan) }
     ensures pages { (setup : AnySetup)

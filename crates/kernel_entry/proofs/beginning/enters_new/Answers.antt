@@ -1,4 +1,5 @@
-use Rattle.std.proofs.Common.{◌≡◌, ◌-◌, ℕ, List, [], ◌∷◌, ◌++◌, false, ap, ◌∙◌}
+use Rattle.std.proofs.Common.{◌≡◌, ◌-◌, ℕ, List, [], ◌∷◌, ◌++◌, false, ap, ◌∙◌, arith}
+use Rattle.std.proofs.lemmas.Grind.{common_steps}
 use Rattle.std.specs.Prelude.{slice_set}
 use Rattle.kernel_state.specs.Setup.{booted_with}
 use Rattle.kernel_state.specs.Tables.{tables_of}
@@ -32,9 +33,10 @@ returns-clause-stands c applies kernel stands =
     let taken = taken_of model c.args.plan in
     let beside_of : Cont (List ℕ) → Cancellation = λ cont. record { session = cont.session; cancel_id = c.args.entered.head.cancel_id; marked = false } in
     let beside : Cancellation = beside_of c.deref.result.now in
+    let keyed : c.deref_mut.result.now.key ≡ old.setup.key = ap (λ (cont : Cont (List ℕ)). cont.key) c.deref_mut.ensures.value ∙ c.take-cont.ensures.key in
     let shown : c.deref.result.now ≡ c.apply.new.cont = let e = c.deref.ensures in let b = c.deref_mut.ensures.writes_back in cc in
     let takes = new_takes old mid new c.args.visitor c.args.entered c.args.plan c.is_cancel-cancels.result beside c.take-cont.new.self c.apply.new.tables c.apply.new.cont c.args.reads
-    c.is_cancel-cancels.ensures (c.apply.ensures.taken (booted_with old.setup) applies) (c.apply.ensures.pages old.setup applies stands.pages) (ap beside_of shown)
+    c.is_cancel-cancels.ensures (c.apply.ensures.taken (booted_with old.setup) keyed applies) (c.apply.ensures.pages old.setup applies stands.pages) (ap beside_of shown)
     c.takes_slot.ensures c.lets_in.ensures in
     let journal : mid.journal ≡ old.journal = ap (λ (parts : Parts). parts.journal) c.takes_slot.ensures.stays in
     let processors : mid.processors.items ≡ old.processors.items = ap (λ (parts : Parts). parts.processors.items) c.takes_slot.ensures.stays in
@@ -43,3 +45,10 @@ returns-clause-stands c applies kernel stands =
     ∙ ap (λ (processors : List Processor). slice_set processors c.args.visitor.cpu (Inside c.args.visitor.regs c.args.visitor.steps (InSlot c.args.entered.slot))) processors)
     (room_behind old.setup.cpus old.journal.spare new.journal.spare c.requires.room
     (ap (λ (journal : Contents). journal.spare) c.lets_in.ensures.journal ∙ ap (λ (journal : Contents). journal.spare - 1) journal))
+
+pub returns-clause-carries : goal.returns-clause-carries
+returns-clause-carries c applies =
+    let old = c.args.parts.now in
+    let keyed : c.deref_mut.result.now.key ≡ old.setup.key = ap (λ (cont : Cont (List ℕ)). cont.key) c.deref_mut.ensures.value ∙ c.take-cont.ensures.key in
+    let has = c.apply.ensures.taken (booted_with old.setup) keyed applies in
+    grind (arith, common_steps, has.call)

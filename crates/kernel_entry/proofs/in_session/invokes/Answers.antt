@@ -23,14 +23,14 @@ pins-requires-clause-kept c =
     (points_of c.only.result) c.args.copies.cookies.items c.comes_in.ensures.came c.requires.works c.requires.buffers)
 
 pub returns-clause-taken : goal.returns-clause-taken
-returns-clause-taken c boot instance there known =
+returns-clause-taken c boot instance keyed there known =
     let model = call_found boot (tables_of c.args.tables.now) c.args.entered.now in
     subst (λ (points : List EntryPoint). IsTaken None c.args.entered.now (record c.comes_in.new.tables { registry = c.pins.new.registry }) c.comes_in.new.cont
     (works_or_waits model (kind.Invoke c.args.entered.now.head.func) c.args.session instance (copies_in c.args.copies) points))
     c.only.ensures
     (session_taken boot c.args.tables.now c.comes_in.new.tables c.args.entered.now _ c.waits_as.new.cont c.comes_in.new.cont (kind.Invoke c.args.entered.now.head.func)
     c.args.session instance (copies_in c.args.copies) (points_of c.only.result) c.pins.new.registry
-    c.waits_as.ensures.entered (ap kept_params c.waits_as.ensures.params) refl refl refl refl refl refl
+    c.waits_as.ensures.entered (ap kept_params c.waits_as.ensures.params) (c.waits_as.ensures.key ∙ keyed) refl refl refl refl refl refl
     (c.comes_in.ensures.came boot instance there known)
     (c.pins.ensures ∙ ap (λ (cookies : List ℕ). record c.comes_in.new.tables.registry
     { pins = fold (λ pins cookie. with_pin pins cookie c.args.entered.now.slot) c.comes_in.new.tables.registry.pins cookies }) c.as_slice.ensures.value))

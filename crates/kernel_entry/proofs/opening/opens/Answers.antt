@@ -32,10 +32,10 @@ pins-requires-clause-kept c =
     (open_leaves who what shared) c.requires.buffers)
 
 pub returns-clause-taken : goal.returns-clause-taken
-returns-clause-taken c boot =
+returns-clause-taken c boot keyed =
     open_taken boot c.args.tables.now c.comes_in.new.tables c.args.entered.now _ c.waits_as.new.cont c.comes_in.new.cont c.args.app c.args.login
     c.args.copies c.reserves-cont.result c.reserves-cont.new.sessions c.pins.new.registry
-    c.waits_as.ensures.entered c.waits_as.ensures.params refl refl refl refl refl refl (c.comes_in.ensures.came boot)
+    c.waits_as.ensures.entered c.waits_as.ensures.params (c.waits_as.ensures.key ∙ keyed) refl refl refl refl refl refl (c.comes_in.ensures.came boot)
     c.reserves-cont.ensures.number c.reserves-cont.ensures.after
     (c.pins.ensures ∙ ap (λ (cookies : List ℕ). record c.comes_in.new.tables.registry
     { pins = fold (λ pins cookie. with_pin pins cookie c.args.entered.now.slot) c.comes_in.new.tables.registry.pins cookies }) c.as_slice.ensures.value)

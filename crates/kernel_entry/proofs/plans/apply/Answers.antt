@@ -15,12 +15,12 @@ apply_plan-requires-clause-takes c =
     can_take c.args.tables.now c.pins_argument.new.registry c.args.entered.now c.args.plan c.pins_argument.ensures c.requires.takes
 
 pub returns-clause-taken : goal.returns-clause-taken
-returns-clause-taken c boot applies =
+returns-clause-taken c boot keyed applies =
     let entered = c.args.entered.now in
     let is = pinned_is c.args.tables.now c.pins_argument.new.registry entered c.pins_argument.ensures in
     subst (λ (t : model.Tables). IsTaken (meant_by entered c.args.plan) entered c.apply_plan.new.tables c.apply_plan.new.cont
     (taken_of (call_found boot t entered) c.args.plan)) is
-    (c.apply_plan.ensures.taken boot
+    (c.apply_plan.ensures.taken boot keyed
     (subst (λ (t : model.Tables). CanApply (call_found boot t entered) c.args.plan) (sym is) applies))
 
 pub returns-clause-pages : goal.returns-clause-pages
