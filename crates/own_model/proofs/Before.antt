@@ -74,7 +74,7 @@ pub record OpensIt (boot : Booted) (session : ℕ) (slots : List ThreadSlot) (sl
   pub uuid : taken.call.uuid ≡ Some (uuid_of of)
   pub noted : event_of session taken.call ≡ Some (Open params login area)
   pub opens : IsItsOpen session taken.call
-  pub tied : is_single of ≡ false → TakesOpen of slots slot before taken (record { params = params; login = login; area = area })
+  pub tied : is_single of ≡ false → TakesOpen boot.key of slots slot before taken (record { params = params; login = login; area = area })
 
 -- before the open of a session, a new call isn't of it, or is its open, or has it wait for an instance that it shares
 pub data Coming (boot : Booted) (session : ℕ) (slots : List ThreadSlot) (slot : ℕ) (before : Tables)
@@ -204,10 +204,11 @@ endings_early session slots c early = record {
 -- ---- the entry
 
 -- a cookie's pin makes no difference
-open_unpinned : (app : Application) (slots : List ThreadSlot) (at : ℕ) (tables : Tables) (taken : Taken)
+open_unpinned : (key : List ℕ) (app : Application) (slots : List ThreadSlot) (at : ℕ) (tables : Tables) (taken : Taken)
     (came : OpenBy) (named : Option ℕ) (slot : ℕ)
-    → TakesOpen app slots at (with_argument_pinned named tables slot) taken came → TakesOpen app slots at tables taken came
-open_unpinned app slots at tables taken came named slot takes = record { tied = takes.tied }
+    → TakesOpen key app slots at (with_argument_pinned named tables slot) taken came
+    → TakesOpen key app slots at tables taken came
+open_unpinned key app slots at tables taken came named slot takes = record { tied = takes.tied }
 
 coming_unpinned : (boot : Booted) (session : ℕ) (slots : List ThreadSlot) (at : ℕ) (tables : Tables) (taken : Taken)
     (named : Option ℕ) (slot : ℕ)
@@ -225,7 +226,7 @@ coming_unpinned boot session slots at tables taken named slot (ItsOpen o) =
       uuid = o.uuid;
       noted = o.noted;
       opens = o.opens;
-      tied = λ alone. open_unpinned o.of slots at tables taken
+      tied = λ alone. open_unpinned boot.key o.of slots at tables taken
           (record { params = o.params; login = o.login; area = o.area }) named slot (o.tied alone);
     })
 coming_unpinned boot session slots at tables taken named slot (Shares none more its) = Shares none more its
@@ -253,15 +254,15 @@ early_call boot session kernel next cpu steps slot regs reads now below before i
     inside there e
 
 -- kernel and machine are tied from the open on
-pub open_along : (app : Application) (most : ℕ) (kernel : Kernel) (visit : Visit) (slot : ℕ) (taken : Taken)
+pub open_along : (boot : Booted) (app : Application) (most : ℕ) (kernel : Kernel) (visit : Visit) (slot : ℕ) (taken : Taken)
     (came : OpenBy)
-    → TakesOpen app kernel.slots slot kernel.tables taken came
-    → GoesAlong (about_next app most kernel) no_notes unopened (after_decision kernel visit (Takes slot taken))
+    → TakesOpen boot.key app kernel.slots slot kernel.tables taken came
+    → GoesAlong (about_next boot app most kernel) no_notes (unopened boot.key) (after_decision kernel visit (Takes slot taken))
     (numbered no_notes slot taken.call (Open came.params came.login came.area))
-open_along app most kernel visit slot taken came takes = record {
+open_along boot app most kernel visit slot taken came takes = record {
   items = (Open came.params came.login came.area, None) ∷ [];
   noted = refl;
-  then = opened_solo app came;
+  then = opened_solo boot.key app came;
   replies = refl;
   tied = takes.tied visit.cpu;
 }
@@ -281,7 +282,7 @@ open_comes : (boot : Booted) (app : Application) (most : ℕ) (kernel next : Ker
     → taken.call ≡ now
     → after_decision kernel visit (Takes slot taken) ≡ next → event_of kernel.tables.next_session taken.call ≡ Some came
     → taken.call.uuid ≡ Some (uuid_of app)
-    → GoesAlong (about_next app most kernel) no_notes unopened next (numbered no_notes slot now came)
+    → GoesAlong (about_next boot app most kernel) no_notes (unopened boot.key) next (numbered no_notes slot now came)
 open_comes boot app most kernel next visit slot now came taken shares (Another none lower) is gives noted uuid =
     not_both came (sym none ∙ noted)
 open_comes boot app most kernel next visit slot now came taken shares (Shares none more its) is gives noted uuid =
@@ -290,17 +291,17 @@ open_comes boot app most kernel next visit slot now came taken shares (ItsOpen o
     let same : o.of ≡ app = same_open boot app o.of shares o.of_boot (sym o.uuid ∙ uuid) in
     let alone : is_single o.of ≡ false = ap is_single same ∙ shares.shares_none in
     let by : OpenBy = record { params = o.params; login = o.login; area = o.area } in
-    let takes : TakesOpen app kernel.slots slot kernel.tables taken by =
-    subst (λ (a : Application). TakesOpen a kernel.slots slot kernel.tables taken by) same
+    let takes : TakesOpen boot.key app kernel.slots slot kernel.tables taken by =
+    subst (λ (a : Application). TakesOpen boot.key a kernel.slots slot kernel.tables taken by) same
     (o.tied alone) in
     let its : Open o.params o.login o.area ≡ came = same_event (Open o.params o.login o.area) came (sym o.noted ∙ noted) in
-    subst (λ (came_in : OwnEvent). GoesAlong (about_next app most kernel) no_notes unopened next
+    subst (λ (came_in : OwnEvent). GoesAlong (about_next boot app most kernel) no_notes (unopened boot.key) next
     (numbered no_notes slot now came_in)) its
-    (subst (λ (call : PendingCall). GoesAlong (about_next app most kernel) no_notes unopened next
+    (subst (λ (call : PendingCall). GoesAlong (about_next boot app most kernel) no_notes (unopened boot.key) next
     (numbered no_notes slot call (Open o.params o.login o.area))) is
-    (subst (λ (k : Kernel). GoesAlong (about_next app most kernel) no_notes unopened k
+    (subst (λ (k : Kernel). GoesAlong (about_next boot app most kernel) no_notes (unopened boot.key) k
     (numbered no_notes slot taken.call (Open o.params o.login o.area))) gives
-    (open_along app most kernel visit slot taken by takes)))
+    (open_along boot app most kernel visit slot taken by takes)))
 
 no_more : (n : ℕ) → n ≤ n
 no_more n = omega arith
@@ -313,7 +314,7 @@ pub own_open : (boot : Booted) (app : Application) (most : ℕ) (kernel next : K
     → slice_get next.slots slot ≡ Some (Active cpu now)
     → event_of kernel.tables.next_session now ≡ Some came → now.uuid ≡ Some (uuid_of app)
     → after_event boot kernel (Entry cpu regs steps reads) ≡ Some next
-    → GoesAlong (about_next app most kernel) no_notes unopened next
+    → GoesAlong (about_next boot app most kernel) no_notes (unopened boot.key) next
     (event_noted kernel.tables.next_session kernel next no_notes (Entry cpu regs steps reads))
 own_open boot app most kernel next cpu steps slot regs reads now came shares numbers is inside there noted uuid e =
     let session : ℕ = kernel.tables.next_session in
@@ -323,6 +324,6 @@ own_open boot app most kernel next cpu steps slot regs reads now came shares num
     found.taken shares found.holds found.call_is found.gives
     (ap (λ (c : PendingCall). event_of session c) found.call_is ∙ noted)
     (ap (λ (c : PendingCall). c.uuid) found.call_is ∙ uuid) in
-    subst (GoesAlong (about_next app most kernel) no_notes unopened next)
+    subst (GoesAlong (about_next boot app most kernel) no_notes (unopened boot.key) next)
     (sym (new_call_noted session kernel next cpu steps slot regs reads now no_notes inside found.free there
     ∙ ap (λ (o : Option OwnEvent). option_map_or (numbered no_notes slot now) o no_notes) noted)) along

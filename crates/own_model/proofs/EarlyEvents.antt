@@ -52,7 +52,7 @@ pub data EarlyNext (boot : Booted) (session most : ℕ) (kernel next : Kernel) (
   StillEarly : now ≡ no_notes → next.tables.next_session ≤ session → EarlyNext boot session most kernel next now
   NowOpen : (of : Application) → session ≡ kernel.tables.next_session → app_of boot (uuid_of of) ≡ Some of
       → now.uuid ≡ Some (uuid_of of) →
-      is_single of ≡ false → GoesAlong (about_next of most kernel) no_notes unopened next now
+      is_single of ≡ false → GoesAlong (about_next boot of most kernel) no_notes (unopened boot.key) next now
       → HasOpen session (uuid_of of) next → EarlyNext boot session most kernel next now
   NowShared : (of : Application) → session < next.tables.next_session → app_of boot (uuid_of of) ≡ Some of
       → now.uuid ≡ Some (uuid_of of) →
@@ -161,12 +161,12 @@ opens_next boot session most kernel next visit slot now notes found o is has tru
 opens_next boot session most kernel next visit slot now notes found o is has false alone =
     NowOpen o.of o.is_next o.of_boot (ap (λ (n : Notes). n.uuid) is ∙ ap (λ (c : PendingCall). c.uuid)
     (sym found.call_is) ∙ o.uuid) alone
-    (subst (GoesAlong (about_next o.of most kernel) no_notes unopened next) (sym is)
-    (subst (λ (call : PendingCall). GoesAlong (about_next o.of most kernel) no_notes unopened next
+    (subst (GoesAlong (about_next boot o.of most kernel) no_notes (unopened boot.key) next) (sym is)
+    (subst (λ (call : PendingCall). GoesAlong (about_next boot o.of most kernel) no_notes (unopened boot.key) next
     (numbered no_notes slot call (Open o.params o.login o.area))) found.call_is
-    (subst (λ (k : Kernel). GoesAlong (about_next o.of most kernel) no_notes unopened k
+    (subst (λ (k : Kernel). GoesAlong (about_next boot o.of most kernel) no_notes (unopened boot.key) k
     (numbered no_notes slot found.taken.call (Open o.params o.login o.area))) found.gives
-    (open_along o.of most kernel visit slot found.taken
+    (open_along boot o.of most kernel visit slot found.taken
     (record { params = o.params; login = o.login; area = o.area }) (o.tied alone))))) has
 
 call_next : (boot : Booted) (session most : ℕ) (kernel next : Kernel) (visit : Visit) (slot : ℕ)

@@ -75,8 +75,8 @@ fixed_entry boot about kernel next cpu steps regs reads answer inside notes solo
     let at : Entering = record { kernel = kernel; next = next; visit = visit; reads = reads } in
     let comes : next ≡ with_visitor kernel visit (Fixed answer) =
     fixed_answers.entry boot kernel next visit reads answer (entered boot kernel next cpu steps regs reads e) inside in
-    let still : Tied about.app (whose_of about.session about.instance notes) next.slots next.tables solo =
-    subst (λ (k : Kernel). Tied about.app (whose_of about.session about.instance notes) k.slots k.tables solo)
+    let still : Tied about.app (whose_of about notes) next.slots next.tables solo =
+    subst (λ (k : Kernel). Tied about.app (whose_of about notes) k.slots k.tables solo)
     (sym comes) tied in
     let noted = if-both (GoesAlong about notes solo next)
     (is_limit answer && is_of_client kernel about.session visit.regs)
@@ -96,8 +96,8 @@ fixed_exit boot about kernel next cpu steps came regs answer inside notes solo e
     fixed_answers.exit kernel visit answer inside in
     let is : out.0 ≡ goes_out kernel visit answer [] = some_same _ _ (sym out.1 ∙ goes) in
     let comes : next ≡ without_visitor kernel visit = sym out.2 ∙ ap (λ (x : Exited). x.kernel) is in
-    let still : Tied about.app (whose_of about.session about.instance notes) next.slots next.tables solo =
-    subst (λ (k : Kernel). Tied about.app (whose_of about.session about.instance notes) k.slots k.tables solo)
+    let still : Tied about.app (whose_of about notes) next.slots next.tables solo =
+    subst (λ (k : Kernel). Tied about.app (whose_of about notes) k.slots k.tables solo)
     (sym comes) tied in
     let noted = if-both (GoesAlong about notes solo next) (list_any (λ away. away == cpu) notes.turned_away)
     (record notes {

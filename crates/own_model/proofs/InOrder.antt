@@ -371,7 +371,7 @@ opens_so app z params login area order =
     let session : OwnSession = record { login = login; context = 0; opened = false } in
     let with_session : Solo = record z { session = Some session } in
     let still : IsInOrder with_session = another_instance z (Some session) z.instance order order.holder in
-    let start : Start = start_with (session, made app) params in
+    let start : Start = start_with z (session, made app) params in
     if-both (IfAny IsInOrder) (z.entered == 0) (Some (opens app z params login area)) None
     (begins_so app (counted with_session) z.entered (fresh_call kind.Open area (Waits params)) start
     (counts with_session still) (last_below z.entered)
@@ -385,7 +385,7 @@ invokes_so app z func input area at order =
     (settles_so z area target_dead order) (by_input input)
   where
     by_input : (came : OwnInput) → IfAny IsInOrder (invokes_with app z func came area at)
-    by_input (Copied params) = works_or_waits_so app z (kind.Invoke func) area (start_with at params) order tt (λ job. tt)
+    by_input (Copied params) = works_or_waits_so app z (kind.Invoke func) area (start_with z at params) order tt (λ job. tt)
     by_input Faulty = settles_so z area bad_parameters order
     by_input Unread = tt
 
@@ -506,7 +506,7 @@ tests_again_so app z w at order there =
     (subst (λ (p : CallPhase). MayFollow there.own.kind there.own.phase p) (sym there.phases)
     (itself there.own.kind there.own.phase))))
     (begins_so app (without_waiter z w.number) w.number w.call
-    (record { session = at.0; instance = at.1; params = w.params; seen = w.call.seen })
+    (record { session = at.0; instance = at.1; params = w.params; seen = w.call.seen; key = z.key })
     (leaves_line z w.number order) (order.numbered w.number there.own there.there)
     (λ job. fits_running w.call.kind there.own.phase job there.waits
     (subst (λ k. Fits k there.own.phase) (sym there.kinds) (order.fits w.number there.own there.there)))
@@ -703,7 +703,7 @@ step_so most app z (Invoke func input area) order =
     (if_any_then IsInOrder (invokes app z func input area) (home z) (λ at _. invokes_so app z func input area at order))
 step_so most app z (Close area) order =
     if_any_map InOrderThen (λ at. silent (closes app z area at)) (home z)
-    (λ at _. works_or_waits_so app z kind.Close area (start_with at no_params) order tt (λ job. tt))
+    (λ at _. works_or_waits_so app z kind.Close area (start_with z at no_params) order tt (λ job. tt))
 step_so most app z Cancel order = settles_so z false success order
 step_so most app z (Seen number done_by_now) order =
     silent_so (option_and_then (sees z number done_by_now) (get z.calls number))
@@ -736,7 +736,7 @@ runs_so most app solo final (came ∷ events) replies order e =
 
 pub stays_in_order : StaysInOrder
 stays_in_order = record {
-  first = record {
+  first = λ key. record {
     fits = λ number own found. absurd cc;
     holder = λ number holds. absurd cc;
     waiting = All-nil (λ n. IsIn IsWaiting [] n);

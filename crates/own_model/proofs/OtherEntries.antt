@@ -32,14 +32,14 @@ use Rattle.own_model.specs.Tied.{IsOther, Whose, call_at, call_in}
 beside : (boot : Booted) (about : About) (kernel : Kernel) (notes : Notes) (solo : Solo) (regs : List ℕ) (slot : ℕ)
     → SharesNone boot about.app
     → AreTied about kernel notes solo → (at : Located) (bytes : List ℕ)
-    → Beside about.app (whose_of about.session about.instance notes) (new_call_of boot kernel.tables regs slot at bytes)
+    → Beside about.app (whose_of about notes) (new_call_of boot kernel.tables regs slot at bytes)
 beside boot about kernel notes solo regs slot shares tied at bytes = record {
   of_boot = shares.of_boot;
   shares_none = shares.shares_none;
   only = tied.alone.only;
   instances = tied.of_app;
   waiters = tied.waiters.uuids;
-  given = given_pinned (whose_of about.session about.instance notes) kernel.tables (cookie_of at) slot tied.given;
+  given = given_pinned (whose_of about notes) kernel.tables (cookie_of at) slot tied.given;
 }
 
 -- a free slot has no number
@@ -93,10 +93,10 @@ cancels_keep whose slots cancels others at now found none =
 
 taken_tied : (about : About) (kernel : Kernel) (visit : Visit) (notes : Notes) (solo : Solo) (slot : ℕ) (taken : Taken)
     → get notes.numbering.in_slots slot ≡ None → AreTied about kernel notes solo
-    → TakesOther (whose_of about.session about.instance notes) kernel.tables taken
+    → TakesOther (whose_of about notes) kernel.tables taken
     → AreTied about (after_decision kernel visit (Takes slot taken)) notes solo
 taken_tied about kernel visit notes solo slot taken none tied takes =
-    let whose : Whose = whose_of about.session about.instance notes in
+    let whose : Whose = whose_of about notes in
     let marked : List ThreadSlot = cancelled_slots kernel.slots taken.cancels in
     let held : ThreadSlot = Active visit.cpu taken.call in
     let set = slot_keeps whose marked slot held none (λ now in_it. held_other whose taken.call now in_it takes.other)
@@ -117,7 +117,7 @@ pub other_call : (boot : Booted) (about : About) (kernel next : Kernel) (cpu ste
     → after_event boot kernel (Entry cpu regs steps reads) ≡ Some next → AreTied about kernel notes solo
     → GoesAlong about notes solo next (event_noted about.session kernel next notes (Entry cpu regs steps reads))
 other_call boot about kernel next cpu steps slot regs reads now notes solo shares is inside there none e tied =
-    let whose : Whose = whose_of about.session about.instance notes in
+    let whose : Whose = whose_of about notes in
     let found =
     new_call_taken (λ at (taken : Taken). event_of about.session taken.call ≡ None
     → TakesOther whose kernel.tables taken)

@@ -180,9 +180,9 @@ other_progress : (about : About) (notes : Notes) (kernel : Kernel) (slot granted
     (progress : Progress)
     → progress_in_slot kernel granted slot ≡ Some progress → get notes.numbering.in_slots slot ≡ None
     → AreTied about kernel notes solo
-    → StaysOther (whose_of about.session about.instance notes) kernel.tables progress
+    → StaysOther (whose_of about notes) kernel.tables progress
 other_progress about notes kernel slot granted solo progress e none tied =
-    let whose : Whose = whose_of about.session about.instance notes in
+    let whose : Whose = whose_of about notes in
     option_and_then_some (progress_held kernel.tables granted) (slice_get kernel.slots slot) progress e
     (λ held there onward.
     held_progress whose kernel.tables granted held progress onward
@@ -193,10 +193,10 @@ other_progress about notes kernel slot granted solo progress e none tied =
 left_tied : (about : About) (notes : Notes) (kernel : Kernel) (visit : Visit) (slot : ℕ) (solo : Solo)
     (progress : Progress)
     → get notes.numbering.in_slots slot ≡ None → AreTied about kernel notes solo
-    → StaysOther (whose_of about.session about.instance notes) kernel.tables progress
+    → StaysOther (whose_of about notes) kernel.tables progress
     → AreTied about (goes_out_from kernel visit slot progress).kernel notes solo
 left_tied about notes kernel visit slot solo progress none tied stays =
-    let whose : Whose = whose_of about.session about.instance notes in
+    let whose : Whose = whose_of about notes in
     let leaving : Leaving = leaving_of slot progress.call in
     let held : ThreadSlot = slot_left progress.call leaving in
     stays_tied about.app whose kernel.slots (slice_set kernel.slots slot held) kernel.tables

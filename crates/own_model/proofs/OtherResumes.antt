@@ -234,7 +234,7 @@ pub other_resume : (boot : Booted) (about : About) (kernel next : Kernel) (cpu s
     → after_event boot kernel (Entry cpu regs steps reads) ≡ Some next → AreTied about kernel notes solo
     → GoesAlong about notes solo next (event_noted about.session kernel next notes (Entry cpu regs steps reads))
 other_resume boot about kernel next cpu steps regs reads call notes solo is some none e tied =
-    let whose : Whose = whose_of about.session about.instance notes in
+    let whose : Whose = whose_of about notes in
     let visit : Visit = record { cpu = cpu; regs = regs.a; steps = steps } in
     let slot : ℕ = thread_in regs.a in
     let resumes = resumes_call boot kernel next visit reads call is some

@@ -132,4 +132,5 @@ stays_tied app whose slots slots_after tables tables_after solo kept_slots kept_
   alone = record { only = kept_tables.only; others = kept_slots.others };
   entered = tied.entered;
   given = kept_tables.given;
+  key = tied.key;
 }

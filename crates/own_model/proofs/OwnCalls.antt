@@ -58,6 +58,7 @@ pub record Within (app : Application) (whose : Whose) (slots : List ThreadSlot) 
   pub free : slice_get slots c.slot ≡ Some Free
   pub none : get whose.numbering.in_slots c.slot ≡ None
   pub tied : Tied app whose slots c.tables z
+  pub key : z.key ≡ c.boot.key
 
 -- it comes in with this event, of which the machine makes that
 pub record ComesIn (app : Application) (most : ℕ) (whose : Whose) (slots : List ThreadSlot) (z : Solo) (slot : ℕ)
@@ -116,6 +117,7 @@ settled_takes app whose slots z c settled cancelled area code w session = record
   session_stays = refl;
   entered = refl;
   calls = refl;
+  key = refl;
 }
 
 cancels_own : (app : Application) (most : ℕ) (whose : Whose) (slots : List ThreadSlot) (z : Solo) (c : NewCall)
@@ -203,11 +205,11 @@ kept_uuid app whose slots z c named w h =
 
 -- ---- the job
 
--- what a job begins with: its program, and memory, objects and UUID of an instance
-abbrev job_with : Option Program → Instance → Login → ℕ → CopiedParams → List EntryPoint → Job
-job_with program instance login context params points =
+-- what a job begins with: the key, its program, and memory, objects and UUID of an instance
+abbrev job_with : List ℕ → Option Program → Instance → Login → ℕ → CopiedParams → List EntryPoint → Job
+job_with key program instance login context params points =
     begun_job (record { program = program; memory = instance.memory; seen = false })
-    (idle_job (owner_of instance.uuid) login context instance.objects params) points
+    (idle_job (owner_of instance.uuid key) login context instance.objects params) points
 
 same_program : (boot : Booted) (app : Application) (instance : Instance) → app_of boot (uuid_of app) ≡ Some app
     → instance.uuid ≡ uuid_of app
@@ -222,18 +224,20 @@ same_job : (app : Application) (whose : Whose) (slots : List ThreadSlot) (z : So
     (params : CopiedParams) (points : List EntryPoint) → Within app whose slots z c → (h : AtHome whose z c named)
     → points ≡ points_of call_kind
     → session_job (beginner c) named.0 named.1 params points
-    ≡ job_of app call_kind (start_with (shown named.0, h.own) params)
+    ≡ job_of app call_kind (start_with z (shown named.0, h.own) params)
 same_job app whose slots z c named call_kind params points w h same =
     let uuid : named.1.uuid ≡ uuid_of app = kept_uuid app whose slots z c named w h in
-    ap (λ (p : Option Program). job_with p named.1 named.0.login named.0.context params points)
+    ap (λ (key : List ℕ). job_with key (program_on c.boot named.1) named.1 named.0.login named.0.context params points)
+    (sym w.key)
+    ∙ ap (λ (p : Option Program). job_with z.key p named.1 named.0.login named.0.context params points)
     (same_program c.boot app named.1 w.of_boot uuid ∙ ap (λ b. if b then None else Some (program_of app)) h.alike.dead)
-    ∙ ap (λ memory. job_with program (record named.1 { memory = memory }) named.0.login named.0.context params points)
+    ∙ ap (λ memory. job_with z.key program (record named.1 { memory = memory }) named.0.login named.0.context params points)
     h.alike.memory
-    ∙ ap (λ u. job_with program (record named.1 { memory = h.own.memory; uuid = u }) named.0.login named.0.context
+    ∙ ap (λ u. job_with z.key program (record named.1 { memory = h.own.memory; uuid = u }) named.0.login named.0.context
     params points) uuid
-    ∙ ap (λ objects. job_with program (record h.own { uuid = uuid_of app; objects = objects }) named.0.login
+    ∙ ap (λ objects. job_with z.key program (record h.own { uuid = uuid_of app; objects = objects }) named.0.login
     named.0.context params points) h.alike.objects
-    ∙ ap (λ (ps : List EntryPoint). job_with program (record h.own { uuid = uuid_of app }) named.0.login
+    ∙ ap (λ (ps : List EntryPoint). job_with z.key program (record h.own { uuid = uuid_of app }) named.0.login
     named.0.context params ps) same
   where
     program : Option Program
@@ -308,6 +312,7 @@ waits_takes app whose slots z c named call_kind copies w h session =
       session_stays = refl;
       entered = refl;
       calls = refl;
+      key = refl;
     }
 
 -- it begins
@@ -320,9 +325,9 @@ runs_takes : (app : Application) (whose : Whose) (slots : List ThreadSlot) (z : 
     (about_session c call_kind named.0 named.1 copies) copies.cookies
     (begins_on (beginner c) named.0 named.1 copies.params points).job)
     (begins app (counted z) z.entered (fresh_call call_kind (is_some c.area) (Waits copies.params))
-    (start_with (shown named.0, h.own) copies.params))
+    (start_with z (shown named.0, h.own) copies.params))
 runs_takes app whose slots z c named call_kind copies points w h session same =
-    let start : Start = start_with (shown named.0, h.own) copies.params in
+    let start : Start = start_with z (shown named.0, h.own) copies.params in
     let uuid : named.1.uuid ≡ uuid_of app = kept_uuid app whose slots z c named w h in
     let held : Instance = held_by c.slot named.1 in
     let begun : Begun = begins_on (beginner c) named.0 named.1 copies.params points in
@@ -357,6 +362,7 @@ runs_takes app whose slots z c named call_kind copies points w h session same =
       session_stays = refl;
       entered = refl;
       calls = refl;
+      key = refl;
     }
 
 -- the one or the other, as the machine does
@@ -365,7 +371,7 @@ works_takes : (app : Application) (whose : Whose) (slots : List ThreadSlot) (z :
     (points : List EntryPoint) → Within app whose slots z c → (h : AtHome whose z c named)
     → c.head.session ≡ whose.session → points ≡ points_of call_kind
     → TakesOwn app whose slots c.slot c.tables z (new.works_or_waits c call_kind named.0 named.1 copies points)
-    (solo.works_or_waits app z call_kind (is_some c.area) (start_with (shown named.0, h.own) copies.params))
+    (solo.works_or_waits app z call_kind (is_some c.area) (start_with z (shown named.0, h.own) copies.params))
 works_takes app whose slots z c named call_kind copies points w h session same =
     subst (λ b. TakesOwn app whose slots c.slot c.tables z
     (new.works_or_waits c call_kind named.0 named.1 copies points) (if b then waiting else working))
@@ -376,7 +382,7 @@ works_takes app whose slots z c named call_kind copies points w h session same =
 
     working : Solo
     working = begins app (counted z) z.entered (fresh_call call_kind (is_some c.area) (Waits copies.params))
-        (start_with (shown named.0, h.own) copies.params)
+        (start_with z (shown named.0, h.own) copies.params)
 
     by_test : (test : Bool) → TakesOwn app whose slots c.slot c.tables z
         (if test then waits_in c c.tables (about_session c call_kind named.0 named.1 copies) copies
@@ -450,7 +456,7 @@ invokes_own app most whose slots z c named copies w is alive =
     if_home app most whose slots z c named (invokes c named copies) (Some came_in) w is (of_session (is_held named.1))
     (λ came session noted h.
     let at : ComesIn app most whose slots z c.slot c.tables (invokes c named copies) came_in = record {
-      machine = solo.works_or_waits app z (kind.Invoke c.head.func) (is_some c.area) (start_with (shown named.0, h.own) copies.params);
+      machine = solo.works_or_waits app z (kind.Invoke c.head.func) (is_some c.area) (start_with z (shown named.0, h.own) copies.params);
       steps = living_step app most z c.head.func (Copied copies.params) (is_some c.area) (shown named.0, h.own) h.home_is
           (sym h.alike.dead ∙ alive);
       takes = works_takes app whose slots z c named (kind.Invoke c.head.func) copies
@@ -463,7 +469,7 @@ invokes_own app most whose slots z c named copies w is alive =
     came_in = event.Invoke c.head.func (Copied copies.params) (is_some c.area)
 
     job_params : (program : Option Program)
-        → params_of (job_with program named.1 named.0.login named.0.context copies.params
+        → params_of (job_with c.boot.key program named.1 named.0.login named.0.context copies.params
         (point.Invoke c.head.func ∷ [])) ≡ copies.params
     job_params None = refl
     job_params (Some (OfImage image)) = refl

@@ -62,6 +62,7 @@ tied_with app whose slots before tables solo session instance waiting tied alike
   alone = record { only = alike.only; others = tied.alone.others };
   entered = tied.entered;
   given = alike.given;
+  key = tied.key;
 }
 
 -- ---- the call of a slot
@@ -171,6 +172,7 @@ call_changes app whose slots tables solo slot number wakes held now own in_it c 
   };
   entered = tied.entered;
   given = given_still whose (with_wakes whose wakes).numbering tables tied.given;
+  key = tied.key;
 }
   where
     other_still : (at : ℕ) (call : PendingCall) → IsOther whose call → IsOther (with_wakes whose wakes) call
@@ -326,6 +328,7 @@ call_goes app whose slots tables solo slot number before has there idle tied = r
   entered = tied.entered;
   given = given_still whose (without_slot whose slot).numbering (tables_left tables slot Free)
       (given_as whose tables _ refl refl tied.given);
+  key = tied.key;
 }
   where
     others_then : (at : ℕ) (call : PendingCall) → call_at (slice_set slots slot Free) at ≡ Some call

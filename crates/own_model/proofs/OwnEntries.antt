@@ -26,19 +26,20 @@ use Rattle.own_model.specs.Solo.{Solo}
 use Rattle.own_model.specs.Tied.{Whose}
 
 within : (boot : Booted) (about : About) (kernel : Kernel) (notes : Notes) (solo : Solo) (regs : List ℕ) (slot : ℕ)
-    → SharesNone boot about.app
+    → SharesNone boot about.app → about.key ≡ boot.key
     → IsRising kernel.tables.sessions → AreTied about kernel notes solo → slice_get kernel.slots slot ≡ Some Free
     → (at : Located) (bytes : List ℕ)
-    → Within about.app (whose_of about.session about.instance notes) kernel.slots solo
+    → Within about.app (whose_of about notes) kernel.slots solo
     (new_call_of boot kernel.tables regs slot at bytes)
-within boot about kernel notes solo regs slot shares rising tied free at bytes = record {
+within boot about kernel notes solo regs slot shares key rising tied free at bytes = record {
   of_boot = shares.of_boot;
   shares_none = shares.shares_none;
   rising = rising;
   free = free;
   none = no_number about kernel notes solo slot (get notes.numbering.in_slots slot) refl free tied;
-  tied = tied_pinned about.app (whose_of about.session about.instance notes) kernel.slots kernel.tables solo
+  tied = tied_pinned about.app (whose_of about notes) kernel.slots kernel.tables solo
       (cookie_of at) slot tied;
+  key = tied.key ∙ key;
 }
 
 -- a pin makes no difference to what is shown of it
@@ -58,6 +59,7 @@ own_unpinned app whose slots at tables solo taken then named slot takes = record
   session_stays = takes.session_stays;
   entered = takes.entered;
   calls = takes.calls;
+  key = takes.key;
 }
 
 comes_unpinned : (app : Application) (most : ℕ) (whose : Whose) (slots : List ThreadSlot) (z : Solo) (at : ℕ)
@@ -73,15 +75,16 @@ comes_unpinned app most whose slots z at tables taken came named slot comes = re
 
 pub own_call : (boot : Booted) (about : About) (kernel next : Kernel) (cpu steps slot : ℕ) (regs : Regs)
     (reads : List Read) (now : PendingCall)
-    (came : OwnEvent) (notes : Notes) (solo : Solo) → SharesNone boot about.app → IsNew regs.a
+    (came : OwnEvent) (notes : Notes) (solo : Solo) → SharesNone boot about.app → about.key ≡ boot.key
+    → IsNew regs.a
     → slice_get next.processors cpu ≡ Some (Inside regs.a steps (InSlot slot))
     → slice_get next.slots slot ≡ Some (Active cpu now)
     → event_of about.session now ≡ Some came → IsRising kernel.tables.sessions
     → after_event boot kernel (Entry cpu regs steps reads) ≡ Some next → AreTied about kernel notes solo
     → GoesAlong about notes solo next (event_noted about.session kernel next notes (Entry cpu regs steps reads))
-own_call boot about kernel next cpu steps slot regs reads now came notes solo shares is inside there
+own_call boot about kernel next cpu steps slot regs reads now came notes solo shares key is inside there
     noted rising e tied =
-    let whose : Whose = whose_of about.session about.instance notes in
+    let whose : Whose = whose_of about notes in
     let visit : Visit = record { cpu = cpu; regs = regs.a; steps = steps } in
     let found = new_call_taken (λ at taken. IfNoted about.app about.most whose kernel.slots solo at kernel.tables taken)
     boot kernel next cpu steps slot regs reads now is
@@ -92,7 +95,7 @@ own_call boot about kernel next cpu steps slot regs reads now came notes solo sh
     (λ taken holds came noted. comes_unpinned about.app about.most whose kernel.slots solo at kernel.tables taken came
     (cookie_of place) at (holds came noted))
     (endings_own about.app about.most whose kernel.slots solo c
-    (within boot about kernel notes solo regs.a at shares rising tied free place bytes)))
+    (within boot about kernel notes solo regs.a at shares key rising tied free place bytes)))
     inside there e in
     let comes = found.holds came (ap (λ (c : PendingCall). event_of about.session c) found.call_is ∙ noted) in
     let along : GoesAlong about notes solo next (numbered notes slot now came) =

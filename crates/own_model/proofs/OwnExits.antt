@@ -49,7 +49,8 @@ use Rattle.own_model.specs.declared.own_reply.OwnReply.TheVariants as reply
 
 -- the session with these numbers
 abbrev numbered_so : About → Numbering → Whose
-numbered_so about numbering = record { session = about.session; instance = about.instance; numbering = numbering }
+numbered_so about numbering =
+    record { session = about.session; instance = about.instance; numbering = numbering; key = about.key }
 
 abbrev noted_by : Notes → ℕ → ℕ → Leaving → Option ℕ → Option OwnReply → Notes
 noted_by notes slot number leaving woken told =
@@ -133,7 +134,7 @@ stays_in : (about : About) (kernel : Kernel) (notes : Notes) (solo : Solo) (slot
     (slice_set kernel.slots slot (Suspended now.client now))
     progress.tables (with_call c.comes.going.solo number then_own)
 stays_in about kernel notes solo slot number own progress now then_own c alike told =
-    call_changes about.app (whose_of about.session about.instance notes) kernel.slots progress.tables c.comes.going.solo
+    call_changes about.app (whose_of about notes) kernel.slots progress.tables c.comes.going.solo
     slot number c.comes.keeps.wakes
     (Suspended now.client now) now then_own refl
     (record {
@@ -269,7 +270,7 @@ idle : (about : About) (kernel : Kernel) (notes : Notes) (solo : Solo) (slot num
     (progress : Progress)
     (c : Coming about kernel notes solo slot number own progress) → (IsAtWork c.comes.going.call.phase → ⊥)
     → (IsWaiting c.comes.going.call.phase → ⊥)
-    → IsIdle (whose_of about.session about.instance notes) slot number progress.tables c.comes.going.solo.waiting
+    → IsIdle (whose_of about notes) slot number progress.tables c.comes.going.solo.waiting
 idle about kernel notes solo slot number own progress c at_rest unlined = record {
   holder = λ kept found held. no_holder kept c.comes.going.solo.instance
       (subst (λ (o : Option Instance). FoundAlike notes.numbering.in_slots o c.comes.going.solo.instance) found
@@ -377,7 +378,7 @@ finishes_so about kernel notes solo slot number own progress result params c e h
           (ap (λ b. Some (if b then (with_call z number (record last { buffer = false }), Some reply.Free)
           else (record z { calls = remove z.calls number }, Some (ended result params))))
           (buffer_is progress.call last None c.comes.alike.buffers has_none));
-      tied = call_goes about.app (whose_of about.session about.instance notes) kernel.slots progress.tables z slot
+      tied = call_goes about.app (whose_of about notes) kernel.slots progress.tables z slot
           number c.before c.has c.there
           (idle about kernel notes solo slot number own progress c (λ works. subst IsAtWork e.own_is works)
           (λ waits. subst IsWaiting e.own_is waits))

@@ -260,7 +260,7 @@ left_running about kernel visit notes solo slot number Free progress has there e
 left_running about kernel visit notes solo slot number (Suspended client call) progress has there e interrupted tied =
     absurd cc
 left_running about kernel visit notes solo slot number (Active worker call) progress has there e interrupted tied =
-    let whose : Whose = whose_of about.session about.instance notes in
+    let whose : Whose = whose_of about notes in
     let is = is_left slot kernel.tables call visit.steps call.phase progress refl e interrupted in
     let its = tied.calls.own slot number has in
     let found : call_at kernel.slots slot ≡ Some call =
@@ -288,6 +288,7 @@ left_running about kernel visit notes solo slot number (Active worker call) prog
       };
       entered = tied.entered;
       given = tied.given;
+      key = tied.key;
     } in (
       subst (λ (p : Progress). AreTied about (goes_out_from kernel visit slot p).kernel notes solo) (sym is.is) still,
       ap (λ (p : Progress). woken_in notes.numbering slot p.call.phase) is.is,

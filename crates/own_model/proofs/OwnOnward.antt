@@ -174,7 +174,7 @@ pub record ComesBack (about : About) (notes : Notes) (solo : Solo) (slot number 
   pub waiting : List ℕ
   pub last : OwnCall
   pub is : final ≡ record solo { instance = instance; waiting = waiting; calls = insert calls number last }
-  pub tables : TablesAlike about.app (whose_of about.session about.instance notes) progress.tables solo.session
+  pub tables : TablesAlike about.app (whose_of about notes) progress.tables solo.session
       instance waiting
   pub alike : CallsAlike about.session about.instance (get notes.numbering.wakes slot) progress.call last
   pub told : WasTold own.phase → WasTold last.phase
@@ -197,7 +197,7 @@ either_back about notes solo slot number own calls false true first second final
 
 module _ (boot : Booted) (about : About) (kernel : Kernel) (notes : Notes) (solo : Solo) (slot number : ℕ)
     (call : PendingCall) (own : OwnCall) (given : Given)
-    (shares : SharesNone boot about.app) (h : OwnThere about kernel notes solo slot number call own)
+    (shares : SharesNone boot about.app) (key : about.key ≡ boot.key) (h : OwnThere about kernel notes solo slot number call own)
     (s : SeesAlike about kernel notes solo slot number call own) where
   abbrev resumed : Resumed
   resumed = resumed_call boot kernel.tables slot call given
@@ -214,9 +214,9 @@ module _ (boot : Booted) (about : About) (kernel : Kernel) (notes : Notes) (solo
   now_alike : CallsAlike about.session about.instance (get notes.numbering.wakes slot) resumed.call own_now
   now_alike = given_alike about.session about.instance (get notes.numbering.wakes slot) given (sees call) s.now s.alike
 
-  same_tables : TablesAlike about.app (whose_of about.session about.instance notes) kernel.tables solo.session
+  same_tables : TablesAlike about.app (whose_of about notes) kernel.tables solo.session
       solo.instance solo.waiting
-  same_tables = tables_tied about.app (whose_of about.session about.instance notes) kernel.slots
+  same_tables = tables_tied about.app (whose_of about notes) kernel.slots
       kernel.tables solo h.tied
 
   -- it goes on in another phase, and nothing else changes
@@ -256,17 +256,17 @@ module _ (boot : Booted) (about : About) (kernel : Kernel) (notes : Notes) (solo
 
     -- the tables and the machine's line without it
     leaves : (tables : Tables) (instance : Option Instance)
-        → TablesAlike about.app (whose_of about.session about.instance notes) tables solo.session instance solo.waiting
-        → TablesAlike about.app (whose_of about.session about.instance notes)
+        → TablesAlike about.app (whose_of about notes) tables solo.session instance solo.waiting
+        → TablesAlike about.app (whose_of about notes)
         (without_waiter tables slot) solo.session instance (line_without solo.waiting number)
     leaves tables instance alike = record {
       session_alike = alike.session_alike;
       instance_alike = alike.instance_alike;
       of_app = alike.of_app;
-      waiters = leaves_line (whose_of about.session about.instance notes) slot number h.has h.tied.calls.apart about.app
+      waiters = leaves_line (whose_of about notes) slot number h.has h.tied.calls.apart about.app
           tables.waiters solo.waiting alike.waiters;
       only = alike.only;
-      given = given_as (whose_of about.session about.instance notes) tables _ refl refl alike.given;
+      given = given_as (whose_of about notes) tables _ refl refl alike.given;
     }
 
     gives_up_so : (code : ℕ) → Back (ends_with resumed code) (machine.gives_up then_machine number own_now code)
@@ -310,7 +310,7 @@ module _ (boot : Booted) (about : About) (kernel : Kernel) (notes : Notes) (solo
           h.tied.of_app there refl
 
       abbrev start : Start
-      start = record { session = shown session; instance = held; params = copied; seen = own_now.seen }
+      start = record { session = shown session; instance = held; params = copied; seen = own_now.seen; key = solo.key }
 
       program_alike : program_on boot kept ≡ (if held.dead then None else Some (program_of about.app))
       program_alike =
@@ -321,28 +321,35 @@ module _ (boot : Booted) (about : About) (kernel : Kernel) (notes : Notes) (solo
       job_alike : (points : List EntryPoint) → points ≡ points_of own_now.kind
           → session_job (who_resumes resumed) session kept params points ≡ job_of about.app own_now.kind start
       job_alike points are =
-          ap (λ (p : Option Program). begun_job (record { program = p; memory = kept.memory; seen = resumed.call.seen })
-          (idle_job (owner_of kept.uuid) session.login session.context kept.objects params) points) program_alike
+          ap (λ (k : List ℕ). begun_job (record {
+            program = program_on boot kept;
+            memory = kept.memory;
+            seen = resumed.call.seen;
+          })
+          (idle_job (owner_of kept.uuid k) session.login session.context kept.objects params) points)
+          (sym (h.tied.key ∙ key))
+          ∙ ap (λ (p : Option Program). begun_job (record { program = p; memory = kept.memory; seen = resumed.call.seen })
+          (idle_job (owner_of kept.uuid solo.key) session.login session.context kept.objects params) points) program_alike
           ∙ ap (λ (m : List ℕ). begun_job (record { program = own_program; memory = m; seen = resumed.call.seen })
-          (idle_job (owner_of kept.uuid) session.login session.context kept.objects params) points) instances.memory
+          (idle_job (owner_of kept.uuid solo.key) session.login session.context kept.objects params) points) instances.memory
           ∙ ap (λ b. begun_job (record { program = own_program; memory = held.memory; seen = b })
-          (idle_job (owner_of kept.uuid) session.login session.context kept.objects params) points) now_alike.seen
+          (idle_job (owner_of kept.uuid solo.key) session.login session.context kept.objects params) points) now_alike.seen
           ∙ ap (λ (u : List ℕ). begun_job (record { program = own_program; memory = held.memory; seen = own_now.seen })
-          (idle_job (owner_of u) session.login session.context kept.objects params) points) of_app
+          (idle_job (owner_of u solo.key) session.login session.context kept.objects params) points) of_app
           ∙ ap (λ o. begun_job (record { program = own_program; memory = held.memory; seen = own_now.seen })
-          (idle_job (owner_of (uuid_of about.app)) session.login session.context o params) points) instances.objects
+          (idle_job (owner_of (uuid_of about.app) solo.key) session.login session.context o params) points) instances.objects
           ∙ ap (λ (p : CopiedParams). begun_job (record {
             program = own_program;
             memory = held.memory;
             seen = own_now.seen;
           })
-          (idle_job (owner_of (uuid_of about.app)) session.login session.context held.objects p) points) phases_are.1
+          (idle_job (owner_of (uuid_of about.app) solo.key) session.login session.context held.objects p) points) phases_are.1
           ∙ ap (λ (ps : List EntryPoint). begun_job (record {
             program = own_program;
             memory = held.memory;
             seen = own_now.seen;
           })
-          (idle_job (owner_of (uuid_of about.app)) session.login session.context held.objects copied) ps) are
+          (idle_job (owner_of (uuid_of about.app) solo.key) session.login session.context held.objects copied) ps) are
         where
           own_program : Option Program
           own_program = if held.dead then None else Some (program_of about.app)
@@ -350,14 +357,14 @@ module _ (boot : Booted) (about : About) (kernel : Kernel) (notes : Notes) (solo
       job_flagged : own_now.seen ≡ true
           → phase_seen (Runs (job_of about.app own_now.kind start)) ≡ Runs (job_of about.app own_now.kind start)
       job_flagged seen =
-          let idle : Job = idle_job (owner_of (uuid_of about.app)) session.login session.context held.objects copied in
+          let idle : Job = idle_job (owner_of (uuid_of about.app) solo.key) session.login session.context held.objects copied in
           let program : Option Program = if held.dead then None else Some (program_of about.app) in
           ap (λ (j : Job). Runs j)
           (subst (λ b. HasSeenCancel (begun_job (record { program = program; memory = held.memory; seen = b }) idle
           (points_of own_now.kind))) (sym seen)
           (begins_flagged program held.memory idle (points_of own_now.kind) refl))
 
-      begun_tables : TablesAlike about.app (whose_of about.session about.instance notes)
+      begun_tables : TablesAlike about.app (whose_of about notes)
           (with_instance kernel.tables about.instance (held_by slot kept)) solo.session
           (Some (held_by number held)) solo.waiting
       begun_tables = record {
@@ -371,7 +378,7 @@ module _ (boot : Booted) (about : About) (kernel : Kernel) (notes : Notes) (solo
             (held_by slot kept) h.tied.of_app (λ _. of_app);
         waiters = same_tables.waiters;
         only = same_tables.only;
-        given = given_as (whose_of about.session about.instance notes) kernel.tables _ refl refl h.tied.given;
+        given = given_as (whose_of about notes) kernel.tables _ refl refl h.tied.given;
       }
 
       further_alike : (job other : Job) → job ≡ other
@@ -389,7 +396,7 @@ module _ (boot : Booted) (about : About) (kernel : Kernel) (notes : Notes) (solo
         waiting = line_without solo.waiting number;
         last = record own_now { phase = Runs (job_of about.app own_now.kind start) };
         is = refl;
-        tables = subst (λ n. TablesAlike about.app (whose_of about.session about.instance notes)
+        tables = subst (λ n. TablesAlike about.app (whose_of about notes)
             (without_waiter (with_instance kernel.tables n (held_by slot kept)) slot) solo.session
             (Some (held_by number held)) (line_without solo.waiting number))
             (sym here) (leaves (with_instance kernel.tables about.instance (held_by slot kept))
@@ -416,7 +423,7 @@ module _ (boot : Booted) (about : About) (kernel : Kernel) (notes : Notes) (solo
           [])
           shares.of_boot
           ∙ ap (λ b. point.Close ∷ (if b || keeps_alive about.app then [] else point.Destroy ∷ []))
-          (none_without_own (whose_of about.session about.instance notes) kernel.tables.sessions h.rising
+          (none_without_own (whose_of about notes) kernel.tables.sessions h.rising
           h.tied.alone.only)
           ∙ ap (λ b. point.Close ∷ (if b && has_flag about.app 4 then [] else point.Destroy ∷ [])) shares.shares_none
 

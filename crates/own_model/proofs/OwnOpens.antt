@@ -39,37 +39,41 @@ use Rattle.own_model.specs.Solo.{unopened, begins}
 use Rattle.own_model.specs.Solo as solo
 use Rattle.own_model.specs.Tied.{FoundAlike, IsOnlySession, IsOther, Tied, Whose, shown, waiting_for}
 
--- the session and the instance that an open gets, and no call so far
-abbrev pub whose_next : Tables → Whose
-whose_next tables =
-    record { session = tables.next_session; instance = tables.next_instance; numbering = no_notes.numbering }
+-- the session and the instance that an open gets, and no call so far, under this key
+abbrev pub whose_next : List ℕ → Tables → Whose
+whose_next key tables = record {
+  session = tables.next_session;
+  instance = tables.next_instance;
+  numbering = no_notes.numbering;
+  key = key;
+}
 
 -- ---- whoever is there is another
 
 below_apart : (a n : ℕ) → a < n → a ≡ n → ⊥
 below_apart a n lt e = grind (arith)
 
-pub call_other : (tables : Tables) (call : PendingCall) → IsBelow tables call.session call.instance
-    → IsOther (whose_next tables) call
-call_other tables call below = record {
+pub call_other : (key : List ℕ) (tables : Tables) (call : PendingCall) → IsBelow tables call.session call.instance
+    → IsOther (whose_next key tables) call
+call_other key tables call below = record {
   session_of_another = λ e. below_apart call.session tables.next_session below.0 e;
   instance_of_another = λ e. below_apart call.instance tables.next_instance below.1 e;
 }
 
-only_other : (tables : Tables) (number : ℕ) (session : Session) → IsBelow tables number session.instance
-    → IsOnlySession (whose_next tables) number session
-only_other tables number session below = (
+only_other : (key : List ℕ) (tables : Tables) (number : ℕ) (session : Session) → IsBelow tables number session.instance
+    → IsOnlySession (whose_next key tables) number session
+only_other key tables number session below = (
   λ e. absurd (below_apart number tables.next_session below.0 e),
   λ e. absurd (below_apart session.instance tables.next_instance below.1 e),
 )
 
-all_only : (tables : Tables) (sessions : NumberMap Session)
+all_only : (key : List ℕ) (tables : Tables) (sessions : NumberMap Session)
     → All (λ (kept : ℕ × Session). IsBelow tables kept.0 kept.1.instance) sessions
-    → All (λ (kept : ℕ × Session). IsOnlySession (whose_next tables) kept.0 kept.1) sessions
-all_only tables sessions all =
+    → All (λ (kept : ℕ × Session). IsOnlySession (whose_next key tables) kept.0 kept.1) sessions
+all_only key tables sessions all =
     All-weaker (λ (kept : ℕ × Session). IsBelow tables kept.0 kept.1.instance)
-    (λ (kept : ℕ × Session). IsOnlySession (whose_next tables) kept.0 kept.1)
-    (λ kept below. only_other tables kept.0 kept.1 below) sessions all
+    (λ (kept : ℕ × Session). IsOnlySession (whose_next key tables) kept.0 kept.1)
+    (λ kept below. only_other key tables kept.0 kept.1 below) sessions all
 
 absent : (slots : List ThreadSlot) (tables : Tables) (found : Option Session)
     → get tables.sessions tables.next_session ≡ found → AreBelow slots tables → found ≡ None
@@ -115,7 +119,7 @@ destroys : (c : NewCall) (of : Application) (slots : List ThreadSlot) → AreBel
     → destroy_after of c.tables.sessions c.tables.next_instance ≡ point.Destroy ∷ []
 destroys c of slots b alone =
     ap (λ opened. if opened || keeps_alive of then [] else point.Destroy ∷ [])
-    (none_opened (whose_next c.tables) c.tables.sessions (all_only c.tables c.tables.sessions b.sessions)
+    (none_opened (whose_next c.boot.key c.tables) c.tables.sessions (all_only c.boot.key c.tables c.tables.sessions b.sessions)
     (absent slots c.tables (get c.tables.sessions c.tables.next_session) refl b))
     ∙ ap (λ single. if false || (single && has_flag of 4) then [] else point.Destroy ∷ []) alone
 
@@ -155,26 +159,26 @@ pub record OpenBy : Type 0 where
   pub login : Login
   pub area : Bool
 
--- the machine that begins
-abbrev pub opened_solo : Application → OpenBy → Solo
-opened_solo app came = solo.opens app unopened came.params came.login came.area
+-- the machine that begins, made with this key
+abbrev pub opened_solo : List ℕ → Application → OpenBy → Solo
+opened_solo key app came = solo.opens app (unopened key) came.params came.login came.area
 
 -- what the open takes its slot for, and the machine, tied for the session that it gets
-pub record TakesOpen (app : Application) (slots : List ThreadSlot) (slot : ℕ) (before : Tables) (taken : Taken)
+pub record TakesOpen (key : List ℕ) (app : Application) (slots : List ThreadSlot) (slot : ℕ) (before : Tables) (taken : Taken)
     (came : OpenBy) : Type 0 where
-  pub tied : (cpu : ℕ) → Tied app (with_next (whose_next before) slot)
+  pub tied : (cpu : ℕ) → Tied app (with_next (whose_next key before) slot)
       (slice_set (cancelled_slots slots taken.cancels) slot (Active cpu taken.call)) taken.tables
-      (opened_solo app came)
+      (opened_solo key app came)
 
 same_job : (c : NewCall) (wanted : Opening) (of : Application) (copies : Copies) (slots : List ThreadSlot)
     → AreBelow slots c.tables → is_single of ≡ false
     → (begun_new c wanted of copies).job
-    ≡ job_of of kind.Open (start_with (
+    ≡ job_of of kind.Open (start_with (unopened c.boot.key) (
       record { login = wanted.login; context = 0; opened = false },
       made of,
     ) copies.params)
 same_job c wanted of copies slots b alone =
-    ap (λ ps. open_job (Some (program_of of)) (fresh_memory (pages_in of)) (owner_of (uuid_of of)) wanted.login copies.params
+    ap (λ ps. open_job (Some (program_of of)) (fresh_memory (pages_in of)) (owner_of (uuid_of of) c.boot.key) wanted.login copies.params
     (point.Create ∷ point.Open ∷ ps))
     (destroys c of slots b alone)
 
@@ -187,12 +191,12 @@ next_more n = omega arith
 opens_begun : (c : NewCall) (wanted : Opening) (of : Application) (copies : Copies) (slots : List ThreadSlot)
     → slice_get slots c.slot ≡ Some Free
     → AreBelow slots c.tables → is_single of ≡ false
-    → TakesOpen of slots c.slot c.tables (takes_begun c wanted of copies (begun_new c wanted of copies))
+    → TakesOpen c.boot.key of slots c.slot c.tables (takes_begun c wanted of copies (begun_new c wanted of copies))
     (record { params = copies.params; login = wanted.login; area = is_some c.area })
 opens_begun c wanted of copies slots free b alone =
-    let whose : Whose = whose_next c.tables in
+    let whose : Whose = whose_next c.boot.key c.tables in
     let taken : Taken = takes_begun c wanted of copies (begun_new c wanted of copies) in
-    let start : Start = start_with (record { login = wanted.login; context = 0; opened = false }, made of)
+    let start : Start = start_with (unopened c.boot.key) (record { login = wanted.login; context = 0; opened = false }, made of)
     copies.params in
     let reserved : Session = reserved_for c.client wanted.login c.tables.next_instance in
     let made_new : Instance = made_for (uuid_of of) c.slot in
@@ -249,11 +253,11 @@ opens_begun c wanted of copies slots free b alone =
           only = λ number session found.
               get-inserted c.tables.sessions c.tables.next_session reserved number session found
               (λ same is. (λ _. ap (λ (s : Session). s.instance) (sym is), λ _. same))
-              (λ was. only_other c.tables number session
+              (λ was. only_other c.boot.key c.tables number session
               (All-get (λ (kept : ℕ × Session). IsBelow c.tables kept.0 kept.1.instance) c.tables.sessions number
               session b.sessions was));
           others = others_taken whose slots taken.cancels c.slot (Active cpu taken.call)
-              (λ at call found none. call_other c.tables call (b.calls at call found));
+              (λ at call found none. call_other c.boot.key c.tables call (b.calls at call found));
         };
         entered = refl;
         given = record {
@@ -262,6 +266,7 @@ opens_begun c wanted of copies slots free b alone =
           session_given = next_more c.tables.next_session;
           instance_given = next_more c.tables.next_instance;
         };
+        key = refl;
       };
     }
   where
@@ -272,21 +277,21 @@ opens_begun c wanted of copies slots free b alone =
 pub opens_tied : (c : NewCall) (wanted : Opening) (of : Application) (copies : Copies) (slots : List ThreadSlot)
     → slice_get slots c.slot ≡ Some Free
     → AreBelow slots c.tables → is_single of ≡ false
-    → TakesOpen of slots c.slot c.tables (opens c wanted of copies) (record {
+    → TakesOpen c.boot.key of slots c.slot c.tables (opens c wanted of copies) (record {
       params = params_of (begun_by c wanted of copies).job;
       login = (begun_by c wanted of copies).job.login;
       area = is_some c.area;
     })
 opens_tied c wanted of copies slots free b alone =
-    subst (λ (begun : Begun). TakesOpen of slots c.slot c.tables (takes_begun c wanted of copies begun)
+    subst (λ (begun : Begun). TakesOpen c.boot.key of slots c.slot c.tables (takes_begun c wanted of copies begun)
     (record { params = params_of begun.job; login = begun.job.login; area = is_some c.area }))
     (sym (begins_new c wanted of copies alone))
-    (subst (λ (ps : CopiedParams). TakesOpen of slots c.slot c.tables (takes_begun c wanted of copies new)
+    (subst (λ (ps : CopiedParams). TakesOpen c.boot.key of slots c.slot c.tables (takes_begun c wanted of copies new)
     (record { params = ps; login = new.job.login; area = is_some c.area }))
-    (sym (open_params (program_of of) (fresh_memory (pages_in of)) (owner_of (uuid_of of)) wanted.login copies.params behind))
-    (subst (λ (login : Login). TakesOpen of slots c.slot c.tables (takes_begun c wanted of copies new)
+    (sym (open_params (program_of of) (fresh_memory (pages_in of)) (owner_of (uuid_of of) c.boot.key) wanted.login copies.params behind))
+    (subst (λ (login : Login). TakesOpen c.boot.key of slots c.slot c.tables (takes_begun c wanted of copies new)
     (record { params = copies.params; login = login; area = is_some c.area }))
-    (sym (open_login (program_of of) (fresh_memory (pages_in of)) (owner_of (uuid_of of)) wanted.login copies.params behind))
+    (sym (open_login (program_of of) (fresh_memory (pages_in of)) (owner_of (uuid_of of) c.boot.key) wanted.login copies.params behind))
     (opens_begun c wanted of copies slots free b alone)))
   where
     new : Begun

@@ -53,7 +53,7 @@ pub record Comes (about : About) (kernel : Kernel) (notes : Notes) (solo : Solo)
     (progress : Progress) : Type 0 where
   pub going : Going
   pub goes : going_in about.most solo own own.phase ≡ Some going
-  pub tied : Tied about.app (whose_of about.session about.instance notes) kernel.slots progress.tables going.solo
+  pub tied : Tied about.app (whose_of about notes) kernel.slots progress.tables going.solo
   pub keeps : KeepsWake notes.numbering slot progress.call.phase (woken_of going.call.phase)
   pub alike : CallsAlike about.session about.instance (get keeps.wakes slot) progress.call going.call
   pub told : (woken : ℕ) → get keeps.wakes slot ≡ Some woken → WasTold going.call.phase
@@ -94,7 +94,7 @@ record Shows (about : About) (kernel : Kernel) (notes : Notes) (solo z : Solo) (
     (tables : Tables) (call : PendingCall)
     (result : CallResult) (params : CopiedParams) : Type 0 where
   untold : get notes.numbering.wakes slot ≡ None
-  tied : Tied about.app (whose_of about.session about.instance notes) kernel.slots tables z
+  tied : Tied about.app (whose_of about notes) kernel.slots tables z
   of_session : call.session ≡ about.session
   on_instance : IsOn about.instance call call.kind
   kinds : call.kind ≡ shown.kind
@@ -109,7 +109,7 @@ shows_so : (about : About) (kernel : Kernel) (notes : Notes) (solo z : Solo) (sl
     → Shows about kernel notes solo z slot own shown tables call result params
     → Comes about kernel notes solo slot own (shows_result tables call result params)
 shows_so about kernel notes solo z slot own shown tables call result params s =
-    let whose : Whose = whose_of about.session about.instance notes in
+    let whose : Whose = whose_of about notes in
     let woken : HoldersAlike notes.numbering.in_slots (woken_by tables call call.kind) (machine.woken_by z shown.kind) =
     subst (λ k. HoldersAlike notes.numbering.in_slots (woken_by tables call call.kind) (machine.woken_by z k)) s.kinds
     (woken_alike about.app whose tables z (tables_tied about.app whose kernel.slots tables z s.tied) call call.kind
@@ -205,7 +205,7 @@ running_none about kernel notes solo slot number call own job from r =
 is_own_call : (about : About) (kernel : Kernel) (notes : Notes) (solo : Solo) (slot number used : ℕ)
     (call : PendingCall) (own : OwnCall) (job from : Job)
     → OwnRuns about kernel notes solo slot number call own job from
-    → IsOwnCall (whose_of about.session about.instance notes) (further call used) own.kind
+    → IsOwnCall (whose_of about notes) (further call used) own.kind
 is_own_call about kernel notes solo slot number used call own job from r = record {
   of_session = r.there.alike.of_session;
   on_instance = on_its_instance about.instance call call.kind from fits r.there.alike.on_instance;
@@ -223,7 +223,7 @@ ends_so : (about : About) (kernel : Kernel) (notes : Notes) (solo : Solo) (slot 
     → OwnStops about solo call own from used (steps.Ends end)
     → Comes about kernel notes solo slot own (after_stop kernel.tables (further call used) (steps.Ends end))
 ends_so about kernel notes solo slot number call own job from used end r s =
-    let whose : Whose = whose_of about.session about.instance notes in
+    let whose : Whose = whose_of about notes in
     let session : Option OwnSession = option_and_then (session_ended own.kind end) solo.session in
     let alike = end_tables about.app whose kernel.tables (further call used) own.kind solo.session solo.instance
     solo.waiting end
@@ -251,7 +251,7 @@ panics_so : (about : About) (kernel : Kernel) (notes : Notes) (solo : Solo) (slo
     → OwnStops about solo call own from used (steps.Panics code)
     → Comes about kernel notes solo slot own (after_stop kernel.tables (further call used) (steps.Panics code))
 panics_so about kernel notes solo slot number call own job from used code r s =
-    let whose : Whose = whose_of about.session about.instance notes in
+    let whose : Whose = whose_of about notes in
     let session : Option OwnSession = option_and_then (session_panicked own.kind) solo.session in
     let alike = panic_tables about.app whose kernel.tables (further call used) own.kind solo.session
     solo.instance solo.waiting
@@ -413,7 +413,7 @@ unrun_so : (about : About) (kernel : Kernel) (notes : Notes) (solo : Solo) (slot
     → own.phase ≡ Ends answer left false woken → result ≡ answer → params ≡ left
     → Comes about kernel notes solo slot own (shows_result (tables_unrun kernel.tables call) call result params)
 unrun_so about kernel notes solo slot number call own result answer params left woken h own_is results leaves =
-    let whose : Whose = whose_of about.session about.instance notes in
+    let whose : Whose = whose_of about notes in
     let z : Solo = record solo { session = option_and_then (session_unrun own.kind) solo.session } in
     let alike = unrun_tables about.app whose kernel.tables call own.kind solo.session solo.instance solo.waiting
     h.alike.of_session h.alike.kinds h.rising

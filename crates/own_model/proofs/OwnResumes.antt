@@ -187,6 +187,7 @@ record Returns (boot : Booted) (about : About) (kernel : Kernel) (notes : Notes)
   before : ThreadSlot
   in_slot : slice_get kernel.slots slot ≡ Some before
   shares : SharesNone boot about.app
+  key : about.key ≡ boot.key
   gives : reading (given_to regs slot call) reads ≡ Some given
 
 abbrev is_resumed : Booted → Kernel → ℕ → PendingCall → Given → Progress
@@ -206,7 +207,7 @@ module _ (boot : Booted) (about : About) (kernel : Kernel) (notes : Notes) (solo
     (call : PendingCall) (own : OwnCall) (given : Given)
     (r : Returns boot about kernel notes solo slot number regs reads call own given) where
   abbrev whose : Whose
-  whose = whose_of about.session about.instance notes
+  whose = whose_of about notes
 
   abbrev progress : Progress
   progress = is_resumed boot kernel slot call given
@@ -284,7 +285,7 @@ module _ (boot : Booted) (about : About) (kernel : Kernel) (notes : Notes) (solo
   given_so : ((job : Job) → call.phase ≡ Runs job → ⊥)
       → GoesBack about kernel notes solo slot number regs reads call progress cpu
   given_so asked =
-      let g = onward_so boot about kernel notes solo slot number call own given r.shares r.there s
+      let g = onward_so boot about kernel notes solo slot number call own given r.shares r.key r.there s
       (λ job is. seen_not job (sym (given_phase given (sees call)) ∙ is)) fits in
       let last : OwnCall = g.back.last in
       let changed = call_changes about.app whose kernel.slots progress.tables
@@ -373,12 +374,12 @@ suspended_at client (Some (Suspended owner left)) call e = (owner, by_owner (own
 
 pub own_resume : (boot : Booted) (about : About) (kernel next : Kernel) (cpu steps number : ℕ) (regs : Regs)
     (reads : List Read) (call : PendingCall)
-    (notes : Notes) (solo : Solo) → SharesNone boot about.app → call_of (reg regs.a 0) ≡ Resume
+    (notes : Notes) (solo : Solo) → SharesNone boot about.app → about.key ≡ boot.key → call_of (reg regs.a 0) ≡ Resume
     → call_resumed_by kernel.slots regs.a ≡ Some call
     → get notes.numbering.in_slots (thread_in regs.a) ≡ Some number → IsRising kernel.tables.sessions → IsInOrder solo
     → after_event boot kernel (Entry cpu regs steps reads) ≡ Some next → AreTied about kernel notes solo
     → GoesAlong about notes solo next (event_noted about.session kernel next notes (Entry cpu regs steps reads))
-own_resume boot about kernel next cpu steps number regs reads call notes solo shares is some has rising order e tied =
+own_resume boot about kernel next cpu steps number regs reads call notes solo shares key is some has rising order e tied =
     let visit : Visit = record { cpu = cpu; regs = regs.a; steps = steps } in
     let slot : ℕ = thread_in regs.a in
     let resumes = resumes_call boot kernel next visit reads call is some
@@ -391,7 +392,7 @@ own_resume boot about kernel next cpu steps number regs reads call notes solo sh
     let found = found_there about kernel notes solo slot number call has
     (ap (λ (o : Option ThreadSlot). option_and_then call_in o) at.1) order rising tied in
     let back = goes_back boot about kernel notes solo slot number cpu regs.a reads call found.0 given.0
-    (record { there = found.1; before = Suspended at.0 call; in_slot = at.1; shares = shares; gives = given.1 }) in
+    (record { there = found.1; before = Suspended at.0 call; in_slot = at.1; shares = shares; key = key; gives = given.1 }) in
     let returned : GoesBack about kernel notes solo slot number regs.a reads call resumes.progress cpu =
     subst (λ (p : Progress). GoesBack about kernel notes solo slot number regs.a reads call p cpu) given.2 back in
     let there = visitor_there boot kernel next cpu steps regs reads e in

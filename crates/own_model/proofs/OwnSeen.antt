@@ -133,7 +133,7 @@ pub record SeesAlike (about : About) (kernel : Kernel) (notes : Notes) (solo : S
   pub told : WasTold own.phase → WasTold now.phase
   -- with the call in its slot
   pub stays : (held : ThreadSlot) → call_in held ≡ Some (sees call)
-      → Tied about.app (whose_of about.session about.instance notes) (slice_set kernel.slots slot held) kernel.tables
+      → Tied about.app (whose_of about notes) (slice_set kernel.slots slot held) kernel.tables
       (record solo { calls = calls })
 
 module _ (about : About) (kernel : Kernel) (notes : Notes) (solo : Solo) (slot number : ℕ)
@@ -164,7 +164,7 @@ module _ (about : About) (kernel : Kernel) (notes : Notes) (solo : Solo) (slot n
       session_alike = h.tied.session_alike;
       instance_alike = h.tied.instance_alike;
       of_app = h.tied.of_app;
-      calls = own_slot (whose_of about.session about.instance notes) kernel.slots solo.calls slot number held before
+      calls = own_slot (whose_of about notes) kernel.slots solo.calls slot number held before
           (sees call) h.has in_slot in_it
           (record {
             call = its.call;
@@ -178,15 +178,16 @@ module _ (about : About) (kernel : Kernel) (notes : Notes) (solo : Solo) (slot n
       kept = h.tied.kept;
       alone = record {
         only = h.tied.alone.only;
-        others = others_stay (whose_of about.session about.instance notes) kernel.slots slot number held h.has
+        others = others_stay (whose_of about notes) kernel.slots slot number held h.has
             h.tied.alone.others;
       };
       entered = h.tied.entered;
       given = h.tied.given;
+      key = h.tied.key;
     };
   }
     where
-      its : IsTiedCall (whose_of about.session about.instance notes) kernel.slots solo.calls slot number
+      its : IsTiedCall (whose_of about notes) kernel.slots solo.calls slot number
       its = h.tied.calls.own slot number h.has
 
       its_alike : CallsAlike about.session about.instance (get notes.numbering.wakes slot) its.call own
@@ -271,7 +272,7 @@ module _ (about : About) (kernel : Kernel) (notes : Notes) (solo : Solo) (slot n
             (sym (marked_is marked)) alike;
         told = up.told;
         stays = λ held in_it.
-            call_changes about.app (whose_of about.session about.instance notes) kernel.slots kernel.tables solo slot
+            call_changes about.app (whose_of about notes) kernel.slots kernel.tables solo slot
             number notes.numbering.wakes held (sees call) now in_it
             (record {
               has = h.has;

@@ -296,14 +296,15 @@ pub record TakesOwn (app : Application) (whose : Whose) (slots : List ThreadSlot
   pub session_stays : then.session ≡ solo.session
   pub entered : then.entered ≡ solo.entered + 1
   pub calls : then.calls ≡ insert solo.calls solo.entered own
+  pub key : then.key ≡ solo.key
 
 pub own_taken : (about : About) (kernel : Kernel) (visit : Visit) (notes : Notes) (solo then : Solo) (slot : ℕ)
     (taken : Taken) (came : OwnEvent)
     → AreTied about kernel notes solo → step about.most about.app solo came ≡ Some (silent then)
-    → TakesOwn about.app (whose_of about.session about.instance notes) kernel.slots slot kernel.tables solo taken then
+    → TakesOwn about.app (whose_of about notes) kernel.slots slot kernel.tables solo taken then
     → GoesAlong about notes solo (after_decision kernel visit (Takes slot taken)) (numbered notes slot taken.call came)
 own_taken about kernel visit notes solo then slot taken came tied steps takes =
-    let whose : Whose = whose_of about.session about.instance notes in
+    let whose : Whose = whose_of about notes in
     let slots : List ThreadSlot =
     slice_set (cancelled_slots kernel.slots taken.cancels) slot (Active visit.cpu taken.call) in
     let calls : AreTiedCalls (with_next whose slot) slots (insert solo.calls notes.numbering.entered takes.own) =
@@ -334,5 +335,6 @@ own_taken about kernel visit notes solo then slot taken came tied steps takes =
         entered = ap (λ n. n + 1) tied.entered ∙ sym takes.entered;
         given = given_still whose (next_in whose.numbering slot) taken.tables
             (given_as whose kernel.tables taken.tables takes.next_session takes.next_instance tied.given);
+        key = takes.key ∙ tied.key;
       };
     }

@@ -33,6 +33,7 @@ tied_pinned app whose slots tables solo named slot tied = record {
   alone = tied.alone;
   entered = tied.entered;
   given = given_pinned whose tables named slot tied.given;
+  key = tied.key;
 }
 
 pub below_pinned : (slots : List ThreadSlot) (tables : Tables) (named : Option ℕ) (slot : ℕ) → AreBelow slots tables

@@ -97,14 +97,14 @@ Along boot about kernel next happened notes solo =
 
 entry_along : (boot : Booted) (about : About) (events : ℕ) (kernel next : Kernel) (cpu steps : ℕ) (regs : Regs)
     (reads : List Read)
-    (notes : Notes) (solo : Solo) → SharesNone boot about.app → IsReady about events kernel solo
+    (notes : Notes) (solo : Solo) → SharesNone boot about.app → about.key ≡ boot.key → IsReady about events kernel solo
     → after_event boot kernel (Entry cpu regs steps reads) ≡ Some next
     → AreTied about kernel notes solo → EntryKind kernel next cpu steps regs
     → Along boot about kernel next (Entry cpu regs steps reads) notes solo
-entry_along boot about events kernel next cpu steps regs reads notes solo shares ready e tied
+entry_along boot about events kernel next cpu steps regs reads notes solo shares key ready e tied
     (HasAnswer answer inside) =
     fixed_keep_tied.entry boot about kernel next cpu steps regs reads answer inside notes solo e tied
-entry_along boot about events kernel next cpu steps regs reads notes solo shares ready e tied
+entry_along boot about events kernel next cpu steps regs reads notes solo shares key ready e tied
     (IsNewCall slot now is inside there) =
     by_event (event_of about.session now) refl
   where
@@ -113,9 +113,9 @@ entry_along boot about events kernel next cpu steps regs reads notes solo shares
     by_event None none =
         other_call boot about kernel next cpu steps slot regs reads now notes solo shares is inside there none e tied
     by_event (Some came) noted =
-        own_call boot about kernel next cpu steps slot regs reads now came notes solo shares is inside there noted
+        own_call boot about kernel next cpu steps slot regs reads now came notes solo shares key is inside there noted
         ready.rising e tied
-entry_along boot about events kernel next cpu steps regs reads notes solo shares ready e tied
+entry_along boot about events kernel next cpu steps regs reads notes solo shares key ready e tied
     (IsResume call is some inside) =
     by_number (get notes.numbering.in_slots (thread_in regs.a)) refl
   where
@@ -123,7 +123,7 @@ entry_along boot about events kernel next cpu steps regs reads notes solo shares
         → Along boot about kernel next (Entry cpu regs steps reads) notes solo
     by_number None none = other_resume boot about kernel next cpu steps regs reads call notes solo is some none e tied
     by_number (Some number) has =
-        own_resume boot about kernel next cpu steps number regs reads call notes solo shares is some has ready.rising
+        own_resume boot about kernel next cpu steps number regs reads call notes solo shares key is some has ready.rising
         ready.order e tied
 
 exit_along : (boot : Booted) (about : About) (events : ℕ) (kernel next : Kernel) (cpu : ℕ) (regs : Regs)
@@ -172,11 +172,11 @@ exit_along boot about events kernel next cpu regs notes solo ready e tied
 
 pub event_along : (boot : Booted) (about : About) (events : ℕ) (kernel next : Kernel) (happened : Event)
     (notes : Notes) (solo : Solo)
-    → SharesNone boot about.app → IsReady about events kernel solo → after_event boot kernel happened ≡ Some next
+    → SharesNone boot about.app → about.key ≡ boot.key → IsReady about events kernel solo → after_event boot kernel happened ≡ Some next
     → AreTied about kernel notes solo
     → GoesAlong about notes solo next (event_noted about.session kernel next notes happened)
-event_along boot about events kernel next (Entry cpu regs steps reads) notes solo shares ready e tied =
-    entry_along boot about events kernel next cpu steps regs reads notes solo shares ready e tied
+event_along boot about events kernel next (Entry cpu regs steps reads) notes solo shares key ready e tied =
+    entry_along boot about events kernel next cpu steps regs reads notes solo shares key ready e tied
     (entry_kind boot kernel next cpu steps regs reads e)
-event_along boot about events kernel next (Exit cpu regs) notes solo shares ready e tied =
+event_along boot about events kernel next (Exit cpu regs) notes solo shares key ready e tied =
     exit_along boot about events kernel next cpu regs notes solo ready e tied (exit_kind boot kernel next cpu regs e)

@@ -172,12 +172,12 @@ goes_from boot session kernel next notes happened events e =
 
 tied_on : (boot : Booted) (about : About) (past : List Event) (kernel : Kernel) (notes : Notes) (solo : Solo)
     (events : List Event)
-    → SharesNone boot about.app → IsInOrder solo → AreTied about kernel notes solo
+    → SharesNone boot about.app → about.key ≡ boot.key → IsInOrder solo → AreTied about kernel notes solo
     → IsAt boot about.most past kernel events
     → RunsAlong about.most about.app notes solo (noted_from boot about.session kernel notes events)
-tied_on boot about past kernel notes solo [] shares order tied at =
+tied_on boot about past kernel notes solo [] shares key order tied at =
     record { items = []; logged = sym (append-nil notes.log); then = solo; replies = refl }
-tied_on boot about past kernel notes solo (happened ∷ events) shares order tied at =
+tied_on boot about past kernel notes solo (happened ∷ events) shares key order tied at =
     let on = on_from boot about.most past kernel happened events at in
     let ready : IsReady about (length past) kernel solo = record {
       rising = (in_order boot past kernel at.there).sessions.rising;
@@ -186,13 +186,13 @@ tied_on boot about past kernel notes solo (happened ∷ events) shares order tie
       order = order;
     } in
     let after : Notes = event_noted about.session kernel on.next notes happened in
-    let along = event_along boot about (length past) kernel on.next happened notes solo shares ready on.comes tied in
+    let along = event_along boot about (length past) kernel on.next happened notes solo shares key ready on.comes tied in
     let still = stays_in_order.runs about.most about.app solo along.then (events_in along.items)
     (replies_in along.items) order along.replies in
     subst (RunsAlong about.most about.app notes solo)
     (sym (goes_from boot about.session kernel on.next notes happened events on.comes))
     (runs_on about.most about.app notes after _ solo along.then along.items along.noted along.replies
-    (tied_on boot about (past ++ happened ∷ []) on.next after along.then events shares still along.tied on.at))
+    (tied_on boot about (past ++ happened ∷ []) on.next after along.then events shares key still along.tied on.at))
 
 -- ---- a session whose application shares an instance, or that has none
 
@@ -220,7 +220,7 @@ uuid_on boot session most past kernel notes (happened ∷ events) given at =
 abbrev IsAnswered : Booted → ℕ → Notes → Type 0
 IsAnswered boot most notes = (app : Application) → option_and_then (app_of boot) notes.uuid ≡ Some app
     → is_single app ≡ false →
-    (then : Solo) × (run most app unopened (events_in notes.log) ≡ Some (then, replies_in notes.log))
+    (then : Solo) × (run most app (unopened boot.key) (events_in notes.log) ≡ Some (then, replies_in notes.log))
 
 some_same : (a b : Application) → Some a ≡ Some b → a ≡ b
 some_same a b e = cc
@@ -246,12 +246,12 @@ nameless_answered boot most notes none = λ app is alone.
 
 opened_answered : (boot : Booted) (most : ℕ) (notes : Notes) (of : Application) → notes.uuid ≡ Some (uuid_of of)
     → app_of boot (uuid_of of) ≡ Some of
-    → RunsAlong most of no_notes unopened notes → IsAnswered boot most notes
+    → RunsAlong most of no_notes (unopened boot.key) notes → IsAnswered boot most notes
 opened_answered boot most notes of uuid of_boot runs = λ app is alone.
     let same = named_app boot notes of app uuid of_boot is in (
       runs.then,
-      ap (λ (a : Application). run most a unopened (events_in notes.log)) (sym same)
-          ∙ ap (λ (log : List Logged). run most of unopened (events_in log)) runs.logged
+      ap (λ (a : Application). run most a (unopened boot.key) (events_in notes.log)) (sym same)
+          ∙ ap (λ (log : List Logged). run most of (unopened boot.key) (events_in log)) runs.logged
           ∙ runs.replies
           ∙ ap (λ (log : List Logged). Some (runs.then, replies_in log)) (sym runs.logged),
     )
@@ -283,18 +283,18 @@ early_on boot session most past kernel (happened ∷ events) before at =
         shared_answered boot most (noted_from boot session on.next now events) of
         (uuid_on boot session most (past ++ happened ∷ []) on.next now events higher on.at ∙ uuid) of_boot shares
     by_next on now (NowOpen of is_next of_boot uuid alone along has) later =
-        let about : About = about_next of most kernel in
-        let order = stays_in_order.runs most of unopened along.then (events_in along.items)
-        (replies_in along.items) stays_in_order.first along.replies in
+        let about : About = about_next boot of most kernel in
+        let order = stays_in_order.runs most of (unopened boot.key) along.then (events_in along.items)
+        (replies_in along.items) (stays_in_order.first boot.key) along.replies in
         let rest : RunsAlong most of now along.then (noted_from boot session on.next now events) =
         subst (λ n. RunsAlong most of now along.then (noted_from boot n on.next now events)) (sym is_next)
         (tied_on boot about (past ++ happened ∷ []) on.next now along.then events
-        (record { of_boot = of_boot; shares_none = alone }) order along.tied on.at) in
+        (record { of_boot = of_boot; shares_none = alone }) refl order along.tied on.at) in
         let higher : session < on.next.tables.next_session =
         subst (λ n. n < on.next.tables.next_session) (sym is_next) along.tied.given.session_given in
         opened_answered boot most (noted_from boot session on.next now events) of
         (uuid_on boot session most (past ++ happened ∷ []) on.next now events higher on.at ∙ uuid) of_boot
-        (runs_on most of no_notes now (noted_from boot session on.next now events) unopened along.then along.items
+        (runs_on most of no_notes now (noted_from boot session on.next now events) (unopened boot.key) along.then along.items
         along.noted along.replies rest)
 
 -- ---- the laws
@@ -321,7 +321,7 @@ from_boot boot (suc n) most history at = early_on boot (suc n) most [] (first_ke
 
 session_answered : (boot : Booted) (history : List Event) (session : ℕ) (app : Application)
     → IsSessionOf boot history session app
-    → (then : Solo) × (run (steps_in history) app unopened (own_events boot history session)
+    → (then : Solo) × (run (steps_in history) app (unopened boot.key) (own_events boot history session)
     ≡ Some (then, own_replies boot history session))
 session_answered boot history session app s =
     let last = some_of (kernel_after boot history) s.legal.follows in
@@ -340,19 +340,20 @@ second_more : (a b : ℕ) → b ≤ a + b
 second_more a b = omega arith
 
 pub same_replies : SameEventsSameReplies
-same_replies boot another history other session number app s t same =
+same_replies boot another history other session number app keys s t same =
     let one = session_answered boot history session app s in
     let two = session_answered another other number app t in
     let most : ℕ = steps_in history + steps_in other in
-    let first = more_steps_agree app (steps_in history) most unopened one.0 (own_events boot history session)
+    let first = more_steps_agree app (steps_in history) most (unopened boot.key) one.0 (own_events boot history session)
     (own_replies boot history session)
     (first_more (steps_in history) (steps_in other)) one.1 in
-    let second = more_steps_agree app (steps_in other) most unopened two.0 (own_events another other number)
+    let second = more_steps_agree app (steps_in other) most (unopened another.key) two.0 (own_events another other number)
     (own_replies another other number)
     (second_more (steps_in history) (steps_in other)) two.1 in
     ap (λ (end : Ended). end.1)
     (some_end (one.0, own_replies boot history session) (two.0, own_replies another other number)
-    (sym first ∙ ap (λ (es : List OwnEvent). run most app unopened es) same ∙ second))
+    (sym first ∙ ap (λ (es : List OwnEvent). run most app (unopened boot.key) es) same
+    ∙ ap (λ (key : List ℕ). run most app (unopened key) (own_events another other number)) keys ∙ second))
   where
     some_end : (a b : Ended) → Some a ≡ Some b → a ≡ b
     some_end a b is = cc
@@ -432,17 +433,18 @@ both_tell most app solo (suc count) (first ∷ log) (second ∷ other) told othe
     some_answered x y is = cc
 
 pub same_beginnings : SameBeginningsSameReplies
-same_beginnings boot another history other session number count app s t same =
+same_beginnings boot another history other session number count app keys s t same =
     let one = session_answered boot history session app s in
     let two = session_answered another other number app t in
     let most : ℕ = steps_in history + steps_in other in
-    both_tell most app unopened count (noted boot history session).log (noted another other number).log
+    both_tell most app (unopened boot.key) count (noted boot history session).log (noted another other number).log
     (logs_told boot history session) (logs_told another other number) (
       one.0,
-      more_steps_agree app (steps_in history) most unopened one.0 (own_events boot history session)
+      more_steps_agree app (steps_in history) most (unopened boot.key) one.0 (own_events boot history session)
           (own_replies boot history session) (first_more (steps_in history) (steps_in other)) one.1,
     ) (
       two.0,
-      more_steps_agree app (steps_in other) most unopened two.0 (own_events another other number)
+      ap (λ (key : List ℕ). run most app (unopened key) (own_events another other number)) keys
+          ∙ more_steps_agree app (steps_in other) most (unopened another.key) two.0 (own_events another other number)
           (own_replies another other number) (second_more (steps_in history) (steps_in other)) two.1,
     ) same

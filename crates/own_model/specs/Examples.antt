@@ -34,7 +34,7 @@ replies_of on moves session = option_map (λ history. own_replies on history ses
 
 abbrev pub solo_of : Booted → List Move → ℕ → Option (List OwnReply)
 solo_of on moves session =
-    let answers = λ (history : List Event) (app : Application). solo_replies 1000 app (own_events on history session) in
+    let answers = λ (history : List Event) (app : Application). solo_replies 1000 app on.key (own_events on history session) in
     option_and_then (λ history. option_and_then (answers history) (own_app on history session)) (history_of on moves)
 
 -- the open of a client that is nobody

@@ -25,13 +25,13 @@ steps_in history = 1000000 * length history
 abbrev pub AnsweredAsAlone : Type 0
 AnsweredAsAlone = (boot : Booted) (history : List Event) (session : ℕ) (app : Application) →
     IsSessionOf boot history session app →
-    solo_replies (steps_in history) app (own_events boot history session) ≡ Some (own_replies boot history session)
+    solo_replies (steps_in history) app boot.key (own_events boot history session) ≡ Some (own_replies boot history session)
 
--- so in two worlds: after any two legal histories, of any two boots, sessions of one application to which the same has
--- happened were answered the same
+-- so in two worlds: after any two legal histories, of any two boots that have the same key, sessions of one application
+-- to which the same has happened were answered the same
 abbrev pub SameEventsSameReplies : Type 0
 SameEventsSameReplies = (boot another : Booted) (history other : List Event) (session number : ℕ) (app : Application) →
-    IsSessionOf boot history session app → IsSessionOf another other number app →
+    boot.key ≡ another.key → IsSessionOf boot history session app → IsSessionOf another other number app →
     own_events boot history session ≡ own_events another other number →
     own_replies boot history session ≡ own_replies another other number
 
@@ -43,7 +43,7 @@ first_entries boot history session count = take count (noted boot history sessio
 abbrev pub SameBeginningsSameReplies : Type 0
 SameBeginningsSameReplies =
     (boot another : Booted) (history other : List Event) (session number count : ℕ) (app : Application) →
-    IsSessionOf boot history session app → IsSessionOf another other number app →
+    boot.key ≡ another.key → IsSessionOf boot history session app → IsSessionOf another other number app →
     events_in (first_entries boot history session count) ≡ events_in (first_entries another other number count) →
     replies_in (first_entries boot history session count) ≡ replies_in (first_entries another other number count)
 

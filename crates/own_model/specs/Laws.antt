@@ -25,21 +25,24 @@ use Rattle.own_model.specs.Solo.{Solo, run, unopened}
 use Rattle.own_model.specs.InOrder.{IsInOrder}
 use Rattle.own_model.specs.Tied.{Tied, Whose}
 
--- a session with its instance and the numbers that were noted
-abbrev pub whose_of : ℕ → ℕ → Notes → Whose
-whose_of session instance notes = record { session = session; instance = instance; numbering = notes.numbering }
-
--- a session, its application and its instance; and how many steps a job of it takes at most to its stop
+-- a session, its application and its instance; how many steps a job of it takes at most to its stop; and the key of the
+-- tags of object files
 pub record About : Type 0 where
   pub app : Application
   pub session : ℕ
   pub instance : ℕ
   pub most : ℕ
+  pub key : List ℕ
+
+-- a session with its instance, the numbers that were noted, and the key
+abbrev pub whose_of : About → Notes → Whose
+whose_of about notes =
+    record { session = about.session; instance = about.instance; numbering = notes.numbering; key = about.key }
 
 -- the kernel and the machine are tied for it
 abbrev pub AreTied : About → Kernel → Notes → Solo → Type 0
 AreTied about kernel notes solo =
-    Tied about.app (whose_of about.session about.instance notes) kernel.slots kernel.tables solo
+    Tied about.app (whose_of about notes) kernel.slots kernel.tables solo
 
 -- by what was noted since, the machine goes on and replies as was noted, and is tied to the kernel then
 pub record GoesAlong (about : About) (before : Notes) (solo : Solo) (next : Kernel) (after : Notes) : Type 0 where
@@ -114,7 +117,7 @@ InterruptsKeepTied =
 
 -- what holds of it at all times: before its open, and after whatever happens to it
 pub record StaysInOrder : Type 0 where
-  pub first : IsInOrder unopened
+  pub first : (key : List ℕ) → IsInOrder (unopened key)
   pub runs : (most : ℕ) (app : Application) (solo then : Solo) (events : List OwnEvent) (replies : List OwnReply) →
       IsInOrder solo → run most app solo events ≡ Some (then, replies) → IsInOrder then
 
@@ -141,7 +144,8 @@ OwnExitsKeepTied = (boot : Booted) (about : About) (kernel next : Kernel) (cpu s
 abbrev pub OwnResumesKeepTied : Type 0
 OwnResumesKeepTied =
     (boot : Booted) (about : About) (kernel next : Kernel) (cpu steps number : ℕ) (regs : Regs) (reads : List Read)
-    (call : PendingCall) (notes : Notes) (solo : Solo) → SharesNone boot about.app → call_of (reg regs.a 0) ≡ Resume →
+    (call : PendingCall) (notes : Notes) (solo : Solo) → SharesNone boot about.app → about.key ≡ boot.key →
+    call_of (reg regs.a 0) ≡ Resume →
     call_resumed_by kernel.slots regs.a ≡ Some call → get notes.numbering.in_slots (thread_in regs.a) ≡ Some number →
     IsRising kernel.tables.sessions → IsInOrder solo →
     GoesAlongWith boot about kernel next (Entry cpu regs steps reads) notes solo
@@ -153,19 +157,20 @@ abbrev pub OwnCallsKeepTied : Type 0
 OwnCallsKeepTied =
     (boot : Booted) (about : About) (kernel next : Kernel) (cpu steps slot : ℕ) (regs : Regs) (reads : List Read)
     (now : PendingCall) (came : OwnEvent) (notes : Notes) (solo : Solo) → SharesNone boot about.app →
-    IsNew regs.a → slice_get next.processors cpu ≡ Some (Inside regs.a steps (InSlot slot)) →
+    about.key ≡ boot.key → IsNew regs.a → slice_get next.processors cpu ≡ Some (Inside regs.a steps (InSlot slot)) →
     slice_get next.slots slot ≡ Some (Active cpu now) → event_of about.session now ≡ Some came →
     IsRising kernel.tables.sessions → GoesAlongWith boot about kernel next (Entry cpu regs steps reads) notes solo
 
 -- ---- the open of a session
 
 -- the session and the instance that the next open of this application gets
-abbrev pub about_next : Application → ℕ → Kernel → About
-about_next app most kernel = record {
+abbrev pub about_next : Booted → Application → ℕ → Kernel → About
+about_next boot app most kernel = record {
   app = app;
   session = kernel.tables.next_session;
   instance = kernel.tables.next_instance;
   most = most;
+  key = boot.key;
 }
 
 -- with the open of a session, which gets the next number: kernel and machine are tied from then on
@@ -177,5 +182,5 @@ OwnOpensTie =
     slice_get next.processors cpu ≡ Some (Inside regs.a steps (InSlot slot)) →
     slice_get next.slots slot ≡ Some (Active cpu now) → event_of kernel.tables.next_session now ≡ Some came →
     now.uuid ≡ Some (uuid_of app) → after_event boot kernel (Entry cpu regs steps reads) ≡ Some next →
-    GoesAlong (about_next app most kernel) no_notes unopened next
+    GoesAlong (about_next boot app most kernel) no_notes (unopened boot.key) next
     (event_noted kernel.tables.next_session kernel next no_notes (Entry cpu regs steps reads))

@@ -1,5 +1,6 @@
 -- The machine of one session: what an application does when nobody else is there. It is made from the application
--- alone, has one session, one instance and no limits, and is fed with the session's own events. This project's own.
+-- and the boot's key alone, has one session, one instance and no limits, and is fed with the session's own events. This
+-- project's own.
 use Rattle.std.specs.Prelude.{ℕ, ◌+◌, ◌-◌, ◌==◌, ◌&&◌, ◌||◌, not, Bool, true, false, List, [], ◌∷◌, ◌++◌, Option, Some}
 use Rattle.std.specs.Prelude.{None, slice_get, filter, if◌then◌else◌}
 use Rattle.std.specs.Option.{option_map, option_map_or, option_and_then}
@@ -70,10 +71,12 @@ pub record Solo : Type 0 where
   pub calls : NumberMap OwnCall
   -- how many have come in: the number of the next one
   pub entered : ℕ
+  -- the key of the tags of object files, which the boot brings
+  pub key : List ℕ
 
--- before its open comes in
-abbrev pub unopened : Solo
-unopened = record { session = None; instance = None; waiting = []; calls = []; entered = 0 }
+-- before its open comes in, made with this key
+abbrev pub unopened : List ℕ → Solo
+unopened key = record { session = None; instance = None; waiting = []; calls = []; entered = 0; key = key }
 
 -- what it does at an event: the machine then, and its reply, if it has one
 abbrev pub Answered : Type 0
@@ -90,6 +93,8 @@ pub record Start : Type 0 where
   pub instance : Instance
   pub params : CopiedParams
   pub seen : Bool
+  -- the key of the tags of object files, which the machine was made with
+  pub key : List ℕ
 
 -- the entry points of a call: of an open, destroy is for where it fails
 abbrev pub points_of : CallKind → List EntryPoint
@@ -102,7 +107,7 @@ points_of kind.Settled = []
 abbrev pub job_of : Application → CallKind → Start → Job
 job_of app call_kind start =
     let program = if start.instance.dead then None else Some (program_of app) in
-    let idle = idle_job (owner_of (uuid_of app)) start.session.login start.session.context start.instance.objects start.params in
+    let idle = idle_job (owner_of (uuid_of app) start.key) start.session.login start.session.context start.instance.objects start.params in
     begun_job (record { program = program; memory = start.instance.memory; seen = start.seen }) idle
     (points_of call_kind)
 
@@ -148,8 +153,8 @@ abbrev pub home : Solo → Option (OwnSession × Instance)
 home z = option_and_then (λ session. option_map (λ instance. (session, instance)) z.instance) z.session
 
 -- what a call of them begins with that has seen no cancellation
-abbrev pub start_with : OwnSession × Instance → CopiedParams → Start
-start_with at params = record { session = at.0; instance = at.1; params = params; seen = false }
+abbrev pub start_with : Solo → OwnSession × Instance → CopiedParams → Start
+start_with z at params = record { session = at.0; instance = at.1; params = params; seen = false; key = z.key }
 
 -- the instance as it is made, with a memory of zeros
 abbrev pub made : Application → Instance
@@ -161,7 +166,7 @@ abbrev pub opens : Application → Solo → CopiedParams → Login → Bool → 
 opens app z params login area =
     let session : OwnSession = record { login = login; context = 0; opened = false } in
     works_or_waits app (record z { session = Some session }) kind.Open area
-    (start_with (session, made app) params)
+    (start_with z (session, made app) params)
 
 -- it comes once, before all other calls
 abbrev pub opens_first : Application → Solo → CopiedParams → Login → Bool → Option Solo
@@ -170,7 +175,7 @@ opens_first app z params login area = if z.entered == 0 then Some (opens app z p
 -- an invoke: of a dead instance it has a result at once; else with faulty parameters; else it begins or waits
 abbrev pub invokes_with : Application → Solo → ℕ → OwnInput → Bool → OwnSession × Instance → Option Solo
 invokes_with app z func (Copied params) area at =
-    Some (works_or_waits app z (kind.Invoke func) area (start_with at params))
+    Some (works_or_waits app z (kind.Invoke func) area (start_with z at params))
 invokes_with app z func Faulty area at = Some (settles z area bad_parameters)
 invokes_with app z func Unread area at = None
 
@@ -180,7 +185,7 @@ invokes app z func input area at =
 
 -- a close begins or waits, also where the instance is dead
 abbrev pub closes : Application → Solo → Bool → OwnSession × Instance → Solo
-closes app z area at = works_or_waits app z kind.Close area (start_with at no_params)
+closes app z area at = works_or_waits app z kind.Close area (start_with z at no_params)
 
 -- ---- calls that come back
 
@@ -241,7 +246,7 @@ pub record Waiting : Type 0 where
 abbrev pub goes_on : Application → Solo → Waiting → OwnSession × Instance → Solo
 goes_on app z w at =
     begins app (without_waiter z w.number) w.number w.call
-    (record { session = at.0; instance = at.1; params = w.params; seen = w.call.seen })
+    (record { session = at.0; instance = at.1; params = w.params; seen = w.call.seen; key = z.key })
 
 -- another call holds the instance: it waits on, where it has got a buffer for that or has one
 abbrev pub waits_on : Solo → Waiting → Solo
@@ -406,5 +411,5 @@ run most app z (event ∷ events) =
     option_and_then goes_on_from (step most app z event)
 
 -- what it replies to them from the start on
-abbrev pub solo_replies : ℕ → Application → List OwnEvent → Option (List OwnReply)
-solo_replies most app events = option_map (λ (end : Solo × List OwnReply). end.1) (run most app unopened events)
+abbrev pub solo_replies : ℕ → Application → List ℕ → List OwnEvent → Option (List OwnReply)
+solo_replies most app key events = option_map (λ (end : Solo × List OwnReply). end.1) (run most app (unopened key) events)

@@ -102,11 +102,12 @@ pub record CallsAlike (session instance : ℕ) (kept : Option ℕ) (call : Pendi
   -- a job that has the flag keeps it, so that it makes no difference at which resumes the call sees it again
   pub flagged : own.seen ≡ true → phase_seen own.phase ≡ own.phase
 
--- a session, the instance that it has or had, and the numbers of its calls
+-- a session, the instance that it has or had, the numbers of its calls, and the key that the boot brought
 pub record Whose : Type 0 where
   pub session : ℕ
   pub instance : ℕ
   pub numbering : Numbering
+  pub key : List ℕ
 
 -- the call of a slot that has a number, and the machine's call of that number
 pub record IsTiedCall (whose : Whose) (slots : List ThreadSlot) (calls : NumberMap OwnCall)
@@ -211,3 +212,5 @@ pub record Tied (app : Application) (whose : Whose) (slots : List ThreadSlot) (t
   -- as many calls have come in, and both numbers were given
   pub entered : whose.numbering.entered ≡ solo.entered
   pub given : AreGiven whose tables
+  -- the machine was made with the boot's key
+  pub key : solo.key ≡ whose.key
