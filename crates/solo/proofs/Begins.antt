@@ -69,28 +69,29 @@ finds s solo session instance at is found beside e =
       kept = both.1;
     }
 
--- the call with the login and the context of the session
-abbrev pub told_session : Cont (List ℕ) → KeptSession → Cont (List ℕ)
-told_session cont session = record cont { login = session.login; context = session.context }
+-- the call with the login and the context of the session, and the machine's key
+abbrev pub told_session : SoloSession → Cont (List ℕ) → KeptSession → Cont (List ℕ)
+told_session s cont session = record cont { login = session.login; context = session.context; key = s.key }
 
-pub has_start : (s : SoloSession) (cont : Cont (List ℕ)) (session : KeptSession) (instance : KeptInstance) (at : OwnSession × Instance) (params : CopiedParams)
-    (kept : NumberMap Handle) → Finds s session instance at → IsWaiting cont params → kept ≡ at.1.objects →
-    HasStart (told_session cont session) kept (start_of at params cont)
-has_start s cont session instance at params kept found waits same = record {
+pub has_start : (s : SoloSession) (solo : Solo) (cont : Cont (List ℕ)) (session : KeptSession) (instance : KeptInstance) (at : OwnSession × Instance) (params : CopiedParams)
+    (kept : NumberMap Handle) → IsBeside s solo → Finds s session instance at → IsWaiting cont params → kept ≡ at.1.objects →
+    HasStart (told_session s cont session) kept (start_of solo at params cont)
+has_start s solo cont session instance at params kept beside found waits same = record {
   login = ap (λ (own : OwnSession). own.login) (sym found.own);
   context = ap (λ (own : OwnSession). own.context) (sym found.own);
   objects = sym same;
   params = sym waits.params;
+  key = ap (λ (base : Solo). base.key) beside;
 }
 
 -- what it begins on is what it finds
-pub fits_start : (s : SoloSession) (cont : Cont (List ℕ)) (session : KeptSession) (instance : KeptInstance) (at : OwnSession × Instance) (params : CopiedParams)
+pub fits_start : (s : SoloSession) (solo : Solo) (cont : Cont (List ℕ)) (session : KeptSession) (instance : KeptInstance) (at : OwnSession × Instance) (params : CopiedParams)
     (ready : Ready) (memory : Option (List ℕ)) (held : Held (List ℕ)) → Finds s session instance at → application_of ready.app ≡ app_in s →
     kept_memory bytes_of memory ≡ at.1.memory →
     ((seen : Bool) (job : Job) (points : List EntryPoint) → begun_job (beginning_on bytes_of held seen) job points
     ≡ begun_job (beginning_with ready instance.dead memory seen) job points) → (job : Job) (points : List EntryPoint) →
-    begun_job (beginning_on bytes_of held cont.cancelled) job points ≡ begun_job (from_start (app_in s) (start_of at params cont)) job points
-fits_start s cont session instance at params ready memory held found app same begins job points =
+    begun_job (beginning_on bytes_of held cont.cancelled) job points ≡ begun_job (from_start (app_in s) (start_of solo at params cont)) job points
+fits_start s solo cont session instance at params ready memory held found app same begins job points =
     begins cont.cancelled job points
     ∙ ap (λ (dead : Bool). begun_job (beginning_with ready dead memory cont.cancelled) job points) found.alike
     ∙ ap (λ (bytes : List ℕ). begun_job (record {
@@ -116,19 +117,19 @@ with_instance s held solo instance stays is beside =
 
 pub begun_so : (s held : SoloSession) (cont new : Cont (List ℕ)) (solo : Solo) (call : OwnCall) (session : KeptSession) (at : OwnSession × Instance)
     (params : CopiedParams) (number : ℕ) → IsBeside s solo → IsCall cont call → held ≡ record s { instance = held.instance } →
-    (without_calls held).instance ≡ Some (held_by number at.1) → new ≡ begun_from (told_session cont session) new →
-    IsInPhase new (Runs (job_of (app_in s) cont.kind (start_of at params cont))) →
-    ComesTo held new number solo (begins (app_in s) solo number call (start_of at params cont))
+    (without_calls held).instance ≡ Some (held_by number at.1) → new ≡ begun_from (told_session s cont session) new →
+    IsInPhase new (Runs (job_of (app_in s) cont.kind (start_of solo at params cont))) →
+    ComesTo held new number solo (begins (app_in s) solo number call (start_of solo at params cont))
 begun_so s held cont new solo call session at params number beside is stays holds becomes runs = record {
   beside = with_instance s held solo (held_by number at.1) stays holds beside;
-  call = record call { phase = Runs (job_of (app_in s) call.kind (start_of at params cont)) };
+  call = record call { phase = Runs (job_of (app_in s) call.kind (start_of solo at params cont)) };
   is = record {
     kind = ap (λ (c : Cont (List ℕ)). c.kind) becomes ∙ is.kind;
     seen = ap (λ (c : Cont (List ℕ)). c.cancelled) becomes ∙ is.seen;
     steps = ap (λ (c : Cont (List ℕ)). c.steps) becomes ∙ is.steps;
     area = ap (λ (c : Cont (List ℕ)). is_some c.area) becomes ∙ is.area;
     buffer = ap (λ (c : Cont (List ℕ)). is_some c.buffer) becomes ∙ is.buffer;
-    phase = subst (λ (kind : CallKind). IsInPhase new (Runs (job_of (app_in s) kind (start_of at params cont)))) is.kind runs;
+    phase = subst (λ (kind : CallKind). IsInPhase new (Runs (job_of (app_in s) kind (start_of solo at params cont)))) is.kind runs;
   };
   calls = refl;
 }

@@ -76,11 +76,11 @@ changes_so s taken now new solo next number cont changed call stands there found
 pub seen_so : (app : Application) (now : SoloSession) (cont changed : Cont (List ℕ)) (solo : Solo) (call : OwnCall) (at : OwnSession × Instance) (params : CopiedParams)
     (number : ℕ) → IsCall cont call →
     ComesTo now changed number solo
-    (begins app solo number call (record { session = at.0; instance = at.1; params = params; seen = cont.cancelled })) →
-    ComesTo now changed number solo (begins app solo number call (record { session = at.0; instance = at.1; params = params; seen = call.seen }))
+    (begins app solo number call (record { session = at.0; instance = at.1; params = params; seen = cont.cancelled; key = solo.key })) →
+    ComesTo now changed number solo (begins app solo number call (record { session = at.0; instance = at.1; params = params; seen = call.seen; key = solo.key }))
 seen_so app now cont changed solo call at params number is comes =
     subst (λ (seen : Bool). ComesTo now changed number solo
-    (begins app solo number call (record { session = at.0; instance = at.1; params = params; seen = seen }))) is.seen comes
+    (begins app solo number call (record { session = at.0; instance = at.1; params = params; seen = seen; key = solo.key }))) is.seen comes
 
 -- behind the others
 pub added_last : (s now new : SoloSession) (solo later : Solo) (number : ℕ) (cont : Box (Cont (List ℕ))) → StandsFor s solo → number ≡ solo.entered →
@@ -161,9 +161,9 @@ invoked_alive app solo next func input area found its alive e =
     invoked_as app solo next func input area its.at false (sym its.dead ∙ alive) (found_then (invokes app solo func input area) _ its.at next its.home e)
 
 pub invoked_copied : (app : Application) (solo next : Solo) (func : ℕ) (input : OwnInput) (area : Bool) (params : CopiedParams) (at : OwnSession × Instance) →
-    input ≡ came.Copied params → invokes_with app solo func input area at ≡ Some next → works_or_waits app solo (kind.Invoke func) area (start_with at params) ≡ next
+    input ≡ came.Copied params → invokes_with app solo func input area at ≡ Some next → works_or_waits app solo (kind.Invoke func) area (start_with solo at params) ≡ next
 invoked_copied app solo next func input area params at is e =
-    let so : Some (works_or_waits app solo (kind.Invoke func) area (start_with at params)) ≡ Some next =
+    let so : Some (works_or_waits app solo (kind.Invoke func) area (start_with solo at params)) ≡ Some next =
     ap (λ (i : OwnInput). invokes_with app solo func i area at) (sym is) ∙ e in cc
 
 pub invoked_faulty : (app : Application) (solo next : Solo) (func : ℕ) (input : OwnInput) (area : Bool) (at : OwnSession × Instance) →
@@ -206,11 +206,11 @@ works_free app solo call_kind area start held same is = sym (by_holder app solo 
 pub opened_at_once : (app : Application) (solo : Solo) (params copy : CopiedParams) (login : Login) (area : Bool) (number : ℕ) → number ≡ solo.entered → copy ≡ params →
     (let session : OwnSession = record { login = login; context = 0; opened = false } in
     counted (begins app (record solo { session = Some session; instance = Some (made app) }) number (fresh_call kind.Open area (Waits copy))
-    (start_with (session, made app) copy))) ≡ opens app solo params login area
+    (start_with solo (session, made app) copy))) ≡ opens app solo params login area
 opened_at_once app solo params copy login area number next same =
     let session : OwnSession = record { login = login; context = 0; opened = false } in
     ap (λ (n : ℕ). counted (begins app (record solo { session = Some session; instance = Some (made app) }) n (fresh_call kind.Open area (Waits copy))
-    (start_with (session, made app) copy))) next
+    (start_with solo (session, made app) copy))) next
     ∙ ap (λ (ps : CopiedParams). opens app solo ps login area) same
 
 pub not_copied : (input : OwnInput) → (input ≡ came.Faulty) ⊎ (input ≡ came.Unread) → (params : CopiedParams) → input ≡ came.Copied params → ⊥

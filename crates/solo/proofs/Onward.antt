@@ -27,13 +27,13 @@ use Rattle.ta_params.specs.declared.copied_params.CopiedParams.{CopiedParams}
 -- what it begins with has seen what the machine's has
 pub goes_so : (app now : Application) (new : SoloSession) (old cont : Cont (List ℕ)) (solo : Solo) (w : Waiting) (at : OwnSession × Instance) (number : ℕ) →
     now ≡ app → w.number ≡ number → IsCall old w.call → ComesTo new cont number (without_waiter solo number)
-    (begins now (without_waiter solo number) number w.call (start_of at w.params old)) → ComesTo new cont number solo (goes_on app solo w at)
+    (begins now (without_waiter solo number) number w.call (start_of solo at w.params old)) → ComesTo new cont number solo (goes_on app solo w at)
 goes_so app now new old cont solo w at number apps same is comes =
     let begun : ComesTo new cont number solo (goes_on now solo w at) =
     subst (λ (n : ℕ). ComesTo new cont number solo (begins now (without_waiter solo n) n w.call
-    (record { session = at.0; instance = at.1; params = w.params; seen = w.call.seen }))) (sym same)
+    (record { session = at.0; instance = at.1; params = w.params; seen = w.call.seen; key = solo.key }))) (sym same)
     (subst (λ (seen : Bool). ComesTo new cont number solo (begins now (without_waiter solo number) number w.call
-    (record { session = at.0; instance = at.1; params = w.params; seen = seen }))) is.seen
+    (record { session = at.0; instance = at.1; params = w.params; seen = seen; key = solo.key }))) is.seen
     (record { beside = comes.beside; call = comes.call; is = comes.is; calls = comes.calls })) in
     subst (λ (a : Application). ComesTo new cont number solo (goes_on a solo w at)) apps begun
 

@@ -114,7 +114,7 @@ module _ (longest : ℕ) where
   opens_short app z params login area all short =
       let session : OwnSession = record { login = login; context = 0; opened = false } in
       if-both (IfAny (IsShortSolo longest)) (z.entered == 0) (Some (opens app z params login area)) None
-      (works_short app (record z { session = Some session }) kind.Open area (start_with (session, made app) params) all short) tt
+      (works_short app (record z { session = Some session }) kind.Open area (start_with z (session, made app) params) all short) tt
 
   invokes_short : (app : Application) (z : Solo) (func : ℕ) (input : OwnInput) (area : Bool) (at : OwnSession × Instance) → IsShortSolo longest z → IsShortInput longest input →
       IfAny (IsShortSolo longest) (invokes app z func input area at)
@@ -123,7 +123,7 @@ module _ (longest : ℕ) where
       (by_input input short)
     where
       by_input : (came : OwnInput) → IsShortInput longest came → IfAny (IsShortSolo longest) (invokes_with app z func came area at)
-      by_input (Copied params) is = works_short app z (kind.Invoke func) area (start_with at params) all is
+      by_input (Copied params) is = works_short app z (kind.Invoke func) area (start_with z at params) all is
       by_input Faulty is = settles_short z area bad_parameters all
       by_input Unread is = tt
 
@@ -178,7 +178,7 @@ module _ (longest : ℕ) where
       (if-both (IsShortSolo longest) (is_no_buffer w.input) (gives_up z w.number w.call out_of_memory) (with_call z w.number w.call)
       (gives_up_short z w.number w.call out_of_memory all)
       (with_one z.calls w.number w.call all is))
-      (begins_short app (without_waiter z w.number) w.number w.call (record { session = at.0; instance = at.1; params = w.params; seen = w.call.seen }) all short))
+      (begins_short app (without_waiter z w.number) w.number w.call (record { session = at.0; instance = at.1; params = w.params; seen = w.call.seen; key = z.key }) all short))
 
   back_in_short : (app : Application) (z : Solo) (number : ℕ) (call : OwnCall) (input : BackInput) (phase : CallPhase) → IsShortSolo longest z → call.phase ≡ phase →
       IsShortPhase longest phase → IfAny (IsShortSolo longest) (comes_back_in app z number call input phase)
@@ -261,7 +261,7 @@ module _ (longest : ℕ) where
       (if_any_then (IsShortSolo longest) (invokes app z func input area) (home z) (λ at there. invokes_short app z func input area at all short))
   step_short most app z (Close area) all short =
       if_any_map IsShortThen (λ at. silent (closes app z area at)) (home z)
-      (λ at there. works_short app z kind.Close area (start_with at no_params) all (none_short longest))
+      (λ at there. works_short app z kind.Close area (start_with z at no_params) all (none_short longest))
   step_short most app z Cancel all short = settles_short z false success all
   step_short most app z (Seen number done_by_now) all short =
       silent_short (option_and_then (sees z number done_by_now) (get z.calls number))

@@ -25,22 +25,22 @@ use Rattle.ta_params.specs.declared.copied_params.CopiedParams.{CopiedParams}
 use Rattle.ta_params.specs.declared.login.Login.{Login}
 use Rattle.tee_storage.specs.declared.handle.Handle.{Handle}
 
-same_idle : (owner : Owner) (login other : Login) (context word : ℕ) (objects kept : NumberMap Handle) (params left : CopiedParams) →
-    login ≡ other → context ≡ word → objects ≡ kept → params ≡ left →
-    idle_job owner login context objects params ≡ idle_job owner other word kept left
-same_idle owner login other context word objects kept params left a b c d = rw (a, b, c, d) refl
+same_idle : (owner of : Owner) (login other : Login) (context word : ℕ) (objects kept : NumberMap Handle) (params left : CopiedParams) →
+    owner ≡ of → login ≡ other → context ≡ word → objects ≡ kept → params ≡ left →
+    idle_job owner login context objects params ≡ idle_job of other word kept left
+same_idle owner of login other context word objects kept params left o a b c d = rw (o, a, b, c, d) refl
 
 pub starts_so : (cont new : Cont (List ℕ)) (held : Held (List ℕ)) (kept : NumberMap Handle) (points : Points) (app : Application) (start : Start) →
     CanBegin cont → HasStart cont kept start → held_uuid held ≡ uuid_of app →
     ((job : Job) (points : List EntryPoint) → begun_job (beginning_on bytes_of held cont.cancelled) job points ≡ begun_job (from_start app start) job points) →
     solo.job_of app cont.kind start ≡ begun_job (from_start app start) (idle_start app start) (points_of points) →
-    job_of bytes_of new ≡ begun_job (beginning_on bytes_of held cont.cancelled) (record (job_with Nothing (owner_of (held_uuid held)) cont) { objects = kept }) (points_of points) →
+    job_of bytes_of new ≡ begun_job (beginning_on bytes_of held cont.cancelled) (record (job_with Nothing (owner_of (held_uuid held) cont.key) cont) { objects = kept }) (points_of points) →
     CanAdvance bytes_of new → IsInPhase new (Runs (solo.job_of app cont.kind start))
 starts_so cont new held kept points app start can has same fits job begun runs = (
   job
       ∙ ap (λ (idle : Job). begun_job (from_start app start) idle (points_of points))
-      (same_idle (owner_of (uuid_of app)) start.session.login cont.login start.session.context cont.context start.instance.objects kept start.params (kept_params cont.params)
-      has.login has.context has.objects has.params)
+      (same_idle (owner_of (uuid_of app) start.key) (owner_of (uuid_of app) cont.key) start.session.login cont.login start.session.context cont.context start.instance.objects kept start.params (kept_params cont.params)
+      (ap (owner_of (uuid_of app)) has.key) has.login has.context has.objects has.params)
       ∙ job_starts cont new held (from_start app start) (uuid_of app) kept (points_of points) can same (λ job. fits job (points_of points)) begun,
   runs,
 )

@@ -14,16 +14,16 @@ use Rattle.solo.specs.declared.solo_session.SoloSession.{SoloSession}
 abbrev Kept : Type 0
 Kept = Option (Box (Cont (List ℕ)))
 
-none_given : (s : SoloSession) → s.session ≡ None → s.instance ≡ None → s.waiting.items ≡ [] → s.calls.items ≡ [] → IsBeside s unopened
+none_given : (s : SoloSession) → s.session ≡ None → s.instance ≡ None → s.waiting.items ≡ [] → s.calls.items ≡ [] → IsBeside s (unopened s.key)
 none_given s session instance waiting calls = rw (session, instance, waiting, calls) refl
 
-pub is_unopened : (s : SoloSession) → s.session ≡ None → s.instance ≡ None → s.waiting.items ≡ [] → s.calls.items ≡ [] → IsValidApp (app_in s) → IsSolo s unopened
+pub is_unopened : (s : SoloSession) → s.session ≡ None → s.instance ≡ None → s.waiting.items ≡ [] → s.calls.items ≡ [] → IsValidApp (app_in s) → IsSolo s (unopened s.key)
 is_unopened s session instance waiting calls valid = record {
   stands = record {
     beside = none_given s session instance waiting calls;
     calls = λ number. subst (λ (items : List Kept). IsCallAt (slice_get items number) (get [] number)) (sym calls) tt;
   };
-  order = stays_in_order.first;
+  order = stays_in_order.first s.key;
   short = λ number call there. absurd cc;
   valid = valid;
 }

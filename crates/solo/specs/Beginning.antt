@@ -9,7 +9,7 @@ use Rattle.kernel_model.specs.Instances.{is_held}
 use Rattle.kernel_model.specs.Kernel.{Instance}
 use Rattle.kernel_state.specs.Calls.{bytes_of}
 use Rattle.kernel_state.specs.Setup.{application_of}
-use Rattle.own_model.specs.Solo.{OwnSession, Start}
+use Rattle.own_model.specs.Solo.{OwnSession, Solo, Start}
 use Rattle.rpc_cont.specs.Conts.{kept_memory, kept_params}
 use Rattle.rpc_cont.specs.declared.cont.Cont.{Cont}
 use Rattle.ta_params.specs.declared.copied_params.CopiedParams.{CopiedParams}
@@ -30,8 +30,9 @@ beginning_with ready dead memory seen = record {
 }
 
 -- what a call begins with that has waited with these parameters
-abbrev pub start_of : OwnSession × Instance → CopiedParams → Cont (List ℕ) → Start
-start_of at params cont = record { session = at.0; instance = at.1; params = params; seen = cont.cancelled }
+abbrev pub start_of : Solo → OwnSession × Instance → CopiedParams → Cont (List ℕ) → Start
+start_of solo at params cont =
+    record { session = at.0; instance = at.1; params = params; seen = cont.cancelled; key = solo.key }
 
 -- what it begins on
 abbrev pub from_start : Application → Start → Beginning
@@ -43,11 +44,12 @@ from_start app start = record {
 
 -- the job that it begins with
 abbrev pub idle_start : Application → Start → Job
-idle_start app start = idle_job (owner_of (uuid_of app)) start.session.login start.session.context start.instance.objects start.params
+idle_start app start = idle_job (owner_of (uuid_of app) start.key) start.session.login start.session.context start.instance.objects start.params
 
--- what a call has that begins, of the session and the instance
+-- what a call has that begins, of the session, the instance and the machine
 pub record HasStart (cont : Cont (List ℕ)) (kept : NumberMap Handle) (start : Start) : Type 0 where
   pub login : start.session.login ≡ cont.login
   pub context : start.session.context ≡ cont.context
   pub objects : start.instance.objects ≡ kept
   pub params : start.params ≡ kept_params cont.params
+  pub key : start.key ≡ cont.key

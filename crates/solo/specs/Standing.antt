@@ -50,6 +50,7 @@ without_calls s = record {
   waiting = s.waiting.items;
   calls = [];
   entered = entered_in s;
+  key = s.key;
 }
 
 -- ---- all of it

@@ -158,7 +158,7 @@ impl SoloSession {
         ensures begins { (solo : AnySolo) (call : AnyCall) (at : AnySession × AnyInstance) (params : AnyParams)
             → IsBeside self.old solo → IsCall cont.old call → call.phase ≡ Waits params → call.kind ≢ CallKind.Settled
             → home solo ≡ Some at → ComesTo self.new cont.new number solo
-            (begins (app_in self.old) solo number call (start_of at params cont.old)) }
+            (begins (app_in self.old) solo number call (start_of solo at params cont.old)) }
         ensures app { self.new.app ≡ self.old.app }
         ensures calls { self.new.calls ≡ self.old.calls }
     {
@@ -171,6 +171,7 @@ impl SoloSession {
         let dead = instance.dead;
         cont.login = session.login;
         cont.context = session.context;
+        cont.key = self.key;
         let (memory, objects) = self.holds(number);
         starts(cont, held_of(ready, dead, memory), objects);
     }

@@ -28,7 +28,6 @@ use std::alloc::Global;
 use ta_params::codes::{TEE_ERROR_BAD_PARAMETERS, TEE_ERROR_TARGET_DEAD};
 use ta_params::{CallResult, CopiedParams, Login};
 use ta_step::Plain;
-use uuid::Uuid;
 
 /// What a call has from its entry on. No other session is there, no client and no argument, and of an area only whether
 /// there is one; who opened the session is told to a call as it begins.
@@ -51,38 +50,45 @@ fn entry_of(alloc: Global, entering: Entering, params: Option<CopiedParams>) -> 
     }
 }
 
-/// A call that comes in to the application of this UUID, as it waits with a copy of these parameters.
-fn fresh_call(
-    alloc: Global,
-    uuid: Uuid,
-    entering: Entering,
-    params: Option<&CopiedParams>,
-) -> Result<Box<Cont<Plain>>, NoMemory>
-    ensures call { IfOk result (λ call. IsCall call.value
-        (fresh_call entering.kind entering.area (Waits (kept_params (option_copied params.entry))))) }
-    ensures fresh { IfOk result (λ call. CanBegin call.value) }
-{
-    let params = copied_if_some(alloc, params)?;
-    let mut cont = Cont::waiting(entry_of(alloc, entering, params));
-    cont.app = Some(ContApp::Dead { uuid });
-    Ok(Box::new(alloc, cont)?)
-}
-
-/// A call that has this result as it comes in, which no application returned.
-fn settled_call(alloc: Global, area: bool, code: u32) -> Result<Box<Cont<Plain>>, NoMemory>
-    ensures { IfOk result (λ call. IsCall call.value (fresh_call CallKind.Settled area
-        (Ends (of_tee code) no_params false None))) }
-{
-    let entering = Entering {
-        kind: CallKind::Settled,
-        area,
-    };
-    let entered = entry_of(alloc, entering, None);
-    let cont = Cont::settled(entered, CallResult::of_tee(code));
-    Ok(Box::new(alloc, cont)?)
-}
-
 impl SoloSession {
+    /// A call that comes in to the application, as it waits with a copy of these parameters.
+    fn fresh_call(
+        &self,
+        alloc: Global,
+        entering: Entering,
+        params: Option<&CopiedParams>,
+    ) -> Result<Box<Cont<Plain>>, NoMemory>
+        ensures call { IfOk result (λ call. IsCall call.value
+            (fresh_call entering.kind entering.area (Waits (kept_params (option_copied params.entry))))) }
+        ensures fresh { IfOk result (λ call. CanBegin call.value) }
+    {
+        let params = copied_if_some(alloc, params)?;
+        let mut cont = Cont::waiting(self.key, entry_of(alloc, entering, params));
+        cont.app = Some(ContApp::Dead {
+            uuid: self.app.uuid(),
+        });
+        Ok(Box::new(alloc, cont)?)
+    }
+
+    /// A call that has this result as it comes in, which no application returned.
+    fn settled_call(
+        &self,
+        alloc: Global,
+        area: bool,
+        code: u32,
+    ) -> Result<Box<Cont<Plain>>, NoMemory>
+        ensures { IfOk result (λ call. IsCall call.value (fresh_call CallKind.Settled area
+            (Ends (of_tee code) no_params false None))) }
+    {
+        let entering = Entering {
+            kind: CallKind::Settled,
+            area,
+        };
+        let entered = entry_of(alloc, entering, None);
+        let cont = Cont::settled(self.key, entered, CallResult::of_tee(code));
+        Ok(Box::new(alloc, cont)?)
+    }
+
     /// A call comes in and gets the next number.
     #[tactic(auto, using(crate::proofs::Adding::added, crate::proofs::Adding::stands_still))]
     fn counted(&mut self, call: Box<Cont<Plain>>) -> Result<(), NoMemory>
@@ -100,7 +106,7 @@ impl SoloSession {
         ensures err { (solo : AnySolo) → StandsFor self.old solo → OnErr result (StandsFor self.new solo) }
         ensures app { self.new.app ≡ self.old.app }
     {
-        let call = settled_call(alloc, area, code)?;
+        let call = self.settled_call(alloc, area, code)?;
         self.counted(call)
     }
 
@@ -119,7 +125,7 @@ impl SoloSession {
     {
         let number = self.next_number();
         self.waiting.reserve(1)?;
-        let call = fresh_call(alloc, self.app.uuid(), entering, params)?;
+        let call = self.fresh_call(alloc, entering, params)?;
         self.counted(call)?;
         self.waiting.push_reserved(number);
         Ok(())
@@ -137,7 +143,7 @@ impl SoloSession {
             → number ≡ solo.entered → IsCall call.value own → own.phase ≡ Waits params
             → own.kind ≢ CallKind.Settled → home solo ≡ Some at
             → StandsFor self.new (counted (begins (app_in self.old) solo number own
-            (record { session = at.0; instance = at.1; params = params; seen = own.seen }))) }
+            (record { session = at.0; instance = at.1; params = params; seen = own.seen; key = solo.key }))) }
         ensures app { self.new.app ≡ self.old.app }
     {
         self.begins(number, &mut call, ready);
@@ -157,13 +163,13 @@ impl SoloSession {
             → entering.kind ≢ CallKind.Settled
             → OnOk result (StandsFor self.new (begins (app_in self.old) (counted solo) solo.entered
             (fresh_call entering.kind entering.area (Waits (kept_params (option_copied params.entry))))
-            (start_with at (kept_params (option_copied params.entry))))) }
+            (start_with solo at (kept_params (option_copied params.entry))))) }
         ensures err { (solo : AnySolo) → StandsFor self.old solo → OnErr result (StandsFor self.new solo) }
         ensures app { self.new.app ≡ self.old.app }
     {
         let number = self.next_number();
         self.calls.reserve(1)?;
-        let call = fresh_call(alloc, self.app.uuid(), entering, params)?;
+        let call = self.fresh_call(alloc, entering, params)?;
         let ready = self.ready(alloc)?;
         self.begins_last(number, call, ready);
         Ok(())
@@ -180,7 +186,7 @@ impl SoloSession {
         requires number { entered_in self.old < 2 ^ 32 }
         ensures ok { (solo : AnySolo) (at : AnySession × AnyInstance) → StandsFor self.old solo → home solo ≡ Some at
             → entering.kind ≢ CallKind.Settled → OnOk result (StandsFor self.new
-            (works_or_waits (app_in self.old) solo entering.kind entering.area (start_with at (kept_params (option_copied params.entry))))) }
+            (works_or_waits (app_in self.old) solo entering.kind entering.area (start_with solo at (kept_params (option_copied params.entry))))) }
         ensures err { (solo : AnySolo) → StandsFor self.old solo → OnErr result (StandsFor self.new solo) }
         ensures app { self.new.app ≡ self.old.app }
     {
@@ -213,7 +219,7 @@ impl SoloSession {
             kind: CallKind::Open,
             area,
         };
-        let call = fresh_call(alloc, self.app.uuid(), entering, Some(params))?;
+        let call = self.fresh_call(alloc, entering, Some(params))?;
         let instance = made(alloc, &self.app)?;
         let ready = self.ready(alloc)?;
         self.session = Some(KeptSession {

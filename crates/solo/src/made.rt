@@ -114,13 +114,14 @@ impl SoloSession {
         requires app { IsSome (app_of (booted boot.now (entries natives.now)) uuid) }
         ensures app { IfOk result (λ session. app_of (booted boot.now (entries natives.now)) uuid
             ≡ Some (app_in session)) }
-        ensures unopened { IfOk result (λ session. IsSolo session unopened) }
+        ensures unopened { IfOk result (λ session. IsSolo session (unopened boot.now.key)) }
     {
         let Some(app) = application(alloc, boot, natives, &uuid)? else {
             unreachable!();
         };
         Ok(SoloSession {
             app,
+            key: boot.key,
             session: None,
             instance: None,
             waiting: Vec::new(alloc),

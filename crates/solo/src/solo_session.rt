@@ -3,11 +3,14 @@ use crate::kept_session::KeptSession;
 use kernel_state::Application;
 use rpc_cont::Cont;
 use ta_step::Plain;
+use tee_storage::Key;
 
 /// A session's own machine.
 #[derive(Drop)]
 pub struct SoloSession {
     pub(crate) app: Application,
+    /// The key of the tags of object files, which the boot brings.
+    pub(crate) key: Key,
     /// None before its open has come in, and none once it is gone.
     pub(crate) session: Option<KeptSession>,
     pub(crate) instance: Option<KeptInstance>,

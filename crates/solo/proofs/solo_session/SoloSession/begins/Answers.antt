@@ -15,8 +15,8 @@ returns-clause-begins c solo call at params beside is waits works home =
     let its : IsWaiting cont params = subst (IsInPhase cont) waits is.phase in
     begun_so s held.new.self cont c.starts.new.cont solo call c.in-Some.session at params c.args.number beside is held.ensures.stays
     (held.ensures.holds at.1 found.kept) c.starts.ensures.stays
-    (c.starts.ensures.runs (λ e. works (sym is.kind ∙ e)) (app_in s) (start_of at params cont)
-    (has_start s cont c.in-Some.session c.in-Some-instance.instance at params held.result.1 found its (held.ensures.objects at.1 found.kept))
+    (c.starts.ensures.runs (λ e. works (sym is.kind ∙ e)) (app_in s) (start_of solo at params cont)
+    (has_start s solo cont c.in-Some.session c.in-Some-instance.instance at params held.result.1 beside found its (held.ensures.objects at.1 found.kept))
     (c.held_of.ensures.uuid ∙ ap uuid_of c.requires.app)
-    (fits_start s cont c.in-Some.session c.in-Some-instance.instance at params c.args.ready held.result.0 c.held_of.result found c.requires.app
+    (fits_start s solo cont c.in-Some.session c.in-Some-instance.instance at params c.args.ready held.result.0 c.held_of.result found c.requires.app
     (held.ensures.memory at.1 found.kept) c.held_of.ensures.begins))

@@ -27,5 +27,5 @@ returns-clause-ok c solo at stands home works =
     let params = kept_params (option_copied c.args.params) in
     let call = fresh_call c.args.entering.kind c.args.entering.area (Waits params) in
     let next = next_is s solo c.next_number-number.result c.next_number-number.ensures stands in
-    subst (StandsFor c.begins_last.new.self) (begun_at_once (app_in s) solo call (start_with at params) c.next_number-number.result next)
+    subst (StandsFor c.begins_last.new.self) (begun_at_once (app_in s) solo call (start_with solo at params) c.next_number-number.result next)
     (c.begins_last.ensures.begins solo call at params (stands_still s _ solo refl c.reserve.ensures.items stands) next c.in_ok-call.ensures.call refl works home)

@@ -10,7 +10,7 @@ use Rattle.solo.proofs.solo_session.SoloSession.works_or_waits.Goals as goal
 pub returns-then-held-clause-ok : goal.returns-then-held-clause-ok
 returns-then-held-clause-ok c solo at stands home works =
     let s = c.args.self.now in
-    let start = start_with at (kept_params (option_copied c.args.params)) in
+    let start = start_with solo at (kept_params (option_copied c.args.params)) in
     let is : c.is_held-held.result ≡ true = search rules in
     let same = held_so s solo at c.is_held-held.result stands.beside home c.is_held-held.ensures in
     on_ok c.waits.result _ _
@@ -19,7 +19,7 @@ returns-then-held-clause-ok c solo at stands home works =
 pub returns-else-held-clause-ok : goal.returns-else-held-clause-ok
 returns-else-held-clause-ok c solo at stands home works =
     let s = c.args.self.now in
-    let start = start_with at (kept_params (option_copied c.args.params)) in
+    let start = start_with solo at (kept_params (option_copied c.args.params)) in
     let is : c.is_held-held.result ≡ false = search rules in
     let same = held_so s solo at c.is_held-held.result stands.beside home c.is_held-held.ensures in
     on_ok c.begins_new.result _ _
