@@ -41,7 +41,7 @@ replies_of on moves =
 abbrev pub machine_of : Booted → List Move → Option (List GroupReply)
 machine_of on moves =
     let answers = λ (history : List Event) (app : Application).
-    group_machine_replies 1000 app (group_events on history app) in
+    group_machine_replies 1000 app on.key (group_events on history app) in
     option_and_then (λ history. option_and_then (answers history) (app_of on uuid)) (history_of on moves)
 
 -- the group is answered so, and its machine answers so too

@@ -1,6 +1,6 @@
 -- The machine of a group: what a single-instance application and its sessions do when no other application is there. It
--- is made from the application alone and is fed with the group's own events. It counts neither pages nor sessions: where a
--- shared limit decides, the event says how. This project's own.
+-- is made from the application and the boot's key alone and is fed with the group's own events. It counts neither pages
+-- nor sessions: where a shared limit decides, the event says how. This project's own.
 use Rattle.std.specs.Prelude.{ℕ, ◌+◌, ◌-◌, ◌==◌, ◌&&◌, ◌||◌, not, Bool, true, false, List, [], ◌∷◌, ◌++◌, Option, Some}
 use Rattle.std.specs.Prelude.{None, filter, find, if◌then◌else◌}
 use Rattle.std.specs.List.{list_any}
@@ -86,10 +86,13 @@ pub record Group : Type 0 where
   pub entered : ℕ
   pub next_session : ℕ
   pub next_instance : ℕ
+  -- the key of the tags of object files, which the boot brings
+  pub key : List ℕ
 
--- before a call has come in
-abbrev pub nobody_there : Group
-nobody_there = record {
+-- before a call has come in, made with this key
+abbrev pub nobody_there : List ℕ → Group
+nobody_there key = record {
+  key = key;
   sessions = [];
   instance = None;
   waiting = [];
@@ -192,12 +195,14 @@ pub record Start : Type 0 where
   pub context : ℕ
   pub params : CopiedParams
   pub seen : Bool
+  -- the key of the tags of object files, which the machine was made with
+  pub key : List ℕ
 
 -- its job on this instance, with these entry points: of a dead one nothing runs
 abbrev pub job_on : Application → Start → Instance → List EntryPoint → Job
 job_on app start instance points =
     let program = if instance.dead then None else Some (program_of app) in
-    let idle = idle_job (owner_of (uuid_of app)) start.login start.context instance.objects start.params in
+    let idle = idle_job (owner_of (uuid_of app) start.key) start.login start.context instance.objects start.params in
     begun_job (record { program = program; memory = instance.memory; seen = start.seen }) idle points
 
 -- destroy, where none of these sessions is opened on the instance, and it isn't kept alive
@@ -263,7 +268,7 @@ about_open g area instance =
 
 abbrev pub start_of_open : Group → CopiedParams → Login → Start
 start_of_open g params login =
-    record { number = g.entered; login = login; context = 0; params = params; seen = false }
+    record { number = g.entered; login = login; context = 0; params = params; seen = false; key = g.key }
 
 -- it comes in and begins
 abbrev pub open_begins : Group → Opener → Begun → Group
@@ -323,15 +328,15 @@ abbrev pub about_home : Coming → Home → About
 about_home coming at =
     record { kind = coming.kind; area = coming.area; session = at.number; instance = at.session.instance }
 
-abbrev pub start_at : ℕ → GroupSession → CopiedParams → Bool → Start
-start_at number session params seen =
-    record { number = number; login = session.login; context = session.context; params = params; seen = seen }
+abbrev pub start_at : Group → ℕ → GroupSession → CopiedParams → Bool → Start
+start_at g number session params seen =
+    record { number = number; login = session.login; context = session.context; params = params; seen = seen; key = g.key }
 
 -- a call of an opened session waits where another call holds the instance, and else begins these entry points
 abbrev pub works_or_waits : Application → Group → Coming → Home → CopiedParams → List EntryPoint → Group
 works_or_waits app g coming at params points =
     let about = about_home coming at in
-    let start = start_at g.entered at.session params false in
+    let start = start_at g g.entered at.session params false in
     let begun = begins_on app g start at.session.instance at.instance points in
     if is_held at.instance then waits g about params else comes_in begun.group (fresh_call about (Runs begun.job))
 
@@ -408,26 +413,26 @@ goes_on w begun =
 abbrev pub waits_on : Group → Waiting → Group
 waits_on g w = if is_no_buffer w.input then gives_up g w out_of_memory else with_call g w.number w.call
 
-abbrev pub start_again : Waiting → GroupSession → Start
-start_again w session = start_at w.number session w.params w.call.seen
+abbrev pub start_again : Group → Waiting → GroupSession → Start
+start_again g w session = start_at g w.number session w.params w.call.seen
 
 -- an open whose instance is gone begins on a new one of the same number, where there are pages for it
 abbrev pub opens_again : Application → Group → Waiting → GroupSession → Bool → Group
 opens_again app g w session enough =
-    if enough then goes_on w (opens_new app g (start_again w session) w.call.instance) else gives_up g w out_of_memory
+    if enough then goes_on w (opens_new app g (start_again g w session) w.call.instance) else gives_up g w out_of_memory
 
 -- it begins, by its kind. A call of a session whose instance is gone has lost its session with it; an open was told
 -- before whether there is room
 abbrev pub begins_again : Application → Group → Waiting → GroupSession → CallKind → Option Instance → Option Group
 begins_again app g w session kind.Open (Some instance) =
-    Some (goes_on w (opens_kept app g (start_again w session) (w.call.instance, instance)))
+    Some (goes_on w (opens_kept app g (start_again g w session) (w.call.instance, instance)))
 begins_again app g w session kind.Open None = option_map (opens_again app g w session) w.call.room
 begins_again app g w session (kind.Invoke func) (Some instance) =
     Some (goes_on w (
-    begins_on app g (start_again w session) w.call.instance instance (point.Invoke func ∷ [])))
+    begins_on app g (start_again g w session) w.call.instance instance (point.Invoke func ∷ [])))
 begins_again app g w session kind.Close (Some instance) =
     let points = closing_points app g w.call.session w.call.instance in
-    Some (goes_on w (begins_on app g (start_again w session) w.call.instance instance points))
+    Some (goes_on w (begins_on app g (start_again g w session) w.call.instance instance points))
 begins_again app g w session _ _ = Some (gives_up g w bad_parameters)
 
 -- it is tested again, behind the test of its session: its instance may be dead, or held
@@ -620,6 +625,6 @@ run most app g (event ∷ events) =
     option_and_then goes_on_from (step most app g event)
 
 -- what it replies to them from the start on
-abbrev pub group_machine_replies : ℕ → Application → List GroupEvent → Option (List GroupReply)
-group_machine_replies most app events =
-    option_map (λ (end : Group × List GroupReply). end.1) (run most app nobody_there events)
+abbrev pub group_machine_replies : ℕ → Application → List ℕ → List GroupEvent → Option (List GroupReply)
+group_machine_replies most app key events =
+    option_map (λ (end : Group × List GroupReply). end.1) (run most app (nobody_there key) events)
