@@ -55,8 +55,12 @@ same_app found app other is is_too = cc
 
 one_or_two : (pair : Pair) → IsOfTwo pair → IsOfOne pair → ⊥
 one_or_two pair two one =
-    two.differ (same_app (app_in pair pair.one) two.app one.app two.in_one one.in_one
-    ∙ same_app (app_in pair pair.two) one.app two.other one.in_two two.in_two)
+    elim two.differ [
+      | inl apart ↦
+          apart (same_app (app_in pair pair.one) two.app one.app two.in_one one.in_one
+          ∙ same_app (app_in pair pair.two) one.app two.other one.in_two two.in_two)
+      | inr keys ↦ keys one.keys
+    ]
 
 -- ---- own events
 

@@ -33,4 +33,4 @@ session_of pair journal app can is =
 pub same_gives_same_replies : SameGivesSameReplies
 same_gives_same_replies pair count (can, of_one, events, replies) =
     same_replies (core_of pair pair.one) (core_of pair pair.two) pair.one.events pair.two.events pair.session pair.session of_one.app
-    (session_of pair pair.one of_one.app can.0 of_one.in_one) (session_of pair pair.two of_one.app can.1 of_one.in_two) events
+    of_one.keys (session_of pair pair.one of_one.app can.0 of_one.in_one) (session_of pair pair.two of_one.app can.1 of_one.in_two) events

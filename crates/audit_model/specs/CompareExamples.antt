@@ -53,6 +53,10 @@ pair_of one two session = record { one = one; two = two; natives = []; session =
 abbrev pub at_once : Journaled
 at_once = journal_of add (opened ++ invoked 5 ++ done)
 
+-- the same open on a boot with a key of ones
+abbrev pub keyed : Journaled
+keyed = record { boot = record (boot_with 1 1 1 (app_with add ∷ [])) { key = replicate 32 1 }; events = opened }
+
 pub record CompareExamples : Type 0 where
   -- the invoke with all its steps at once, and with one at a time
   pub same : IsComparedAs (pair_of at_once (journal_of add (opened ++ step_by_step)) 1) (Same 2)
@@ -66,6 +70,8 @@ pub record CompareExamples : Type 0 where
   pub absent_in_two : IsComparedAs (pair_of at_once (journal_of add (asks ∷ answered 0xa5d5c51b ∷ [])) 1) (Absent 2)
   -- the application's UUID is the same, but its image isn't
   pub other : IsComparedAs (pair_of at_once (journal_of mark opened) 1) Other
+  -- the application is the same, but the second boot has another key
+  pub other_key : IsComparedAs (pair_of at_once keyed 1) Other
   -- a wrong answer in the second; and in both
   pub illegal_in_two : IsComparedAs (pair_of at_once (journal_of add (asks ∷ answered 0xa5d5c51a ∷ [])) 1) (Illegal 2 1)
   pub illegal_in_both : IsComparedAs

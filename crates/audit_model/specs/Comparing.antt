@@ -71,20 +71,21 @@ IsAbsentIn pair of =
     ((of ≡ 1) × (app_in pair pair.one ≡ None))
     ⊎ ((of ≡ 2) × IsSome (app_in pair pair.one) × (app_in pair pair.two ≡ None))
 
--- the number was given to different applications in the two: their UUIDs differ, or their images do. What is built in is the
--- same in both
+-- the number was given to different applications in the two: their UUIDs differ, or their images do; or the two boots have
+-- different keys. What is built in is the same in both
 pub record IsOfTwo (pair : Pair) : Type 0 where
   pub app : Application
   pub other : Application
   pub in_one : app_in pair pair.one ≡ Some app
   pub in_two : app_in pair pair.two ≡ Some other
-  pub differ : app ≢ other
+  pub differ : (app ≢ other) ⊎ (pair.one.boot.key ≢ pair.two.boot.key)
 
--- the number was given to one application in both
+-- the number was given to one application in both, under one key
 pub record IsOfOne (pair : Pair) : Type 0 where
   pub app : Application
   pub in_one : app_in pair pair.one ≡ Some app
   pub in_two : app_in pair pair.two ≡ Some app
+  pub keys : pair.one.boot.key ≡ pair.two.boot.key
 
 abbrev pub IsComparedAs : Pair → Compared → Type 0
 IsComparedAs pair (Illegal of at) = IsIllegalIn pair of at

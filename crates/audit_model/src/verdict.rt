@@ -15,7 +15,7 @@ pub enum Compared {
     Illegal { journal: u8, at: u64 },
     /// In this journal the number was given to no session, or to one of an application whose sessions share an instance.
     Absent(u8),
-    /// In the two journals the number was given to sessions of different applications.
+    /// In the two journals the number was given to sessions of different applications, or their boots have different keys.
     Other,
     /// The own events of the session first differ at this number, from 0, the end of a list counting as different.
     Events(u64),

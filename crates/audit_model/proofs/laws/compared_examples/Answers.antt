@@ -1,4 +1,4 @@
-use Rattle.std.proofs.Common.{◌≡◌, ℕ, ap, length, [], ◌∷◌, ◌++◌, lit<, lit≤, Option, Some, None, refl, rules, false, true, inl, inr}
+use Rattle.std.proofs.Common.{◌≡◌, ℕ, List, ap, length, replicate, [], ◌∷◌, ◌++◌, lit<, lit≤, Option, Some, None, refl, rules, false, true, inl, inr}
 use Rattle.std.specs.Prelude.{AllPairs}
 use Rattle.base.specs.Zeros.{zeros}
 use Rattle.kernel_model.specs.Application.{Application, BuiltIn, Booted, IsBooted, OfImage, booted}
@@ -13,7 +13,7 @@ use Rattle.own_model.specs.declared.own_event.OwnInput.TheVariants.{Copied}
 use Rattle.own_model.specs.Examples.{numbers}
 use Rattle.ta_isa.specs.InstructionTable.{is_instruction}
 use Rattle.ta_isa.specs.Spelling.{are_allowed}
-use Rattle.audit_model.specs.CompareExamples.{done, invoked, opened, step_by_step}
+use Rattle.audit_model.specs.CompareExamples.{done, invoked, keyed, opened, step_by_step}
 use Rattle.audit_model.specs.VerdictExamples.{answered, asks}
 use Rattle.audit_model.specs.Verdicts.{CanBegin}
 use Rattle.audit_model.proofs.Prefixes.{prefixes_can_be}
@@ -29,6 +29,13 @@ marker = booted (boot_with 1 1 1 (app_with mark ∷ [])) []
 adder_boots : IsBooted adder
 unfolding is_instruction are_allowed
 adder_boots = record { boot = boot_with 1 1 1 (app_with add ∷ []); natives = []; is_boot = search rules; are_natives = search rules; same = refl }
+
+abbrev keyed_adder : Booted
+keyed_adder = booted keyed.boot []
+
+keyed_boots : IsBooted keyed_adder
+unfolding is_instruction are_allowed
+keyed_boots = record { boot = keyed.boot; natives = []; is_boot = search rules; are_natives = search rules; same = refl }
 
 marker_boots : IsBooted marker
 unfolding is_instruction are_allowed
@@ -58,6 +65,10 @@ opened_can = record { more = []; faultless = record { legal = record { boots = a
 marked_can : CanBegin marker opened
 unfolding zeros
 marked_can = record { more = []; faultless = record { legal = record { boots = marker_boots; follows = refl }; steady = (open_agrees, (tt, tt)) } }
+
+keyed_can : CanBegin keyed_adder opened
+unfolding zeros
+keyed_can = record { more = []; faultless = record { legal = record { boots = keyed_boots; follows = refl }; steady = (open_agrees, (tt, tt)) } }
 
 invoked_can : CanBegin adder (opened ++ invoked 5)
 unfolding zeros
@@ -113,6 +124,17 @@ not_marker : OfImage (app_with add) ≡ OfImage (app_with mark) → ⊥
 unfolding instructions
 not_marker e = seven_or_six (ap instructions e)
 
+no_one : ◌≡◌ {A = ℕ} 0 1 → ⊥
+no_one e = cc
+
+first_byte : List ℕ → ℕ
+first_byte [] = 0
+first_byte (byte ∷ bytes) = byte
+
+other_keys : replicate {A = ℕ} 32 0 ≡ replicate {A = ℕ} 32 1 → ⊥
+unfolding first_byte
+other_keys e = no_one (ap first_byte e)
+
 one_is_missing : (event : OwnEvent) → Some event ≡ None → ⊥
 one_is_missing event e = cc
 
@@ -122,10 +144,10 @@ one_is_more event e = cc
 pub returns : goal.returns
 unfolding zeros
 returns c = record {
-  same = ((done_can, stepped_can), record { app = OfImage (app_with add); in_one = refl; in_two = refl }, refl, refl);
-  another_invoke = ((done_can, another_can), record { app = OfImage (app_with add); in_one = refl; in_two = refl }, record { same_before = refl; differ = not_six });
-  shorter = ((done_can, invoked_can), record { app = OfImage (app_with add); in_one = refl; in_two = refl }, record { same_before = refl; differ = one_is_missing (Out 1) });
-  longer = ((opened_can, done_can), record { app = OfImage (app_with add); in_one = refl; in_two = refl }, record { same_before = refl; differ = one_is_more (Invoke 0 (Copied (numbers 5 7)) false) });
+  same = ((done_can, stepped_can), record { app = OfImage (app_with add); in_one = refl; in_two = refl; keys = refl }, refl, refl);
+  another_invoke = ((done_can, another_can), record { app = OfImage (app_with add); in_one = refl; in_two = refl; keys = refl }, record { same_before = refl; differ = not_six });
+  shorter = ((done_can, invoked_can), record { app = OfImage (app_with add); in_one = refl; in_two = refl; keys = refl }, record { same_before = refl; differ = one_is_missing (Out 1) });
+  longer = ((opened_can, done_can), record { app = OfImage (app_with add); in_one = refl; in_two = refl; keys = refl }, record { same_before = refl; differ = one_is_more (Invoke 0 (Copied (numbers 5 7)) false) });
   absent = ((done_can, done_can), inl (refl, refl));
   absent_in_two = ((done_can, answered_can), inr (refl, refl, refl));
   other = (
@@ -135,7 +157,17 @@ returns c = record {
       other = OfImage (app_with mark);
       in_one = refl;
       in_two = refl;
-      differ = not_marker;
+      differ = inl not_marker;
+    },
+  );
+  other_key = (
+    (done_can, keyed_can),
+    record {
+      app = OfImage (app_with add);
+      other = OfImage (app_with add);
+      in_one = refl;
+      in_two = refl;
+      differ = inr other_keys;
     },
   );
   illegal_in_two = inr (
