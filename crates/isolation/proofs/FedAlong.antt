@@ -410,12 +410,12 @@ grown most app solo before after items logged grows =
     (subst (FirstReady most solo) (append_cancel_left before.log grows.items items (sym grows.noted ∙ logged)) grows.are)
 
 tied_on : (boot : Booted) (about : About) (past : List Event) (kernel : Kernel) (notes : Notes) (solo : Solo) (events : List Event)
-    → SharesNone boot about.app → IsInOrder solo → AreTied about kernel notes solo → IsAt boot about.most past kernel events
+    → SharesNone boot about.app → about.key ≡ boot.key → IsInOrder solo → AreTied about kernel notes solo → IsAt boot about.most past kernel events
     → about.most < 2 ^ 127 → ReadsFew notes events
     → FedAlong about.most about.app notes solo (noted_from boot about.session kernel notes events)
-tied_on boot about past kernel notes solo [] shares order tied at few reads =
+tied_on boot about past kernel notes solo [] shares key order tied at few reads =
     record { items = []; logged = sym (append-nil notes.log); ready = tt }
-tied_on boot about past kernel notes solo (happened ∷ events) shares order tied at few reads =
+tied_on boot about past kernel notes solo (happened ∷ events) shares key order tied at few reads =
     let on = on_from boot about.most past kernel happened events at in
     let ready : IsReady about (length past) kernel solo = record {
       rising = (in_order boot past kernel at.there).sessions.rising;
@@ -424,14 +424,14 @@ tied_on boot about past kernel notes solo (happened ∷ events) shares order tie
       order = order;
     } in
     let after : Notes = event_noted about.session kernel on.next notes happened in
-    let along = event_along boot about (length past) kernel on.next happened notes solo shares ready on.comes tied in
+    let along = event_along boot about (length past) kernel on.next happened notes solo shares key ready on.comes tied in
     let still = stays_in_order.runs about.most about.app solo along.then (events_in along.items) (replies_in along.items) order along.replies in
     let grows = event_first about (length past) kernel notes solo ready tied few on.next happened
     (few_entered notes.numbering.entered solo.entered (copied_bytes (happened ∷ events)) tied.entered reads) in
     subst (FedAlong about.most about.app notes solo) (sym (goes_from boot about.session kernel on.next notes happened events on.comes))
     (fed_on about.most about.app notes after _ solo along.then along.items along.noted along.replies
     (grown about.most about.app solo notes after along.items along.noted grows)
-    (tied_on boot about (past ++ happened ∷ []) on.next after along.then events shares still along.tied on.at few
+    (tied_on boot about (past ++ happened ∷ []) on.next after along.then events shares key still along.tied on.at few
     (reads_on boot about.session kernel on.next notes happened events on.comes reads)))
 
 -- ---- a session from the boot on
@@ -439,7 +439,7 @@ tied_on boot about past kernel notes solo (happened ∷ events) shares order tie
 -- where it is of this application, whose sessions share no instance, what is noted is ready
 abbrev IsFedSo : Booted → ℕ → Notes → Type 0
 IsFedSo boot most notes = (app : Application) → option_and_then (app_of boot) notes.uuid ≡ Some app → is_single app ≡ false
-    → AllReady most app unopened (events_in notes.log)
+    → AllReady most app (unopened boot.key) (events_in notes.log)
 
 nameless_fed : (boot : Booted) (most : ℕ) (notes : Notes) → notes.uuid ≡ None → IsFedSo boot most notes
 nameless_fed boot most notes none = λ app is alone.
@@ -451,30 +451,30 @@ shared_fed boot most notes of uuid of_boot shares = λ app is alone.
     let no : true ≡ false = sym shares ∙ ap is_single (named_app boot notes of app uuid of_boot is) ∙ alone in absurd cc
 
 opened_fed : (boot : Booted) (most : ℕ) (notes : Notes) (of : Application) → notes.uuid ≡ Some (uuid_of of) → app_of boot (uuid_of of) ≡ Some of
-    → FedAlong most of no_notes unopened notes → IsFedSo boot most notes
+    → FedAlong most of no_notes (unopened boot.key) notes → IsFedSo boot most notes
 opened_fed boot most notes of uuid of_boot fed = λ app is alone.
-    subst (λ (a : Application). AllReady most a unopened (events_in notes.log)) (named_app boot notes of app uuid of_boot is)
-    (subst (λ (log : List Logged). AllReady most of unopened (events_in log)) (sym fed.logged) fed.ready)
+    subst (λ (a : Application). AllReady most a (unopened boot.key) (events_in notes.log)) (named_app boot notes of app uuid of_boot is)
+    (subst (λ (log : List Logged). AllReady most of (unopened boot.key) (events_in log)) (sym fed.logged) fed.ready)
 
 -- its first event
-out_none : (most : ℕ) (kernel : Kernel) (cpu : ℕ) (processor : Option Processor) → Grows (FirstReady most unopened) no_notes (out_noted kernel no_notes cpu processor)
-out_none most kernel cpu None = record { items = []; noted = refl; are = tt }
-out_none most kernel cpu (Some Outside) = record { items = []; noted = refl; are = tt }
-out_none most kernel cpu (Some (Inside regs steps (Fixed answer))) = record { items = []; noted = refl; are = tt }
-out_none most kernel cpu (Some (Inside regs steps (InSlot slot))) =
-    map_or-both (Grows (FirstReady most unopened) no_notes) _ (progress_in_slot kernel steps slot) no_notes
+out_none : (key : List ℕ) (most : ℕ) (kernel : Kernel) (cpu : ℕ) (processor : Option Processor) → Grows (FirstReady most (unopened key)) no_notes (out_noted kernel no_notes cpu processor)
+out_none key most kernel cpu None = record { items = []; noted = refl; are = tt }
+out_none key most kernel cpu (Some Outside) = record { items = []; noted = refl; are = tt }
+out_none key most kernel cpu (Some (Inside regs steps (Fixed answer))) = record { items = []; noted = refl; are = tt }
+out_none key most kernel cpu (Some (Inside regs steps (InSlot slot))) =
+    map_or-both (Grows (FirstReady most (unopened key)) no_notes) _ (progress_in_slot kernel steps slot) no_notes
     (λ (progress : Progress). record { items = []; noted = refl; are = tt }) (record { items = []; noted = refl; are = tt })
 
 few_none : 0 < 2 ^ 32
 few_none = omega arith
 
-open_first : (session most : ℕ) (kernel next : Kernel) (happened : Event)
-    → Grows (FirstReady most unopened) no_notes (event_noted session kernel next no_notes happened)
-open_first session most kernel next (Entry cpu regs steps reads) =
+open_first : (key : List ℕ) (session most : ℕ) (kernel next : Kernel) (happened : Event)
+    → Grows (FirstReady most (unopened key)) no_notes (event_noted session kernel next no_notes happened)
+open_first key session most kernel next (Entry cpu regs steps reads) =
     let visit : Visit = record { cpu = cpu; regs = regs.a; steps = steps } in
-    entry_first session most unopened (record { kernel = kernel; next = next; visit = visit; reads = reads }) no_notes
+    entry_first session most (unopened key) (record { kernel = kernel; next = next; visit = visit; reads = reads }) no_notes
     (slice_get next.processors cpu) few_none
-open_first session most kernel next (Exit cpu regs) = out_none most kernel cpu (slice_get kernel.processors cpu)
+open_first key session most kernel next (Exit cpu regs) = out_none key most kernel cpu (slice_get kernel.processors cpu)
 
 early_on : (boot : Booted) (session most : ℕ) (past : List Event) (kernel : Kernel) (events : List Event) → kernel.tables.next_session ≤ session
     → IsAt boot most past kernel events → most < 2 ^ 127 → ReadsFew no_notes events
@@ -504,21 +504,21 @@ early_on boot session most past kernel (happened ∷ events) before at few reads
         shared_fed boot most (noted_from boot session on.next now events) of
         (uuid_on boot session most (past ++ happened ∷ []) on.next now events higher on.at ∙ uuid) of_boot shares
     by_next on now is rest (NowOpen of is_next of_boot uuid alone along has) later =
-        let about : About = about_next of most kernel in
-        let order = stays_in_order.runs most of unopened along.then (events_in along.items) (replies_in along.items)
-        stays_in_order.first along.replies in
-        let grows : Grows (FirstReady most unopened) no_notes now =
-        subst (Grows (FirstReady most unopened) no_notes) is (open_first session most kernel on.next happened) in
+        let about : About = about_next boot of most kernel in
+        let order = stays_in_order.runs most of (unopened boot.key) along.then (events_in along.items) (replies_in along.items)
+        (stays_in_order.first boot.key) along.replies in
+        let grows : Grows (FirstReady most (unopened boot.key)) no_notes now =
+        subst (Grows (FirstReady most (unopened boot.key)) no_notes) is (open_first boot.key session most kernel on.next happened) in
         let behind_it : FedAlong most of now along.then (noted_from boot session on.next now events) =
         subst (λ n. FedAlong most of now along.then (noted_from boot n on.next now events)) (sym is_next)
         (tied_on boot about (past ++ happened ∷ []) on.next now along.then events
-        (record { of_boot = of_boot; shares_none = alone }) order along.tied on.at few rest) in
+        (record { of_boot = of_boot; shares_none = alone }) refl order along.tied on.at few rest) in
         let higher : session < on.next.tables.next_session =
         subst (λ n. n < on.next.tables.next_session) (sym is_next) along.tied.given.session_given in
         opened_fed boot most (noted_from boot session on.next now events) of
         (uuid_on boot session most (past ++ happened ∷ []) on.next now events higher on.at ∙ uuid) of_boot
-        (fed_on most of no_notes now (noted_from boot session on.next now events) unopened along.then along.items along.noted along.replies
-        (grown most of unopened no_notes now along.items along.noted grows) behind_it)
+        (fed_on most of no_notes now (noted_from boot session on.next now events) (unopened boot.key) along.then along.items along.noted along.replies
+        (grown most of (unopened boot.key) no_notes now along.items along.noted grows) behind_it)
 
 -- where the first session has the number 1
 from_boot : (boot : Booted) (session most : ℕ) (history : List Event) → IsAt boot most [] (first_kernel boot) history → most < 2 ^ 127
@@ -554,14 +554,14 @@ can_be_fed most app solo (event ∷ events) end e all = (
 
 -- the machine of a session of a legal history can be fed with what has happened to it
 pub own_can_be_fed : (boot : Booted) (history : List Event) (session : ℕ) (app : Application) → IsSessionOf boot history session app
-    → copied_bytes history ≤ 2 ^ 28 → length history < 2 ^ 64 → CanBeFed (steps_in history) app unopened (own_events boot history session)
+    → copied_bytes history ≤ 2 ^ 28 → length history < 2 ^ 64 → CanBeFed (steps_in history) app (unopened boot.key) (own_events boot history session)
 own_can_be_fed boot history session app s reads short =
     let last = some_of (kernel_after boot history) s.legal.follows in
     let ready = from_boot boot session (steps_in history) history (from_first boot history last.0 last.1) (few_steps (length history) short) reads app
     s.of_app s.shares_none in
-    let replies = option_map_some _ (run (steps_in history) app unopened (own_events boot history session)) (own_replies boot history session)
+    let replies = option_map_some _ (run (steps_in history) app (unopened boot.key) (own_events boot history session)) (own_replies boot history session)
     (answered_as_alone boot history session app s) in
-    can_be_fed (steps_in history) app unopened (own_events boot history session) replies.0 replies.1 ready
+    can_be_fed (steps_in history) app (unopened boot.key) (own_events boot history session) replies.0 replies.1 ready
   where
     few_steps : (n : ℕ) → n < 2 ^ 64 → 1000000 * n < 2 ^ 127
     few_steps n lt = omega (arith, lt)
@@ -570,7 +570,7 @@ own_can_be_fed boot history session app s reads short =
 pub fed_so : {T : Type 0} (result : Result T NoMemory) (items : T → List OwnEvent) (log : List Logged) (boot : Booted) (history : List Event)
     (session : ℕ) (app : Application) → log ≡ (noted boot history session).log → IsSessionOf boot history session app
     → copied_bytes history ≤ 2 ^ 28 → length history < 2 ^ 64 → IfOk result (λ x. items x ≡ events_in log)
-    → IfOk result (λ x. CanBeFed (steps_in history) app unopened (items x))
+    → IfOk result (λ x. CanBeFed (steps_in history) app (unopened boot.key) (items x))
 fed_so (Ok x) items log boot history session app same s reads short e =
-    subst (CanBeFed (steps_in history) app unopened) (sym (e ∙ ap events_in same)) (own_can_be_fed boot history session app s reads short)
+    subst (CanBeFed (steps_in history) app (unopened boot.key)) (sym (e ∙ ap events_in same)) (own_can_be_fed boot history session app s reads short)
 fed_so (Err error) items log boot history session app same s reads short e = tt

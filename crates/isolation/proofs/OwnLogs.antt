@@ -44,7 +44,7 @@ log_still (Err error) items at boot done events session same all is = tt
 pub alone_so : {T : Type 0} (result : Result T NoMemory) (items : T → List OwnReply) (log : List own.Logged) (boot : Booted)
     (history : List Event) (session : ℕ) (app : Application) → log ≡ (own.noted boot history session).log
     → IsSessionOf boot history session app → IfOk result (λ x. items x ≡ own.replies_in log)
-    → IfOk result (λ x. solo_replies (steps_in history) app (own.own_events boot history session) ≡ Some (items x))
+    → IfOk result (λ x. solo_replies (steps_in history) app boot.key (own.own_events boot history session) ≡ Some (items x))
 alone_so (Ok x) items log boot history session app same is e =
     answered_as_alone boot history session app is
     ∙ ap (λ (rs : List OwnReply). Some rs) (sym (e ∙ ap own.replies_in same))

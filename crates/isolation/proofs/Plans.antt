@@ -162,7 +162,7 @@ module _ (session : ℕ) (c : NewCall) (named : Session × Instance) (copies : C
 
   job_params : (program : Option Program)
       → params_of (begun_job (record { program = program; memory = named.1.memory; seen = false })
-      (idle_job (owner_of named.1.uuid) named.0.login named.0.context named.1.objects copies.params) invoke_points) ≡ copies.params
+      (idle_job (owner_of named.1.uuid c.boot.key) named.0.login named.0.context named.1.objects copies.params) invoke_points) ≡ copies.params
   job_params None = refl
   job_params (Some (OfImage image)) = refl
   job_params (Some (OfRelation relation)) = refl

@@ -45,6 +45,7 @@ pub(crate) fn copy_boot(alloc: Global, boot: &Boot) -> Result<Boot, NoMemory>
         threads: boot.threads,
         frames: boot.frames,
         apps: Sequence::of(copy_apps(alloc, boot.apps.as_slice())?),
+        key: boot.key,
     })
 }
 

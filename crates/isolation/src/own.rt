@@ -97,7 +97,7 @@ pub fn own_events(
         ≡ own_events (booted boot.now (entries natives.now)) journal.now.events session) }
     ensures feeds { (app : Application)
         → IsSessionOf (booted boot.now (entries natives.now)) journal.now.events session app
-        → IfOk result (λ events. CanBeFed (steps_in journal.now.events) app unopened events.items) }
+        → IfOk result (λ events. CanBeFed (steps_in journal.now.events) app (unopened boot.now.key) events.items) }
 {
     // for the proof: no slice has 2^64 elements, so that the steps of all entries fit 128 bits
     let _events = journal.as_slice();
@@ -119,7 +119,7 @@ pub fn own_replies(
         ≡ own_replies (booted boot.now (entries natives.now)) journal.now.events session) }
     ensures alone { (app : Application)
         → IsSessionOf (booted boot.now (entries natives.now)) journal.now.events session app
-        → IfOk result (λ replies. solo_replies (steps_in journal.now.events) app
+        → IfOk result (λ replies. solo_replies (steps_in journal.now.events) app boot.now.key
         (own_events (booted boot.now (entries natives.now)) journal.now.events session) ≡ Some replies.items) }
 {
     let log = own_log(alloc, boot, natives, journal, session)?;
