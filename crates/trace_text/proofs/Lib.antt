@@ -8,3 +8,4 @@ pub mod SoundWords
 pub mod SoundLaws
 pub mod GrammarLaws
 pub mod PlainLines
+pub mod Keys

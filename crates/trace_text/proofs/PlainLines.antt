@@ -22,10 +22,9 @@ use Rattle.trace_text.specs.declared.item.Item.{Item}
 use Rattle.trace_text.specs.declared.item.Item.TheVariants as item
 use Rattle.trace_text.specs.declared.item.Reg.{Reg}
 use Rattle.trace_text.specs.declared.item.Reg.TheVariants.{Last, Num}
-use Rattle.trace_text.specs.declared.trace.Trace.{Trace}
 use Rattle.trace_text.specs.Forms.{decimal, hexadecimal, is_decimal, is_hexadecimal, is_last, is_register, register}
 use Rattle.trace_text.specs.Judging.{IsPut, IsTaken}
-use Rattle.trace_text.specs.Limits.{cpus_of, first_broken, is_inside, is_within, with_item}
+use Rattle.trace_text.specs.Limits.{Front, cpus_of, first_broken, is_inside, is_within, with_item}
 use Rattle.trace_text.specs.Plain.{AddsItem, AreRegisters, BeginsWithDecimal, BeginsWithNumber, IsPlain}
 use Rattle.trace_text.specs.Reading.{are_digits, has_leading_zero, hexadecimal_at}
 use Rattle.trace_text.specs.Rules.{added, after_line, counts, is_text_byte, kind_named, line_rules, rules_behind}
@@ -251,7 +250,7 @@ plain_line line rest behind_cpu regs_text cpu steps regs is c s r =
     subst (λ (l : List ℕ). IsPlain l cpu steps regs) (sym is) (plain_line_front rest behind_cpu regs_text cpu steps regs c s r)
 
 -- such a line keeps its rules, where its processor is there and outside
-plain_kept : (natives : List (List ℕ)) (before : Trace) (line : List ℕ) (cpu steps : ℕ) (regs : List Reg) → IsPlain line cpu steps regs → is_some before.boot ≡ true → is_within 1 1000000 steps ≡ true → ltb cpu (cpus_of before.boot) ≡ true
+plain_kept : (natives : List (List ℕ)) (before : Front) (line : List ℕ) (cpu steps : ℕ) (regs : List Reg) → IsPlain line cpu steps regs → is_some before.boot ≡ true → is_within 1 1000000 steps ≡ true → ltb cpu (cpus_of before.boot) ≡ true
     → is_inside before.items cpu ≡ false → first_broken (line_rules natives before true line) ≡ None
 unfolding line_rules kind_named rules_behind
 plain_kept natives before line cpu steps regs p booted granted there outside =
@@ -262,11 +261,11 @@ plain_kept natives before line cpu steps regs p booted granted there outside =
     rw (p.text, p.told, p.words, counted, booted, p.cpu_form, p.steps_form, p.regs_form, granted_by, there_by, outside_by) refl
 
 -- and adds its item
-plain_adds : (before : Trace) (line : List ℕ) (cpu steps : ℕ) (regs : List Reg) → IsPlain line cpu steps regs → after_line before line ≡ with_item before (item.Smc cpu steps regs)
+plain_adds : (before : Front) (line : List ℕ) (cpu steps : ℕ) (regs : List Reg) → IsPlain line cpu steps regs → after_line before line ≡ with_item before (item.Smc cpu steps regs)
 unfolding after_line kind_named added
 plain_adds before line cpu steps regs p = rw (p.told, p.words, p.cpu_is, p.steps_is, p.regs_are) refl
 
-pub plain_adds_item : (before : Trace) (line : List ℕ) (cpus cpu steps : ℕ) (regs : List Reg) → (is_some before.boot ≡ true) × (cpus ≡ cpus_of before.boot) → cpus ≤ 8 → IsPlain line cpu steps regs → ltb cpu cpus ≡ true → is_within 1 1000000 steps ≡ true
+pub plain_adds_item : (before : Front) (line : List ℕ) (cpus cpu steps : ℕ) (regs : List Reg) → (is_some before.boot ≡ true) × (cpus ≡ cpus_of before.boot) → cpus ≤ 8 → IsPlain line cpu steps regs → ltb cpu cpus ≡ true → is_within 1 1000000 steps ≡ true
     → false ≡ is_inside before.items cpu → AddsItem before line (item.Smc cpu steps regs)
 plain_adds_item before line cpus cpu steps regs booted few p there granted outside = record {
   kept = λ natives. plain_kept natives before line cpu steps regs p booted.0 granted (rw booted.1 at there) (sym outside);
@@ -274,12 +273,12 @@ plain_adds_item before line cpus cpu steps regs booted few p there granted outsi
   few = omega (arith, ltb-true _ _ there);
 }
 
-put_is_taken : (result : Result Unit LineFault) (rules : List (BadKind × Bool)) (wanted after : Trace) → first_broken rules ≡ None → IsPut result wanted after → IsTaken result rules wanted after
+put_is_taken : (result : Result Unit LineFault) (rules : List (BadKind × Bool)) (wanted after : Front) → first_broken rules ≡ None → IsPut result wanted after → IsTaken result rules wanted after
 put_is_taken (Ok u) rules wanted after kept put = (kept, put)
 put_is_taken (Err (Broken kind)) rules wanted after kept put = absurd cc
 put_is_taken (Err NoRoom) rules wanted after kept put = tt
 
 -- a line is taken by its item, or memory runs out
-pub item_is_taken : (natives : List (List ℕ)) (before after : Trace) (line : List ℕ) (i : Item) (result : Result Unit LineFault) → AddsItem before line i → IsPut result (with_item before i) after
+pub item_is_taken : (natives : List (List ℕ)) (before after : Front) (line : List ℕ) (i : Item) (result : Result Unit LineFault) → AddsItem before line i → IsPut result (with_item before i) after
     → IsTaken result (line_rules natives before true line) (after_line before line) after
 item_is_taken natives before after line i result adds put = rw adds.adds (put_is_taken result (line_rules natives before true line) (with_item before i) after (adds.kept natives) put)

@@ -22,7 +22,7 @@ use Rattle.trace_text.specs.declared.line_kind.LineKind.TheVariants as kind
 use Rattle.trace_text.specs.declared.trace.Fill.{Fill}
 use Rattle.trace_text.specs.declared.trace.Trace.{Trace}
 use Rattle.trace_text.specs.Forms.{bytes, decimal, hexadecimal, register, uuid}
-use Rattle.trace_text.specs.Limits.{app_limits, boot_limits, cpus_of, empty_trace, end_fault, first_broken, inside_after, is_inside, is_known, moved, outside}
+use Rattle.trace_text.specs.Limits.{app_limits, boot_limits, Front, cpus_of, end_fault, first_broken, inside_after, is_inside, is_known, moved, no_front, no_key, outside}
 use Rattle.trace_text.specs.Grammar.{Leads, Spells}
 use Rattle.text_lines.specs.Words.{words_of}
 use Rattle.text_lines.specs.Lines.{is_skipped}
@@ -49,7 +49,7 @@ are_kept ((kind, passed) ∷ rules) e =
 
 -- ---- what the words of each kind of line say
 
-pub sound_boot : (natives : List (List ℕ)) (cpus threads frames : ℕ) → AreKept (boot_limits cpus threads frames) → IsSoundBoot natives (record { cpus = cpus; threads = threads; frames = frames; apps = [] })
+pub sound_boot : (natives : List (List ℕ)) (cpus threads frames : ℕ) → AreKept (boot_limits cpus threads frames) → IsSoundBoot natives (record { cpus = cpus; threads = threads; frames = frames; apps = []; key = no_key })
 sound_boot natives cpus threads frames (few_cpus, (few_threads, (few_frames, _))) =
     let cpus_in = within 1 8 cpus few_cpus in
     let threads_in = within 1 16 threads few_threads in
@@ -130,10 +130,10 @@ pub record IsSoFar (natives : List (List ℕ)) (boot : Option Boot) (fills : Lis
   pub are_items : All (IsSoundItem (cpus_of boot)) items
   pub in_turn : ComeInTurn outside items
 
-abbrev pub IsSoFarOf : List (List ℕ) → Trace → Type 0
-IsSoFarOf natives trace = IsSoFar natives trace.boot trace.fills trace.items
+abbrev pub IsSoFarOf : List (List ℕ) → Front → Type 0
+IsSoFarOf natives front = IsSoFar natives front.boot front.fills front.items
 
-pub at_first : (natives : List (List ℕ)) → IsSoFarOf natives empty_trace
+pub at_first : (natives : List (List ℕ)) → IsSoFarOf natives no_front
 at_first natives = record {
   no_boot = (refl, refl);
   is_boot = tt;
@@ -156,6 +156,34 @@ pub with_apps : (natives : List (List ℕ)) (boot : Boot) (app : App) (fills : L
 with_apps natives boot app fills items sound before = record {
   no_boot = tt;
   is_boot = sound;
+  are_fills = before.are_fills;
+  are_items = before.are_items;
+  in_turn = before.in_turn;
+}
+
+-- another key changes no limit
+sound_key : (natives : List (List ℕ)) (boot : Boot) (key : List ℕ) → IsSoundBoot natives boot → IsSoundBoot natives (record boot { key = key })
+sound_key natives boot key sound =
+    let was = sound.boots in
+    record {
+      boots = record {
+        some_processor = was.some_processor;
+        few_processors = was.few_processors;
+        some_thread = was.some_thread;
+        few_threads = was.few_threads;
+        some_frame = was.some_frame;
+        few_frames = was.few_frames;
+        few_apps = was.few_apps;
+        valid = was.valid;
+        apart = was.apart;
+      };
+      no_native = sound.no_native;
+    }
+
+pub keyed_boot : (natives : List (List ℕ)) (boot : Boot) (key : List ℕ) (fills : List Fill) (items : List Item) → IsSoFar natives (Some boot) fills items → IsSoFar natives (Some (record boot { key = key })) fills items
+keyed_boot natives boot key fills items before = record {
+  no_boot = tt;
+  is_boot = sound_key natives boot key before.is_boot;
   are_fills = before.are_fills;
   are_items = before.are_items;
   in_turn = before.in_turn;
@@ -188,68 +216,74 @@ with_one natives boot fills items i sound comes before = record {
 -- ---- one lemma for each kind of line, where its rules are kept
 
 -- the line adds to the trace within its limits, where it keeps its rules and no word is empty
-abbrev Adds : LineKind → List (List ℕ) → Option Boot → List Fill → List Item → List (List ℕ) → Type 0
-Adds kind natives boot fills items ws =
-    let before : Trace = record { boot = boot; fills = fills; items = items } in
+abbrev Adds : LineKind → List (List ℕ) → Option Boot → List Fill → List Item → Bool → List (List ℕ) → Type 0
+Adds kind natives boot fills items keyed ws =
+    let before : Front = record { boot = boot; fills = fills; items = items; keyed = keyed } in
     AreKept (rules_behind kind natives before ws) → length ws ≡ words_behind kind → ((n : ℕ) → n < words_behind kind → 0 < length (word ws n)) → IsSoFar natives boot fills items
     → IsSoFarOf natives (added kind before ws)
 
-after_boot : (natives : List (List ℕ)) (boot : Option Boot) (fills : List Fill) (items : List Item) (ws : List (List ℕ)) → Adds kind.Boot natives boot fills items ws
+after_boot : (natives : List (List ℕ)) (boot : Option Boot) (fills : List Fill) (items : List Item) (keyed : Bool) (ws : List (List ℕ)) → Adds kind.Boot natives boot fills items keyed ws
 unfolding rules_behind added
-after_boot natives None fills items ws (_, said) count some so_far =
+after_boot natives None fills items keyed ws (_, said) count some so_far =
     with_boot natives (boot_of (word ws 0) (word ws 1) (word ws 2)) fills items (sound_boot natives (decimal (word ws 0)) (decimal (word ws 1)) (decimal (word ws 2)) said.1.1.1) so_far
-after_boot natives (Some boot) fills items ws (first, _) count some so_far = absurd cc
+after_boot natives (Some boot) fills items keyed ws (first, _) count some so_far = absurd cc
 
-after_ta : (natives : List (List ℕ)) (boot : Option Boot) (fills : List Fill) (items : List Item) (ws : List (List ℕ)) → Adds kind.Ta natives boot fills items ws
+after_ta : (natives : List (List ℕ)) (boot : Option Boot) (fills : List Fill) (items : List Item) (keyed : Bool) (ws : List (List ℕ)) → Adds kind.Ta natives boot fills items keyed ws
 unfolding rules_behind added
-after_ta natives None fills items ws (booted, _) count some so_far = absurd cc
-after_ta natives (Some boot) fills items ws (_, (_, (_, (hex, said)))) count some so_far =
+after_ta natives None fills items keyed ws (booted, _) count some so_far = absurd cc
+after_ta natives (Some boot) fills items keyed ws (_, (_, (_, (hex, said)))) count some so_far =
     with_apps natives boot (app_of (word ws 0) (word ws 1)) fills items
     (sound_apps natives boot (uuid (word ws 0)) (bytes (word ws 1)) said (valid_image (word ws 1) hex said.1.1.0) so_far.is_boot) so_far
 
-after_mem : (natives : List (List ℕ)) (boot : Option Boot) (fills : List Fill) (items : List Item) (ws : List (List ℕ)) → Adds kind.Mem natives boot fills items ws
+after_mem : (natives : List (List ℕ)) (boot : Option Boot) (fills : List Fill) (items : List Item) (keyed : Bool) (ws : List (List ℕ)) → Adds kind.Mem natives boot fills items keyed ws
 unfolding rules_behind added
-after_mem natives None fills items ws (booted, _) count some so_far = absurd cc
-after_mem natives (Some boot) fills items ws (_, (_, said)) count some so_far =
+after_mem natives None fills items keyed ws (booted, _) count some so_far = absurd cc
+after_mem natives (Some boot) fills items keyed ws (_, (_, said)) count some so_far =
     with_fill natives boot fills (fill_of (word ws 0) (word ws 1)) items (sound_fill (word ws 0) (word ws 1) (some 1 (omega arith)) said) so_far
 
-after_smc : (natives : List (List ℕ)) (boot : Option Boot) (fills : List Fill) (items : List Item) (ws : List (List ℕ)) → Adds kind.Smc natives boot fills items ws
+after_key : (natives : List (List ℕ)) (boot : Option Boot) (fills : List Fill) (items : List Item) (keyed : Bool) (ws : List (List ℕ)) → Adds kind.Key natives boot fills items keyed ws
 unfolding rules_behind added
-after_smc natives None fills items ws (booted, _) count some so_far = absurd cc
-after_smc natives (Some boot) fills items ws (_, said) count some so_far =
+after_key natives None fills items keyed ws (booted, _) count some so_far = absurd cc
+after_key natives (Some boot) fills items keyed ws said count some so_far = keyed_boot natives boot (bytes (word ws 0)) fills items so_far
+
+after_smc : (natives : List (List ℕ)) (boot : Option Boot) (fills : List Fill) (items : List Item) (keyed : Bool) (ws : List (List ℕ)) → Adds kind.Smc natives boot fills items keyed ws
+unfolding rules_behind added
+after_smc natives None fills items keyed ws (booted, _) count some so_far = absurd cc
+after_smc natives (Some boot) fills items keyed ws (_, said) count some so_far =
     let call = sound_call boot.cpus (word ws 0) (word ws 1) (drop 2 ws) (not (is_inside items (decimal (word ws 0)))) (omega (arith, length-drop 2 ws)) said in
     with_one natives boot fills items (item.Smc (decimal (word ws 0)) (decimal (word ws 1)) (map register (drop 2 ws))) call.0 call.1 so_far
 
-after_enter : (natives : List (List ℕ)) (boot : Option Boot) (fills : List Fill) (items : List Item) (ws : List (List ℕ)) → Adds kind.Enter natives boot fills items ws
+after_enter : (natives : List (List ℕ)) (boot : Option Boot) (fills : List Fill) (items : List Item) (keyed : Bool) (ws : List (List ℕ)) → Adds kind.Enter natives boot fills items keyed ws
 unfolding rules_behind added
-after_enter natives None fills items ws (booted, _) count some so_far = absurd cc
-after_enter natives (Some boot) fills items ws (_, said) count some so_far =
+after_enter natives None fills items keyed ws (booted, _) count some so_far = absurd cc
+after_enter natives (Some boot) fills items keyed ws (_, said) count some so_far =
     let call = sound_call boot.cpus (word ws 0) (word ws 1) (drop 2 ws) (not (is_inside items (decimal (word ws 0)))) (omega (arith, length-drop 2 ws)) said in
     with_one natives boot fills items (item.Enter (decimal (word ws 0)) (decimal (word ws 1)) (map register (drop 2 ws))) call.0 call.1 so_far
 
-after_leave : (natives : List (List ℕ)) (boot : Option Boot) (fills : List Fill) (items : List Item) (ws : List (List ℕ)) → Adds kind.Leave natives boot fills items ws
+after_leave : (natives : List (List ℕ)) (boot : Option Boot) (fills : List Fill) (items : List Item) (keyed : Bool) (ws : List (List ℕ)) → Adds kind.Leave natives boot fills items keyed ws
 unfolding rules_behind added
-after_leave natives None fills items ws (booted, _) count some so_far = absurd cc
-after_leave natives (Some boot) fills items ws (_, said) count some so_far =
+after_leave natives None fills items keyed ws (booted, _) count some so_far = absurd cc
+after_leave natives (Some boot) fills items keyed ws (_, said) count some so_far =
     let left = sound_cpu boot.cpus (word ws 0) (is_inside items (decimal (word ws 0))) said in
     with_one natives boot fills items (item.Leave (decimal (word ws 0))) left.0 left.1 so_far
 
-after_write : (natives : List (List ℕ)) (boot : Option Boot) (fills : List Fill) (items : List Item) (ws : List (List ℕ)) → Adds kind.Write natives boot fills items ws
+after_write : (natives : List (List ℕ)) (boot : Option Boot) (fills : List Fill) (items : List Item) (keyed : Bool) (ws : List (List ℕ)) → Adds kind.Write natives boot fills items keyed ws
 unfolding rules_behind added
-after_write natives None fills items ws (booted, _) count some so_far = absurd cc
-after_write natives (Some boot) fills items ws (_, said) count some so_far =
+after_write natives None fills items keyed ws (booted, _) count some so_far = absurd cc
+after_write natives (Some boot) fills items keyed ws (_, said) count some so_far =
     with_one natives boot fills items (item.Write (decimal (word ws 0)) (hexadecimal (word ws 1)) (bytes (word ws 2))) (sound_write boot.cpus (word ws 0) (word ws 1) (word ws 2) (some 2 (omega arith)) said) refl so_far
 
-after_show : (natives : List (List ℕ)) (boot : Option Boot) (fills : List Fill) (items : List Item) (ws : List (List ℕ)) → Adds kind.Show natives boot fills items ws
+after_show : (natives : List (List ℕ)) (boot : Option Boot) (fills : List Fill) (items : List Item) (keyed : Bool) (ws : List (List ℕ)) → Adds kind.Show natives boot fills items keyed ws
 unfolding rules_behind added
-after_show natives None fills items ws (booted, _) count some so_far = absurd cc
-after_show natives (Some boot) fills items ws (_, said) count some so_far =
+after_show natives None fills items keyed ws (booted, _) count some so_far = absurd cc
+after_show natives (Some boot) fills items keyed ws (_, said) count some so_far =
     with_one natives boot fills items (item.Show (decimal (word ws 0)) (hexadecimal (word ws 1)) (decimal (word ws 2))) (sound_show boot.cpus (word ws 0) (word ws 1) (word ws 2) said) refl so_far
 
-after_any : (kind : LineKind) (natives : List (List ℕ)) (boot : Option Boot) (fills : List Fill) (items : List Item) (ws : List (List ℕ)) → Adds kind natives boot fills items ws
+after_any : (kind : LineKind) (natives : List (List ℕ)) (boot : Option Boot) (fills : List Fill) (items : List Item) (keyed : Bool) (ws : List (List ℕ)) → Adds kind natives boot fills items keyed ws
 after_any kind.Boot = after_boot
 after_any kind.Ta = after_ta
 after_any kind.Mem = after_mem
+after_any kind.Key = after_key
 after_any kind.Smc = after_smc
 after_any kind.Enter = after_enter
 after_any kind.Leave = after_leave
@@ -272,20 +306,20 @@ counted behind (first ∷ words) e =
     let count : length words ≡ behind = omega arith in
     (count, λ n lt. ltb-true 0 (length (word words n)) (AllPass-from_list_all (λ w. ltb 0 (length w)) words others.1 n [] (omega arith)))
 
-by_kind : (named : Option LineKind) (natives : List (List ℕ)) (before : Trace) (words : List (List ℕ)) → first_broken (rules_of_kind named natives before words) ≡ None → IsSoFarOf natives before
+by_kind : (named : Option LineKind) (natives : List (List ℕ)) (before : Front) (words : List (List ℕ)) → first_broken (rules_of_kind named natives before words) ≡ None → IsSoFarOf natives before
     → IsSoFarOf natives (added_by_kind named before words)
 by_kind None natives before words e so_far = absurd cc
 by_kind (Some kind) natives before words e so_far =
     let rules = are_kept (rules_of_kind (Some kind) natives before words) e in
     let count = counted (words_behind kind) words rules.0 in
-    after_any kind natives before.boot before.fills before.items (drop 1 words) rules.1 count.0 count.1 so_far
+    after_any kind natives before.boot before.fills before.items before.keyed (drop 1 words) rules.1 count.0 count.1 so_far
 
-unless_skipped : (skipped : Bool) (named : Option LineKind) (natives : List (List ℕ)) (before : Trace) (words : List (List ℕ)) → first_broken (cond skipped [] (rules_of_kind named natives before words)) ≡ None → IsSoFarOf natives before
+unless_skipped : (skipped : Bool) (named : Option LineKind) (natives : List (List ℕ)) (before : Front) (words : List (List ℕ)) → first_broken (cond skipped [] (rules_of_kind named natives before words)) ≡ None → IsSoFarOf natives before
     → IsSoFarOf natives (cond skipped before (added_by_kind named before words))
 unless_skipped true named natives before words e so_far = so_far
 unless_skipped false named natives before words e so_far = by_kind named natives before words e so_far
 
-one_line : (natives : List (List ℕ)) (before : Trace) (line : List ℕ) → first_broken (line_rules natives before true line) ≡ None → IsSoFarOf natives before → IsSoFarOf natives (after_line before line)
+one_line : (natives : List (List ℕ)) (before : Front) (line : List ℕ) → first_broken (line_rules natives before true line) ≡ None → IsSoFarOf natives before → IsSoFarOf natives (after_line before line)
 unfolding line_rules after_line
 one_line natives before line e so_far =
     let words = words_of line in
@@ -294,8 +328,8 @@ one_line natives before line e so_far =
     let p = one_kept bad.Byte (list_all is_text_byte line) (first_broken rest) e in
     unless_skipped (is_skipped line) named natives before words p.1 so_far
 
-pub all_lines : (natives : List (List ℕ)) (before : Trace) (lines : List (List ℕ)) (after : Trace) → Leads natives before lines after → IsSoFarOf natives before → IsSoFarOf natives after
-all_lines natives before [] after leads so_far = subst (λ (t : Trace). IsSoFarOf natives t) leads so_far
+pub all_lines : (natives : List (List ℕ)) (before : Front) (lines : List (List ℕ)) (after : Front) → Leads natives before lines after → IsSoFarOf natives before → IsSoFarOf natives after
+all_lines natives before [] after leads so_far = subst (λ (t : Front). IsSoFarOf natives t) leads so_far
 all_lines natives before (line ∷ lines) after leads so_far = all_lines natives (after_line before line) lines after leads.1 (one_line natives before line leads.0 so_far)
 
 -- ---- the end
@@ -324,18 +358,18 @@ no_one : (anyone : Bool) → cond anyone (Some bad.Unended) None ≡ None → an
 no_one true e = absurd cc
 no_one false e = refl
 
-pub at_last : (trace : Trace) → end_fault trace ≡ None → inside_after trace.items ≡ outside
+pub at_last : (end : Front) → end_fault end ≡ None → inside_after end.items ≡ outside
 unfolding inside_after
-at_last trace e = all_outside 8 (fold moved outside trace.items) (length-fold outside trace.items) (no_one (list_any (λ inside. inside) (fold moved outside trace.items)) e)
+at_last end e = all_outside 8 (fold moved outside end.items) (length-fold outside end.items) (no_one (list_any (λ inside. inside) (fold moved outside end.items)) e)
 
 pub IsSound-spelled : (natives : List (List ℕ)) (text : List ℕ) (trace : Trace) → Spells natives text trace → IsSound natives trace
 IsSound-spelled natives text trace s =
-    let last = all_lines natives empty_trace s.lines trace s.spelled (at_first natives) in
-    record {
+    let last = all_lines natives no_front s.lines s.end s.spelled (at_first natives) in
+    subst (λ (t : Trace). IsSound natives t) s.trace_is (record {
       no_boot = last.no_boot;
       boot = last.is_boot;
       fills = last.are_fills;
       items = last.are_items;
       in_turn = last.in_turn;
-      ended = at_last trace s.no_end_fault;
-    }
+      ended = at_last s.end s.no_end_fault;
+    })

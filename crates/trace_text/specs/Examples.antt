@@ -1,5 +1,5 @@
 -- What the rules of lines and the limits of traces say of a few small inputs.
-use Rattle.std.specs.Prelude.{◌≡◌, ℕ, List, [], ◌∷◌, ◌++◌, true, false, Some, codes}
+use Rattle.std.specs.Prelude.{◌≡◌, ℕ, List, [], ◌∷◌, ◌++◌, true, false, Some, codes, replicate}
 use Rattle.std.specs.List.{flat_map}
 use Rattle.trace_text.specs.declared.fault.BadKind.TheVariants as bad
 use Rattle.trace_text.specs.declared.fault.TraceFault.TheVariants.{Bad}
@@ -10,7 +10,7 @@ use Rattle.trace_text.specs.declared.trace.Trace.{Trace}
 use Rattle.trace_text.specs.Fault.{fault_text}
 use Rattle.trace_text.specs.Forms.{is_decimal, decimal, is_hexadecimal, hexadecimal, is_register, register, is_uuid, uuid, is_hex, bytes}
 use Rattle.trace_text.specs.Grammar.{Spells, IsFirstFault}
-use Rattle.trace_text.specs.Limits.{empty_trace, inside_after, lies_in_ram, outside}
+use Rattle.trace_text.specs.Limits.{inside_after, lies_in_ram, no_front, no_key, outside, trace_in}
 use Rattle.text_lines.specs.Lines.{is_skipped}
 use Rattle.trace_text.specs.Sound.{can_come, IsPartOfRam, IsSound, IsSoundBoot, IsSoundItem, IsSoundReg}
 
@@ -30,10 +30,20 @@ entered = Last 7 ∷ Num 0 ∷ Num 0 ∷ Num 0 ∷ Num 0 ∷ Num 0 ∷ Num 0 ∷
 
 abbrev pub small_trace : Trace
 small_trace = record {
-  boot = Some (record { cpus = 2; threads = 1; frames = 1; apps = [] });
+  boot = Some (record { cpus = 2; threads = 1; frames = 1; apps = []; key = no_key });
   fills = record { addr = 0x4000_0000; bytes = 0 ∷ 255 ∷ [] } ∷ [];
   items = Enter 1 5 entered ∷ Leave 1 ∷ [];
 }
+
+-- a line with a key, and the trace of it behind a boot
+abbrev pub key_line : List ℕ
+key_line = codes "key 07070707070707070707070707070707FF070707070707070707070707070707"
+
+abbrev pub key : List ℕ
+key = replicate 16 7 ++ 255 ∷ replicate 15 7
+
+abbrev pub keyed_trace : Trace
+keyed_trace = record { boot = Some (record { cpus = 2; threads = 1; frames = 1; apps = []; key = key }); fills = []; items = [] }
 
 abbrev pub hyphenated : List ℕ
 hyphenated = codes "11111111-2222-3333-4444-5555555555aB"
@@ -56,8 +66,13 @@ pub record Examples : Type 0 where
   pub past_ram : lies_in_ram 0x403f_ffff 2 ≡ false
   pub comment : is_skipped (codes "# boot") ≡ true
   pub inside : inside_after (Enter 1 5 entered ∷ []) ≡ false ∷ true ∷ false ∷ false ∷ false ∷ false ∷ false ∷ false ∷ []
-  pub nothing : Spells [] [] empty_trace
+  pub nothing : Spells [] [] (trace_in no_front)
   pub small : Spells [] (text_of (codes "# small" ∷ [] ∷ boot_line ∷ codes "mem 40000000 00fF" ∷ enter_line ∷ codes "leave 1" ∷ [])) small_trace
+  pub keyed : Spells [] (text_of (boot_line ∷ key_line ∷ [])) keyed_trace
+  pub second_key : IsFirstFault [] (text_of (boot_line ∷ key_line ∷ key_line ∷ [])) 3 bad.Place
+  pub key_before_boot : IsFirstFault [] (text_of (key_line ∷ [])) 1 bad.Place
+  pub key_behind_item : IsFirstFault [] (text_of (boot_line ∷ enter_line ∷ key_line ∷ [])) 3 bad.Place
+  pub short_key : IsFirstFault [] (text_of (boot_line ∷ codes "key 0707" ∷ [])) 2 bad.Range
   pub early : IsFirstFault [] (text_of (codes "leave 1" ∷ [])) 1 bad.Place
   pub second_boot : IsFirstFault [] (text_of (boot_line ∷ boot_line ∷ [])) 2 bad.Place
   pub two_spaces : IsFirstFault [] (text_of (codes "boot 1  1 1" ∷ [])) 1 bad.Count
@@ -65,8 +80,8 @@ pub record Examples : Type 0 where
   pub range_before_cpu : IsFirstFault [] (text_of (boot_line ∷ codes "show 2 40000000 0" ∷ [])) 2 bad.Range
   pub twice_inside : IsFirstFault [] (text_of (boot_line ∷ enter_line ∷ enter_line ∷ [])) 3 bad.Inside
   pub within_limits : IsSound [] small_trace
-  pub empty_within_limits : IsSound [] empty_trace
-  pub nine_processors : ¬ (IsSoundBoot [] (record { cpus = 9; threads = 1; frames = 1; apps = [] }))
+  pub empty_within_limits : IsSound [] (trace_in no_front)
+  pub nine_processors : ¬ (IsSoundBoot [] (record { cpus = 9; threads = 1; frames = 1; apps = []; key = no_key }))
   pub no_bytes : ¬ (IsPartOfRam 0x4000_0000 0)
   pub above_ram : ¬ (IsPartOfRam 0x4040_0000 1)
   pub no_eighth_register : ¬ (IsSoundReg (Last 8))

@@ -5,7 +5,7 @@ use Rattle.trace_text.specs.declared.fault.BadKind.{BadKind}
 use Rattle.trace_text.specs.declared.fault.TraceFault.{TraceFault}
 use Rattle.trace_text.specs.declared.fault.TraceFault.TheVariants.{Bad, Memory}
 use Rattle.trace_text.specs.declared.trace.Trace.{Trace}
-use Rattle.trace_text.specs.Limits.{empty_trace, end_fault, first_broken}
+use Rattle.trace_text.specs.Limits.{Front, end_fault, first_broken, no_front, trace_in}
 use Rattle.trace_text.specs.Rules.{line_rules, after_line}
 
 -- what the line feeds of a text part: its lines, and at the end what stands behind the last line feed
@@ -13,13 +13,13 @@ abbrev pub pieces_of : List ℕ → List (List ℕ)
 pieces_of text = slice_split (λ b. b == 10) text
 
 -- lines that follow each other, each ended and with every rule kept, and lead from one trace to another
-abbrev pub Leads : List (List ℕ) → Trace → List (List ℕ) → Trace → Type 0
+abbrev pub Leads : List (List ℕ) → Front → List (List ℕ) → Front → Type 0
 Leads natives before [] after = before ≡ after
 Leads natives before (line ∷ lines) after = (first_broken (line_rules natives before true line) ≡ None) × Leads natives (after_line before line) lines after
 
 -- the fault of a piece, given the pieces behind it: a line is ended where there are any, and the text ends where
 -- there are none and this one is empty
-unfoldable pub piece_fault : List (List ℕ) → Trace → List ℕ → List (List ℕ) → Option BadKind
+unfoldable pub piece_fault : List (List ℕ) → Front → List ℕ → List (List ℕ) → Option BadKind
 piece_fault natives before piece (next ∷ pieces) = first_broken (line_rules natives before true piece)
 piece_fault natives before [] [] = end_fault before
 piece_fault natives before (b ∷ bytes) [] = first_broken (line_rules natives before false (b ∷ bytes))
@@ -29,8 +29,10 @@ piece_fault natives before (b ∷ bytes) [] = first_broken (line_rules natives b
 pub record Spells (natives : List (List ℕ)) (text : List ℕ) (trace : Trace) : Type 0 where
   pub lines : List (List ℕ)
   pub text_is : pieces_of text ≡ lines ++ [] ∷ []
-  pub spelled : Leads natives empty_trace lines trace
-  pub no_end_fault : end_fault trace ≡ None
+  pub end : Front
+  pub spelled : Leads natives no_front lines end
+  pub trace_is : trace_in end ≡ trace
+  pub no_end_fault : end_fault end ≡ None
 
 -- the first fault of the text: what stands before its place keeps every rule
 pub record IsFirstFault (natives : List (List ℕ)) (text : List ℕ) (place : ℕ) (kind : BadKind) : Type 0 where
@@ -38,8 +40,8 @@ pub record IsFirstFault (natives : List (List ℕ)) (text : List ℕ) (place : �
   pub piece : List ℕ
   pub back : List (List ℕ)
   pub text_is : pieces_of text ≡ front ++ piece ∷ back
-  pub before : Trace
-  pub kept : Leads natives empty_trace front before
+  pub before : Front
+  pub kept : Leads natives no_front front before
   pub place_is : place ≡ length front + 1
   pub fault : piece_fault natives before piece back ≡ Some kind
 

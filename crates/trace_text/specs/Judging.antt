@@ -1,6 +1,6 @@
 -- What the private functions of the crate answer, in the words of the rules; and the pieces of a text read one
 -- after the other, which the loop of the reader computes.
-use Rattle.std.specs.Prelude.{◌≡◌, ℕ, ◌+◌, List, [], ◌∷◌, Bool, true, false, ◌≤◌, Option, Some, None, is_none, IfSome, Result, Ok, Err, ◌⊎◌}
+use Rattle.std.specs.Prelude.{◌≡◌, ℕ, ◌+◌, List, [], ◌∷◌, Bool, true, false, ◌≤◌, Option, Some, None, is_none, IfSome, Result, Ok, Err, ◌⊎◌, unwrap_or}
 use Rattle.ta_isa.specs.declared.boot.App.{App}
 use Rattle.ta_isa.specs.declared.boot.Boot.{Boot}
 use Rattle.ta_isa.specs.declared.image_fault.ImageFault.{ImageFault}
@@ -16,7 +16,7 @@ use Rattle.trace_text.specs.declared.item.Item.{Item}
 use Rattle.trace_text.specs.declared.item.Item.TheVariants as item
 use Rattle.trace_text.specs.declared.limits.Size.{Size}
 use Rattle.trace_text.specs.declared.trace.Trace.{Trace}
-use Rattle.trace_text.specs.Limits.{first_broken, inside_after}
+use Rattle.trace_text.specs.Limits.{Front, first_broken, inside_after, no_key, trace_in}
 use Rattle.trace_text.specs.Rules.{after_line}
 use Rattle.trace_text.specs.Grammar.{piece_fault}
 
@@ -58,13 +58,13 @@ item_cpu (item.Write cpu addr bytes) = cpu
 item_cpu (item.Show cpu addr len) = cpu
 
 -- something was put into the trace, or memory ran out
-abbrev pub IsPut : Result Unit LineFault → Trace → Trace → Type 0
+abbrev pub IsPut : Result Unit LineFault → Front → Front → Type 0
 IsPut (Ok u) wanted after = after ≡ wanted
 IsPut (Err fault) wanted after = fault ≡ NoRoom
 
 -- the text ends here: there is no fault, and this is its trace; or there is one
-abbrev pub Ends : Result Trace BadKind → Option BadKind → Trace → Type 0
-Ends (Ok trace) fault before = (fault ≡ None) × (trace ≡ before)
+abbrev pub Ends : Result Trace BadKind → Option BadKind → Front → Type 0
+Ends (Ok trace) fault before = (fault ≡ None) × (trace ≡ trace_in before)
 Ends (Err kind) fault before = fault ≡ Some kind
 
 -- the verdict on a piece, where it has no fault
@@ -73,9 +73,9 @@ unless None place verdict = verdict
 unless (Some kind) place verdict = Err (Bad place kind)
 
 -- the trace of the pieces from this place on, or the first fault
-unfoldable pub read_pieces : List (List ℕ) → ℕ → Trace → List (List ℕ) → Result Trace TraceFault
-read_pieces natives place before [] = Ok before
-read_pieces natives place before (piece ∷ []) = unless (piece_fault natives before piece []) place (Ok before)
+unfoldable pub read_pieces : List (List ℕ) → ℕ → Front → List (List ℕ) → Result Trace TraceFault
+read_pieces natives place before [] = Ok (trace_in before)
+read_pieces natives place before (piece ∷ []) = unless (piece_fault natives before piece []) place (Ok (trace_in before))
 read_pieces natives place before (piece ∷ (next ∷ pieces)) =
     unless (piece_fault natives before piece (next ∷ pieces)) place (read_pieces natives (place + 1) (after_line before piece) (next ∷ pieces))
 
@@ -85,18 +85,24 @@ IsUnlessMemory result wanted = (result ≡ wanted) ⊎ (result ≡ Err Memory)
 
 -- a line was taken: it keeps its rules, and leads from the trace before it to the one after it; or it broke a rule;
 -- or memory ran out
-abbrev pub IsTaken : Result Unit LineFault → List (BadKind × Bool) → Trace → Trace → Type 0
+abbrev pub IsTaken : Result Unit LineFault → List (BadKind × Bool) → Front → Front → Type 0
 IsTaken (Ok u) rules wanted after = (first_broken rules ≡ None) × (after ≡ wanted)
 IsTaken (Err (Broken kind)) rules wanted after = first_broken rules ≡ Some kind
 IsTaken (Err NoRoom) rules wanted after = Unit {0}
 
--- the boot of a size and its applications
-abbrev pub booted : Option Size → List App → Option Boot
-booted None apps = None
-booted (Some size) apps = Some (record { cpus = size.cpus; threads = size.threads; frames = size.frames; apps = apps })
+-- the key of a boot: one of zeros where none is given
+abbrev pub key_of : Option (List ℕ) → List ℕ
+key_of key = unwrap_or key no_key
+
+-- the boot of a size, its applications and a key
+abbrev pub booted : Option Size → List App → Option (List ℕ) → Option Boot
+booted None apps key = None
+booted (Some size) apps key =
+    Some (record { cpus = size.cpus; threads = size.threads; frames = size.frames; apps = apps; key = key_of key })
 
 -- what the fields of a reader keep: no application before the boot, at most eight processors, and which are inside
-pub record IsTracked (size : Option Size) (apps : List App) (items : List Item) (inside : List Bool) : Type 0 where
+pub record IsTracked (size : Option Size) (apps : List App) (key : Option (List ℕ)) (items : List Item) (inside : List Bool) : Type 0 where
   pub no_apps : is_none size ≡ true → apps ≡ []
+  pub no_key : is_none size ≡ true → key ≡ None
   pub few_cpus : IfSome size (λ s. s.cpus ≤ 8)
   pub inside_is : inside ≡ inside_after items

@@ -1,6 +1,6 @@
 -- What the text and the bytes of a trace have in common: what the lines or records before have set, the limits of what one
 -- says, and what it adds to the trace. This project's own.
-use Rattle.std.specs.Prelude.{ℕ, ◌+◌, List, [], ◌∷◌, ◌++◌, length, slice_index_or, slice_set, nat_lt, nat_le, Bool, true, false, ◌&&◌, ◌||◌, not, if◌then◌else◌, Option, None, Some, is_none}
+use Rattle.std.specs.Prelude.{ℕ, ◌+◌, List, [], ◌∷◌, ◌++◌, length, replicate, slice_index_or, slice_set, ◌==◌, nat_lt, nat_le, Bool, true, false, ◌&&◌, ◌||◌, not, if◌then◌else◌, Option, None, Some, is_none, is_some}
 use Rattle.std.specs.List.{fold, list_any}
 use Rattle.std.specs.Str.{bytes_eq}
 use Rattle.ta_isa.specs.declared.boot.App.{App}
@@ -10,7 +10,21 @@ use Rattle.trace_text.specs.declared.fault.BadKind.{BadKind}
 use Rattle.trace_text.specs.declared.fault.BadKind.TheVariants as bad
 use Rattle.trace_text.specs.declared.item.Item.{Item}
 use Rattle.trace_text.specs.declared.item.Item.TheVariants as item
+use Rattle.trace_text.specs.declared.trace.Fill.{Fill}
 use Rattle.trace_text.specs.declared.trace.Trace.{Trace}
+
+-- ---- what stands before
+
+-- the trace that the lines or records so far give, and whether a key is among them: a boot has one of zeros without it
+pub record Front : Type 0 where
+  pub boot : Option Boot
+  pub fills : List Fill
+  pub items : List Item
+  pub keyed : Bool
+
+-- the trace of all of them
+abbrev pub trace_in : Front → Trace
+trace_in front = record { boot = front.boot; fills = front.fills; items = front.items }
 
 -- ---- rules
 
@@ -21,9 +35,13 @@ first_broken (rule ∷ rules) = if rule.1 then first_broken rules else Some rule
 
 -- ---- what those before have set
 
--- the trace without a boot
-abbrev pub empty_trace : Trace
-empty_trace = record { boot = None; fills = []; items = [] }
+-- before the first of them
+abbrev pub no_front : Front
+no_front = record { boot = None; fills = []; items = []; keyed = false }
+
+-- the key of a boot without one
+abbrev pub no_key : List ℕ
+no_key = replicate 32 0
 
 -- how many processors there are
 abbrev pub cpus_of : Option Boot → ℕ
@@ -58,7 +76,7 @@ abbrev pub is_inside : List Item → ℕ → Bool
 is_inside items cpu = slice_index_or (inside_after items) cpu false
 
 -- the fault at the end of a trace, behind all that it is read from
-abbrev pub end_fault : Trace → Option BadKind
+abbrev pub end_fault : Front → Option BadKind
 end_fault before = if list_any (λ inside. inside) (inside_after before.items) then Some bad.Unended else None
 
 -- some application, in an image or built in, has this UUID
@@ -94,6 +112,15 @@ app_limits natives apps id image =
     ∷ (bad.Image, is_image image)
     ∷ []
 
+-- a key stands behind the boot, before all items, and once
+abbrev pub key_place : Front → List (BadKind × Bool)
+key_place before =
+    (bad.Place, is_some before.boot) ∷ (bad.Place, has_no_item before.items) ∷ (bad.Place, not before.keyed) ∷ []
+
+-- of a key of so many bytes
+abbrev pub key_limits : ℕ → List (BadKind × Bool)
+key_limits len = (bad.Range, len == 32) ∷ []
+
 -- of bytes that stand in every lane at the start
 abbrev pub fill_limits : ℕ → ℕ → List (BadKind × Bool)
 fill_limits addr len = (bad.Range, lies_in_ram addr len) ∷ []
@@ -124,9 +151,17 @@ goes_out items cpu = (bad.Inside, is_inside items cpu) ∷ []
 
 -- ---- what is added to a trace
 
-abbrev pub with_item : Trace → Item → Trace
+abbrev pub with_item : Front → Item → Front
 with_item before i = record before { items = before.items ++ i ∷ [] }
 
 abbrev pub with_app : Option Boot → App → Option Boot
 with_app None app = None
 with_app (Some boot) app = Some (record boot { apps = boot.apps ++ app ∷ [] })
+
+abbrev pub with_key : Option Boot → List ℕ → Option Boot
+with_key None key = None
+with_key (Some boot) key = Some (record boot { key = key })
+
+-- the boot has this key
+abbrev pub keyed_with : Front → List ℕ → Front
+keyed_with before key = record before { boot = with_key before.boot key; keyed = true }

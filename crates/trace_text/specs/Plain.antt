@@ -6,10 +6,9 @@ use Rattle.text_lines.specs.Lines.{IsCutAt, is_skipped}
 use Rattle.text_lines.specs.Words.{words_of}
 use Rattle.trace_text.specs.declared.item.Item.{Item}
 use Rattle.trace_text.specs.declared.item.Reg.{Reg}
-use Rattle.trace_text.specs.declared.trace.Trace.{Trace}
 use Rattle.trace_text.specs.Forms.{is_decimal, decimal, is_register, register}
 use Rattle.trace_text.specs.Judging.{item_cpu}
-use Rattle.trace_text.specs.Limits.{first_broken, with_item}
+use Rattle.trace_text.specs.Limits.{Front, first_broken, with_item}
 use Rattle.trace_text.specs.Reading.{are_digits}
 use Rattle.trace_text.specs.Rules.{after_line, counts, is_text_byte, line_rules}
 
@@ -53,7 +52,7 @@ pub record IsPlain (line : List ℕ) (cpu steps : ℕ) (regs : List Reg) : Type 
   pub regs_are : regs ≡ map register reg_words
 
 -- a line keeps its rules, and adds this item
-pub record AddsItem (before : Trace) (line : List ℕ) (item : Item) : Type 0 where
+pub record AddsItem (before : Front) (line : List ℕ) (item : Item) : Type 0 where
   pub kept : (natives : List (List ℕ)) → first_broken (line_rules natives before true line) ≡ None
   pub adds : after_line before line ≡ with_item before item
   pub few : item_cpu item < 8

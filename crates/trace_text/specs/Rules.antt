@@ -12,8 +12,7 @@ use Rattle.trace_text.specs.declared.item.Item.TheVariants as item
 use Rattle.trace_text.specs.declared.line_kind.LineKind.{LineKind}
 use Rattle.trace_text.specs.declared.line_kind.LineKind.TheVariants as kind
 use Rattle.trace_text.specs.declared.trace.Fill.{Fill}
-use Rattle.trace_text.specs.declared.trace.Trace.{Trace}
-use Rattle.trace_text.specs.Limits.{app_limits, apps_of, boot_limits, call_limits, comes_in, cpu_limits, cpus_of, fill_limits, goes_out, has_no_item, show_limits, with_app, with_item, write_limits}
+use Rattle.trace_text.specs.Limits.{Front, key_limits, key_place, keyed_with, no_key, app_limits, apps_of, boot_limits, call_limits, comes_in, cpu_limits, cpus_of, fill_limits, goes_out, has_no_item, show_limits, with_app, with_item, write_limits}
 use Rattle.trace_text.specs.Forms.{is_decimal, decimal, is_hexadecimal, hexadecimal, is_register, register, is_uuid, uuid, is_hex, bytes}
 use Rattle.text_lines.specs.Lines.{is_skipped}
 use Rattle.text_lines.specs.Words.{words_of}
@@ -26,6 +25,7 @@ line_table =
     (codes "boot", kind.Boot)
     ∷ (codes "ta", kind.Ta)
     ∷ (codes "mem", kind.Mem)
+    ∷ (codes "key", kind.Key)
     ∷ (codes "smc", kind.Smc)
     ∷ (codes "enter", kind.Enter)
     ∷ (codes "leave", kind.Leave)
@@ -46,6 +46,7 @@ abbrev pub words_behind : LineKind → ℕ
 words_behind kind.Boot = 3
 words_behind kind.Ta = 2
 words_behind kind.Mem = 2
+words_behind kind.Key = 1
 words_behind kind.Smc = 10
 words_behind kind.Enter = 10
 words_behind kind.Leave = 1
@@ -72,6 +73,9 @@ mem_rules addr hex =
     (bad.Number, is_hexadecimal 16 addr)
     ∷ (bad.Hex, is_hex hex)
     ∷ fill_limits (hexadecimal addr) (length (bytes hex))
+
+abbrev pub key_rules : List ℕ → List (BadKind × Bool)
+key_rules hex = (bad.Hex, is_hex hex) ∷ key_limits (length (bytes hex))
 
 -- of `smc` and `enter`, but for who is inside
 abbrev pub call_rules : ℕ → List ℕ → List ℕ → List (List ℕ) → List (BadKind × Bool)
@@ -100,7 +104,7 @@ show_rules cpus cpu addr len =
     ∷ show_limits cpus (decimal cpu) (hexadecimal addr) (decimal len)
 
 -- of `smc` and `enter`: a processor that is outside comes in
-abbrev pub entry_rules : Trace → List ℕ → List ℕ → List (List ℕ) → List (BadKind × Bool)
+abbrev pub entry_rules : Front → List ℕ → List ℕ → List (List ℕ) → List (BadKind × Bool)
 entry_rules before cpu steps regs =
     (bad.Place, is_some before.boot) ∷ call_rules (cpus_of before.boot) cpu steps regs ++ comes_in before.items (decimal cpu)
 
@@ -109,11 +113,12 @@ abbrev pub word : List (List ℕ) → ℕ → List ℕ
 word words n = slice_index_or words n []
 
 -- where a line of this kind may stand, and then the rules of its words
-unfoldable pub rules_behind : LineKind → List (List ℕ) → Trace → List (List ℕ) → List (BadKind × Bool)
+unfoldable pub rules_behind : LineKind → List (List ℕ) → Front → List (List ℕ) → List (BadKind × Bool)
 rules_behind kind.Boot natives before ws = (bad.Place, is_none before.boot) ∷ boot_rules (word ws 0) (word ws 1) (word ws 2)
 rules_behind kind.Ta natives before ws =
     (bad.Place, is_some before.boot) ∷ (bad.Place, has_no_item before.items) ∷ ta_rules natives (apps_of before.boot) (word ws 0) (word ws 1)
 rules_behind kind.Mem natives before ws = (bad.Place, is_some before.boot) ∷ (bad.Place, has_no_item before.items) ∷ mem_rules (word ws 0) (word ws 1)
+rules_behind kind.Key natives before ws = key_place before ++ key_rules (word ws 0)
 rules_behind kind.Smc natives before ws = entry_rules before (word ws 0) (word ws 1) (drop 2 ws)
 rules_behind kind.Enter natives before ws = entry_rules before (word ws 0) (word ws 1) (drop 2 ws)
 rules_behind kind.Leave natives before ws = (bad.Place, is_some before.boot) ∷ cpu_rules (cpus_of before.boot) (word ws 0) ++ goes_out before.items (decimal (word ws 0))
@@ -124,7 +129,7 @@ rules_behind kind.Show natives before ws = (bad.Place, is_some before.boot) ∷ 
 unfoldable pub counts : ℕ → List (List ℕ) → Bool
 counts behind words = (length words == behind + 1) && list_all (λ w. nat_lt 0 (length w)) words
 
-abbrev pub rules_of_kind : Option LineKind → List (List ℕ) → Trace → List (List ℕ) → List (BadKind × Bool)
+abbrev pub rules_of_kind : Option LineKind → List (List ℕ) → Front → List (List ℕ) → List (BadKind × Bool)
 rules_of_kind None natives before words = (bad.Item, false) ∷ []
 rules_of_kind (Some kind) natives before words = (bad.Count, counts (words_behind kind) words) ∷ rules_behind kind natives before (drop 1 words)
 
@@ -135,7 +140,7 @@ abbrev pub is_text_byte : ℕ → Bool
 is_text_byte byte = nat_le 32 byte && nat_le byte 126
 
 -- the rules of a line, given whether a line feed ends it
-unfoldable pub line_rules : List (List ℕ) → Trace → Bool → List ℕ → List (BadKind × Bool)
+unfoldable pub line_rules : List (List ℕ) → Front → Bool → List ℕ → List (BadKind × Bool)
 line_rules natives before ended line =
     (bad.Byte, list_all is_text_byte line)
     ∷ (bad.Cut, ended)
@@ -147,25 +152,26 @@ abbrev pub app_of : List ℕ → List ℕ → App
 app_of id image = record { uuid = uuid id; image = image_of (bytes image) }
 
 abbrev pub boot_of : List ℕ → List ℕ → List ℕ → Boot
-boot_of cpus threads frames = record { cpus = decimal cpus; threads = decimal threads; frames = decimal frames; apps = [] }
+boot_of cpus threads frames = record { cpus = decimal cpus; threads = decimal threads; frames = decimal frames; apps = []; key = no_key }
 
 abbrev pub fill_of : List ℕ → List ℕ → Fill
 fill_of addr hex = record { addr = hexadecimal addr; bytes = bytes hex }
 
-unfoldable pub added : LineKind → Trace → List (List ℕ) → Trace
+unfoldable pub added : LineKind → Front → List (List ℕ) → Front
 added kind.Boot before ws = record before { boot = Some (boot_of (word ws 0) (word ws 1) (word ws 2)) }
 added kind.Ta before ws = record before { boot = with_app before.boot (app_of (word ws 0) (word ws 1)) }
 added kind.Mem before ws = record before { fills = before.fills ++ fill_of (word ws 0) (word ws 1) ∷ [] }
+added kind.Key before ws = keyed_with before (bytes (word ws 0))
 added kind.Smc before ws = with_item before (item.Smc (decimal (word ws 0)) (decimal (word ws 1)) (map register (drop 2 ws)))
 added kind.Enter before ws = with_item before (item.Enter (decimal (word ws 0)) (decimal (word ws 1)) (map register (drop 2 ws)))
 added kind.Leave before ws = with_item before (item.Leave (decimal (word ws 0)))
 added kind.Write before ws = with_item before (item.Write (decimal (word ws 0)) (hexadecimal (word ws 1)) (bytes (word ws 2)))
 added kind.Show before ws = with_item before (item.Show (decimal (word ws 0)) (hexadecimal (word ws 1)) (decimal (word ws 2)))
 
-abbrev pub added_by_kind : Option LineKind → Trace → List (List ℕ) → Trace
+abbrev pub added_by_kind : Option LineKind → Front → List (List ℕ) → Front
 added_by_kind None before words = before
 added_by_kind (Some kind) before words = added kind before (drop 1 words)
 
 -- the trace that the lines before and this one spell
-unfoldable pub after_line : Trace → List ℕ → Trace
+unfoldable pub after_line : Front → List ℕ → Front
 after_line before line = if is_skipped line then before else added_by_kind (kind_named (word (words_of line) 0)) before (words_of line)

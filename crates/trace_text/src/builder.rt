@@ -3,11 +3,11 @@
 ghost use Rattle.std.specs.Prelude.{◌≡◌, ◌<◌, ◌≤◌, ◌++◌, ◌∷◌, [], is_some, length, true, false, IfSome, None, Some};
 ghost use Rattle.std.specs.List.{list_any};
 ghost use Rattle.trace_text.specs.Judging.{Ends, IsPut, Reads, booted, item_cpu};
-ghost use Rattle.trace_text.specs.Limits.{apps_of, cpus_of, empty_trace, end_fault, has_no_item, inside_after, is_inside, moved, with_app, with_item};
+ghost use Rattle.trace_text.specs.Limits.{apps_of, cpus_of, end_fault, has_no_item, inside_after, is_inside, keyed_with, moved, no_front, trace_in, with_app, with_item};
 
 use crate::fault::{BadKind, LineFault};
 use crate::item::Item;
-use crate::limits::{Size, boot_of};
+use crate::limits::{KEY_BYTES, Size, boot_of};
 use crate::trace::{Fill, Trace};
 use base::Sequence;
 use std::alloc::Global;
@@ -33,31 +33,34 @@ fn moved(mut inside: [bool; 8], item: &Item) -> [bool; 8]
 pub struct Builder {
     size: Option<Size>,
     apps: Vec<App>,
+    key: Option<[u8; KEY_BYTES]>,
     fills: Vec<Fill>,
     items: Vec<Item>,
     inside: [bool; 8],
 }
 
 impl Model for Builder {
-    ghost use Rattle.trace_text.specs.declared.trace.Trace.{Trace};
+    ghost use Rattle.std.specs.Prelude.{is_some};
     ghost use Rattle.trace_text.specs.Judging.{booted, IsTracked};
+    ghost use Rattle.trace_text.specs.Limits.{Front};
 
-    ghost Value = { Trace };
+    ghost Value = { Front };
 
-    ghost view = { λ r. record { boot = booted r.size r.apps.items; fills = r.fills.items; items = r.items.items } };
+    ghost view = { λ r. record { boot = booted r.size r.apps.items r.key; fills = r.fills.items; items = r.items.items; keyed = is_some r.key } };
 
-    ghost invariant = { λ r. IsTracked r.size r.apps.items r.items.items r.inside };
+    ghost invariant = { λ r. IsTracked r.size r.apps.items r.key r.items.items r.inside };
 }
 
 impl Builder {
     /// Before the first of them.
     #[tactic(auto, unfolding(crate::specs::Limits::inside_after))]
     pub fn new(alloc: Global) -> Builder
-        ensures { result ≡ empty_trace }
+        ensures { result ≡ no_front }
     {
         Builder {
             size: None,
             apps: Vec::new(alloc),
+            key: None,
             fills: Vec::new(alloc),
             items: Vec::new(alloc),
             inside: [false; 8],
@@ -66,17 +69,18 @@ impl Builder {
 
     /// The trace of all of them.
     fn into_trace(self) -> Trace
-        ensures { result ≡ self }
+        ensures { result ≡ trace_in self }
     {
         let Builder {
             size,
             apps,
+            key,
             fills,
             items,
             inside: _,
         } = self;
         Trace {
-            boot: boot_of(size, apps),
+            boot: boot_of(size, apps, key),
             fills: Sequence::of(fills),
             items: Sequence::of(items),
         }
@@ -130,7 +134,7 @@ impl Builder {
     pub fn set_size(&mut self, size: Size)
         requires first { is_some self.old.boot ≡ false }
         requires few { size.cpus ≤ 8 }
-        ensures { self.new ≡ record self.old { boot = booted (Some size) [] } }
+        ensures { self.new ≡ record self.old { boot = booted (Some size) [] None } }
     {
         self.size = Some(size);
     }
@@ -142,6 +146,23 @@ impl Builder {
     {
         self.apps.push(app)?;
         Ok(())
+    }
+
+    /// Whether the key is there.
+    pub fn has_key(&self) -> bool
+        ensures { result ≡ self.now.keyed }
+    {
+        self.key.is_some()
+    }
+
+    /// Sets the key of the boot.
+    #[tactic(auto, using(crate::proofs::Keys::with_key_booted, crate::proofs::Keys::is_none_booted))]
+    pub fn set_key(&mut self, key: [u8; KEY_BYTES])
+        requires boot { is_some self.old.boot ≡ true }
+        requires first { self.old.keyed ≡ false }
+        ensures { self.new ≡ keyed_with self.old key }
+    {
+        self.key = Some(key);
     }
 
     /// Adds bytes that stand in every lane at the start.

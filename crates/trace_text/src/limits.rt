@@ -23,7 +23,10 @@ pub const MAX_STEPS: u32 = 1_000_000;
 /// The bytes of a lane that an item may show.
 pub const MAX_SHOWN: u32 = 4096;
 
-/// What a boot says but for its applications.
+/// The bytes of a key.
+pub const KEY_BYTES: usize = 32;
+
+/// What a boot says but for its applications and its key.
 #[derive(Clone, Copy, Debug, Drop)]
 pub struct Size {
     pub cpus: u8,
@@ -31,9 +34,9 @@ pub struct Size {
     pub frames: u16,
 }
 
-/// What a core is booted with.
-pub fn boot_of(size: Option<Size>, apps: Vec<App>) -> Option<Boot>
-    ensures { result ≡ booted size apps.items }
+/// What a core is booted with. Without a key it is one of zeros.
+pub fn boot_of(size: Option<Size>, apps: Vec<App>, key: Option<[u8; KEY_BYTES]>) -> Option<Boot>
+    ensures { result ≡ booted size apps.items key }
 {
     let Size {
         cpus,
@@ -45,6 +48,7 @@ pub fn boot_of(size: Option<Size>, apps: Vec<App>) -> Option<Boot>
         threads,
         frames,
         apps: Sequence::of(apps),
+        key: key.unwrap_or([0; KEY_BYTES]),
     })
 }
 

@@ -7,6 +7,7 @@ pub enum LineKind {
     Boot,
     Ta,
     Mem,
+    Key,
     Smc,
     Enter,
     Leave,
@@ -15,10 +16,11 @@ pub enum LineKind {
 }
 
 /// The first word of each kind of line.
-const LINES: [(&[u8], LineKind); 8] = [
+const LINES: [(&[u8], LineKind); 9] = [
     (b"boot", LineKind::Boot),
     (b"ta", LineKind::Ta),
     (b"mem", LineKind::Mem),
+    (b"key", LineKind::Key),
     (b"smc", LineKind::Smc),
     (b"enter", LineKind::Enter),
     (b"leave", LineKind::Leave),
@@ -55,7 +57,7 @@ impl LineKind {
             LineKind::Boot | LineKind::Write | LineKind::Show => 3,
             LineKind::Ta | LineKind::Mem => 2,
             LineKind::Smc | LineKind::Enter => 10,
-            LineKind::Leave => 1,
+            LineKind::Key | LineKind::Leave => 1,
         }
     }
 }

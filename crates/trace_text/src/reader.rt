@@ -4,9 +4,9 @@ ghost use Rattle.std.specs.Prelude.{◌≡◌, ℕ, ◌<◌, ◌++◌, ◌∷◌
 ghost use Rattle.trace_text.specs.Forms.{bytes, decimal, hexadecimal, register};
 ghost use Rattle.trace_text.specs.Grammar.{piece_fault};
 ghost use Rattle.trace_text.specs.Judging.{Ends, IsTaken, Judged};
-ghost use Rattle.trace_text.specs.Limits.{apps_of, cpus_of, goes_out, has_no_item, with_app, with_item};
+ghost use Rattle.trace_text.specs.Limits.{apps_of, cpus_of, goes_out, has_no_item, key_place, keyed_with, with_app, with_item};
 ghost use Rattle.trace_text.specs.Plain.{AddsItem};
-ghost use Rattle.trace_text.specs.Rules.{added, after_line, app_of, boot_of, boot_rules, cpu_rules, entry_rules, fill_of, line_rules, mem_rules, rules_behind, show_rules, ta_rules, words_behind, write_rules};
+ghost use Rattle.trace_text.specs.Rules.{added, after_line, app_of, boot_of, boot_rules, cpu_rules, entry_rules, fill_of, key_rules, line_rules, mem_rules, rules_behind, show_rules, ta_rules, words_behind, write_rules};
 ghost use Rattle.trace_text.specs.declared.item.Item.TheVariants as item;
 
 use crate::builder::Builder;
@@ -15,7 +15,7 @@ use crate::item::Item;
 use crate::line::{has_words, is_text};
 use crate::line_kind::LineKind;
 use crate::plain::plain_call;
-use crate::said::{Call, app_of, call_of, cpu_of, fill_of, show_of, size_of, write_of};
+use crate::said::{Call, app_of, call_of, cpu_of, fill_of, key_of, show_of, size_of, write_of};
 use crate::trace::Trace;
 use std::alloc::Global;
 use text_lines::{Words, is_skipped};
@@ -71,6 +71,22 @@ impl Builder {
         }
         let fill = fill_of(alloc, addr, hex)?;
         self.push_fill(fill)
+    }
+
+    /// A line `key`, by its word.
+    fn take_key(&mut self, alloc: Global, hex: &[u8]) -> Result<(), LineFault>
+        ensures { IsTaken result (key_place self.old ++ key_rules hex.now)
+            (keyed_with self.old (bytes hex.now)) self.new }
+    {
+        if self.cpus().is_none() {
+            return Err(LineFault::Broken(BadKind::Place));
+        }
+        if !self.has_no_item() || self.has_key() {
+            return Err(LineFault::Broken(BadKind::Place));
+        }
+        let key = key_of(alloc, hex)?;
+        self.set_key(key);
+        Ok(())
     }
 
     /// What a line `smc` or `enter` says, by its words.
@@ -175,6 +191,7 @@ impl Builder {
             LineKind::Boot => self.take_boot(words.word(), words.word(), words.word()),
             LineKind::Ta => self.take_ta(alloc, natives, words.word(), words.word()),
             LineKind::Mem => self.take_mem(alloc, words.word(), words.word()),
+            LineKind::Key => self.take_key(alloc, words.word()),
             LineKind::Smc => self.take_smc(words.word(), words.word(), words),
             LineKind::Enter => self.take_enter(words.word(), words.word(), words),
             LineKind::Leave => self.take_leave(words.word()),

@@ -4,13 +4,14 @@ ghost use Rattle.std.specs.Prelude.{◌≡◌, ◌<◌, ◌≤◌, length, map, 
 ghost use Rattle.std.specs.List.{list_all};
 ghost use Rattle.trace_text.specs.Forms.{bytes, decimal, hexadecimal, is_register, register};
 ghost use Rattle.trace_text.specs.Judging.{Judged, Reads, item_cpu};
-ghost use Rattle.trace_text.specs.Rules.{app_of, boot_rules, call_rules, cpu_rules, fill_of, mem_rules, show_rules, ta_rules, write_rules};
+ghost use Rattle.trace_text.specs.Rules.{app_of, boot_rules, call_rules, cpu_rules, fill_of, key_rules, mem_rules, show_rules, ta_rules, write_rules};
 ghost use Rattle.trace_text.specs.declared.item.Item.TheVariants as item;
 
 use crate::fault::{BadKind, LineFault};
 use crate::item::{Item, Reg};
 use crate::limits::{
-    MAX_APPS, MAX_SHOWN, MAX_STEPS, Size, image_of, is_known, is_there, is_within, lies_in_ram,
+    KEY_BYTES, MAX_APPS, MAX_SHOWN, MAX_STEPS, Size, image_of, is_known, is_there, is_within,
+    lies_in_ram,
 };
 use crate::trace::Fill;
 use crate::word::{address, any_register, bytes, number, uuid};
@@ -90,6 +91,19 @@ pub fn fill_of(alloc: Global, addr: &[u8], hex: &[u8]) -> Result<Fill, LineFault
         addr,
         bytes: Sequence::of(bytes),
     })
+}
+
+/// Reads the word of a line `key`.
+pub fn key_of(alloc: Global, hex: &[u8]) -> Result<[u8; KEY_BYTES], LineFault>
+    ensures { Judged (λ k. k) result (key_rules hex.now) (bytes hex.now) }
+{
+    let bytes = bytes(alloc, hex)?;
+    if bytes.len() != KEY_BYTES {
+        return Err(LineFault::Broken(BadKind::Range));
+    }
+    let mut key = [0; KEY_BYTES];
+    key.copy_from_slice(bytes.as_slice());
+    Ok(key)
 }
 
 /// Reads the eight registers of a line.

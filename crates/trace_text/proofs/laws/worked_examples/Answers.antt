@@ -6,9 +6,9 @@ use Rattle.uuid.specs.Text.{by_index}
 use Rattle.trace_text.specs.declared.fault.BadKind.TheVariants as bad
 use Rattle.trace_text.specs.Forms.{is_decimal, decimal, is_hexadecimal, hexadecimal, is_last, is_register, register, is_uuid, uuid, is_hex, bytes}
 use Rattle.trace_text.specs.Grammar.{piece_fault}
-use Rattle.trace_text.specs.Examples.{boot_line, enter_line, small_trace, text_of}
+use Rattle.trace_text.specs.Examples.{boot_line, enter_line, key_line, keyed_trace, small_trace, text_of}
 use Rattle.trace_text.specs.Judging.{read_pieces}
-use Rattle.trace_text.specs.Limits.{empty_trace, inside_after, lies_in_ram}
+use Rattle.trace_text.specs.Limits.{inside_after, lies_in_ram, no_front, trace_in}
 use Rattle.text_lines.specs.Lines.{is_skipped}
 use Rattle.trace_text.specs.Rules.{added, after_line, counts, kind_named, line_rules, rules_behind}
 use Rattle.trace_text.proofs.GrammarLaws.{first_fault_read, spelled_read}
@@ -39,8 +39,13 @@ returns c = record {
   past_ram = refl;
   comment = refl;
   inside = refl;
-  nothing = spelled_read [] [] empty_trace refl;
+  nothing = spelled_read [] [] (trace_in no_front) refl;
   small = spelled_read [] small_text small_trace refl;
+  keyed = spelled_read [] (text_of (boot_line ∷ key_line ∷ [])) keyed_trace refl;
+  second_key = first_fault_read [] (text_of (boot_line ∷ key_line ∷ key_line ∷ [])) 3 bad.Place refl;
+  key_before_boot = first_fault_read [] (text_of (key_line ∷ [])) 1 bad.Place refl;
+  key_behind_item = first_fault_read [] (text_of (boot_line ∷ enter_line ∷ key_line ∷ [])) 3 bad.Place refl;
+  short_key = first_fault_read [] (text_of (boot_line ∷ codes "key 0707" ∷ [])) 2 bad.Range refl;
   early = first_fault_read [] (text_of (codes "leave 1" ∷ [])) 1 bad.Place refl;
   second_boot = first_fault_read [] (text_of (boot_line ∷ boot_line ∷ [])) 2 bad.Place refl;
   two_spaces = first_fault_read [] (text_of (codes "boot 1  1 1" ∷ [])) 1 bad.Count refl;
@@ -48,7 +53,7 @@ returns c = record {
   range_before_cpu = first_fault_read [] (text_of (boot_line ∷ codes "show 2 40000000 0" ∷ [])) 2 bad.Range refl;
   twice_inside = first_fault_read [] (text_of (boot_line ∷ enter_line ∷ enter_line ∷ [])) 3 bad.Inside refl;
   within_limits = IsSound-spelled [] small_text small_trace (spelled_read [] small_text small_trace refl);
-  empty_within_limits = IsSound-spelled [] [] empty_trace (spelled_read [] [] empty_trace refl);
+  empty_within_limits = IsSound-spelled [] [] (trace_in no_front) (spelled_read [] [] (trace_in no_front) refl);
   nine_processors = λ b. absurd (omega (arith, b.boots.few_processors));
   no_bytes = λ p. absurd (omega (arith, p.some));
   above_ram = λ p. absurd (omega (arith, p.in_ram.1));
