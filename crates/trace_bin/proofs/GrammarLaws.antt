@@ -7,7 +7,7 @@ use Rattle.trace_text.specs.declared.fault.LineFault.TheVariants.{Broken, NoRoom
 use Rattle.trace_text.specs.declared.fault.TraceFault.{TraceFault}
 use Rattle.trace_text.specs.declared.fault.TraceFault.TheVariants.{Bad, Memory}
 use Rattle.trace_text.specs.declared.trace.Trace.{Trace}
-use Rattle.trace_text.specs.Limits.{empty_trace, end_fault, first_broken}
+use Rattle.trace_text.specs.Limits.{Front, no_front, end_fault, first_broken, trace_in}
 use Rattle.trace_text.specs.Judging.{placed}
 use Rattle.trace_bin.specs.declared.record_kind.RecordKind.{RecordKind}
 use Rattle.trace_bin.specs.Record.{body_len, kind_tagged}
@@ -19,40 +19,40 @@ use Rattle.trace_bin.specs.Taking.{IsRefused}
 use Rattle.trace_bin.specs.Grammar.{AllBytes, fault_at, IsFaultBehind, IsFaultOf, IsFirstFault, Leads, magic_fault, Spells}
 
 -- the fault of a record is that of equal bytes behind an equal trace
-same_fault : (natives : List (List ℕ)) (one other : Trace) (bytes others : List ℕ) → one ≡ other → bytes ≡ others → first_broken (record_rules natives one bytes) ≡ first_broken (record_rules natives other others)
+same_fault : (natives : List (List ℕ)) (one other : Front) (bytes others : List ℕ) → one ≡ other → bytes ≡ others → first_broken (record_rules natives one bytes) ≡ first_broken (record_rules natives other others)
 same_fault natives one other bytes others same is =
-    ap (λ (t : Trace). first_broken (record_rules natives t bytes)) same ∙ ap (λ (b : List ℕ). first_broken (record_rules natives other b)) is
+    ap (λ (t : Front). first_broken (record_rules natives t bytes)) same ∙ ap (λ (b : List ℕ). first_broken (record_rules natives other b)) is
 
 -- one more record
-pub leads_one : (natives : List (List ℕ)) (before : Trace) (bytes : List ℕ) (count : ℕ) (after : Trace) (rest : List ℕ) → Leads natives before bytes count after rest → first_broken (record_rules natives after rest) ≡ None
+pub leads_one : (natives : List (List ℕ)) (before : Front) (bytes : List ℕ) (count : ℕ) (after : Front) (rest : List ℕ) → Leads natives before bytes count after rest → first_broken (record_rules natives after rest) ≡ None
     → Leads natives before bytes (suc count) (after_record after rest) (behind_record rest)
 leads_one natives before bytes zero after rest (same, is) kept = (
   same_fault natives before after bytes rest same is ∙ kept,
-  (ap (λ (t : Trace). after_record t bytes) same ∙ ap (λ (b : List ℕ). after_record after b) is, ap behind_record is),
+  (ap (λ (t : Front). after_record t bytes) same ∙ ap (λ (b : List ℕ). after_record after b) is, ap behind_record is),
 )
 leads_one natives before bytes (suc count) after rest (first, more) kept =
     (first, leads_one natives (after_record before bytes) (behind_record bytes) count after rest more kept)
 
 -- no record that keeps its rules stands here
-abbrev Stops : List (List ℕ) → Trace → List ℕ → Type 0
+abbrev Stops : List (List ℕ) → Front → List ℕ → Type 0
 Stops natives before [] = Unit {0}
 Stops natives before (b ∷ bytes) = (kind : BadKind) × (first_broken (record_rules natives before (b ∷ bytes)) ≡ Some kind)
 
-at_fault : (natives : List (List ℕ)) (before : Trace) (rest : List ℕ) (kind : BadKind) → fault_at natives before rest ≡ Some kind → Stops natives before rest
+at_fault : (natives : List (List ℕ)) (before : Front) (rest : List ℕ) (kind : BadKind) → fault_at natives before rest ≡ Some kind → Stops natives before rest
 at_fault natives before [] kind e = tt
 at_fault natives before (b ∷ bytes) kind e = (kind, e)
 
-none_kept : (natives : List (List ℕ)) (before : Trace) (rest : List ℕ) → Stops natives before rest → first_broken (record_rules natives before rest) ≡ None → ⊥
+none_kept : (natives : List (List ℕ)) (before : Front) (rest : List ℕ) → Stops natives before rest → first_broken (record_rules natives before rest) ≡ None → ⊥
 unfolding record_rules kind_tagged
 none_kept natives before [] stop kept = absurd cc
 none_kept natives before (b ∷ bytes) (kind, fault) kept = let both : Some kind ≡ None = sym fault ∙ kept in absurd cc
 
-record SameEnd (n m : ℕ) (one other : Trace) (rest others : List ℕ) : Type 0 where
+record SameEnd (n m : ℕ) (one other : Front) (rest others : List ℕ) : Type 0 where
   count : n ≡ m
   trace : one ≡ other
   bytes : rest ≡ others
 
-same_end : (natives : List (List ℕ)) (before : Trace) (bytes : List ℕ) (n m : ℕ) (one other : Trace) (rest others : List ℕ) → Leads natives before bytes n one rest → Leads natives before bytes m other others → Stops natives one rest → Stops natives other others
+same_end : (natives : List (List ℕ)) (before : Front) (bytes : List ℕ) (n m : ℕ) (one other : Front) (rest others : List ℕ) → Leads natives before bytes n one rest → Leads natives before bytes m other others → Stops natives one rest → Stops natives other others
     → SameEnd n m one other rest others
 same_end natives before bytes zero zero one other rest others (a, b) (c, d) stop stops = record { count = refl; trace = sym a ∙ c; bytes = sym b ∙ d }
 same_end natives before bytes zero (suc m) one other rest others (a, b) (kept, more) stop stops =
@@ -64,12 +64,14 @@ same_end natives before bytes (suc n) (suc m) one other rest others (kept, more)
     record { count = ap (λ (k : ℕ). suc k) end.count; trace = end.trace; bytes = end.bytes }
 
 pub one_trace : (natives : List (List ℕ)) (bytes : List ℕ) (one other : Trace) → Spells natives bytes one → Spells natives bytes other → one ≡ other
-one_trace natives bytes one other s t = (same_end natives empty_trace (drop 4 bytes) s.count t.count one other [] [] s.spelled t.spelled tt tt).trace
+one_trace natives bytes one other s t =
+    let end = same_end natives no_front (drop 4 bytes) s.count t.count s.end t.end [] [] s.spelled t.spelled tt tt in
+    sym s.trace_is ∙ ap (λ (f : Front). trace_in f) end.trace ∙ t.trace_is
 
 behind_one : (natives : List (List ℕ)) (bytes : List ℕ) (place : ℕ) (kind : BadKind) (other_place : ℕ) (other_kind : BadKind) → IsFaultBehind natives bytes place kind → IsFaultBehind natives bytes other_place other_kind → (place ≡ other_place) × (kind ≡ other_kind)
 behind_one natives bytes place kind other_place other_kind s t =
-    let end = same_end natives empty_trace (drop 4 bytes) s.count t.count s.before t.before s.rest t.rest s.kept t.kept (at_fault natives s.before s.rest kind s.fault) (at_fault natives t.before t.rest other_kind t.fault) in
-    let both : Some kind ≡ Some other_kind = sym s.fault ∙ ap (λ (b : Trace). fault_at natives b s.rest) end.trace ∙ ap (λ (r : List ℕ). fault_at natives t.before r) end.bytes ∙ t.fault in
+    let end = same_end natives no_front (drop 4 bytes) s.count t.count s.before t.before s.rest t.rest s.kept t.kept (at_fault natives s.before s.rest kind s.fault) (at_fault natives t.before t.rest other_kind t.fault) in
+    let both : Some kind ≡ Some other_kind = sym s.fault ∙ ap (λ (b : Front). fault_at natives b s.rest) end.trace ∙ ap (λ (r : List ℕ). fault_at natives t.before r) end.bytes ∙ t.fault in
     (s.place_is ∙ ap (λ (k : ℕ). k + 1) end.count ∙ sym t.place_is, cc)
 
 pub one_fault : (natives : List (List ℕ)) (bytes : List ℕ) (place : ℕ) (kind : BadKind) (other_place : ℕ) (other_kind : BadKind) → IsFirstFault natives bytes place kind → IsFirstFault natives bytes other_place other_kind → (place ≡ other_place) × (kind ≡ other_kind)
@@ -81,8 +83,8 @@ one_fault natives bytes place kind other_place other_kind (inr s) (inr t) = behi
 pub not_both : (natives : List (List ℕ)) (bytes : List ℕ) (trace : Trace) (place : ℕ) (kind : BadKind) → Spells natives bytes trace → IsFirstFault natives bytes place kind → ⊥
 not_both natives bytes trace place kind s (inl (a, m)) = let both : Some kind ≡ None = sym m ∙ s.begins in absurd cc
 not_both natives bytes trace place kind s (inr t) =
-    let end = same_end natives empty_trace (drop 4 bytes) s.count t.count trace t.before [] t.rest s.spelled t.kept tt (at_fault natives t.before t.rest kind t.fault) in
-    let both : None ≡ Some kind = sym s.no_end_fault ∙ ap (λ (b : Trace). fault_at natives b []) end.trace ∙ ap (λ (r : List ℕ). fault_at natives t.before r) end.bytes ∙ t.fault in
+    let end = same_end natives no_front (drop 4 bytes) s.count t.count s.end t.before [] t.rest s.spelled t.kept tt (at_fault natives t.before t.rest kind t.fault) in
+    let both : None ≡ Some kind = sym s.no_end_fault ∙ ap (λ (b : Front). fault_at natives b []) end.trace ∙ ap (λ (r : List ℕ). fault_at natives t.before r) end.bytes ∙ t.fault in
     absurd cc
 
 -- ---- every list of bytes
@@ -101,23 +103,23 @@ abbrev HasMeaning : List (List ℕ) → List ℕ → Type 0
 HasMeaning natives bytes = ((trace : Trace) × Spells natives bytes trace) ⊎ ((place : ℕ) × (kind : BadKind) × IsFirstFault natives bytes place kind)
 
 -- some records keep their rules, and this is the fault of what stands behind them
-faulty : (natives : List (List ℕ)) (bytes : List ℕ) (count : ℕ) (before : Trace) (rest : List ℕ) (kind : BadKind) → magic_fault bytes ≡ None → Leads natives empty_trace (drop 4 bytes) count before rest → fault_at natives before rest ≡ Some kind
+faulty : (natives : List (List ℕ)) (bytes : List ℕ) (count : ℕ) (before : Front) (rest : List ℕ) (kind : BadKind) → magic_fault bytes ≡ None → Leads natives no_front (drop 4 bytes) count before rest → fault_at natives before rest ≡ Some kind
     → HasMeaning natives bytes
 faulty natives bytes count before rest kind begins kept fault =
     inr (count + 1, kind, inr (record { begins = begins; count = count; before = before; rest = rest; kept = kept; place_is = refl; fault = fault }))
 
 -- nothing stands behind them
-at_end : (natives : List (List ℕ)) (bytes : List ℕ) (count : ℕ) (before : Trace) (end : Option BadKind) → magic_fault bytes ≡ None → Leads natives empty_trace (drop 4 bytes) count before [] → end_fault before ≡ end → HasMeaning natives bytes
-at_end natives bytes count before None begins kept fine = inl (before, record { begins = begins; count = count; spelled = kept; no_end_fault = fine })
+at_end : (natives : List (List ℕ)) (bytes : List ℕ) (count : ℕ) (before : Front) (end : Option BadKind) → magic_fault bytes ≡ None → Leads natives no_front (drop 4 bytes) count before [] → end_fault before ≡ end → HasMeaning natives bytes
+at_end natives bytes count before None begins kept fine = inl (trace_in before, record { begins = begins; count = count; end = before; spelled = kept; trace_is = refl; no_end_fault = fine })
 at_end natives bytes count before (Some kind) begins kept fault = faulty natives bytes count before [] kind begins kept fault
 
 -- the records from here on, of which there are at most as many as bytes
-from_here : (natives : List (List ℕ)) (bytes : List ℕ) (most count : ℕ) (before : Trace) (rest : List ℕ) → length rest ≤ most → magic_fault bytes ≡ None → Leads natives empty_trace (drop 4 bytes) count before rest → HasMeaning natives bytes
+from_here : (natives : List (List ℕ)) (bytes : List ℕ) (most count : ℕ) (before : Front) (rest : List ℕ) → length rest ≤ most → magic_fault bytes ≡ None → Leads natives no_front (drop 4 bytes) count before rest → HasMeaning natives bytes
 from_here natives bytes most count before [] few begins kept = at_end natives bytes count before (end_fault before) begins kept refl
 from_here natives bytes zero count before (b ∷ rest) few begins kept = absurd (omega arith)
 from_here natives bytes (suc most) count before (b ∷ rest) few begins kept =
     by_rules (λ fine. from_here natives bytes most (suc count) (after_record before (b ∷ rest)) (behind_record (b ∷ rest)) (omega (arith, shorter b rest)) begins
-    (leads_one natives empty_trace (drop 4 bytes) count before (b ∷ rest) kept fine))
+    (leads_one natives no_front (drop 4 bytes) count before (b ∷ rest) kept fine))
     (first_broken (record_rules natives before (b ∷ rest))) refl
   where
     by_rules : (first_broken (record_rules natives before (b ∷ rest)) ≡ None → HasMeaning natives bytes) → (broken : Option BadKind)
@@ -126,7 +128,7 @@ from_here natives bytes (suc most) count before (b ∷ rest) few begins kept =
     by_rules onward (Some kind) fault = faulty natives bytes count before (b ∷ rest) kind begins kept fault
 
 by_magic : (natives : List (List ℕ)) (bytes : List ℕ) (fault : Option BadKind) → magic_fault bytes ≡ fault → HasMeaning natives bytes
-by_magic natives bytes None begins = from_here natives bytes (length (drop 4 bytes)) 0 empty_trace (drop 4 bytes) (omega arith) begins (refl, refl)
+by_magic natives bytes None begins = from_here natives bytes (length (drop 4 bytes)) 0 no_front (drop 4 bytes) (omega arith) begins (refl, refl)
 by_magic natives bytes (Some kind) fault = inr (0, kind, inl (refl, fault))
 
 pub meaning : AllBytes
@@ -183,21 +185,21 @@ clauses natives bytes result fit answer = record {
 -- ---- the loop
 
 -- so many records less one keep their rules, and the next place is that of what stands behind them
-pub goes_on : (natives : List (List ℕ)) (bytes : List ℕ) (place : ℕ) (before after : Trace) (rest behind : List ℕ) → 1 ≤ place → Leads natives empty_trace (drop 4 bytes) (place - 1) before rest
-    → first_broken (record_rules natives before rest) ≡ None → after ≡ after_record before rest → behind ≡ behind_record rest → Leads natives empty_trace (drop 4 bytes) (place + 1 - 1) after behind
+pub goes_on : (natives : List (List ℕ)) (bytes : List ℕ) (place : ℕ) (before after : Front) (rest behind : List ℕ) → 1 ≤ place → Leads natives no_front (drop 4 bytes) (place - 1) before rest
+    → first_broken (record_rules natives before rest) ≡ None → after ≡ after_record before rest → behind ≡ behind_record rest → Leads natives no_front (drop 4 bytes) (place + 1 - 1) after behind
 goes_on natives bytes place before after rest behind some so_far kept added cut =
-    let C : ℕ → Type 0 = λ n. Leads natives empty_trace (drop 4 bytes) n after behind in
-    let T : Trace → Type 0 = λ t. Leads natives empty_trace (drop 4 bytes) (suc (place - 1)) t behind in
-    let B : List ℕ → Type 0 = λ b. Leads natives empty_trace (drop 4 bytes) (suc (place - 1)) (after_record before rest) b in
+    let C : ℕ → Type 0 = λ n. Leads natives no_front (drop 4 bytes) n after behind in
+    let T : Front → Type 0 = λ t. Leads natives no_front (drop 4 bytes) (suc (place - 1)) t behind in
+    let B : List ℕ → Type 0 = λ b. Leads natives no_front (drop 4 bytes) (suc (place - 1)) (after_record before rest) b in
     let next : suc (place - 1) ≡ place + 1 - 1 = omega arith in
-    subst C next (subst T (sym added) (subst B (sym cut) (leads_one natives empty_trace (drop 4 bytes) (place - 1) before rest so_far kept)))
+    subst C next (subst T (sym added) (subst B (sym cut) (leads_one natives no_front (drop 4 bytes) (place - 1) before rest so_far kept)))
 
-record_fault : (natives : List (List ℕ)) (before : Trace) (rest : List ℕ) (kind : BadKind) → 0 < length rest → first_broken (record_rules natives before rest) ≡ Some kind → fault_at natives before rest ≡ Some kind
+record_fault : (natives : List (List ℕ)) (before : Front) (rest : List ℕ) (kind : BadKind) → 0 < length rest → first_broken (record_rules natives before rest) ≡ Some kind → fault_at natives before rest ≡ Some kind
 record_fault natives before [] kind some e = absurd (omega arith)
 record_fault natives before (b ∷ bytes) kind some e = e
 
 -- a record has a fault, or memory ran out
-pub stops : (natives : List (List ℕ)) (bytes : List ℕ) (place : ℕ) (before : Trace) (rest : List ℕ) (fault : LineFault) → magic_fault bytes ≡ None → 1 ≤ place → 0 < length rest → Leads natives empty_trace (drop 4 bytes) (place - 1) before rest
+pub stops : (natives : List (List ℕ)) (bytes : List ℕ) (place : ℕ) (before : Front) (rest : List ℕ) (fault : LineFault) → magic_fault bytes ≡ None → 1 ≤ place → 0 < length rest → Leads natives no_front (drop 4 bytes) (place - 1) before rest
     → IsRefused fault (record_rules natives before rest) → IsAnswer natives bytes (Err (placed place fault))
 stops natives bytes place before rest (Broken kind) begins some more so_far broken =
     let at : place ≡ place - 1 + 1 = omega arith in
@@ -205,13 +207,13 @@ stops natives bytes place before rest (Broken kind) begins some more so_far brok
 stops natives bytes place before rest NoRoom begins some more so_far broken = tt
 
 -- no record is left
-pub ends : (natives : List (List ℕ)) (bytes : List ℕ) (place : ℕ) (before : Trace) (rest : List ℕ) → magic_fault bytes ≡ None → rest ≡ [] → Leads natives empty_trace (drop 4 bytes) (place - 1) before rest → end_fault before ≡ None → Spells natives bytes before
+pub ends : (natives : List (List ℕ)) (bytes : List ℕ) (place : ℕ) (before : Front) (rest : List ℕ) → magic_fault bytes ≡ None → rest ≡ [] → Leads natives no_front (drop 4 bytes) (place - 1) before rest → end_fault before ≡ None → Spells natives bytes (trace_in before)
 ends natives bytes place before rest begins none so_far fine =
-    let B : List ℕ → Type 0 = λ b. Leads natives empty_trace (drop 4 bytes) (place - 1) before b in
-    record { begins = begins; count = place - 1; spelled = subst B none so_far; no_end_fault = fine }
+    let B : List ℕ → Type 0 = λ b. Leads natives no_front (drop 4 bytes) (place - 1) before b in
+    record { begins = begins; count = place - 1; end = before; spelled = subst B none so_far; trace_is = refl; no_end_fault = fine }
 
 -- none is left, and a processor is inside
-pub ends_badly : (natives : List (List ℕ)) (bytes : List ℕ) (place : ℕ) (before : Trace) (rest : List ℕ) (kind : BadKind) → magic_fault bytes ≡ None → 1 ≤ place → rest ≡ [] → Leads natives empty_trace (drop 4 bytes) (place - 1) before rest → end_fault before ≡ Some kind
+pub ends_badly : (natives : List (List ℕ)) (bytes : List ℕ) (place : ℕ) (before : Front) (rest : List ℕ) (kind : BadKind) → magic_fault bytes ≡ None → 1 ≤ place → rest ≡ [] → Leads natives no_front (drop 4 bytes) (place - 1) before rest → end_fault before ≡ Some kind
     → IsFirstFault natives bytes place kind
 ends_badly natives bytes place before rest kind begins some none so_far fault =
     let at : place ≡ place - 1 + 1 = omega arith in

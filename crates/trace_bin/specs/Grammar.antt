@@ -6,7 +6,7 @@ use Rattle.trace_text.specs.declared.fault.BadKind.TheVariants as bad
 use Rattle.trace_text.specs.declared.fault.TraceFault.{TraceFault}
 use Rattle.trace_text.specs.declared.fault.TraceFault.TheVariants.{Bad, Memory}
 use Rattle.trace_text.specs.declared.trace.Trace.{Trace}
-use Rattle.trace_text.specs.Limits.{empty_trace, end_fault, first_broken}
+use Rattle.trace_text.specs.Limits.{Front, no_front, trace_in, end_fault, first_broken}
 use Rattle.trace_bin.specs.Rules.{after_record, behind_record, record_rules}
 
 -- `OTTB`
@@ -24,13 +24,13 @@ abbrev pub magic_fault : List ℕ → Option BadKind
 magic_fault bytes = front_fault magic bytes
 
 -- so many records at the front of these bytes keep every rule and lead from one trace to another, and the rest stands behind them
-abbrev pub Leads : List (List ℕ) → Trace → List ℕ → ℕ → Trace → List ℕ → Type 0
+abbrev pub Leads : List (List ℕ) → Front → List ℕ → ℕ → Front → List ℕ → Type 0
 Leads natives before bytes zero after rest = (before ≡ after) × (bytes ≡ rest)
 Leads natives before bytes (suc count) after rest =
     (first_broken (record_rules natives before bytes) ≡ None) × Leads natives (after_record before bytes) (behind_record bytes) count after rest
 
 -- the fault of what stands behind such records: of the end, or of a record
-abbrev pub fault_at : List (List ℕ) → Trace → List ℕ → Option BadKind
+abbrev pub fault_at : List (List ℕ) → Front → List ℕ → Option BadKind
 fault_at natives before [] = end_fault before
 fault_at natives before (b ∷ bytes) = first_broken (record_rules natives before (b ∷ bytes))
 
@@ -38,16 +38,18 @@ fault_at natives before (b ∷ bytes) = first_broken (record_rules natives befor
 pub record Spells (natives : List (List ℕ)) (bytes : List ℕ) (trace : Trace) : Type 0 where
   pub begins : magic_fault bytes ≡ None
   pub count : ℕ
-  pub spelled : Leads natives empty_trace (drop 4 bytes) count trace []
-  pub no_end_fault : end_fault trace ≡ None
+  pub end : Front
+  pub spelled : Leads natives no_front (drop 4 bytes) count end []
+  pub trace_is : trace_in end ≡ trace
+  pub no_end_fault : end_fault end ≡ None
 
 -- the first fault among the records: what stands before its place keeps every rule
 pub record IsFaultBehind (natives : List (List ℕ)) (bytes : List ℕ) (place : ℕ) (kind : BadKind) : Type 0 where
   pub begins : magic_fault bytes ≡ None
   pub count : ℕ
-  pub before : Trace
+  pub before : Front
   pub rest : List ℕ
-  pub kept : Leads natives empty_trace (drop 4 bytes) count before rest
+  pub kept : Leads natives no_front (drop 4 bytes) count before rest
   pub place_is : place ≡ count + 1
   pub fault : fault_at natives before rest ≡ Some kind
 

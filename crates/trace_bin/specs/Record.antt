@@ -13,6 +13,7 @@ tag_table =
     (0x01, kind.Boot)
     ∷ (0x02, kind.Ta)
     ∷ (0x03, kind.Mem)
+    ∷ (0x04, kind.Key)
     ∷ (0x10, kind.Smc)
     ∷ (0x11, kind.Enter)
     ∷ (0x12, kind.Leave)
@@ -33,6 +34,7 @@ abbrev pub fixed_len : RecordKind → ℕ
 fixed_len kind.Boot = 4
 fixed_len kind.Ta = 20
 fixed_len kind.Mem = 12
+fixed_len kind.Key = 32
 fixed_len kind.Smc = 45
 fixed_len kind.Enter = 45
 fixed_len kind.Leave = 1
@@ -44,6 +46,7 @@ abbrev pub has_bytes : RecordKind → Bool
 has_bytes kind.Boot = false
 has_bytes kind.Ta = true
 has_bytes kind.Mem = true
+has_bytes kind.Key = false
 has_bytes kind.Smc = false
 has_bytes kind.Enter = false
 has_bytes kind.Leave = false

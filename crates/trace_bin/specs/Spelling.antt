@@ -1,6 +1,7 @@
 -- The one spelling of a trace that is written: its boot, its applications, its fills and its items, each in their order.
-use Rattle.std.specs.Prelude.{◌≡◌, ℕ, ◌<◌, ◌^◌, List, [], ◌∷◌, ◌++◌, length, Option, None, Some, All, IsSome}
+use Rattle.std.specs.Prelude.{◌≡◌, ℕ, ◌<◌, ◌^◌, List, [], ◌∷◌, ◌++◌, length, Option, None, Some, All, IsSomeAnd, if◌then◌else◌}
 use Rattle.std.specs.List.{flat_map}
+use Rattle.std.specs.Str.{bytes_eq}
 use Rattle.byteorder.specs.Endian.{little_bytes}
 use Rattle.ta_isa.specs.declared.boot.App.{App}
 use Rattle.ta_isa.specs.declared.boot.Boot.{Boot}
@@ -11,7 +12,7 @@ use Rattle.trace_text.specs.declared.item.Reg.{Reg}
 use Rattle.trace_text.specs.declared.item.Reg.TheVariants.{Num, Last}
 use Rattle.trace_text.specs.declared.trace.Fill.{Fill}
 use Rattle.trace_text.specs.declared.trace.Trace.{Trace}
-use Rattle.trace_text.specs.Limits.{apps_of}
+use Rattle.trace_text.specs.Limits.{apps_of, no_key}
 use Rattle.trace_text.specs.Sound.{IsSound}
 use Rattle.trace_bin.specs.Grammar.{magic, Spells}
 
@@ -40,6 +41,10 @@ boot_record boot = 0x01 ∷ boot.cpus ∷ boot.threads ∷ little_bytes 2 boot.f
 unfoldable pub app_record : App → List ℕ
 app_record app = 0x02 ∷ app.uuid ++ counted (image_spelling app.image)
 
+-- a key that isn't of zeros, which is the one of a boot without a key
+abbrev pub key_records : List ℕ → List ℕ
+key_records key = if bytes_eq key no_key then [] else 0x04 ∷ key
+
 unfoldable pub fill_record : Fill → List ℕ
 fill_record fill = 0x03 ∷ little_bytes 8 fill.addr ++ counted fill.bytes
 
@@ -60,7 +65,7 @@ item_record (item.Show cpu addr len) = 0x14 ∷ cpu ∷ little_bytes 8 addr ++ l
 
 abbrev pub boot_records : Option Boot → List ℕ
 boot_records None = []
-boot_records (Some boot) = boot_record boot ++ flat_map app_record boot.apps
+boot_records (Some boot) = boot_record boot ++ flat_map app_record boot.apps ++ key_records boot.key
 
 abbrev pub spelling : Trace → List ℕ
 spelling trace = magic ++ boot_records trace.boot ++ flat_map fill_record trace.fills ++ flat_map item_record trace.items
@@ -69,7 +74,11 @@ spelling trace = magic ++ boot_records trace.boot ++ flat_map fill_record trace.
 abbrev pub IsIdentified : App → Type 0
 IsIdentified app = length app.uuid ≡ 16
 
+-- a key has 32
+abbrev pub HasKey : Boot → Type 0
+HasKey boot = length boot.key ≡ 32
+
 -- what is written of a trace within its limits that has a boot is read as that trace
 abbrev pub WrittenIsRead : Type 0
 WrittenIsRead =
-    (natives : List (List ℕ)) (trace : Trace) → IsSound natives trace → IsSome trace.boot → All IsIdentified (apps_of trace.boot) → Spells natives (spelling trace) trace
+    (natives : List (List ℕ)) (trace : Trace) → IsSound natives trace → IsSomeAnd trace.boot HasKey → All IsIdentified (apps_of trace.boot) → Spells natives (spelling trace) trace

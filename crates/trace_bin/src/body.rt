@@ -8,6 +8,7 @@ ghost use Rattle.trace_bin.specs.Record.{body_len, fixed_len, has_form, is_regis
 use crate::record_kind::RecordKind;
 use byteorder::{ByteOrder, LittleEndian};
 use trace_text::Reg;
+use trace_text::limits::KEY_BYTES;
 use uuid::Uuid;
 
 /// Where the eight registers of an entry stand in its body.
@@ -46,6 +47,16 @@ pub fn uuid_in(body: &[u8]) -> Uuid
         Ok(uuid) => uuid,
         Err(_) => unreachable!(),
     }
+}
+
+/// The key of the first 32 bytes.
+pub fn key_in(body: &[u8]) -> [u8; KEY_BYTES]
+    requires { 32 ≤ length body.now }
+    ensures { result ≡ take 32 body.now }
+{
+    let mut key = [0; KEY_BYTES];
+    key.copy_from_slice(&body[..KEY_BYTES]);
+    key
 }
 
 /// How many bytes the body of a record has, where so many are there.

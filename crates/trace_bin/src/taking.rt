@@ -1,14 +1,14 @@
 //! Taking records one after the other.
 
-ghost use Rattle.std.specs.Prelude.{◌≡◌, ◌<◌, ◌≤◌, ◌++◌, ◌∷◌, [], length, is_none, is_some, IfOk, Some, None, true, MatchResult};
+ghost use Rattle.std.specs.Prelude.{◌≡◌, ◌<◌, ◌≤◌, ◌++◌, ◌∷◌, [], length, is_none, is_some, take, IfOk, Some, None, true, MatchResult};
 ghost use Rattle.trace_text.specs.Judging.{IsTaken, Judged};
-ghost use Rattle.trace_text.specs.Limits.{first_broken, with_app, with_item};
+ghost use Rattle.trace_text.specs.Limits.{first_broken, key_place, keyed_with, with_app, with_item};
 ghost use Rattle.trace_bin.specs.Record.{fixed_len, number};
 ghost use Rattle.trace_bin.specs.Rules.{added, after_record, app_in, behind_record, boot_in, boot_rules, cpu_in, entry_rules, fill_in, leave_rules, mem_rules, record_rules, registers_in, rules_of, show_rules, steps_in, ta_rules, write_rules};
 ghost use Rattle.trace_bin.specs.Taking.{IsTakenTo};
 ghost use Rattle.trace_text.specs.declared.item.Item.TheVariants as item;
 
-use crate::body::{body_len, have_forms, long_at, registers, short_at, uuid_in, word_at};
+use crate::body::{body_len, have_forms, key_in, long_at, registers, short_at, uuid_in, word_at};
 use crate::record_kind::RecordKind;
 use base::Sequence;
 use std::alloc::Global;
@@ -113,6 +113,22 @@ fn take_mem(
         addr,
         bytes: Sequence::of(bytes),
     })
+}
+
+/// A record `key`.
+pub fn take_key(builder: &mut Builder, body: &[u8]) -> Result<(), LineFault>
+    requires { 32 ≤ length body.now }
+    ensures { IsTaken result (key_place builder.old)
+        (keyed_with builder.old (take 32 body.now)) builder.new }
+{
+    if builder.cpus().is_none() {
+        return Err(LineFault::Broken(BadKind::Place));
+    }
+    if !builder.has_no_item() || builder.has_key() {
+        return Err(LineFault::Broken(BadKind::Place));
+    }
+    builder.set_key(key_in(body));
+    Ok(())
 }
 
 /// What the body of an entry says.
@@ -258,6 +274,7 @@ fn take_body(
         RecordKind::Boot => take_boot(builder, body),
         RecordKind::Ta => take_ta(alloc, natives, builder, body, bytes),
         RecordKind::Mem => take_mem(alloc, builder, body, bytes),
+        RecordKind::Key => take_key(builder, body),
         RecordKind::Smc => take_smc(builder, body),
         RecordKind::Enter => take_enter(builder, body),
         RecordKind::Leave => take_leave(builder, body),

@@ -5,13 +5,14 @@ ghost use Rattle.std.specs.List.{flat_map};
 ghost use Rattle.byteorder.specs.Endian.{little_bytes};
 ghost use Rattle.ta_isa.specs.Spelling.{IsValid};
 ghost use Rattle.trace_text.specs.Sound.{IsSound, IsSoundFill};
-ghost use Rattle.trace_bin.specs.Spelling.{IsCountable, app_record, boot_record, call_bytes, counted, fill_record, item_record, register_bytes, spelling};
+ghost use Rattle.trace_bin.specs.Spelling.{IsCountable, app_record, boot_record, call_bytes, counted, fill_record, item_record, key_records, register_bytes, spelling};
 
 use crate::reading::MAGIC;
 use base::NoMemory;
 use byteorder::{ByteOrder, LittleEndian};
 use std::alloc::Global;
 use ta_isa::{App, Boot, encode_image};
+use trace_text::limits::KEY_BYTES;
 use trace_text::{Fill, Item, Reg, Trace};
 
 fn put_short(out: &mut Vec<u8>, number: u16) -> Result<(), NoMemory>
@@ -149,6 +150,18 @@ pub fn put_apps(alloc: Global, out: &mut Vec<u8>, apps: &[App]) -> Result<(), No
     Ok(())
 }
 
+/// Appends a key that isn't of zeros, which is the one of a boot without a key.
+pub fn put_key(out: &mut Vec<u8>, key: &[u8; KEY_BYTES]) -> Result<(), NoMemory>
+    ensures { OnOk result (out.new.items ≡ out.old.items ++ key_records key.now) }
+{
+    if *key == [0; KEY_BYTES] {
+        return Ok(());
+    }
+    out.push(0x04)?;
+    out.extend_from_slice(key)?;
+    Ok(())
+}
+
 fn put_fills(out: &mut Vec<u8>, fills: &[Fill]) -> Result<(), NoMemory>
     requires { All IsSoundFill fills.now }
     ensures { OnOk result (out.new.items ≡ out.old.items ++ flat_map fill_record fills.now) }
@@ -181,6 +194,7 @@ pub fn write_binary(alloc: Global, trace: &Trace) -> Result<Vec<u8>, NoMemory>
     if let Some(boot) = &trace.boot {
         put_boot(&mut out, boot)?;
         put_apps(alloc, &mut out, boot.apps.as_slice())?;
+        put_key(&mut out, &boot.key)?;
     }
     put_fills(&mut out, trace.fills.as_slice())?;
     put_items(&mut out, trace.items.as_slice())?;

@@ -1,6 +1,6 @@
 use Rattle.std.proofs.Common.{◌≡◌, ◌-◌, ◌<◌, drop, take, length, length-drop, ap, arith}
 use Rattle.std.proofs.lemmas.List.{take_all}
-use Rattle.trace_bin.proofs.Taken.{Front, grown, kept, left}
+use Rattle.trace_bin.proofs.Taken.{FirstRecord, grown, kept, left}
 use Rattle.trace_bin.proofs.taking.take_record.Goals as goal
 
 pub returns : goal.returns
@@ -12,7 +12,7 @@ returns c =
     let body_is : body ≡ drop 1 bytes = take_all _ _ (omega (arith, length-drop 1 bytes)) in
     let rest_is : rest ≡ drop len body = take_all _ _ (omega (arith, length-drop len body)) in
     let shorter : length rest < length bytes = omega (arith, ap length rest_is, ap length body_is, length-drop len body, length-drop 1 bytes) in
-    let front : Front bytes body c.in-Some.kind c.fixed_len.result len = record {
+    let front : FirstRecord bytes body c.in-Some.kind c.fixed_len.result len = record {
       body_is = body_is;
       kind_is = c.in-Some.ensures;
       whole = c.in-Some-body_len.ensures.read.0;
