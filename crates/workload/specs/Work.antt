@@ -37,7 +37,7 @@ unfoldable pub add_uuid : List ℕ
 add_uuid = replicate 4 0x11 ++ replicate 2 0x22 ++ replicate 2 0x33 ++ replicate 2 0x44 ++ replicate 6 0x55
 
 unfoldable pub made_boot : Boot
-made_boot = record { cpus = 4; threads = 4; frames = 256; apps = record { uuid = add_uuid; image = add_image } ∷ [] }
+made_boot = record { cpus = 4; threads = 4; frames = 256; apps = record { uuid = add_uuid; image = add_image } ∷ []; key = replicate 32 0 }
 
 -- ---- calls
 

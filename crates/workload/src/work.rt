@@ -76,6 +76,7 @@ fn made_boot(alloc: Global) -> Result<Boot, NoMemory>
         threads: 4,
         frames: 256,
         apps: Sequence::of(apps),
+        key: [0; 32],
     })
 }
 
