@@ -7,7 +7,7 @@ use Rattle.text_lines.specs.Words.{words_of}
 use Rattle.trace_text.specs.Forms.{decimal}
 use Rattle.trace_text.specs.Grammar.{piece_fault as trace_fault}
 use Rattle.trace_text.specs.Judging as trace
-use Rattle.trace_text.specs.Limits.{first_broken}
+use Rattle.trace_text.specs.Limits.{Front, first_broken}
 use Rattle.trace_text.specs.Rules.{added_by_kind, counts, is_text_byte, kind_named, rules_behind, rules_of_kind, word, words_behind}
 use Rattle.trace_text.specs.Rules.{after_line as after_trace_line, line_rules as trace_rules}
 use Rattle.trace_text.specs.declared.fault.BadKind.{BadKind}
@@ -15,19 +15,17 @@ use Rattle.trace_text.specs.declared.fault.BadKind.TheVariants as bad
 use Rattle.trace_text.specs.declared.fault.LineFault.{LineFault}
 use Rattle.trace_text.specs.declared.fault.LineFault.TheVariants.{Broken, NoRoom}
 use Rattle.trace_text.specs.declared.line_kind.LineKind.{LineKind}
-use Rattle.trace_text.specs.declared.trace.Trace.{Trace}
 use Rattle.notify_text.specs.Grammar.{piece_fault}
 use Rattle.notify_text.specs.Judging.{IsTaken, header_fault, late_fault}
-use Rattle.notify_text.specs.Rules.{after_line, has_no_signal, is_header, is_signal, line_rules, other_rules, rules_of_words, signal_rules, with_line, with_signal}
-use Rattle.notify_text.specs.declared.notify_trace.NotifyTrace.{NotifyTrace}
+use Rattle.notify_text.specs.Rules.{NotifyFront, after_line, has_no_signal, is_header, is_signal, line_rules, other_rules, rules_of_words, signal_rules, with_line, with_signal}
 use Rattle.notify_text.specs.declared.notify_trace.Signal.{Signal}
 
 -- a trace and signals
-abbrev pub told_of : Trace → List Signal → NotifyTrace
+abbrev pub told_of : Front → List Signal → NotifyFront
 told_of told signals = record { trace = told; signals = signals }
 
 -- the trace among the signals before is this one
-abbrev pub with_trace : NotifyTrace → Trace → NotifyTrace
+abbrev pub with_trace : NotifyFront → Front → NotifyFront
 with_trace before told = record before { trace = told }
 
 -- ---- plain line of the header stands behind a signal
@@ -48,7 +46,7 @@ place-broken false false counted rest kind e = absurd cc
 place-broken false true true rest kind e = e
 place-broken false true false rest kind e = e
 
-other-same : (named : Option LineKind) (natives : List (List ℕ)) (before : NotifyTrace) (words : List (List ℕ))
+other-same : (named : Option LineKind) (natives : List (List ℕ)) (before : NotifyFront) (words : List (List ℕ))
     → cond (has_no_signal before.signals) None (header_fault named words) ≡ None
     → first_broken (other_rules named natives before words) ≡ first_broken (rules_of_kind named natives before.trace words)
 other-same None natives before words e = refl
@@ -57,7 +55,7 @@ other-same (Some kind) natives before words e =
     ∷ rules_behind kind natives before.trace (drop 1 words)))
     (place-kept (has_no_signal before.signals) (is_header kind) (counts (words_behind kind) words) e)
 
-other-late : (named : Option LineKind) (natives : List (List ℕ)) (before : NotifyTrace) (words : List (List ℕ))
+other-late : (named : Option LineKind) (natives : List (List ℕ)) (before : NotifyFront) (words : List (List ℕ))
     (kind : BadKind) → cond (has_no_signal before.signals) None (header_fault named words) ≡ Some kind
     → first_broken (other_rules named natives before words) ≡ Some kind
 other-late None natives before words kind e = no_fault (has_no_signal before.signals) e
@@ -77,7 +75,7 @@ one-more true true rest e = e
 one-more true false rest e = absurd cc
 one-more false place rest e = absurd cc
 
-other-kept : (named : Option LineKind) (natives : List (List ℕ)) (before : NotifyTrace) (words : List (List ℕ))
+other-kept : (named : Option LineKind) (natives : List (List ℕ)) (before : NotifyFront) (words : List (List ℕ))
     → first_broken (other_rules named natives before words) ≡ None
     → first_broken (rules_of_kind named natives before.trace words) ≡ None
 other-kept None natives before words e = e
@@ -87,20 +85,20 @@ other-kept (Some kind) natives before words e =
 
 -- ---- the rules of a line by its words
 
-words-other : (natives : List (List ℕ)) (before : NotifyTrace) (words : List (List ℕ)) → is_signal words ≡ false
+words-other : (natives : List (List ℕ)) (before : NotifyFront) (words : List (List ℕ)) → is_signal words ≡ false
     → first_broken (rules_of_words natives before words)
     ≡ first_broken (other_rules (kind_named (word words 0)) natives before words)
 words-other natives before words plain =
     ap (λ (b : Bool). first_broken (cond b (signal_rules before words)
     (other_rules (kind_named (word words 0)) natives before words))) plain
 
-words-signal : (natives : List (List ℕ)) (before : NotifyTrace) (words : List (List ℕ)) → is_signal words ≡ true
+words-signal : (natives : List (List ℕ)) (before : NotifyFront) (words : List (List ℕ)) → is_signal words ≡ true
     → first_broken (rules_of_words natives before words) ≡ first_broken (signal_rules before words)
 words-signal natives before words is =
     ap (λ (b : Bool). first_broken (cond b (signal_rules before words)
     (other_rules (kind_named (word words 0)) natives before words))) is
 
-words-same : (natives : List (List ℕ)) (before : NotifyTrace) (words : List (List ℕ)) → is_signal words ≡ false
+words-same : (natives : List (List ℕ)) (before : NotifyFront) (words : List (List ℕ)) → is_signal words ≡ false
     → late_fault before words ≡ None
     → first_broken (rules_of_words natives before words)
     ≡ first_broken (rules_of_kind (kind_named (word words 0)) natives before.trace words)
@@ -116,7 +114,7 @@ behind_two one two false rules others e =
     ap (λ (o : Option BadKind). cond one.1 (cond two.1 o (Some two.0)) (Some one.0)) e
 
 -- a line that is no signal's, and none of the header behind a signal
-pub rules-same : (natives : List (List ℕ)) (before : NotifyTrace) (ended : Bool) (line : List ℕ)
+pub rules-same : (natives : List (List ℕ)) (before : NotifyFront) (ended : Bool) (line : List ℕ)
     → is_signal (words_of line) ≡ false → late_fault before (words_of line) ≡ None
     → first_broken (line_rules natives before ended line) ≡ first_broken (trace_rules natives before.trace ended line)
 unfolding line_rules trace_rules
@@ -132,7 +130,7 @@ by-words true false rules e f = refl
 by-words true true rules e f = absurd cc
 by-words false skipped rules e f = absurd cc
 
-pub rules-by-words : (natives : List (List ℕ)) (before : NotifyTrace) (line : List ℕ)
+pub rules-by-words : (natives : List (List ℕ)) (before : NotifyFront) (line : List ℕ)
     → list_all is_text_byte line ≡ true → is_skipped line ≡ false
     → first_broken (line_rules natives before true line) ≡ first_broken (rules_of_words natives before (words_of line))
 unfolding line_rules
@@ -148,7 +146,7 @@ behind_both true true rules others goes e = e
 behind_both true false rules others goes e = goes e
 behind_both false skipped rules others goes e = absurd cc
 
-pub kept-of-trace : (natives : List (List ℕ)) (before : NotifyTrace) (line : List ℕ)
+pub kept-of-trace : (natives : List (List ℕ)) (before : NotifyFront) (line : List ℕ)
     → is_signal (words_of line) ≡ false → first_broken (line_rules natives before true line) ≡ None
     → first_broken (trace_rules natives before.trace true line) ≡ None
 unfolding line_rules trace_rules
@@ -161,7 +159,7 @@ kept-of-trace natives before line plain kept =
 
 -- ---- what a line adds
 
-after_where : (before : NotifyTrace) (line : List ℕ) (skipped : Bool) → is_skipped line ≡ skipped
+after_where : (before : NotifyFront) (line : List ℕ) (skipped : Bool) → is_skipped line ≡ skipped
     → is_signal (words_of line) ≡ false
     → after_line before line ≡ with_trace before (after_trace_line before.trace line)
 unfolding after_line after_trace_line
@@ -175,11 +173,11 @@ after_where before line false is plain =
     cond b (with_signal before (decimal (word (words_of line) 1)))
     (with_trace before (after_trace_line before.trace line))) plain
 
-pub after-same : (before : NotifyTrace) (line : List ℕ) → is_signal (words_of line) ≡ false
+pub after-same : (before : NotifyFront) (line : List ℕ) → is_signal (words_of line) ≡ false
     → after_line before line ≡ with_trace before (after_trace_line before.trace line)
 after-same before line plain = after_where before line (is_skipped line) refl plain
 
-pub after-signal : (before : NotifyTrace) (line : List ℕ) → is_skipped line ≡ false → is_signal (words_of line) ≡ true
+pub after-signal : (before : NotifyFront) (line : List ℕ) → is_skipped line ≡ false → is_signal (words_of line) ≡ true
     → after_line before line ≡ with_signal before (decimal (word (words_of line) 1))
 unfolding after_line
 after-signal before line some is =
@@ -188,14 +186,14 @@ after-signal before line some is =
     cond b (with_signal before (decimal (word (words_of line) 1)))
     (with_trace before (after_trace_line before.trace line))) is
 
-pub after-skipped : (before : NotifyTrace) (line : List ℕ) → is_skipped line ≡ true → after_line before line ≡ before
+pub after-skipped : (before : NotifyFront) (line : List ℕ) → is_skipped line ≡ true → after_line before line ≡ before
 unfolding after_line
 after-skipped before line is = ap (λ (b : Bool). cond b before (with_line before line)) is
 
 -- ---- the end of a text
 
 -- what stands behind the last line feed has the fault that it has in a trace
-pub end-same : (natives : List (List ℕ)) (before : NotifyTrace) (rest : List ℕ)
+pub end-same : (natives : List (List ℕ)) (before : NotifyFront) (rest : List ℕ)
     → piece_fault natives before rest [] ≡ trace_fault natives before.trace rest []
 unfolding piece_fault trace_fault line_rules trace_rules
 end-same natives before [] = refl
@@ -203,14 +201,14 @@ end-same natives before (b ∷ bytes) = refl
 
 -- ---- what the reader says of a line
 
-pub bad-byte : (natives : List (List ℕ)) (before : NotifyTrace) (line : List ℕ) → list_all is_text_byte line ≡ false
+pub bad-byte : (natives : List (List ℕ)) (before : NotifyFront) (line : List ℕ) → list_all is_text_byte line ≡ false
     → first_broken (line_rules natives before true line) ≡ Some bad.Byte
 unfolding line_rules
 bad-byte natives before line other =
     ap (λ (b : Bool). first_broken ((bad.Byte, b) ∷ (bad.Cut, true)
     ∷ cond (is_skipped line) [] (rules_of_words natives before (words_of line)))) other
 
-pub skipped-kept : (natives : List (List ℕ)) (before : NotifyTrace) (line : List ℕ) → list_all is_text_byte line ≡ true
+pub skipped-kept : (natives : List (List ℕ)) (before : NotifyFront) (line : List ℕ) → list_all is_text_byte line ≡ true
     → is_skipped line ≡ true → first_broken (line_rules natives before true line) ≡ None
 unfolding line_rules
 skipped-kept natives before line text is =
@@ -218,14 +216,14 @@ skipped-kept natives before line text is =
     ∷ cond (is_skipped line) [] (rules_of_words natives before (words_of line)))) text
     ∙ ap (λ (b : Bool). first_broken (cond b [] (rules_of_words natives before (words_of line)))) is
 
-pub late-broken : (natives : List (List ℕ)) (before : NotifyTrace) (line : List ℕ) (kind : BadKind)
+pub late-broken : (natives : List (List ℕ)) (before : NotifyFront) (line : List ℕ) (kind : BadKind)
     → list_all is_text_byte line ≡ true → is_skipped line ≡ false → is_signal (words_of line) ≡ false
     → late_fault before (words_of line) ≡ Some kind → first_broken (line_rules natives before true line) ≡ Some kind
 late-broken natives before line kind text some plain late =
     rules-by-words natives before line text some ∙ words-other natives before (words_of line) plain
     ∙ other-late (kind_named (word (words_of line) 0)) natives before (words_of line) kind late
 
-pub signal-taken : (natives : List (List ℕ)) (before after : NotifyTrace) (line : List ℕ) (result : Result Unit LineFault)
+pub signal-taken : (natives : List (List ℕ)) (before after : NotifyFront) (line : List ℕ) (result : Result Unit LineFault)
     → list_all is_text_byte line ≡ true → is_skipped line ≡ false → is_signal (words_of line) ≡ true
     → IsTaken result (signal_rules before (words_of line)) (with_signal before (decimal (word (words_of line) 1))) after
     → IsTaken result (line_rules natives before true line) (after_line before line) after
@@ -237,7 +235,7 @@ signal-taken natives before after line (Err (Broken kind)) text some is taken =
     rules-by-words natives before line text some ∙ words-signal natives before (words_of line) is ∙ taken
 signal-taken natives before after line (Err NoRoom) text some is taken = tt
 
-pub other-taken : (natives : List (List ℕ)) (before : NotifyTrace) (after : Trace) (line : List ℕ)
+pub other-taken : (natives : List (List ℕ)) (before : NotifyFront) (after : Front) (line : List ℕ)
     (result : Result Unit LineFault) → is_signal (words_of line) ≡ false → late_fault before (words_of line) ≡ None
     → trace.IsTaken result (trace_rules natives before.trace true line) (after_trace_line before.trace line) after
     → IsTaken result (line_rules natives before true line) (after_line before line) (with_trace before after)

@@ -14,7 +14,7 @@ use Rattle.trace_text.specs.declared.fault.TraceFault.TheVariants.{Bad, Memory}
 use Rattle.trace_text.proofs.Pieces.{first_piece, last_piece, some_piece}
 use Rattle.notify_text.specs.Grammar.{IsFaultOf, IsFirstFault, Spells, piece_fault}
 use Rattle.notify_text.specs.Judging.{IsTaken}
-use Rattle.notify_text.specs.Rules.{after_line, line_rules, no_trace}
+use Rattle.notify_text.specs.Rules.{NotifyFront, after_line, line_rules, no_lines, told_in}
 use Rattle.notify_text.specs.Sound.{IsSoundTold}
 use Rattle.notify_text.specs.declared.notify_trace.NotifyTrace.{NotifyTrace}
 use Rattle.notify_text.proofs.Meanings.{first_fault_read, kept_line, read_fault, read_pieces, read_spelled, spelled_read, unless}
@@ -26,14 +26,14 @@ IsUnlessMemory result wanted = (result ≡ wanted) ⊎ (result ≡ Err Memory)
 
 -- ---- the loop
 
-broken_line : (natives : List (List ℕ)) (place : ℕ) (before : NotifyTrace) (line next : List ℕ)
+broken_line : (natives : List (List ℕ)) (place : ℕ) (before : NotifyFront) (line next : List ℕ)
     (pieces : List (List ℕ)) (kind : BadKind) → first_broken (line_rules natives before true line) ≡ Some kind
     → read_pieces natives place before (line ∷ (next ∷ pieces)) ≡ Err (Bad place kind)
 unfolding read_pieces piece_fault
 broken_line natives place before line next pieces kind broken = rw broken refl
 
 -- a line that is taken
-pub goes_on : (natives : List (List ℕ)) (place : ℕ) (before after : NotifyTrace) (rest line behind : List ℕ)
+pub goes_on : (natives : List (List ℕ)) (place : ℕ) (before after : NotifyFront) (rest line behind : List ℕ)
     (total : Result NotifyTrace TraceFault) → IsCutAt 10 rest line behind
     → (first_broken (line_rules natives before true line) ≡ None) × (after ≡ after_line before line)
     → read_pieces natives place before (pieces_of rest) ≡ total
@@ -48,7 +48,7 @@ goes_on natives place before after rest line behind total cut taken so_far =
     ∙ so_far
 
 -- and one that isn't
-pub stops : (natives : List (List ℕ)) (place : ℕ) (before after : NotifyTrace) (rest line behind : List ℕ)
+pub stops : (natives : List (List ℕ)) (place : ℕ) (before after : NotifyFront) (rest line behind : List ℕ)
     (total : Result NotifyTrace TraceFault) (fault : LineFault) (answer : TraceFault) → IsCutAt 10 rest line behind
     → IsTaken (Err fault) (line_rules natives before true line) (after_line before line) after → answer ≡ placed place fault
     → read_pieces natives place before (pieces_of rest) ≡ total → IsUnlessMemory (Err answer) total
@@ -63,37 +63,37 @@ stops natives place before after rest line behind total NoRoom answer cut broken
     inr (ap (λ (a : TraceFault). Err a) is)
 
 -- the end of the text
-pub ends : (natives : List (List ℕ)) (place : ℕ) (before told : NotifyTrace) (rest : List ℕ)
-    (total : Result NotifyTrace TraceFault) → Lacks 10 rest → (piece_fault natives before rest [] ≡ None) × (told ≡ before)
+pub ends : (natives : List (List ℕ)) (place : ℕ) (before : NotifyFront) (told : NotifyTrace) (rest : List ℕ)
+    (total : Result NotifyTrace TraceFault) → Lacks 10 rest → (piece_fault natives before rest [] ≡ None) × (told ≡ told_in before)
     → read_pieces natives place before (pieces_of rest) ≡ total → IsUnlessMemory (Ok told) total
 unfolding read_pieces
 ends natives place before told rest total lacks end so_far =
-    let last : read_pieces natives place before (pieces_of rest) ≡ unless (piece_fault natives before rest []) place (Ok before) =
+    let last : read_pieces natives place before (pieces_of rest) ≡ unless (piece_fault natives before rest []) place (Ok (told_in before)) =
     ap (read_pieces natives place before) (last_piece rest lacks) in
-    let whole : total ≡ Ok before =
-    sym so_far ∙ last ∙ ap (λ (o : Option BadKind). unless o place (Ok before)) end.0 in
+    let whole : total ≡ Ok (told_in before) =
+    sym so_far ∙ last ∙ ap (λ (o : Option BadKind). unless o place (Ok (told_in before))) end.0 in
     inl (ap (λ (t : NotifyTrace). Ok t) end.1 ∙ sym whole)
 
-pub ends_badly : (natives : List (List ℕ)) (place : ℕ) (before : NotifyTrace) (rest : List ℕ)
+pub ends_badly : (natives : List (List ℕ)) (place : ℕ) (before : NotifyFront) (rest : List ℕ)
     (total : Result NotifyTrace TraceFault) (kind : BadKind) → Lacks 10 rest → piece_fault natives before rest [] ≡ Some kind
     → read_pieces natives place before (pieces_of rest) ≡ total → IsUnlessMemory (Err (Bad place kind)) total
 unfolding read_pieces
 ends_badly natives place before rest total kind lacks fault so_far =
-    let last : read_pieces natives place before (pieces_of rest) ≡ unless (piece_fault natives before rest []) place (Ok before) =
+    let last : read_pieces natives place before (pieces_of rest) ≡ unless (piece_fault natives before rest []) place (Ok (told_in before)) =
     ap (read_pieces natives place before) (last_piece rest lacks) in
     let whole : total ≡ Err (Bad place kind) =
-    sym so_far ∙ last ∙ ap (λ (o : Option BadKind). unless o place (Ok before)) fault in
+    sym so_far ∙ last ∙ ap (λ (o : Option BadKind). unless o place (Ok (told_in before))) fault in
     inl (sym whole)
 
 -- ---- what the reader answers
 
 found_from_read : (natives : List (List ℕ)) (text : List ℕ) (r : Result NotifyTrace TraceFault)
-    → IsUnlessMemory r (read_pieces natives 1 no_trace (pieces_of text)) → IfOk r (λ told. Spells natives text told)
+    → IsUnlessMemory r (read_pieces natives 1 no_lines (pieces_of text)) → IfOk r (λ told. Spells natives text told)
 found_from_read natives text (Ok told) h = ⊎_elim (λ e. spelled_read natives text told (sym e)) (λ e. absurd cc) h
 found_from_read natives text (Err fault) h = tt
 
 bad_from_read : (natives : List (List ℕ)) (text : List ℕ) (r : Result NotifyTrace TraceFault)
-    → IsUnlessMemory r (read_pieces natives 1 no_trace (pieces_of text)) → IfErr r (IsFaultOf natives text)
+    → IsUnlessMemory r (read_pieces natives 1 no_lines (pieces_of text)) → IfErr r (IsFaultOf natives text)
 bad_from_read natives text (Ok told) h = tt
 bad_from_read natives text (Err Memory) h = tt
 bad_from_read natives text (Err (Bad place kind)) h =
@@ -124,7 +124,7 @@ pub record IsAnswer (natives : List (List ℕ)) (text : List ℕ) (r : Result No
   pub sound : IfOk r (IsSoundTold natives)
 
 pub answer_from_read : (natives : List (List ℕ)) (text : List ℕ) (r : Result NotifyTrace TraceFault)
-    → IsUnlessMemory r (read_pieces natives 1 no_trace (pieces_of text)) → IsAnswer natives text r
+    → IsUnlessMemory r (read_pieces natives 1 no_lines (pieces_of text)) → IsAnswer natives text r
 answer_from_read natives text r h =
     let spelled : IfOk r (λ told. Spells natives text told) = found_from_read natives text r h in
     let faulty : IfErr r (IsFaultOf natives text) = bad_from_read natives text r h in

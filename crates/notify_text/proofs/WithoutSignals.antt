@@ -7,14 +7,17 @@ use Rattle.std.proofs.lemmas.List.Folds.{list_all-append}
 use Rattle.text_lines.specs.Words.{words_of}
 use Rattle.trace_text.specs.Grammar.{pieces_of}
 use Rattle.trace_text.specs.Grammar as trace
-use Rattle.trace_text.specs.Limits.{empty_trace, first_broken}
+use Rattle.trace_text.specs.Limits.{Front, first_broken, no_front, trace_in}
 use Rattle.trace_text.specs.Rules.{after_line as after_trace_line, line_rules as trace_rules}
 use Rattle.trace_text.specs.declared.fault.BadKind.{BadKind}
-use Rattle.trace_text.specs.declared.trace.Trace.{Trace}
 use Rattle.notify_text.specs.Grammar.{AreTraces, IsFirstFault, Leads, is_no_signal, piece_fault, without_signals}
-use Rattle.notify_text.specs.Rules.{after_line, is_signal, line_rules}
+use Rattle.notify_text.specs.Rules.{NotifyFront, after_line, is_signal, line_rules, told_in}
 use Rattle.notify_text.specs.declared.notify_trace.NotifyTrace.{NotifyTrace}
 use Rattle.notify_text.proofs.Lines.{after-same, rules-same}
+
+-- the lines so far of a trace, and no signals
+abbrev no_signals : Front → NotifyFront
+no_signals front = record { trace = front; signals = [] }
 
 -- ---- a line
 
@@ -22,42 +25,42 @@ is_false : (b : Bool) → not b ≡ true → b ≡ false
 is_false true e = absurd cc
 is_false false e = refl
 
-rules_as_trace : (natives : List (List ℕ)) (before : Trace) (ended : Bool) (line : List ℕ) → is_no_signal line ≡ true
-    → first_broken (line_rules natives (without_signals before) ended line) ≡ first_broken (trace_rules natives before ended line)
+rules_as_trace : (natives : List (List ℕ)) (before : Front) (ended : Bool) (line : List ℕ) → is_no_signal line ≡ true
+    → first_broken (line_rules natives (no_signals before) ended line) ≡ first_broken (trace_rules natives before ended line)
 rules_as_trace natives before ended line plain =
-    rules-same natives (without_signals before) ended line (is_false (is_signal (words_of line)) plain) refl
+    rules-same natives (no_signals before) ended line (is_false (is_signal (words_of line)) plain) refl
 
-after_as_trace : (before : Trace) (line : List ℕ) → is_no_signal line ≡ true
-    → after_line (without_signals before) line ≡ without_signals (after_trace_line before line)
-after_as_trace before line plain = after-same (without_signals before) line (is_false (is_signal (words_of line)) plain)
+after_as_trace : (before : Front) (line : List ℕ) → is_no_signal line ≡ true
+    → after_line (no_signals before) line ≡ no_signals (after_trace_line before line)
+after_as_trace before line plain = after-same (no_signals before) line (is_false (is_signal (words_of line)) plain)
 
 -- ---- lines and pieces
 
-leads_here : (natives : List (List ℕ)) (before : Trace) (lines : List (List ℕ)) (after : Trace)
+leads_here : (natives : List (List ℕ)) (before : Front) (lines : List (List ℕ)) (after : Front)
     → list_all is_no_signal lines ≡ true → trace.Leads natives before lines after
-    → Leads natives (without_signals before) lines (without_signals after)
-leads_here natives before [] after plain leads = ap without_signals leads
+    → Leads natives (no_signals before) lines (no_signals after)
+leads_here natives before [] after plain leads = ap no_signals leads
 leads_here natives before (line ∷ lines) after plain leads =
     let both = and_parts (is_no_signal line) (list_all is_no_signal lines) plain in (
       rules_as_trace natives before true line both.0 ∙ leads.0,
-      subst (λ (t : NotifyTrace). Leads natives t lines (without_signals after)) (sym (after_as_trace before line both.0))
+      subst (λ (t : NotifyFront). Leads natives t lines (no_signals after)) (sym (after_as_trace before line both.0))
           (leads_here natives (after_trace_line before line) lines after both.1 leads.1),
     )
 
-leads_there : (natives : List (List ℕ)) (before : Trace) (lines : List (List ℕ)) (after : NotifyTrace)
-    → list_all is_no_signal lines ≡ true → Leads natives (without_signals before) lines after
-    → (after ≡ without_signals after.trace) × trace.Leads natives before lines after.trace
+leads_there : (natives : List (List ℕ)) (before : Front) (lines : List (List ℕ)) (after : NotifyFront)
+    → list_all is_no_signal lines ≡ true → Leads natives (no_signals before) lines after
+    → (after ≡ no_signals after.trace) × trace.Leads natives before lines after.trace
 leads_there natives before [] after plain leads =
-    (sym leads ∙ ap (λ (t : NotifyTrace). without_signals t.trace) leads, ap (λ (t : NotifyTrace). t.trace) leads)
+    (sym leads ∙ ap (λ (t : NotifyFront). no_signals t.trace) leads, ap (λ (t : NotifyFront). t.trace) leads)
 leads_there natives before (line ∷ lines) after plain leads =
     let both = and_parts (is_no_signal line) (list_all is_no_signal lines) plain in
     let behind = leads_there natives (after_trace_line before line) lines after both.1
-    (subst (λ (t : NotifyTrace). Leads natives t lines after) (after_as_trace before line both.0) leads.1) in
+    (subst (λ (t : NotifyFront). Leads natives t lines after) (after_as_trace before line both.0) leads.1) in
     (behind.0, (sym (rules_as_trace natives before true line both.0) ∙ leads.0, behind.1))
 
-piece_as_trace : (natives : List (List ℕ)) (before : Trace) (piece : List ℕ) (back : List (List ℕ))
+piece_as_trace : (natives : List (List ℕ)) (before : Front) (piece : List ℕ) (back : List (List ℕ))
     → is_no_signal piece ≡ true
-    → piece_fault natives (without_signals before) piece back ≡ trace.piece_fault natives before piece back
+    → piece_fault natives (no_signals before) piece back ≡ trace.piece_fault natives before piece back
 unfolding piece_fault trace.piece_fault
 piece_as_trace natives before piece (next ∷ back) plain = rules_as_trace natives before true piece plain
 piece_as_trace natives before [] [] plain = refl
@@ -79,8 +82,8 @@ fault_there : (natives : List (List ℕ)) (text : List ℕ) (place : ℕ) (kind 
     → trace.IsFirstFault natives text place kind
 fault_there natives text place kind plain f =
     let parts = in_front text f.front f.piece f.back plain f.text_is in
-    let leads = leads_there natives empty_trace f.front f.before parts.0 f.kept in
-    let found = subst (λ (t : NotifyTrace). piece_fault natives t f.piece f.back ≡ Some kind) leads.0 f.fault in
+    let leads = leads_there natives no_front f.front f.before parts.0 f.kept in
+    let found = subst (λ (t : NotifyFront). piece_fault natives t f.piece f.back ≡ Some kind) leads.0 f.fault in
     record {
       front = f.front;
       piece = f.piece;
@@ -97,13 +100,17 @@ are_traces natives text plain = record {
   spells = λ told s. record {
     lines = s.lines;
     text_is = s.text_is;
-    spelled = leads_here natives empty_trace s.lines told (in_front text s.lines [] [] plain s.text_is).0 s.spelled;
+    end = no_signals s.end;
+    spelled = leads_here natives no_front s.lines s.end (in_front text s.lines [] [] plain s.text_is).0 s.spelled;
+    told_is = ap without_signals s.trace_is;
     no_end_fault = s.no_end_fault;
   };
   only = λ told s.
-      let leads = leads_there natives empty_trace s.lines told (in_front text s.lines [] [] plain s.text_is).0 s.spelled in (
-        leads.0,
-        record { lines = s.lines; text_is = s.text_is; spelled = leads.1; no_end_fault = s.no_end_fault },
+      let leads = leads_there natives no_front s.lines s.end (in_front text s.lines [] [] plain s.text_is).0 s.spelled in
+      let alone : told_in s.end ≡ without_signals (trace_in s.end.trace) = ap told_in leads.0 in
+      let trace_is : trace_in s.end.trace ≡ told.trace = ap (λ (t : NotifyTrace). t.trace) s.told_is in (
+        sym s.told_is ∙ alone ∙ ap without_signals trace_is,
+        record { lines = s.lines; text_is = s.text_is; end = s.end.trace; spelled = leads.1; trace_is = trace_is; no_end_fault = s.no_end_fault },
       );
   faults = λ place kind f.
       let parts = in_front text f.front f.piece f.back plain f.text_is in
@@ -112,8 +119,8 @@ are_traces natives text plain = record {
         piece = f.piece;
         back = f.back;
         text_is = f.text_is;
-        before = without_signals f.before;
-        kept = leads_here natives empty_trace f.front f.before parts.0 f.kept;
+        before = no_signals f.before;
+        kept = leads_here natives no_front f.front f.before parts.0 f.kept;
         place_is = f.place_is;
         fault = piece_as_trace natives f.before f.piece f.back parts.1 ∙ f.fault;
       };

@@ -1,11 +1,12 @@
 -- What the rules of lines say of a few small inputs, and in which order items and signals come.
 use Rattle.std.specs.Prelude.{◌≡◌, ℕ, List, [], ◌∷◌, Some, codes}
 use Rattle.notify_text.specs.Grammar.{IsFirstFault, Spells}
-use Rattle.notify_text.specs.Rules.{no_trace}
+use Rattle.notify_text.specs.Rules.{no_lines, told_in}
 use Rattle.notify_text.specs.Steps.{Signals, Takes, steps_of}
 use Rattle.notify_text.specs.declared.notify_trace.NotifyTrace.{NotifyTrace}
-use Rattle.trace_text.specs.Examples.{boot_line, enter_line, entered, text_of}
+use Rattle.trace_text.specs.Examples.{boot_line, enter_line, entered, key_line, text_of}
 use Rattle.trace_text.specs.Grammar as trace
+use Rattle.trace_text.specs.Limits.{no_key}
 use Rattle.trace_text.specs.declared.fault.BadKind.TheVariants as bad
 use Rattle.trace_text.specs.declared.item.Item.TheVariants.{Enter, Leave}
 
@@ -24,7 +25,7 @@ signalled_lines =
 abbrev pub signalled_trace : NotifyTrace
 signalled_trace = record {
   trace = record {
-    boot = Some (record { cpus = 2; threads = 1; frames = 1; apps = [] });
+    boot = Some (record { cpus = 2; threads = 1; frames = 1; apps = []; key = no_key });
     fills = [];
     items = Enter 1 5 entered ∷ Leave 1 ∷ [];
   };
@@ -35,7 +36,7 @@ pub record Examples : Type 0 where
   pub spelled : Spells [] (text_of signalled_lines) signalled_trace
   pub steps : steps_of signalled_trace
       ≡ Takes (Enter 1 5 entered) ∷ Signals 5 ∷ Signals 63 ∷ Takes (Leave 1) ∷ Signals 1 ∷ []
-  pub nothing : Spells [] [] no_trace
+  pub nothing : Spells [] [] (told_in no_lines)
   -- a signal before the boot, of no number, out of its range, and with two values
   pub early : IsFirstFault [] (text_of (codes "signal 5" ∷ [])) 1 bad.Place
   pub no_number : IsFirstFault [] (text_of (boot_line ∷ codes "signal 05" ∷ [])) 2 bad.Number
@@ -48,6 +49,7 @@ pub record Examples : Type 0 where
   -- a line of the header behind a signal
   pub late_fill : IsFirstFault [] (text_of (boot_line ∷ codes "signal 5" ∷ codes "mem 40000000 00" ∷ [])) 3 bad.Place
   pub late_boot : IsFirstFault [] (text_of (boot_line ∷ codes "signal 5" ∷ boot_line ∷ [])) 3 bad.Place
+  pub late_key : IsFirstFault [] (text_of (boot_line ∷ codes "signal 5" ∷ key_line ∷ [])) 3 bad.Place
   -- the end of a text, and a word that begins no line
   pub unended : IsFirstFault [] (text_of (boot_line ∷ enter_line ∷ codes "signal 5" ∷ [])) 4 bad.Unended
   pub unknown : IsFirstFault [] (text_of (boot_line ∷ codes "signals 5" ∷ [])) 2 bad.Item

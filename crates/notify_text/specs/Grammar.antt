@@ -2,7 +2,7 @@
 -- own.
 use Rattle.std.specs.Prelude.{◌≡◌, ℕ, ◌+◌, ◌⊎◌, List, [], ◌∷◌, ◌++◌, length, Bool, true, false, not, Option, None, Some}
 use Rattle.std.specs.List.{list_all}
-use Rattle.notify_text.specs.Rules.{after_line, is_signal, line_rules, no_trace}
+use Rattle.notify_text.specs.Rules.{NotifyFront, after_line, is_signal, line_rules, no_lines, told_in}
 use Rattle.notify_text.specs.declared.notify_trace.NotifyTrace.{NotifyTrace}
 use Rattle.text_lines.specs.Words.{words_of}
 use Rattle.trace_text.specs.Grammar.{pieces_of}
@@ -14,14 +14,14 @@ use Rattle.trace_text.specs.declared.fault.TraceFault.TheVariants.{Bad, Memory}
 use Rattle.trace_text.specs.declared.trace.Trace.{Trace}
 
 -- lines that follow each other, each ended and with every rule kept, and lead from one trace to another
-abbrev pub Leads : List (List ℕ) → NotifyTrace → List (List ℕ) → NotifyTrace → Type 0
+abbrev pub Leads : List (List ℕ) → NotifyFront → List (List ℕ) → NotifyFront → Type 0
 Leads natives before [] after = before ≡ after
 Leads natives before (line ∷ lines) after =
     (first_broken (line_rules natives before true line) ≡ None) × Leads natives (after_line before line) lines after
 
 -- the fault of a piece, given the pieces behind it: a line is ended where there are any, and the text ends where
 -- there are none and this one is empty
-unfoldable pub piece_fault : List (List ℕ) → NotifyTrace → List ℕ → List (List ℕ) → Option BadKind
+unfoldable pub piece_fault : List (List ℕ) → NotifyFront → List ℕ → List (List ℕ) → Option BadKind
 piece_fault natives before piece (next ∷ pieces) = first_broken (line_rules natives before true piece)
 piece_fault natives before [] [] = end_fault before.trace
 piece_fault natives before (b ∷ bytes) [] = first_broken (line_rules natives before false (b ∷ bytes))
@@ -31,8 +31,10 @@ piece_fault natives before (b ∷ bytes) [] = first_broken (line_rules natives b
 pub record Spells (natives : List (List ℕ)) (text : List ℕ) (told : NotifyTrace) : Type 0 where
   pub lines : List (List ℕ)
   pub text_is : pieces_of text ≡ lines ++ [] ∷ []
-  pub spelled : Leads natives no_trace lines told
-  pub no_end_fault : end_fault told.trace ≡ None
+  pub end : NotifyFront
+  pub spelled : Leads natives no_lines lines end
+  pub told_is : told_in end ≡ told
+  pub no_end_fault : end_fault end.trace ≡ None
 
 -- the first fault of the text: what stands before its place keeps every rule
 pub record IsFirstFault (natives : List (List ℕ)) (text : List ℕ) (place : ℕ) (kind : BadKind) : Type 0 where
@@ -40,8 +42,8 @@ pub record IsFirstFault (natives : List (List ℕ)) (text : List ℕ) (place : �
   pub piece : List ℕ
   pub back : List (List ℕ)
   pub text_is : pieces_of text ≡ front ++ piece ∷ back
-  pub before : NotifyTrace
-  pub kept : Leads natives no_trace front before
+  pub before : NotifyFront
+  pub kept : Leads natives no_lines front before
   pub place_is : place ≡ length front + 1
   pub fault : piece_fault natives before piece back ≡ Some kind
 

@@ -3,7 +3,7 @@
 ghost use Rattle.std.specs.Prelude.{◌≡◌, ℕ, ◌<◌, ◌^◌, ◌+◌, ◌⊎◌, ◌∷◌, [], List, length, true, false, Ok, Err, IfOk, IfErr};
 ghost use Rattle.notify_text.specs.Grammar.{IsFaultOf, IsFirstFault, Spells, piece_fault};
 ghost use Rattle.notify_text.specs.Judging.{Ends, IsPut, IsTaken, header_fault, late_fault};
-ghost use Rattle.notify_text.specs.Rules.{after_line, is_header, is_signal, line_rules, no_trace, signal_rules, with_signal};
+ghost use Rattle.notify_text.specs.Rules.{after_line, is_header, is_signal, line_rules, no_lines, signal_rules, with_signal};
 ghost use Rattle.notify_text.specs.Sound.{IsSoundTold};
 ghost use Rattle.notify_text.specs.declared.notify_trace.NotifyTrace.{NotifyTrace};
 ghost use Rattle.text_lines.specs.Words.{words_of};
@@ -71,7 +71,10 @@ fn value_of(word: &[u8]) -> Result<u32, LineFault>
 fn is_header(kind: LineKind) -> bool
     ensures { result ≡ is_header kind }
 {
-    matches!(kind, LineKind::Boot | LineKind::Ta | LineKind::Mem)
+    matches!(
+        kind,
+        LineKind::Boot | LineKind::Ta | LineKind::Mem | LineKind::Key
+    )
 }
 
 /// The fault that a line has behind a signal if it is one of the header.
@@ -97,9 +100,9 @@ struct Reader {
 }
 
 impl Model for Reader {
-    ghost use Rattle.notify_text.specs.declared.notify_trace.NotifyTrace.{NotifyTrace};
+    ghost use Rattle.notify_text.specs.Rules.{NotifyFront};
 
-    ghost Value = { NotifyTrace };
+    ghost Value = { NotifyFront };
 
     ghost view = { λ r. record { trace = r.builder; signals = r.signals.items } };
 }
@@ -107,7 +110,7 @@ impl Model for Reader {
 impl Reader {
     /// Before the first line.
     fn new(alloc: Global) -> Reader
-        ensures { result ≡ no_trace }
+        ensures { result ≡ no_lines }
     {
         Reader {
             builder: Builder::new(alloc),

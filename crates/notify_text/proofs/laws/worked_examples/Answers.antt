@@ -3,10 +3,9 @@ use Rattle.std.specs.Prelude.{codes}
 use Rattle.std.specs.Fmt.{digits}
 use Rattle.notify_text.specs.Examples.{signalled_lines}
 use Rattle.notify_text.specs.Grammar.{piece_fault}
-use Rattle.notify_text.specs.Rules.{after_line, line_rules, no_trace}
-use Rattle.notify_text.specs.declared.notify_trace.NotifyTrace.{NotifyTrace}
+use Rattle.notify_text.specs.Rules.{NotifyFront, after_line, line_rules, no_lines}
 use Rattle.text_lines.specs.Lines.{is_skipped}
-use Rattle.trace_text.specs.Examples.{boot_line, enter_line, text_of}
+use Rattle.trace_text.specs.Examples.{boot_line, enter_line, key_line, text_of}
 use Rattle.trace_text.specs.Forms.{is_decimal, decimal, is_hexadecimal, hexadecimal, is_last, is_register, register}
 use Rattle.trace_text.specs.Judging.{read_pieces}
 use Rattle.trace_text.specs.Limits.{inside_after, lies_in_ram}
@@ -18,14 +17,17 @@ use Rattle.trace_text.proofs.GrammarLaws.{first_fault_read}
 use Rattle.notify_text.proofs.laws.worked_examples.Goals as goal
 
 -- what the first lines of the faulty texts spell
-abbrev booted_trace : NotifyTrace
-booted_trace = after_line no_trace boot_line
+abbrev booted_trace : NotifyFront
+booted_trace = after_line no_lines boot_line
 
-abbrev signalled_once : NotifyTrace
+abbrev signalled_once : NotifyFront
 signalled_once = after_line booted_trace (codes "signal 5")
 
-abbrev entered_once : NotifyTrace
+abbrev entered_once : NotifyFront
 entered_once = after_line booted_trace enter_line
+
+abbrev signalled_all : NotifyFront
+signalled_all = after_line (after_line (after_line (after_line entered_once (codes "signal 5")) (codes "signal 63")) (codes "leave 1")) (codes "signal 1")
 
 pub returns : goal.returns
 unfolding is_decimal decimal is_hexadecimal hexadecimal is_last is_register register piece_fault trace_piece_fault read_pieces added after_trace_line after_line counts inside_after lies_in_ram is_skipped kind_named line_rules trace_line_rules rules_behind digits
@@ -33,17 +35,19 @@ returns c = record {
   spelled = record {
     lines = signalled_lines;
     text_is = refl;
+    end = signalled_all;
     spelled = (refl, (refl, (refl, (refl, (refl, (refl, (refl, refl)))))));
+    told_is = refl;
     no_end_fault = refl;
   };
   steps = refl;
-  nothing = record { lines = []; text_is = refl; spelled = refl; no_end_fault = refl };
+  nothing = record { lines = []; text_is = refl; end = no_lines; spelled = refl; told_is = refl; no_end_fault = refl };
   early = record {
     front = [];
     piece = codes "signal 5";
     back = [] ∷ [];
     text_is = refl;
-    before = no_trace;
+    before = no_lines;
     kept = refl;
     place_is = refl;
     fault = refl;
@@ -93,7 +97,7 @@ returns c = record {
     piece = codes "signal 5 6";
     back = [] ∷ [];
     text_is = refl;
-    before = no_trace;
+    before = no_lines;
     kept = refl;
     place_is = refl;
     fault = refl;
@@ -103,7 +107,7 @@ returns c = record {
     piece = codes "signal 0";
     back = [] ∷ [];
     text_is = refl;
-    before = no_trace;
+    before = no_lines;
     kept = refl;
     place_is = refl;
     fault = refl;
@@ -121,6 +125,16 @@ returns c = record {
   late_boot = record {
     front = boot_line ∷ codes "signal 5" ∷ [];
     piece = boot_line;
+    back = [] ∷ [];
+    text_is = refl;
+    before = signalled_once;
+    kept = (refl, (refl, refl));
+    place_is = refl;
+    fault = refl;
+  };
+  late_key = record {
+    front = boot_line ∷ codes "signal 5" ∷ [];
+    piece = key_line;
     back = [] ∷ [];
     text_is = refl;
     before = signalled_once;

@@ -1,8 +1,7 @@
 use Rattle.std.proofs.Common.{◌≡◌, true, None, sym, subst}
 use Rattle.notify_text.specs.Judging.{IsTaken, late_fault}
-use Rattle.notify_text.specs.Rules.{after_line, line_rules}
+use Rattle.notify_text.specs.Rules.{NotifyFront, after_line, line_rules}
 use Rattle.text_lines.specs.Words.{words_of}
-use Rattle.notify_text.specs.declared.notify_trace.NotifyTrace.{NotifyTrace}
 use Rattle.notify_text.proofs.Lines.{after-skipped, bad-byte, late-broken, other-taken, signal-taken, skipped-kept, told_of}
 use Rattle.notify_text.proofs.reading.Reader.take.Goals as goal
 
@@ -28,11 +27,11 @@ returns-in-Some c =
 
 pub returns : goal.returns
 returns c =
-    let told : NotifyTrace = told_of c.self.inside.builder c.self.inside.signals.items in
+    let told : NotifyFront = told_of c.self.inside.builder c.self.inside.signals.items in
     let view : told ≡ c.args.self.now = cc c.self.view_is in
     let late : late_fault told (words_of c.args.line.now) ≡ None =
-    subst (λ (t : NotifyTrace). late_fault t (words_of c.args.line.now) ≡ None) (sym view) (sym c.in_default.ensures) in
-    subst (λ (t : NotifyTrace). IsTaken c.take.result (line_rules c.args.natives.now t true c.args.line.now)
+    subst (λ (t : NotifyFront). late_fault t (words_of c.args.line.now) ≡ None) (sym view) (sym c.in_default.ensures) in
+    subst (λ (t : NotifyFront). IsTaken c.take.result (line_rules c.args.natives.now t true c.args.line.now)
     (after_line t c.args.line.now) (told_of c.take.new.self c.self.inside.signals.items)) view
     (other-taken c.args.natives.now told c.take.new.self c.args.line.now c.take.result (sym c.if-is_signal.ensures)
     late c.take.ensures)
