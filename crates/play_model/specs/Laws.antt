@@ -78,7 +78,7 @@ ToldIn boot history a0 Finds =
 abbrev pub AloneIn : Booted → List Event → Type 0
 AloneIn boot history =
     (session : ℕ) (app : Application) → own_app boot history session ≡ Some app → is_single app ≡ false →
-    solo_replies (steps_in history) app (own_events boot history session) ≡ Some (own_replies boot history session)
+    solo_replies (steps_in history) app boot.key (own_events boot history session) ≡ Some (own_replies boot history session)
 
 -- ---- plays
 
