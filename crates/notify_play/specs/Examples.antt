@@ -11,7 +11,7 @@ use Rattle.native_tas.specs.declared.driver_relation.DriverRelation.TheVariants.
 use Rattle.native_tas.specs.declared.relation.Relation.TheVariants.{Digest}
 use Rattle.notif.specs.Desk.{DeskState}
 use Rattle.notif.specs.History.{BottomHalf, Enable, Next, Signal, Stop}
-use Rattle.notify_text.specs.Rules.{after_line, no_trace}
+use Rattle.notify_text.specs.Rules.{after_line, no_lines, told_in}
 use Rattle.notify_text.specs.Steps.{Signals}
 use Rattle.notify_text.specs.declared.notify_trace.NotifyTrace.{NotifyTrace}
 use Rattle.ns_ram.specs.Examples.{read_of}
@@ -19,7 +19,7 @@ use Rattle.play_model.specs.Examples.{lines}
 use Rattle.play_model.specs.Play.{played_over}
 use Rattle.play_model.specs.Text.{text_of_play}
 use Rattle.ta_isa.specs.declared.boot.Boot.{Boot}
-use Rattle.trace_text.specs.Limits.{empty_trace}
+use Rattle.trace_text.specs.Limits.{no_front, trace_in}
 use Rattle.trace_text.specs.Rules as trace
 use Rattle.notify_play.specs.Asked.{asked, signalled}
 use Rattle.notify_play.specs.Duty.{Duty, Enables, Nothing, Offers, RunsBottomHalf, Stops, TellsValue, duty_of, last_entry}
@@ -45,7 +45,7 @@ echo = (1, Echo) ∷ []
 
 -- the trace that these lines spell, beside a boot or without
 abbrev pub spelled_by : List (List ℕ) → NotifyTrace
-spelled_by text = fold after_line no_trace text
+spelled_by text = told_in (fold after_line no_lines text)
 
 -- its play over so many bytes of RAM
 abbrev pub play_of : ℕ → List (List ℕ) → Option NotifyPlay
@@ -60,7 +60,7 @@ prints bytes text = option_map notify_text_of_play (play_of bytes text)
 -- what the play of a trace without signals prints
 abbrev pub prints_without : List (List ℕ) → Option (List ℕ)
 prints_without text =
-    let without = fold trace.after_line empty_trace text in
+    let without = trace_in (fold trace.after_line no_front text) in
     option_map text_of_play
     (option_and_then (λ (on : Boot). played_over (replicate 64 0) natives on without) without.boot)
 
@@ -276,7 +276,7 @@ pub record Examples : Type 0 where
       ∷ codes "mem 0 40000008 0800000000000000000000000000000000000000000000000300000000000000"
       ∷ [])
   -- without a boot there is nothing to print
-  pub no_boot : notify_text_of [] [] no_trace ≡ Some []
+  pub no_boot : notify_text_of [] [] (told_in no_lines) ≡ Some []
   -- longer scripts
   pub of_one_processor : prints 192 one_by_one ≡ lines one_by_one_output
   pub of_a_resumed_call : prints 4248 resumed ≡ lines resumed_output
