@@ -17,13 +17,12 @@ use Rattle.event_journal.specs.declared.event.Event.{Event}
 use Rattle.event_journal.specs.declared.event.Event.TheVariants.{Entry, Exit}
 use Rattle.event_journal.specs.Event.{copied_by}
 use Rattle.trace_text.specs.declared.fault.BadKind.TheVariants as bad
-use Rattle.trace_text.specs.declared.trace.Trace.{Trace}
-use Rattle.trace_text.specs.Limits.{first_broken, is_image, is_known, is_within}
+use Rattle.trace_text.specs.Limits.{first_broken, Front, is_image, is_known, is_within, no_key}
 use Rattle.trace_bin.specs.declared.record_kind.RecordKind.TheVariants as trace
 use Rattle.trace_bin.specs.Record.{is_whole as is_whole_body, kind_tagged as trace_tagged, number}
 use Rattle.trace_bin.specs.Rules.{added as trace_added, after_record as after_trace, behind_record as behind_trace, record_rules as trace_rules, rules_of as trace_rules_of}
 use Rattle.trace_bin.specs.Spelling.{app_record, boot_record, counted}
-use Rattle.trace_bin.proofs.Again.{app_read, boot_read, in_ram, none_broken, within}
+use Rattle.trace_bin.proofs.Again.{app_read, boot_read, in_ram, key_read, none_broken, within}
 use Rattle.trace_bin.proofs.Payload.{counted_body}
 use Rattle.trace_bin.proofs.Registers.{eight_are}
 use Rattle.journal_bytes.specs.declared.record_kind.RecordKind.TheVariants as kind
@@ -40,17 +39,17 @@ pub record IsTold (natives : List (List ℕ)) (before : Told) (bytes rest : List
   pub adds : after_record before bytes ≡ after
   pub behind : behind_record bytes ≡ rest
 
-abbrev pub booted : Boot → List Event → Told
-booted boot events = record { boot = Some boot; events = events }
+abbrev pub booted : Boot → Bool → List Event → Told
+booted boot keyed events = record { boot = Some boot; keyed = keyed; events = events }
 
--- what a trace tells of its boot
-abbrev header : Trace → Told
-header trace = record { boot = trace.boot; events = [] }
+-- what the records of a trace tell of its boot
+abbrev header : Front → Told
+header front = record { boot = front.boot; keyed = front.keyed; events = [] }
 
--- ---- the boot and its applications, which are read as in a trace
+-- ---- the boot, its applications and its key, which are read as in a trace
 
 pub boot_told : (natives : List (List ℕ)) (cpus threads frames : ℕ) (rest : List ℕ) → 1 ≤ cpus → cpus ≤ 8 → 1 ≤ threads → threads ≤ 16 → 1 ≤ frames → frames ≤ 1024
-    → IsTold natives nothing (boot_record (record { cpus = cpus; threads = threads; frames = frames; apps = [] }) ++ rest) rest (booted (record { cpus = cpus; threads = threads; frames = frames; apps = [] }) [])
+    → IsTold natives nothing (boot_record (record { cpus = cpus; threads = threads; frames = frames; apps = []; key = no_key }) ++ rest) rest (booted (record { cpus = cpus; threads = threads; frames = frames; apps = []; key = no_key }) false [])
 unfolding record_rules after_record behind_record kind_tagged is_whole behind rules_of added trace_rules after_trace behind_trace trace_tagged trace_rules_of trace_added
 boot_told natives cpus threads frames rest c0 c1 t0 t1 f0 f1 =
     let read = boot_read natives cpus threads frames rest c0 c1 t0 t1 f0 f1 in
@@ -58,10 +57,16 @@ boot_told natives cpus threads frames rest c0 c1 t0 t1 f0 f1 =
 
 pub app_told : (natives : List (List ℕ)) (boot : Boot) (app : App) (rest : List ℕ) → length app.uuid ≡ 16 → 0 < length (image_spelling app.image) → length (image_spelling app.image) < 2 ^ 32
     → ltb (length boot.apps) 16 ≡ true → is_known natives boot.apps app.uuid ≡ false → is_image (image_spelling app.image) ≡ true → image_of (image_spelling app.image) ≡ app.image
-    → IsTold natives (booted boot []) (app_record app ++ rest) rest (booted (record boot { apps = boot.apps ++ app ∷ [] }) [])
+    → IsTold natives (booted boot false []) (app_record app ++ rest) rest (booted (record boot { apps = boot.apps ++ app ∷ [] }) false [])
 unfolding app_record record_rules after_record behind_record kind_tagged is_whole behind rules_of added trace_rules after_trace behind_trace trace_tagged trace_rules_of trace_added
 app_told natives boot app rest sixteen some few room new loads same =
     let read = app_read natives boot app rest sixteen some few room new loads same in
+    record { kept = read.kept; adds = ap header read.adds; behind = read.behind }
+
+pub key_told : (natives : List (List ℕ)) (boot : Boot) (key rest : List ℕ) → length key ≡ 32 → IsTold natives (booted boot false []) (0x04 ∷ key ++ rest) rest (booted (record boot { key = key }) true [])
+unfolding record_rules after_record behind_record kind_tagged is_whole behind rules_of added trace_rules after_trace behind_trace trace_tagged trace_rules_of trace_added
+key_told natives boot key rest whole =
+    let read = key_read natives boot key rest whole in
     record { kept = read.kept; adds = ap header read.adds; behind = read.behind }
 
 -- ---- reads
@@ -127,12 +132,12 @@ regs_back cpu r0 r1 r2 r3 r4 r5 r6 r7 rest (f0, (f1, (f2, (f3, (f4, (f5, (f6, (f
 
 -- ---- events
 
-entry_told : (natives : List (List ℕ)) (boot : Boot) (events : List Event) (cpu r0 r1 r2 r3 r4 r5 r6 r7 steps : ℕ) (reads : List Read) (rest : List ℕ) → AreWords (r0 ∷ r1 ∷ r2 ∷ r3 ∷ r4 ∷ r5 ∷ r6 ∷ r7 ∷ []) → IsSoundEntry boot.cpus cpu steps reads → length reads < 2 ^ 32
-    → IsTold natives (booted boot events) (event_record (Entry cpu (regs_of r0 r1 r2 r3 r4 r5 r6 r7) steps reads) ++ rest) rest (booted boot (events ++ Entry cpu (regs_of r0 r1 r2 r3 r4 r5 r6 r7) steps reads ∷ []))
+entry_told : (natives : List (List ℕ)) (boot : Boot) (keyed : Bool) (events : List Event) (cpu r0 r1 r2 r3 r4 r5 r6 r7 steps : ℕ) (reads : List Read) (rest : List ℕ) → AreWords (r0 ∷ r1 ∷ r2 ∷ r3 ∷ r4 ∷ r5 ∷ r6 ∷ r7 ∷ []) → IsSoundEntry boot.cpus cpu steps reads → length reads < 2 ^ 32
+    → IsTold natives (booted boot keyed events) (event_record (Entry cpu (regs_of r0 r1 r2 r3 r4 r5 r6 r7) steps reads) ++ rest) rest (booted boot keyed (events ++ Entry cpu (regs_of r0 r1 r2 r3 r4 r5 r6 r7) steps reads ∷ []))
 unfolding event_record record_rules after_record behind_record kind_tagged is_whole behind rules_of added listed_in
-entry_told natives boot events cpu r0 r1 r2 r3 r4 r5 r6 r7 steps reads rest words sound few =
+entry_told natives boot keyed events cpu r0 r1 r2 r3 r4 r5 r6 r7 steps reads rest words sound few =
     let regs : Regs = regs_of r0 r1 r2 r3 r4 r5 r6 r7 in
-    let before : Told = booted boot events in
+    let before : Told = booted boot keyed events in
     let flat : List ℕ = flat_map read_bytes reads in
     let body : List ℕ = ((((cpu ∷ regs_bytes regs) ++ little_bytes 4 steps) ++ little_bytes 4 (length reads)) ++ flat) ++ rest in
     let all = recursion_from_All IsSoundRead reads sound.are_reads in
@@ -154,12 +159,12 @@ entry_told natives boot events cpu r0 r1 r2 r3 r4 r5 r6 r7 steps reads rest word
       behind = ap rest_of listed;
     }
 
-exit_told : (natives : List (List ℕ)) (boot : Boot) (events : List Event) (cpu r0 r1 r2 r3 r4 r5 r6 r7 : ℕ) (rest : List ℕ) → AreWords (r0 ∷ r1 ∷ r2 ∷ r3 ∷ r4 ∷ r5 ∷ r6 ∷ r7 ∷ []) → cpu < boot.cpus
-    → IsTold natives (booted boot events) (event_record (Exit cpu (regs_of r0 r1 r2 r3 r4 r5 r6 r7)) ++ rest) rest (booted boot (events ++ Exit cpu (regs_of r0 r1 r2 r3 r4 r5 r6 r7) ∷ []))
+exit_told : (natives : List (List ℕ)) (boot : Boot) (keyed : Bool) (events : List Event) (cpu r0 r1 r2 r3 r4 r5 r6 r7 : ℕ) (rest : List ℕ) → AreWords (r0 ∷ r1 ∷ r2 ∷ r3 ∷ r4 ∷ r5 ∷ r6 ∷ r7 ∷ []) → cpu < boot.cpus
+    → IsTold natives (booted boot keyed events) (event_record (Exit cpu (regs_of r0 r1 r2 r3 r4 r5 r6 r7)) ++ rest) rest (booted boot keyed (events ++ Exit cpu (regs_of r0 r1 r2 r3 r4 r5 r6 r7) ∷ []))
 unfolding event_record record_rules after_record behind_record kind_tagged is_whole behind rules_of added
-exit_told natives boot events cpu r0 r1 r2 r3 r4 r5 r6 r7 rest words there =
+exit_told natives boot keyed events cpu r0 r1 r2 r3 r4 r5 r6 r7 rest words there =
     let regs : Regs = regs_of r0 r1 r2 r3 r4 r5 r6 r7 in
-    let before : Told = booted boot events in
+    let before : Told = booted boot keyed events in
     let body : List ℕ = (cpu ∷ regs_bytes regs) ++ rest in
     let regs_are : regs_in body ≡ regs = regs_back cpu r0 r1 r2 r3 r4 r5 r6 r7 rest words in
     let long : leb 33 (length body) ≡ true = le-leb 33 (length body) (omega arith) in
@@ -175,22 +180,22 @@ pub record CanBeTold (cpus : ℕ) (event : Event) : Type 0 where
   pub regs : HasRegs event
   pub few_bytes : copied_by event ≤ 2 ^ 28
 
-abbrev Tells : List (List ℕ) → Boot → List Event → Event → List ℕ → Type 0
-Tells natives boot events event rest = IsTold natives (booted boot events) (event_record event ++ rest) rest (booted boot (events ++ event ∷ []))
+abbrev Tells : List (List ℕ) → Boot → Bool → List Event → Event → List ℕ → Type 0
+Tells natives boot keyed events event rest = IsTold natives (booted boot keyed events) (event_record event ++ rest) rest (booted boot keyed (events ++ event ∷ []))
 
-pub event_told : (natives : List (List ℕ)) (boot : Boot) (events : List Event) (event : Event) (rest : List ℕ) → CanBeTold boot.cpus event → Tells natives boot events event rest
-event_told natives boot events (Entry cpu regs steps reads) rest can =
+pub event_told : (natives : List (List ℕ)) (boot : Boot) (keyed : Bool) (events : List Event) (event : Event) (rest : List ℕ) → CanBeTold boot.cpus event → Tells natives boot keyed events event rest
+event_told natives boot keyed events (Entry cpu regs steps reads) rest can =
     let w : List ℕ = regs.a in
     let eight = eight_are w 0 can.regs.eight in
     let words : AreWords (get_or w 0 0 ∷ get_or w 1 0 ∷ get_or w 2 0 ∷ get_or w 3 0 ∷ get_or w 4 0 ∷ get_or w 5 0 ∷ get_or w 6 0 ∷ get_or w 7 0 ∷ []) = subst (λ (ws : List ℕ). AreWords ws) eight (recursion_from_All (λ word. word < 2 ^ 32) w can.regs.words) in
     let few = few_reads reads (recursion_from_All IsSoundRead reads can.sound.are_reads) in
     let bytes = can.few_bytes in
     let fewer : length reads < 2 ^ 32 = omega (arith, few, bytes) in
-    subst (λ (ws : List ℕ). Tells natives boot events (Entry cpu (record { a = ws }) steps reads) rest) (sym eight)
-    (entry_told natives boot events cpu _ _ _ _ _ _ _ _ steps reads rest words can.sound fewer)
-event_told natives boot events (Exit cpu regs) rest can =
+    subst (λ (ws : List ℕ). Tells natives boot keyed events (Entry cpu (record { a = ws }) steps reads) rest) (sym eight)
+    (entry_told natives boot keyed events cpu _ _ _ _ _ _ _ _ steps reads rest words can.sound fewer)
+event_told natives boot keyed events (Exit cpu regs) rest can =
     let w : List ℕ = regs.a in
     let eight = eight_are w 0 can.regs.eight in
     let words : AreWords (get_or w 0 0 ∷ get_or w 1 0 ∷ get_or w 2 0 ∷ get_or w 3 0 ∷ get_or w 4 0 ∷ get_or w 5 0 ∷ get_or w 6 0 ∷ get_or w 7 0 ∷ []) = subst (λ (ws : List ℕ). AreWords ws) eight (recursion_from_All (λ word. word < 2 ^ 32) w can.regs.words) in
-    subst (λ (ws : List ℕ). Tells natives boot events (Exit cpu (record { a = ws })) rest) (sym eight)
-    (exit_told natives boot events cpu _ _ _ _ _ _ _ _ rest words can.sound)
+    subst (λ (ws : List ℕ). Tells natives boot keyed events (Exit cpu (record { a = ws })) rest) (sym eight)
+    (exit_told natives boot keyed events cpu _ _ _ _ _ _ _ _ rest words can.sound)

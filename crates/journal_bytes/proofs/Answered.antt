@@ -136,7 +136,7 @@ end_unbooted natives before rest kind none some unbooted is_place =
 
 -- or one
 pub ends_well : (natives : List (List ℕ)) (bytes : List ℕ) (place : ℕ) (before : Told) (rest : List ℕ) (read : ReadJournal) → magic_fault bytes ≡ None → 1 ≤ place → Leads natives nothing (drop 4 bytes) (place - 1) before rest → is_record rest ≡ false → eqb (length rest) 0 ≡ false
-    → before ≡ record { boot = Some read.boot; events = read.journal.events } → length rest ≤ length bytes → read.used ≡ length bytes + 1 - length rest → read.records ≡ place → Spells natives bytes (whole_of read)
+    → before ≡ record { boot = Some read.boot; keyed = before.keyed; events = read.journal.events } → length rest ≤ length bytes → read.used ≡ length bytes + 1 - length rest → read.records ≡ place → Spells natives bytes (whole_of read)
 ends_well natives bytes place before rest read begins first so_far none some told fits used records =
     let here = end_here rest none some in
     let L : Told → Type 0 = λ t. Leads natives nothing (drop 4 bytes) (place - 1) t (end_tag ∷ drop 1 rest) in
@@ -145,6 +145,7 @@ ends_well natives bytes place before rest read begins first so_far none some tol
     record {
       begins = begins;
       count = place - 1;
+      keyed = before.keyed;
       behind = drop 1 rest;
       spelled = subst L told (subst R here so_far);
       used_is = omega (arith, long, used, fits);

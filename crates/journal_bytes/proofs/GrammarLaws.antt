@@ -72,11 +72,11 @@ same_end natives before bytes (suc n) (suc m) one other rest others (kept, more)
     record { count = ap (λ (k : ℕ). suc k) end.count; told = end.told; bytes = end.bytes }
 
 -- what a journal tells before its end
-abbrev told_in : Whole → Told
-told_in whole = record { boot = Some whole.boot; events = whole.events }
+abbrev told_in : Whole → Bool → Told
+told_in whole keyed = record { boot = Some whole.boot; keyed = keyed; events = whole.events }
 
-same_whole : (one other : Whole) → told_in one ≡ told_in other → one.used ≡ other.used → one.records ≡ other.records → one ≡ other
-same_whole one other told used records =
+same_whole : (one other : Whole) (keyed also : Bool) → told_in one keyed ≡ told_in other also → one.used ≡ other.used → one.records ≡ other.records → one ≡ other
+same_whole one other keyed also told used records =
     let boots : Some one.boot ≡ Some other.boot = ap (λ (t : Told). t.boot) told in
     let boot : one.boot ≡ other.boot = cc in
     let events : one.events ≡ other.events = ap (λ (t : Told). t.events) told in
@@ -87,9 +87,9 @@ same_whole one other told used records =
 
 pub one_journal : (natives : List (List ℕ)) (bytes : List ℕ) (one other : Whole) → Spells natives bytes one → Spells natives bytes other → one ≡ other
 one_journal natives bytes one other s t =
-    let end = same_end natives nothing (drop 4 bytes) s.count t.count (told_in one) (told_in other) (end_tag ∷ s.behind) (end_tag ∷ t.behind) s.spelled t.spelled (at_end natives (told_in one) s.behind) (at_end natives (told_in other) t.behind) in
+    let end = same_end natives nothing (drop 4 bytes) s.count t.count (told_in one s.keyed) (told_in other t.keyed) (end_tag ∷ s.behind) (end_tag ∷ t.behind) s.spelled t.spelled (at_end natives (told_in one s.keyed) s.behind) (at_end natives (told_in other t.keyed) t.behind) in
     let long : length (end_tag ∷ s.behind) ≡ length (end_tag ∷ t.behind) = ap (λ (b : List ℕ). length b) end.bytes in
-    same_whole one other end.told (omega (arith, long, s.used_is, t.used_is)) (s.records_is ∙ ap (λ (n : ℕ). n + 1) end.count ∙ sym t.records_is)
+    same_whole one other s.keyed t.keyed end.told (omega (arith, long, s.used_is, t.used_is)) (s.records_is ∙ ap (λ (n : ℕ). n + 1) end.count ∙ sym t.records_is)
 
 behind_one : (natives : List (List ℕ)) (bytes : List ℕ) (place : ℕ) (kind : BadKind) (other_place : ℕ) (other_kind : BadKind) → IsFaultBehind natives bytes place kind → IsFaultBehind natives bytes other_place other_kind → (place ≡ other_place) × (kind ≡ other_kind)
 behind_one natives bytes place kind other_place other_kind s t =
@@ -106,7 +106,7 @@ one_fault natives bytes place kind other_place other_kind (inr s) (inr t) = behi
 pub not_both : (natives : List (List ℕ)) (bytes : List ℕ) (whole : Whole) (place : ℕ) (kind : BadKind) → Spells natives bytes whole → IsFirstFault natives bytes place kind → ⊥
 not_both natives bytes whole place kind s (inl (a, m)) = let both : Some kind ≡ None = sym m ∙ s.begins in absurd cc
 not_both natives bytes whole place kind s (inr t) =
-    let end = same_end natives nothing (drop 4 bytes) s.count t.count (told_in whole) t.before (end_tag ∷ s.behind) t.rest s.spelled t.kept (at_end natives (told_in whole) s.behind) (at_fault natives t.before t.rest kind t.fault) in
+    let end = same_end natives nothing (drop 4 bytes) s.count t.count (told_in whole s.keyed) t.before (end_tag ∷ s.behind) t.rest s.spelled t.kept (at_end natives (told_in whole s.keyed) s.behind) (at_fault natives t.before t.rest kind t.fault) in
     let both : None ≡ Some kind = ap (λ (b : Told). fault_at natives b (end_tag ∷ s.behind)) end.told ∙ ap (λ (r : List ℕ). fault_at natives t.before r) end.bytes ∙ t.fault in
     absurd cc
 
@@ -123,11 +123,11 @@ faulty natives bytes count before rest kind begins kept fault =
     inr (count + 1, kind, inr (record { begins = begins; count = count; before = before; rest = rest; kept = kept; place_is = refl; fault = fault }))
 
 -- the end stands behind them
-ended : (natives : List (List ℕ)) (bytes : List ℕ) (count : ℕ) (boot : Option Boot) (events : List Event) (behind : List ℕ) → length behind ≤ length bytes → magic_fault bytes ≡ None
-    → Leads natives nothing (drop 4 bytes) count (record { boot = boot; events = events }) (end_tag ∷ behind) → HasMeaning natives bytes
-ended natives bytes count None events behind fits begins kept = faulty natives bytes count (record { boot = None; events = events }) (end_tag ∷ behind) bad.Place begins kept refl
-ended natives bytes count (Some boot) events behind fits begins kept =
-    inl (record { boot = boot; events = events; used = length bytes - length behind; records = count + 1 }, record { begins = begins; count = count; behind = behind; spelled = kept; used_is = omega arith; records_is = refl })
+ended : (natives : List (List ℕ)) (bytes : List ℕ) (count : ℕ) (boot : Option Boot) (keyed : Bool) (events : List Event) (behind : List ℕ) → length behind ≤ length bytes → magic_fault bytes ≡ None
+    → Leads natives nothing (drop 4 bytes) count (record { boot = boot; keyed = keyed; events = events }) (end_tag ∷ behind) → HasMeaning natives bytes
+ended natives bytes count None keyed events behind fits begins kept = faulty natives bytes count (record { boot = None; keyed = keyed; events = events }) (end_tag ∷ behind) bad.Place begins kept refl
+ended natives bytes count (Some boot) keyed events behind fits begins kept =
+    inl (record { boot = boot; events = events; used = length bytes - length behind; records = count + 1 }, record { begins = begins; count = count; keyed = keyed; behind = behind; spelled = kept; used_is = omega arith; records_is = refl })
 
 -- the records from here on, of which there are at most as many as bytes
 from_here : (natives : List (List ℕ)) (bytes : List ℕ) (most count : ℕ) (before : Told) (rest : List ℕ) → length rest ≤ most → length rest ≤ length bytes → magic_fault bytes ≡ None → Leads natives nothing (drop 4 bytes) count before rest → HasMeaning natives bytes
@@ -146,7 +146,7 @@ from_here natives bytes (suc most) count before (tag ∷ body) few fits begins k
 
     by_end : (first_broken (record_rules natives before (tag ∷ body)) ≡ None → HasMeaning natives bytes) → (is_end : Bool) → (tag == end_tag) ≡ is_end → HasMeaning natives bytes
     by_end onward true is_end =
-        ended natives bytes count before.boot before.events body (omega arith) begins (subst (λ (t : ℕ). Leads natives nothing (drop 4 bytes) count before (t ∷ body)) (tag_is tag is_end) kept)
+        ended natives bytes count before.boot before.keyed before.events body (omega arith) begins (subst (λ (t : ℕ). Leads natives nothing (drop 4 bytes) count before (t ∷ body)) (tag_is tag is_end) kept)
     by_end onward false no_end = by_rules onward no_end (first_broken (record_rules natives before (tag ∷ body))) refl
 
 by_magic : (natives : List (List ℕ)) (bytes : List ℕ) (fault : Option BadKind) → magic_fault bytes ≡ fault → HasMeaning natives bytes

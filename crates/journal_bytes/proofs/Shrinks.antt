@@ -54,6 +54,7 @@ pub behind_shorter : (kind : RecordKind) (body : List ℕ) → length (behind ki
 unfolding behind
 behind_shorter kind.Boot body = omega (arith, length-drop (body_len trace.Boot body) body)
 behind_shorter kind.Ta body = omega (arith, length-drop (body_len trace.Ta body) body)
+behind_shorter kind.Key body = omega (arith, length-drop (body_len trace.Key body) body)
 behind_shorter kind.Entry body = let all : total_bytes (reads_of (listed_in body)) + length (rest_of (listed_in body)) ≤ length body = listed_within body in omega (arith, all)
 behind_shorter kind.Exit body = omega (arith, length-drop 33 body)
 

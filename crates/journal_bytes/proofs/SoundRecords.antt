@@ -14,7 +14,7 @@ use Rattle.event_journal.specs.Event.{copied_by}
 use Rattle.event_journal.specs.Journal.{copied_bytes}
 use Rattle.trace_text.specs.Limits.{cpus_of, first_broken}
 use Rattle.trace_text.specs.Sound.{IsSoundBoot}
-use Rattle.trace_text.proofs.SoundLaws.{are_kept, AreKept, sound_apps, sound_boot}
+use Rattle.trace_text.proofs.SoundLaws.{are_kept, AreKept, at_first as no_line, keyed_boot, sound_apps, sound_boot, with_boot}
 use Rattle.trace_text.proofs.SoundWords.{in_ram, valid_bytes, within}
 use Rattle.trace_bin.specs.declared.record_kind.RecordKind.TheVariants as trace
 use Rattle.trace_bin.specs.Record.{body_len, bytes_in, is_whole as is_whole_body, number}
@@ -51,25 +51,25 @@ at_first : (natives : List (List ℕ)) → IsSoFarOf natives nothing
 at_first natives = record { no_boot = refl; is_boot = tt; each = All-nil (IsSoundEvent 0) }
 
 -- the record adds to what was told within the limits
-abbrev Adds : RecordKind → List (List ℕ) → Option Boot → List Event → List ℕ → Type 0
-Adds kind natives boot events body =
-    let before : Told = record { boot = boot; events = events } in
+abbrev Adds : RecordKind → List (List ℕ) → Option Boot → Bool → List Event → List ℕ → Type 0
+Adds kind natives boot keyed events body =
+    let before : Told = record { boot = boot; keyed = keyed; events = events } in
     AreKept (rules_of kind natives before body) → IsBytes body → IsSoFar natives boot events → IsSoFarOf natives (added kind before body)
 
-after_boot : (natives : List (List ℕ)) (boot : Option Boot) (events : List Event) (body : List ℕ) → Adds kind.Boot natives boot events body
+after_boot : (natives : List (List ℕ)) (boot : Option Boot) (keyed : Bool) (events : List Event) (body : List ℕ) → Adds kind.Boot natives boot keyed events body
 unfolding rules_of added
-after_boot natives None events body (_, said) fit so_far =
+after_boot natives None keyed events body (_, said) fit so_far =
     record {
       no_boot = tt;
       is_boot = sound_boot natives _ _ _ said;
       each = subst (λ (es : List Event). All (IsSoundEvent (boot_in body).cpus) es) (sym so_far.no_boot) (All-nil (IsSoundEvent (boot_in body).cpus));
     }
-after_boot natives (Some boot) events body (first, _) fit so_far = absurd cc
+after_boot natives (Some boot) keyed events body (first, _) fit so_far = absurd cc
 
-after_ta : (natives : List (List ℕ)) (boot : Option Boot) (events : List Event) (body : List ℕ) → Adds kind.Ta natives boot events body
+after_ta : (natives : List (List ℕ)) (boot : Option Boot) (keyed : Bool) (events : List Event) (body : List ℕ) → Adds kind.Ta natives boot keyed events body
 unfolding rules_of added
-after_ta natives None events body (_, (booted, _)) fit so_far = absurd cc
-after_ta natives (Some boot) events body (_, (_, (_, (_, said)))) fit so_far =
+after_ta natives None keyed events body (_, (booted, _)) fit so_far = absurd cc
+after_ta natives (Some boot) keyed events body (_, (_, (_, (_, said)))) fit so_far =
     let fits : IsBytes (bytes_in trace.Ta body) = IsBytes-take _ _ (IsBytes-drop 20 body fit) in
     record {
       no_boot = tt;
@@ -77,10 +77,20 @@ after_ta natives (Some boot) events body (_, (_, (_, (_, said)))) fit so_far =
       each = so_far.each;
     }
 
-after_entry : (natives : List (List ℕ)) (boot : Option Boot) (events : List Event) (body : List ℕ) → Adds kind.Entry natives boot events body
+-- another key changes no limit
+sound_key : (natives : List (List ℕ)) (boot : Boot) (key : List ℕ) → IsSoundBoot natives boot → IsSoundBoot natives (record boot { key = key })
+sound_key natives boot key sound = (keyed_boot natives boot key [] [] (with_boot natives boot [] [] sound (no_line natives))).is_boot
+
+after_key : (natives : List (List ℕ)) (boot : Option Boot) (keyed : Bool) (events : List Event) (body : List ℕ) → Adds kind.Key natives boot keyed events body
 unfolding rules_of added
-after_entry natives None events body (booted, _) fit so_far = absurd cc
-after_entry natives (Some boot) events body (_, (granted, (reads, (there, _)))) fit so_far =
+after_key natives None keyed events body (_, (booted, _)) fit so_far = absurd cc
+after_key natives (Some boot) keyed events body said fit so_far =
+    record { no_boot = tt; is_boot = sound_key natives boot (take 32 body) so_far.is_boot; each = so_far.each }
+
+after_entry : (natives : List (List ℕ)) (boot : Option Boot) (keyed : Bool) (events : List Event) (body : List ℕ) → Adds kind.Entry natives boot keyed events body
+unfolding rules_of added
+after_entry natives None keyed events body (booted, _) fit so_far = absurd cc
+after_entry natives (Some boot) keyed events body (_, (granted, (reads, (there, _)))) fit so_far =
     let steps = within 1 1000000 (steps_in body) granted in
     record {
       no_boot = tt;
@@ -95,19 +105,20 @@ after_entry natives (Some boot) events body (_, (granted, (reads, (there, _)))) 
           });
     }
 
-after_exit : (natives : List (List ℕ)) (boot : Option Boot) (events : List Event) (body : List ℕ) → Adds kind.Exit natives boot events body
+after_exit : (natives : List (List ℕ)) (boot : Option Boot) (keyed : Bool) (events : List Event) (body : List ℕ) → Adds kind.Exit natives boot keyed events body
 unfolding rules_of added
-after_exit natives None events body (booted, _) fit so_far = absurd cc
-after_exit natives (Some boot) events body (_, (there, _)) fit so_far =
+after_exit natives None keyed events body (booted, _) fit so_far = absurd cc
+after_exit natives (Some boot) keyed events body (_, (there, _)) fit so_far =
     record {
       no_boot = tt;
       is_boot = so_far.is_boot;
       each = All-push (IsSoundEvent boot.cpus) events (exit_in body) so_far.each (ltb-true (cpu_in body) boot.cpus there);
     }
 
-after_any : (kind : RecordKind) (natives : List (List ℕ)) (boot : Option Boot) (events : List Event) (body : List ℕ) → Adds kind natives boot events body
+after_any : (kind : RecordKind) (natives : List (List ℕ)) (boot : Option Boot) (keyed : Bool) (events : List Event) (body : List ℕ) → Adds kind natives boot keyed events body
 after_any kind.Boot = after_boot
 after_any kind.Ta = after_ta
+after_any kind.Key = after_key
 after_any kind.Entry = after_entry
 after_any kind.Exit = after_exit
 
@@ -115,7 +126,7 @@ by_kind : (named : Option RecordKind) (natives : List (List ℕ)) (before : Told
 by_kind None natives before body e fit so_far = absurd cc
 by_kind (Some kind) natives before body e fit so_far =
     let kept = are_kept (rules_by_kind (Some kind) natives before body) e in
-    after_any kind natives before.boot before.events body kept.1 fit so_far
+    after_any kind natives before.boot before.keyed before.events body kept.1 fit so_far
 
 one_record : (natives : List (List ℕ)) (before : Told) (bytes : List ℕ) → first_broken (record_rules natives before bytes) ≡ None → IsBytes bytes → IsSoFarOf natives before → IsSoFarOf natives (after_record before bytes)
 unfolding record_rules after_record
@@ -144,6 +155,7 @@ tail_fits : (kind : RecordKind) (body : List ℕ) → IsBytes body → IsBytes (
 unfolding behind listed_in
 tail_fits kind.Boot body fit = IsBytes-drop (body_len trace.Boot body) body fit
 tail_fits kind.Ta body fit = IsBytes-drop (body_len trace.Ta body) body fit
+tail_fits kind.Key body fit = IsBytes-drop (body_len trace.Key body) body fit
 tail_fits kind.Entry body fit = rest_fits (number 4 37 body) (drop 41 body) (IsBytes-drop 41 body fit)
 tail_fits kind.Exit body fit = IsBytes-drop 33 body fit
 
@@ -165,6 +177,7 @@ kind_covered : (kind : RecordKind) (before : Told) (body : List ℕ) → IsCover
 unfolding added behind
 kind_covered kind.Boot before body = omega (arith, length-drop (body_len trace.Boot body) body)
 kind_covered kind.Ta before body = omega (arith, length-drop (body_len trace.Ta body) body)
+kind_covered kind.Key before body = omega (arith, length-drop (body_len trace.Key body) body)
 kind_covered kind.Entry before body = let r = listed_within body in omega (arith, r, sum_by_push copied_by before.events (entry_in body))
 kind_covered kind.Exit before body = omega (arith, length-drop 33 body, sum_by_push copied_by before.events (exit_in body))
 

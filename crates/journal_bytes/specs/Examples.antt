@@ -10,7 +10,20 @@ use Rattle.journal_bytes.specs.Spelling.{event_record, spelling}
 
 -- a core of one processor, one slot and one frame that was asked for its UID
 abbrev pub small_boot : Boot
-small_boot = record { cpus = 1; threads = 1; frames = 1; apps = [] }
+small_boot = record { cpus = 1; threads = 1; frames = 1; apps = []; key = replicate 32 0 }
+
+-- the same with a key, and its record
+abbrev pub key_bytes : List ℕ
+key_bytes =
+    0xa0 ∷ 0xa1 ∷ 0xa2 ∷ 0xa3 ∷ 0xa4 ∷ 0xa5 ∷ 0xa6 ∷ 0xa7 ∷ 0xa8 ∷ 0xa9 ∷ 0xaa ∷ 0xab ∷ 0xac ∷ 0xad ∷ 0xae ∷ 0xaf
+    ∷ 0xb0 ∷ 0xb1 ∷ 0xb2 ∷ 0xb3 ∷ 0xb4 ∷ 0xb5 ∷ 0xb6 ∷ 0xb7 ∷ 0xb8 ∷ 0xb9 ∷ 0xba ∷ 0xbb ∷ 0xbc ∷ 0xbd ∷ 0xbe ∷ 0xbf
+    ∷ []
+
+abbrev pub keyed_boot : Boot
+keyed_boot = record small_boot { key = key_bytes }
+
+abbrev pub key_record : List ℕ
+key_record = 4 ∷ key_bytes
 
 abbrev pub asks : Event
 asks = Entry 0 (record { a = 0xbf00ff01 ∷ replicate 7 0 }) 1 []
@@ -43,6 +56,16 @@ answer_bytes =
 
 abbrev pub whole_bytes : List ℕ
 whole_bytes = magic_bytes ++ boot_bytes ++ asking_bytes ++ answer_bytes ++ 0x7f ∷ []
+
+abbrev pub keyed_bytes : List ℕ
+keyed_bytes = magic_bytes ++ boot_bytes ++ key_record ++ asking_bytes ++ answer_bytes ++ 0x7f ∷ []
+
+-- a key of zeros, which may be given, and 31 bytes of one
+abbrev pub zero_key_record : List ℕ
+zero_key_record = 4 ∷ replicate 32 0
+
+abbrev pub cut_key_bytes : List ℕ
+cut_key_bytes = 4 ∷ replicate 31 7
 
 -- an invoke whose argument stands in a buffer that was registered: its head is read
 abbrev pub reads_a_head : Event
@@ -192,8 +215,9 @@ app_bytes =
 pub record Examples : Type 0 where
   -- what is written, byte for byte
   pub written : spelling small_boot (asks ∷ answers ∷ []) ≡ whole_bytes
-  pub boot_written : boot_record (record { cpus = 2; threads = 16; frames = 60; apps = [] }) ≡ 1 ∷ 2 ∷ 16 ∷ 60 ∷ 0 ∷ []
-  pub many_frames_written : boot_record (record { cpus = 1; threads = 2; frames = 1024; apps = [] }) ≡ 1 ∷ 1 ∷ 2 ∷ 0 ∷ 4 ∷ []
+  pub key_written : spelling keyed_boot (asks ∷ answers ∷ []) ≡ keyed_bytes
+  pub boot_written : boot_record (record { cpus = 2; threads = 16; frames = 60; apps = []; key = [] }) ≡ 1 ∷ 2 ∷ 16 ∷ 60 ∷ 0 ∷ []
+  pub many_frames_written : boot_record (record { cpus = 1; threads = 2; frames = 1024; apps = []; key = [] }) ≡ 1 ∷ 1 ∷ 2 ∷ 0 ∷ 4 ∷ []
   pub reads_a_head_written : event_record reads_a_head ≡ reads_a_head_bytes
   pub reads_three_times_written : event_record reads_three_times ≡ reads_three_times_bytes
   pub reads_the_last_bytes_written : event_record reads_the_last_bytes ≡ reads_the_last_bytes_bytes
@@ -204,6 +228,8 @@ pub record Examples : Type 0 where
   pub read : Spells [] whole_bytes (record { boot = small_boot; events = asks ∷ answers ∷ []; used = length whole_bytes; records = 4 })
   pub read_of_more : Spells [] (whole_bytes ++ 0x7f ∷ 1 ∷ []) (record { boot = small_boot; events = asks ∷ answers ∷ []; used = 86; records = 4 })
   pub no_events : Spells [] (magic_bytes ++ boot_bytes ++ 0x7f ∷ []) (record { boot = small_boot; events = []; used = 10; records = 2 })
+  pub read_key : Spells [] keyed_bytes (record { boot = keyed_boot; events = asks ∷ answers ∷ []; used = length keyed_bytes; records = 5 })
+  pub read_zero_key : Spells [] (magic_bytes ++ boot_bytes ++ zero_key_record ++ 0x7f ∷ []) (record { boot = small_boot; events = []; used = 43; records = 3 })
   -- what is refused, where and for which cause
   pub no_bytes : IsFirstFault [] ([]) 0 bad.Cut
   pub other_magic : IsFirstFault [] (0x4f ∷ 0x54 ∷ 0x54 ∷ 0x42 ∷ 0x7f ∷ []) 0 bad.Item
@@ -217,6 +243,12 @@ pub record Examples : Type 0 where
   pub bytes_of_a_trace : IsFirstFault [] (magic_bytes ++ boot_bytes ++ 3 ∷ []) 2 bad.Item
   pub no_image : IsFirstFault [] (magic_bytes ++ boot_bytes ++ app_bytes) 2 bad.Range
   pub late_app : IsFirstFault [] (magic_bytes ++ boot_bytes ++ answer_bytes ++ app_bytes) 3 bad.Place
+  pub key_before_boot : IsFirstFault [] (magic_bytes ++ key_record) 1 bad.Place
+  pub second_key : IsFirstFault [] (magic_bytes ++ boot_bytes ++ key_record ++ key_record) 3 bad.Place
+  pub second_zero_key : IsFirstFault [] (magic_bytes ++ boot_bytes ++ zero_key_record ++ zero_key_record) 3 bad.Place
+  pub late_key : IsFirstFault [] (magic_bytes ++ boot_bytes ++ answer_bytes ++ key_record) 3 bad.Place
+  pub cut_key : IsFirstFault [] (magic_bytes ++ boot_bytes ++ cut_key_bytes) 2 bad.Cut
+  pub app_behind_key : IsFirstFault [] (magic_bytes ++ boot_bytes ++ key_record ++ app_bytes) 3 bad.Range
   pub no_steps : IsFirstFault [] (magic_bytes ++ boot_bytes ++ no_steps_bytes) 2 bad.Range
   pub no_read : IsFirstFault [] (magic_bytes ++ boot_bytes ++ no_read_bytes) 2 bad.Range
   pub below_ram : IsFirstFault [] (magic_bytes ++ boot_bytes ++ below_ram_bytes) 2 bad.Range

@@ -1,5 +1,5 @@
 -- The bytes of journals: which boot and events bytes spell up to and with an end, and what the first fault of any other bytes is.
-use Rattle.std.specs.Prelude.{◌≡◌, ℕ, zero, suc, ◌+◌, ◌⊎◌, List, [], ◌∷◌, drop, length, ◌==◌, if◌then◌else◌, Option, None, Some, Result, Ok, Err, is_some}
+use Rattle.std.specs.Prelude.{◌≡◌, ℕ, zero, suc, ◌+◌, ◌⊎◌, List, [], ◌∷◌, drop, length, Bool, ◌==◌, if◌then◌else◌, Option, None, Some, Result, Ok, Err, is_some}
 use Rattle.ta_isa.specs.declared.boot.Boot.{Boot}
 use Rattle.event_journal.specs.declared.event.Event.{Event}
 use Rattle.trace_text.specs.declared.fault.BadKind.{BadKind}
@@ -49,8 +49,9 @@ pub record Whole : Type 0 where
 pub record Spells (natives : List (List ℕ)) (bytes : List ℕ) (whole : Whole) : Type 0 where
   pub begins : magic_fault bytes ≡ None
   pub count : ℕ
+  pub keyed : Bool
   pub behind : List ℕ
-  pub spelled : Leads natives nothing (drop 4 bytes) count (record { boot = Some whole.boot; events = whole.events }) (end_tag ∷ behind)
+  pub spelled : Leads natives nothing (drop 4 bytes) count (record { boot = Some whole.boot; keyed = keyed; events = whole.events }) (end_tag ∷ behind)
   pub used_is : whole.used + length behind ≡ length bytes
   pub records_is : whole.records ≡ count + 1
 

@@ -1,5 +1,5 @@
--- Records of a journal: the tag, the body, and what stands where in it. A boot and an application are the records of a binary
--- trace, and a read is the body of its record `mem`. Numbers have their lowest byte first. This project's own.
+-- Records of a journal: the tag, the body, and what stands where in it. A boot, an application and a key are the records of a
+-- binary trace, and a read is the body of its record `mem`. Numbers have their lowest byte first. This project's own.
 use Rattle.std.specs.Prelude.{ℕ, zero, suc, List, [], ◌∷◌, drop, length, map, slice_index, nat_le, nat_lt, Bool, ◌&&◌, ◌==◌, if◌then◌else◌, Option, None, Some, is_some}
 use Rattle.std.specs.Option.{option_map}
 use Rattle.ns_ram.specs.declared.read.Read.{Read}
@@ -12,7 +12,7 @@ use Rattle.journal_bytes.specs.declared.record_kind.RecordKind.TheVariants as ki
 
 -- the tag of each kind of record
 abbrev pub tag_table : List (ℕ × RecordKind)
-tag_table = (0x01, kind.Boot) ∷ (0x02, kind.Ta) ∷ (0x20, kind.Entry) ∷ (0x21, kind.Exit) ∷ []
+tag_table = (0x01, kind.Boot) ∷ (0x02, kind.Ta) ∷ (0x04, kind.Key) ∷ (0x20, kind.Entry) ∷ (0x21, kind.Exit) ∷ []
 
 -- the kind beside the first row of this tag
 abbrev pub kind_in : List (ℕ × RecordKind) → ℕ → Option RecordKind
@@ -81,6 +81,7 @@ is_read read = nat_lt 0 (length read.bytes) && lies_in_ram read.addr (length rea
 unfoldable pub is_whole : RecordKind → List ℕ → Bool
 is_whole kind.Boot body = is_whole_body trace.Boot body
 is_whole kind.Ta body = is_whole_body trace.Ta body
+is_whole kind.Key body = is_whole_body trace.Key body
 is_whole kind.Entry body = nat_le 41 (length body) && is_some (listed_in body)
 is_whole kind.Exit body = nat_le 33 (length body)
 
@@ -88,5 +89,6 @@ is_whole kind.Exit body = nat_le 33 (length body)
 unfoldable pub behind : RecordKind → List ℕ → List ℕ
 behind kind.Boot body = drop (body_len trace.Boot body) body
 behind kind.Ta body = drop (body_len trace.Ta body) body
+behind kind.Key body = drop (body_len trace.Key body) body
 behind kind.Entry body = rest_of (listed_in body)
 behind kind.Exit body = drop 33 body

@@ -1,10 +1,9 @@
 -- The rules of a record, in the order in which a fault is looked for, and what a record tells. The limits are those of traces.
-use Rattle.std.specs.Prelude.{ℕ, List, [], ◌∷◌, ◌++◌, drop, slice_index, Bool, true, false, Option, None, Some, is_some}
+use Rattle.std.specs.Prelude.{ℕ, List, [], ◌∷◌, ◌++◌, drop, slice_index, take, Bool, true, false, Option, None, Some, is_some}
 use Rattle.std.specs.List.{list_all}
 use Rattle.trace_text.specs.declared.fault.BadKind.{BadKind}
 use Rattle.trace_text.specs.declared.fault.BadKind.TheVariants as bad
-use Rattle.trace_text.specs.declared.trace.Trace.{Trace}
-use Rattle.trace_text.specs.Limits.{cpu_limits, cpus_of, is_within, with_app}
+use Rattle.trace_text.specs.Limits.{Front, cpu_limits, cpus_of, is_within, key_place, with_app, with_key}
 use Rattle.trace_bin.specs.declared.record_kind.RecordKind.TheVariants as trace
 use Rattle.trace_bin.specs.Record.{bytes_in}
 use Rattle.trace_bin.specs.Rules.{app_in, boot_in, boot_rules, ta_rules}
@@ -15,9 +14,9 @@ use Rattle.journal_bytes.specs.declared.record_kind.RecordKind.TheVariants as ki
 use Rattle.journal_bytes.specs.Record.{behind, cpu_in, is_read, is_whole, kind_tagged, reads_in, regs_in, steps_in}
 use Rattle.journal_bytes.specs.Recording.{Told}
 
--- the trace of the boot alone
-abbrev pub header_of : Told → Trace
-header_of before = record { boot = before.boot; fills = []; items = [] }
+-- what stands before in a trace of the boot alone
+abbrev pub header_of : Told → Front
+header_of before = record { boot = before.boot; fills = []; items = []; keyed = before.keyed }
 
 abbrev pub has_no_event : List Event → Bool
 has_no_event [] = true
@@ -35,10 +34,11 @@ entry_rules before body =
 abbrev pub exit_rules : Told → List ℕ → List (BadKind × Bool)
 exit_rules before body = (bad.Place, is_some before.boot) ∷ cpu_limits (cpus_of before.boot) (cpu_in body)
 
--- an application stands in front of all events; else a boot and an application have the rules of a binary trace
+-- an application and a key stand in front of all events; else a boot, an application and a key have the rules of a binary trace
 unfoldable pub rules_of : RecordKind → List (List ℕ) → Told → List ℕ → List (BadKind × Bool)
 rules_of kind.Boot natives before body = boot_rules (header_of before) body
 rules_of kind.Ta natives before body = (bad.Place, has_no_event before.events) ∷ ta_rules natives (header_of before) body (bytes_in trace.Ta body)
+rules_of kind.Key natives before body = (bad.Place, has_no_event before.events) ∷ key_place (header_of before)
 rules_of kind.Entry natives before body = entry_rules before body
 rules_of kind.Exit natives before body = exit_rules before body
 
@@ -59,6 +59,7 @@ exit_in body = event.Exit (cpu_in body) (regs_in body)
 unfoldable pub added : RecordKind → Told → List ℕ → Told
 added kind.Boot before body = record before { boot = Some (boot_in body) }
 added kind.Ta before body = record before { boot = with_app before.boot (app_in body (bytes_in trace.Ta body)) }
+added kind.Key before body = record before { boot = with_key before.boot (take 32 body); keyed = true }
 added kind.Entry before body = with_event before (entry_in body)
 added kind.Exit before body = with_event before (exit_in body)
 

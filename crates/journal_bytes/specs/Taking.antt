@@ -27,7 +27,7 @@ AreListed (Err fault) view count bytes reads = IsCutAt fault count bytes
 -- the records end here, after so many bytes and so many records: behind a boot, and this is the journal; or before any
 abbrev pub Ends : Result ReadJournal BadKind → Told → ℕ → ℕ → Type 0
 Ends (Ok read) before used records =
-    (before ≡ record { boot = Some read.boot; events = read.journal.events }) × (read.used ≡ used) × (read.records ≡ records)
+    (before ≡ record { boot = Some read.boot; keyed = before.keyed; events = read.journal.events }) × (read.used ≡ used) × (read.records ≡ records)
 Ends (Err kind) before used records = (before.boot ≡ None) × (kind ≡ bad.Place)
 
 -- a record stands here, and not the end, or nothing

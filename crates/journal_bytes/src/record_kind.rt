@@ -6,6 +6,7 @@ ghost use Rattle.journal_bytes.specs.Record.{kind_tagged};
 pub enum RecordKind {
     Boot,
     Ta,
+    Key,
     Entry,
     Exit,
 }
@@ -19,6 +20,7 @@ impl RecordKind {
         match tag {
             0x01 => Some(RecordKind::Boot),
             0x02 => Some(RecordKind::Ta),
+            0x04 => Some(RecordKind::Key),
             0x20 => Some(RecordKind::Entry),
             0x21 => Some(RecordKind::Exit),
             _ => None,

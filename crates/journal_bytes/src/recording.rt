@@ -5,7 +5,7 @@ use event_journal::Journal;
 use std::alloc::Global;
 use trace_text::Builder;
 
-/// What the records so far tell: a boot, which the reader of traces takes, and the events behind it.
+/// What the records so far tell: a boot and its key, which the reader of traces takes, and the events behind it.
 #[derive(Drop)]
 pub struct Recording {
     pub header: Builder,

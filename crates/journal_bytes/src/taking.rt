@@ -15,7 +15,9 @@ use crate::record_kind::RecordKind;
 use crate::recording::Recording;
 use event_journal::{Event, Reads};
 use std::alloc::Global;
-use trace_bin::records::{RecordKind as HeaderKind, body_len, take_boot, take_ta, word_at};
+use trace_bin::records::{
+    RecordKind as HeaderKind, body_len, take_boot, take_key, take_ta, word_at,
+};
 use trace_text::limits::{MAX_STEPS, is_there, is_within};
 use trace_text::{BadKind, LineFault};
 use uuid::Uuid;
@@ -83,6 +85,24 @@ fn take_ta_record<'a>(
         body,
         &body[TA_LEN..len],
     )?;
+    Ok(&body[len..])
+}
+
+/// The record of a key, which stands in front of all events.
+#[tactic(auto, unfolding(crate::specs::Record::is_whole, crate::specs::Record::behind, crate::specs::Rules::rules_of, crate::specs::Rules::added))]
+fn take_key_record<'a>(recording: &mut Recording, body: &'a [u8]) -> Result<&'a [u8], LineFault>
+    requires { HasNoItem recording.old }
+    ensures taken { IsTakenTo result (rules_in kind.Key [] (told_by recording.old) body.now) (added kind.Key (told_by recording.old) body.now) (told_by recording.new) }
+    ensures rest { IfOk result (λ rest. rest.now ≡ behind kind.Key body.now) }
+    ensures header { OnOk result (HasNoItem recording.new) }
+{
+    let Some(len) = body_len(HeaderKind::Key, body) else {
+        return Err(LineFault::Broken(BadKind::Cut));
+    };
+    if !recording.events.is_empty() {
+        return Err(LineFault::Broken(BadKind::Place));
+    }
+    take_key(&mut recording.header, body)?;
     Ok(&body[len..])
 }
 
@@ -176,6 +196,7 @@ fn take_body<'a>(
     match kind {
         RecordKind::Boot => take_boot_record(recording, body),
         RecordKind::Ta => take_ta_record(alloc, natives, recording, body),
+        RecordKind::Key => take_key_record(recording, body),
         RecordKind::Entry => take_entry(alloc, recording, body),
         RecordKind::Exit => take_exit(recording, body),
     }

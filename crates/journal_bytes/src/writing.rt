@@ -13,7 +13,7 @@ use base::NoMemory;
 use event_journal::{Event, Journal, Read};
 use std::alloc::Global;
 use ta_isa::Boot;
-use trace_bin::records::{put_apps, put_boot, put_counted, put_long, put_word};
+use trace_bin::records::{put_apps, put_boot, put_counted, put_key, put_long, put_word};
 
 /// The first four bytes of a journal, `OTTJ`.
 pub const MAGIC: [u8; 4] = *b"OTTJ";
@@ -88,7 +88,8 @@ fn put_events(out: &mut Vec<u8>, events: &[Event]) -> Result<(), NoMemory>
     Ok(())
 }
 
-/// The one spelling of a boot and its events: the boot, its applications and the events, each in their order, and an end.
+/// The one spelling of a boot and its events: the boot, its applications, its key where that isn't of zeros, and the events, each
+/// in their order, and an end.
 ///
 /// It spells them, whatever stands behind it ([`crate::written_is_read`]): so [`crate::read_journal`] gives them back where these are
 /// at most 2^28 bytes and no built-in application has one of their UUIDs, or memory runs out.
@@ -102,6 +103,7 @@ pub fn write_journal(alloc: Global, boot: &Boot, journal: &Journal) -> Result<Ve
     out.extend_from_slice(&MAGIC)?;
     put_boot(&mut out, boot)?;
     put_apps(alloc, &mut out, boot.apps.as_slice())?;
+    put_key(&mut out, &boot.key)?;
     put_events(&mut out, events)?;
     out.push(END)?;
     Ok(out)
