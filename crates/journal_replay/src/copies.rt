@@ -44,5 +44,6 @@ pub fn copy_boot(alloc: Global, boot: &Boot) -> Result<Boot, NoMemory>
         threads: boot.threads,
         frames: boot.frames,
         apps: Sequence::of(copy_apps(alloc, boot.apps.as_slice())?),
+        key: boot.key,
     })
 }
