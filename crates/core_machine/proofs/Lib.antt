@@ -4,3 +4,5 @@ pub mod Wholes
 pub mod Played
 pub mod Stands
 pub mod Served
+pub mod Apart
+pub mod Fills

@@ -5,6 +5,7 @@
 //! ties its core's events and kernel and its RAM to those of the play, and each call makes the play's own step.
 #![tactic(auto)]
 
+mod booting;
 mod calls;
 mod laws;
 mod machine;
@@ -12,6 +13,7 @@ mod serving;
 mod smc;
 mod turns;
 
+pub use booting::{core_of, first_lane, first_lanes};
 pub use laws::{machines_stand, turns_are_taken};
 pub use machine::Machine;
 pub use smc::{Smc, Stopped, Told};
