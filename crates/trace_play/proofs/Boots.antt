@@ -6,7 +6,6 @@ use Rattle.core_machine.specs.Standing.{IsAt, play_of}
 use Rattle.core_machine.specs.declared.machine.Machine.{Machine}
 use Rattle.kernel_model.proofs.Parts.{some_of}
 use Rattle.kernel_model.specs.Application.{Booted}
-use Rattle.kernel_state.specs.Booting.{IsWithinLimits}
 use Rattle.kernel_state.specs.Meaning.{booted_of, kernel_of}
 use Rattle.play_model.specs.Play.{Play}
 use Rattle.ta_isa.specs.Boots.{IsBoot}
@@ -15,18 +14,6 @@ use Rattle.trace_text.specs.Sound.{IsSound, IsSoundBoot}
 use Rattle.trace_text.specs.declared.trace.Trace.{Trace}
 
 -- ---- a boot
-
-pub within : (boot : Boot) → IsBoot boot → IsWithinLimits boot
-within boot is = record {
-  some_processor = is.some_processor;
-  few_processors = is.few_processors;
-  some_thread = is.some_thread;
-  few_threads = is.few_threads;
-  some_frame = is.some_frame;
-  few_frames = is.few_frames;
-  few_apps = is.few_apps;
-  valid = is.valid;
-}
 
 of_boot : (natives : List (List ℕ)) (boot : Option Boot) → IfSome boot (IsSoundBoot natives) → IfSome boot IsBoot
 of_boot natives (Some boot) so = so.boots

@@ -15,4 +15,4 @@ mod telling;
 
 pub use booting::machine_of;
 pub use lists::{play, play_text};
-pub use reading::trace_of;
+pub use reading::{registers, trace_of};

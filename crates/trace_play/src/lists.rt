@@ -1,38 +1,22 @@
 //! Playing items: what comes in and goes out is served by lists.
-ghost use Rattle.std.specs.Prelude.{◌≡◌, IfSome};
+ghost use Rattle.std.specs.Prelude.{◌≡◌, map};
 ghost use Rattle.kernel_state.specs.Meaning.{booted_of};
-ghost use Rattle.ta_isa.specs.Boots.{IsBoot};
+ghost use Rattle.native_tas.specs.Table.{entries};
+ghost use Rattle.trace_text.specs.Sound.{IsSound};
 
 use crate::booting::machine_of;
-use crate::reading::trace_of;
-use crate::telling::{tell_answers, tell_show, tell_stand};
-use anyhow::{Context, Error, Result, bail};
+use crate::reading::{registers, trace_of};
+use crate::telling::{tell_answers, tell_stand};
+use answer_lines::push_mem;
+use anyhow::{Context, Result, bail};
 use core_machine::{Machine, Smc, Stopped};
 use kernel_entry::Visitor;
 use kernel_state::EnterRefusal;
 use native_tas::Natives;
 use ns_ram::in_ram;
-use smc_abi::Regs;
 use std::alloc::Global;
-use std::fmt::Write;
+use std::io::Write;
 use trace_text::{Item, Reg, Trace};
-
-/// The number that a register of an entry is.
-fn number_of(reg: Reg) -> Result<u32> {
-    match reg {
-        Reg::Num(number) => Ok(number),
-        Reg::Last(_) => Err(Error::msg("a register of an earlier answer")),
-    }
-}
-
-/// The registers that a processor comes in with.
-fn registers(regs: &[Reg; 8]) -> Result<Regs> {
-    let mut a = [0; 8];
-    for (number, reg) in a.iter_mut().zip(regs) {
-        *number = number_of(*reg)?;
-    }
-    Ok(Regs { a })
-}
 
 /// The entry of a processor.
 fn entry(cpu: u8, steps: u32, regs: &[Reg; 8]) -> Result<Smc> {
@@ -71,7 +55,7 @@ fn play_item(
     machine: &mut Machine,
     item: &Item,
     list: &mut Vec<Smc>,
-    told: &mut String,
+    told: &mut Vec<u8>,
 ) -> Result<()>
     ensures { booted_of machine.new.core ≡ booted_of machine.old.core }
 {
@@ -84,10 +68,10 @@ fn play_item(
 }
 
 /// Plays these items, and tells what comes of it.
-pub fn play(alloc: Global, machine: &mut Machine, items: &[Item]) -> Result<String>
+pub fn play(alloc: Global, machine: &mut Machine, items: &[Item]) -> Result<Vec<u8>>
     ensures { booted_of machine.new.core ≡ booted_of machine.old.core }
 {
-    let mut told = String::new(alloc);
+    let mut told = Vec::new(alloc);
     let mut list = Vec::new(alloc);
     for item in items {
         play_item(alloc, machine, item, &mut list, &mut told)?;
@@ -97,23 +81,22 @@ pub fn play(alloc: Global, machine: &mut Machine, items: &[Item]) -> Result<Stri
     Ok(told)
 }
 
-/// Plays a trace, whose boot is taken from it, on a machine of its own, and tells what comes of it.
-fn play_trace(alloc: Global, natives: &Natives, trace: &mut Trace) -> Result<String>
-    requires { IfSome trace.old.boot IsBoot }
+/// Plays a trace on a machine of its own, and tells what comes of it.
+fn play_trace(alloc: Global, natives: &Natives, trace: Trace) -> Result<Vec<u8>>
+    requires { IsSound (map (λ native. native.0) (entries natives.now)) trace }
 {
-    let boot = trace.boot.take();
-    let mut machine = machine_of(alloc, boot, natives, trace.fills.as_slice())?;
-    play(alloc, &mut machine, trace.items.as_slice())
+    let Trace { boot, fills, items } = trace;
+    let mut machine = machine_of(alloc, boot, natives, fills.as_slice())?;
+    play(alloc, &mut machine, items.as_slice())
 }
 
 /// Plays the trace of a text likewise, beside applications that are built in.
-pub fn play_text(alloc: Global, natives: &Natives, text: &[u8]) -> Result<String> {
-    let mut trace = trace_of(alloc, natives, text)?;
-    play_trace(alloc, natives, &mut trace)
+pub fn play_text(alloc: Global, natives: &Natives, text: &[u8]) -> Result<Vec<u8>> {
+    play_trace(alloc, natives, trace_of(alloc, natives, text)?)
 }
 
 /// Serves a list. Where an entry of it wants for memory, that and what is behind it come once more.
-fn serve(alloc: Global, machine: &mut Machine, list: &[Smc], told: &mut String) -> Result<()>
+fn serve(alloc: Global, machine: &mut Machine, list: &[Smc], told: &mut Vec<u8>) -> Result<()>
     ensures { booted_of machine.new.core ≡ booted_of machine.old.core }
 {
     if let Some(served) = serve_once(alloc, machine, list, told)? {
@@ -131,7 +114,7 @@ fn serve_once(
     alloc: Global,
     machine: &mut Machine,
     list: &[Smc],
-    told: &mut String,
+    told: &mut Vec<u8>,
 ) -> Result<Option<usize>>
     ensures { booted_of machine.new.core ≡ booted_of machine.old.core }
 {
@@ -148,7 +131,7 @@ fn serve_once(
 }
 
 /// Tells that an entry was refused. How much of its list has come, where it wants for memory.
-fn refused(stopped: Stopped, told: &mut String) -> Result<Option<usize>> {
+fn refused(stopped: Stopped, told: &mut Vec<u8>) -> Result<Option<usize>> {
     match stopped.why {
         EnterRefusal::Full { copied, more } => {
             writeln!(told, "full {copied} {more}")?;
@@ -162,7 +145,12 @@ fn refused(stopped: Stopped, told: &mut String) -> Result<Option<usize>> {
 }
 
 /// Plays an item by which nothing comes in or goes out.
-fn write_or_show(alloc: Global, machine: &mut Machine, item: &Item, told: &mut String) -> Result<()>
+fn write_or_show(
+    alloc: Global,
+    machine: &mut Machine,
+    item: &Item,
+    told: &mut Vec<u8>,
+) -> Result<()>
     ensures { booted_of machine.new.core ≡ booted_of machine.old.core }
 {
     match item {
@@ -190,13 +178,13 @@ fn show(
     cpu: u8,
     addr: u64,
     len: u32,
-    told: &mut String,
+    told: &mut Vec<u8>,
 ) -> Result<()> {
     if cpu >= machine.cpus() || !in_ram(addr, u64::from(len)) {
         bail!("a show outside of RAM");
     }
     let bytes = machine.show(cpu, addr, u64::from(len));
-    tell_show(alloc, cpu, addr, bytes, told)?;
+    push_mem(alloc, told, cpu, addr, bytes)?;
     if len == 1 {
         tell_stand(machine, told)?;
     }

@@ -1,39 +1,19 @@
-//! The lines that are printed.
+//! What is told beside the lines that `answer_lines` makes.
+use answer_lines::push_ret;
 use core_machine::{Machine, Told};
-use std::alloc::{AllocError, Global};
-use std::fmt::Write;
+use std::alloc::AllocError;
+use std::io::{self, Write};
 
 /// Tells each of these exits.
-pub fn tell_answers(answers: &[Told], told: &mut String) -> Result<(), AllocError> {
+pub fn tell_answers(answers: &[Told], told: &mut Vec<u8>) -> Result<(), AllocError> {
     for answer in answers {
-        tell_answer(answer, told)?;
+        push_ret(told, answer.cpu, &answer.regs)?;
     }
     Ok(())
 }
 
-/// Tells an exit.
-fn tell_answer(answer: &Told, told: &mut String) -> Result<(), AllocError> {
-    write!(told, "ret {}", answer.cpu)?;
-    for register in &answer.regs.a {
-        write!(told, " {register:08x}")?;
-    }
-    told.push('\n')
-}
-
-/// Tells bytes of a processor's RAM.
-pub fn tell_show(
-    alloc: Global,
-    cpu: u8,
-    addr: u64,
-    bytes: &[u8],
-    told: &mut String,
-) -> Result<(), AllocError> {
-    let digits = hex::encode(alloc, bytes)?;
-    writeln!(told, "mem {cpu} {addr:08x} {digits}")
-}
-
 /// Tells how a core stands.
-pub fn tell_stand(machine: &Machine, told: &mut String) -> Result<(), AllocError> {
+pub fn tell_stand(machine: &Machine, told: &mut Vec<u8>) -> io::Result<()> {
     let core = machine.core();
     let inside = (0..machine.cpus()).filter(|cpu| core.inside(*cpu)).count();
     writeln!(
