@@ -18,7 +18,7 @@ const DIGEST_UUID: [u8; 16] = [
 /// Prints the name of a case and what its trace tells.
 fn print_case(rt: &impl Print, alloc: Global, natives: &Natives, case: &str) -> Result<()> {
     let (name, text) = case.split_once('\n').context("reading a name")?;
-    let told = play_text(alloc, natives, text.as_bytes())?;
+    let told = String::from_utf8(play_text(alloc, natives, text.as_bytes())?)?;
     print!(rt; "case {name}\n{told}").context("printing a case")
 }
 
