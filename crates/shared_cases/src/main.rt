@@ -28,8 +28,9 @@ fn print_order<R: Print + Wait>(
     text: &str,
     order: &str,
 ) -> Result<()> {
-    let mut told = String::new(alloc);
+    let mut told = Vec::new(alloc);
     serve_text(rt, alloc, natives, text.as_bytes(), order, &mut told)?;
+    let told = String::from_utf8(told)?;
     print!(rt; "order {order}\n{told}").context("printing an order")
 }
 

@@ -1,38 +1,49 @@
 //! A trace, served by a shared core from one thread, in an order of its processors.
-ghost use Rattle.std.specs.Prelude.{◌≡◌, ◌∷◌, [], map};
+ghost use Rattle.std.specs.Prelude.{◌≡◌, ◌∷◌, [], All, map};
 ghost use Rattle.core_lock.specs.Passes.{AreUnused, number};
 ghost use Rattle.kernel_state.specs.Meaning.{booted_of, events_of};
 ghost use Rattle.normal_cpus.specs.Sharing.{AreCpusOf, boot_of};
 ghost use Rattle.shared_cases.specs.Cpus.{IsPairOf};
+ghost use Rattle.trace_text.specs.Sound.{IsSoundFill};
 
 use crate::pair::Pair;
 use crate::script::{Half, Turn, cpu_of, ordered, takes_turns};
+use answer_lines::{push_mem, push_numbered, push_registers};
 use anyhow::{Context, Error, Result, bail};
+use core_machine::{core_of, first_lane};
 use event_journal::{Event, Journal};
 use kernel_state::Core;
 use native_tas::Natives;
 use normal_cpus::{CpuAnswer, CpuPass, SharedCore, share};
 use ns_ram::{Lane, in_ram};
 use std::alloc::Global;
-use std::fmt::Write;
+use std::io::Write;
 use std::sync::Wait;
-use trace_parts::{core_of, filled, registers, tell_ret, tell_show, trace_of};
-use trace_text::{Fill, Item};
+use trace_play::{registers, trace_of};
+use trace_text::{Fill, Item, Trace};
 
 /// Tells an exit, with the places of its entry and its own in the history.
-fn tell_exit(cpu: u8, answer: &CpuAnswer, told: &mut String) -> Result<()> {
-    tell_ret(cpu, &answer.regs, told)?;
+fn tell_exit(cpu: u8, answer: &CpuAnswer, told: &mut Vec<u8>) -> Result<()> {
+    push_numbered(told, b"ret ", u64::from(cpu))?;
+    push_registers(told, &answer.regs)?;
     writeln!(told, " at {} {}", answer.entry_at, answer.exit_at)?;
     Ok(())
 }
 
 /// Tells bytes of a processor's RAM.
-fn show(alloc: Global, pair: &Pair, cpu: u8, addr: u64, len: u32, told: &mut String) -> Result<()> {
+fn show(
+    alloc: Global,
+    pair: &Pair,
+    cpu: u8,
+    addr: u64,
+    len: u32,
+    told: &mut Vec<u8>,
+) -> Result<()> {
     let lane = pair.lane(cpu)?;
     if !in_ram(addr, u64::from(len)) {
         bail!("a show outside of RAM");
     }
-    Ok(tell_show(alloc, cpu, addr, lane.at(addr, u64::from(len)), told)?)
+    Ok(push_mem(alloc, told, cpu, addr, lane.at(addr, u64::from(len)))?)
 }
 
 /// Does what stands between two turns of a processor.
@@ -41,7 +52,7 @@ fn write_or_show(
     shared: &SharedCore,
     pair: &mut Pair,
     item: &Item,
-    told: &mut String,
+    told: &mut Vec<u8>,
 ) -> Result<()>
     requires { IsPairOf shared.now pair.old }
     ensures { IsPairOf shared.now pair.new }
@@ -60,7 +71,7 @@ fn between_turns(
     pair: &mut Pair,
     cpu: u8,
     items: &[Item],
-    told: &mut String,
+    told: &mut Vec<u8>,
 ) -> Result<()>
     requires { IsPairOf shared.now pair.old }
     ensures { IsPairOf shared.now pair.new }
@@ -85,7 +96,7 @@ fn take_turn(
     pair: &mut Pair,
     item: &Item,
     half: Half,
-    told: &mut String,
+    told: &mut Vec<u8>,
 ) -> Result<()>
     requires { IsPairOf shared.now pair.old }
     ensures { IsPairOf shared.now pair.new }
@@ -112,7 +123,7 @@ fn serve_turn(
     pair: &mut Pair,
     items: &[Item],
     turn: Turn,
-    told: &mut String,
+    told: &mut Vec<u8>,
 ) -> Result<()>
     requires { IsPairOf shared.now pair.old }
     ensures { IsPairOf shared.now pair.new }
@@ -134,7 +145,7 @@ fn serve_turns(
     pair: &mut Pair,
     items: &[Item],
     turns: &[Turn],
-    told: &mut String,
+    told: &mut Vec<u8>,
 ) -> Result<()>
     requires { IsPairOf shared.now pair.old }
     ensures { IsPairOf shared.now pair.new }
@@ -148,8 +159,8 @@ fn serve_turns(
 }
 
 /// Tells whose the events are, in their order: the entries by `+`, and the exits by `-`.
-fn tell_events(journal: &Journal, told: &mut String) -> Result<()> {
-    told.push_str("events")?;
+fn tell_events(journal: &Journal, told: &mut Vec<u8>) -> Result<()> {
+    write!(told, "events")?;
     for place in 0..journal.len() {
         match journal.get(place) {
             Some(Event::Entry { cpu, .. }) => write!(told, " {cpu}+")?,
@@ -157,7 +168,7 @@ fn tell_events(journal: &Journal, told: &mut String) -> Result<()> {
             None => bail!("a place behind the last event"),
         }
     }
-    told.push('\n')?;
+    writeln!(told)?;
     Ok(())
 }
 
@@ -170,7 +181,7 @@ fn serve_shared(
     lanes: (Lane, Lane),
     items: &[Item],
     turns: &[Turn],
-    told: &mut String,
+    told: &mut Vec<u8>,
 ) -> Result<()>
     requires numbers { map number passes.items ≡ 0 ∷ 1 ∷ [] }
     requires own { AreCpusOf shared passes.items × AreUnused passes.items }
@@ -193,7 +204,7 @@ fn serve_items(
     lanes: (Lane, Lane),
     items: &[Item],
     turns: &[Turn],
-    told: &mut String,
+    told: &mut Vec<u8>,
 ) -> Result<()>
     requires events { events_of core ≡ [] }
     requires cpus { (booted_of core).cpus ≡ 2 }
@@ -204,10 +215,12 @@ fn serve_items(
     }
 }
 
-/// RAM with these fills, for each of two processors.
-fn two_lanes(alloc: Global, fills: &[Fill]) -> Result<(Lane, Lane)> {
-    let one = filled(alloc, fills)?;
-    let two = filled(alloc, fills)?;
+/// The RAM that each of two processors sees at first.
+fn two_lanes(alloc: Global, fills: &[Fill]) -> Result<(Lane, Lane)>
+    requires { All IsSoundFill fills.now }
+{
+    let one = first_lane(alloc, fills)?;
+    let two = first_lane(alloc, fills)?;
     Ok((one, two))
 }
 
@@ -219,25 +232,23 @@ pub fn serve_text(
     natives: &Natives,
     text: &[u8],
     order: &str,
-    told: &mut String,
+    told: &mut Vec<u8>,
 ) -> Result<()> {
-    let mut trace = trace_of(alloc, natives, text)?;
-    let boot = trace.boot.take().context("a case without a boot")?;
+    let Trace { boot, fills, items } = trace_of(alloc, natives, text)?;
+    let boot = boot.context("a case without a boot")?;
     if boot.cpus != 2 {
         bail!("a case of other than two processors");
     }
-    let turns = ordered(alloc, trace.items.as_slice(), order)?;
-    let lanes = two_lanes(alloc, trace.fills.as_slice())?;
-    match core_of(alloc, boot, natives) {
-        Ok(core) => serve_items(
-            rt,
-            alloc,
-            core,
-            lanes,
-            trace.items.as_slice(),
-            turns.as_slice(),
-            told,
-        ),
-        Err(fault) => Err(fault),
-    }
+    let turns = ordered(alloc, items.as_slice(), order)?;
+    let lanes = two_lanes(alloc, fills.as_slice())?;
+    let core = core_of(alloc, boot, natives)?;
+    serve_items(
+        rt,
+        alloc,
+        core,
+        lanes,
+        items.as_slice(),
+        turns.as_slice(),
+        told,
+    )
 }
