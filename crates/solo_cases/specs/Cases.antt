@@ -2,8 +2,7 @@
 use Rattle.std.specs.Prelude.{◌≡◌, ℕ, true, List, Some}
 use Rattle.kernel_model.specs.Worked.{Move, boot}
 use Rattle.own_model.specs.Examples.{events_of}
-use Rattle.own_model.specs.Solo.{unopened}
-use Rattle.solo_cases.specs.Feeding.{application_in, can_be_fed, events_in, image_in}
+use Rattle.solo_cases.specs.Feeding.{application_in, can_be_fed, events_in, image_in, unopened_in}
 use Rattle.solo_cases.specs.declared.fed.Fed.{Fed}
 use Rattle.ta_isa.specs.Spelling.{IsValid}
 use Rattle.ta_isa.specs.declared.image.Instr.{Instr}
@@ -23,6 +22,6 @@ AreOwn code events h =
 
 pub record IsCase (code : List Instr) (events : List Fed) : Type 0 where
   pub valid : IsValid (image_in code)
-  pub can : can_be_fed (application_in code) unopened (events_in events) ≡ true
+  pub can : can_be_fed (application_in code) (unopened_in code) (events_in events) ≡ true
   pub history : History
   pub own : AreOwn code events history

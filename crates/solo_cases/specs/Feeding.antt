@@ -7,7 +7,7 @@ use Rattle.kernel_model.specs.Application.{Application, OfImage}
 use Rattle.kernel_model.specs.Worked.{app_with, boot_with, image_with, invoked_at_one}
 use Rattle.own_model.specs.Examples.{numbers, opened}
 use Rattle.own_model.specs.declared.own_event.BackInput.TheVariants as back
-use Rattle.own_model.specs.Solo.{Answered, OwnCall, Solo, step}
+use Rattle.own_model.specs.Solo.{Answered, OwnCall, Solo, step, unopened}
 use Rattle.own_model.specs.declared.own_event.OwnEvent.{OwnEvent}
 use Rattle.own_model.specs.declared.own_event.OwnEvent.TheVariants.{Invoke, Close, Cancel, Seen, Back, Out, Limited}
 use Rattle.own_model.specs.declared.own_event.OwnInput.TheVariants.{Copied, Unread}
@@ -32,6 +32,10 @@ boot_in image = boot_with 1 1 1 (app_with image ∷ [])
 
 abbrev pub application_in : List Instr → Application
 application_in code = OfImage (app_with (image_in code))
+
+-- the machine of a session of it, before its open comes in
+abbrev pub unopened_in : List Instr → Solo
+unopened_in code = unopened (boot_in (image_in code)).key
 
 -- the event that an entry of a table is
 abbrev pub event_in : Fed → OwnEvent

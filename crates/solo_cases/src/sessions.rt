@@ -1,11 +1,10 @@
 //! A session's machine, and how it is fed.
 ghost use Rattle.std.specs.Prelude.{◌≡◌, ◌∷◌, IfOk, List};
-ghost use Rattle.own_model.specs.Solo.{unopened};
 ghost use Rattle.own_model.specs.declared.own_event.OwnEvent.{OwnEvent as AnyEvent};
 ghost use Rattle.solo.specs.Feeding.{IsFed, IsFedWith};
 ghost use Rattle.solo.specs.Standing.{IsSolo, app_in};
 ghost use Rattle.solo_cases.specs.Cases.{IsCase};
-ghost use Rattle.solo_cases.specs.Feeding.{application_in, boot_in, event_in, image_in};
+ghost use Rattle.solo_cases.specs.Feeding.{application_in, boot_in, event_in, image_in, unopened_in};
 ghost use Rattle.ta_isa.specs.Spelling.{IsValid};
 
 use crate::fed::{Fed, event_of};
@@ -47,6 +46,7 @@ fn boot_of(alloc: Global, image: Image) -> Result<Boot, NoMemory>
         threads: 1,
         frames: 1,
         apps: Sequence::of(vec![in alloc; App { uuid, image }]?),
+        key: [0; 32],
     })
 }
 
@@ -54,7 +54,7 @@ fn boot_of(alloc: Global, image: Image) -> Result<Boot, NoMemory>
 fn session_of(alloc: Global, code: &[Instr]) -> Result<SoloSession, NoMemory>
     requires { IsValid (image_in code.now) }
     ensures app { IfOk result (λ session. app_in session ≡ application_in code.now) }
-    ensures unopened { IfOk result (λ session. IsSolo session unopened) }
+    ensures unopened { IfOk result (λ session. IsSolo session (unopened_in code.now)) }
 {
     let boot = boot_of(alloc, image_of(alloc, code)?)?;
     let natives = Natives::new(alloc);

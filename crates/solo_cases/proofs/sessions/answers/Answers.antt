@@ -1,10 +1,9 @@
 use Rattle.std.proofs.Common.{◌+◌, drop, subst, sym}
 use Rattle.std.proofs.Math.Logic.{∥∥₁_map}
 use Rattle.kernel_model.specs.Application.{Application}
-use Rattle.own_model.specs.Solo.{unopened}
 use Rattle.solo.specs.Feeding.{CanBeFed, IsFed}
 use Rattle.solo_cases.proofs.Feeding.{can_be, front}
-use Rattle.solo_cases.specs.Feeding.{application_in, events_in}
+use Rattle.solo_cases.specs.Feeding.{application_in, events_in, unopened_in}
 use Rattle.solo_cases.proofs.sessions.answers.Goals as goal
 
 pub answer-requires : goal.answer-requires
@@ -20,11 +19,12 @@ answer-requires g c =
 
 pub loop-fed-init : goal.loop-fed-init
 loop-fed-init g c = ∣ record {
-  solo = unopened;
+  solo = unopened_in c.args.code.now;
   is = c.in_ok-session.ensures.unopened;
   most = 1000;
-  can = subst (λ (app : Application). CanBeFed 1000 app unopened (events_in c.args.events.now)) (sym c.in_ok-session.ensures.app)
-      (can_be (application_in c.args.code.now) unopened (events_in c.args.events.now) c.requires.can);
+  can = subst (λ (app : Application). CanBeFed 1000 app (unopened_in c.args.code.now) (events_in c.args.events.now))
+      (sym c.in_ok-session.ensures.app)
+      (can_be (application_in c.args.code.now) (unopened_in c.args.code.now) (events_in c.args.events.now) c.requires.can);
 } ∣₁
 
 pub loop-fed-preserved : goal.loop-fed-preserved
