@@ -71,13 +71,13 @@ of_only boot history session app (Open params login area ∷ events) legal only 
 pub fed_first : (boot : Boot) (natives : List Native) (history : List Event) (session : ℕ) (events : List OwnEvent)
     (uuid : List ℕ) (s : SoloSession) → IsJournalOf boot natives history → AreOfOnlyApp boot events
     → events ≡ own_events (booted boot natives) history session
-    → ((app : Application) → IsSessionOf (booted boot natives) history session app → CanBeFed (steps_in history) app unopened events)
-    → app_of (booted boot natives) uuid ≡ Some (app_in s) → IsSolo s unopened → IsFed s events
+    → ((app : Application) → IsSessionOf (booted boot natives) history session app → CanBeFed (steps_in history) app (unopened boot.key) events)
+    → app_of (booted boot natives) uuid ≡ Some (app_in s) → IsSolo s (unopened boot.key) → IsFed s events
 fed_first boot natives history session events uuid s journal are own feeds of is = record {
-  solo = unopened;
+  solo = unopened boot.key;
   is = is;
   most = steps_in history;
-  can = subst (λ (app : Application). CanBeFed (steps_in history) app unopened events) (sym same)
+  can = subst (λ (app : Application). CanBeFed (steps_in history) app (unopened boot.key) events) (sym same)
       (feeds (OfImage are.one.app) (subst (λ (none : List Native). IsSessionOf (booted boot none) history session (OfImage are.one.app))
       (sym journal.none)
       (of_only boot history session are.one.app events

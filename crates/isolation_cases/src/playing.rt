@@ -1,11 +1,11 @@
 //! Playing a trace.
-ghost use Rattle.std.specs.Prelude.{◌≡◌, IfOk, IfSome, Some, map};
+ghost use Rattle.std.specs.Prelude.{◌≡◌, IfOk, Some, map};
 ghost use Rattle.kernel_model.specs.Application.{booted};
 ghost use Rattle.kernel_state.specs.Meaning.{booted_of};
 ghost use Rattle.native_tas.specs.Table.{entries};
-ghost use Rattle.ta_isa.specs.Boots.{IsBoot};
 ghost use Rattle.ta_isa.specs.declared.boot.Boot.{Boot as AnyBoot};
 ghost use Rattle.trace_text.specs.Grammar.{Spells};
+ghost use Rattle.trace_text.specs.Sound.{IsSound};
 
 use anyhow::{Result, bail};
 use core_machine::Machine;
@@ -34,7 +34,7 @@ pub(crate) fn boot_again(
 
 /// A machine on which a trace was played.
 pub(crate) fn played(alloc: Global, natives: &Natives, trace: Trace) -> Result<Machine>
-    requires { IfSome trace.boot IsBoot }
+    requires { IsSound (map (λ native. native.0) (entries natives.now)) trace }
     ensures { (boot : AnyBoot) → trace.boot ≡ Some boot
         → IfOk result (λ machine. booted_of machine.core ≡ booted boot (entries natives.now)) }
 {
