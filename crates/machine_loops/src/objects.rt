@@ -19,6 +19,12 @@ const APPLICATION: [u8; 16] = [
     0x11, 0x11, 0x11, 0x11, 0x22, 0x22, 0x33, 0x33, 0x44, 0x44, 0x55, 0x55, 0x55, 0x55, 0x55, 0x55,
 ];
 
+/// The key of the tags in every case: 32 bytes, each of which is its place.
+const KEY: [u8; 32] = [
+    0, 1, 2, 3, 4, 5, 6, 7, 8, 9, 10, 11, 12, 13, 14, 15, 16, 17, 18, 19, 20, 21, 22, 23, 24, 25,
+    26, 27, 28, 29, 30, 31,
+];
+
 /// The most bytes of a reply.
 const MOST_BYTES: usize = 3584;
 
@@ -43,6 +49,10 @@ impl Span for Range {
 
     fn read(&self, at: u32, out: &mut [u8]) {
         copy_part(self.bytes.as_slice(), at as usize, out);
+    }
+
+    fn part(&self, at: u32) -> &[u8] {
+        &self.bytes.as_slice()[at as usize..]
     }
 
     fn write(&mut self, at: u32, part: &[u8]) {
@@ -133,8 +143,12 @@ fn tell(alloc: Global, told: &mut String, step: &StorageStep) -> Result<(), Allo
 fn tell_open(told: &mut String, handles: &Handles, handle: u32) -> Result<(), AllocError> {
     match handles.get(handle) {
         Some(object) => {
-            let (fd, len, position) = (object.fd, object.length, object.position);
-            write!(told, "; {handle} is {fd}, {position} of {len}")
+            let (fd, format) = (object.fd, object.format);
+            let (len, position) = (object.length, object.position);
+            write!(
+                told,
+                "; {handle} is {fd} of format {format}, {position} of {len}"
+            )
         }
         None => write!(told, "; {handle} is closed"),
     }
@@ -180,7 +194,7 @@ fn served(
     requires { length range.old.bytes.items ≡ range_len call }
 {
     let uuid = Uuid::from_bytes(APPLICATION);
-    let (mut state, step) = ObjectState::start(call, uuid, range, handles);
+    let (mut state, step) = ObjectState::start(call, uuid, range, handles, &KEY);
     tell(alloc, told, &step)?;
     tell_answers(alloc, told, &mut state, replies, range, handles)?;
     Ok(state.no_buffer())
