@@ -1,3 +1,4 @@
 pub mod ReadingLemmas
 pub mod PuttingLemmas
 pub mod Answering
+pub mod Worded

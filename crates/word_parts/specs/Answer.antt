@@ -1,5 +1,5 @@
 -- What a word writes at its end, and the status that it ends with.
-use Rattle.std.specs.Prelude.{◌≡◌, ℕ, ◌⊎◌, List, [], Option, Some, None, Result, Ok, Err}
+use Rattle.std.specs.Prelude.{◌≡◌, ℕ, ◌⊎◌, List, [], Option, Some, None, IsSome, IsSomeAnd, Result, Ok, Err}
 use Rattle.ports.specs.Port.{Appends}
 use Rattle.ports.specs.declared.sink.Put.{Put}
 use Rattle.ports.specs.declared.sink.Put.TheVariants.{Done, Failed}
@@ -42,3 +42,10 @@ status_of (Ok done) = status.Ok
 status_of (Err stop.Full) = TooLong
 status_of (Err stop.Failed) = WriteFault
 status_of (Err stop.Memory) = Memory
+
+-- what a play that stopped so, or didn't, has written of its text, if there is one; it refuses an entry, or none
+abbrev pub IsTold : Option ℕ → Option (List ℕ) → Result (Unit {0}) Stop → Option (List ℕ) → Option (List ℕ) → Type 0
+IsTold refused text (Ok done) old new = (refused ≡ None) × IsSomeAnd text (Appends old new)
+IsTold refused text (Err stop.Full) old new = IsSome refused × IsSomeAnd text (Appends old new)
+IsTold refused text (Err stop.Failed) old new = IsSomeAnd text (AppendsPart old new)
+IsTold refused text (Err stop.Memory) old new = Appends old new [] ⊎ IsSomeAnd text (AppendsPart old new)

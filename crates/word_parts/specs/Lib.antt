@@ -6,4 +6,5 @@ pub mod Line
 pub mod Limits
 pub mod Answer
 pub mod Gathering
+pub mod Word
 pub mod Examples
