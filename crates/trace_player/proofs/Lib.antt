@@ -1,0 +1,4 @@
+pub mod Answers
+pub mod Played
+pub mod Moved
+pub mod Playable

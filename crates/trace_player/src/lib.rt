@@ -1,0 +1,10 @@
+//! The player of a trace: a core with its processors, which takes the items of a trace one by one, and the lines that these
+//! print.
+//!
+//! It stands before the first item of a trace as its boot and its fills have it, and at each item says which play of
+//! `play_model` it has come to. What is done with the lines, and what is made of a refused entry, is its caller's.
+#![tactic(auto)]
+
+mod player;
+
+pub use player::Player;
