@@ -1,0 +1,78 @@
+-- From a player at the end of a trace to the bytes of its journal, and to what is written of them.
+use Rattle.std.proofs.Common.{◌≡◌, ℕ, ◌⊎◌, inl, inr, List, [], Option, None, Some, refl, sym, ap, subst, ◌∙◌}
+use Rattle.std.specs.Option.{option_map}
+use Rattle.std.specs.Prelude.{IsSomeAnd}
+use Rattle.audit.specs.Laws.{CoreJournalsAreSound}
+use Rattle.event_journal.specs.declared.event.Event.{Event}
+use Rattle.journal_bytes.specs.Sound.{IsSoundJournal}
+use Rattle.journal_bytes.specs.Spelling.{spelling}
+use Rattle.kernel_model.specs.Application.{Booted, Native, booted}
+use Rattle.play_model.specs.Play.{Play}
+use Rattle.ports.specs.Port.{Appends}
+use Rattle.ports.specs.PortLaws.{Appends-nil}
+use Rattle.ta_isa.specs.declared.boot.Boot.{Boot}
+use Rattle.trace_player.specs.Playing.{history_of}
+use Rattle.trace_player.specs.Refused.{refused_by, refused_in}
+use Rattle.trace_player.specs.declared.player.Player.{Player}
+use Rattle.trace_player.proofs.Playable.{refused-played}
+use Rattle.trace_text.specs.declared.trace.Trace.{Trace}
+use Rattle.word_parts.specs.Answer.{Writes, status_of_play}
+use Rattle.word_parts.specs.Word.{IsDone, IsServedBy}
+use Rattle.word_parts.specs.declared.status.Status.{Status}
+use Rattle.word_parts.specs.declared.status.Status.TheVariants.{WriteFault}
+use Rattle.word_parts.specs.declared.status.Status.TheVariants as status
+use Rattle.journal_runner.specs.Recorded.{StandsAtEnd}
+use Rattle.journal_runner.specs.Recording.{journal_for, journal_of, journal_with, recording}
+
+module _ (natives : List Native) (trace : Trace) (player : Player) (named : Status) (end : StandsAtEnd natives trace player named)
+    (header : Boot) (has_boot : trace.boot ≡ Some header) (events : List Event) (are : events ≡ history_of player) where
+  same_boot : end.boot ≡ header
+  same_boot = let both : Some end.boot ≡ Some header = sym end.has_boot ∙ has_boot in cc
+
+  -- it can be written
+  pub sound_journal : CoreJournalsAreSound → IsSoundJournal header.cpus events
+  sound_journal sound =
+      subst (λ (boot : Boot). IsSoundJournal boot.cpus events) same_boot
+      (subst (λ (on : Booted). IsSoundJournal on.cpus events) end.booted
+      (subst (IsSoundJournal _) (sym are) (sound.of_core player.machine.core)))
+
+  -- and is the trace's
+  pub journal_is : (bytes : List ℕ) → bytes ≡ spelling header events → journal_for natives trace ≡ Some bytes
+  journal_is bytes is =
+      ap (journal_with natives trace) end.has_boot ∙ ap (option_map (journal_of end.boot)) end.is_play
+      ∙ ap (λ (es : List Event). Some (spelling end.boot es)) (sym (are ∙ end.history))
+      ∙ ap (λ (boot : Boot). Some (spelling boot events)) same_boot
+      ∙ ap (λ (b : List ℕ). Some b) (sym is)
+
+  pub status_is : named ≡ status_of_play (refused_in natives trace)
+  status_is = end.stands_for ∙ ap status_of_play (sym (refused-played natives trace end.boot end.play end.has_boot end.is_play))
+
+-- ---- what is written
+
+pub done_with : (natives : List Native) (trace : Trace) (named result : Status) (bytes : List ℕ) (old new : Option (List ℕ))
+    → journal_for natives trace ≡ Some bytes → named ≡ status_of_play (refused_in natives trace)
+    → Writes named bytes result old new → IsDone (recording natives) trace result old new
+done_with natives trace named result bytes old new is same writes =
+    inr (subst (λ (o : Option (List ℕ)).
+    IsSomeAnd o (λ text. Writes (status_of_play (refused_in natives trace)) text result old new)) (sym is)
+    (subst (λ (s : Status). Writes s bytes result old new) same writes))
+
+-- a trace without a boot is served with nothing
+pub done_without : (natives : List Native) (trace : Trace) (held : Option (List ℕ)) → trace.boot ≡ None
+    → IsDone (recording natives) trace status.Ok held held
+done_without natives trace held none =
+    done_with natives trace status.Ok status.Ok [] held held (ap (journal_with natives trace) none)
+    (sym (ap (λ (boot : Option Boot). status_of_play (refused_by natives trace boot)) none)) (inl (refl, Appends-nil held))
+
+-- ---- statuses that don't come
+
+pub play_never_fails : (o : Option ℕ) (named : Status) → named ≡ status_of_play o → named ≡ WriteFault → ⊥
+play_never_fails None named is e = absurd cc
+play_never_fails (Some more) named is e = absurd cc
+
+pub play_not_usage : (o : Option ℕ) (named result : Status) (text : List ℕ) (old new : Option (List ℕ))
+    → named ≡ status_of_play o → Writes named text result old new → result ≡ status.Usage → ⊥
+play_not_usage None named result text old new is (inl whole) e = let all = sym e ∙ whole.0 ∙ is in absurd cc
+play_not_usage (Some more) named result text old new is (inl whole) e = let all = sym e ∙ whole.0 ∙ is in absurd cc
+play_not_usage o named result text old new is (inr ((inl fault), part)) e = let all = sym e ∙ fault in absurd cc
+play_not_usage o named result text old new is (inr ((inr want), part)) e = let all = sym e ∙ want in absurd cc

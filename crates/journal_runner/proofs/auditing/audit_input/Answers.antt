@@ -1,0 +1,10 @@
+use Rattle.std.proofs.Common.{arith}
+use Rattle.native_tas.specs.Table.{entries}
+use Rattle.word_parts.proofs.Worded.{Ran-read}
+use Rattle.journal_runner.specs.Auditing.{auditing}
+use Rattle.journal_runner.proofs.auditing.audit_input.Goals as goal
+
+pub returns-in-Ok-clause-told : goal.returns-in-Ok-clause-told
+returns-in-Ok-clause-told g c =
+    let whole = c.in-Ok.ensures.whole in
+    Ran-read (auditing (entries c.args.natives.now)) _ _ c.in-Ok.bytes.items _ _ _ whole.1 whole.2 (omega (arith, c.in-Ok.bytes.ok.0)) c.answer.ensures.answered

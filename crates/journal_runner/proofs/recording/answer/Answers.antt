@@ -1,0 +1,23 @@
+-- A trace that was read is what its bytes spell, and a core can be booted with its boot.
+use Rattle.std.proofs.Common.{◌≢◌, List, ℕ, inr, subst, sym, ◌∙◌}
+use Rattle.std.specs.Prelude.{AllPairs}
+use Rattle.native_tas.specs.Table.{entries}
+use Rattle.trace_player.specs.Starting.{uuids_of}
+use Rattle.trace_text.specs.Grammar.{Spells}
+use Rattle.journal_runner.proofs.Booting.{AreApart, can_boot}
+use Rattle.journal_runner.proofs.recording.answer.Goals as goal
+
+pub returns-in-Ok-clause-answered : goal.returns-in-Ok-clause-answered
+returns-in-Ok-clause-answered g c =
+    let trace = c.in-Ok.trace in
+    let natives = entries c.args.natives.now in
+    let uuids = c.as_slice-2.ensures.value ∙ c.uuids.ensures.order in
+    inr (inr (record {
+      content = trace;
+      spelled =
+          subst (λ (bytes : List ℕ). Spells (uuids_of natives) bytes trace) c.as_slice.ensures.value
+          (subst (λ (us : List (List ℕ)). Spells us c.as_slice.result.now trace) uuids c.in-Ok.ensures.found);
+      known = can_boot natives c.as_slice-2.result.now trace uuids c.as_slice-2.ensures.fits
+          (subst AreApart (sym c.as_slice-2.ensures.value) c.uuids.ensures.apart) c.in-Ok.ensures.sound;
+      served = c.record_trace.ensures.served;
+    }))

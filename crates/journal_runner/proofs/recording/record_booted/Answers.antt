@@ -1,0 +1,29 @@
+use Rattle.std.proofs.Common.{List, ℕ, inl, inr, subst}
+use Rattle.native_tas.specs.Table.{entries}
+use Rattle.trace_player.specs.Refused.{refused_in}
+use Rattle.trace_player.specs.Starting.{trace_of}
+use Rattle.word_parts.specs.Answer.{Writes}
+use Rattle.journal_runner.proofs.Journaled.{done_with, play_never_fails, play_not_usage}
+use Rattle.journal_runner.proofs.recording.record_booted.Goals as goal
+
+pub returns-in-Ok-clause-done : goal.returns-in-Ok-clause-done
+returns-in-Ok-clause-done g c =
+    let recorded = c.in-Ok.recorded in
+    done_with (entries c.args.natives.now) (trace_of c.args.boot c.args.fills.now c.args.items.now) recorded.status _
+    recorded.bytes.items _ _ c.in-Ok.ensures.bytes c.in-Ok.ensures.status
+    (subst (λ (line : List ℕ). Writes recorded.status line c.answer_line.result (g.K.Sink.held c.args.out.now)
+    (g.K.Sink.held c.answer_line.new.out)) c.as_slice.ensures.value c.answer_line.ensures.line)
+
+pub returns-in-Ok-clause-words : goal.returns-in-Ok-clause-words
+returns-in-Ok-clause-words g c =
+    play_not_usage (refused_in (entries c.args.natives.now) (trace_of c.args.boot c.args.fills.now c.args.items.now))
+    c.in-Ok.recorded.status _ _ _ _ c.in-Ok.ensures.status c.answer_line.ensures.line
+
+pub returns-in-Ok-clause-write_fault : goal.returns-in-Ok-clause-write_fault
+returns-in-Ok-clause-write_fault g c = λ e.
+    elim (c.answer_line.ensures.write_fault e) [
+      | inl fault ↦ absurd (play_never_fails
+          (refused_in (entries c.args.natives.now) (trace_of c.args.boot c.args.fills.now c.args.items.now))
+          c.in-Ok.recorded.status c.in-Ok.ensures.status fault)
+      | inr rose ↦ rose
+    ]
