@@ -6,7 +6,7 @@ use Rattle.std.specs.Str.{bytes_eq}
 use Rattle.std.proofs.lemmas.Fmt.{decimal_injective}
 use Rattle.std.proofs.lemmas.Slice.Eq.{bytes_eq-Decides}
 use Rattle.trace_runner.specs.Words.{Say, SayNothing}
-use Rattle.trace_runner.specs.declared.command.Command.TheVariants.{Serve, Threads, Work}
+use Rattle.trace_runner.specs.declared.command.Command.TheVariants.{Serve, Threads, Record, Audit, Work}
 
 -- texts that differ are not one number's
 pub other_text : (text word : List ℕ) (one other : ℕ) → bytes_eq text word ≡ false → text ≡ decimal one → one ≡ other
@@ -21,6 +21,8 @@ pub too_many : (word seed count : List ℕ) (number : ℕ) → number < 2 ^ 64 �
     → SayNothing (word ∷ seed ∷ count ∷ [])
 too_many word seed count number below many is (Serve grammar) say = let e = say.words in absurd cc
 too_many word seed count number below many is Threads say = let e = say.words in absurd cc
+too_many word seed count number below many is Record say = let e = say.words in absurd cc
+too_many word seed count number below many is Audit say = let e = say.words in absurd cc
 too_many word seed count number below many is (Work s n) say =
     let e = say.words in
     let said : count ≡ decimal n = cc in

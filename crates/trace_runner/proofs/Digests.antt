@@ -6,7 +6,6 @@ use Rattle.std.specs.Option.{option_and_then, option_map}
 use Rattle.std.proofs.lemmas.List.{append-nil, take_all}
 use Rattle.kernel_model.specs.Application.{Booted, Native, booted}
 use Rattle.hex.specs.Hex.{encode_lower}
-use Rattle.kernel_state.specs.Meaning.{events_of}
 use Rattle.made_play.specs.Summary.{answer_counts, made_play, summary_line, summary_of, summary_of_play}
 use Rattle.made_play.proofs.Ends.{law as made_plays_end}
 use Rattle.play_model.specs.Play.{Play, after_item, after_items, first_play, played}
@@ -19,17 +18,17 @@ use Rattle.ta_isa.specs.declared.boot.Boot.{Boot}
 use Rattle.trace_text.specs.declared.item.Item.{Item}
 use Rattle.trace_text.specs.declared.trace.Trace.{Trace}
 use Rattle.workload.specs.Work.{made_boot, made_trace}
-use Rattle.trace_runner.specs.Content.{refused_in}
+use Rattle.trace_player.specs.Refused.{refused_in}
 use Rattle.trace_runner.specs.Counts.{AreCounts, counts_text, line_with}
 use Rattle.trace_runner.specs.Digesting.{IsDigested}
-use Rattle.trace_runner.specs.Playing.{Follows, IsPlayedTo}
-use Rattle.trace_runner.specs.Starting.{IsAtStart}
+use Rattle.trace_player.specs.Playing.{Follows, IsPlayedTo, history_of}
+use Rattle.trace_player.specs.Starting.{IsAtStart}
 use Rattle.trace_runner.specs.declared.digesting.Digested.{Digested}
 use Rattle.trace_runner.specs.declared.summary.AnswerCounts.{AnswerCounts}
-use Rattle.trace_runner.specs.declared.player.Player.{Player}
+use Rattle.trace_player.specs.declared.player.Player.{Player}
 use Rattle.word_parts.specs.declared.stop.Stop.{Stop}
 use Rattle.word_parts.specs.declared.stop.Stop.TheVariants.{Full}
-use Rattle.trace_runner.proofs.Playable.{Playing, playing-first, playing-more, playing-refused}
+use Rattle.trace_player.proofs.Playable.{Playing, playing-first, playing-more, playing-refused}
 
 -- the items so far were played, the hasher holds their text, and no line is held
 pub record Digesting (natives : List Native) (trace : Trace) (items : List Item) (at : ℕ) (player : Player)
@@ -83,7 +82,7 @@ digesting-full natives trace items at i before after stop hasher held line lt is
 -- the last item was played
 pub digesting-ended : (natives : List Native) (trace : Trace) (items : List Item) (at : ℕ) (player : Player)
     (hasher : Sha256) (held : List ℕ) (digested : Digested) → length items ≤ at
-    → Digesting natives trace items at player hasher held → AreCounts (events_of player.machine.core) digested.counts
+    → Digesting natives trace items at player hasher held → AreCounts (history_of player) digested.counts
     → ((message : List ℕ) → Holds256 hasher message → digested.digest ≡ sha256 message)
     → IsDigested natives trace digested
 digesting-ended natives trace items at player hasher held digested whole d counts told =

@@ -10,13 +10,13 @@ use Rattle.trace_text.specs.declared.item.Item.{Item}
 use Rattle.trace_text.specs.declared.trace.Trace.{Trace}
 use Rattle.word_parts.specs.Gathering.{EndsAs, PutsBut, PutsLines, PutsOrKeeps}
 use Rattle.word_parts.specs.Output.{AppendsPart}
-use Rattle.trace_runner.specs.Playing.{Follows, IsPlayedTo}
-use Rattle.trace_runner.specs.Run.{IsTold}
-use Rattle.trace_runner.specs.Starting.{IsAtStart}
-use Rattle.trace_runner.specs.declared.player.Player.{Player}
+use Rattle.trace_player.specs.Playing.{Follows, IsPlayedTo}
+use Rattle.trace_runner.specs.Run.{IsToldOf}
+use Rattle.trace_player.specs.Starting.{IsAtStart}
+use Rattle.trace_player.specs.declared.player.Player.{Player}
 use Rattle.word_parts.specs.declared.stop.Stop.{Stop}
 use Rattle.word_parts.specs.declared.stop.Stop.TheVariants.{Full, Failed, Memory}
-use Rattle.trace_runner.proofs.Playable.{Playing, playing-ended, playing-first, playing-more, playing-part, playing-refused}
+use Rattle.trace_player.proofs.Playable.{Playing, playing-ended, playing-first, playing-more, playing-part, playing-refused}
 use Rattle.word_parts.proofs.PuttingLemmas.{AppendsPart-nothing, AppendsPart-then, put-none}
 
 -- ---- what was told
@@ -73,7 +73,7 @@ pub gathering-unput : (natives : List Native) (trace : Trace) (items : List Item
     → i ≡ get_or items at i → Gathering natives trace items at before lines a b
     → ((boot : Booted) (play : Play) → IsPlayedTo boot play before
     → Follows boot play (after_item boot i play) (Ok tt) after lines more)
-    → PutsOrKeeps more (Err stop) kept b c → IsTold natives trace (Err stop) a c
+    → PutsOrKeeps more (Err stop) kept b c → IsToldOf natives trace (Err stop) a c
 gathering-unput natives trace items at i before after lines more kept Full a b c lt is g follows puts = absurd puts
 gathering-unput natives trace items at i before after lines more kept Failed a b c lt is g follows puts =
     gathering-part natives trace items (at + 1) after more a b c
@@ -95,7 +95,7 @@ pub gathering-stopped : (natives : List Native) (trace : Trace) (items : List It
     → i ≡ get_or items at i → Gathering natives trace items at before lines a b
     → ((boot : Booted) (play : Play) → IsPlayedTo boot play before
     → Follows boot play (after_item boot i play) (Err stop) after lines left)
-    → EndsAs stop left end b c → IsTold natives trace (Err end) a c
+    → EndsAs stop left end b c → IsToldOf natives trace (Err end) a c
 gathering-stopped natives trace items at i before after lines left Full Full a b c lt is g follows ends =
     let p = g.playing in
     let none : left ≡ lines = (follows (booted p.boot natives) p.written.play p.written.stands).2 in
@@ -119,7 +119,7 @@ gathering-stopped natives trace items at i before after lines left Memory Memory
 -- the last item was played, and its lines were put
 pub gathering-ended : (natives : List Native) (trace : Trace) (items : List Item) (at : ℕ) (player : Player)
     (lines : List ℕ) (result : Result (Unit {0}) Stop) (a b c : Option (List ℕ)) → length items ≤ at
-    → Gathering natives trace items at player lines a b → PutsLines lines result b c → IsTold natives trace result a c
+    → Gathering natives trace items at player lines a b → PutsLines lines result b c → IsToldOf natives trace result a c
 gathering-ended natives trace items at player lines (Ok done) a b c whole g puts =
     let told = playing-ended natives trace items at player (g.text ++ lines) whole g.playing in
     (told.0, all-put natives trace g.text lines a b c told.1 g.put puts)

@@ -1,13 +1,8 @@
-pub mod Answers
-pub mod Played
-pub mod Moved
 pub mod Apart
-pub mod Fills
 pub mod Commands
 pub mod Readings
 pub mod Running
 pub mod Plays
-pub mod Playable
 pub mod Gathered
 pub mod Digests
 pub mod Legal

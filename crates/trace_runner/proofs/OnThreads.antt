@@ -20,8 +20,9 @@ use Rattle.trace_text.specs.declared.trace.Fill.{Fill}
 use Rattle.trace_text.specs.declared.trace.Trace.{Trace}
 use Rattle.trace_runner.specs.Content.{Spells}
 use Rattle.trace_runner.specs.Plays.{IsUnplayed}
-use Rattle.trace_runner.specs.Run.{CanBeRefused, IsBad, IsRefusedWhole, uuids_of}
-use Rattle.trace_runner.specs.Starting.{trace_of}
+use Rattle.trace_runner.specs.Run.{reading}
+use Rattle.word_parts.specs.Word.{CanBeRefused, IsBad, IsRefusedWhole}
+use Rattle.trace_player.specs.Starting.{trace_of, uuids_of}
 use Rattle.trace_runner.specs.Threads.{AnsweredOnThreads, AreBlocks, BlocksOf, CanBePlayedOnThreads, IsPlayedInOrder, IsPlayedOnThreads, IsServedByThreads, IsTrueInOrder, PrintsBlocks, RanOnThreads, ThreadStatuses, WritesPartOnThreads, status_where}
 use Rattle.trace_runner.specs.declared.content.Content.TheVariants as content
 use Rattle.trace_runner.specs.declared.command.Grammar.TheVariants.{Text}
@@ -29,12 +30,11 @@ use Rattle.word_parts.specs.declared.status.Status.{Status}
 use Rattle.word_parts.specs.declared.status.Status.TheVariants.{BadTrace, ReadFault, WriteFault, Memory, TooLong}
 use Rattle.word_parts.specs.declared.status.Status.TheVariants as status
 use Rattle.trace_runner.proofs.Legal.{exits_in, refused_in}
-use Rattle.trace_runner.proofs.Readings.{every_input}
+use Rattle.trace_runner.proofs.Readings.{one_meaning}
 use Rattle.word_parts.specs.Answer.{Writes}
 use Rattle.word_parts.specs.Input.{IsAtEnd, IsTooLong}
 use Rattle.word_parts.specs.Limits.{HasTooMany}
 use Rattle.word_parts.specs.Line.{bad_trace_line}
-use Rattle.word_parts.specs.Output.{AppendsPart}
 use Rattle.word_parts.proofs.Answering.{is-short, writes-named, writes-part}
 
 -- ---- a play
@@ -221,7 +221,7 @@ served-not-bad natives trace old new (inr (few, inr (of, writes))) =
     (λ e. absurd cc) (λ e. absurd cc)).0
 
 ran-bad : (natives : List Native) (input : List ℕ) (left old new : Option (List ℕ))
-    → RanOnThreads natives input left BadTrace old new → IsBad Text natives input old new
+    → RanOnThreads natives input left BadTrace old new → IsBad (reading Text natives) input old new
 ran-bad natives input left old new (inl ((inl e), nothing)) = absurd cc
 ran-bad natives input left old new (inl ((inr e), nothing)) = absurd cc
 ran-bad natives input left old new (inr (inl long)) = let e = long.0 in absurd cc
@@ -330,10 +330,10 @@ ran-whole natives input left result old new trace can no_read no_write (inl ((in
 ran-whole natives input left result old new trace can no_read no_write (inr (inl long)) = absurd (can.short long.1)
 ran-whole natives input left result old new trace can no_read no_write (inr (inr (short, ended, inl want))) = inr want.0
 ran-whole natives input left result old new trace can no_read no_write (inr (inr (short, ended, inr (inl refused)))) =
-    absurd ((every_input Text (uuids_of natives) input).not_both (content.Trace trace) refused.place refused.kind can.spelled
+    absurd ((one_meaning Text natives input).not_both (content.Trace trace) refused.place refused.kind can.spelled
     refused.first)
 ran-whole natives input left result old new trace can no_read no_write (inr (inr (short, ended, inr (inr served)))) =
-    let both = (every_input Text (uuids_of natives) input).one_content (content.Trace served.trace) (content.Trace trace)
+    let both = (one_meaning Text natives input).one_content (content.Trace served.trace) (content.Trace trace)
     served.spelled can.spelled in
     let same : served.trace ≡ trace = cc in
     served-whole natives trace result old new can.few no_write
@@ -352,9 +352,9 @@ threads-whole natives None left result old new a b c d read write ran = tt
 -- ---- inputs that leave their grammar
 
 ran-refused : (natives : List Native) (input : List ℕ) (left : Option (List ℕ)) (result : Status) (old new : Option (List ℕ))
-    → CanBeRefused Text natives input → (result ≡ ReadFault → ⊥) → (result ≡ WriteFault → ⊥)
+    → CanBeRefused (reading Text natives) input → (result ≡ ReadFault → ⊥) → (result ≡ WriteFault → ⊥)
     → RanOnThreads natives input left result old new
-    → IsRefusedWhole Text natives input result old new ⊎ (result ≡ Memory)
+    → IsRefusedWhole (reading Text natives) input result old new ⊎ (result ≡ Memory)
 ran-refused natives input left result old new can no_read no_write (inl ((inl fault), nothing)) = absurd (no_read fault)
 ran-refused natives input left result old new can no_read no_write (inl ((inr want), nothing)) = inr want
 ran-refused natives input left result old new can no_read no_write (inr (inl long)) = absurd (can.short long.1)
@@ -363,7 +363,7 @@ ran-refused natives input left result old new can no_read no_write (inr (inr (sh
     by_line refused.line
   where
     by_line : Writes BadTrace (bad_trace_line refused.place refused.kind) result old new
-        → IsRefusedWhole Text natives input result old new ⊎ (result ≡ Memory)
+        → IsRefusedWhole (reading Text natives) input result old new ⊎ (result ≡ Memory)
     by_line (inl whole) = inl (whole.0, (can.short, (refused.place, refused.kind, refused.first, whole.1)))
     by_line (inr ((inl fault), part)) = absurd (no_write fault)
     by_line (inr ((inr want), part)) = inr want
@@ -374,8 +374,8 @@ ran-refused natives input left result old new can no_read no_write (inr (inr (sh
 pub threads-refused : (natives : List Native) (told left : Option (List ℕ)) (result : Status) (old new : Option (List ℕ))
     (a b c d : ℕ) → (result ≡ ReadFault → Rose a b) → (result ≡ WriteFault → Rose c d)
     → IfSome told (λ input. RanOnThreads natives input left result old new)
-    → IfSome told (λ input. CanBeRefused Text natives input → (Rose a b → ⊥) → (Rose c d → ⊥)
-    → IsRefusedWhole Text natives input result old new ⊎ (result ≡ Memory))
+    → IfSome told (λ input. CanBeRefused (reading Text natives) input → (Rose a b → ⊥) → (Rose c d → ⊥)
+    → IsRefusedWhole (reading Text natives) input result old new ⊎ (result ≡ Memory))
 threads-refused natives (Some input) left result old new a b c d read write ran = λ can no_read no_write.
     ran-refused natives input left result old new can (λ e. no_read (read e)) (λ e. no_write (write e)) ran
 threads-refused natives None left result old new a b c d read write ran = tt

@@ -14,9 +14,12 @@ use Rattle.ta_isa.specs.declared.boot.Boot.{Boot}
 use Rattle.ta_isa.specs.declared.image.Image.{Image}
 use Rattle.trace_text.specs.declared.trace.Trace.{Trace}
 use Rattle.workload.specs.Work.{made_boot, made_trace}
-use Rattle.trace_runner.specs.Content.{CanBeBooted, CanBePlayed, Spells, refused_by, text_for}
+use Rattle.trace_runner.specs.Content.{CanBeBooted, CanBePlayed, Spells, text_for}
+use Rattle.trace_player.specs.Refused.{refused_by}
 use Rattle.trace_runner.specs.Plays.{IsPlayed, IsPrinted, IsPrintedBy, IsSummedUp, IsUnplayed, Plays, SpellsTraces}
-use Rattle.trace_runner.specs.Run.{IsServedBy, Ran, Worked, uuids_of}
+use Rattle.trace_runner.specs.Run.{Worked, reading}
+use Rattle.word_parts.specs.Word.{IsServedBy, Ran}
+use Rattle.trace_player.specs.Starting.{uuids_of}
 use Rattle.word_parts.specs.Answer.{Writes, status_of_play}
 use Rattle.word_parts.specs.Line.{bad_trace_line}
 use Rattle.trace_runner.specs.declared.content.Content.{Content}
@@ -26,7 +29,7 @@ use Rattle.trace_runner.specs.declared.command.Grammar.TheVariants.{Text, Record
 use Rattle.word_parts.specs.declared.status.Status.{Status}
 use Rattle.word_parts.specs.declared.status.Status.TheVariants.{BadTrace, ReadFault, WriteFault, Memory, TooLong}
 use Rattle.word_parts.specs.declared.status.Status.TheVariants as status
-use Rattle.trace_runner.proofs.Played.{some-and}
+use Rattle.word_parts.proofs.Worded.{some-and}
 use Rattle.word_parts.proofs.Answering.{writes-named}
 
 -- ---- a trace
@@ -79,7 +82,7 @@ no_image Assembler natives input image traces spelled = traces
 served-played : (grammar : Grammar) (natives : List Native) (input : List ℕ) (content : Content) (result : Status)
     (old new : Option (List ℕ)) → SpellsTraces grammar → IsWhole result
     → Spells grammar (uuids_of natives) input content → CanBePlayed natives content
-    → IsServedBy natives content result old new → WasPlayed grammar natives input result old new
+    → IsServedBy (reading grammar natives) content result old new → WasPlayed grammar natives input result old new
 served-played grammar natives input (content.Image image) result old new traces whole spelled can served =
     absurd (no_image grammar (uuids_of natives) input image traces spelled)
 served-played grammar natives input (content.Trace trace) result old new traces whole spelled can (inl many) =
@@ -98,7 +101,7 @@ served-played grammar natives input (content.Trace trace) result old new traces 
 
 ran-played : (grammar : Grammar) (natives : List Native) (input : List ℕ) (left : Option (List ℕ)) (result : Status)
     (old new : Option (List ℕ)) → SpellsTraces grammar → IsWhole result
-    → Ran grammar natives input left result old new → WasPlayed grammar natives input result old new
+    → Ran (reading grammar natives) input left result old new → WasPlayed grammar natives input result old new
 ran-played grammar natives input left result old new traces whole (inl ((inl fault), nothing)) =
     absurd (whole.no_read fault)
 ran-played grammar natives input left result old new traces whole (inl ((inr want), nothing)) =
@@ -111,11 +114,11 @@ ran-played grammar natives input left result old new traces whole (inr (inr (sho
     whole.no_write whole.no_want in
     absurd (whole.no_fault put.0)
 ran-played grammar natives input left result old new traces whole (inr (inr (short, ended, inr (inr served)))) =
-    served-played grammar natives input served.content result old new traces whole served.spelled served.can
+    served-played grammar natives input served.content result old new traces whole served.spelled served.known
     served.served
 
 ran-plays : (grammar : Grammar) (natives : List Native) (input : List ℕ) (left : Option (List ℕ)) (result : Status)
-    (old new : Option (List ℕ)) → SpellsTraces grammar → Ran grammar natives input left result old new
+    (old new : Option (List ℕ)) → SpellsTraces grammar → Ran (reading grammar natives) input left result old new
     → Plays grammar natives input result old new
 ran-plays grammar natives input left result old new traces ran = record {
   ok = λ e. ok-played e (ran-played grammar natives input left result old new traces (record {
@@ -145,7 +148,7 @@ ran-plays grammar natives input left result old new traces ran = record {
 -- over an input that the source tells
 pub told-plays : (grammar : Grammar) (natives : List Native) (told left : Option (List ℕ)) (result : Status)
     (old new : Option (List ℕ)) → SpellsTraces grammar
-    → IfSome told (λ input. Ran grammar natives input left result old new)
+    → IfSome told (λ input. Ran (reading grammar natives) input left result old new)
     → IfSome told (λ input. Plays grammar natives input result old new)
 told-plays grammar natives (Some input) left result old new traces ran =
     ran-plays grammar natives input left result old new traces ran

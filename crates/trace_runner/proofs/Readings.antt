@@ -9,10 +9,14 @@ use Rattle.trace_bin.proofs.GrammarLaws as records
 use Rattle.trace_text.proofs.GrammarLaws as text
 use Rattle.trace_text.specs.declared.fault.BadKind.{BadKind}
 use Rattle.trace_text.specs.declared.trace.Trace.{Trace}
+use Rattle.kernel_model.specs.Application.{Native}
+use Rattle.trace_player.specs.Starting.{uuids_of}
+use Rattle.word_parts.specs.Word.{HasOneMeaning}
 use Rattle.trace_runner.specs.Content.{IsFirstFault, Spells}
+use Rattle.trace_runner.specs.Run.{reading}
 use Rattle.trace_runner.specs.Words.{Asks, Say, word_of}
 use Rattle.trace_runner.specs.declared.command.Command.{Command}
-use Rattle.trace_runner.specs.declared.command.Command.TheVariants.{Serve, Threads, Work}
+use Rattle.trace_runner.specs.declared.command.Command.TheVariants.{Serve, Threads, Record, Audit, Work}
 use Rattle.trace_runner.specs.declared.content.Content.{Content}
 use Rattle.trace_runner.specs.declared.content.Content.TheVariants as variant
 use Rattle.trace_runner.specs.declared.command.Grammar.{Grammar}
@@ -48,19 +52,10 @@ never_both Assembler natives input (variant.Image a) place kind p q =
 never_both Assembler natives input (variant.Trace a) place kind p q = absurd p
 
 -- an input spells one trace or image, or it has a fault, and not both
-pub record OneMeaning (grammar : Grammar) (natives : List (List ℕ)) (input : List ℕ) : Type 0 where
-  pub one_content : (one other : Content) → Spells grammar natives input one → Spells grammar natives input other
-      → one ≡ other
-  pub not_both : (content : Content) (place : ℕ) (kind : BadKind) → Spells grammar natives input content
-      → IsFirstFault grammar natives input place kind → ⊥
-
-abbrev pub EveryInput : Type 0
-EveryInput = (grammar : Grammar) (natives : List (List ℕ)) (input : List ℕ) → OneMeaning grammar natives input
-
-pub every_input : EveryInput
-every_input grammar natives input = record {
-  one_content = same_content grammar natives input;
-  not_both = never_both grammar natives input;
+pub one_meaning : (grammar : Grammar) (natives : List Native) (input : List ℕ) → HasOneMeaning (reading grammar natives) input
+one_meaning grammar natives input = record {
+  one_content = same_content grammar (uuids_of natives) input;
+  not_both = never_both grammar (uuids_of natives) input;
 }
 
 -- ---- words
@@ -94,6 +89,16 @@ no_threads Text e = let length_is : 3 ≡ 7 = ap length e in absurd (omega (arit
 no_threads Records e = let length_is : 10 ≡ 7 = ap length e in absurd (omega (arith, length_is))
 no_threads Assembler e = let length_is : 3 ≡ 7 = ap length e in absurd (omega (arith, length_is))
 
+no_record : (grammar : Grammar) → word_of grammar ≡ codes "record" → ⊥
+no_record Text e = let length_is : 3 ≡ 6 = ap length e in absurd (omega (arith, length_is))
+no_record Records e = let length_is : 10 ≡ 6 = ap length e in absurd (omega (arith, length_is))
+no_record Assembler e = let length_is : 3 ≡ 6 = ap length e in absurd (omega (arith, length_is))
+
+no_audit : (grammar : Grammar) → word_of grammar ≡ codes "audit" → ⊥
+no_audit Text e = let length_is : 3 ≡ 5 = ap length e in absurd (omega (arith, length_is))
+no_audit Records e = let length_is : 10 ≡ 5 = ap length e in absurd (omega (arith, length_is))
+no_audit Assembler e = let length_is : 3 ≡ 5 = ap length e in absurd (omega (arith, length_is))
+
 -- words say one command
 same_command : (texts : List (List ℕ)) (one other : Command) → Say texts one → Say texts other → one ≡ other
 same_command texts (Serve a) (Serve b) p q =
@@ -107,6 +112,38 @@ same_command texts Threads (Serve b) p q = absurd (no_threads b (ap first_word (
 same_command texts Threads Threads p q = refl
 same_command texts Threads (Work s n) p q =
     let count_is : 1 ≡ 3 = ap length (sym p.words ∙ q.words) in absurd (omega (arith, count_is))
+same_command texts (Serve a) Record p q = absurd (no_record a (ap first_word (sym p.words ∙ q.words)))
+same_command texts (Serve a) Audit p q = absurd (no_audit a (ap first_word (sym p.words ∙ q.words)))
+same_command texts Record (Serve b) p q = absurd (no_record b (ap first_word (sym q.words ∙ p.words)))
+same_command texts Audit (Serve b) p q = absurd (no_audit b (ap first_word (sym q.words ∙ p.words)))
+same_command texts Record Record p q = refl
+same_command texts Audit Audit p q = refl
+same_command texts Threads Record p q =
+    let length_is : 7 ≡ 6 = ap (λ (words : List (List ℕ)). length (first_word words)) (sym p.words ∙ q.words) in
+    absurd (omega (arith, length_is))
+same_command texts Threads Audit p q =
+    let length_is : 7 ≡ 5 = ap (λ (words : List (List ℕ)). length (first_word words)) (sym p.words ∙ q.words) in
+    absurd (omega (arith, length_is))
+same_command texts Record Threads p q =
+    let length_is : 6 ≡ 7 = ap (λ (words : List (List ℕ)). length (first_word words)) (sym p.words ∙ q.words) in
+    absurd (omega (arith, length_is))
+same_command texts Record Audit p q =
+    let length_is : 6 ≡ 5 = ap (λ (words : List (List ℕ)). length (first_word words)) (sym p.words ∙ q.words) in
+    absurd (omega (arith, length_is))
+same_command texts Audit Threads p q =
+    let length_is : 5 ≡ 7 = ap (λ (words : List (List ℕ)). length (first_word words)) (sym p.words ∙ q.words) in
+    absurd (omega (arith, length_is))
+same_command texts Audit Record p q =
+    let length_is : 5 ≡ 6 = ap (λ (words : List (List ℕ)). length (first_word words)) (sym p.words ∙ q.words) in
+    absurd (omega (arith, length_is))
+same_command texts Record (Work s n) p q =
+    let count_is : 1 ≡ 3 = ap length (sym p.words ∙ q.words) in absurd (omega (arith, count_is))
+same_command texts (Work s n) Record p q =
+    let count_is : 3 ≡ 1 = ap length (sym p.words ∙ q.words) in absurd (omega (arith, count_is))
+same_command texts Audit (Work s n) p q =
+    let count_is : 1 ≡ 3 = ap length (sym p.words ∙ q.words) in absurd (omega (arith, count_is))
+same_command texts (Work s n) Audit p q =
+    let count_is : 3 ≡ 1 = ap length (sym p.words ∙ q.words) in absurd (omega (arith, count_is))
 same_command texts (Work s n) Threads p q =
     let count_is : 3 ≡ 1 = ap length (sym p.words ∙ q.words) in absurd (omega (arith, count_is))
 same_command texts (Work s n) (Serve b) p q =
@@ -131,6 +168,11 @@ one_grammar words one other p q = let same = one_command words (Serve one) (Serv
 pub one_work : (words : List (String Global)) (s n t m : ℕ) → Asks words (Work s n) → Asks words (Work t m)
     → (s ≡ t) × (n ≡ m)
 one_work words s n t m p q = let same = one_command words (Work s n) (Work t m) p q in (cc, cc)
+
+-- words that ask for an input's grammar, for a made trace, for a journal or for a verdict ask for nothing else
+pub no_other : {X : Type 0} (words : List (String Global)) (one other : Command) → (one ≡ other → ⊥) → Asks words one
+    → Asks words other → X
+no_other words one other differ p q = absurd (differ (one_command words one other p q))
 
 -- `threads` asks for nothing else
 pub threads_alone : (texts : List (List ℕ)) (other : Command) → Say texts Threads → Say texts other → other ≡ Threads

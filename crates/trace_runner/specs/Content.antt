@@ -1,9 +1,8 @@
 -- What an input spells in each grammar, what the first fault of any other input is, and what is written for it.
 use Rattle.std.specs.Prelude.{◌≡◌, ℕ, List, [], Option, Some, None}
-use Rattle.std.specs.Option.{option_and_then}
 use Rattle.kernel_model.specs.Application.{IsBooted, Native, booted}
-use Rattle.play_model.specs.Play.{Play, played}
 use Rattle.play_model.specs.Text as play_text
+use Rattle.trace_player.specs.Refused.{refused_in}
 use Rattle.ta_asm.specs.Grammar as asm
 use Rattle.ta_asm.specs.declared.fault.AsmFault.{AsmFault}
 use Rattle.ta_asm.specs.declared.fault.AsmFault.TheVariants.{BadLine, RepeatedLabel, UnknownLabel}
@@ -84,15 +83,7 @@ abbrev pub text_for : List Native → Content → Option (List ℕ)
 text_for natives (content.Trace trace) = play_text.text_of natives trace
 text_for natives (content.Image image) = Some (image_line image)
 
--- how many bytes the entry would have read that the play of a trace refuses, where it refuses one
-abbrev pub refused_by : List Native → Trace → Option Boot → Option ℕ
-refused_by natives trace None = None
-refused_by natives trace (Some boot) = option_and_then (λ (play : Play). play.refused) (played natives boot trace)
-
-abbrev pub refused_in : List Native → Trace → Option ℕ
-refused_in natives trace = refused_by natives trace trace.boot
-
--- an image has no play that could
+-- how many bytes the entry would have read that the play of a trace refuses, where it refuses one; an image has no play
 abbrev pub refused_for : List Native → Content → Option ℕ
 refused_for natives (content.Trace trace) = refused_in natives trace
 refused_for natives (content.Image image) = None

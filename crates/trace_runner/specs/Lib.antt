@@ -1,10 +1,8 @@
 pub mod Words
 pub mod Line
 pub mod Content
-pub mod Playing
 pub mod Run
 pub mod Plays
 pub mod Threads
-pub mod Starting
 pub mod Counts
 pub mod Digesting

@@ -11,7 +11,7 @@ use Rattle.trace_text.specs.declared.trace.Trace.{Trace}
 use Rattle.workload.specs.Work.{made_boot, made_trace}
 use Rattle.trace_runner.specs.Content.{Spells}
 use Rattle.word_parts.specs.Limits.{HasTooMany}
-use Rattle.trace_runner.specs.Run.{uuids_of}
+use Rattle.trace_player.specs.Starting.{uuids_of}
 use Rattle.word_parts.specs.Answer.{status_of_play}
 use Rattle.word_parts.specs.Input.{IsTooLong}
 use Rattle.trace_runner.specs.declared.content.Content.TheVariants as content

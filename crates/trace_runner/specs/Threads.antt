@@ -15,7 +15,8 @@ use Rattle.trace_text.specs.declared.fault.BadKind.{BadKind}
 use Rattle.trace_text.specs.declared.trace.Trace.{Trace}
 use Rattle.trace_runner.specs.Content.{IsFirstFault, Spells}
 use Rattle.trace_runner.specs.Plays.{IsUnplayed}
-use Rattle.trace_runner.specs.Run.{IsBad, IsRefused, uuids_of}
+use Rattle.trace_runner.specs.Run.{reading}
+use Rattle.trace_player.specs.Starting.{uuids_of}
 use Rattle.trace_runner.specs.declared.content.Content.TheVariants as content
 use Rattle.trace_runner.specs.declared.command.Grammar.TheVariants.{Text}
 use Rattle.word_parts.specs.Answer.{IsUnread, Writes}
@@ -23,6 +24,7 @@ use Rattle.word_parts.specs.Input.{IsTooLong}
 use Rattle.word_parts.specs.Limits.{HasTooMany}
 use Rattle.word_parts.specs.Line.{bad_trace_line}
 use Rattle.word_parts.specs.Output.{AppendsPart}
+use Rattle.word_parts.specs.Word.{IsBad, IsRefused}
 use Rattle.word_parts.specs.declared.status.Status.{Status}
 use Rattle.word_parts.specs.declared.status.Status.TheVariants.{BadTrace, WriteFault, Memory, TooLong}
 use Rattle.word_parts.specs.declared.status.Status.TheVariants as status
@@ -101,7 +103,7 @@ pub record IsServedOnThreads (natives : List Native) (input : List ℕ) (result 
 abbrev pub AnsweredOnThreads : List Native → List ℕ → Status → Option (List ℕ) → Option (List ℕ) → Type 0
 AnsweredOnThreads natives input result old new =
     ((result ≡ Memory) × Appends old new [])
-    ⊎ IsRefused Text natives input result old new
+    ⊎ IsRefused (reading Text natives) input result old new
     ⊎ IsServedOnThreads natives input result old new
 
 -- what the call comes to over an input that the source tells, and what the source has left
@@ -148,5 +150,5 @@ pub record ThreadStatuses (natives : List Native) (input : List ℕ) (left : Opt
   -- is printed whole
   pub too_long : result ≡ TooLong →
       (IsUnplayed Text natives input × Appends old new []) ⊎ IsPlayedOnThreads natives input result old new
-  pub bad_trace : result ≡ BadTrace → IsBad Text natives input old new
+  pub bad_trace : result ≡ BadTrace → IsBad (reading Text natives) input old new
   pub part : ((result ≡ WriteFault) ⊎ (result ≡ Memory)) → WritesPartOnThreads natives input old new

@@ -3,7 +3,7 @@ use Rattle.std.specs.Prelude.{◌≡◌, ℕ, ◌^◌, ◌<◌, ◌≤◌, ◌�
 use Rattle.std.specs.Fmt.{decimal}
 use Rattle.std.specs.Global.{Global}
 use Rattle.trace_runner.specs.declared.command.Command.{Command}
-use Rattle.trace_runner.specs.declared.command.Command.TheVariants.{Serve, Threads, Work}
+use Rattle.trace_runner.specs.declared.command.Command.TheVariants.{Serve, Threads, Record, Audit, Work}
 use Rattle.trace_runner.specs.declared.command.Grammar.{Grammar}
 use Rattle.trace_runner.specs.declared.command.Grammar.TheVariants.{Text, Records, Assembler}
 
@@ -17,12 +17,16 @@ word_of Assembler = codes "asm"
 abbrev pub words_of : Command → List (List ℕ)
 words_of (Serve grammar) = word_of grammar ∷ []
 words_of Threads = codes "threads" ∷ []
+words_of Record = codes "record" ∷ []
+words_of Audit = codes "audit" ∷ []
 words_of (Work seed count) = codes "work" ∷ decimal seed ∷ decimal count ∷ []
 
 -- a seed is below 2^64, and there are at most 65,536 calls
 abbrev pub IsWithin : Command → Type 0
 IsWithin (Serve grammar) = Unit {0}
 IsWithin Threads = Unit {0}
+IsWithin Record = Unit {0}
+IsWithin Audit = Unit {0}
 IsWithin (Work seed count) = (seed < 2 ^ 64) × (count ≤ 2 ^ 16)
 
 -- these texts say the command, or none
@@ -42,4 +46,5 @@ AskNothing words = SayNothing (map string_bytes words)
 
 -- they ask for what reads an input
 abbrev pub AskToRead : List (String Global) → Type 0
-AskToRead words = ((grammar : Grammar) × Asks words (Serve grammar)) ⊎ Asks words Threads
+AskToRead words =
+    ((grammar : Grammar) × Asks words (Serve grammar)) ⊎ Asks words Threads ⊎ Asks words Record ⊎ Asks words Audit

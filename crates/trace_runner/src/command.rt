@@ -26,6 +26,10 @@ pub enum Command {
     Serve(Grammar),
     /// The input is read as text, and each processor of the trace that it spells plays its items in a thread of its own.
     Threads,
+    /// The input is read as text, the trace that it spells is played, and the journal of its play is written.
+    Record,
+    /// The input is read as the bytes of a journal, and the verdict on it is written.
+    Audit,
     /// The trace that a seed makes with so many calls is played, and its play is summed up.
     Work { seed: u64, count: u32 },
 }
@@ -56,6 +60,8 @@ fn command_named(word: &str) -> Option<Command>
         "run-binary" => Some(Command::Serve(Grammar::Records)),
         "threads" => Some(Command::Threads),
         "asm" => Some(Command::Serve(Grammar::Assembler)),
+        "record" => Some(Command::Record),
+        "audit" => Some(Command::Audit),
         _ => None,
     }
 }

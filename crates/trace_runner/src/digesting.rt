@@ -5,19 +5,17 @@ ghost use Rattle.kernel_model.specs.Application.{Native};
 ghost use Rattle.native_tas.specs.Table.{entries};
 ghost use Rattle.trace_text.specs.Sound.{IsSound};
 ghost use Rattle.trace_text.specs.declared.trace.Trace.{Trace};
-ghost use Rattle.trace_runner.specs.Content.{refused_in};
+ghost use Rattle.trace_player.specs.Refused.{refused_in};
 ghost use Rattle.trace_runner.specs.Digesting.{IsDigested};
-ghost use Rattle.trace_runner.specs.Run.{uuids_of};
-ghost use Rattle.trace_runner.specs.Starting.{IsAtStart, trace_of};
+ghost use Rattle.trace_player.specs.Starting.{IsAtStart, trace_of, uuids_of};
 
-use crate::play::first_player;
-use crate::player::Player;
 use crate::summary::AnswerCounts;
 use core_machine::machines_stand;
 use native_tas::Natives;
 use sha2::{Digest, Sha256};
 use std::alloc::Global;
 use ta_isa::Boot;
+use trace_player::Player;
 use trace_text::{Fill, Item, Trace};
 use word_parts::Stop;
 
@@ -65,7 +63,7 @@ fn digest_booted(
     ensures full { result ≡ Err Stop.Full → IsSome (refused_in (entries natives.now) (trace_of boot fills.now items.now)) }
     ensures failed { result ≡ Err Stop.Failed → ⊥ }
 {
-    let Ok(mut player) = first_player(alloc, boot, natives, fills) else {
+    let Ok(mut player) = Player::booted(alloc, boot, natives, fills) else {
         return Err(Stop::Memory);
     };
     digest_items(alloc, &mut player, items)

@@ -5,13 +5,13 @@ ghost use Rattle.kernel_model.specs.Application.{Native};
 ghost use Rattle.ports.specs.Port.{Rose};
 ghost use Rattle.trace_text.specs.declared.trace.Trace.{Trace};
 ghost use Rattle.word_parts.specs.Gathering.{EndsAs, PutsLines, PutsOrKeeps};
-ghost use Rattle.trace_runner.specs.Run.{IsTold};
-ghost use Rattle.trace_runner.specs.Starting.{IsAtStart};
+ghost use Rattle.trace_runner.specs.Run.{IsToldOf};
+ghost use Rattle.trace_player.specs.Starting.{IsAtStart};
 
-use crate::player::Player;
 use core_machine::machines_stand;
 use ports::Sink;
 use std::alloc::Global;
+use trace_player::Player;
 use trace_text::Item;
 use word_parts::{Stop, end_at, put_if_many, put_lines};
 
@@ -26,7 +26,7 @@ pub fn play_items<K: Sink>(
 ) -> Result<(), Stop>
     requires { (natives : List Native) × (trace : Trace) × IsAtStart natives trace items.now player.old }
     ensures told { (natives : List Native) (trace : Trace) → IsAtStart natives trace items.now player.old
-        → IsTold natives trace result (K.held out.old) (K.held out.new) }
+        → IsToldOf natives trace result (K.held out.old) (K.held out.new) }
     ensures failed { result ≡ Err Stop.Failed → Rose (K.faults out.old) (K.faults out.new) }
     ensures count { K.faults out.old ≤ K.faults out.new }
     ensures stays { result ≢ Err Stop.Failed → K.faults out.new ≡ K.faults out.old }

@@ -12,7 +12,6 @@ mod digesting;
 mod gathering;
 mod line;
 mod play;
-mod player;
 mod summary;
 mod threads;
 mod top_call;

@@ -4,13 +4,12 @@ ghost use Rattle.std.specs.Prelude.{◌≡◌, ◌≢◌, ◌≤◌, ◌+◌, �
 ghost use Rattle.native_tas.specs.Table.{entries};
 ghost use Rattle.ports.specs.Port.{Appends, Rose};
 ghost use Rattle.trace_text.specs.Sound.{IsSound};
-ghost use Rattle.trace_runner.specs.Run.{uuids_of};
-ghost use Rattle.trace_runner.specs.Starting.{trace_of};
+ghost use Rattle.trace_player.specs.Starting.{trace_of, uuids_of};
 ghost use Rattle.word_parts.specs.Input.{TakesAtMost};
 ghost use Rattle.trace_runner.specs.Threads.{AnsweredOnThreads, IsPlayedInOrder, IsServedByThreads, RanOnThreads, status_where};
 
-use crate::play::{core_of, first_lanes};
 use base::NoMemory;
+use core_machine::{core_of, first_lanes};
 use cpu_player::sound_traces_are_in_turn;
 use native_tas::Natives;
 use ports::{Pace, Sink, Source};

@@ -7,10 +7,16 @@ ghost use Rattle.ta_isa.specs.Spelling.{IsValid};
 ghost use Rattle.trace_text.specs.Sound.{IsSound};
 ghost use Rattle.trace_text.specs.declared.trace.Trace.{Trace};
 ghost use Rattle.trace_runner.specs.Content.{IsSoundContent};
+ghost use Rattle.journal_runner.specs.Auditing.{auditing};
+ghost use Rattle.journal_runner.specs.Keeping.{Keeps};
+ghost use Rattle.journal_runner.specs.Recording.{recording};
+ghost use Rattle.journal_runner.specs.Records.{Records};
 ghost use Rattle.word_parts.specs.Input.{TakesAtMost};
 ghost use Rattle.word_parts.specs.Line.{bad_trace_line};
 ghost use Rattle.trace_runner.specs.Plays.{IsSummedUp, Plays, SpellsTraces};
-ghost use Rattle.trace_runner.specs.Run.{Answered, CanBeRefused, CanBeServed, IsRefusedWhole, IsServedBy, IsServedWhole, Ran, Statuses, WorkStatuses, Worked, WritesSummary, usage_line, uuids_of};
+ghost use Rattle.word_parts.specs.Word.{Answered, CanBeRefused, CanBeServed, IsRefusedWhole, IsServedBy, IsServedWhole, Ran, Statuses};
+ghost use Rattle.trace_runner.specs.Run.{WorkStatuses, Worked, WritesSummary, reading, usage_line};
+ghost use Rattle.trace_player.specs.Starting.{uuids_of};
 ghost use Rattle.word_parts.specs.Answer.{Writes, status_after, status_of};
 ghost use Rattle.trace_runner.specs.Threads.{CanBePlayedOnThreads, PrintsBlocks, RanOnThreads, ThreadStatuses};
 ghost use Rattle.trace_runner.specs.Words.{AskNothing, AskToRead, Asks};
@@ -27,6 +33,7 @@ use crate::line::image_line;
 use crate::play::play;
 use crate::threads::run_on_threads;
 use crate::work::summary;
+use journal_runner::{audit, record};
 use native_tas::Natives;
 use ports::{Pace, Sink, Source};
 use std::alloc::Global;
@@ -41,7 +48,8 @@ const USAGE_LINE: &[u8] = b"usage: optee_run run | run-binary | threads | asm | 
 /// Plays a trace, where it doesn't have too many SMC items.
 fn answer_trace<K: Sink>(alloc: Global, natives: &Natives, trace: Trace, out: &mut K) -> Status
     requires { IsSound (uuids_of (entries natives.now)) trace }
-    ensures served { IsServedBy (entries natives.now) (content.Trace trace) result (K.held out.old) (K.held out.new) }
+    ensures served { (grammar : Grammar) →
+        IsServedBy (reading grammar (entries natives.now)) (content.Trace trace) result (K.held out.old) (K.held out.new) }
     ensures words { result ≡ Status.Usage → ⊥ }
     ensures write_fault { result ≡ Status.WriteFault → Rose (K.faults out.old) (K.faults out.new) }
     ensures count { K.faults out.old ≤ K.faults out.new }
@@ -56,7 +64,8 @@ fn answer_trace<K: Sink>(alloc: Global, natives: &Natives, trace: Trace, out: &m
 /// Prints an image.
 fn answer_image<K: Sink>(alloc: Global, natives: &Natives, image: &Image, out: &mut K) -> Status
     requires { IsValid image.now }
-    ensures served { IsServedBy (entries natives.now) (content.Image image.now) result (K.held out.old) (K.held out.new) }
+    ensures served { (grammar : Grammar) →
+        IsServedBy (reading grammar (entries natives.now)) (content.Image image.now) result (K.held out.old) (K.held out.new) }
     ensures words { result ≡ Status.Usage → ⊥ }
     ensures write_fault { result ≡ Status.WriteFault → Rose (K.faults out.old) (K.faults out.new) }
     ensures count { K.faults out.old ≤ K.faults out.new }
@@ -71,7 +80,8 @@ fn answer_image<K: Sink>(alloc: Global, natives: &Natives, image: &Image, out: &
 /// Plays or prints what an input spells.
 fn serve<K: Sink>(alloc: Global, natives: &Natives, content: Content, out: &mut K) -> Status
     requires { IsSoundContent (uuids_of (entries natives.now)) content }
-    ensures served { IsServedBy (entries natives.now) content result (K.held out.old) (K.held out.new) }
+    ensures served { (grammar : Grammar) →
+        IsServedBy (reading grammar (entries natives.now)) content result (K.held out.old) (K.held out.new) }
     ensures words { result ≡ Status.Usage → ⊥ }
     ensures write_fault { result ≡ Status.WriteFault → Rose (K.faults out.old) (K.faults out.new) }
     ensures count { K.faults out.old ≤ K.faults out.new }
@@ -92,7 +102,7 @@ fn answer<K: Sink>(
     natives: &Natives,
 ) -> Status
     requires { length input.items ≤ 2 ^ 24 }
-    ensures answered { Answered grammar (entries natives.now) input.items result (K.held out.old) (K.held out.new) }
+    ensures answered { Answered (reading grammar (entries natives.now)) input.items result (K.held out.old) (K.held out.new) }
     ensures words { result ≡ Status.Usage → ⊥ }
     ensures write_fault { result ≡ Status.WriteFault → Rose (K.faults out.old) (K.faults out.new) }
     ensures count { K.faults out.old ≤ K.faults out.new }
@@ -116,7 +126,7 @@ fn run_input<S: Source, K: Sink>(
     natives: &Natives,
 ) -> Status
     ensures told { IfSome (S.left input.old) (λ bytes.
-        Ran grammar (entries natives.now) bytes (S.left input.new) result (K.held out.old) (K.held out.new)) }
+        Ran (reading grammar (entries natives.now)) bytes (S.left input.new) result (K.held out.old) (K.held out.new)) }
     ensures words { result ≡ Status.Usage → ⊥ }
     ensures read_fault { result ≡ Status.ReadFault →
         Rose (S.faults input.old) (S.faults input.new) × Appends (K.held out.old) (K.held out.new) [] }
@@ -153,7 +163,8 @@ fn answer_work<K: Sink>(alloc: Global, seed: u64, count: u32, out: &mut K) -> St
 
 /// Does what the words ask for, but for `threads`. `run` reads a trace as text from the input and plays it on one core, beside
 /// the applications that are built in, `run-binary` reads it as records, and `asm` reads a text of the assembler and prints
-/// its image in hexadecimal. `work SEED COUNT` reads nothing: it plays the trace that the seed makes with so many
+/// its image in hexadecimal. `record` reads a trace as text, plays it, and writes the bytes of its journal; `audit` reads these and
+/// writes the verdict on them. `work SEED COUNT` reads nothing: it plays the trace that the seed makes with so many
 /// calls, without built-in applications, and prints a line that sums it up. Any other words are answered with the
 /// usage line.
 ///
@@ -177,11 +188,11 @@ pub fn run_alone<S: Source, K: Sink>(
 
     // ---- The input: it wasn't read whole, or it is too long, or it is answered by its meaning in the grammar.
     ensures ran { (grammar : Grammar) → Asks words.now (Serve grammar) → IfSome (S.left input.old) (λ bytes.
-        Ran grammar (entries natives.now) bytes (S.left input.new) result (K.held out.old) (K.held out.new)) }
+        Ran (reading grammar (entries natives.now)) bytes (S.left input.new) result (K.held out.old) (K.held out.new)) }
 
     // ---- Each status, and what was then written.
     ensures statuses { (grammar : Grammar) → Asks words.now (Serve grammar) → IfSome (S.left input.old) (λ bytes.
-        Statuses grammar (entries natives.now) bytes (S.left input.new) result (K.held out.old) (K.held out.new)) }
+        Statuses (reading grammar (entries natives.now)) bytes (S.left input.new) result (K.held out.old) (K.held out.new)) }
 
     // ---- The play of a trace, where just its text was written: each printed return is the written kernel's at its place
     // in one history, and what holds of resumes, of the thread limit and of isolation holds of that very play.
@@ -191,17 +202,17 @@ pub fn run_alone<S: Source, K: Sink>(
 
     // ---- Each input within the limits is served whole, or there is want of memory.
     ensures complete { (grammar : Grammar) → Asks words.now (Serve grammar) → IfSome (S.left input.old) (λ bytes.
-        (content : Content) → CanBeServed grammar (entries natives.now) bytes content →
+        (content : Content) → CanBeServed (reading grammar (entries natives.now)) bytes content →
         (Rose (S.faults input.old) (S.faults input.new) → ⊥) → (Rose (K.faults out.old) (K.faults out.new) → ⊥) →
-        IsServedWhole (entries natives.now) content result (K.held out.old) (K.held out.new)
+        IsServedWhole (reading grammar (entries natives.now)) content result (K.held out.old) (K.held out.new)
         ⊎ (result ≡ Status.Memory)) }
 
     // ---- Each input of at most 2^24 bytes that leaves its grammar is answered by its first fault, or there is want of
     // memory.
     ensures refuses { (grammar : Grammar) → Asks words.now (Serve grammar) → IfSome (S.left input.old) (λ bytes.
-        CanBeRefused grammar (entries natives.now) bytes →
+        CanBeRefused (reading grammar (entries natives.now)) bytes →
         (Rose (S.faults input.old) (S.faults input.new) → ⊥) → (Rose (K.faults out.old) (K.faults out.new) → ⊥) →
-        IsRefusedWhole grammar (entries natives.now) bytes result (K.held out.old) (K.held out.new)
+        IsRefusedWhole (reading grammar (entries natives.now)) bytes result (K.held out.old) (K.held out.new)
         ⊎ (result ≡ Status.Memory)) }
 
     // ---- A made trace: nothing is read, and the summary of its play is written, whole or in part, at each status.
@@ -216,6 +227,17 @@ pub fn run_alone<S: Source, K: Sink>(
         (Rose (K.faults out.old) (K.faults out.new) → ⊥) →
         ((result ≡ Status.Ok) × WritesSummary seed count (K.held out.old) (K.held out.new))
         ⊎ (result ≡ Status.Memory) }
+
+    // ---- The journal of a text trace: all that the word keeps to, and the play whose journal was written.
+    ensures records { Asks words.now command.Record → IfSome (S.left input.old) (λ bytes.
+        Keeps (recording (entries natives.now)) bytes (S.left input.new) result (K.held out.old) (K.held out.new)
+        ((Rose (S.faults input.old) (S.faults input.new) → ⊥) × (Rose (K.faults out.old) (K.faults out.new) → ⊥))
+        × Records (entries natives.now) bytes result (K.held out.old) (K.held out.new)) }
+
+    // ---- The verdict on a journal.
+    ensures audits { Asks words.now command.Audit → IfSome (S.left input.old) (λ bytes.
+        Keeps (auditing (entries natives.now)) bytes (S.left input.new) result (K.held out.old) (K.held out.new)
+        ((Rose (S.faults input.old) (S.faults input.new) → ⊥) × (Rose (K.faults out.old) (K.faults out.new) → ⊥))) }
 
     // ---- Faults of the ports.
     ensures read_fault { result ≡ Status.ReadFault → AskToRead words.now
@@ -232,6 +254,8 @@ pub fn run_alone<S: Source, K: Sink>(
     match command_of(words) {
         Some(Command::Serve(grammar)) => run_input(alloc, grammar, input, out, natives),
         Some(Command::Threads) => unreachable!(),
+        Some(Command::Record) => record(alloc, input, out, natives),
+        Some(Command::Audit) => audit(alloc, input, out, natives),
         Some(Command::Work { seed, count }) => answer_work(alloc, seed, count, out),
         None => answer_line(out, Status::Usage, USAGE_LINE),
     }
@@ -261,11 +285,11 @@ pub fn run<R: Threads + Wait + Sync, S: Source, K: Sink, G: Pace + Sync>(
 
     // ---- The input: it wasn't read whole, or it is too long, or it is answered by its meaning in the grammar.
     ensures ran { (grammar : Grammar) → Asks words.now (Serve grammar) → IfSome (S.left input.old) (λ bytes.
-        Ran grammar (entries natives.now) bytes (S.left input.new) result (K.held out.old) (K.held out.new)) }
+        Ran (reading grammar (entries natives.now)) bytes (S.left input.new) result (K.held out.old) (K.held out.new)) }
 
     // ---- Each status, and what was then written.
     ensures statuses { (grammar : Grammar) → Asks words.now (Serve grammar) → IfSome (S.left input.old) (λ bytes.
-        Statuses grammar (entries natives.now) bytes (S.left input.new) result (K.held out.old) (K.held out.new)) }
+        Statuses (reading grammar (entries natives.now)) bytes (S.left input.new) result (K.held out.old) (K.held out.new)) }
 
     // ---- The play of a trace, where just its text was written: each printed return is the written kernel's at its place
     // in one history, and what holds of resumes, of the thread limit and of isolation holds of that very play.
@@ -275,17 +299,17 @@ pub fn run<R: Threads + Wait + Sync, S: Source, K: Sink, G: Pace + Sync>(
 
     // ---- Each input within the limits is served whole, or there is want of memory.
     ensures complete { (grammar : Grammar) → Asks words.now (Serve grammar) → IfSome (S.left input.old) (λ bytes.
-        (content : Content) → CanBeServed grammar (entries natives.now) bytes content →
+        (content : Content) → CanBeServed (reading grammar (entries natives.now)) bytes content →
         (Rose (S.faults input.old) (S.faults input.new) → ⊥) → (Rose (K.faults out.old) (K.faults out.new) → ⊥) →
-        IsServedWhole (entries natives.now) content result (K.held out.old) (K.held out.new)
+        IsServedWhole (reading grammar (entries natives.now)) content result (K.held out.old) (K.held out.new)
         ⊎ (result ≡ Status.Memory)) }
 
     // ---- Each input of at most 2^24 bytes that leaves its grammar is answered by its first fault, or there is want of
     // memory.
     ensures refuses { (grammar : Grammar) → Asks words.now (Serve grammar) → IfSome (S.left input.old) (λ bytes.
-        CanBeRefused grammar (entries natives.now) bytes →
+        CanBeRefused (reading grammar (entries natives.now)) bytes →
         (Rose (S.faults input.old) (S.faults input.new) → ⊥) → (Rose (K.faults out.old) (K.faults out.new) → ⊥) →
-        IsRefusedWhole grammar (entries natives.now) bytes result (K.held out.old) (K.held out.new)
+        IsRefusedWhole (reading grammar (entries natives.now)) bytes result (K.held out.old) (K.held out.new)
         ⊎ (result ≡ Status.Memory)) }
 
     // ---- A made trace: nothing is read, and the summary of its play is written, whole or in part, at each status.
@@ -318,10 +342,21 @@ pub fn run<R: Threads + Wait + Sync, S: Source, K: Sink, G: Pace + Sync>(
         ⊎ (result ≡ Status.Memory)) }
     // Each other text of at most 2^24 bytes is answered by its first fault, or there is want of memory.
     ensures threads_refuses { Asks words.now command.Threads → IfSome (S.left input.old) (λ bytes.
-        CanBeRefused Text (entries natives.now) bytes →
+        CanBeRefused (reading Text (entries natives.now)) bytes →
         (Rose (S.faults input.old) (S.faults input.new) → ⊥) → (Rose (K.faults out.old) (K.faults out.new) → ⊥) →
-        IsRefusedWhole Text (entries natives.now) bytes result (K.held out.old) (K.held out.new)
+        IsRefusedWhole (reading Text (entries natives.now)) bytes result (K.held out.old) (K.held out.new)
         ⊎ (result ≡ Status.Memory)) }
+
+    // ---- The journal of a text trace: all that the word keeps to, and the play whose journal was written.
+    ensures records { Asks words.now command.Record → IfSome (S.left input.old) (λ bytes.
+        Keeps (recording (entries natives.now)) bytes (S.left input.new) result (K.held out.old) (K.held out.new)
+        ((Rose (S.faults input.old) (S.faults input.new) → ⊥) × (Rose (K.faults out.old) (K.faults out.new) → ⊥))
+        × Records (entries natives.now) bytes result (K.held out.old) (K.held out.new)) }
+
+    // ---- The verdict on a journal.
+    ensures audits { Asks words.now command.Audit → IfSome (S.left input.old) (λ bytes.
+        Keeps (auditing (entries natives.now)) bytes (S.left input.new) result (K.held out.old) (K.held out.new)
+        ((Rose (S.faults input.old) (S.faults input.new) → ⊥) × (Rose (K.faults out.old) (K.faults out.new) → ⊥))) }
 
     // ---- Faults of the ports.
     ensures read_fault { result ≡ Status.ReadFault → AskToRead words.now

@@ -1,7 +1,7 @@
 use Rattle.std.proofs.lemmas.Result.{IfOk-weaker}
 use Rattle.native_tas.specs.Table.{entries}
-use Rattle.trace_runner.specs.Starting.{trace_of}
-use Rattle.trace_runner.proofs.Playable.{at-start}
+use Rattle.trace_player.specs.Starting.{trace_of}
+use Rattle.trace_player.proofs.Playable.{at-start}
 use Rattle.trace_runner.proofs.digesting.digest_booted.Goals as goal
 
 pub digest_items-requires : goal.digest_items-requires

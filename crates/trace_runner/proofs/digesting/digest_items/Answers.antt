@@ -5,7 +5,7 @@ use Rattle.sha2.specs.Hashers.{Holds256}
 use Rattle.trace_runner.specs.Counts.{AreCounts}
 use Rattle.word_parts.specs.declared.stop.Stop.TheVariants.{Full}
 use Rattle.trace_runner.proofs.Digests.{digesting-ended, digesting-first, digesting-full, digesting-more}
-use Rattle.trace_runner.proofs.Playable.{playing-takes}
+use Rattle.trace_player.proofs.Playable.{playing-takes}
 use Rattle.trace_runner.proofs.digesting.digest_items.Goals as goal
 
 pub loop-item-init : goal.loop-item-init

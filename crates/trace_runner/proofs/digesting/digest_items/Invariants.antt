@@ -1,7 +1,7 @@
 use Rattle.std.proofs.Common.{List}
 use Rattle.kernel_model.specs.Application.{Native}
 use Rattle.trace_text.specs.declared.trace.Trace.{Trace}
-use Rattle.trace_runner.specs.Starting.{IsAtStart}
+use Rattle.trace_player.specs.Starting.{IsAtStart}
 use Rattle.trace_runner.proofs.Digests.{Digesting}
 use Rattle.trace_runner.proofs.digesting.digest_items.Given as goal
 

@@ -1,8 +1,8 @@
 use Rattle.std.proofs.Common.{subst, sym}
 use Rattle.native_tas.specs.Table.{entries}
 use Rattle.trace_text.specs.Sound.{IsSound}
-use Rattle.trace_runner.specs.Run.{uuids_of}
-use Rattle.trace_runner.proofs.Playable.{same-trace}
+use Rattle.trace_player.specs.Starting.{uuids_of}
+use Rattle.trace_player.proofs.Playable.{same-trace}
 use Rattle.trace_runner.proofs.digesting.digest_play.Goals as goal
 
 pub digest_booted-requires : goal.digest_booted-requires

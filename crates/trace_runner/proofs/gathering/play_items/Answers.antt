@@ -2,7 +2,7 @@ use Rattle.std.proofs.Common.{ℕ, List, refl, subst, ◌∙◌, arith}
 use Rattle.std.proofs.lemmas.Result.{err_from_is_err_and}
 use Rattle.word_parts.specs.Gathering.{EndsAs, PutsLines}
 use Rattle.trace_runner.proofs.Gathered.{gathering-ended, gathering-first, gathering-more, gathering-stopped, gathering-unput}
-use Rattle.trace_runner.proofs.Playable.{playing-takes}
+use Rattle.trace_player.proofs.Playable.{playing-takes}
 use Rattle.trace_runner.proofs.gathering.play_items.Goals as goal
 
 pub loop-item-init : goal.loop-item-init

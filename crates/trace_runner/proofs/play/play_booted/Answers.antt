@@ -1,6 +1,6 @@
 use Rattle.native_tas.specs.Table.{entries}
-use Rattle.trace_runner.specs.Starting.{trace_of}
-use Rattle.trace_runner.proofs.Playable.{at-start}
+use Rattle.trace_player.specs.Starting.{trace_of}
+use Rattle.trace_player.proofs.Playable.{at-start}
 use Rattle.trace_runner.proofs.play.play_booted.Goals as goal
 
 pub play_items-requires : goal.play_items-requires

@@ -2,7 +2,7 @@
 use Rattle.std.proofs.Common.{List, ℕ, inr, subst, ◌∙◌}
 use Rattle.native_tas.specs.Table.{entries}
 use Rattle.trace_text.specs.Grammar.{Spells}
-use Rattle.trace_runner.specs.Run.{uuids_of}
+use Rattle.trace_player.specs.Starting.{uuids_of}
 use Rattle.trace_runner.proofs.threads.answer_input.Goals as goal
 
 pub returns-in-Ok-clause-answered : goal.returns-in-Ok-clause-answered

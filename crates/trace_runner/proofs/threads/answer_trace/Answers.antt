@@ -1,13 +1,12 @@
 -- What is written of a trace is its blocks, or nothing where it has no boot.
 use Rattle.std.proofs.Common.{List, ℕ, refl, subst}
 use Rattle.native_tas.specs.Table.{entries}
-use Rattle.trace_runner.specs.Run.{uuids_of}
-use Rattle.trace_runner.specs.Starting.{trace_of}
+use Rattle.trace_player.specs.Starting.{trace_of, uuids_of}
 use Rattle.trace_runner.specs.Threads.{status_where}
 use Rattle.word_parts.specs.Answer.{Writes}
 use Rattle.word_parts.specs.declared.status.Status.{Status}
 use Rattle.trace_runner.proofs.OnThreads.{few-items, none-put, served-none, served-some}
-use Rattle.trace_runner.proofs.Playable.{same-trace}
+use Rattle.trace_player.proofs.Playable.{same-trace}
 use Rattle.trace_runner.proofs.threads.answer_trace.Goals as goal
 
 pub returns-in_default-clause-served : goal.returns-in_default-clause-served

@@ -1,11 +1,9 @@
 -- The items, the lanes and the core are those of the trace, and what the threads have played of it is true to the kernel.
-use Rattle.std.proofs.Common.{Bool, List, ℕ}
 use Rattle.base.specs.Zeros.{zeros}
 use Rattle.kernel_state.specs.Meaning.{booted_of, events_of}
 use Rattle.native_tas.specs.Table.{entries}
 use Rattle.play_model.specs.Play.{filled}
-use Rattle.trace_runner.specs.Run.{uuids_of}
-use Rattle.trace_runner.specs.Starting.{trace_of}
+use Rattle.trace_player.specs.Starting.{trace_of, uuids_of}
 use Rattle.trace_runner.proofs.OnThreads.{lanes-there, of-trace, played-in-order}
 use Rattle.trace_runner.proofs.threads.blocks_of.Goals as goal
 

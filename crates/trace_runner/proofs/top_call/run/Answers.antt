@@ -1,4 +1,5 @@
-use Rattle.trace_runner.specs.declared.command.Command.TheVariants.{Threads}
+use Rattle.trace_runner.specs.declared.command.Command.TheVariants.{Threads, Record, Audit}
+use Rattle.trace_runner.proofs.Readings.{no_other}
 use Rattle.trace_runner.proofs.OnThreads.{threads-refused, threads-statuses, threads-whole}
 use Rattle.trace_runner.proofs.top_call.run.Goals as goal
 
@@ -19,3 +20,11 @@ pub returns-then-asks_threads-clause-threads_refuses : goal.returns-then-asks_th
 returns-then-asks_threads-clause-threads_refuses g c =
     λ asks. threads-refused _ _ _ _ _ _ _ _ _ _
     (λ e. (c.run_on_threads.ensures.read_fault e).0) c.run_on_threads.ensures.write_fault c.run_on_threads.ensures.told
+
+pub returns-then-asks_threads-clause-records : goal.returns-then-asks_threads-clause-records
+returns-then-asks_threads-clause-records g c =
+    λ asks. no_other c.args.words.now Threads Record (λ e. absurd cc) (c.asks_threads.ensures.0 c.if-asks_threads.true) asks
+
+pub returns-then-asks_threads-clause-audits : goal.returns-then-asks_threads-clause-audits
+returns-then-asks_threads-clause-audits g c =
+    λ asks. no_other c.args.words.now Threads Audit (λ e. absurd cc) (c.asks_threads.ensures.0 c.if-asks_threads.true) asks
