@@ -2,13 +2,18 @@
 use Rattle.std.proofs.Common.{◌≡◌, ℕ, ◌⊎◌, inl, inr, Bool, false, List, [], Option, Some, None, refl, sym, subst, arith}
 use Rattle.std.specs.Prelude.{◌↔◌, IsTrue}
 use Rattle.ports.specs.Port.{Appends, Rose}
-use Rattle.trace_runner.proofs.Readings.{not_serve, not_work}
+use Rattle.journal_runner.specs.Auditing.{auditing}
+use Rattle.journal_runner.specs.Keeping.{Keeps}
+use Rattle.journal_runner.specs.Recording.{recording}
+use Rattle.journal_runner.specs.Records.{Records}
+use Rattle.trace_runner.proofs.Readings.{not_serve, not_work, threads_alone}
 use Rattle.trace_runner.proofs.Running.{worked-statuses}
 use Rattle.trace_runner.specs.Plays.{IsSummedUp, Plays, SpellsTraces}
-use Rattle.trace_runner.specs.Run.{CanBeRefused, CanBeServed, IsRefusedWhole, IsServedWhole, Ran, Statuses, WorkStatuses, Worked, WritesSummary, usage_line}
+use Rattle.trace_runner.specs.Run.{WorkStatuses, Worked, WritesSummary, reading, usage_line}
+use Rattle.word_parts.specs.Word.{CanBeRefused, CanBeServed, IsRefusedWhole, IsServedWhole, Ran, Statuses, Word}
 use Rattle.word_parts.specs.Answer.{Writes}
 use Rattle.trace_runner.specs.Words.{Say, SayNothing}
-use Rattle.trace_runner.specs.declared.command.Command.TheVariants.{Serve, Threads, Work}
+use Rattle.trace_runner.specs.declared.command.Command.TheVariants.{Audit, Record, Serve, Threads, Work}
 use Rattle.trace_runner.specs.declared.command.Grammar.{Grammar}
 use Rattle.trace_runner.specs.declared.content.Content.{Content}
 use Rattle.word_parts.specs.declared.status.Status.{Status}
@@ -26,16 +31,19 @@ pub record Clauses (natives : List Native) (texts : List (List ℕ)) (input : Li
   pub alone : Say texts Threads → ⊥
   pub usage : result ≡ Usage → SayNothing texts × Appends old new usage_line
   pub other_words : SayNothing texts → Writes Usage usage_line result old new
-  pub ran : (grammar : Grammar) → Say texts (Serve grammar) → Ran grammar natives input left result old new
-  pub statuses : (grammar : Grammar) → Say texts (Serve grammar) → Statuses grammar natives input left result old new
+  pub ran : (grammar : Grammar) → Say texts (Serve grammar) → Ran (reading grammar natives) input left result old new
+  pub statuses : (grammar : Grammar) → Say texts (Serve grammar) → Statuses (reading grammar natives) input left result old new
   pub plays : (grammar : Grammar) → Say texts (Serve grammar) → SpellsTraces grammar
       → Plays grammar natives input result old new
   pub complete : (grammar : Grammar) → Say texts (Serve grammar) → (content : Content)
-      → CanBeServed grammar natives input content → (Rose 0 0 → ⊥) → (Rose 0 0 → ⊥)
-      → IsServedWhole natives content result old new ⊎ (result ≡ Memory)
-  pub refuses : (grammar : Grammar) → Say texts (Serve grammar) → CanBeRefused grammar natives input
+      → CanBeServed (reading grammar natives) input content → (Rose 0 0 → ⊥) → (Rose 0 0 → ⊥)
+      → IsServedWhole (reading grammar natives) content result old new ⊎ (result ≡ Memory)
+  pub refuses : (grammar : Grammar) → Say texts (Serve grammar) → CanBeRefused (reading grammar natives) input
       → (Rose 0 0 → ⊥) → (Rose 0 0 → ⊥)
-      → IsRefusedWhole grammar natives input result old new ⊎ (result ≡ Memory)
+      → IsRefusedWhole (reading grammar natives) input result old new ⊎ (result ≡ Memory)
+  pub records : Say texts Record
+      → Keeps (recording natives) input left result old new ((Rose 0 0 → ⊥) × (Rose 0 0 → ⊥)) × Records natives input result old new
+  pub audits : Say texts Audit → Keeps (auditing natives) input left result old new ((Rose 0 0 → ⊥) × (Rose 0 0 → ⊥))
   pub worked : (seed count : ℕ) → Say texts (Work seed count) → Worked seed count result old new
   pub work_statuses : (seed count : ℕ) → Say texts (Work seed count) → WorkStatuses seed count result old new
   pub work_plays : (seed count : ℕ) → Say texts (Work seed count) → result ≡ status.Ok → IsSummedUp seed count old new
@@ -43,6 +51,16 @@ pub record Clauses (natives : List Native) (texts : List (List ℕ)) (input : Li
       → ((result ≡ status.Ok) × WritesSummary seed count old new) ⊎ (result ≡ Memory)
   pub reads : result ≡ ReadFault → Rose 0 0
   pub writes : result ≡ WriteFault → Rose 0 0
+
+-- no port has failed
+keeps_quiet : (word : Word) (input : List ℕ) (left : Option (List ℕ)) (result : Status) (old new : Option (List ℕ))
+    → Keeps word input left result old new ((Rose 0 0 → ⊥) × (Rose 0 0 → ⊥)) → Keeps word input left result old new (Unit {0})
+keeps_quiet word input left result old new k = record {
+  ran = k.ran;
+  statuses = k.statuses;
+  complete = λ content can no. k.complete content can (quiet, quiet);
+  refuses = λ can no. k.refuses can (quiet, quiet);
+}
 
 -- where nothing was held before
 pub of_clauses : (natives : List Native) (texts : List (List ℕ)) (input : List ℕ) (left : Option (List ℕ))
@@ -58,6 +76,15 @@ of_clauses natives texts input left result output c = record {
     plays = c.plays grammar said;
     complete = λ content can. c.complete grammar said content can quiet quiet;
     refuses = λ can. c.refuses grammar said can quiet quiet;
+  };
+  records = λ said. record {
+    left = left;
+    keeps = keeps_quiet (recording natives) input left result (Some []) (Some output) (c.records said).0;
+    records = (c.records said).1;
+  };
+  audits = λ said. record {
+    left = left;
+    keeps = keeps_quiet (auditing natives) input left result (Some []) (Some output) (c.audits said);
   };
   works = λ seed count said. record {
     worked = c.worked seed count said;
@@ -82,6 +109,8 @@ not_threads texts told says differs said = let yes = says.1 said in absurd cc
 pub no_words : SayNothing []
 no_words (Serve grammar) said = let e = said.words in absurd cc
 no_words Threads said = let e = said.words in absurd cc
+no_words Record said = let e = said.words in absurd cc
+no_words Audit said = let e = said.words in absurd cc
 no_words (Work seed count) said = let e = said.words in absurd cc
 
 -- the word `threads` is answered with the usage line
@@ -93,12 +122,27 @@ of_threads natives texts input result output threads written usage reads writes 
   usage = λ e. (inr threads, usage e);
   other_words = λ nothing. written;
   serves = λ grammar said. absurd (not_serve texts grammar threads said);
+  records = λ said. let same = threads_alone texts Record threads said in absurd cc;
+  audits = λ said. let same = threads_alone texts Audit threads said in absurd cc;
   works = λ seed count said. absurd (not_work texts seed count threads said);
   reads = reads;
   writes = writes;
 }
 
 -- want of memory before anything was put
+unread : (word : Word) (input : List ℕ) → Keeps word input None Memory (Some []) (Some []) (Unit {0})
+unread word input = record {
+  ran = inl (inr refl, refl);
+  statuses = record {
+    ok = λ e. absurd cc;
+    too_long = λ e. absurd cc;
+    bad_trace = λ e. absurd cc;
+    part = λ e. inl refl;
+  };
+  complete = λ content can no. inr refl;
+  refuses = λ can no. inr refl;
+}
+
 unrun_so : (natives : List Native) (texts : List (List ℕ)) (input : List ℕ) → IsRun natives texts input Memory []
 unrun_so natives texts input = record {
   usage = λ e. absurd cc;
@@ -116,6 +160,12 @@ unrun_so natives texts input = record {
     complete = λ content can. inr refl;
     refuses = λ can. inr refl;
   };
+  records = λ said. record {
+    left = None;
+    keeps = unread (recording natives) input;
+    records = record { ok = λ e. absurd cc; too_long = λ e. absurd cc };
+  };
+  audits = λ said. record { left = None; keeps = unread (auditing natives) input };
   works = λ seed count said. record {
     worked = inl (refl, refl);
     statuses = worked-statuses seed count Memory (Some []) (Some []) said.within.1 (inl (refl, refl));

@@ -2,11 +2,16 @@
 use Rattle.std.specs.Prelude.{◌≡◌, ◌≢◌, ℕ, ◌⊎◌, List, [], ◌∷◌, Option, Some}
 use Rattle.native_tas.specs.declared.relation.Relation.{Relation}
 use Rattle.native_tas.specs.declared.relation.Relation.TheVariants.{Digest}
+use Rattle.journal_runner.specs.Auditing.{auditing}
+use Rattle.journal_runner.specs.Keeping.{Keeps}
+use Rattle.journal_runner.specs.Recording.{recording}
+use Rattle.journal_runner.specs.Records.{Records}
 use Rattle.trace_runner.specs.Plays.{IsSummedUp, Plays, SpellsTraces}
-use Rattle.trace_runner.specs.Run.{CanBeRefused, CanBeServed, IsRefusedWhole, IsServedWhole, Ran, Statuses, WorkStatuses, Worked, WritesSummary, usage_line}
+use Rattle.trace_runner.specs.Run.{WorkStatuses, Worked, WritesSummary, reading, usage_line}
+use Rattle.word_parts.specs.Word.{CanBeRefused, CanBeServed, IsRefusedWhole, IsServedWhole, Ran, Statuses}
 use Rattle.word_parts.specs.Answer.{Writes}
 use Rattle.trace_runner.specs.Words.{Say, SayNothing}
-use Rattle.trace_runner.specs.declared.command.Command.TheVariants.{Serve, Threads, Work}
+use Rattle.trace_runner.specs.declared.command.Command.TheVariants.{Audit, Record, Serve, Threads, Work}
 use Rattle.trace_runner.specs.declared.command.Grammar.{Grammar}
 use Rattle.trace_runner.specs.declared.content.Content.{Content}
 use Rattle.word_parts.specs.declared.status.Status.{Status}
@@ -30,13 +35,13 @@ built_in = (digest_uuid, Digest) ∷ []
 pub record Serves (natives : List Native) (grammar : Grammar) (input : List ℕ) (result : Status)
     (output : List ℕ) : Type 0 where
   pub left : Option (List ℕ)
-  pub ran : Ran grammar natives input left result (Some []) (Some output)
-  pub statuses : Statuses grammar natives input left result (Some []) (Some output)
+  pub ran : Ran (reading grammar natives) input left result (Some []) (Some output)
+  pub statuses : Statuses (reading grammar natives) input left result (Some []) (Some output)
   pub plays : SpellsTraces grammar → Plays grammar natives input result (Some []) (Some output)
-  pub complete : (content : Content) → CanBeServed grammar natives input content
-      → IsServedWhole natives content result (Some []) (Some output) ⊎ (result ≡ Memory)
-  pub refuses : CanBeRefused grammar natives input
-      → IsRefusedWhole grammar natives input result (Some []) (Some output) ⊎ (result ≡ Memory)
+  pub complete : (content : Content) → CanBeServed (reading grammar natives) input content
+      → IsServedWhole (reading grammar natives) content result (Some []) (Some output) ⊎ (result ≡ Memory)
+  pub refuses : CanBeRefused (reading grammar natives) input
+      → IsRefusedWhole (reading grammar natives) input result (Some []) (Some output) ⊎ (result ≡ Memory)
 
 -- a made trace, likewise
 pub record Works (seed count : ℕ) (result : Status) (output : List ℕ) : Type 0 where
@@ -44,6 +49,17 @@ pub record Works (seed count : ℕ) (result : Status) (output : List ℕ) : Type
   pub statuses : WorkStatuses seed count result (Some []) (Some output)
   pub plays : result ≡ status.Ok → IsSummedUp seed count (Some []) (Some output)
   pub complete : ((result ≡ status.Ok) × WritesSummary seed count (Some []) (Some output)) ⊎ (result ≡ Memory)
+
+-- a trace whose journal is written, likewise
+pub record HasRecorded (natives : List Native) (input : List ℕ) (result : Status) (output : List ℕ) : Type 0 where
+  pub left : Option (List ℕ)
+  pub keeps : Keeps (recording natives) input left result (Some []) (Some output) (Unit {0})
+  pub records : Records natives input result (Some []) (Some output)
+
+-- and a journal on which the verdict is written
+pub record HasAudited (natives : List Native) (input : List ℕ) (result : Status) (output : List ℕ) : Type 0 where
+  pub left : Option (List ℕ)
+  pub keeps : Keeps (auditing natives) input left result (Some []) (Some output) (Unit {0})
 
 -- no command is asked for that is served here: none at all, or `threads`, since no thread is started
 abbrev pub AskNothing : List (List ℕ) → Type 0
@@ -55,6 +71,8 @@ pub record IsRun (natives : List Native) (texts : List (List ℕ)) (input : List
   pub usage : result ≡ Usage → AskNothing texts × (output ≡ usage_line)
   pub other_words : AskNothing texts → Writes Usage usage_line result (Some []) (Some output)
   pub serves : (grammar : Grammar) → Say texts (Serve grammar) → Serves natives grammar input result output
+  pub records : Say texts Record → HasRecorded natives input result output
+  pub audits : Say texts Audit → HasAudited natives input result output
   pub works : (seed count : ℕ) → Say texts (Work seed count) → Works seed count result output
   pub reads : result ≢ ReadFault
   pub writes : result ≢ WriteFault
