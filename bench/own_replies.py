@@ -12,8 +12,10 @@ say nothing. The histories from which the events are read off stand in `specs/Hi
 `stdin` of the other; they were read by hand. Behind an event of a call that comes in, `area` says that it has an area.
 """
 
+import hmac
 import sys
 
+KEY = bytes(32)  # of the tags of objects: no boot here brings another
 SUCCESS, CANCEL, BAD_PARAMETERS, OUT_OF_MEMORY, TARGET_DEAD = 0, 0xFFFF0002, 0xFFFF0006, 0xFFFF000C, 0xFFFF3024
 HAVE_PAYLOADS = {"create", "write"}  # of what the applications below ask for
 
@@ -39,10 +41,12 @@ def fills(call):
 
 
 def stores(call):
-    """The object of the id 41: its file is made, by its name, and a header of length 0 written, in format 1."""
+    """The object of the id 41: its file is made, by its name, and a header of length 0 written with its tag, in format 2."""
     name = b"11111111222233334444555555555555/41"
     descriptor = yield f"create {name.hex()}"
-    yield f"write {descriptor} 0 8 {b'OTO1'.hex()}00000000"
+    length = bytes(4)
+    tag = hmac.digest(KEY, name + b"\0" + length, "sha256")
+    yield f"write {descriptor} 0 40 {(b'OTO2' + length + tag).hex()}"
     return SUCCESS
 
 
@@ -266,7 +270,7 @@ HISTORIES = [
     ("one-step-at-a-time", adds, {1: "open, out 0, add 5 7, out 1"}),
     ("open-invoke-close", adds, {1: "open, out 0, add 5 7, out 1, close, out 2"}),
     ("output-size-within-and-above-the-buffer", fills, {1: "open, out 0, fill 4 4, out 1, fill 5 4, out 2"}),
-    ("create-object-of-format-one", stores,
+    ("create-object-with-a-tag", stores,
      {1: "open, out 0, invoke 0, out 1, buffer 1, out 1, opened 1 3, out 1, reply 1, out 1, nothing 1, out 1"}),
     ("two-waiting-calls-and-a-wake", waits,
      {1: "open, out 0, invoke 250, out 1, invoke 250, out 2, buffer 2, out 2, reply 2, out 2, no_buffer 1, out 1,"

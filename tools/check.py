@@ -54,6 +54,7 @@ def check_arguments(comparison):
         lines = [line.split(" ") for line in play.trace.splitlines()]
         stand = {line[-1] for line in lines if line[0] in ("mem", "write") and len(line[-1]) >= 2 * formats.HEAD_BYTES}
         given = {arg.argument(words.split()).hex() for words in expected.ARGUMENTS[play.name]}
+        given |= set(expected.TAGS.get(play.name, []))
         comparison.same(f"arguments of {play.name}", sorted(given), sorted(stand))
     for words, wanted in expected.OTHER_ARGUMENTS.items():
         comparison.same(f"arg.py {words}", tool("arg.py", *words.split()), (0, wanted.replace(" ", "") + "\n", ""))

@@ -53,6 +53,14 @@ ARGUMENTS = {
     "wait_and_wake": [f"open {FIRST}", "invoke 1 250"],
 }
 
+# The tags that the replies of examples bring, which are as long as the shortest argument: HMAC with SHA-256 under 32 zeros.
+TAGS = {
+    "storage": [
+        "6354f273f1adcfbe59f486536d6070717413c86b274ac7adaffac1d7806b898a",
+        "f39ef1b09d97f1edac45fdaa34f6cbf109300b338fe191c310c79af1829f42c6",
+    ],
+}
+
 # Arguments that no example has: words, and the head and the parameters, each of four words of eight bytes.
 NO_BYTES = "0000000000000000"
 OPEN_WITH_ALL = (
@@ -203,7 +211,7 @@ NOTES = {
         "mem 0 40010200 31313131313131313232323233333333343434343535353535353535353535352f3431": (
             f"payload: {FIRST.replace('-', '')}/41"
         ),
-        "mem 0 40010200 4f544f3104000000": "payload: an object's header, length 4",
+        "mem 0 40010200 4f544f3204000000": "payload: an object's header, length 4",
         "mem 0 40010000 02000000000000000000000000000000000000000000ffff0000000002000000"
         "0100000000000000030000000000000006000000000000000000000000000000"
         "0a00000000000000000201400000000008000000000000007700000000000000": (

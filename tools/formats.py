@@ -91,7 +91,7 @@ REQUESTS = {  # by the command and, where it has several, p of parameter 0
     (2, 6): "FsRemove",
 }
 BUFFER_BYTES, PAYLOAD_AT = 4096, 512
-OBJECT_MAGIC = b"OTO1"
+OBJECT_MAGICS = (b"OTO1", b"OTO2")
 
 # Codes
 RESULTS = {
@@ -169,7 +169,7 @@ SYSTEM_CALLS = [
 ]
 
 # Text trace: how many words each line has, and what a fault of each kind usually is
-LINES = {"boot": 4, "ta": 3, "mem": 3, "smc": 11, "enter": 11, "leave": 2, "write": 4, "show": 4}
+LINES = {"boot": 4, "ta": 3, "mem": 3, "key": 2, "smc": 11, "enter": 11, "leave": 2, "write": 4, "show": 4}
 FAULTS = {
     "byte": "a tab, a carriage return (CRLF), or a character that isn't ASCII, in comments too",
     "cut": "the last line has no line feed",

@@ -100,7 +100,7 @@ def kind_name(attribute):
 
 
 def payload_note(payload):
-    if payload.startswith(formats.OBJECT_MAGIC) and len(payload) >= 8:
+    if payload.startswith(formats.OBJECT_MAGICS) and len(payload) >= 8:
         return f"payload: an object's header, length {int.from_bytes(payload[4:8], 'little')}"
     if payload and all(0x20 <= byte < 0x7F for byte in payload):
         return f"payload: {payload.decode()}"
