@@ -7,9 +7,13 @@ would have too many entries is left out. Blocks are moved and cleared by vectors
 way with long ones, callgrind counts each byte. Build the program first, by `rt run` in crates/worked_cases.
 
 With `whole` it runs `optee_run` on these traces, and prints what it takes for each further time in all: reading, serving and printing.
-Usage: bench/smc_costs.py [whole] [N..]
+With `objects` it does so with traces that read and write an object of 32,256 bytes, which ask for one thing at each of their SMCs, and
+tells SHA-256's own instructions from the rest. The trace brings the tags. That each time ends with SUCCESS is tested by the result that is
+printed at the end.
+Usage: bench/smc_costs.py [whole | objects] [N..]
 """
 
+import hmac
 import os
 import pathlib
 import struct
@@ -52,22 +56,23 @@ ADDS = [
 WAITS = [RETURN, (0x01, 0, 0, 0, 5), (0x18, 0, 0, 0, 12), RETURN]  # const r0 5, wait
 OBJECT_BYTES, OBJECT_AT, OBJECT_PAGES = 32_256, 4096, 9
 PIECES = OBJECT_BYTES // 3584
-SEEKS = [(0x01, 0, 0, 0, 0), (0x01, 1, 0, 0, 0), (0x18, 0, 0, 0, 17)]  # to 0 in handle 0
-MOVES = [(0x01, 0, 0, 0, 0), (0x01, 1, 0, 0, OBJECT_AT), (0x01, 2, 0, 0, OBJECT_BYTES)]
-# the id is the byte at 0; then all bytes are written and read, again and again
-STORES = [
-    RETURN,
-    (0x01, 0, 0, 0, 0),
-    (0x01, 1, 0, 0, 1),
-    (0x18, 0, 0, 0, 13),  # create
-    *SEEKS,
-    *MOVES,
-    (0x18, 0, 0, 0, 16),  # write
-    *SEEKS,
-    *MOVES,
-    (0x18, 0, 0, 0, 15),  # read
-    (0x15, 0, 0, 0, 4),
-]
+NAMES = [(0x01, 0, 0, 0, 0), (0x01, 1, 0, 0, 1)]  # the id is the byte at 0
+TO_START = [(0x01, 0, 0, 0, 0), (0x01, 1, 0, 0, 0), (0x18, 0, 0, 0, 17)]  # seek to 0 in handle 0
+ALL_BYTES = [(0x01, 0, 0, 0, 0), (0x01, 1, 0, 0, OBJECT_AT), (0x01, 2, 0, 0, OBJECT_BYTES)]
+UNLESS_DONE = (0x12, 0, 0, 15, 0)  # with another result than 0 to the return at 0
+CREATE, OPEN_FILE, READ, WRITE = [[(0x18, 0, 0, 0, call), UNLESS_DONE] for call in (13, 14, 15, 16)]
+CLOSE = [(0x01, 0, 0, 0, 0), (0x18, 0, 0, 0, 18), UNLESS_DONE]
+
+
+def over_and_over(once, again):
+    """The code that does something once, and then something else again and again."""
+    return [RETURN, *once, *again, (0x15, 0, 0, 0, 1 + len(once))]
+
+
+READS = over_and_over([*NAMES, *OPEN_FILE], [*TO_START, *ALL_BYTES, *READ])
+WRITES = over_and_over([*NAMES, *CREATE], [*TO_START, *ALL_BYTES, *WRITE])
+REOPENS = over_and_over([], [*NAMES, *OPEN_FILE, *CLOSE])
+REOPENS_AND_WRITES = over_and_over([], [*NAMES, *OPEN_FILE, *ALL_BYTES, *WRITE, *CLOSE])
 
 
 def image(code, pages=1):
@@ -94,10 +99,36 @@ CLIENT = param(META, *struct.unpack("<2Q", bytes.fromhex(UUID.replace("-", "")))
 VALUES = invoking(param(VALUE_INOUT, 5, 7))
 MEMREFS = invoking(param(MEMREF_OUT, 0x40001000, 4096), param(MEMREF_OUT, 0x40002000, 4096))
 
-# the file is there, and its header written
-CREATED = [invoking(), CALL, LENDS, REPLIES, HAS_FILE, RESUME]
-# the first time a new header is written behind the pieces, since the object grows
-GROWN = [REPLIES, RESUME] * (1 + PIECES + 1 + PIECES)
+NAME = UUID.replace("-", "") + "/00"
+BEGINS = [invoking(), CALL, LENDS]
+DONE = [REPLIES, RESUME]
+FILE = [HAS_FILE, *DONE]
+
+
+def brings(content):
+    """A reply with these bytes. Behind them the payload is as it was."""
+    return [f"write 0 40010200 {content.hex()}", *DONE]
+
+
+def header(magic):
+    """The reply that brings an object's header."""
+    return brings(magic + struct.pack("<I", OBJECT_BYTES))
+
+
+def tag(length):
+    """The reply that brings the tag of so many zeros, under a key of zeros."""
+    front = NAME.encode() + b"\0" + struct.pack("<I", length)
+    return brings(hmac.digest(bytes(32), front + bytes(length), "sha256"))
+
+
+# all data are zeros: with the first piece that goes which a name, a header or a tag has left in the payload
+DATA = brings(bytes(len(NAME))) + DONE * (PIECES - 1)
+PUT = DONE * PIECES
+# a new object is written: its tag is that of no data, and behind its new one a new header is put
+CREATED = BEGINS + FILE + DONE + tag(0) + PUT + DONE + DONE
+# At the end nothing is found of what is asked for. With this result, as with the first one that isn't SUCCESS, the application returns
+ENDS = ["write 0 40010014 0800ffff", RESUME, RESUME, "show 0 40000014 8"]
+ENDED = b"\nmem 0 40000014 0800ffff04000000\n"
 
 # an image, what comes once behind an open, and what comes again and again
 LOOPS = {
@@ -107,8 +138,15 @@ LOOPS = {
     "an invoke with two memrefs of 4,096 bytes": (image(RETURNS), [MEMREFS], [CALL]),
     "a suspend with its resume": (image(JUMPS), [invoking(), BRIEF_CALL], [BRIEF_RESUME]),
     "a wait with its four SMCs": (image(WAITS), [invoking()], [CALL, LENDS, REPLIES, RESUME, RESUME]),
-    "an object of 32,256 bytes, written and read": (
-        image(STORES, OBJECT_PAGES), CREATED + GROWN, [REPLIES, RESUME] * (2 * PIECES),
+}
+# the same for an object
+OBJECT_LOOPS = {
+    "read of format 1": (image(READS, OBJECT_PAGES), BEGINS + FILE + header(b"OTO1"), DATA),
+    "read of format 2": (image(READS, OBJECT_PAGES), BEGINS + FILE + header(b"OTO2"), DATA + tag(OBJECT_BYTES)),
+    "written in format 2": (image(WRITES, OBJECT_PAGES), CREATED, DATA + tag(OBJECT_BYTES) + PUT + DONE),
+    "opened and closed": (image(REOPENS, OBJECT_PAGES), BEGINS, FILE + header(b"OTO1") + DONE),
+    "opened, first written and closed": (
+        image(REOPENS_AND_WRITES, OBJECT_PAGES), BEGINS, FILE + header(b"OTO1") + DATA + PUT + DONE + DONE + DONE,
     ),
 }
 
@@ -147,14 +185,36 @@ def taken_in_all(loop, times):
     return count
 
 
+def taken_by_object(loop, times):
+    """How many instructions `optee_run` takes for a whole trace of an object: in all, and for SHA-256."""
+    count, found, printed = costs(OPTEE_RUN, "run", given=text_of(trace(*loop, times) + ENDS))
+    assert printed.endswith(ENDED), printed[-200:]
+    return count, sum(cost for name, cost in found.items() if name.endswith("Core256::update"))
+
+
+def count_objects(times):
+    """Prints the counts of an object's loops."""
+    for name, loop in OBJECT_LOOPS.items():
+        if not fits(loop, 2 * times):
+            continue
+        once, twice = taken_by_object(loop, times), taken_by_object(loop, 2 * times)
+        in_all, hashing = [(more - less) / times for less, more in zip(once, twice)]
+        rest, requests = in_all - hashing, loop[2].count(RESUME)
+        shares = f"SHA-256 {hashing:.0f}, the rest {rest:.0f}, for each of {requests} requests {rest / requests:.0f}"
+        print(f"{times:,} times, {name}: {in_all:.0f} in all, {shares}", flush=True)
+
+
 def main():
     os.environ["GLIBC_TUNABLES"] = BY_VECTORS
-    whole = sys.argv[1:2] == ["whole"]
-    for times in [int(word) for word in sys.argv[1 + whole :]] or TIMES:
+    mode = sys.argv[1] if sys.argv[1:2] in (["whole"], ["objects"]) else None
+    for times in [int(word) for word in sys.argv[1 + bool(mode) :]] or TIMES:
+        if mode == "objects":
+            count_objects(times)
+            continue
         for name, loop in LOOPS.items():
             if not fits(loop, 2 * times):
                 continue
-            if whole:
+            if mode == "whole":
                 further = (taken_in_all(loop, 2 * times) - taken_in_all(loop, times)) / times
                 print(f"{times:,} times, {name}: {further:.0f} in all", flush=True)
                 continue
