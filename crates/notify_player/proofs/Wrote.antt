@@ -1,0 +1,80 @@
+-- Writes of the desk behind those of the kernel.
+use Rattle.std.proofs.Common.{◌≡◌, ℕ, zero, suc, ◌<◌, List, [], ◌∷◌, ◌++◌, length, refl, sym, ap, subst, ◌∙◌}
+use Rattle.std.specs.Prelude.{slice_index_or, slice_set}
+use Rattle.std.specs.Int.{to_le_bytes, w32}
+use Rattle.std.proofs.lemmas.List.{get_or-set_same, set-get_or}
+use Rattle.core_machine.specs.Standing.{IsAt}
+use Rattle.core_machine.specs.declared.machine.Machine.{Machine}
+use Rattle.kernel_model.specs.Application.{Booted}
+use Rattle.kernel_model.specs.Exit.{word32}
+use Rattle.msg_args.specs.Layout.{origin_at, ret_at}
+use Rattle.notify_play.specs.Told.{result_in}
+use Rattle.ns_ram.proofs.WriteList.{lane_after-append}
+use Rattle.ns_ram.specs.Writes.{Write, lane_after}
+use Rattle.play_model.specs.Play.{Play, with_writes}
+
+set-again : {X : Type 0} (xs : List X) (i : ℕ) (x y : X) → slice_set (slice_set xs i x) i y ≡ slice_set xs i y
+set-again [] i x y = refl
+set-again (first ∷ xs) zero x y = refl
+set-again (first ∷ xs) (suc i) x y = ap (λ zs. first ∷ zs) (set-again xs i x y)
+
+-- the RAM of a processor, written in two parts
+pub lanes-twice : (lanes : List (List ℕ)) (cpu : ℕ) (first second : List Write) → cpu < length lanes
+    → (let once = slice_set lanes cpu (lane_after (slice_index_or lanes cpu []) first) in
+    slice_set once cpu (lane_after (slice_index_or once cpu []) second)
+    ≡ slice_set lanes cpu (lane_after (slice_index_or lanes cpu []) (first ++ second)))
+lanes-twice lanes cpu first second within =
+    let lane = lane_after (slice_index_or lanes cpu []) first in
+    ap (λ (l : List ℕ). slice_set (slice_set lanes cpu lane) cpu (lane_after l second))
+    (get_or-set_same lanes cpu lane [] within)
+    ∙ set-again lanes cpu lane (lane_after lane second)
+    ∙ ap (slice_set lanes cpu) (sym (lane_after-append (slice_index_or lanes cpu []) first second))
+
+-- no writes at all
+pub wrote-none : (boot : Booted) (play : Play) (cpu : ℕ) (machine : Machine)
+    → IsAt boot play machine → IsAt boot (with_writes cpu [] play) machine
+wrote-none boot play cpu machine at = record {
+  booted = at.booted;
+  history = at.history;
+  kernel = at.kernel;
+  lanes = at.lanes ∙ sym (set-get_or play.lanes cpu []);
+  goes_on = at.goes_on;
+}
+
+-- one write behind others
+pub wrote-more : (boot : Booted) (play : Play) (cpu : ℕ) (first second : List Write) (machine : Machine)
+    → cpu < length play.lanes → IsAt boot (with_writes cpu second (with_writes cpu first play)) machine
+    → IsAt boot (with_writes cpu (first ++ second) play) machine
+wrote-more boot play cpu first second machine within at = record {
+  booted = at.booted;
+  history = at.history;
+  kernel = at.kernel;
+  lanes = at.lanes ∙ lanes-twice play.lanes cpu first second within;
+  goes_on = at.goes_on;
+}
+
+-- a write by its address and its bytes
+abbrev write_to : ℕ → List ℕ → Write
+write_to addr bytes = record { addr = addr; bytes = bytes }
+
+same-write : (addr number to : ℕ) (bytes : List ℕ) → to ≡ addr → bytes ≡ to_le_bytes w32 number
+    → write_to to bytes ≡ word32 addr number
+same-write addr number to bytes there is =
+    ap (λ (a : ℕ). write_to a bytes) there ∙ ap (λ (b : List ℕ). write_to addr b) is
+
+-- a result and its origin
+pub wrote-both : (boot : Booted) (play : Play) (cpu arg ret to_ret to_origin : ℕ) (ret_bytes origin_bytes : List ℕ)
+    (machine : Machine) → to_ret ≡ ret_at arg → ret_bytes ≡ to_le_bytes w32 ret → to_origin ≡ origin_at arg
+    → origin_bytes ≡ to_le_bytes w32 3 → cpu < length play.lanes
+    → IsAt boot (with_writes cpu (write_to to_origin origin_bytes ∷ [])
+    (with_writes cpu (write_to to_ret ret_bytes ∷ []) play)) machine
+    → IsAt boot (with_writes cpu (result_in arg ret) play) machine
+wrote-both boot play cpu arg ret to_ret to_origin ret_bytes origin_bytes machine ret_there ret_is origin_there origin_is within
+    at =
+    let one = write_to to_ret ret_bytes in
+    let two = write_to to_origin origin_bytes in
+    subst (λ (w : Write). IsAt boot (with_writes cpu (word32 (ret_at arg) ret ∷ w ∷ []) play) machine)
+    (same-write (origin_at arg) 3 to_origin origin_bytes origin_there origin_is)
+    (subst (λ (w : Write). IsAt boot (with_writes cpu (w ∷ two ∷ []) play) machine)
+    (same-write (ret_at arg) ret to_ret ret_bytes ret_there ret_is)
+    (wrote-more boot play cpu (one ∷ []) (two ∷ []) machine within at))

@@ -1,0 +1,81 @@
+//! How a processor came in, and what its exit asks of the desk.
+
+ghost use Rattle.std.specs.Prelude.{◌≡◌, [], ◌∷◌, IfNone, IfSome, MatchOption};
+ghost use Rattle.kernel_model.specs.Application.{Booted};
+ghost use Rattle.kernel_model.specs.History.{IsLegal};
+ghost use Rattle.notif.specs.Desk.{DeskState};
+ghost use Rattle.notify_play.specs.Duty.{CameIn, came_with, duty_of, entered_last, last_entry};
+ghost use Rattle.notify_play.specs.Told.{told_regs};
+ghost use Rattle.desk_answers.specs.Duties.{duty_in};
+ghost use Rattle.notify_player.specs.Asking.{HasArgument, IsToldAlike};
+
+use desk_answers::{Duty, duty_of};
+use event_journal::Event;
+use ns_ram::Read;
+use smc_abi::Regs;
+
+/// What an exit asks of the desk.
+#[derive(Clone, Copy, Debug, PartialEq, Eq)]
+pub struct Asked {
+    /// The registers that its processor came in with.
+    pub caller: Regs,
+    pub duty: Duty,
+}
+
+/// The registers and the reads of an event that is an entry of this processor.
+fn entry_of(event: &Event, cpu: u8) -> Option<(Regs, &[Read])>
+    ensures entry { IfSome result (λ came.
+        (before : CameIn) → entered_last cpu before (event.now ∷ []) ≡ came_with came.0.a came.1.now) }
+    ensures other { IfNone result ((before : CameIn) → entered_last cpu before (event.now ∷ []) ≡ before) }
+{
+    match event {
+        Event::Entry {
+            cpu: came,
+            regs,
+            reads,
+            ..
+        } => {
+            if *came == cpu {
+                Some((*regs, reads.as_slice()))
+            } else {
+                None
+            }
+        }
+        Event::Exit { .. } => None,
+    }
+}
+
+/// The registers and the reads of a processor's last entry among these events. Those behind it are looked at once each, so
+/// that all exits of a core look at no event more often than there are processors.
+fn last_entry(history: &[Event], cpu: u8) -> Option<(Regs, &[Read])>
+    ensures { MatchOption result (last_entry history.now cpu ≡ came_with [] [])
+        (λ came. last_entry history.now cpu ≡ came_with came.0.a came.1.now) }
+{
+    let mut left = history.len();
+    while left > 0 {
+        left -= 1;
+        if let Some(came) = entry_of(&history[left], cpu) {
+            return Some(came);
+        }
+    }
+    None
+}
+
+/// What the exit of a processor asks behind these events, where the kernel says this in a0. One that never came in asks
+/// nothing.
+pub fn asked_at(history: &[Event], cpu: u8, a0: u32) -> Asked
+    requires { (boot : Booted) × IsLegal boot history.now }
+    ensures duty { duty_in result.duty ≡ duty_of (last_entry history.now cpu) a0 }
+    // Nothing that is told depends on more of the entry.
+    ensures caller { IsToldAlike (last_entry history.now cpu).regs result.caller.a (duty_in result.duty) }
+    ensures argument { HasArgument (duty_in result.duty) }
+{
+    let Some((caller, reads)) = last_entry(history, cpu) else {
+        return Asked {
+            caller: Regs { a: [0; 8] },
+            duty: Duty::Nothing,
+        };
+    };
+    let duty = duty_of(&caller, reads, a0);
+    Asked { caller, duty }
+}
