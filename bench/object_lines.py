@@ -11,9 +11,10 @@ the repository
 say nothing.
 """
 
-import hashlib
-import hmac
 import sys
+
+import object_files
+from object_files import header, number
 
 KEY = bytes(range(32))
 APPLICATION = "11111111222233334444555555555555"
@@ -42,16 +43,8 @@ def file_name(identifier):
     return f"{APPLICATION}/{identifier.hex()}".encode()
 
 
-def number(value):
-    return value.to_bytes(4, "little")
-
-
-def header(length):
-    return b"OTO2" + number(length)
-
-
 def tag_of(name, content):
-    return hmac.new(KEY, name + b"\0" + number(len(content)) + content, hashlib.sha256).digest()
+    return object_files.tag_of(KEY, name, content)
 
 
 def pieces(length):

@@ -12,8 +12,9 @@ say nothing. The histories from which the events are read off stand in `specs/Hi
 `stdin` of the other; they were read by hand. Behind an event of a call that comes in, `area` says that it has an area.
 """
 
-import hmac
 import sys
+
+from object_files import header, tag_of
 
 KEY = bytes(32)  # of the tags of objects: no boot here brings another
 SUCCESS, CANCEL, BAD_PARAMETERS, OUT_OF_MEMORY, TARGET_DEAD = 0, 0xFFFF0002, 0xFFFF0006, 0xFFFF000C, 0xFFFF3024
@@ -44,9 +45,7 @@ def stores(call):
     """The object of the id 41: its file is made, by its name, and a header of length 0 written with its tag, in format 2."""
     name = b"11111111222233334444555555555555/41"
     descriptor = yield f"create {name.hex()}"
-    length = bytes(4)
-    tag = hmac.digest(KEY, name + b"\0" + length, "sha256")
-    yield f"write {descriptor} 0 40 {(b'OTO2' + length + tag).hex()}"
+    yield f"write {descriptor} 0 40 {(header(0) + tag_of(KEY, name, b'')).hex()}"
     return SUCCESS
 
 

@@ -13,13 +13,13 @@ printed at the end.
 Usage: bench/smc_costs.py [whole | objects] [N..]
 """
 
-import hmac
 import os
 import pathlib
 import struct
 import sys
 
 from callgrind import costs, counted
+from object_files import tag_of
 from playing import PROGRAM as OPTEE_RUN
 
 PROGRAM = pathlib.Path(__file__).resolve().parent.parent / "crates/worked_cases/out/worked_cases"
@@ -117,8 +117,7 @@ def header(magic):
 
 def tag(length):
     """The reply that brings the tag of so many zeros, under a key of zeros."""
-    front = NAME.encode() + b"\0" + struct.pack("<I", length)
-    return brings(hmac.digest(bytes(32), front + bytes(length), "sha256"))
+    return brings(tag_of(bytes(32), NAME.encode(), bytes(length)))
 
 
 # all data are zeros: with the first piece that goes which a name, a header or a tag has left in the payload
