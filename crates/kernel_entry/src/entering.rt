@@ -30,6 +30,7 @@ fn next_place(journal: &Journal) -> u64
 
 /// Lets a processor in for what was decided. The parts stand for the kernel after that, and the processor carries the
 /// call of its slot, if it has one.
+#[inline(always)]
 fn comes_in(
     alloc: Global,
     parts: &mut Parts,

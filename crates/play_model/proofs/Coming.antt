@@ -63,7 +63,7 @@ written_longer lane (write ∷ writes) =
 still_whole : (lane : List ℕ) (writes : List Write) → IsWhole lane → IsWhole (lane_after lane writes)
 still_whole lane writes whole = let longer = written_longer lane writes in omega (arith, longer, whole)
 
-lanes_written : (cpus cpu : ℕ) (lanes : List (List ℕ)) (writes : List Write) → cpu < cpus → AreLanes cpus lanes
+pub lanes_written : (cpus cpu : ℕ) (lanes : List (List ℕ)) (writes : List Write) → cpu < cpus → AreLanes cpus lanes
     → AreLanes cpus (slice_set lanes cpu (lane_after (slice_index_or lanes cpu []) writes))
 lanes_written cpus cpu lanes writes there are =
     let within : cpu < length lanes = subst (λ (n : ℕ). cpu < n) (sym are.count) there in
@@ -176,7 +176,7 @@ comes_more boot before event kernel next comes came =
     ∙ ap (λ (o : Option Kernel). option_and_then (λ k. after_events boot k (event ∷ [])) o) comes
     ∙ ap (λ (o : Option Kernel). option_and_then (λ k. Some k) o) came
 
-event_stands : (boot : Booted) (event : Event) (cpu : ℕ) (now : Bool) (inside : List Bool) (before after : Play)
+pub event_stands : (boot : Booted) (event : Event) (cpu : ℕ) (now : Bool) (inside : List Bool) (before after : Play)
     → cpu < 8
     → ((next : Kernel) → after_event boot before.kernel event ≡ Some next → Moves before.kernel next cpu now)
     → Stands boot inside before → with_event boot event before ≡ Some after
@@ -209,7 +209,7 @@ written_stands boot inside cpu writes play there stands = record {
 
 -- ---- one item
 
-entry_stands : (boot : Booted) (visit : Visit) (inside : List Bool) (before after : Play) → visit.cpu < 8
+pub entry_stands : (boot : Booted) (visit : Visit) (inside : List Bool) (before after : Play) → visit.cpu < 8
     → Stands boot inside before
     → after.refused ≡ None → Entered boot visit before after → Stands boot (slice_set inside visit.cpu true) after
 entry_stands boot visit inside before after few stands going (CameIn reads bytes came) =
@@ -246,7 +246,7 @@ both_stand boot visit inside before between after few there stands going came (O
 both_stand boot visit inside before between after few there stands going came (Ended more is same) =
     let no : None ≡ Some more = sym going ∙ ap (λ (p : Play). p.refused) (sym same) ∙ is in absurd cc
 
-below_eight : (cpus cpu : ℕ) → cpus ≤ 8 → cpu < cpus → cpu < 8
+pub below_eight : (cpus cpu : ℕ) → cpus ≤ 8 → cpu < cpus → cpu < 8
 below_eight cpus cpu few there = omega (arith, few, there)
 
 pub item_stands : (boot : Booted) (i : Item) (inside : List Bool) (before after : Play) → boot.cpus ≤ 8

@@ -92,11 +92,11 @@ exit_comes boot play cpu boots comes is =
     subst IsSome (sym (exits_come boot play cpu out.0 out.1)) refl
 
 -- behind an entry that came, its processor is inside
-record HasComeIn (boot : Booted) (cpu : ℕ) (play : Play) : Type 0 where
-  comes : kernel_after boot play.history ≡ Some play.kernel
-  inside : IsInside play.kernel cpu
+pub record HasComeIn (boot : Booted) (cpu : ℕ) (play : Play) : Type 0 where
+  pub comes : kernel_after boot play.history ≡ Some play.kernel
+  pub inside : IsInside play.kernel cpu
 
-came_inside : (boot : Booted) (visit : Visit) (before after : Play)
+pub came_inside : (boot : Booted) (visit : Visit) (before after : Play)
     → kernel_after boot before.history ≡ Some before.kernel
     → after.refused ≡ None → Entered boot visit before after → HasComeIn boot visit.cpu after
 came_inside boot visit before after comes going (CameIn reads few came) =
@@ -137,12 +137,12 @@ then_comes boot visit before between boots comes came None is =
 then_comes boot visit before between boots comes came (Some more) is =
     subst IsSome (sym (unless_some (leaves boot visit.cpu) between more is)) refl
 
-lane_whole : (cpus cpu : ℕ) (lanes : List (List ℕ)) (play : Play) → AreLanes cpus play.lanes → cpu < cpus
+pub lane_whole : (cpus cpu : ℕ) (lanes : List (List ℕ)) (play : Play) → AreLanes cpus play.lanes → cpu < cpus
     → IsWhole (lane_of play cpu)
 lane_whole cpus cpu lanes play are there =
     All-get_or IsWhole play.lanes cpu [] (subst (λ (n : ℕ). cpu < n) (sym are.count) there) are.whole
 
-granted : (cpus cpu steps : ℕ) (regs : List Reg) → IsSoundCall cpus cpu steps regs → can_be_granted steps ≡ true
+pub granted : (cpus cpu steps : ℕ) (regs : List Reg) → IsSoundCall cpus cpu steps regs → can_be_granted steps ≡ true
 granted cpus cpu steps regs sound = let some = sound.some_step in let few = sound.few_steps in grind (arith, nat_tests)
 
 item_enters : (boot : Booted) (cpu steps : ℕ) (regs : List Reg) (play : Play)
