@@ -3,11 +3,16 @@ use Rattle.std.proofs.Common.{◌≡◌, ℕ, ◌^◌, ◌≤◌, ◌⊎◌, inl
 use Rattle.std.specs.Prelude.{IfSome, IsSome, IsSomeAnd, Result, Ok, Err}
 use Rattle.std.proofs.lemmas.List.{append-nil}
 use Rattle.ports.specs.Port.{Appends, Moves, Rose}
-use Rattle.word_parts.specs.Answer.{IsTold, Writes, status_of, status_of_play}
-use Rattle.word_parts.specs.Input.{IsAtEnd, IsTooLong}
+use Rattle.ports.specs.PortLaws.{Appends-nil}
+use Rattle.trace_text.specs.declared.fault.BadKind.{BadKind}
+use Rattle.trace_text.specs.declared.fault.TraceFault.{TraceFault}
+use Rattle.trace_text.specs.declared.fault.TraceFault.TheVariants as fault
+use Rattle.word_parts.specs.Answer.{AnswersFault, IsTold, Writes, status_of, status_of_play}
+use Rattle.word_parts.specs.Input.{IsAtEnd, IsTooLong, IsUnreadAs}
 use Rattle.word_parts.specs.Line.{bad_trace_line}
 use Rattle.word_parts.specs.Output.{AppendsPart}
-use Rattle.word_parts.specs.Word.{Answered, CanBeRefused, CanBeServed, HasOneMeaning, IsBad, IsDone, IsRefusedWhole, IsServedBy, IsServedWhole, IsTooMuch, Ran, Statuses, Word, WritesPart, WritesText}
+use Rattle.word_parts.specs.Keeping.{Keeps}
+use Rattle.word_parts.specs.Word.{Answered, CanBeRefused, CanBeServed, HasOneMeaning, IsBad, IsDone, IsRefused, IsRefusedWhole, IsServedBy, IsServedWhole, IsTooMuch, Ran, Statuses, Word, WritesPart, WritesText}
 use Rattle.word_parts.proofs.Answering.{is-short, long-refused, ok-refused, other-status, refused-status, writes-named, writes-part, writes-whole}
 use Rattle.word_parts.specs.declared.stop.Stop.{Stop}
 use Rattle.word_parts.specs.declared.stop.Stop.TheVariants.{Full, Failed}
@@ -30,7 +35,32 @@ Ran-read word None None bytes result old new moved ended short answered = tt
 Ran-read word (Some l) None bytes result old new moved ended short answered = absurd moved
 Ran-read word None (Some r) bytes result old new moved ended short answered = absurd moved
 
+-- an input that wasn't read whole
+pub Ran-unread : (word : Word) (told left : Option (List ℕ)) (result : Status) (held : Option (List ℕ))
+    → IfSome told (IsUnreadAs result) → IfSome told (λ input. Ran word input left result held held)
+Ran-unread word (Some input) left result held (inl fault) = inl (inl fault, Appends-nil held)
+Ran-unread word (Some input) left result held (inr (inl want)) = inl (inr want, Appends-nil held)
+Ran-unread word (Some input) left result held (inr (inr long)) = inr (inl (long.0, long.1, Appends-nil held))
+Ran-unread word None left result held unread = tt
+
 -- ---- answering
+
+-- a fault that was answered is the input's first in the word's grammar, or memory ran out
+pub fault-refused : (word : Word) (input : List ℕ) (why : TraceFault) (result : Status) (old new : Option (List ℕ))
+    → ((place : ℕ) (kind : BadKind) → why ≡ fault.Bad place kind → word.IsFirstFault input place kind)
+    → AnswersFault why result old new → ((result ≡ Memory) × Appends old new []) ⊎ IsRefused word input result old new
+fault-refused word input (fault.Bad place kind) result old new first line =
+    inr (record { place = place; kind = kind; first = first place kind refl; line = line })
+fault-refused word input fault.Memory result old new first want = inl want
+
+pub fault-answered : (word : Word) (input : List ℕ) (why : TraceFault) (result : Status) (old new : Option (List ℕ))
+    → ((place : ℕ) (kind : BadKind) → why ≡ fault.Bad place kind → word.IsFirstFault input place kind)
+    → AnswersFault why result old new → Answered word input result old new
+fault-answered word input why result old new first answers =
+    elim (fault-refused word input why result old new first answers) [
+      | inl want ↦ inl want
+      | inr refused ↦ inr (inl refused)
+    ]
 
 -- an option that has something has this
 pub some-and : {X : Type 0} (P : X → Type 0) (o : Option X) → IsSomeAnd o P → (x : X) × (o ≡ Some x) × P x
@@ -286,3 +316,65 @@ pub told-refused : (word : Word) (told left : Option (List ℕ)) (result : Statu
 told-refused word (Some input) left result old new a b c d read write ran = λ can no_read no_write.
     ran-refused word input left result old new can (λ e. no_read (read e)) (λ e. no_write (write e)) ran
 told-refused word None left result old new a b c d read write ran = tt
+
+-- ---- all that a word keeps to
+
+-- an answer is never a fault of the source
+not-read : (named result : Status) (text : List ℕ) (old new : Option (List ℕ)) → (named ≡ ReadFault → ⊥)
+    → Writes named text result old new → result ≡ ReadFault → ⊥
+not-read named result text old new other (inl whole) e = other (sym whole.0 ∙ e)
+not-read named result text old new other (inr ((inl fault), part)) e = let is = sym fault ∙ e in absurd cc
+not-read named result text old new other (inr ((inr want), part)) e = let is = sym want ∙ e in absurd cc
+
+play-not-read : (o : Option ℕ) → status_of_play o ≡ ReadFault → ⊥
+play-not-read None e = absurd cc
+play-not-read (Some more) e = absurd cc
+
+answer-not-read : (word : Word) (input : List ℕ) (result : Status) (old new : Option (List ℕ))
+    → Answered word input result old new → result ≡ ReadFault → ⊥
+answer-not-read word input result old new (inl want) e = let is = sym want.0 ∙ e in absurd cc
+answer-not-read word input result old new (inr (inl refused)) e =
+    not-read BadTrace result (bad_trace_line refused.place refused.kind) old new (λ other. absurd cc) refused.line e
+answer-not-read word input result old new (inr (inr served)) e = by_content served.content served.served
+  where
+    by_content : (content : word.Content) → IsServedBy word content result old new → ⊥
+    by_content content (inl many) = let is = sym many.1 ∙ e in absurd cc
+    by_content content (inr (few, inl want)) = let is = sym want.0 ∙ e in absurd cc
+    by_content content (inr (few, inr writes)) =
+        let text = some-and _ (word.text_for content) writes in
+        not-read (status_of_play (word.refused_for content)) result text.0 old new
+        (play-not-read (word.refused_for content)) text.2 e
+
+-- over an input that the source tells, where the counts of its faults and of the sink's were these before and after
+keeps : (word : Word) (told left : Option (List ℕ)) (result : Status) (old new : Option (List ℕ)) (a b c d : ℕ)
+    → ((input : List ℕ) → HasOneMeaning word input) → (result ≡ ReadFault → Rose a b) → (result ≡ WriteFault → Rose c d)
+    → IfSome told (λ input. Ran word input left result old new)
+    → IfSome told (λ input. Keeps word input left result old new ((Rose a b → ⊥) × (Rose c d → ⊥)))
+keeps word (Some input) left result old new a b c d every read write ran = record {
+  ran = ran;
+  statuses = ran-statuses word input left result old new ran;
+  complete = λ content can no_fault.
+      told-whole word (Some input) left result old new a b c d every read write ran content can no_fault.0 no_fault.1;
+  refuses = λ can no_fault.
+      told-refused word (Some input) left result old new a b c d read write ran can no_fault.0 no_fault.1;
+}
+keeps word None left result old new a b c d every read write ran = tt
+
+-- where the input was read whole and answered
+pub keeps-read : (word : Word) (told left : Option (List ℕ)) (bytes : List ℕ) (result : Status) (old new : Option (List ℕ))
+    (a b c d : ℕ) → ((input : List ℕ) → HasOneMeaning word input) → (result ≡ WriteFault → Rose c d)
+    → Moves told left bytes → IsAtEnd left → length bytes ≤ 2 ^ 24 → Answered word bytes result old new
+    → IfSome told (λ input. Keeps word input left result old new ((Rose a b → ⊥) × (Rose c d → ⊥)))
+keeps-read word told left bytes result old new a b c d every write moved ended short answered =
+    keeps word told left result old new a b c d every
+    (λ e. absurd (answer-not-read word bytes result old new answered e)) write
+    (Ran-read word told left bytes result old new moved ended short answered)
+
+-- where it wasn't
+pub keeps-unread : (word : Word) (told left : Option (List ℕ)) (result : Status) (held : Option (List ℕ)) (a b c d : ℕ)
+    → ((input : List ℕ) → HasOneMeaning word input) → (result ≡ ReadFault → Rose a b) → (result ≡ WriteFault → ⊥)
+    → IfSome told (IsUnreadAs result)
+    → IfSome told (λ input. Keeps word input left result held held ((Rose a b → ⊥) × (Rose c d → ⊥)))
+keeps-unread word told left result held a b c d every read write unread =
+    keeps word told left result held held a b c d every read (λ e. absurd (write e))
+    (Ran-unread word told left result held unread)

@@ -4,9 +4,12 @@ use Rattle.ports.specs.Port.{Appends}
 use Rattle.ports.specs.declared.sink.Put.{Put}
 use Rattle.ports.specs.declared.sink.Put.TheVariants.{Done, Failed}
 use Rattle.ports.specs.declared.sink.Put.TheVariants as put
+use Rattle.trace_text.specs.declared.fault.TraceFault.{TraceFault}
+use Rattle.trace_text.specs.declared.fault.TraceFault.TheVariants as fault
+use Rattle.word_parts.specs.Line.{bad_trace_line}
 use Rattle.word_parts.specs.Output.{AppendsPart}
 use Rattle.word_parts.specs.declared.status.Status.{Status}
-use Rattle.word_parts.specs.declared.status.Status.TheVariants.{ReadFault, WriteFault, Memory, TooLong}
+use Rattle.word_parts.specs.declared.status.Status.TheVariants.{BadTrace, ReadFault, WriteFault, Memory, TooLong}
 use Rattle.word_parts.specs.declared.status.Status.TheVariants as status
 use Rattle.word_parts.specs.declared.stop.Stop.{Stop}
 use Rattle.word_parts.specs.declared.stop.Stop.TheVariants as stop
@@ -28,6 +31,11 @@ Writes named text result old new =
 -- the input was not read whole, and nothing is written
 abbrev pub IsUnread : Status → Option (List ℕ) → Option (List ℕ) → Type 0
 IsUnread result old new = ((result ≡ ReadFault) ⊎ (result ≡ Memory)) × Appends old new []
+
+-- the line of an input that leaves its grammar there, or nothing for want of memory
+abbrev pub AnswersFault : TraceFault → Status → Option (List ℕ) → Option (List ℕ) → Type 0
+AnswersFault (fault.Bad place kind) result old new = Writes BadTrace (bad_trace_line place kind) result old new
+AnswersFault fault.Memory result old new = (result ≡ Memory) × Appends old new []
 
 -- ---- a play
 

@@ -1,8 +1,10 @@
 -- What is known of an input that was read.
-use Rattle.std.specs.Prelude.{◌≡◌, ℕ, ◌^◌, ◌<◌, ◌≤◌, List, [], ◌++◌, Option, length, IfSome}
+use Rattle.std.specs.Prelude.{◌≡◌, ℕ, ◌^◌, ◌<◌, ◌≤◌, ◌⊎◌, List, [], ◌++◌, Option, length, IfSome}
 use Rattle.ports.specs.Port.{Moves}
 use Rattle.ports.specs.declared.source.Taken.{Taken}
 use Rattle.ports.specs.declared.source.Taken.TheVariants.{Bytes, End, Failed}
+use Rattle.word_parts.specs.declared.status.Status.{Status}
+use Rattle.word_parts.specs.declared.status.Status.TheVariants.{ReadFault, Memory, TooLong}
 
 -- nothing is left, where the source tells it
 abbrev pub IsAtEnd : Option (List ℕ) → Type 0
@@ -22,3 +24,7 @@ TakesSome old new before after most Failed = (after ≡ before) × (new ≡ old)
 -- an input of more bytes than one may have
 abbrev pub IsTooLong : List ℕ → Type 0
 IsTooLong input = 2 ^ 24 < length input
+
+-- with these statuses a word may end where this input isn't read whole
+abbrev pub IsUnreadAs : Status → List ℕ → Type 0
+IsUnreadAs status input = (status ≡ ReadFault) ⊎ (status ≡ Memory) ⊎ ((status ≡ TooLong) × IsTooLong input)

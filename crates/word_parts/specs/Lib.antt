@@ -7,4 +7,5 @@ pub mod Limits
 pub mod Answer
 pub mod Gathering
 pub mod Word
+pub mod Keeping
 pub mod Examples

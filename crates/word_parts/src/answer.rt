@@ -2,7 +2,7 @@
 
 ghost use Rattle.std.specs.Prelude.{◌≡◌, ◌≢◌, ◌⊎◌, ◌≤◌};
 ghost use Rattle.ports.specs.Port.{Rose};
-ghost use Rattle.word_parts.specs.Answer.{Writes, status_after, status_of};
+ghost use Rattle.word_parts.specs.Answer.{AnswersFault, Writes, status_after, status_of};
 ghost use Rattle.word_parts.specs.Line.{bad_trace_line};
 
 use crate::line::bad_trace_line;
@@ -11,7 +11,7 @@ use crate::status::Status;
 use crate::stop::Stop;
 use ports::{Put, Sink};
 use std::alloc::Global;
-use trace_text::BadKind;
+use trace_text::{BadKind, TraceFault};
 
 /// The status after a text was put: the named one where it was put whole.
 pub fn status_after(named: Status, put: Put) -> Status
@@ -60,5 +60,20 @@ pub fn refuse<K: Sink>(alloc: Global, place: u32, kind: BadKind, out: &mut K) ->
     match bad_trace_line(alloc, place, kind) {
         Ok(line) => answer_line(out, Status::BadTrace, line.as_slice()),
         Err(_) => Status::Memory,
+    }
+}
+
+/// Answers an input that leaves its grammar by its line; or memory ran out where it was read.
+pub fn answer_fault<K: Sink>(alloc: Global, fault: TraceFault, out: &mut K) -> Status
+    ensures answered { AnswersFault fault result (K.held out.old) (K.held out.new) }
+    ensures words { result ≡ Status.Usage → ⊥ }
+    ensures write_fault { result ≡ Status.WriteFault → Rose (K.faults out.old) (K.faults out.new) }
+    ensures memory { result ≡ Status.Memory → K.held out.new ≡ K.held out.old }
+    ensures count { K.faults out.old ≤ K.faults out.new }
+    ensures stays { result ≢ Status.WriteFault → K.faults out.new ≡ K.faults out.old }
+{
+    match fault {
+        TraceFault::Bad { place, kind } => refuse(alloc, place, kind, out),
+        TraceFault::Memory => Status::Memory,
     }
 }

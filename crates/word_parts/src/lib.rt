@@ -12,15 +12,17 @@ mod input;
 mod limits;
 mod line;
 mod output;
+mod reading;
 mod status;
 mod stop;
 
-pub use answer::{answer_line, refuse, status_after, status_of};
+pub use answer::{answer_fault, answer_line, refuse, status_after, status_of};
 pub use examples::worked_examples;
 pub use gathering::{end_at, put_if_many, put_lines};
 pub use input::{InputFault, LONGEST_INPUT, read_input};
 pub use limits::has_too_many;
 pub use line::bad_trace_line;
 pub use output::put_text;
+pub use reading::read_whole;
 pub use status::Status;
 pub use stop::Stop;
