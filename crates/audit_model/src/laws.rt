@@ -1,7 +1,7 @@
 //! Laws of the definitions, each the contract of a function that does nothing.
 
 ghost use Rattle.audit_model.specs.CompareExamples.{CompareExamples};
-ghost use Rattle.audit_model.specs.Laws.{OneComparison, OneVerdict, PrefixesCanBe, SameGivesSameReplies};
+ghost use Rattle.audit_model.specs.Laws.{EachHasAVerdict, OneComparison, OneVerdict, PrefixesCanBe, SameGivesSameReplies};
 ghost use Rattle.audit_model.specs.VerdictExamples.{VerdictExamples};
 
 /// Events that a legal and steady history begins with are one.
@@ -12,6 +12,11 @@ pub fn prefixes_can_be()
 /// A journal has one verdict at most.
 pub fn one_verdict()
     ensures { OneVerdict }
+{}
+
+/// Each journal of a boot that a core can have has a verdict.
+pub fn each_has_a_verdict()
+    ensures { EachHasAVerdict }
 {}
 
 /// Two journals have one answer at most.

@@ -9,7 +9,7 @@ mod laws;
 mod verdict;
 
 pub use laws::{
-    compared_examples, one_comparison, one_verdict, prefixes_can_be,
+    compared_examples, each_has_a_verdict, one_comparison, one_verdict, prefixes_can_be,
     same_journals_give_same_replies, verdict_examples,
 };
 pub use verdict::{Compared, Verdict};
