@@ -1,0 +1,5 @@
+pub mod Line
+pub mod Tied
+pub mod InOrder
+pub mod Laws
+pub mod Isolation
