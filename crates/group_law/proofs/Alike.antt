@@ -3,6 +3,7 @@
 use Rattle.std.proofs.Common.{◌≡◌, ℕ, Bool, true, false, List, [], ◌∷◌, Option, Some, None, refl, ap, subst, sym, ◌∙◌}
 use Rattle.std.specs.Prelude.{All, ◌==◌, ◌&&◌, ◌||◌, is_some}
 use Rattle.std.specs.List.{list_any}
+use Rattle.std.specs.Option.{option_map}
 use Rattle.std.proofs.lemmas.Bool.Decides.{Decides-eqb}
 use Rattle.std.proofs.lemmas.List.Elements.{All-cons, All-head, All-nil, All-tail}
 use Rattle.base.specs.NumberMap.{NumberMap, IsRising, IsRising-remove, get, remove}
@@ -18,6 +19,10 @@ use Rattle.group_model.specs.Group as machine
 use Rattle.group_law.specs.Tied.{AreTiedSessions, SessionsAlike, SessionsFoundAlike}
 
 -- ---- what is found on one side is on the other
+
+pub map_none : {A B : Type 0} (f : A → B) (o : Option A) → option_map f o ≡ None → o ≡ None
+map_none f None e = refl
+map_none f (Some a) e = absurd cc
 
 pub own_for : (instances : NumberMap ℕ) (kept : Session) (found : Option GroupSession)
     → SessionsFoundAlike instances (Some kept) found
@@ -181,7 +186,8 @@ opened_same names instances kept own instance number rising apart on tied =
 
 -- ---- a session is taken away
 
-either : {P : Type 0} (a b : ℕ) → (a ≡ b → P) → ((a ≡ b → ⊥) → P) → (test : Bool) → (a == b) ≡ test → P
+-- they are the same, or not
+pub either : {P : Type 0} (a b : ℕ) → (a ≡ b → P) → ((a ≡ b → ⊥) → P) → (test : Bool) → (a == b) ≡ test → P
 either a b same apart true is = same ((Decides-eqb a b).0 is)
 either a b same apart false is =
     apart (λ e. let no : true ≡ false = sym ((Decides-eqb a b).1 e) ∙ is in absurd cc)

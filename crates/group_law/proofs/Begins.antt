@@ -1,6 +1,6 @@
 -- What a call that comes in changes on both sides, step by step: it takes a free slot, it gets an instance, and an instance
 -- gets the next number. Each step leaves them tied.
-use Rattle.std.proofs.Common.{◌≡◌, ℕ, ◌+◌, ◌<◌, Bool, true, false, List, [], ◌∷◌, Option, Some, None, refl, ap, subst, sym, ◌∙◌}
+use Rattle.std.proofs.Common.{◌≡◌, ℕ, ◌+◌, ◌<◌, List, [], ◌∷◌, Option, Some, None, refl, ap, subst, sym, ◌∙◌}
 use Rattle.std.specs.Prelude.{All, IsSome, ◌==◌, if◌then◌else◌, map, slice_get, slice_set}
 use Rattle.std.specs.Option.{option_and_then, option_map, option_map_or}
 use Rattle.std.proofs.lemmas.Bool.Decides.{Decides-eqb}
@@ -32,6 +32,7 @@ use Rattle.group_law.specs.Line.{AreKept, AreNames, AreTiedCalls}
 use Rattle.group_law.specs.Tied.{AreOthers, AreTiedSessions, CallsAlike, HomesAlike}
 use Rattle.group_law.specs.Tied.{IsOfGroup, IsOther, IsTold, Names, SessionsFoundAlike, Tied, found_at}
 use Rattle.group_law.specs.Tied.{waiting_of}
+use Rattle.group_law.proofs.Alike.{either}
 use Rattle.group_law.proofs.GrownNames.{name_stays, names_grow}
 use Rattle.group_law.proofs.Lines.{calls_taken, calls_weaker, kept_taken, slots_with}
 use Rattle.group_law.proofs.Waits.{instances_stay, same_marked, waiters_stay, with_next}
@@ -119,11 +120,6 @@ call_comes app names slots tables g cancels slot cpu call own free none alike ti
 
 abbrev pub one_there : ℕ → Instance → Option (ℕ × Instance)
 one_there number instance = Some (number, instance)
-
-pub either : {P : Type 0} (a b : ℕ) → (a ≡ b → P) → ((a ≡ b → ⊥) → P) → (test : Bool) → (a == b) ≡ test → P
-either a b same apart true is = same ((Decides-eqb a b).0 is)
-either a b same apart false is =
-    apart (λ e. let no : true ≡ false = sym ((Decides-eqb a b).1 e) ∙ is in absurd cc)
 
 pub found_same : (number : ℕ) (instance : Instance) → found_at (one_there number instance) number ≡ Some instance
 found_same number instance = ap (λ b. if b then Some instance else None) ((Decides-eqb number number).1 refl)

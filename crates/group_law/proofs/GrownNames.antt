@@ -1,5 +1,5 @@
 -- A session of the group comes in and gets the next numbers, of the kernel and of the machine: they are tied then too.
-use Rattle.std.proofs.Common.{◌≡◌, ℕ, ◌+◌, ◌<◌, false, List, Option, Some, None, refl, ap, subst, sym, ◌∙◌, arith}
+use Rattle.std.proofs.Common.{◌≡◌, ℕ, ◌+◌, ◌<◌, false, List, Option, Some, None, refl, ap, subst, sym, ◌∙◌}
 use Rattle.base.specs.NumberMap.{NumberMap, IsRising-insert, get, insert}
 use Rattle.job_model.specs.declared.call_kind.CallKind.{CallKind}
 use Rattle.job_model.specs.declared.call_kind.CallKind.TheVariants as kind
@@ -15,15 +15,9 @@ use Rattle.own_model.specs.Tied.{call_at}
 use Rattle.group_model.specs.Group.{Group, GroupCall, GroupSession, with_session}
 use Rattle.group_law.specs.Line.{AreNames}
 use Rattle.group_law.specs.Tied.{AreTiedSessions, CallsAlike, HomesAlike, Names, SessionsAlike, SessionsFoundAlike, Tied}
-use Rattle.group_law.proofs.Lines.{calls_weaker}
+use Rattle.group_law.proofs.Lines.{calls_weaker, less_on, next_is_more}
 
 -- ---- numbers
-
-less_on : (m n : ℕ) → m < n → m < n + 1
-less_on m n lt = omega arith
-
-next_is_more : (n : ℕ) → n < n + 1
-next_is_more n = omega arith
 
 -- the next number is under the machine's next one then
 pub names_grow : (names : NumberMap ℕ) (next own_next : ℕ) → 0 < next → AreNames names next own_next

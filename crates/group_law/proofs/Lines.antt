@@ -26,10 +26,10 @@ number_stays numbering slot at number none has =
     get-insert-other numbering.in_slots slot numbering.entered at
     (numbered_apart numbering.in_slots slot at number none has) ∙ has
 
-next_is_more : (n : ℕ) → n < n + 1
+pub next_is_more : (n : ℕ) → n < n + 1
 next_is_more n = omega arith
 
-less_on : (m n : ℕ) → m < n → m < n + 1
+pub less_on : (m n : ℕ) → m < n → m < n + 1
 less_on m n lt = omega arith
 
 -- a mark, which other calls may set, makes no difference

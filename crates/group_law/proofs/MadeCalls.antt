@@ -22,6 +22,7 @@ use Rattle.kernel_model.specs.Kernel.{Instance, ThreadSlot}
 use Rattle.kernel_model.specs.Decision.{Taken}
 use Rattle.kernel_model.specs.NewCall.{NewCall, beginner, opener, shared_by}
 use Rattle.kernel_model.specs.Sessions as kept_sessions
+use Rattle.kernel_model.proofs.Parts.{option_map_some}
 use Rattle.kernel_model.proofs.SoundMaps.{if_some}
 use Rattle.kernel_model.proofs.SoundNewCalls.{opening_taken}
 use Rattle.own_model.proofs.Maps.{get-insert-same}
@@ -35,7 +36,7 @@ use Rattle.group_model.specs.declared.group_event.GroupEvent.TheVariants as even
 use Rattle.own_model.specs.declared.own_event.OwnInput.TheVariants.{Copied}
 use Rattle.group_law.specs.Laws.{About, names_of}
 use Rattle.group_law.specs.Tied.{Tied}
-use Rattle.group_law.proofs.Alike.{opened_same}
+use Rattle.group_law.proofs.Alike.{map_none, opened_same}
 use Rattle.group_law.proofs.Begins.{instance_named, nobody}
 use Rattle.group_law.proofs.BegunCalls.{AreBegun, Numbers, On, job_with, key_is, open_comes, opener_of}
 use Rattle.group_law.proofs.NewForms.{Passes}
@@ -104,14 +105,6 @@ one_waits names test (first ∷ waiters) waiting waiter same is =
 
 -- ---- the number of the new instance
 
-map_none : {A B : Type 0} (f : A → B) (o : Option A) → option_map f o ≡ None → o ≡ None
-map_none f None e = refl
-map_none f (Some a) e = absurd cc
-
-map_some : {A B : Type 0} (f : A → B) (o : Option A) (b : B) → option_map f o ≡ Some b → (a : A) × (o ≡ Some a) × (f a ≡ b)
-map_some f None b e = absurd cc
-map_some f (Some a) b e = (a, refl, cc)
-
 -- the kernel's first
 awaited_by : (about : About) (notes : Notes) (slots : List ThreadSlot) (g : Group) (c : NewCall) (found : Option ℕ)
     → Within about notes slots g c → kept_begin.awaited_number c.tables about.app ≡ found
@@ -134,7 +127,7 @@ own_awaited : (about : About) (notes : Notes) (slots : List ThreadSlot) (g : Gro
     → (w : Within about notes slots g c) → kept_begin.awaited_number c.tables about.app ≡ Some number
     → (own : ℕ) × (machine.awaited_number g ≡ Some own) × (get w.instances number ≡ Some own)
 own_awaited about notes slots g c number w is =
-    let first = map_some (λ (waiter : Waiter). waiter.instance)
+    let first = option_map_some (λ (waiter : Waiter). waiter.instance)
     (find (λ (waiter : Waiter). bytes_eq waiter.uuid (uuid_of about.app)) c.tables.waiters) number
     (awaited_by about notes slots g c (Some number) w is) in
     let its = one_waits w.instances (λ (waiter : Waiter). bytes_eq waiter.uuid (uuid_of about.app)) c.tables.waiters

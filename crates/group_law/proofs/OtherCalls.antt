@@ -47,6 +47,7 @@ use Rattle.group_model.specs.declared.group_event.GroupEvent.TheVariants as even
 use Rattle.group_law.specs.Laws.{About, names_of}
 use Rattle.group_law.specs.Line.{AreNames}
 use Rattle.group_law.specs.Tied.{IsOfGroup, IsOther, Names, waiting_of}
+use Rattle.group_law.proofs.Alike.{map_none}
 use Rattle.group_law.proofs.GrownNames.{tables_with}
 use Rattle.group_law.proofs.Kept.{KeepsTables}
 use Rattle.group_law.proofs.NewForms.{NewForms}
@@ -208,10 +209,6 @@ module _ (app : Application) (names : Names) (before tables : Tables) (kept : Ke
           ((bytes_eq-Decides last.uuid (uuid_of app)).0 is))
 
 -- ---- calls that are settled
-
-map_none : {A B : Type 0} (f : A → B) (o : Option A) → option_map f o ≡ None → o ≡ None
-map_none f None e = refl
-map_none f (Some a) e = absurd cc
 
 module _ (about : About) (notes : Notes) (slots : List ThreadSlot) (g : Group) (c : NewCall)
     (w : Within about notes slots g c) (before : Tables)

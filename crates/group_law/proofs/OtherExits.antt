@@ -143,9 +143,9 @@ back_keeps app names sessions instances number is_last change (Some instance) sa
 -- ---- what the call comes to
 
 -- it is still another's, and the tables keep what is the group's
-record StaysOther (app : Application) (names : Names) (before : Tables) (progress : Progress) : Type 0 where
-  other : IsOther names.sessions names.instances progress.call
-  kept : KeepsTables app names before progress.tables
+pub record StaysOther (app : Application) (names : Names) (before : Tables) (progress : Progress) : Type 0 where
+  pub other : IsOther names.sessions names.instances progress.call
+  pub kept : KeepsTables app names before progress.tables
 
 other_in : (names : Names) (call : PendingCall) (done_by : ℕ) (phase : CallPhase)
     → IsOther names.sessions names.instances call

@@ -42,7 +42,7 @@ use Rattle.group_law.specs.Laws.{AreTied, GoesAlong, OtherResumesKeepTied, names
 use Rattle.group_law.specs.Tied.{IsOfGroup, IsOther, Names, Tied, waiting_of}
 use Rattle.group_law.proofs.Kept.{KeepsTables, stays_tied}
 use Rattle.group_law.proofs.OtherCalls.{instance_keeps, of_another, uuid_apart}
-use Rattle.group_law.proofs.OtherExits.{goes_silently, held_other, slot_keeps, tied_keeps}
+use Rattle.group_law.proofs.OtherExits.{StaysOther, goes_silently, held_other, slot_keeps, tied_keeps}
 
 -- ---- those that wait
 
@@ -117,11 +117,6 @@ record ResumesOther (app : Application) (names : Names) (r : Resumed) : Type 0 w
   leaves : waiting_of app (without r.tables.waiters r.slot) ≡ waiting_of app r.tables.waiters
   uuid : (params : CopiedParams) (uuid : List ℕ) → r.call.phase ≡ Waits params → r.call.uuid ≡ Some uuid
       → uuid ≡ uuid_of app → ⊥
-
--- it is still another's, and the tables keep what is the group's
-record StaysOther (app : Application) (names : Names) (before : Tables) (progress : Progress) : Type 0 where
-  other : IsOther names.sessions names.instances progress.call
-  kept : KeepsTables app names before progress.tables
 
 module _ (app : Application) (names : Names) (r : Resumed) (o : ResumesOther app names r) where
   abbrev Stays : Progress → Type 0

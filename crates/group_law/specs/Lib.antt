@@ -1,5 +1,8 @@
 pub mod Line
 pub mod Tied
 pub mod InOrder
+pub mod Machine
 pub mod Laws
+pub mod Exits
+pub mod Resumes
 pub mod Isolation
