@@ -11,4 +11,5 @@ mod laws;
 pub use audit_model::Verdict;
 pub use base::NoMemory;
 pub use checking::check;
-pub use laws::{core_journals_are_sound, read_boots_can_be_checked};
+pub use journal_bytes::{ReadJournal, TraceFault, read_journal, write_journal};
+pub use laws::{core_journals_are_sound, plays_are_faultless, read_boots_can_be_checked};
