@@ -18,6 +18,7 @@ pub mod OtherEntries
 pub mod OtherResumes
 pub mod FixedAnswers
 pub mod MoreSteps
+pub mod OrderedChanges
 pub mod InOrder
 pub mod CallChanges
 pub mod Interrupts

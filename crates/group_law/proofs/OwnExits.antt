@@ -44,7 +44,8 @@ use Rattle.group_law.specs.Laws.{GoesAlong}
 use Rattle.group_law.specs.Tied.{AreasAlike, CallsAlike, HomesAlike, Tied, found_at}
 use Rattle.group_law.proofs.CallChanges.{IsIdle, call_changes, call_goes, with_numbering}
 use Rattle.group_law.proofs.Ends.{one_there}
-use Rattle.group_law.proofs.InOrder.{InLine, InOrderGoing, going_so, is_on}
+use Rattle.group_law.proofs.InOrder.{InOrderGoing, going_so}
+use Rattle.group_law.proofs.OrderedChanges.{InLine, is_on}
 use Rattle.group_law.proofs.Progress.{Comes, OwnThere, Place, comes_to, names_at}
 use Rattle.group_law.proofs.MoreSteps.{one_step}
 
