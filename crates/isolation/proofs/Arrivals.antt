@@ -6,11 +6,11 @@ use Rattle.std.proofs.Math.Logic.{∥∥₁_elim}
 use Rattle.std.proofs.Props.{props}
 use Rattle.std.proofs.lemmas.Option.{slice_get_within}
 use Rattle.base.specs.NumberMap.{get}
-use Rattle.isolation.specs.Arriving.{IsArrivalFrom, IsArrivalIn, IsBackIn, IsNew, arrival_by, arrival_of, back_as, event_by, seen_then}
+use Rattle.isolation.specs.Arriving.{IsArrivalFrom, IsArrivalIn, IsBackIn, IsNew, NamesApp, arrival_by, arrival_of, back_as, event_by, opens_by, seen_then}
 use Rattle.isolation.specs.declared.entering.Arrival.TheVariants as arrival
 use Rattle.isolation.specs.declared.notes.Back.{Back as BackWith}
 use Rattle.isolation.proofs.Arrived.{input_is}
-use Rattle.isolation.proofs.Plans.{plan_event_is}
+use Rattle.isolation.proofs.Plans.{plan_event_is, plan_names}
 use Rattle.job_model.specs.declared.call_kind.CallKind.{CallKind}
 use Rattle.job_model.specs.declared.call_kind.CallKind.TheVariants as kind
 use Rattle.kernel_entry.proofs.Decisions.{new_so, resume_refused, same_lowest}
@@ -108,27 +108,29 @@ pub answered_new : (parts : Parts) (k : Kernel) (regs lane : List ℕ) (reads : 
 answered_new parts k regs lane reads answer stands is =
     record { decision = model.Answers answer; reads = reads; decides = is; is = tt }
 
-new_in : (k : Kernel) (regs : List ℕ) (reads : List Read) (slot : ℕ) (call : PendingCall) (came : Option OwnEvent)
-    → IsNew k slot call came → IsArrivalIn k regs reads slot call (arrival_of came)
-new_in k regs reads slot call None is = is
-new_in k regs reads slot call (Some came) is = is
+new_in : (k : Kernel) (regs : List ℕ) (reads : List Read) (slot : ℕ) (call : PendingCall) (opens : Option (List ℕ)) (came : Option OwnEvent)
+    → IsNew k slot call came → ((event : OwnEvent) → came ≡ Some event → NamesApp call (record { event = event; opens = opens }))
+    → IsArrivalIn k regs reads slot call (arrival_of opens came)
+new_in k regs reads slot call opens None is names = is
+new_in k regs reads slot call opens (Some event) is names = record { is_new = is; names = names event refl }
 
 pub planned_new : (parts : Parts) (k : Kernel) (regs lane : List ℕ) (reads : List Read) (entered : Entered) (plan : Plan)
     → (let c = call_with (booted_with parts.setup) (tables_of parts.tables) entered in
     StandsFor parts k → code.lowest_free parts.slots ≡ Some entered.slot → CanApply c plan
     → over_lane (new_call (booted_with parts.setup) k regs) lane [] ≡ Some (model.Takes entered.slot (taken_of c plan), reads)
-    → IsArrivalFrom k regs lane (new_call (booted_with parts.setup) k regs) (arrival_of (event_by entered.head.func (is_some entered.area) plan)))
+    → IsArrivalFrom k regs lane (new_call (booted_with parts.setup) k regs)
+    (arrival_of (opens_by plan) (event_by entered.head.func (is_some entered.area) plan)))
 planned_new parts k regs lane reads entered plan stands lowest can is =
     let c = call_with (booted_with parts.setup) (tables_of parts.tables) entered in
     record {
       decision = model.Takes entered.slot (taken_of c plan);
       reads = reads;
       decides = is;
-      is = new_in k regs reads entered.slot (taken_of c plan).call (event_by entered.head.func (is_some entered.area) plan) (record {
+      is = new_in k regs reads entered.slot (taken_of c plan).call (opens_by plan) (event_by entered.head.func (is_some entered.area) plan) (record {
         free = free_there k.slots entered.slot
             (same_lowest parts.slots parts.cancellations.items k.slots stands.slots ∙ lowest);
         event = λ session. plan_event_is session c plan can;
-      });
+      }) (plan_names c plan entered.head.func (is_some entered.area));
     }
 
 pub new_arrives : (parts : Parts) (k : Kernel) (regs lane : List ℕ) (reads : List Read) (found : NewDecided) (free : Option ℕ)

@@ -20,18 +20,22 @@ use Rattle.isolation.specs.declared.entering.Arrival.{Arrival}
 use Rattle.isolation.specs.declared.notes.Notes.{Notes}
 use Rattle.isolation.specs.declared.replay.Replay.{Replay}
 use Rattle.isolation.proofs.Further.{Follows, follows}
+use Rattle.journal_replay.proofs.ReadLists.{all_last}
+use Rattle.journal_replay.specs.Laying.{AreOfOneRam}
 use Rattle.kernel_entry.proofs.Arrived.{cpu_there}
 use Rattle.kernel_entry.specs.Visiting.{coming_of}
 use Rattle.kernel_entry.specs.declared.visitor.Visitor.{Visitor}
 use Rattle.kernel_model.proofs.FixedAnswer.{inside_for, processors_after}
 use Rattle.kernel_model.proofs.Parts.{set_found, set_then_read}
-use Rattle.kernel_model.specs.Application.{Booted}
+use Rattle.kernel_model.proofs.ReadsOfRam.{histories_read_ram}
+use Rattle.kernel_model.specs.Application.{Booted, IsBooted}
 use Rattle.kernel_model.specs.Argument.{reg}
 use Rattle.kernel_model.specs.Decision.{Answers, Decision, Taken, Takes}
 use Rattle.kernel_model.specs.Entry.{after_decision, decision_of, entry}
-use Rattle.kernel_model.specs.History.{after_event, is_outside, kernel_after}
+use Rattle.kernel_model.specs.History.{IsLegal, after_event, is_outside, kernel_after}
 use Rattle.kernel_model.specs.Kernel.{Active, Fixed, Free, InSlot, Inside, Kernel, Outside, PendingCall, Processor, Suspended, ThreadSlot, Visit, cancelled_slots}
-use Rattle.kernel_state.proofs.CoreEvents.{CameIn, came_in, few_steps, journals_legal, some_kernel, some_steps}
+use Rattle.kernel_model.specs.Turns.{ReadsRam}
+use Rattle.kernel_state.proofs.CoreEvents.{CameIn, came_in, core_is_legal, few_steps, journals_legal, some_kernel, some_steps}
 use Rattle.kernel_state.specs.Entering.{CanEnter, HasEntered, IsTooMuch, bytes_read, visit_of}
 use Rattle.kernel_state.specs.Laws.{CoreEntry}
 use Rattle.kernel_state.specs.Meaning.{booted_of, events_of, kernel_of}
@@ -238,6 +242,22 @@ module _ (old : Core) (visitor : Visitor) (lane : List ℕ) (reads : List Read) 
             (subst (λ (rs : List Read). IsArrivalBy kernel visitor.regs.a rs came is.decision) same_as_decided.1 is.is)
             (subst (StandsFor new.parts) is_next so.stands)
             (subst (λ (o : Option Kernel). IsSomeAnd o (λ k. IsWorkOf k work)) comes fits)))
+
+-- what it read is in RAM once it was laid there: each of its reads is of some bytes of RAM, and they agree
+pub laid_so : (replay : Replay) (visitor : Visitor) (reads laid : List Read) (lane : List ℕ)
+    (can : CanGoOn replay (Entry visitor.cpu visitor.regs visitor.steps reads)) → laid ≡ reads → (AreOfOneRam laid → HoldsReads lane laid)
+    → HoldsReads lane reads
+laid_so replay visitor reads laid lane can same held =
+    let event = Entry visitor.cpu visitor.regs visitor.steps reads in
+    let legal : IsLegal can.boot (can.history ++ event ∷ []) = record {
+      boots = subst IsBooted can.done.booted (core_is_legal replay.core).boots;
+      follows = can.next.follows;
+    } in
+    let are : AreOfOneRam reads = record {
+      of_ram = all_last ReadsRam can.history event (histories_read_ram can.boot (can.history ++ event ∷ []) legal);
+      agree = can.next.agree;
+    } in
+    subst (HoldsReads lane) same (held (subst AreOfOneRam (sym same) are))
 
 -- it is never refused as too much
 pub not_full : (replay : Replay) (visitor : Visitor) (reads : List Read)

@@ -1,8 +1,8 @@
--- The front of a journal, event by event, and the limits of a boot.
+-- The front of a journal, event by event.
 use Rattle.std.proofs.Common.{◌≡◌, ℕ, ◌+◌, ◌<◌, ◌≤◌, ◌^◌, List, [], ◌∷◌, ◌++◌, length, take, drop, get_or, Option, Some, None, refl, ap, sym, subst, ◌∙◌, arith}
 use Rattle.std.proofs.lemmas.List.{drop_more, take-append-drop, take_more}
 use Rattle.std.proofs.lemmas.List.Sums.{sum_by-append, sum_by-cons}
-use Rattle.std.specs.Prelude.{All, IsSome, map}
+use Rattle.std.specs.Prelude.{IsSome}
 use Rattle.std.specs.List.{AllByRecursion}
 use Rattle.std.specs.Option.{option_and_then}
 use Rattle.event_journal.specs.Event.{copied_by}
@@ -11,14 +11,10 @@ use Rattle.event_journal.specs.declared.event.Event.{Event}
 use Rattle.isolation.specs.Journals.{IsJournal}
 use Rattle.isolation.specs.Replaying.{CanBeNext}
 use Rattle.kernel_model.proofs.Past.{after_events-append}
-use Rattle.kernel_model.specs.Application.{Booted, BuiltIn, IsBooted, Native, OfImage, booted}
+use Rattle.kernel_model.specs.Application.{Booted}
 use Rattle.kernel_model.specs.History.{after_event, after_events, kernel_after}
 use Rattle.kernel_model.specs.Kernel.{Kernel, first_kernel}
-use Rattle.kernel_state.specs.Booting.{IsWithinLimits}
 use Rattle.kernel_state.specs.Reads.{ReadsAgree}
-use Rattle.ta_isa.specs.Spelling.{IsValid}
-use Rattle.ta_isa.specs.declared.boot.App.{App}
-use Rattle.ta_isa.specs.declared.boot.Boot.{Boot}
 
 -- ---- the next event
 
@@ -68,39 +64,3 @@ module _ (events : List Event) (place : ℕ) (event : Event) (below : place < le
   pub can_be_next : (boot : Booted) → IsJournal boot events → CanBeNext boot (take place events) event
   can_be_next boot journal =
       one_more boot (take place events) (drop (place + 1) events) event (subst (IsJournal boot) parted journal)
-
--- ---- boots
-
--- the applications of a booted list are those of its boot, front by front
-same_front : (apps others : List App) (natives more : List Native)
-    → map (λ app. OfImage app) apps ++ map (λ (native : Native). BuiltIn native.0 native.1) natives
-    ≡ map (λ app. OfImage app) others ++ map (λ (native : Native). BuiltIn native.0 native.1) more
-    → apps ≡ others
-same_front [] [] natives more e = refl
-same_front [] (other ∷ others) [] more e = absurd cc
-same_front [] (other ∷ others) (native ∷ natives) more e = absurd cc
-same_front (app ∷ apps) [] natives [] e = absurd cc
-same_front (app ∷ apps) [] natives (native ∷ more) e = absurd cc
-same_front (app ∷ apps) (other ∷ others) natives more e =
-    let first : app ≡ other = cc in
-    let rest : map (λ app. OfImage app) apps ++ map (λ (native : Native). BuiltIn native.0 native.1) natives
-    ≡ map (λ app. OfImage app) others ++ map (λ (native : Native). BuiltIn native.0 native.1) more = cc in
-    ap (λ (a : App). a ∷ apps) first ∙ ap (λ (items : List App). other ∷ items) (same_front apps others natives more rest)
-
-pub within_limits : (boot : Boot) (natives : List Native) → IsBooted (booted boot natives) → IsWithinLimits boot
-within_limits boot natives boots =
-    let cpus : boots.boot.cpus ≡ boot.cpus = sym (ap (λ (b : Booted). b.cpus) boots.same) in
-    let threads : boots.boot.threads ≡ boot.threads = sym (ap (λ (b : Booted). b.threads) boots.same) in
-    let frames : boots.boot.frames ≡ boot.frames = sym (ap (λ (b : Booted). b.frames) boots.same) in
-    let apps : boots.boot.apps ≡ boot.apps =
-    sym (same_front boot.apps boots.boot.apps natives boots.natives (ap (λ (b : Booted). b.apps) boots.same)) in
-    record {
-      some_processor = subst (λ (n : ℕ). 1 ≤ n) cpus boots.is_boot.some_processor;
-      few_processors = subst (λ (n : ℕ). n ≤ 8) cpus boots.is_boot.few_processors;
-      some_thread = subst (λ (n : ℕ). 1 ≤ n) threads boots.is_boot.some_thread;
-      few_threads = subst (λ (n : ℕ). n ≤ 16) threads boots.is_boot.few_threads;
-      some_frame = subst (λ (n : ℕ). 1 ≤ n) frames boots.is_boot.some_frame;
-      few_frames = subst (λ (n : ℕ). n ≤ 1024) frames boots.is_boot.few_frames;
-      few_apps = subst (λ (items : List App). length items ≤ 16) apps boots.is_boot.few_apps;
-      valid = subst (λ (items : List App). All (λ (app : App). IsValid app.image) items) apps boots.is_boot.valid;
-    }

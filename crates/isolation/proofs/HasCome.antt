@@ -9,6 +9,7 @@ use Rattle.isolation.specs.Noted.{with_away, with_back}
 use Rattle.isolation.specs.Replaying.{HasArrived, HasArrivedFor, HasArrivedIn, errand_at, is_turned_away}
 use Rattle.isolation.specs.declared.entering.Arrival.{Arrival}
 use Rattle.isolation.specs.declared.entering.Arrival.TheVariants as arrival
+use Rattle.isolation.specs.declared.entering.NewEvent.{NewEvent}
 use Rattle.isolation.specs.declared.notes.Back.{Back as BackWith}
 use Rattle.isolation.specs.Arriving.{counts}
 use Rattle.isolation.proofs.Arrived.{back_so, noted_counted, noted_nothing, noted_uncounted}
@@ -29,7 +30,6 @@ use Rattle.kernel_state.specs.declared.processor.Processor.TheVariants.{Outside,
 use Rattle.kernel_state.specs.declared.work.Work.{Work}
 use Rattle.ns_ram.specs.declared.read.Read.{Read}
 use Rattle.own_model.specs.Own.{Notes, event_noted, fixed_noted, numbered, resume_noted}
-use Rattle.own_model.specs.declared.own_event.OwnEvent.{OwnEvent}
 use Rattle.smc_abi.specs.declared.answer.Answer.{Answer}
 
 -- ---- what a processor came for
@@ -72,20 +72,20 @@ module _ (session : ℕ) (kernel next : Kernel) (visitor : Visitor) (reads : Lis
   entry_noted = event_noted session kernel next before (Entry visitor.cpu visitor.regs visitor.steps reads)
 
   -- a new one, of the session
-  pub new_counts : (came : OwnEvent) (has : HasArrivedIn kernel next visitor reads (arrival.New came) work slot)
-      → counts session work.call ≡ true → numbered before slot has.call came ≡ entry_noted
+  pub new_counts : (came : NewEvent) (has : HasArrivedIn kernel next visitor reads (arrival.New came) work slot)
+      → counts session work.call ≡ true → numbered before slot has.call came.event ≡ entry_noted
   new_counts came has so =
       sym (noted_new session kernel next visitor.cpu visitor.steps visitor.regs reads before slot has.call has.inside
-      has.is.free has.active
-      ∙ noted_counted session before slot kernel has.call work.call has.carries came has.is so)
+      has.is.is_new.free has.active
+      ∙ noted_counted session before slot kernel has.call work.call has.carries came.event has.is.is_new so)
 
   -- of another
-  pub new_of_other : (came : OwnEvent) → HasArrivedIn kernel next visitor reads (arrival.New came) work slot
+  pub new_of_other : (came : NewEvent) → HasArrivedIn kernel next visitor reads (arrival.New came) work slot
       → counts session work.call ≡ false → before ≡ entry_noted
   new_of_other came has so =
       sym (noted_new session kernel next visitor.cpu visitor.steps visitor.regs reads before slot has.call has.inside
-      has.is.free has.active
-      ∙ noted_uncounted session before slot kernel has.call work.call has.carries (Some came) has.is so)
+      has.is.is_new.free has.active
+      ∙ noted_uncounted session before slot kernel has.call work.call has.carries (Some came.event) has.is.is_new so)
 
   -- of none
   pub new_of_none : HasArrivedIn kernel next visitor reads arrival.Nothing work slot → before ≡ entry_noted

@@ -1,6 +1,7 @@
 pub mod Arrivals
 pub mod Arrived
 pub mod Away
+pub mod Boots
 pub mod CameFor
 pub mod Decided
 pub mod Entries

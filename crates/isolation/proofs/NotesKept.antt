@@ -1,10 +1,12 @@
 -- The code's notes stay those of the definitions.
 use Rattle.std.proofs.Common.{◌≡◌, ℕ, zero, suc, ◌+◌, ◌<◌, ◌==◌, Bool, true, false, List, [], ◌∷◌, ◌++◌, length, Option, Some, None, refl, ap, sym, subst, ◌∙◌, arith}
 use Rattle.std.specs.Prelude.{is_some, replicate, slice_get, slice_set, not, filter, if◌then◌else◌}
-use Rattle.std.specs.Option.{option_map_or}
+use Rattle.std.specs.Option.{option_map_or, option_or}
 use Rattle.base.specs.NumberMap.{get, insert}
+use Rattle.isolation.specs.Arriving.{NamesApp}
 use Rattle.isolation.specs.Noted.{AreNoted, AreNumbers, HasFinished, IsLeft, is_away, number_at, with_away, with_told, without_slot, woken_as}
 use Rattle.isolation.specs.Telling.{told_by, wakes_as}
+use Rattle.isolation.specs.declared.entering.NewEvent.{NewEvent}
 use Rattle.isolation.specs.declared.notes.Notes.{Notes}
 use Rattle.isolation.specs.declared.numbering.Numbering.{Numbering}
 use Rattle.isolation.proofs.Away.{away_now, away_still, drop_number, gone, others_away, put_number, set_at}
@@ -109,30 +111,35 @@ away_unset code away cpu below are other under =
 -- ---- notes
 
 pub first_noted : (code : Notes) → AreNumbers code.numbering (record { entered = 0; in_slots = []; wakes = [] })
-    → code.turned_away ≡ replicate 8 false → code.log.items ≡ [] → AreNoted code own.no_notes
-first_noted code are away log = record { numbering = are; turned_away = first_away code.turned_away away; log = log }
+    → code.turned_away ≡ replicate 8 false → code.log.items ≡ [] → code.uuid ≡ None → AreNoted code own.no_notes
+first_noted code are away log uuid = record { uuid = uuid; numbering = are; turned_away = first_away code.turned_away away; log = log }
 
 module _ (old new : Notes) (notes : own.Notes) (are : AreNoted old notes) where
-  pub in_noted : (slot : ℕ) (call : PendingCall) (came : OwnEvent)
+  pub in_noted : (slot : ℕ) (call : PendingCall) (came : NewEvent)
       → AreNumbers new.numbering (own.next_in notes.numbering slot) → new.turned_away ≡ old.turned_away
-      → new.log.items ≡ old.log.items ++ (came, None) ∷ [] → AreNoted new (own.numbered notes slot call came)
-  in_noted slot call came numbers away log = record {
+      → new.log.items ≡ old.log.items ++ (came.event, None) ∷ [] → new.uuid ≡ option_or came.opens old.uuid → NamesApp call came
+      → AreNoted new (own.numbered notes slot call came.event)
+  in_noted slot call came numbers away log uuid names = record {
+    uuid = uuid ∙ ap (option_or came.opens) are.uuid ∙ sym (names notes);
     numbering = numbers;
     turned_away = λ cpu below. ap (λ (bs : List Bool). slice_get bs cpu) away ∙ are.turned_away cpu below;
-    log = log ∙ ap (λ (l : List own.Logged). l ++ (came, None) ∷ []) are.log;
+    log = log ∙ ap (λ (l : List own.Logged). l ++ (came.event, None) ∷ []) are.log;
   }
 
   pub event_noted : (came : OwnEvent) → new.numbering ≡ old.numbering → new.turned_away ≡ old.turned_away
-      → new.log.items ≡ old.log.items ++ (came, None) ∷ [] → AreNoted new (own.with_event notes came)
-  event_noted came numbers away log = record {
+      → new.log.items ≡ old.log.items ++ (came, None) ∷ [] → new.uuid ≡ old.uuid → AreNoted new (own.with_event notes came)
+  event_noted came numbers away log uuid = record {
+    uuid = uuid ∙ are.uuid;
     numbering = subst (λ (n : Numbering). AreNumbers n notes.numbering) (sym numbers) are.numbering;
     turned_away = λ cpu below. ap (λ (bs : List Bool). slice_get bs cpu) away ∙ are.turned_away cpu below;
     log = log ∙ ap (λ (l : List own.Logged). l ++ (came, None) ∷ []) are.log;
   }
 
   pub away_noted : (cpu : ℕ) → cpu < length old.turned_away → new.numbering ≡ old.numbering
-      → new.turned_away ≡ slice_set old.turned_away cpu true → new.log.items ≡ old.log.items → AreNoted new (with_away notes cpu)
-  away_noted cpu below numbers away log = record {
+      → new.turned_away ≡ slice_set old.turned_away cpu true → new.log.items ≡ old.log.items → new.uuid ≡ old.uuid
+      → AreNoted new (with_away notes cpu)
+  away_noted cpu below numbers away log uuid = record {
+    uuid = uuid ∙ are.uuid;
     numbering = subst (λ (n : Numbering). AreNumbers n notes.numbering) (sym numbers) are.numbering;
     turned_away = λ other under. ap (λ (bs : List Bool). slice_get bs other) away
         ∙ away_set old.turned_away notes.turned_away cpu below are.turned_away other under;
@@ -142,8 +149,9 @@ module _ (old new : Notes) (notes : own.Notes) (are : AreNoted old notes) where
   -- a processor goes out, which was turned away or not
   pub limit_noted : (cpu : ℕ) → cpu < 8 → cpu < length old.turned_away → slice_get old.turned_away cpu ≡ Some true
       → new.numbering ≡ old.numbering → new.turned_away ≡ slice_set old.turned_away cpu false
-      → new.log.items ≡ old.log.items ++ (Limited, Some reply.Limited) ∷ [] → AreNoted new (own.limit_noted notes cpu)
-  limit_noted cpu under below was numbers away log =
+      → new.log.items ≡ old.log.items ++ (Limited, Some reply.Limited) ∷ [] → new.uuid ≡ old.uuid
+      → AreNoted new (own.limit_noted notes cpu)
+  limit_noted cpu under below was numbers away log uuid =
       let is : is_away notes.turned_away cpu ≡ true = let both : Some (is_away notes.turned_away cpu) ≡ Some true =
       sym (are.turned_away cpu under) ∙ was in cc in
       let after : own.Notes = record notes {
@@ -151,6 +159,7 @@ module _ (old new : Notes) (notes : own.Notes) (are : AreNoted old notes) where
         log = notes.log ++ (Limited, Some reply.Limited) ∷ [];
       } in
       let now : AreNoted new after = record {
+        uuid = uuid ∙ are.uuid;
         numbering = subst (λ (n : Numbering). AreNumbers n notes.numbering) (sym numbers) are.numbering;
         turned_away = λ other beneath. ap (λ (bs : List Bool). slice_get bs other) away
             ∙ away_unset old.turned_away notes.turned_away cpu below are.turned_away other beneath;
@@ -185,13 +194,18 @@ module _ (old new : Notes) (notes : own.Notes) (are : AreNoted old notes) where
   away_so None number = refl
   away_so (Some told) number = refl
 
+  uuid_so : (told : Option OwnReply) (number : ℕ) → (option_map_or (own.with_reply number notes) told notes).uuid ≡ notes.uuid
+  uuid_so None number = refl
+  uuid_so (Some told) number = refl
+
   pub out_noted : (slot number : ℕ) (call : PendingCall) (cont : Cont (List ℕ)) → IsLeft slot call cont
       → (let woken = woken_as notes.numbering slot (wakes_as cont) in
       AreNumbers new.numbering (own.with_wake notes.numbering slot woken) → LogsReply number (told_by cont woken)
-      → new.turned_away ≡ old.turned_away → AreNoted new (own.exit_noted notes slot call number))
-  out_noted slot number call cont is numbers log away =
+      → new.turned_away ≡ old.turned_away → new.uuid ≡ old.uuid → AreNoted new (own.exit_noted notes slot call number))
+  out_noted slot number call cont is numbers log away uuid =
       let woken = woken_as notes.numbering slot (wakes_as cont) in
       let now : AreNoted new (left_noted notes slot number woken (told_by cont woken)) = record {
+        uuid = uuid ∙ are.uuid ∙ sym (uuid_so (told_by cont woken) number);
         numbering = numbers;
         turned_away = λ cpu below. ap (λ (bs : List Bool). slice_get bs cpu) away ∙ are.turned_away cpu below
             ∙ ap (λ (l : List ℕ). Some (is_away l cpu)) (sym (away_so (told_by cont woken) number));
@@ -201,11 +215,12 @@ module _ (old new : Notes) (notes : own.Notes) (are : AreNoted old notes) where
 
   pub finished_noted : (slot number : ℕ) (call : PendingCall) (told : OwnReply) → HasFinished slot call told
       → AreNumbers new.numbering (without_slot notes.numbering slot)
-      → new.log.items ≡ old.log.items ++ (Out number, Some told) ∷ [] → new.turned_away ≡ old.turned_away
+      → new.log.items ≡ old.log.items ++ (Out number, Some told) ∷ [] → new.turned_away ≡ old.turned_away → new.uuid ≡ old.uuid
       → AreNoted new (own.exit_noted notes slot call number)
-  finished_noted slot number call told is numbers log away =
+  finished_noted slot number call told is numbers log away uuid =
       let after : own.Notes = record (own.with_reply number notes told) { numbering = without_slot notes.numbering slot } in
       let now : AreNoted new after = record {
+        uuid = uuid ∙ are.uuid;
         numbering = numbers;
         turned_away = λ cpu below. ap (λ (bs : List Bool). slice_get bs cpu) away ∙ are.turned_away cpu below;
         log = log ∙ ap (λ (l : List own.Logged). l ++ (Out number, Some told) ∷ []) are.log;

@@ -1,5 +1,5 @@
 -- What is told of a session by its notes.
-use Rattle.std.proofs.Common.{◌≡◌, ℕ, List, [], ◌∷◌, ◌++◌, Option, Some, None, refl, ap, sym, ◌∙◌}
+use Rattle.std.proofs.Common.{◌≡◌, ℕ, List, [], ◌∷◌, ◌++◌, Option, Some, None, refl, ap, sym, subst, ◌∙◌}
 use Rattle.std.proofs.Math.Logic.{∥∥₁_elim}
 use Rattle.std.proofs.Props.{props}
 use Rattle.std.proofs.lemmas.List.Elements.{filter_map-append}
@@ -7,8 +7,10 @@ use Rattle.std.specs.Option.{option_to_list}
 use Rattle.std.specs.Prelude.{IfOk, Result, Ok, Err}
 use Rattle.base.specs.declared.no_memory.NoMemory.{NoMemory}
 use Rattle.event_journal.specs.declared.event.Event.{Event}
+use Rattle.isolation.specs.Logs.{IsLogOf}
 use Rattle.isolation.specs.Noted.{AreNoted}
 use Rattle.isolation.specs.declared.notes.Notes.{Notes}
+use Rattle.isolation.specs.declared.session_log.OwnLog.{OwnLog}
 use Rattle.isolation.proofs.GoneOut.{logged_set}
 use Rattle.kernel_model.specs.Application.{Application, Booted}
 use Rattle.own_model.proofs.WholeHistories.{answered_as_alone}
@@ -21,6 +23,9 @@ use Rattle.own_model.specs.declared.own_reply.OwnReply.{OwnReply}
 log_prop : (xs ys : List own.Logged) → IsProp (xs ≡ ys)
 log_prop xs ys = Prim.hlevel (props, logged_set)
 
+uuid_prop : (one other : Option (List ℕ)) → IsProp (one ≡ other)
+uuid_prop one other = Prim.hlevel props
+
 -- what is told of bare notes is the definition's log
 pub log_so : (code : Notes) (boot : Booted) (events : List Event) (session : ℕ) (told : List own.Logged)
     → ∥ AreNoted code (own.noted boot events code.session) ∥₁ → code.session ≡ session
@@ -30,15 +35,21 @@ log_so code boot events session told noted same tells =
     tells (own.noted boot events code.session) are
     ∙ ap (λ (n : ℕ). (own.noted boot events n).log) same)
 
+-- and so is the UUID
+pub uuid_so : (code : Notes) (boot : Booted) (events : List Event) (session : ℕ) (told : Option (List ℕ))
+    → ∥ AreNoted code (own.noted boot events code.session) ∥₁ → code.session ≡ session
+    → ((notes : own.Notes) → AreNoted code notes → told ≡ notes.uuid) → told ≡ (own.noted boot events session).uuid
+uuid_so code boot events session told noted same tells =
+    ∥∥₁_elim noted (uuid_prop told (own.noted boot events session).uuid) (λ (are : AreNoted code (own.noted boot events code.session)).
+    tells (own.noted boot events code.session) are
+    ∙ ap (λ (n : ℕ). (own.noted boot events n).uuid) same)
+
 -- a log of events from a boot is one of the same events from the same boot
-pub log_still : {T : Type 0} (result : Result T NoMemory) (items : T → List own.Logged) (at boot : Booted)
-    (done events : List Event) (session : ℕ) → at ≡ boot → done ≡ events
-    → IfOk result (λ x. items x ≡ (own.noted at done session).log)
-    → IfOk result (λ x. items x ≡ (own.noted boot events session).log)
-log_still (Ok x) items at boot done events session same all is =
-    is ∙ ap (λ (b : Booted). (own.noted b done session).log) same
-    ∙ ap (λ (h : List Event). (own.noted boot h session).log) all
-log_still (Err error) items at boot done events session same all is = tt
+pub log_still : (result : Result OwnLog NoMemory) (at boot : Booted) (done events : List Event) (session : ℕ) → at ≡ boot → done ≡ events
+    → IfOk result (IsLogOf at done session) → IfOk result (IsLogOf boot events session)
+log_still (Ok log) at boot done events session same all is =
+    subst (λ (h : List Event). IsLogOf boot h session log) all (subst (λ (b : Booted). IsLogOf b done session log) same is)
+log_still (Err error) at boot done events session same all is = tt
 
 -- the replies are those of the machine of one session
 pub alone_so : {T : Type 0} (result : Result T NoMemory) (items : T → List OwnReply) (log : List own.Logged) (boot : Booted)

@@ -4,19 +4,20 @@ use Rattle.std.specs.Prelude.{◌&&◌, if◌then◌else◌, is_some}
 use Rattle.std.proofs.lemmas.Option.{option_and_then_some}
 use Rattle.std.specs.Option.{option_map, option_map_or}
 use Rattle.base.specs.NumberMap.{get}
-use Rattle.isolation.specs.Arriving.{event_by, event_for, input_by}
+use Rattle.isolation.specs.Arriving.{NamesApp, event_by, event_for, input_by, opens_by}
 use Rattle.job_model.specs.Beginning.{OfImage, OfRelation, Program, begun_job}
 use Rattle.job_model.specs.declared.call_kind.CallKind.TheVariants as kind
 use Rattle.job_model.specs.declared.entry_point.EntryPoint.{EntryPoint}
 use Rattle.job_model.specs.declared.entry_point.EntryPoint.TheVariants as point
 use Rattle.job_model.specs.Job.{idle_job}
 use Rattle.job_model.specs.Owner.{owner_of}
-use Rattle.kernel_model.specs.Application.{Application, BuiltIn}
+use Rattle.kernel_model.specs.Application.{Application, BuiltIn, uuid_of}
 use Rattle.kernel_model.specs.Application as application
 use Rattle.kernel_model.specs.Begin.{Begun, begins_on, closing_points, opens_kept, opens_made, opens_new, awaited_number}
 use Rattle.kernel_model.specs.Instances.{is_held, program_on}
-use Rattle.kernel_model.specs.Kernel.{Instance}
-use Rattle.kernel_model.specs.NewCall.{NewCall, about_open, about_session, beginner, closes, invokes, named_session, no_copies, opener, opens, opens_or_waits, runs_in, settles, shared_by, waits_in, with_session}
+use Rattle.kernel_model.proofs.Parts.{if-both, map_or-both}
+use Rattle.kernel_model.specs.Kernel.{Instance, PendingCall}
+use Rattle.kernel_model.specs.NewCall.{NewCall, about_open, about_session, beginner, closes, invokes, named_session, no_copies, open_waits, opener, opens, opens_or_waits, runs_in, settles, shared_by, waits_in, with_session}
 use Rattle.kernel_model.specs.Codes.{bad_parameters}
 use Rattle.kernel_model.specs.Decision.{Taken}
 use Rattle.kernel_model.specs.Sessions.{opened_by}
@@ -27,7 +28,7 @@ use Rattle.new_calls.specs.declared.halt.Settled.{Settled}
 use Rattle.new_calls.specs.declared.halt.Settled.TheVariants as settled
 use Rattle.new_calls.specs.declared.plan.Plan.{Plan}
 use Rattle.new_calls.specs.declared.plan.Plan.TheVariants as plan
-use Rattle.own_model.specs.Own.{event_of}
+use Rattle.own_model.specs.Own.{Notes, event_of, uuid_by}
 use Rattle.own_model.specs.Parameters.{params_of}
 use Rattle.own_model.specs.declared.own_event.OwnEvent.{OwnEvent}
 use Rattle.own_model.specs.declared.own_event.OwnEvent.TheVariants as event
@@ -243,3 +244,39 @@ plan_event_is session c (plan.Closes in_session app) can =
 plan_event_is session c plan.Cancels can = some_both (c.head.session == session) (Some event.Cancel)
 plan_event_is session c (plan.KeepsBuffer cookie buffer) can = none_both (0 == session) true
 plan_event_is session c (plan.DropsBuffer cookie) can = none_both (0 == session) true
+
+-- ---- the application of which it opens a session
+
+abbrev IsOf : Application → Taken → Type 0
+IsOf app taken = taken.call.uuid ≡ Some (uuid_of app)
+
+module _ (c : NewCall) (app : Application) (login : Login) (copies : Copies) where
+  pub open_is_of : IsOf app (opens_or_waits c (asked_by app login) app copies)
+  open_is_of =
+      map_or-both (IsOf app)
+      (λ (kept : ℕ × Instance). if is_held kept.1 then open_waits c (asked_by app login) app copies kept else opens c (asked_by app login) app copies)
+      (shared_by c app) (opens c (asked_by app login) app copies)
+      (λ kept. if-both (IsOf app) (is_held kept.1) (open_waits c (asked_by app login) app copies kept) (opens c (asked_by app login) app copies) refl refl)
+      refl
+
+-- with this event the session's application is this, and so with one that is the same
+named : (call : PendingCall) (notes : Notes) (uuid : Option (List ℕ)) (one event : OwnEvent) → Some one ≡ Some event
+    → uuid_by one call notes ≡ uuid → uuid_by event call notes ≡ uuid
+named call notes uuid one event is names = let same : one ≡ event = cc in ap (λ (e : OwnEvent). uuid_by e call notes) (sym same) ∙ names
+
+pub plan_names : (c : NewCall) (plan : Plan) (func : ℕ) (area : Bool) (event : OwnEvent) → event_by func area plan ≡ Some event
+    → NamesApp (taken_of c plan).call (record { event = event; opens = opens_by plan })
+plan_names c (plan.Settles (settled.Call code)) func area came is = absurd cc
+plan_names c (plan.Settles (settled.Open app login code)) func area came is = absurd cc
+plan_names c (plan.Settles (settled.Invoke code)) func area came is =
+    λ notes. named (taken_of c (plan.Settles (settled.Invoke code))).call notes notes.uuid (event.Invoke func (input_by code) area) came is refl
+plan_names c (plan.Opens app login copies) func area came is =
+    λ notes. named (taken_of c (plan.Opens app login copies)).call notes (Some (uuid_of (application_of app)))
+    (event.Open copies.params login area) came is (open_is_of c (application_of app) login (copies_in copies))
+plan_names c (plan.Invokes in_session app copies) func area came is =
+    λ notes. named (taken_of c (plan.Invokes in_session app copies)).call notes notes.uuid (event.Invoke func (input.Copied copies.params) area) came is refl
+plan_names c (plan.Closes in_session app) func area came is =
+    λ notes. named (taken_of c (plan.Closes in_session app)).call notes notes.uuid (event.Close area) came is refl
+plan_names c plan.Cancels func area came is = λ notes. named (taken_of c plan.Cancels).call notes notes.uuid event.Cancel came is refl
+plan_names c (plan.KeepsBuffer cookie buffer) func area came is = absurd cc
+plan_names c (plan.DropsBuffer cookie) func area came is = absurd cc

@@ -1,12 +1,14 @@
 -- What an entry is for a session, by what the kernel decides of it.
 use Rattle.std.specs.Prelude.{◌≡◌, ℕ, ◌==◌, ◌&&◌, not, Bool, true, false, if◌then◌else◌, List, [], Option, Some, None, is_some, slice_get}
 use Rattle.std.specs.Global.{Box}
+use Rattle.std.specs.Option.{option_or}
 use Rattle.isolation.specs.declared.entering.Arrival.{Arrival}
 use Rattle.isolation.specs.declared.entering.Arrival.TheVariants as arrival
+use Rattle.isolation.specs.declared.entering.NewEvent.{NewEvent}
 use Rattle.isolation.specs.declared.notes.Back.{Back}
 use Rattle.job_model.specs.declared.call_kind.CallKind.{CallKind}
 use Rattle.job_model.specs.declared.call_kind.CallKind.TheVariants as kind
-use Rattle.kernel_model.specs.Application.{Booted}
+use Rattle.kernel_model.specs.Application.{Booted, uuid_of}
 use Rattle.kernel_model.specs.Argument.{reg, thread_in}
 use Rattle.kernel_model.specs.Codes.{target_dead}
 use Rattle.kernel_model.specs.Decision.{Decision, Answers, Takes}
@@ -17,6 +19,7 @@ use Rattle.kernel_model.specs.Leaving.{Leaving, Interrupted, leaving_of}
 use Rattle.kernel_state.specs.declared.carried.Carried.{Carried}
 use Rattle.kernel_state.specs.declared.carried.Carried.TheVariants.{Nothing, Resting, Running}
 use Rattle.kernel_state.specs.declared.cancellation.Cancellation.{Cancellation}
+use Rattle.kernel_state.specs.Setup.{application_of}
 use Rattle.kernel_state.specs.declared.parts.Parts.{Parts}
 use Rattle.new_calls.specs.declared.decided.Decided.{Decided as NewDecided}
 use Rattle.new_calls.specs.declared.decided.Decided.TheVariants as decided
@@ -25,7 +28,7 @@ use Rattle.new_calls.specs.declared.plan.Plan.{Plan}
 use Rattle.new_calls.specs.declared.plan.Plan.TheVariants as plan
 use Rattle.ns_ram.specs.Reader.{Reader, over_lane, reading}
 use Rattle.ns_ram.specs.declared.read.Read.{Read}
-use Rattle.own_model.specs.Own.{event_of, input_of}
+use Rattle.own_model.specs.Own.{Notes, event_of, input_of, uuid_by}
 use Rattle.own_model.specs.declared.own_event.BackInput.{BackInput}
 use Rattle.own_model.specs.declared.own_event.OwnEvent.{OwnEvent}
 use Rattle.own_model.specs.declared.own_event.OwnEvent.TheVariants as event
@@ -55,15 +58,20 @@ event_by func area plan.Cancels = Some event.Cancel
 event_by func area (plan.KeepsBuffer cookie buffer) = None
 event_by func area (plan.DropsBuffer cookie) = None
 
--- by the event that it is, if it is one
-abbrev pub arrival_of : Option OwnEvent → Arrival
-arrival_of None = arrival.Nothing
-arrival_of (Some came) = arrival.New came
+-- the UUID of the application of which a new call of this plan opens a session
+abbrev pub opens_by : Plan → Option (List ℕ)
+opens_by (plan.Opens app login copies) = Some (uuid_of (application_of app))
+opens_by _ = None
+
+-- by the application that it opens, and the event that it is, if it is one
+abbrev pub arrival_of : Option (List ℕ) → Option OwnEvent → Arrival
+arrival_of opens None = arrival.Nothing
+arrival_of opens (Some event) = arrival.New (record { event = event; opens = opens })
 
 -- what a new call is, by what was decided of it
 abbrev pub arrival_by : NewDecided → Arrival
 arrival_by (decided.Answers answer) = arrival.Nothing
-arrival_by (decided.Takes entered plan) = arrival_of (event_by entered.head.func (is_some entered.area) plan)
+arrival_by (decided.Takes entered plan) = arrival_of (opens_by plan) (event_by entered.head.func (is_some entered.area) plan)
 
 -- an open counts only where it runs at once
 abbrev pub is_at_once : CallKind → CallPhase → Bool
@@ -79,6 +87,15 @@ event_for session call came = if (call.session == session) && is_at_once call.ki
 pub record IsNew (kernel : Kernel) (slot : ℕ) (call : PendingCall) (came : Option OwnEvent) : Type 0 where
   pub free : slice_get kernel.slots slot ≡ Some Free
   pub event : (session : ℕ) → event_of session call ≡ event_for session call came
+
+-- once the call has come in, the session's application is the one that it opens, or else that of before
+abbrev pub NamesApp : PendingCall → NewEvent → Type 0
+NamesApp call came = (notes : Notes) → uuid_by came.event call notes ≡ option_or came.opens notes.uuid
+
+-- a call has come into a free slot, and is this event for its session
+pub record IsNewEvent (kernel : Kernel) (slot : ℕ) (call : PendingCall) (came : NewEvent) : Type 0 where
+  pub is_new : IsNew kernel slot call (Some came.event)
+  pub names : NamesApp call came
 
 -- ---- calls that come back
 
@@ -107,7 +124,7 @@ pub record IsBack (kernel : Kernel) (regs : List ℕ) (reads : List Read) (slot 
 -- the slot works on this call
 abbrev pub IsArrivalIn : Kernel → List ℕ → List Read → ℕ → PendingCall → Arrival → Type 0
 IsArrivalIn kernel regs reads slot call arrival.Nothing = IsNew kernel slot call None
-IsArrivalIn kernel regs reads slot call (arrival.New came) = IsNew kernel slot call (Some came)
+IsArrivalIn kernel regs reads slot call (arrival.New came) = IsNewEvent kernel slot call came
 IsArrivalIn kernel regs reads slot call (arrival.Back back) = IsBack kernel regs reads slot call back
 
 -- by what was decided: of an answer nothing is said

@@ -1,5 +1,6 @@
 pub mod Arriving
 pub mod Journals
+pub mod Logs
 pub mod Noted
 pub mod Replaying
 pub mod Telling

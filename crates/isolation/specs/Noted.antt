@@ -42,8 +42,9 @@ without_slot numbers slot =
 abbrev pub is_away : List ℕ → ℕ → Bool
 is_away away cpu = list_any (λ one. one == cpu) away
 
--- the notes are the definitions'. Of the application's UUID nothing is kept
+-- the notes are the definitions'
 pub record AreNoted (code : Notes) (notes : own.Notes) : Type 0 where
+  pub uuid : code.uuid ≡ notes.uuid
   pub numbering : AreNumbers code.numbering notes.numbering
   pub turned_away : (cpu : ℕ) → cpu < 8 → slice_get code.turned_away cpu ≡ Some (is_away notes.turned_away cpu)
   pub log : code.log.items ≡ notes.log

@@ -13,12 +13,11 @@ ghost use Rattle.ns_ram.specs.declared.read.Read.{Read as AnyRead};
 ghost use Rattle.own_model.specs.Own as own;
 ghost use Rattle.session_table.specs.declared.session.Session.{Session as AnySession};
 
-use crate::entering::{Arrival, is_of_session};
+use crate::entering::{Arrival, NewEvent, is_of_session};
 use crate::notes::{Back, Notes};
 use base::NoMemory;
 use kernel_entry::Visitor;
 use kernel_state::{Core, Errand, Processor, Tables, Work};
-use own_model::OwnEvent;
 use smc_abi::{Answer, ETHREAD_LIMIT};
 
 /// What a processor that is inside came for.
@@ -75,7 +74,7 @@ fn has_come_answered(notes: &mut Notes, tables: &Tables, visitor: Visitor, answe
 }
 
 /// Notes a new call that has come into a slot.
-fn has_come_new(notes: &mut Notes, slot: u8, came: OwnEvent, work: &Work) -> Result<(), NoMemory>
+fn has_come_new(notes: &mut Notes, slot: u8, came: NewEvent, work: &Work) -> Result<(), NoMemory>
     requires slot { slot < 16 }
     requires few { HasNumbersLeft notes.old }
     ensures noted { (kernel next : Kernel) (visitor : AnyVisitor) (reads : List AnyRead)

@@ -1,6 +1,6 @@
 //! What an entry is for a session, as far as it can be told before it.
 ghost use Rattle.std.specs.Prelude.{◌≡◌, IfOk};
-ghost use Rattle.isolation.specs.Arriving.{IsArrival, IsArrivalFrom, IsBackIn, arrival_by, back_as, counts, event_by, input_by};
+ghost use Rattle.isolation.specs.Arriving.{IsArrival, IsArrivalFrom, IsBackIn, arrival_by, back_as, counts, event_by, input_by, opens_by};
 ghost use Rattle.kernel_entry.specs.Resuming.{IsSuspended};
 ghost use Rattle.kernel_model.specs.Kernel.{Kernel};
 ghost use Rattle.kernel_model.specs.NewCall.{new_call};
@@ -22,6 +22,15 @@ use rpc_cont::{Cont, Phase, ResumeInput};
 use smc_abi::{Call, Regs, decode_call};
 use std::alloc::Global;
 use ta_params::codes::TEE_ERROR_TARGET_DEAD;
+use uuid::Uuid;
+
+/// A new call, as an event of its session.
+#[derive(Drop)]
+pub(crate) struct NewEvent {
+    pub(crate) event: OwnEvent,
+    /// Where it opens the session: the UUID of the application.
+    pub(crate) opens: Option<Uuid>,
+}
 
 /// What an entry is for the session of its call.
 #[derive(Drop)]
@@ -29,7 +38,7 @@ pub(crate) enum Arrival {
     /// Nothing: its answer is fixed, or its call is of no session.
     Nothing,
     /// A new call, which is this.
-    New(OwnEvent),
+    New(NewEvent),
     /// A call comes back.
     Back(Back),
 }
@@ -74,6 +83,21 @@ fn event_by(func: u32, area: bool, plan: Plan) -> Option<OwnEvent>
     }
 }
 
+/// The UUID of the application of which a new call opens a session, by what its slot is taken for.
+fn opens_by(plan: &Plan) -> Option<Uuid>
+    ensures { result ≡ opens_by plan.now }
+{
+    match plan {
+        Plan::Opens { app, .. } => Some(app.uuid()),
+        Plan::Settles(_)
+        | Plan::Invokes { .. }
+        | Plan::Closes { .. }
+        | Plan::Cancels
+        | Plan::KeepsBuffer { .. }
+        | Plan::DropsBuffer { .. } => None,
+    }
+}
+
 /// What a new call is, by what was decided of it.
 fn arrival_by(decided: Decided) -> Arrival
     ensures { result ≡ arrival_by decided }
@@ -81,8 +105,9 @@ fn arrival_by(decided: Decided) -> Arrival
     match decided {
         Decided::Answers(_) => Arrival::Nothing,
         Decided::Takes(entered, plan) => {
+            let opens = opens_by(&plan);
             match event_by(entered.head.func, entered.area.is_some(), plan) {
-                Some(came) => Arrival::New(came),
+                Some(event) => Arrival::New(NewEvent { event, opens }),
                 None => Arrival::Nothing,
             }
         }

@@ -4,8 +4,9 @@
 //! its entry read, and lets them out again. What an entry and an exit are for the session is read off that core, as the
 //! definitions of `own_model` read it off the kernel, and noted.
 //!
-//! `notes` has what is noted, `entering` what is seen of an entry and `coming` what is noted of one, `leaving` what is told
-//! of a call that goes out and `going` what is noted of that, and `replay` the core on which the journal is done again.
+//! `session_log` has what is read off, `notes` what is noted, `entering` what is seen of an entry and `coming` what is noted of
+//! one, `leaving` what is told of a call that goes out and `going` what is noted of that, and `replay` the core on which the
+//! journal is done again.
 #![tactic(auto)]
 
 mod coming;
@@ -17,7 +18,9 @@ mod notes;
 mod numbering;
 mod own;
 mod replay;
+mod session_log;
 
 pub use base::NoMemory;
-pub use own::{own_events, own_replies};
+pub use own::{own_events, own_log, own_replies};
 pub use own_model::{BackInput, OwnEvent, OwnInput, OwnReply};
+pub use session_log::{Logged, OwnLog};

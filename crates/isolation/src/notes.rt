@@ -1,24 +1,25 @@
 //! What is noted of a session as the journal is done again.
 ghost use Rattle.std.specs.Prelude.{◌≡◌, ◌<◌, ◌∷◌, ◌++◌, [], IfOk, Some, None};
 ghost use Rattle.base.specs.NumberMap.{get};
+ghost use Rattle.isolation.specs.Arriving.{NamesApp};
 ghost use Rattle.isolation.specs.Noted.{AreNoted, HasFinished, HasNumbersLeft, IsLeft, with_away, with_back, with_told, woken_as};
 ghost use Rattle.isolation.specs.Telling.{wakes_as};
 ghost use Rattle.kernel_model.specs.Kernel.{PendingCall};
 ghost use Rattle.own_model.specs.Own as own;
 
+use crate::entering::NewEvent;
 use crate::leaving::{reply_of, wakes};
 use crate::numbering::Numbering;
+use crate::session_log::Logged;
 use base::NoMemory;
 use frame_pool::Pages;
 use own_model::{BackInput, OwnEvent, OwnReply};
 use rpc_cont::Cont;
 use std::alloc::Global;
+use uuid::Uuid;
 
 /// The most processors that a core may have.
 const MOST_CPUS: usize = 8;
-
-/// An event of a session, with its reply, if it has one.
-pub(crate) type Logged = (OwnEvent, Option<OwnReply>);
 
 /// What a call of the session comes back with.
 #[derive(Drop)]
@@ -33,6 +34,8 @@ pub(crate) struct Back {
 #[derive(Drop)]
 pub(crate) struct Notes {
     pub(crate) session: u32,
+    /// The UUID of its application, once its open has come in.
+    uuid: Option<Uuid>,
     numbering: Numbering,
     /// By its number, whether a processor is inside whose new call, of the session's client, found no slot while the
     /// session was there.
@@ -48,18 +51,20 @@ impl Notes {
     {
         Notes {
             session,
+            uuid: None,
             numbering: Numbering::new(),
             turned_away: [false; MOST_CPUS],
             log: Vec::new(alloc),
         }
     }
 
-    /// What has happened to the session, and what it was answered.
-    pub(crate) fn into_log(self) -> Vec<Logged>
-        ensures { (notes : own.Notes) → AreNoted self notes → result.items ≡ notes.log }
+    /// The UUID of the session's application, and what has happened to the session and what it was answered.
+    pub(crate) fn into_log(self) -> (Option<Uuid>, Vec<Logged>)
+        ensures uuid { (notes : own.Notes) → AreNoted self notes → result.0 ≡ notes.uuid }
+        ensures log { (notes : own.Notes) → AreNoted self notes → result.1.items ≡ notes.log }
     {
-        let Notes { log, .. } = self;
-        log
+        let Notes { uuid, log, .. } = self;
+        (uuid, log)
     }
 
     /// The number of the call in this slot, if it is one of the session.
@@ -79,14 +84,16 @@ impl Notes {
     }
 
     /// A call of the session comes into a slot.
-    pub(crate) fn comes_in(&mut self, slot: u8, came: OwnEvent) -> Result<(), NoMemory>
+    pub(crate) fn comes_in(&mut self, slot: u8, came: NewEvent) -> Result<(), NoMemory>
         requires slot { slot < 16 }
         requires few { HasNumbersLeft self.old }
-        ensures noted { (notes : own.Notes) (call : PendingCall) → AreNoted self.old notes
-            → IfOk result (λ _. AreNoted self.new (own.numbered notes slot call came)) }
+        ensures noted { (notes : own.Notes) (call : PendingCall) → AreNoted self.old notes → NamesApp call came
+            → IfOk result (λ _. AreNoted self.new (own.numbered notes slot call came.event)) }
         ensures session { self.new.session ≡ self.old.session }
     {
-        self.lists(came, None)?;
+        let NewEvent { event, opens } = came;
+        self.lists(event, None)?;
+        self.uuid = opens.or(self.uuid);
         self.numbering.next_in(slot);
         Ok(())
     }

@@ -2,34 +2,36 @@
 ghost use Rattle.std.specs.Prelude.{◌≡◌, ◌++◌, IfOk, Some};
 ghost use Rattle.std.specs.Option.{option_to_list};
 ghost use Rattle.isolation.specs.Journals.{IsJournal};
+ghost use Rattle.isolation.specs.Logs.{IsLogOf};
 ghost use Rattle.kernel_model.specs.Application.{Application, booted};
 ghost use Rattle.native_tas.specs.Table.{entries};
 ghost use Rattle.own_model.specs.Isolation.{IsSessionOf, steps_in};
-ghost use Rattle.own_model.specs.Own.{events_in, noted, own_events, own_replies, replies_in};
+ghost use Rattle.own_model.specs.Own.{events_in, own_events, own_replies, replies_in};
 ghost use Rattle.own_model.specs.Solo.{solo_replies, unopened};
 ghost use Rattle.solo.specs.Feeding.{CanBeFed};
 
-use crate::copies::copy_boot;
-use crate::notes::Logged;
 use crate::replay::Replay;
+use crate::session_log::{Logged, OwnLog};
 use base::NoMemory;
 use event_journal::Journal;
+use journal_replay::copy_boot;
 use native_tas::Natives;
 use own_model::{OwnEvent, OwnReply};
 use std::alloc::Global;
 use ta_isa::Boot;
 
-/// What has happened to a session, each event beside its reply.
-fn own_log(
+/// The application of a session, and its events with their replies, by the journal of a core of this boot that is legal, whose
+/// entries have read at most 2^28 bytes in all, and each of them the same byte wherever its reads share an address.
+/// `NoMemory` where memory is wanting.
+pub fn own_log(
     alloc: Global,
     boot: &Boot,
     natives: &Natives,
     journal: &Journal,
     session: u32,
-) -> Result<Vec<Logged>, NoMemory>
+) -> Result<OwnLog, NoMemory>
     requires { IsJournal (booted boot.now (entries natives.now)) journal.now.events }
-    ensures { IfOk result (λ log. log.items
-        ≡ (noted (booted boot.now (entries natives.now)) journal.now.events session).log) }
+    ensures { IfOk result (IsLogOf (booted boot.now (entries natives.now)) journal.now.events session) }
 {
     let mut replay = Replay::new(alloc, copy_boot(alloc, boot)?, natives)?;
     replay.log_of(alloc, journal.as_slice(), session)
@@ -102,7 +104,7 @@ pub fn own_events(
     // for the proof: no slice has 2^64 elements, so that the steps of all entries fit 128 bits
     let _events = journal.as_slice();
     let log = own_log(alloc, boot, natives, journal, session)?;
-    events_in(alloc, log)
+    events_in(alloc, log.entries)
 }
 
 /// What a session was answered, by the same. A session of an application whose sessions share no instance was answered
@@ -123,5 +125,5 @@ pub fn own_replies(
         (own_events (booted boot.now (entries natives.now)) journal.now.events session) ≡ Some replies.items) }
 {
     let log = own_log(alloc, boot, natives, journal, session)?;
-    replies_in(alloc, log)
+    replies_in(alloc, log.entries)
 }

@@ -1,29 +1,35 @@
 //! A core on which a journal is done again.
-ghost use Rattle.std.specs.Prelude.{◌≡◌, [], IfOk, IsTrue, None, replicate};
+ghost use Rattle.std.specs.Prelude.{◌≡◌, [], IfOk, None, replicate};
+ghost use Rattle.std.specs.Option.{option_and_then, option_map};
 ghost use Rattle.event_journal.specs.declared.event.Event.TheVariants.{Entry, Exit};
 ghost use Rattle.isolation.specs.Journals.{IsJournal};
+ghost use Rattle.isolation.specs.Logs.{IsLogOf};
 ghost use Rattle.isolation.specs.Noted.{HasNumbersLeft};
 ghost use Rattle.isolation.specs.Replaying.{CanGoOn, CanGoOut, HasDone, HasGoneOn, HasNoted};
+ghost use Rattle.journal_replay.specs.Booting.{IsApart};
 ghost use Rattle.kernel_model.specs.Application.{booted};
+ghost use Rattle.kernel_model.specs.Instances.{app_of};
 ghost use Rattle.kernel_state.specs.Booting.{IsWithinLimits};
 ghost use Rattle.kernel_state.specs.Meaning.{booted_of};
+ghost use Rattle.kernel_state.specs.Setup.{application_of};
 ghost use Rattle.native_tas.specs.Table.{entries};
-ghost use Rattle.ns_ram.specs.Reads.{HoldsRead, HoldsReads};
-ghost use Rattle.own_model.specs.Own.{noted};
 ghost use Rattle.smc_abi.specs.declared.regs.Regs.{Regs as AnyRegs};
 
 use crate::coming::has_come;
 use crate::entering::arrives;
 use crate::going::goes_out;
-use crate::notes::{Logged, Notes};
+use crate::notes::Notes;
+use crate::session_log::OwnLog;
 use base::NoMemory;
 use event_journal::Event;
+use journal_replay::{core_of, lay};
 use kernel_entry::{Visitor, enter};
-use kernel_state::{Core, EnterRefusal, Work};
+use kernel_state::{Application, Core, EnterRefusal, Work};
 use native_tas::Natives;
-use ns_ram::{Lane, Read, Reads, in_ram};
+use ns_ram::{Lane, Reads};
 use std::alloc::Global;
 use ta_isa::Boot;
+use uuid::Uuid;
 
 /// A core on which a journal is done again.
 #[derive(Drop)]
@@ -46,60 +52,16 @@ fn no_works(alloc: Global, cpus: u8) -> Result<Vec<Option<Work>>, NoMemory>
     Ok(works)
 }
 
-/// Gives the lane the bytes of a read, where they lie in RAM.
-fn put(lane: &mut Lane, read: &Read) {
-    let bytes = read.bytes.as_slice();
-    if in_ram(read.addr, bytes.len() as u64) {
-        lane.write(read.addr, bytes);
-    }
-}
-
-/// The lane has the bytes of a read.
-fn holds(lane: &Lane, read: &Read) -> bool
-    ensures { IsTrue result → HoldsRead lane.now read.now }
-{
-    let bytes = read.bytes.as_slice();
-    let len = bytes.len() as u64;
-    in_ram(read.addr, len) && lane.at(read.addr, len) == bytes
-}
-
-/// The lane has the bytes of each read.
-fn holds_all(lane: &Lane, reads: &[Read]) -> bool
-    ensures { IsTrue result → HoldsReads lane.now reads.now }
-{
-    for read in reads {
-        if !holds(lane, read) {
-            return false;
-        }
-    }
-    true
-}
-
-/// Gives the lane the bytes of these reads.
-fn hold(lane: &mut Lane, reads: &[Read]) -> Result<(), NoMemory>
-    ensures { IfOk result (λ _. HoldsReads lane.new reads.now) }
-{
-    for read in reads {
-        put(lane, read);
-    }
-    if holds_all(lane, reads) {
-        Ok(())
-    } else {
-        Err(NoMemory)
-    }
-}
-
 impl Replay {
     /// A core where nothing has happened.
     pub(crate) fn new(alloc: Global, boot: Boot, natives: &Natives) -> Result<Replay, NoMemory>
-        requires { IsWithinLimits boot }
+        requires limits { IsWithinLimits boot }
+        requires apart { IsApart boot (entries natives.now) }
         ensures { IfOk result (HasDone (booted boot (entries natives.now)) []) }
     {
         let works = no_works(alloc, boot.cpus)?;
         let lane = Lane::new(alloc)?;
-        let Ok(core) = Core::boot(alloc, boot, natives) else {
-            return Err(NoMemory);
-        };
+        let core = core_of(alloc, boot, natives)?;
         Ok(Replay { core, works, lane })
     }
 
@@ -121,21 +83,32 @@ impl Replay {
         Ok(())
     }
 
-    /// What happens to a session as the events of a journal are done again on a core where nothing has happened, each
-    /// beside its reply.
+    /// The application of this UUID, if there is one.
+    fn app_of(&self, uuid: Option<Uuid>) -> Result<Option<Application>, NoMemory>
+        ensures { IfOk result (λ app. option_and_then (app_of (booted_of self.now.core)) uuid ≡ option_map application_of app) }
+    {
+        match uuid {
+            Some(uuid) => self.core.parts.setup.application(&uuid),
+            None => Ok(None),
+        }
+    }
+
+    /// What happens to a session as the events of a journal are done again on a core where nothing has happened.
     pub(crate) fn log_of(
         &mut self,
         alloc: Global,
         events: &[Event],
         session: u32,
-    ) -> Result<Vec<Logged>, NoMemory>
+    ) -> Result<OwnLog, NoMemory>
         requires journal { IsJournal (booted_of self.old.core) events.now }
         requires begun { HasDone (booted_of self.old.core) [] self.old }
-        ensures { IfOk result (λ log. log.items ≡ (noted (booted_of self.old.core) events.now session).log) }
+        ensures { IfOk result (IsLogOf (booted_of self.old.core) events.now session) }
     {
         let mut notes = Notes::new(alloc, session);
         self.again_from_boot(alloc, events, &mut notes)?;
-        Ok(notes.into_log())
+        let (uuid, entries) = notes.into_log();
+        let app = self.app_of(uuid)?;
+        Ok(OwnLog { app, entries })
     }
 
     /// Does an event again, and notes it.
@@ -176,7 +149,7 @@ impl Replay {
         ensures noted { HasGoneOn self.old self.new notes.old notes.new (Entry visitor.cpu visitor.regs visitor.steps reads.now) result }
         ensures session { notes.new.session ≡ notes.old.session }
     {
-        hold(&mut self.lane, reads.as_slice())?;
+        lay(&mut self.lane, reads.as_slice());
         let arrival = arrives(alloc, &self.core, &visitor.regs, &self.lane)?;
         let work = match enter(alloc, &mut self.core, visitor, &self.lane) {
             Ok(work) => work,

@@ -10,7 +10,7 @@ returns-then-is_of_session-clause-noted c kernel next visitor reads has before a
     subst (λ (n : Notes). IfOk c.comes_in.result (λ _. AreNoted c.comes_in.new.self n))
     (new_counts c.args.notes.now.session kernel next visitor reads c.args.work.now c.args.slot before c.args.came has
     (sym c.is_of_session.ensures ∙ c.if-is_of_session.true))
-    (c.comes_in.ensures.noted before has.call are)
+    (c.comes_in.ensures.noted before has.call are has.is.names)
 
 pub returns-else-is_of_session-clause-noted : goal.returns-else-is_of_session-clause-noted
 returns-else-is_of_session-clause-noted c kernel next visitor reads has before are =

@@ -9,5 +9,5 @@ use Rattle.isolation.proofs.own.own_events.Goals as goal
 pub returns-clause-feeds : goal.returns-clause-feeds
 returns-clause-feeds g c app is =
     fed_so c.events_in.result (λ events. events.items) _ (booted c.args.boot.now (entries c.args.natives.now)) c.args.journal.now.events
-    c.args.session app c.in_ok-log.ensures is c.requires.few
+    c.args.session app c.in_ok-log.ensures.entries is c.requires.few
     (subst (λ (events : List Event). length events < 2 ^ 64) c.as_slice-events.ensures c.as_slice-events.type_inv.0) c.events_in.ensures

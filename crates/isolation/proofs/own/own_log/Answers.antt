@@ -1,8 +1,9 @@
 use Rattle.std.proofs.Common.{◌≡◌, [], ap, sym, subst, ◌∙◌}
 use Rattle.isolation.specs.Journals.{IsJournal}
 use Rattle.isolation.specs.Replaying.{HasDone}
-use Rattle.isolation.proofs.Fronts.{within_limits}
+use Rattle.isolation.proofs.Boots.{apart_booted, within_limits}
 use Rattle.isolation.proofs.OwnLogs.{log_still}
+use Rattle.journal_replay.specs.Booting.{IsApart}
 use Rattle.kernel_model.specs.Application.{Booted, booted}
 use Rattle.kernel_state.specs.Booting.{IsWithinLimits}
 use Rattle.kernel_state.specs.Meaning.{booted_of}
@@ -10,10 +11,15 @@ use Rattle.native_tas.specs.Table.{entries}
 use Rattle.ta_isa.specs.declared.boot.Boot.{Boot}
 use Rattle.isolation.proofs.own.own_log.Goals as goal
 
-pub new-requires : goal.new-requires
-new-requires g c =
+pub new-requires-clause-limits : goal.new-requires-clause-limits
+new-requires-clause-limits g c =
     subst IsWithinLimits (sym c.in_ok-copy_boot.ensures)
     (within_limits c.args.boot.now (entries c.args.natives.now) c.requires.legal.boots)
+
+pub new-requires-clause-apart : goal.new-requires-clause-apart
+new-requires-clause-apart g c =
+    subst (λ (b : Boot). IsApart b (entries c.args.natives.now)) (sym c.in_ok-copy_boot.ensures)
+    (apart_booted c.args.boot.now (entries c.args.natives.now) c.requires.legal.boots)
 
 pub log_of-requires-clause-journal : goal.log_of-requires-clause-journal
 log_of-requires-clause-journal g c =
@@ -32,4 +38,4 @@ returns g c =
     let natives = entries c.args.natives.now in
     let same : booted_of c.in_ok-replay.replay.core ≡ booted c.args.boot.now natives =
     c.in_ok-replay.ensures.booted ∙ ap (λ (b : Boot). booted b natives) c.in_ok-copy_boot.ensures in
-    log_still c.log_of.result (λ log. log.items) _ _ _ _ c.args.session same c.as_slice.ensures c.log_of.ensures
+    log_still c.log_of.result _ _ _ _ c.args.session same c.as_slice.ensures c.log_of.ensures

@@ -6,4 +6,4 @@ use Rattle.isolation.proofs.own.own_replies.Goals as goal
 pub returns-clause-alone : goal.returns-clause-alone
 returns-clause-alone g c app is =
     alone_so c.replies_in.result _ _ (booted c.args.boot.now (entries c.args.natives.now)) c.args.journal.now.events c.args.session app
-    c.in_ok-log.ensures is c.replies_in.ensures
+    c.in_ok-log.ensures.entries is c.replies_in.ensures

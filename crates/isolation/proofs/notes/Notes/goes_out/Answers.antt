@@ -19,4 +19,4 @@ returns-clause-noted c notes call are is =
     (subst (λ (n : AnyNumbering). AreNumbers n notes.numbering) (sym (ap (λ (n : AnyNotes). n.numbering) stays)) are.numbering)))
     (c.in_ok-tells.ensures.log
     ∙ ap (with_told old.log.items c.args.number) (c.in_ok-told.ensures ∙ ap (told_by c.args.cont.now) woken))
-    (ap (λ (n : AnyNotes). n.turned_away) stays)
+    (ap (λ (n : AnyNotes). n.turned_away) stays) (ap (λ (n : AnyNotes). n.uuid) stays)

@@ -1,6 +1,5 @@
-use Rattle.std.proofs.Common.{◌<◌, Some, arith, length, refl, subst}
-use Rattle.isolation.proofs.Entries.{can_enter, comes_again, few_processors, not_full, place_there}
-use Rattle.ns_ram.specs.Reads.{HoldsReads}
+use Rattle.std.proofs.Common.{◌<◌, Some, arith, length, refl}
+use Rattle.isolation.proofs.Entries.{can_enter, comes_again, few_processors, laid_so, not_full, place_there}
 use Rattle.isolation.proofs.replay.Replay.comes_in.Goals as goal
 
 pub enter-requires : goal.enter-requires
@@ -17,8 +16,8 @@ has_come-requires-clause-own c = c.in-Ok.ensures.cpu
 
 pub unreachable-requires : goal.unreachable-requires
 unreachable-requires c =
-    not_full c.args.self.now c.args.visitor c.args.reads.now c.requires.can c.hold.new.lane
-    (subst (HoldsReads c.hold.new.lane) c.as_slice.ensures c.in_ok-hold.ensures) c.in-Err-Full.field-0-0
+    not_full c.args.self.now c.args.visitor c.args.reads.now c.requires.can c.lay.new.lane
+    (laid_so c.args.self.now c.args.visitor c.args.reads.now c.as_slice.result.now c.lay.new.lane c.requires.can c.as_slice.ensures c.lay.ensures) c.in-Err-Full.field-0-0
     c.in-Err-Full.field-0-1 (rw c.in-Err-Full.field-0-is at c.in-Err-Full.ensures).1
 
 pub index_mut-requires : goal.index_mut-requires
@@ -31,7 +30,7 @@ index_mut-requires c =
 
 pub returns-clause-noted : goal.returns-clause-noted
 returns-clause-noted c boot history noted can =
-    comes_again boot history c.args.self.now _ c.args.visitor c.hold.new.lane c.args.reads.now c.in-Ok.work
+    comes_again boot history c.args.self.now _ c.args.visitor c.lay.new.lane c.args.reads.now c.in-Ok.work
     c.in_ok-arrival.arrival c.from.result (Some c.in-Ok.work) c.args.notes.now c.has_come.new.notes noted can
-    (subst (HoldsReads c.hold.new.lane) c.as_slice.ensures c.in_ok-hold.ensures) c.in-Ok.ensures c.from.ensures refl refl
+    (laid_so c.args.self.now c.args.visitor c.args.reads.now c.as_slice.result.now c.lay.new.lane c.requires.can c.as_slice.ensures c.lay.ensures) c.in-Ok.ensures c.from.ensures refl refl
     c.in_ok-arrival.ensures c.in_ok-has_come.ensures.noted c.has_come.ensures.session
