@@ -1,0 +1,3 @@
+pub mod Same
+pub mod Differences
+pub mod Logs

@@ -1,0 +1,24 @@
+use Rattle.std.proofs.Common.{inl, refl}
+use Rattle.native_tas.specs.Table.{entries}
+use Rattle.session_compare.proofs.Logs.{told_same}
+use Rattle.session_compare.specs.Pairs.{pair_of}
+use Rattle.session_compare.proofs.comparing.compare.Goals as goal
+
+pub check-requires-clause-limits : goal.check-requires-clause-limits
+check-requires-clause-limits g c = c.requires.one.boot.limits
+
+pub check-requires-clause-apart : goal.check-requires-clause-apart
+check-requires-clause-apart g c = c.requires.one.boot.apart
+
+pub check-requires-clause-few : goal.check-requires-clause-few
+check-requires-clause-few g c = c.requires.one.few
+
+pub compare_with-requires-clause-can_be : goal.compare_with-requires-clause-can_be
+compare_with-requires-clause-can_be g c = rw c.in-Legal.is at c.in_ok-verdict.ensures
+
+pub returns-in-Legal-clause-same_replies : goal.returns-in-Legal-clause-same_replies
+returns-in-Legal-clause-same_replies g c =
+    told_same (pair_of (entries c.args.natives.now) c.args.one.now c.args.two.now c.args.session) c.compare_with.result c.compare_with.ensures
+
+pub returns-in-Illegal-clause-compared : goal.returns-in-Illegal-clause-compared
+returns-in-Illegal-clause-compared g c = inl (refl, rw c.in-Illegal.is at c.in_ok-verdict.ensures)

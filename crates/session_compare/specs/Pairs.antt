@@ -1,0 +1,31 @@
+-- Two journals that were read, as a pair that is compared.
+use Rattle.std.specs.Prelude.{◌≡◌, ℕ, ◌≤◌, ◌^◌, List}
+use Rattle.audit.specs.Laws.{CanBeCheckedBeside}
+use Rattle.audit_model.specs.Comparing.{Journaled, Pair, replies_in}
+use Rattle.audit_model.specs.Verdicts.{CanBegin}
+use Rattle.audit_model.specs.declared.verdict.Compared.{Compared}
+use Rattle.audit_model.specs.declared.verdict.Compared.TheVariants.{Same}
+use Rattle.event_journal.specs.Journal.{copied_bytes}
+use Rattle.journal_bytes.specs.declared.reading.ReadJournal.{ReadJournal}
+use Rattle.kernel_model.specs.Application.{Native, booted}
+
+-- a journal that was read can be compared, beside these applications that are built in: its boot can be checked beside these, and
+-- its events have copied at most 2^28 bytes
+pub record CanBeCompared (natives : List Native) (read : ReadJournal) : Type 0 where
+  pub boot : CanBeCheckedBeside natives read.boot
+  pub few : copied_bytes read.journal.events ≤ 2 ^ 28
+
+abbrev pub journaled : ReadJournal → Journaled
+journaled read = record { boot = read.boot; events = read.journal.events }
+
+abbrev pub pair_of : List Native → ReadJournal → ReadJournal → ℕ → Pair
+pair_of natives one two session = record { one = journaled one; two = journaled two; natives = natives; session = session }
+
+-- a legal and steady history begins with its events
+abbrev pub CanBeRead : List Native → ReadJournal → Type 0
+CanBeRead natives read = CanBegin (booted read.boot natives) read.journal.events
+
+-- where both show the same of the session, it was answered the same in both
+abbrev pub HaveSameReplies : Pair → Compared → Type 0
+HaveSameReplies pair (Same count) = replies_in pair pair.one ≡ replies_in pair pair.two
+HaveSameReplies pair _ = Unit {0}
