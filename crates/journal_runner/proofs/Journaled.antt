@@ -1,14 +1,12 @@
 -- From a player at the end of a trace to the bytes of its journal, and to what is written of them.
-use Rattle.std.proofs.Common.{◌≡◌, ℕ, ◌⊎◌, inl, inr, List, [], Option, None, Some, refl, sym, ap, subst, ◌∙◌}
+use Rattle.std.proofs.Common.{◌≡◌, ℕ, inl, inr, List, [], Option, None, Some, refl, sym, ap, subst, ◌∙◌}
 use Rattle.std.specs.Option.{option_map}
 use Rattle.std.specs.Prelude.{IsSomeAnd}
 use Rattle.audit.specs.Laws.{CoreJournalsAreSound}
 use Rattle.event_journal.specs.declared.event.Event.{Event}
 use Rattle.journal_bytes.specs.Sound.{IsSoundJournal}
 use Rattle.journal_bytes.specs.Spelling.{spelling}
-use Rattle.kernel_model.specs.Application.{Booted, Native, booted}
-use Rattle.play_model.specs.Play.{Play}
-use Rattle.ports.specs.Port.{Appends}
+use Rattle.kernel_model.specs.Application.{Booted, Native}
 use Rattle.ports.specs.PortLaws.{Appends-nil}
 use Rattle.ta_isa.specs.declared.boot.Boot.{Boot}
 use Rattle.trace_player.specs.Playing.{history_of}
@@ -17,7 +15,7 @@ use Rattle.trace_player.specs.declared.player.Player.{Player}
 use Rattle.trace_player.proofs.Playable.{refused-played}
 use Rattle.trace_text.specs.declared.trace.Trace.{Trace}
 use Rattle.word_parts.specs.Answer.{Writes, status_of_play}
-use Rattle.word_parts.specs.Word.{IsDone, IsServedBy}
+use Rattle.word_parts.specs.Word.{IsDone}
 use Rattle.word_parts.specs.declared.status.Status.{Status}
 use Rattle.word_parts.specs.declared.status.Status.TheVariants.{WriteFault}
 use Rattle.word_parts.specs.declared.status.Status.TheVariants as status

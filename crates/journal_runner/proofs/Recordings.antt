@@ -13,6 +13,7 @@ use Rattle.trace_text.proofs.GrammarLaws.{every_text}
 use Rattle.trace_text.specs.Grammar.{Spells}
 use Rattle.trace_text.specs.declared.trace.Trace.{Trace}
 use Rattle.word_parts.specs.Answer.{status_of_play}
+use Rattle.word_parts.specs.Keeping.{Keeps}
 use Rattle.word_parts.specs.Line.{bad_trace_line}
 use Rattle.word_parts.specs.Word.{HasOneMeaning, IsServedBy, Ran}
 use Rattle.word_parts.specs.declared.status.Status.{Status}
@@ -125,8 +126,9 @@ ran_records natives input left result old new ran = record {
     long_done (inr done) = inr done
 
 -- over an input that the source tells
-pub told_records : (natives : List Native) (told left : Option (List ℕ)) (result : Status) (old new : Option (List ℕ))
-    → IfSome told (λ input. Ran (recording natives) input left result old new)
+pub kept_records : (natives : List Native) (told left : Option (List ℕ)) (result : Status) (old new : Option (List ℕ))
+    (no_fault : Type 0) → IfSome told (λ input. Keeps (recording natives) input left result old new no_fault)
     → IfSome told (λ input. Records natives input result old new)
-told_records natives (Some input) left result old new ran = ran_records natives input left result old new ran
-told_records natives None left result old new ran = tt
+kept_records natives (Some input) left result old new no_fault kept =
+    ran_records natives input left result old new kept.ran
+kept_records natives None left result old new no_fault kept = tt

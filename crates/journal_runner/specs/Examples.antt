@@ -1,15 +1,17 @@
 -- What the words write of small inputs, computed.
-use Rattle.std.specs.Prelude.{◌≡◌, ℕ, List, [], ◌∷◌, ◌++◌, None, Some, codes, length, map, replicate}
+use Rattle.std.specs.Prelude.{◌≡◌, ℕ, List, [], ◌∷◌, ◌++◌, None, Some, codes, map, replicate}
 use Rattle.audit_model.specs.VerdictExamples.{answered, asks}
+use Rattle.audit_model.specs.declared.verdict.Compared.TheVariants.{Illegal as IllegalIn, Absent, Other, Events, Same}
 use Rattle.audit_model.specs.declared.verdict.Verdict.TheVariants.{Legal, Illegal}
-use Rattle.event_journal.specs.declared.event.Event.{Event}
 use Rattle.journal_bytes.specs.Examples.{asking_bytes, boot_bytes, magic_bytes, small_boot, whole_bytes}
 use Rattle.journal_bytes.specs.Grammar.{Whole}
 use Rattle.trace_text.specs.declared.fault.BadKind.TheVariants.{Cut, Item}
 use Rattle.trace_text.specs.declared.item.Item.TheVariants.{Smc}
 use Rattle.trace_text.specs.declared.item.Reg.TheVariants.{Num}
 use Rattle.trace_text.specs.declared.trace.Trace.{Trace}
-use Rattle.journal_runner.specs.Auditing.{IsFaultAlone, SpellsAudited, verdict_line}
+use Rattle.journal_runner.specs.Auditing.{SpellsAudited, verdict_line}
+use Rattle.journal_runner.specs.Comparing.{compared_line}
+use Rattle.journal_runner.specs.Reading.{IsFaultAlone, IsFaultOfPair}
 use Rattle.journal_runner.specs.Recording.{journal_for}
 
 -- a processor asks for the core's UID
@@ -46,3 +48,12 @@ pub record Examples : Type 0 where
   -- a byte behind the end, which is the fourth record; and a journal without an end
   pub more : IsFaultAlone [] (whole_bytes ++ 0 ∷ []) 5 Item
   pub no_end : IsFaultAlone [] (magic_bytes ++ boot_bytes) 2 Cut
+  -- what two journals show, as lines
+  pub illegal_in_two_line : compared_line (IllegalIn 2 1) ≡ codes "illegal 2 1" ++ 10 ∷ []
+  pub absent_line : compared_line (Absent 1) ≡ codes "absent 1" ++ 10 ∷ []
+  pub other_line : compared_line Other ≡ codes "other" ++ 10 ∷ []
+  pub events_line : compared_line (Events 2) ≡ codes "events 2" ++ 10 ∷ []
+  pub same_line : compared_line (Same 2) ≡ codes "same 2" ++ 10 ∷ []
+  -- a journal of four records with no second one behind it; and two of them with a byte behind the end of the second
+  pub no_second : IsFaultOfPair [] whole_bytes 5 Cut
+  pub more_behind_two : IsFaultOfPair [] (whole_bytes ++ whole_bytes ++ 0 ∷ []) 10 Item

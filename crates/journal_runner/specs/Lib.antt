@@ -1,8 +1,10 @@
-pub mod Keeping
 pub mod Known
 pub mod Recording
 pub mod Recorded
 pub mod Records
+pub mod Reading
 pub mod Auditing
 pub mod Audits
+pub mod Comparing
+pub mod Compares
 pub mod Examples

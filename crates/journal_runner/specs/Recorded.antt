@@ -1,5 +1,5 @@
 -- What is known of a play whose lines were let go, and of its journal.
-use Rattle.std.specs.Prelude.{◌≡◌, ℕ, List, Some}
+use Rattle.std.specs.Prelude.{◌≡◌, List, Some}
 use Rattle.kernel_model.specs.Application.{Native, booted}
 use Rattle.kernel_state.specs.Meaning.{booted_of}
 use Rattle.play_model.specs.Play.{Play, played}

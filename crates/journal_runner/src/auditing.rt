@@ -1,16 +1,15 @@
 //! The word `audit`.
 ghost use Rattle.std.specs.Prelude.{◌≡◌, ◌≢◌, ◌≤◌, ◌+◌, ◌^◌, ◌++◌, [], IfOk, IfSome, OnOk, length};
 ghost use Rattle.journal_bytes.specs.Grammar.{whole_of};
-ghost use Rattle.journal_bytes.specs.Sound.{IsSoundJournal};
 ghost use Rattle.native_tas.specs.Table.{entries};
 ghost use Rattle.ports.specs.Port.{Appends, Rose};
 ghost use Rattle.trace_player.specs.Starting.{uuids_of};
-ghost use Rattle.trace_text.specs.Sound.{IsSoundBoot};
 ghost use Rattle.word_parts.specs.Input.{TakesAtMost};
-ghost use Rattle.word_parts.specs.Word.{Answered, Ran};
+ghost use Rattle.word_parts.specs.Keeping.{Keeps};
+ghost use Rattle.word_parts.specs.Word.{Answered};
 ghost use Rattle.journal_runner.specs.Auditing.{IsVerdictOn, auditing, verdict_line, verdict_words};
 ghost use Rattle.journal_runner.specs.Audits.{IsAnsweredFor};
-ghost use Rattle.journal_runner.specs.Keeping.{Keeps};
+ghost use Rattle.journal_runner.specs.Reading.{KeepsLimits};
 
 use crate::reading::read_alone;
 use answer_lines::push_numbered;
@@ -20,8 +19,7 @@ use journal_bytes::ReadJournal;
 use native_tas::Natives;
 use ports::{Sink, Source};
 use std::alloc::{AllocError, Global};
-use trace_text::TraceFault;
-use word_parts::{InputFault, Status, answer_line, read_input, refuse};
+use word_parts::{Status, answer_fault, answer_line, read_whole};
 
 /// Appends the words of a verdict on so many events.
 fn push_verdict(line: &mut Vec<u8>, count: u64, verdict: Verdict) -> Result<(), AllocError>
@@ -45,8 +43,7 @@ fn verdict_line(alloc: Global, count: u64, verdict: Verdict) -> Result<Vec<u8>, 
 
 /// Checks a journal that was read.
 fn verdict_on(alloc: Global, natives: &Natives, read: &ReadJournal) -> Result<Verdict, NoMemory>
-    requires boot { IsSoundBoot (uuids_of (entries natives.now)) read.now.boot }
-    requires journal { IsSoundJournal read.now.boot.cpus read.now.journal.events }
+    requires { KeepsLimits (uuids_of (entries natives.now)) read.now }
     ensures { IfOk result (IsVerdictOn (entries natives.now) (whole_of read.now)) }
 {
     read_boots_can_be_checked();
@@ -60,8 +57,7 @@ fn audit_journal<K: Sink>(
     read: &ReadJournal,
     out: &mut K,
 ) -> Status
-    requires boot { IsSoundBoot (uuids_of (entries natives.now)) read.now.boot }
-    requires journal { IsSoundJournal read.now.boot.cpus read.now.journal.events }
+    requires { KeepsLimits (uuids_of (entries natives.now)) read.now }
     ensures answered { IsAnsweredFor (entries natives.now) (whole_of read.now) result (K.held out.old) (K.held out.new) }
     ensures words { result ≡ Status.Usage → ⊥ }
     ensures write_fault { result ≡ Status.WriteFault → Rose (K.faults out.old) (K.faults out.new) }
@@ -90,35 +86,7 @@ fn answer<K: Sink>(alloc: Global, input: Vec<u8>, out: &mut K, natives: &Natives
     drop(input);
     match read {
         Ok(read) => audit_journal(alloc, natives, &read, out),
-        Err(TraceFault::Bad { place, kind }) => refuse(alloc, place, kind, out),
-        Err(TraceFault::Memory) => Status::Memory,
-    }
-}
-
-/// Reads an input, and audits it.
-fn audit_input<S: Source, K: Sink>(
-    alloc: Global,
-    input: &mut S,
-    out: &mut K,
-    natives: &Natives,
-) -> Status
-    ensures told { IfSome (S.left input.old) (λ bytes.
-        Ran (auditing (entries natives.now)) bytes (S.left input.new) result (K.held out.old) (K.held out.new)) }
-    ensures words { result ≡ Status.Usage → ⊥ }
-    ensures read_fault { result ≡ Status.ReadFault →
-        Rose (S.faults input.old) (S.faults input.new) × Appends (K.held out.old) (K.held out.new) [] }
-    ensures write_fault { result ≡ Status.WriteFault → Rose (K.faults out.old) (K.faults out.new) }
-    ensures taken { TakesAtMost (2 ^ 24 + 1) (S.left input.old) (S.left input.new) }
-    ensures input_count { S.faults input.old ≤ S.faults input.new }
-    ensures out_count { K.faults out.old ≤ K.faults out.new }
-    ensures input_stays { result ≢ Status.ReadFault → S.faults input.new ≡ S.faults input.old }
-    ensures out_stays { result ≢ Status.WriteFault → K.faults out.new ≡ K.faults out.old }
-{
-    match read_input(alloc, input) {
-        Ok(bytes) => answer(alloc, bytes, out, natives),
-        Err(InputFault::Failed) => Status::ReadFault,
-        Err(InputFault::TooLong) => Status::TooLong,
-        Err(InputFault::Memory) => Status::Memory,
+        Err(fault) => answer_fault(alloc, fault, out),
     }
 }
 
@@ -150,5 +118,8 @@ pub fn audit<S: Source, K: Sink>(
     ensures input_stays { result ≢ Status.ReadFault → S.faults input.new ≡ S.faults input.old }
     ensures out_stays { result ≢ Status.WriteFault → K.faults out.new ≡ K.faults out.old }
 {
-    audit_input(alloc, input, out, natives)
+    match read_whole(alloc, input) {
+        Ok(bytes) => answer(alloc, bytes, out, natives),
+        Err(status) => status,
+    }
 }

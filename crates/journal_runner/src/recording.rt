@@ -5,8 +5,8 @@ ghost use Rattle.ports.specs.Port.{Appends, Rose};
 ghost use Rattle.trace_player.specs.Starting.{trace_of, uuids_of};
 ghost use Rattle.trace_text.specs.Sound.{IsSound};
 ghost use Rattle.word_parts.specs.Input.{TakesAtMost};
-ghost use Rattle.word_parts.specs.Word.{Answered, IsDone, IsServedBy, Ran};
-ghost use Rattle.journal_runner.specs.Keeping.{Keeps};
+ghost use Rattle.word_parts.specs.Keeping.{Keeps};
+ghost use Rattle.word_parts.specs.Word.{Answered, IsDone, IsServedBy};
 ghost use Rattle.journal_runner.specs.Recording.{recording};
 ghost use Rattle.journal_runner.specs.Records.{Records};
 
@@ -15,8 +15,8 @@ use native_tas::Natives;
 use ports::{Sink, Source};
 use std::alloc::Global;
 use ta_isa::Boot;
-use trace_text::{Fill, Item, Trace, TraceFault, read_trace};
-use word_parts::{InputFault, Status, answer_line, has_too_many, read_input, refuse};
+use trace_text::{Fill, Item, Trace, read_trace};
+use word_parts::{Status, answer_fault, answer_line, has_too_many, read_whole};
 
 /// Plays the trace of this boot, and writes its journal.
 fn record_booted<K: Sink>(
@@ -79,42 +79,13 @@ fn answer<K: Sink>(alloc: Global, input: Vec<u8>, out: &mut K, natives: &Natives
     drop(input);
     match trace {
         Ok(trace) => record_trace(alloc, natives, trace, out),
-        Err(TraceFault::Bad { place, kind }) => refuse(alloc, place, kind, out),
-        Err(TraceFault::Memory) => Status::Memory,
-    }
-}
-
-/// Reads an input, and records it.
-fn record_input<S: Source, K: Sink>(
-    alloc: Global,
-    input: &mut S,
-    out: &mut K,
-    natives: &Natives,
-) -> Status
-    ensures told { IfSome (S.left input.old) (λ bytes.
-        Ran (recording (entries natives.now)) bytes (S.left input.new) result (K.held out.old) (K.held out.new)) }
-    ensures words { result ≡ Status.Usage → ⊥ }
-    ensures read_fault { result ≡ Status.ReadFault →
-        Rose (S.faults input.old) (S.faults input.new) × Appends (K.held out.old) (K.held out.new) [] }
-    ensures write_fault { result ≡ Status.WriteFault → Rose (K.faults out.old) (K.faults out.new) }
-    ensures taken { TakesAtMost (2 ^ 24 + 1) (S.left input.old) (S.left input.new) }
-    ensures input_count { S.faults input.old ≤ S.faults input.new }
-    ensures out_count { K.faults out.old ≤ K.faults out.new }
-    ensures input_stays { result ≢ Status.ReadFault → S.faults input.new ≡ S.faults input.old }
-    ensures out_stays { result ≢ Status.WriteFault → K.faults out.new ≡ K.faults out.old }
-{
-    match read_input(alloc, input) {
-        Ok(bytes) => answer(alloc, bytes, out, natives),
-        Err(InputFault::Failed) => Status::ReadFault,
-        Err(InputFault::TooLong) => Status::TooLong,
-        Err(InputFault::Memory) => Status::Memory,
+        Err(fault) => answer_fault(alloc, fault, out),
     }
 }
 
 /// Reads a trace as text, plays it as the word `run` does, and writes the bytes of its journal ([`journal_bytes`]) in place of its
 /// lines: its boot, and all events of its play, or those before an entry that was refused, at which the status is
-/// [`Status::TooLong`]. Of a trace without a boot nothing is written. Want of memory may come at any time; no part of a
-/// journal is put then but by the sink.
+/// [`Status::TooLong`]. Of a trace without a boot nothing is written. Want of memory may come at any time.
 pub fn record<S: Source, K: Sink>(
     alloc: Global,
     input: &mut S,
@@ -143,5 +114,8 @@ pub fn record<S: Source, K: Sink>(
     ensures input_stays { result ≢ Status.ReadFault → S.faults input.new ≡ S.faults input.old }
     ensures out_stays { result ≢ Status.WriteFault → K.faults out.new ≡ K.faults out.old }
 {
-    record_input(alloc, input, out, natives)
+    match read_whole(alloc, input) {
+        Ok(bytes) => answer(alloc, bytes, out, natives),
+        Err(status) => status,
+    }
 }

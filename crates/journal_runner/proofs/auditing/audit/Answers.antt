@@ -1,10 +1,20 @@
+use Rattle.std.proofs.Common.{Err, ap, arith}
 use Rattle.native_tas.specs.Table.{entries}
+use Rattle.word_parts.proofs.Worded.{keeps-read, keeps-unread}
 use Rattle.journal_runner.specs.Auditing.{auditing}
 use Rattle.journal_runner.proofs.Audited.{one_meaning}
-use Rattle.journal_runner.proofs.Kept.{keeps}
 use Rattle.journal_runner.proofs.auditing.audit.Goals as goal
 
-pub returns-clause-keeps : goal.returns-clause-keeps
-returns-clause-keeps g c =
-    keeps (auditing (entries c.args.natives.now)) _ _ _ _ _ _ _ _ _ (one_meaning (entries c.args.natives.now))
-    (λ e. (c.audit_input.ensures.read_fault e).0) c.audit_input.ensures.write_fault c.audit_input.ensures.told
+pub returns-in-Ok-clause-keeps : goal.returns-in-Ok-clause-keeps
+returns-in-Ok-clause-keeps g c =
+    let natives = entries c.args.natives.now in
+    let whole = c.in-Ok.ensures.whole in
+    keeps-read (auditing natives) _ _ c.in-Ok.bytes.items _ _ _ _ _ _ _ (one_meaning natives) c.answer.ensures.write_fault
+    whole.1 whole.2 (omega (arith, c.in-Ok.bytes.ok.0)) c.answer.ensures.answered
+
+pub returns-in-Err-clause-keeps : goal.returns-in-Err-clause-keeps
+returns-in-Err-clause-keeps g c =
+    let natives = entries c.args.natives.now in
+    let e = c.in-Err.ensures in
+    keeps-unread (auditing natives) _ _ c.in-Err.status _ _ _ _ _ (one_meaning natives) (λ is. e.read_fault (ap Err is))
+    (λ is. e.writes (ap Err is)) e.unread

@@ -4,7 +4,7 @@ use Rattle.trace_bin.specs.Grammar.{front_fault}
 use Rattle.trace_bin.specs.Record.{is_whole as is_whole_body}
 use Rattle.trace_bin.specs.Spelling.{counted}
 use Rattle.trace_text.specs.Limits.{is_image, is_known, lies_in_ram}
-use Rattle.journal_bytes.specs.Examples.{boot_bytes, magic_bytes}
+use Rattle.journal_bytes.specs.Examples.{boot_bytes, magic_bytes, whole_bytes}
 use Rattle.journal_bytes.specs.Record.{behind, is_whole, kind_tagged, listed_in, regs_in}
 use Rattle.journal_bytes.specs.Rules.{added, after_record, behind_record, record_rules, rules_of}
 use Rattle.journal_bytes.specs.Spelling.{event_record, read_bytes}
@@ -39,6 +39,31 @@ returns c = record {
     behind = lit< tt;
     place_is = refl;
     kind_is = refl;
+  });
+  illegal_in_two_line = refl;
+  absent_line = refl;
+  other_line = refl;
+  events_line = refl;
+  same_line = refl;
+  no_second = inr (record {
+    one = answered_with 0xa5d5c51b;
+    first = record { begins = refl; count = 3; keyed = false; behind = []; spelled = (refl, (refl, (refl, (refl, refl)))); used_is = refl; records_is = refl };
+    behind = 0;
+    fault = inl (inl (refl, refl));
+    place_is = refl;
+  });
+  more_behind_two = inr (record {
+    one = answered_with 0xa5d5c51b;
+    first = record { begins = refl; count = 3; keyed = false; behind = whole_bytes ++ 0 ∷ []; spelled = (refl, (refl, (refl, (refl, refl)))); used_is = refl; records_is = refl };
+    behind = 5;
+    fault = inr (record {
+      whole = answered_with 0xa5d5c51b;
+      spelled = record { begins = refl; count = 3; keyed = false; behind = 0 ∷ []; spelled = (refl, (refl, (refl, (refl, refl)))); used_is = refl; records_is = refl };
+      behind = lit< tt;
+      place_is = refl;
+      kind_is = refl;
+    });
+    place_is = refl;
   });
   no_end = inl (inr (record { begins = refl; count = 1; before = told_after 1 (magic_bytes ++ boot_bytes); rest = rest_after 1 (magic_bytes ++ boot_bytes); kept = (refl, (refl, refl)); place_is = refl; fault = refl }));
 }

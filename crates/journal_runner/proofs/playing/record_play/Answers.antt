@@ -1,6 +1,5 @@
 -- The journal of the player at the end of its trace is that of the trace's play.
 use Rattle.std.proofs.Common.{Some, sym, ap, subst}
-use Rattle.journal_bytes.specs.Sound.{IsSoundJournal}
 use Rattle.native_tas.specs.Table.{entries}
 use Rattle.ta_isa.specs.Boots.{IsBoot}
 use Rattle.trace_player.specs.Starting.{trace_of}

@@ -1,7 +1,5 @@
-use Rattle.std.proofs.Common.{◌≡◌, inr, refl, arith}
-use Rattle.std.proofs.lemmas.Result.{err_from_is_err_and}
+use Rattle.std.proofs.Common.{arith}
 use Rattle.journal_bytes.specs.Grammar.{whole_of}
-use Rattle.journal_runner.proofs.Audited.{fault_alone}
 use Rattle.journal_runner.proofs.Counted.{few_records}
 use Rattle.journal_runner.proofs.reading.read_alone.Goals as goal
 

@@ -1,9 +1,10 @@
 -- A trace that was read is what its bytes spell, and a core can be booted with its boot.
-use Rattle.std.proofs.Common.{◌≢◌, List, ℕ, inr, subst, sym, ◌∙◌}
-use Rattle.std.specs.Prelude.{AllPairs}
+use Rattle.std.proofs.Common.{List, ℕ, inr, subst, sym, ◌∙◌}
 use Rattle.native_tas.specs.Table.{entries}
 use Rattle.trace_player.specs.Starting.{uuids_of}
-use Rattle.trace_text.specs.Grammar.{Spells}
+use Rattle.trace_text.specs.Grammar.{IsFaultOf, Spells}
+use Rattle.word_parts.proofs.Worded.{fault-answered}
+use Rattle.journal_runner.specs.Recording.{recording}
 use Rattle.journal_runner.proofs.Booting.{AreApart, can_boot}
 use Rattle.journal_runner.proofs.recording.answer.Goals as goal
 
@@ -21,3 +22,13 @@ returns-in-Ok-clause-answered g c =
           (subst AreApart (sym c.as_slice-2.ensures.value) c.uuids.ensures.apart) c.in-Ok.ensures.sound;
       served = c.record_trace.ensures.served;
     }))
+
+pub returns-in-Err-clause-answered : goal.returns-in-Err-clause-answered
+returns-in-Err-clause-answered g c =
+    let natives = entries c.args.natives.now in
+    let bad =
+    subst (λ (bytes : List ℕ). IsFaultOf (uuids_of natives) bytes c.in-Err.fault) c.as_slice.ensures.value
+    (subst (λ (us : List (List ℕ)). IsFaultOf us c.as_slice.result.now c.in-Err.fault)
+    (c.as_slice-2.ensures.value ∙ c.uuids.ensures.order) c.in-Err.ensures.bad) in
+    fault-answered (recording natives) c.args.input.items c.in-Err.fault _ _ _
+    (λ place kind is. subst (IsFaultOf (uuids_of natives) c.args.input.items) is bad) c.answer_fault.ensures.answered

@@ -1,13 +1,26 @@
+use Rattle.std.proofs.Common.{Err, ap, arith}
 use Rattle.native_tas.specs.Table.{entries}
+use Rattle.word_parts.proofs.Worded.{keeps-read, keeps-unread}
 use Rattle.journal_runner.specs.Recording.{recording}
-use Rattle.journal_runner.proofs.Kept.{keeps}
-use Rattle.journal_runner.proofs.Recordings.{one_meaning, told_records}
+use Rattle.journal_runner.proofs.Recordings.{kept_records, one_meaning}
 use Rattle.journal_runner.proofs.recording.record.Goals as goal
 
-pub returns-clause-keeps : goal.returns-clause-keeps
-returns-clause-keeps g c =
-    keeps (recording (entries c.args.natives.now)) _ _ _ _ _ _ _ _ _ (one_meaning (entries c.args.natives.now))
-    (λ e. (c.record_input.ensures.read_fault e).0) c.record_input.ensures.write_fault c.record_input.ensures.told
+pub returns-in-Ok-clause-keeps : goal.returns-in-Ok-clause-keeps
+returns-in-Ok-clause-keeps g c =
+    let natives = entries c.args.natives.now in
+    let whole = c.in-Ok.ensures.whole in
+    keeps-read (recording natives) _ _ c.in-Ok.bytes.items _ _ _ _ _ _ _ (one_meaning natives) c.answer.ensures.write_fault
+    whole.1 whole.2 (omega (arith, c.in-Ok.bytes.ok.0)) c.answer.ensures.answered
 
-pub returns-clause-records : goal.returns-clause-records
-returns-clause-records g c = told_records (entries c.args.natives.now) _ _ _ _ _ c.record_input.ensures.told
+pub returns-in-Ok-clause-records : goal.returns-in-Ok-clause-records
+returns-in-Ok-clause-records g c = kept_records (entries c.args.natives.now) _ _ _ _ _ _ (returns-in-Ok-clause-keeps g c)
+
+pub returns-in-Err-clause-keeps : goal.returns-in-Err-clause-keeps
+returns-in-Err-clause-keeps g c =
+    let natives = entries c.args.natives.now in
+    let e = c.in-Err.ensures in
+    keeps-unread (recording natives) _ _ c.in-Err.status _ _ _ _ _ (one_meaning natives) (λ is. e.read_fault (ap Err is))
+    (λ is. e.writes (ap Err is)) e.unread
+
+pub returns-in-Err-clause-records : goal.returns-in-Err-clause-records
+returns-in-Err-clause-records g c = kept_records (entries c.args.natives.now) _ _ _ _ _ _ (returns-in-Err-clause-keeps g c)

@@ -1,0 +1,88 @@
+-- From two journals that were read to what is answered; and that bytes have one meaning.
+use Rattle.std.proofs.Common.{◌≡◌, ℕ, inl, inr, List, Option, Some, None, sym, ap, subst, ◌∙◌}
+use Rattle.std.specs.Prelude.{IfSome}
+use Rattle.audit_model.proofs.Comparisons.{one_comparison}
+use Rattle.audit_model.proofs.Replies.{same_gives_same_replies}
+use Rattle.audit_model.specs.Comparing.{IsComparedAs, Pair}
+use Rattle.audit_model.specs.declared.verdict.Compared.{Compared}
+use Rattle.audit_model.specs.declared.verdict.Compared.TheVariants.{Illegal, Absent, Other, Events, Same}
+use Rattle.journal_bytes.specs.Grammar.{Whole}
+use Rattle.kernel_model.specs.Application.{Native}
+use Rattle.session_compare.specs.Pairs.{HaveSameReplies}
+use Rattle.trace_player.specs.Starting.{uuids_of}
+use Rattle.word_parts.specs.Keeping.{Keeps}
+use Rattle.word_parts.specs.Word.{Answered, HasOneMeaning}
+use Rattle.word_parts.specs.declared.status.Status.{Status}
+use Rattle.journal_runner.specs.Compares.{Compares, IsAnsweredForPair}
+use Rattle.journal_runner.specs.Comparing.{Comparison, SpellsCompared, comparing, pair_of}
+use Rattle.journal_runner.specs.Reading.{SpellsPair}
+use Rattle.journal_runner.proofs.Meanings.{not_both_pair, same_first, same_second}
+
+-- ---- answering
+
+-- what is written for two journals is what the word answers
+pub answered_pair : (natives : List Native) (session : ℕ) (input : List ℕ) (one two : Whole) (result : Status)
+    (old new : Option (List ℕ)) → SpellsPair (uuids_of natives) input one two
+    → IsAnsweredForPair natives session one two result old new → Answered (comparing natives session) input result old new
+answered_pair natives session input one two result old new pair (inl want) = inl want
+answered_pair natives session input one two result old new pair (inr told) =
+    let comparison : Comparison = record { one = one; two = two; compared = told.0 } in
+    inr (inr (record {
+      content = comparison;
+      spelled = record { pair = pair; is_compared = told.1 };
+      known = tt;
+      served = inr (λ never. never, inr told.2);
+    }))
+
+-- ---- what was written
+
+-- journals that show the same of a session have answered it the same
+have_same_replies : (pair : Pair) (compared : Compared) → IsComparedAs pair compared → HaveSameReplies pair compared
+have_same_replies pair (Illegal journal at) is = tt
+have_same_replies pair (Absent journal) is = tt
+have_same_replies pair Other is = tt
+have_same_replies pair (Events at) is = tt
+have_same_replies pair (Same count) is = same_gives_same_replies pair count is
+
+-- over an input that the source tells
+pub kept_compares : (natives : List Native) (session : ℕ) (told left : Option (List ℕ)) (result : Status)
+    (old new : Option (List ℕ)) (no_fault : Type 0)
+    → IfSome told (λ input. Keeps (comparing natives session) input left result old new no_fault)
+    → IfSome told (λ input. Compares natives session input result old new)
+kept_compares natives session (Some input) left result old new no_fault kept = λ ok.
+    let served = (kept.statuses.ok ok).1 in
+    let comparison = served.0 in
+    record {
+      comparison = comparison;
+      spelled = served.1.spelled;
+      line = served.2;
+      same_replies = have_same_replies (pair_of natives comparison.one comparison.two session) comparison.compared
+          served.1.spelled.is_compared;
+    }
+kept_compares natives session None left result old new no_fault kept = tt
+
+-- ---- one meaning
+
+same_comparison : (a b : Comparison) → a.one ≡ b.one → a.two ≡ b.two → a.compared ≡ b.compared → a ≡ b
+same_comparison a b one two compared =
+    ap (λ (w : Whole). record { one = w; two = a.two; compared = a.compared }) one
+    ∙ ap (λ (w : Whole). record { one = b.one; two = w; compared = a.compared }) two
+    ∙ ap (λ (c : Compared). record { one = b.one; two = b.two; compared = c }) compared
+
+-- bytes spell two journals, which show one thing of a session, or they have a fault, and not both
+pub one_meaning : (natives : List Native) (session : ℕ) (input : List ℕ) → HasOneMeaning (comparing natives session) input
+one_meaning natives session input = record {
+  one_content = one_comparison_of;
+  not_both = λ comparison place kind p fault.
+      not_both_pair (uuids_of natives) input comparison.one comparison.two place kind p.pair fault;
+}
+  where
+    one_comparison_of : (a b : Comparison) → SpellsCompared natives session input a → SpellsCompared natives session input b
+        → a ≡ b
+    one_comparison_of a b p q =
+        let one = same_first (uuids_of natives) input a.one b.one a.two b.two p.pair q.pair in
+        let two = same_second (uuids_of natives) input a.one b.one a.two b.two p.pair q.pair in
+        same_comparison a b one two
+        (one_comparison (pair_of natives a.one a.two session) a.compared b.compared p.is_compared
+        (subst (λ (w : Whole). IsComparedAs (pair_of natives w a.two session) b.compared) (sym one)
+        (subst (λ (w : Whole). IsComparedAs (pair_of natives b.one w session) b.compared) (sym two) q.is_compared)))

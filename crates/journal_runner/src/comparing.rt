@@ -1,0 +1,154 @@
+//! The word `compare`.
+ghost use Rattle.std.specs.Prelude.{◌≡◌, ◌≢◌, ◌≤◌, ◌+◌, ◌^◌, ◌++◌, [], IfOk, IfSome, OnOk, length};
+ghost use Rattle.audit_model.specs.Comparing.{IsComparedAs};
+ghost use Rattle.journal_bytes.specs.Grammar.{whole_of};
+ghost use Rattle.native_tas.specs.Table.{entries};
+ghost use Rattle.ports.specs.Port.{Appends, Rose};
+ghost use Rattle.trace_player.specs.Starting.{uuids_of};
+ghost use Rattle.word_parts.specs.Input.{TakesAtMost};
+ghost use Rattle.word_parts.specs.Keeping.{Keeps};
+ghost use Rattle.word_parts.specs.Word.{Answered};
+ghost use Rattle.journal_runner.specs.Compares.{Compares, IsAnsweredForPair};
+ghost use Rattle.journal_runner.specs.Comparing.{compared_line, compared_words, comparing, pair_of};
+ghost use Rattle.journal_runner.specs.Reading.{KeepsLimits};
+
+use crate::reading::{ReadPair, read_pair};
+use answer_lines::push_numbered;
+use audit::read_boots_can_be_checked;
+use base::NoMemory;
+use native_tas::Natives;
+use ports::{Sink, Source};
+use session_compare::Compared;
+use std::alloc::{AllocError, Global};
+use word_parts::{Status, answer_fault, answer_line, read_whole};
+
+/// Appends the words of what two journals show.
+fn push_compared(line: &mut Vec<u8>, compared: Compared) -> Result<(), AllocError>
+    ensures { OnOk result (line.new.items ≡ line.old.items ++ compared_words compared) }
+{
+    match compared {
+        Compared::Illegal { journal, at } => {
+            push_numbered(line, b"illegal ", u64::from(journal))?;
+            push_numbered(line, b" ", at)
+        }
+        Compared::Absent(journal) => push_numbered(line, b"absent ", u64::from(journal)),
+        Compared::Other => line.extend_from_slice(b"other"),
+        Compared::Events(at) => push_numbered(line, b"events ", at),
+        Compared::Same(count) => push_numbered(line, b"same ", count),
+    }
+}
+
+/// The line of what two journals show.
+fn compared_line(alloc: Global, compared: Compared) -> Result<Vec<u8>, AllocError>
+    ensures { IfOk result (λ line. line.items ≡ compared_line compared) }
+{
+    let mut line = Vec::new(alloc);
+    push_compared(&mut line, compared)?;
+    line.push(b'\n')?;
+    Ok(line)
+}
+
+/// What the two journals show of the session.
+fn shown_by(
+    alloc: Global,
+    natives: &Natives,
+    session: u32,
+    read: &ReadPair,
+) -> Result<Compared, NoMemory>
+    requires one { KeepsLimits (uuids_of (entries natives.now)) read.now.one }
+    requires two { KeepsLimits (uuids_of (entries natives.now)) read.now.two }
+    ensures { IfOk result (IsComparedAs (pair_of (entries natives.now) (whole_of read.now.one) (whole_of read.now.two) session)) }
+{
+    read_boots_can_be_checked();
+    session_compare::compare(alloc, &read.one, &read.two, natives, session)
+}
+
+/// Writes what two journals that were read show of the session.
+fn compare_journals<K: Sink>(
+    alloc: Global,
+    natives: &Natives,
+    session: u32,
+    read: &ReadPair,
+    out: &mut K,
+) -> Status
+    requires one { KeepsLimits (uuids_of (entries natives.now)) read.now.one }
+    requires two { KeepsLimits (uuids_of (entries natives.now)) read.now.two }
+    ensures answered { IsAnsweredForPair (entries natives.now) session (whole_of read.now.one) (whole_of read.now.two)
+        result (K.held out.old) (K.held out.new) }
+    ensures words { result ≡ Status.Usage → ⊥ }
+    ensures write_fault { result ≡ Status.WriteFault → Rose (K.faults out.old) (K.faults out.new) }
+    ensures count { K.faults out.old ≤ K.faults out.new }
+    ensures stays { result ≢ Status.WriteFault → K.faults out.new ≡ K.faults out.old }
+{
+    let Ok(compared) = shown_by(alloc, natives, session, read) else {
+        return Status::Memory;
+    };
+    match compared_line(alloc, compared) {
+        Ok(line) => answer_line(out, Status::Ok, line.as_slice()),
+        Err(_) => Status::Memory,
+    }
+}
+
+/// Compares the journals of an input that was read whole. Its bytes are free before they are compared.
+fn answer<K: Sink>(
+    alloc: Global,
+    session: u32,
+    input: Vec<u8>,
+    out: &mut K,
+    natives: &Natives,
+) -> Status
+    requires { length input.items ≤ 2 ^ 24 }
+    ensures answered { Answered (comparing (entries natives.now) session) input.items result (K.held out.old) (K.held out.new) }
+    ensures words { result ≡ Status.Usage → ⊥ }
+    ensures write_fault { result ≡ Status.WriteFault → Rose (K.faults out.old) (K.faults out.new) }
+    ensures count { K.faults out.old ≤ K.faults out.new }
+    ensures stays { result ≢ Status.WriteFault → K.faults out.new ≡ K.faults out.old }
+{
+    let read = read_pair(alloc, input.as_slice(), natives.uuids().as_slice());
+    drop(input);
+    match read {
+        Ok(read) => compare_journals(alloc, natives, session, &read, out),
+        Err(fault) => answer_fault(alloc, fault, out),
+    }
+}
+
+/// Reads the bytes of two journals ([`journal_bytes`]), the second right behind the end of the first, and writes what they show of the
+/// session of this number, beside the applications that are built in: the first event of one of them that can't be, as `illegal J AT`;
+/// or that the number stands for no session there whose application has an instance for each, as `absent J`; or that the applications or
+/// the keys differ, as `other`; or the first of the session's own events that differs, as `events N`, counted from 0; or else how many
+/// replies it was given, as `same N`. Places go on counting in the second journal. Bytes behind its end are
+/// [`trace_text::BadKind::Item`] at the place after that of the end.
+pub fn compare<S: Source, K: Sink>(
+    alloc: Global,
+    session: u32,
+    input: &mut S,
+    out: &mut K,
+    natives: &Natives,
+) -> Status
+    // ---- All that the word keeps to: the input, each status, and when an input is served or refused whole.
+    ensures keeps { IfSome (S.left input.old) (λ bytes.
+        Keeps (comparing (entries natives.now) session) bytes (S.left input.new) result (K.held out.old) (K.held out.new)
+        ((Rose (S.faults input.old) (S.faults input.new) → ⊥) × (Rose (K.faults out.old) (K.faults out.new) → ⊥))) }
+
+    // ---- What was written: where both journals show the same of the session, it was answered the same in both.
+    ensures compares { IfSome (S.left input.old) (λ bytes.
+        Compares (entries natives.now) session bytes result (K.held out.old) (K.held out.new)) }
+
+    // ---- Faults of the ports.
+    ensures words { result ≡ Status.Usage → ⊥ }
+    ensures read_fault { result ≡ Status.ReadFault →
+        Rose (S.faults input.old) (S.faults input.new) × Appends (K.held out.old) (K.held out.new) [] }
+    ensures write_fault { result ≡ Status.WriteFault → Rose (K.faults out.old) (K.faults out.new) }
+
+    // ---- Reading ends, and counts of faults never fall.
+    ensures taken { TakesAtMost (2 ^ 24 + 1) (S.left input.old) (S.left input.new) }
+    ensures input_count { S.faults input.old ≤ S.faults input.new }
+    ensures out_count { K.faults out.old ≤ K.faults out.new }
+    ensures input_stays { result ≢ Status.ReadFault → S.faults input.new ≡ S.faults input.old }
+    ensures out_stays { result ≢ Status.WriteFault → K.faults out.new ≡ K.faults out.old }
+{
+    match read_whole(alloc, input) {
+        Ok(bytes) => answer(alloc, session, bytes, out, natives),
+        Err(status) => status,
+    }
+}
