@@ -4,7 +4,7 @@ use Rattle.std.specs.Fmt.{decimal}
 use Rattle.trace_text.specs.declared.fault.BadKind.{BadKind}
 use Rattle.trace_text.specs.declared.fault.TraceFault.{TraceFault}
 use Rattle.trace_text.specs.declared.fault.TraceFault.TheVariants.{Bad, Memory}
-use Rattle.trace_text.specs.declared.fault.BadKind.TheVariants.{Byte, Cut, Item, Count, Place, Number, Uuid, Hex, Range, Cpu, Repeat, Image, Inside, Unended, Asm}
+use Rattle.trace_text.specs.declared.fault.BadKind.TheVariants.{Byte, Cut, Item, Count, Place, Number, Uuid, Hex, Range, Cpu, Repeat, Name, Image, Inside, Unended, Asm}
 
 -- the word of a kind
 abbrev pub kind_word : BadKind → List ℕ
@@ -19,6 +19,7 @@ kind_word Hex = codes "hex"
 kind_word Range = codes "range"
 kind_word Cpu = codes "cpu"
 kind_word Repeat = codes "repeat"
+kind_word Name = codes "name"
 kind_word Image = codes "image"
 kind_word Inside = codes "inside"
 kind_word Unended = codes "unended"

@@ -35,6 +35,8 @@ pub enum BadKind {
     Cpu,
     /// The UUID of an earlier application.
     Repeat,
+    /// A name of a session that is opened a second time, or that isn't opened before.
+    Name,
     /// An image that can't be loaded.
     Image,
     /// A processor that enters while it is inside, or leaves while it isn't.
@@ -62,6 +64,7 @@ impl BadKind {
             BadKind::Range => "range",
             BadKind::Cpu => "cpu",
             BadKind::Repeat => "repeat",
+            BadKind::Name => "name",
             BadKind::Image => "image",
             BadKind::Inside => "inside",
             BadKind::Unended => "unended",

@@ -18,7 +18,7 @@ mod reader;
 mod reading;
 mod said;
 mod trace;
-mod word;
+pub mod word;
 
 pub use builder::Builder;
 pub use fault::{BadKind, LineFault, TraceFault};
