@@ -1,4 +1,4 @@
-ghost use Rattle.std.specs.Prelude.{◌≡◌, ◌<◌, ◌↔◌, false, [], ◌∷◌, ◌++◌, length, slice_get, Some, IfOk, OnOk, OnErr, IsErrOf};
+ghost use Rattle.std.specs.Prelude.{◌≡◌, ◌<◌, true, false, [], ◌∷◌, ◌++◌, length, slice_get, Some, IfOk, OnOk, OnErr, IsErrOf};
 ghost use Rattle.std.specs.List.{AllByRecursion};
 ghost use Rattle.ns_ram.specs.Lane.{IsInRam, bytes_at, bytes_put};
 ghost use Rattle.ns_ram.specs.Writes.{IsWriteOfRam, lane_after};
@@ -67,13 +67,15 @@ impl SmcPort for ListedPort {
     fn smc(&mut self, regs: Regs) -> Result<Regs, PortRefusal>
         ensures made { IfOk result (λ answer.
             Makes self.old.ram (smcs_made self.old) regs answer self.new.ram (smcs_made self.new)) }
-        ensures spent { IsErrOf result PortRefusal.Spent ↔ (has_turn self.old ≡ false) }
+        ensures room { OnOk result (has_turn self.old ≡ true) }
+        ensures spent { IsErrOf result PortRefusal.Spent → has_turn self.old ≡ false }
         ensures ram_stays { OnErr result (self.new.ram ≡ self.old.ram) }
         ensures made_stays { OnErr result (smcs_made self.new ≡ smcs_made self.old) }
         ensures room_stays { OnErr result ((next : Regs) → has_turn self.new ≡ has_turn self.old) }
         ensures whole { length self.new.ram ≡ 0x400000 }
 
-        // Which answer comes, and all that the call changes.
+        // A list without a turn left is always told, and which answer comes, and all that the call changes.
+        ensures told { has_turn self.old ≡ false → IsErrOf result PortRefusal.Spent }
         ensures turn { IfOk result (λ answer. TakesTurn self.old regs answer self.new) }
         ensures unchanged { OnErr result (self.new ≡ self.old) }
     {

@@ -1,4 +1,4 @@
-ghost use Rattle.std.specs.Prelude.{◌≡◌, ℕ, Bool, false, ◌↔◌, List, length, IfOk, OnErr, IsErrOf};
+ghost use Rattle.std.specs.Prelude.{◌≡◌, ℕ, Bool, true, false, List, length, IfOk, OnOk, OnErr, IsErrOf};
 ghost use Rattle.smc_abi.specs.declared.regs.Regs.{Regs};
 ghost use Rattle.smc_port.specs.Smc.{Makes, Smc};
 
@@ -41,7 +41,10 @@ pub trait SmcPort {
     fn smc(&mut self, regs: Regs) -> Result<Regs, PortRefusal>
         ensures made { IfOk result (λ answer.
             Makes (ram self.old) (made self.old) regs answer (ram self.new) (made self.new)) }
-        ensures spent { IsErrOf result PortRefusal.Spent ↔ (has_room self.old regs ≡ false) }
+        // An SMC is made only where there is room, and told to have none only where there isn't: for want of memory a port can
+        // say neither.
+        ensures room { OnOk result (has_room self.old regs ≡ true) }
+        ensures spent { IsErrOf result PortRefusal.Spent → has_room self.old regs ≡ false }
         // Both refusals change nothing.
         ensures ram_stays { OnErr result (ram self.new ≡ ram self.old) }
         ensures made_stays { OnErr result (made self.new ≡ made self.old) }

@@ -12,7 +12,7 @@ use Rattle.teec_calls.specs.Places.{message_cookie}
 use Rattle.teec.specs.Causes.{EndsIn, HasItsCause, is_strange, IsOutOfRounds, IsRetried, IsStrange, stage_of}
 use Rattle.teec.specs.Client.{HasRun, made_since}
 use Rattle.teec.specs.Rounds.{Calls, Cancels, Ended, Failed, Resumes, Stage, regs_at}
-use Rattle.teec.specs.Runs.{AwaitsReply, IsStop, NextSmc, Scene}
+use Rattle.teec.specs.Runs.{AwaitsReply, HasNext, IsStop, NextSmc, Scene}
 use Rattle.teec.proofs.Counting.{IsAt, counted, ends_in, stage_of_run}
 
 -- ---- causes, by the stage
@@ -73,6 +73,11 @@ no_next stage has_room room none smc =
     let some : regs_at stage ≡ Some smc.regs = smc.next in
     cc
 
+none_next : (stage : Stage) → regs_at stage ≡ None → HasNext stage → ⊥
+none_next stage none next =
+    let some : regs_at stage ≡ Some next.0 = next.1 in
+    cc
+
 -- a call that went to its end
 ended_so : {A : Type 0} (limits : Limits) (smcs : List Smc) (has_room : Regs → Bool) (value : A) → IsAt limits Ended smcs → Ended ≡ stage_of limits smcs
     → HasItsCause {A = A} limits smcs has_room (Ok value)
@@ -101,7 +106,7 @@ stops_with stage has_room (Retried number) fault stops failed = own_fault (Retri
 stops_with stage has_room (Rounds number) fault stops failed = own_fault (Rounds number) fault (sym stops ∙ failed)
 stops_with stage has_room (Strange answer) fault stops failed = own_fault (Strange answer) fault (sym stops ∙ failed)
 stops_with stage has_room Spent fault stops failed = absurd (no_next stage has_room false (ap regs_at failed) stops)
-stops_with stage has_room Memory fault (inl smc) failed = absurd (no_next stage has_room true (ap regs_at failed) smc)
+stops_with stage has_room Memory fault (inl next) failed = absurd (none_next stage (ap regs_at failed) next)
 stops_with stage has_room Memory fault (inr awaits) failed = absurd (not_awaited stage fault failed awaits)
 
 -- where there was no room

@@ -10,7 +10,7 @@ use Rattle.teec_calls.specs.Answers.{register, said}
 use Rattle.teec_calls.specs.Places.{cancel_at}
 use Rattle.teec.specs.declared.limits.Limits.{Limits}
 use Rattle.teec.specs.Rounds.{Stage, stage_after}
-use Rattle.teec.specs.Runs.{AwaitsReply, NextSmc}
+use Rattle.teec.specs.Runs.{AwaitsReply, HasNext, NextSmc}
 
 -- ---- SMCs by what they are
 
@@ -93,9 +93,9 @@ stage_of limits smcs = stage_after limits (answers_of smcs)
 abbrev pub IsSpent : Limits → List Smc → (Regs → Bool) → Type 0
 IsSpent limits smcs has_room = NextSmc (stage_of limits smcs) has_room false
 
--- memory was wanting: to the port, which had room for the next SMC, or to the supplicant, which was to answer a request
-abbrev pub IsShort : Limits → List Smc → (Regs → Bool) → Type 0
-IsShort limits smcs has_room = NextSmc (stage_of limits smcs) has_room true ⊎ AwaitsReply (stage_of limits smcs)
+-- memory was wanting: to the port, which was to make the next SMC, or to the supplicant, which was to answer a request
+abbrev pub IsShort : Limits → List Smc → Type 0
+IsShort limits smcs = HasNext (stage_of limits smcs) ⊎ AwaitsReply (stage_of limits smcs)
 
 -- how a call ended has its cause, and each cause its end
 pub record HasItsCause {A : Type 0} (limits : Limits) (smcs : List Smc) (has_room : Regs → Bool) (result : Result A TeecFault) : Type 0 where
@@ -104,6 +104,6 @@ pub record HasItsCause {A : Type 0} (limits : Limits) (smcs : List Smc) (has_roo
   pub rounds : (number : ℕ) → IsErrOf result (Rounds number) ↔ IsOutOfRounds limits smcs number
   pub strange : (answer : Regs) → IsErrOf result (Strange answer) ↔ IsStrange smcs answer
   pub spent : IsErrOf result Spent → IsSpent limits smcs has_room
-  pub memory : IsErrOf result Memory → IsShort limits smcs has_room
-  -- no room, unless the supplicant wanted memory before the port was asked
+  pub memory : IsErrOf result Memory → IsShort limits smcs
+  -- no room, unless the supplicant wanted memory before the port was asked, or the port before it knew
   pub no_room : IsSpent limits smcs has_room → IsErrOf result Spent ⊎ IsErrOf result Memory

@@ -1,5 +1,5 @@
 -- A call over a port: what the client writes to RAM before each SMC, and what its supplicant answers.
-use Rattle.std.specs.Prelude.{◌≡◌, ◌≢◌, ◌⊎◌, ℕ, suc, zero, Bool, true, false, List, [], ◌∷◌, ◌++◌, Some}
+use Rattle.std.specs.Prelude.{◌≡◌, ◌≢◌, ◌⊎◌, ℕ, suc, zero, Bool, false, List, [], ◌∷◌, ◌++◌, Some}
 use Rattle.ns_ram.specs.Lane.{bytes_at}
 use Rattle.ns_ram.specs.Writes.{Write, lane_after}
 use Rattle.rpc_msgs.specs.declared.rpc.Rpc.{Rpc}
@@ -98,17 +98,21 @@ pub record NextSmc (stage : Stage) (has_room : Regs → Bool) (room : Bool) : Ty
   pub next : regs_at stage ≡ Some regs
   pub is_room : has_room regs ≡ room
 
+-- a stage has a next SMC, for which the port can want memory, whatever room it has
+abbrev pub HasNext : Stage → Type 0
+HasNext stage = (regs : Regs) × (regs_at stage ≡ Some regs)
+
 -- a request stands to be answered in the client's buffer, for which the supplicant can want memory
 abbrev pub AwaitsReply : Stage → Type 0
 AwaitsReply stage = (returns thread : ℕ) × (stage ≡ Resumes returns (record { kind = Cmd message_cookie; thread = thread }))
 
--- the stage at which a call stops with a fault. Want of memory is the port's, which had room, or the supplicant's
+-- the stage at which a call stops with a fault. Want of memory is the port's or the supplicant's
 abbrev pub IsStop : Stage → (Regs → Bool) → TeecFault → Type 0
 IsStop stage has_room (Retried number) = stage ≡ Failed (Retried number)
 IsStop stage has_room (Rounds number) = stage ≡ Failed (Rounds number)
 IsStop stage has_room (Strange answer) = stage ≡ Failed (Strange answer)
 IsStop stage has_room Spent = NextSmc stage has_room false
-IsStop stage has_room Memory = NextSmc stage has_room true ⊎ AwaitsReply stage
+IsStop stage has_room Memory = HasNext stage ⊎ AwaitsReply stage
 
 -- ---- how far a call has come over a port
 
