@@ -1,0 +1,4 @@
+pub mod InRam
+pub mod OfPlay
+pub mod Served
+pub mod Told

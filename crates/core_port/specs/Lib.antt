@@ -1,0 +1,3 @@
+pub mod CorePort
+pub mod Serving
+pub mod Smcs
