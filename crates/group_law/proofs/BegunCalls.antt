@@ -6,24 +6,23 @@ use Rattle.std.specs.Prelude.{◌||◌, bytes_eq, if◌then◌else◌, is_some}
 use Rattle.std.specs.Option.{option_map, option_map_or}
 use Rattle.std.proofs.lemmas.Option.{option_and_then_some}
 use Rattle.base.specs.NumberMap.{NumberMap, IsRising-remove, get, insert, remove}
-use Rattle.job_model.specs.Beginning.{OfImage, OfRelation, Program, begun_job}
+use Rattle.job_model.specs.Beginning.{OfImage, OfRelation, Program}
 use Rattle.job_model.specs.declared.call_kind.CallKind.{CallKind}
 use Rattle.job_model.specs.declared.call_kind.CallKind.TheVariants as kind
 use Rattle.job_model.specs.declared.entry_point.EntryPoint.{EntryPoint}
 use Rattle.job_model.specs.declared.entry_point.EntryPoint.TheVariants as point
-use Rattle.job_model.specs.Job.{Job, idle_job}
-use Rattle.job_model.specs.Owner.{owner_of}
+use Rattle.job_model.specs.Job.{Job}
 use Rattle.job_model.specs.Point.{no_params}
 use Rattle.param_copy.specs.Copying.{Copies}
 use Rattle.session_table.specs.declared.session.Session.{Session}
 use Rattle.session_table.specs.Session.{reserved_for}
 use Rattle.ta_params.specs.declared.copied_params.CopiedParams.{CopiedParams}
 use Rattle.ta_params.specs.declared.login.Login.{Login}
-use Rattle.kernel_model.specs.Application.{Application, Booted, program_of, uuid_of}
+use Rattle.kernel_model.specs.Application.{Application, program_of, uuid_of}
 use Rattle.kernel_model.specs.Argument.{Opening}
 use Rattle.kernel_model.specs.Begin.{Begun, begins_on, closing_points, session_job, with_instance}
 use Rattle.kernel_model.specs.Begin as kept_begin
-use Rattle.kernel_model.specs.Instances.{app_of, destroy_after, destroy_of, held_by, is_held, keeps_alive, program_on}
+use Rattle.kernel_model.specs.Instances.{destroy_after, destroy_of, held_by, is_held, keeps_alive, program_on}
 use Rattle.kernel_model.specs.Kernel.{Instance, PendingCall, Runs, Tables, ThreadSlot}
 use Rattle.kernel_model.specs.NewCall.{NewCall, beginner, named_session, no_copies, opener, shared_by, with_pins}
 use Rattle.kernel_model.proofs.Parts.{option_map_some}
@@ -34,7 +33,7 @@ use Rattle.own_model.specs.Own.{next_in}
 use Rattle.own_model.specs.Parameters.{params_of}
 use Rattle.own_model.specs.Tied.{InstancesAlike}
 use Rattle.own_model.specs.declared.own_event.OwnInput.TheVariants.{Copied}
-use Rattle.group_model.specs.Group.{Coming, Group, GroupCall, GroupSession, Home, Opener, Start, about_home, about_open, comes_in}
+use Rattle.group_model.specs.Group.{Coming, Group, GroupCall, Home, Opener, about_home, about_open, comes_in}
 use Rattle.group_model.specs.Group.{fresh_call, job_on, open_begins, silent, start_at, start_of_open, step}
 use Rattle.group_model.specs.Group as machine
 use Rattle.group_model.specs.Read.{Notes, invoke_event, numbered, open_event, with_event}
@@ -51,29 +50,17 @@ use Rattle.group_law.proofs.SettledCalls.{IfNoted, invoke_step}
 use Rattle.group_law.proofs.WaitingCalls.{AtHome, AtShared, ComesIn, Within, areas_are, at_home, at_shared, dead_same, home_at, homes_are}
 use Rattle.group_law.proofs.WaitingCalls.{same_app, some_same, taken_same, there_step}
 use Rattle.group_law.proofs.Waits.{with_next}
+use Rattle.own_model.proofs.OwnCalls.{job_with, same_program}
 
 no_more : 0 ≤ 0
 no_more = omega arith
 
 -- ---- the job
 
--- what a job begins with: the key, its program, and memory, objects and UUID of an instance
-abbrev pub job_with : List ℕ → Option Program → Instance → Login → ℕ → CopiedParams → List EntryPoint → Job
-job_with key program instance login context params points =
-    begun_job (record { program = program; memory = instance.memory; seen = false })
-    (idle_job (owner_of instance.uuid key) login context instance.objects params) points
-
 -- the boot's key is the machine's
 pub key_is : (about : About) (notes : Notes) (slots : List ThreadSlot) (g : Group) (c : NewCall)
     → Within about notes slots g c → about.key ≡ c.boot.key → c.boot.key ≡ g.key
 key_is about notes slots g c w key = sym (w.tied.key ∙ key)
-
-same_program : (boot : Booted) (app : Application) (instance : Instance) → app_of boot (uuid_of app) ≡ Some app
-    → instance.uuid ≡ uuid_of app
-    → program_on boot instance ≡ (if instance.dead then None else Some (program_of app))
-same_program boot app instance of_boot uuid =
-    ap (λ u. if instance.dead then None else option_map program_of (app_of boot u)) uuid
-    ∙ ap (λ (o : Option Application). if instance.dead then None else option_map program_of o) of_boot
 
 -- the job of a call in an opened session is the machine's
 same_job : (about : About) (notes : Notes) (slots : List ThreadSlot) (g : Group) (c : NewCall)

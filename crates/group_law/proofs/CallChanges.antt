@@ -12,9 +12,9 @@ use Rattle.kernel_model.proofs.Parts.{set_found, set_other}
 use Rattle.own_model.proofs.InOrder.{by_numbers}
 use Rattle.own_model.proofs.Maps.{get-insert-other, get-insert-same, get-inserted, get-remove-other, get-remove-same}
 use Rattle.own_model.proofs.Maps.{get-removed}
-use Rattle.own_model.proofs.OwnChanges.{some_number}
+use Rattle.own_model.proofs.OwnChanges.{some_number, is_another, found_stays}
 use Rattle.own_model.specs.Own.{Numbering}
-use Rattle.own_model.specs.Tied.{FoundAlike, HoldersAlike, call_at, call_in}
+use Rattle.own_model.specs.Tied.{call_at, call_in}
 use Rattle.group_model.specs.Group.{Group, GroupCall, GroupSession, GroupWaiter, with_call}
 use Rattle.group_law.specs.Line.{AreKept, AreNames, AreTiedCalls, HasNumber, IsTiedCall}
 use Rattle.group_law.specs.Tied.{AreOthers, AreTiedInstances, AreTiedSessions, AreTiedWaiters, CallsAlike, IsTold}
@@ -35,12 +35,6 @@ without_slot numbering slot =
 still_numbered : (numbers : NumberMap ℕ) (slot at other : ℕ) → (slot ≡ at → ⊥) → get numbers at ≡ Some other
     → get (remove numbers slot) at ≡ Some other
 still_numbered numbers slot at other apart has = get-remove-other numbers slot at apart ∙ has
-
--- what has a number still is another slot
-is_another : (numbers : NumberMap ℕ) (slot at other : ℕ) → get (remove numbers slot) at ≡ Some other → slot ≡ at → ⊥
-is_another numbers slot at other has same =
-    let no : None ≡ Some other = sym (get-remove-same numbers slot) ∙ ap (λ n. get (remove numbers slot) n) same
-    ∙ has in absurd cc
 
 -- ---- the calls
 
@@ -285,28 +279,6 @@ pub record IsIdle (names : Names) (slot number : ℕ) (tables : Tables) (waiting
   pub holder : (at own : ℕ) (kept : Instance) → get names.instances at ≡ Some own →
       get tables.instances at ≡ Some kept → kept.holder ≡ Some slot → ⊥
   pub unlined : All (λ (waiter : GroupWaiter). waiter.call ≡ number → ⊥) waiting
-
-holders_stay : (numbers : NumberMap ℕ) (slot : ℕ) (kept own : Option ℕ) → (kept ≡ Some slot → ⊥)
-    → HoldersAlike numbers kept own → HoldersAlike (remove numbers slot) kept own
-holders_stay numbers slot None None apart alike = tt
-holders_stay numbers slot (Some at) (Some number) apart alike =
-    still_numbered numbers slot at number (λ same. apart (ap (λ n. Some n) (sym same))) alike
-holders_stay numbers slot None (Some number) apart alike = absurd alike
-holders_stay numbers slot (Some at) None apart alike = absurd alike
-
-found_stays : (numbers : NumberMap ℕ) (slot : ℕ) (kept own : Option Instance)
-    → ((instance : Instance) → kept ≡ Some instance → instance.holder ≡ Some slot → ⊥)
-    → FoundAlike numbers kept own → FoundAlike (remove numbers slot) kept own
-found_stays numbers slot None None apart alike = tt
-found_stays numbers slot (Some kept) (Some own) apart alike = record {
-  uuid = alike.uuid;
-  dead = alike.dead;
-  holders = holders_stay numbers slot kept.holder own.holder (apart kept refl) alike.holders;
-  memory = alike.memory;
-  objects = alike.objects;
-}
-found_stays numbers slot None (Some own) apart alike = absurd alike
-found_stays numbers slot (Some kept) None apart alike = absurd alike
 
 order_stays : (numbers : NumberMap ℕ) (slot number : ℕ) (waiters : List Waiter) (waiting : List GroupWaiter)
     → get numbers slot ≡ Some number → All (λ (waiter : GroupWaiter). waiter.call ≡ number → ⊥) waiting

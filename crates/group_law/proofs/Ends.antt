@@ -14,7 +14,7 @@ use Rattle.session_table.specs.Sessions.{settled}
 use Rattle.kernel_model.specs.Application.{Application}
 use Rattle.kernel_model.specs.Codes.{success}
 use Rattle.kernel_model.specs.Exit.{gives_back}
-use Rattle.kernel_model.specs.Instances.{given_back, instances_after, killed}
+use Rattle.kernel_model.specs.Instances.{instances_after}
 use Rattle.kernel_model.specs.Kernel.{Instance, PendingCall, Tables, ThreadSlot}
 use Rattle.kernel_model.specs.Sessions.{has_opened, sessions_after, sessions_after_panic, sessions_unrun}
 use Rattle.own_model.proofs.InOrder.{by_numbers}
@@ -171,19 +171,6 @@ unrun_so names instances kept own call own_call kind.Close apart homes go = go
 unrun_so names instances kept own call own_call kind.Settled apart homes go = go
 
 -- ---- the instance
-
-pub given_alike : (numbers : NumberMap ℕ) (end : End) → ChangesAlike numbers (given_back end.memory end.objects)
-given_alike numbers end = record {
-  alike = λ kept own alike.
-      record { uuid = alike.uuid; dead = alike.dead; holders = tt; memory = refl; objects = refl };
-  uuid = λ kept. refl;
-}
-
-pub killed_alike : (numbers : NumberMap ℕ) → ChangesAlike numbers killed
-killed_alike numbers = record {
-  alike = λ kept own alike. record { uuid = alike.uuid; dead = refl; holders = tt; memory = refl; objects = refl };
-  uuid = λ kept. refl;
-}
 
 -- what the machine has under another number than the instance's is nothing
 found_elsewhere : (one number : ℕ) (instance : Instance) → (one ≡ number → ⊥)

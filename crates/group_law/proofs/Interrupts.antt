@@ -1,31 +1,24 @@
 -- An exit from a call of the group that is an interrupt leaves kernel and machine tied: its job is further ahead.
-use Rattle.std.proofs.Common.{◌≡◌, ℕ, ◌+◌, ◌-◌, ◌≤◌, true, false, Option, Some, None, refl, ap, subst, sym}
+use Rattle.std.proofs.Common.{◌≡◌, ℕ, ◌+◌, ◌-◌, ◌≤◌, Option, Some, None, refl, ap, subst, sym}
 use Rattle.std.proofs.Common.{◌∙◌, arith}
 use Rattle.std.specs.Prelude.{slice_get}
 use Rattle.std.specs.Option.{option_map, option_map_or, option_and_then}
 use Rattle.std.proofs.lemmas.Option.{option_and_then_some}
 use Rattle.base.specs.NumberMap.{NumberMap, get}
-use Rattle.job_model.specs.Job.{Job, of_tee}
-use Rattle.job_model.specs.Point.{no_params}
-use Rattle.job_model.specs.Steps.{Grant, JobStop, Left, Stopped, after, grant_of}
+use Rattle.job_model.specs.Job.{Job}
+use Rattle.job_model.specs.Steps.{Left, grant_of}
 use Rattle.job_model.specs.Steps as steps
-use Rattle.job_model.proofs.JobSteps.{after-sum, granted-IsGrant}
 use Rattle.rpc_msgs.specs.declared.rpc.Rpc.TheVariants as rpc
-use Rattle.ta_params.specs.declared.call_result.CallResult.{CallResult}
-use Rattle.ta_params.specs.declared.copied_params.CopiedParams.{CopiedParams}
-use Rattle.kernel_model.specs.Codes.{target_dead}
-use Rattle.kernel_model.specs.Exit.{Exited, after_grant, after_stop, exit, exit_of, further, goes_out_from}
-use Rattle.kernel_model.specs.Exit.{progress_held, progress_in, shows_result, tables_after_end, tables_after_panic}
-use Rattle.kernel_model.specs.Exit.{tables_unrun, woken_by}
-use Rattle.kernel_model.specs.Kernel.{Active, Asks, CallPhase, Ends, Free, Kernel, PendingCall}
-use Rattle.kernel_model.specs.Kernel.{Processor, Progress, Runs, Suspended, Tables, ThreadSlot, Visit, Waits}
+use Rattle.kernel_model.specs.Exit.{Exited, exit, exit_of, further, goes_out_from}
+use Rattle.kernel_model.specs.Exit.{progress_held}
+use Rattle.kernel_model.specs.Kernel.{Active, CallPhase, Free, Kernel, PendingCall}
+use Rattle.kernel_model.specs.Kernel.{Processor, Progress, Runs, Suspended, ThreadSlot, Visit}
 use Rattle.kernel_model.specs.Leaving.{Interrupted, Leaving}
-use Rattle.kernel_model.specs.Leaving.{leaving_in, leaving_of, place_of, plain_request}
-use Rattle.kernel_model.proofs.Parts.{option_map_some}
+use Rattle.kernel_model.specs.Leaving.{leaving_of}
 use Rattle.own_model.proofs.FixedAnswers.{left}
-use Rattle.own_model.proofs.OwnInterrupts.{asks_not, ends_not}
+use Rattle.own_model.proofs.OwnInterrupts.{is_left, phases_on}
 use Rattle.own_model.specs.Own.{reply_of, slot_kept, with_wake, woken_in}
-use Rattle.own_model.specs.Tied.{IsFurther, PhasesAlike, call_in}
+use Rattle.own_model.specs.Tied.{PhasesAlike, call_in}
 use Rattle.group_model.specs.Group.{Group, GroupCall}
 use Rattle.group_model.specs.Read.{Notes, exit_noted, opened_in, out_noted, with_reply}
 use Rattle.group_law.specs.Exits.{InterruptsKeepTied}
@@ -34,102 +27,10 @@ use Rattle.group_law.specs.Tied.{CallsAlike, Names, Tied}
 use Rattle.group_law.proofs.CallChanges.{calls_stay, others_changed}
 use Rattle.group_law.proofs.OtherExits.{goes_silently}
 
--- ---- which calls are interrupted
-
-shows_not : (slot : ℕ) (tables : Tables) (call : PendingCall) (result : CallResult) (params : CopiedParams)
-    → leaving_of slot (shows_result tables call result params).call ≡ Interrupted → ⊥
-shows_not slot tables call result params e =
-    ends_not slot (shows_result tables call result params).call result params true (woken_by tables call call.kind) e
-
--- a call that runs, whose grant left its job
-record IsLeft (tables : Tables) (call : PendingCall) (granted : ℕ) (phase : CallPhase)
-    (progress : Progress) : Type 0 where
-  job : Job
-  left_job : Job
-  runs : phase ≡ Runs job
-  grant : grant_of granted job ≡ Some (Left left_job)
-  is : progress ≡ record { call = record (further call granted) { phase = Runs left_job }; tables = tables }
-
-stop_not : (slot : ℕ) (tables : Tables) (call : PendingCall) (why : JobStop)
-    → leaving_of slot (after_stop tables call why).call ≡ Interrupted → ⊥
-stop_not slot tables call (steps.Ends end) e =
-    shows_not slot (tables_after_end tables call end) call end.result end.params e
-stop_not slot tables call (steps.Panics code) e =
-    shows_not slot (tables_after_panic tables call) call (of_tee target_dead) no_params e
-stop_not slot tables call (steps.Asks wanted payload job) e =
-    asks_not (place_of call (record { wanted = wanted; payload = payload })) (record { wanted = wanted; payload = payload }) e
-
-grant_left : (slot : ℕ) (tables : Tables) (call : PendingCall) (granted : ℕ) (job : Job) (grant : Grant)
-    → grant_of granted job ≡ Some grant
-    → leaving_of slot (after_grant tables call granted grant).call ≡ Interrupted
-    → IsLeft tables call granted (Runs job) (after_grant tables call granted grant)
-grant_left slot tables call granted job (Left left_job) is e =
-    record { job = job; left_job = left_job; runs = refl; grant = is; is = refl }
-grant_left slot tables call granted job (Stopped used why) is e =
-    absurd (stop_not slot tables (further call used) why e)
-
-same_progress : (found progress : Progress) → Some found ≡ Some progress → found ≡ progress
-same_progress found progress e = cc
-
-is_left : (slot : ℕ) (tables : Tables) (call : PendingCall) (granted : ℕ) (phase : CallPhase) (progress : Progress)
-    → call.phase ≡ phase
-    → progress_in tables call granted phase ≡ Some progress → leaving_of slot progress.call ≡ Interrupted
-    → IsLeft tables call granted phase progress
-is_left slot tables call granted (Runs job) progress in_it e interrupted =
-    let found = option_map_some (after_grant tables call granted) (grant_of granted job) progress e in
-    let interrupts : leaving_of slot (after_grant tables call granted found.0).call ≡ Interrupted =
-    ap (λ (p : Progress). leaving_of slot p.call) found.2 ∙ interrupted in
-    subst (IsLeft tables call granted (Runs job)) found.2
-    (grant_left slot tables call granted job found.0 found.1 interrupts)
-is_left slot tables call granted (Asks job wanted payload) progress in_it e interrupted =
-    absurd (asks_not (place_of call (record { wanted = wanted; payload = payload })) (record { wanted = wanted; payload = payload })
-    (ap (λ p. leaving_in slot call p) (sym in_it)
-    ∙ ap (λ (p : Progress). leaving_of slot p.call) (same_progress (record { call = call; tables = tables }) progress e)
-    ∙ interrupted))
-is_left slot tables call granted (Waits params) progress in_it e interrupted =
-    absurd (asks_not (place_of call (plain_request (rpc.Sleep slot))) (plain_request (rpc.Sleep slot))
-    (ap (λ p. leaving_in slot call p) (sym in_it)
-    ∙ ap (λ (p : Progress). leaving_of slot p.call) (same_progress (record { call = call; tables = tables }) progress e)
-    ∙ interrupted))
-is_left slot tables call granted (Ends result params true wakes) progress in_it e interrupted =
-    absurd (ends_not slot call result params true wakes
-    (ap (λ p. leaving_in slot call p) (sym in_it)
-    ∙ ap (λ (p : Progress). leaving_of slot p.call) (same_progress (record { call = call; tables = tables }) progress e)
-    ∙ interrupted))
-is_left slot tables call granted (Ends result params false wakes) progress in_it e interrupted =
-    absurd (shows_not slot (tables_unrun tables call) call result params
-    (ap (λ (p : Progress). leaving_of slot p.call)
-    (same_progress (shows_result (tables_unrun tables call) call result params) progress e) ∙ interrupted))
-
 -- ---- the job, further ahead
 
 sums : (now then granted : ℕ) → then ≤ now → (now - then) + granted ≡ (now + granted) - then
 sums now then granted le = omega arith
-
-longer : (now then granted : ℕ) → then ≤ now → then ≤ now + granted
-longer now then granted le = omega arith
-
-further_on : (now then granted : ℕ) (job left_job from : Job) → IsFurther now then job from
-    → grant_of granted job ≡ Some (Left left_job)
-    → IsFurther (now + granted) then left_job from
-further_on now then granted job left_job from ahead grant =
-    let on = granted-IsGrant job granted (Left left_job) grant in
-    record {
-      more = longer now then granted ahead.more;
-      after = ap (λ n. after n from) (sym (sums now then granted ahead.more))
-          ∙ after-sum from (now - then) granted
-          ∙ ap (λ (o : Option Job). option_and_then (after granted) o) ahead.after
-          ∙ on.0;
-    }
-
-phases_on : (kept : Option ℕ) (now then granted : ℕ) (job left_job : Job) (own : CallPhase)
-    → PhasesAlike kept now then (Runs job) own
-    → grant_of granted job ≡ Some (Left left_job) → PhasesAlike kept (now + granted) then (Runs left_job) own
-phases_on kept now then granted job left_job (Runs from) alike grant =
-    further_on now then granted job left_job from alike grant
-phases_on kept now then granted job left_job (Asks from wanted payload) alike grant = absurd alike
-phases_on kept now then granted job left_job (Waits params) alike grant = absurd alike
-phases_on kept now then granted job left_job (Ends result params told wakes) alike grant = absurd alike
 
 -- ---- the exit
 

@@ -27,7 +27,7 @@ use Rattle.kernel_model.proofs.SoundMaps.{if_some}
 use Rattle.kernel_model.proofs.SoundNewCalls.{opening_taken}
 use Rattle.own_model.proofs.Maps.{get-insert-same}
 use Rattle.own_model.specs.Parameters.{params_of}
-use Rattle.group_model.specs.Group.{Group, GroupWaiter, Opener, job_on, made, open_begins, opens_made, opens_new, silent}
+use Rattle.group_model.specs.Group.{Group, GroupWaiter, job_on, made, open_begins, opens_made, opens_new, silent}
 use Rattle.group_model.specs.Group.{start_of_open, step}
 use Rattle.group_model.specs.Group as machine
 use Rattle.group_model.specs.Read.{Notes, open_event}
@@ -38,11 +38,12 @@ use Rattle.group_law.specs.Laws.{About, names_of}
 use Rattle.group_law.specs.Tied.{Tied}
 use Rattle.group_law.proofs.Alike.{map_none, opened_same}
 use Rattle.group_law.proofs.Begins.{instance_named, nobody}
-use Rattle.group_law.proofs.BegunCalls.{AreBegun, Numbers, On, job_with, key_is, open_comes, opener_of}
+use Rattle.group_law.proofs.BegunCalls.{AreBegun, Numbers, On, key_is, open_comes, opener_of}
 use Rattle.group_law.proofs.NewForms.{Passes}
 use Rattle.group_law.proofs.SettledCalls.{IfNoted}
 use Rattle.group_law.proofs.WaitingCalls.{ComesIn, Within, dead_same, none_shared, same_app, taken_same}
 use Rattle.group_law.proofs.WaitingCalls.{tested_step}
+use Rattle.own_model.proofs.OwnCalls.{job_with}
 
 -- ---- the first that waits
 

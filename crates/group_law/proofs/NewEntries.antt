@@ -1,31 +1,28 @@
 -- An entry with a new call: what its slot is taken for, by the form of the call, and what is noted of it.
-use Rattle.std.proofs.Common.{◌≡◌, ℕ, List, Option, Some, None, Ok, Err, refl, ap, subst, ◌∙◌}
-use Rattle.std.specs.Prelude.{IsTrue, slice_get, slice_set}
+use Rattle.std.proofs.Common.{◌≡◌, ℕ, List, Option, Some, None, refl, ap, ◌∙◌}
+use Rattle.std.specs.Prelude.{IsTrue, slice_get}
 use Rattle.event_journal.specs.declared.event.Event.TheVariants.{Entry}
-use Rattle.ns_ram.specs.Attempt.{Attempt, passes, ◌>>=◌}
-use Rattle.ns_ram.specs.Reader.{done, want_bytes, want_words}
+use Rattle.ns_ram.specs.Attempt.{◌>>=◌}
 use Rattle.ns_ram.specs.declared.read.Read.{Read}
-use Rattle.smc_abi.specs.declared.answer.Answer.{Answer}
 use Rattle.smc_abi.specs.Call.{call_of}
 use Rattle.smc_abi.specs.declared.call.Call.{Call}
 use Rattle.smc_abi.specs.declared.call.Call.TheVariants.{Fast, Resume, Unknown, WithArg, WithRegdArg, WithRpcArg}
 use Rattle.smc_abi.specs.declared.regs.Regs.{Regs}
 use Rattle.kernel_model.specs.Application.{Application, Booted}
 use Rattle.kernel_model.specs.Argument.{IsNew, is_new, reg}
-use Rattle.kernel_model.specs.Decision.{Answers, Decision, Taken, Takes}
-use Rattle.kernel_model.specs.Entry.{after_decision, decision_of}
+use Rattle.kernel_model.specs.Decision.{Taken}
+use Rattle.kernel_model.specs.Entry.{decision_of}
 use Rattle.kernel_model.specs.History.{after_event}
 use Rattle.kernel_model.specs.Kernel.{Active, Free, InSlot, Inside, Kernel, PendingCall, Processor, ThreadSlot, Visit}
-use Rattle.kernel_model.specs.Kernel.{cancelled_slots, lowest_free}
+use Rattle.kernel_model.specs.Kernel.{lowest_free}
 use Rattle.kernel_model.specs.Located.{Located}
 use Rattle.kernel_model.specs.NewCall.{new_call_in, new_call_of, new_call_with}
 use Rattle.kernel_model.specs.Decision.{decided_by}
-use Rattle.kernel_model.proofs.FixedAnswer.{decided_errand, decides_all, errand_of}
-use Rattle.kernel_model.proofs.Parts.{AllOf, set_then_read}
+use Rattle.kernel_model.proofs.FixedAnswer.{decided_errand, decides_all}
+use Rattle.kernel_model.proofs.Parts.{AllOf}
 use Rattle.kernel_model.proofs.SoundSlots.{free_there}
-use Rattle.kernel_model.proofs.Tests.{TakenIn}
 use Rattle.own_model.proofs.FixedAnswers.{entered}
-use Rattle.own_model.proofs.NewEntries.{IsTaken, TakesFree}
+use Rattle.own_model.proofs.NewEntries.{IsTaken, TakesFree, decided_taken, slot_decides}
 use Rattle.own_model.specs.Own.{Entering}
 use Rattle.group_model.specs.Read.{Notes, Watched, call_noted, entry_noted, event_noted, slot_noted}
 use Rattle.group_law.proofs.NewForms.{NewForms, call_ends}
@@ -33,41 +30,10 @@ use Rattle.group_law.proofs.NewForms.{NewForms, call_ends}
 same_call : (cpu : ℕ) (call now : PendingCall) → Active cpu call ≡ Active cpu now → call ≡ now
 same_call cpu call now e = cc
 
-decided_taken : (P : ℕ → Taken → Type 0) (kernel next : Kernel) (visit : Visit) (slot : ℕ) (now : PendingCall)
-    (decision : Decision)
-    → TakesFree P kernel decision → errand_of decision ≡ InSlot slot → after_decision kernel visit decision ≡ next
-    → slice_get next.slots slot ≡ Some (Active visit.cpu now) → IsTaken P kernel next visit slot now
-decided_taken P kernel next visit slot now (Answers answer) holds errand gives there = absurd cc
-decided_taken P kernel next visit slot now (Takes at taken) holds errand gives there =
-    let same : at ≡ slot = cc in
-    let held : ThreadSlot = Active visit.cpu taken.call in
-    let read : slice_get (slice_set (cancelled_slots kernel.slots taken.cancels) at held) at
-    ≡ Some (Active visit.cpu now) =
-    ap (λ (k : Kernel). slice_get k.slots at) gives ∙ ap (λ n. slice_get next.slots n) same ∙ there in
-    subst (λ n. IsTaken P kernel next visit n now) same (record {
-      taken = taken;
-      holds = holds.1;
-      free = holds.0;
-      call_is =
-          same_call visit.cpu taken.call now (set_then_read (cancelled_slots kernel.slots taken.cancels) at held
-          (Active visit.cpu now) read);
-      gives = gives;
-    })
-
 -- whichever free slot it takes, it holds of each form of the call
 abbrev pub OfAllForms : (ℕ → Taken → Type 0) → Booted → Kernel → List ℕ → Type 0
 OfAllForms P boot kernel regs = (slot : ℕ) → slice_get kernel.slots slot ≡ Some Free → (at : Located) (bytes : List ℕ) →
     NewForms (new_call_of boot kernel.tables regs slot at bytes) (P slot)
-
-slot_decides : (P : ℕ → Taken → Type 0) (kernel : Kernel) (slot : ℕ) (attempt : Attempt Answer Taken)
-    → slice_get kernel.slots slot ≡ Some Free → AllOf (TakenIn (P slot)) attempt
-    → AllOf (TakesFree P kernel) (decided_by (attempt >>= (λ taken. passes (slot, taken))))
-slot_decides P kernel slot (done (Ok taken)) free all = (free, all)
-slot_decides P kernel slot (done (Err answer)) free all = tt
-slot_decides P kernel slot (want_bytes addr len next) free all =
-    λ got. slot_decides P kernel slot (next got) free (all got)
-slot_decides P kernel slot (want_words addr most test next) free all =
-    λ got. slot_decides P kernel slot (next got) free (all got)
 
 call_decides : (P : ℕ → Taken → Type 0) (boot : Booted) (kernel : Kernel) (regs : List ℕ) (free : Option ℕ)
     → lowest_free kernel.slots ≡ free → OfAllForms P boot kernel regs

@@ -83,32 +83,6 @@ pub record NewForms (c : NewCall) (P : Taken → Type 0) : Type 0 where
   pub close_waits : (named : Session × Instance) → named_session c ≡ Some named → is_held named.1 ≡ true →
       P (waiting_taken c kind.Close named no_copies)
 
--- and something that follows from it too
-pub forms_onward : (c : NewCall) (P Q : Taken → Type 0) → ((taken : Taken) → P taken → Q taken) → NewForms c P → NewForms c Q
-forms_onward c P Q onward forms = record {
-  settled = λ code. onward _ (forms.settled code);
-  registered = λ buffers. onward _ (forms.registered buffers);
-  open_dead = λ wanted app is dead. onward _ (forms.open_dead wanted app is dead);
-  open_busy = λ wanted app is alive taken. onward _ (forms.open_busy wanted app is alive taken);
-  open_limited = λ wanted app passes. onward _ (forms.open_limited wanted app passes);
-  open_faulty = λ wanted app passes. onward _ (forms.open_faulty wanted app passes);
-  invoke_dead = λ named is dead. onward _ (forms.invoke_dead named is dead);
-  invoke_faulty = λ named is alive. onward _ (forms.invoke_faulty named is alive);
-  cancels = λ named is. onward _ (forms.cancels named is);
-  opens_kept = λ wanted app copies kept passes shared free.
-      onward _ (forms.opens_kept wanted app copies kept passes shared free);
-  opens_awaited = λ wanted app copies number passes shared awaited.
-      onward _ (forms.opens_awaited wanted app copies number passes shared awaited);
-  opens_next = λ wanted app copies passes shared awaited.
-      onward _ (forms.opens_next wanted app copies passes shared awaited);
-  open_waits = λ wanted app copies kept passes shared held.
-      onward _ (forms.open_waits wanted app copies kept passes shared held);
-  invokes = λ named copies is alive free. onward _ (forms.invokes named copies is alive free);
-  invoke_waits = λ named copies is alive held. onward _ (forms.invoke_waits named copies is alive held);
-  closes = λ named is free. onward _ (forms.closes named is free);
-  close_waits = λ named is held. onward _ (forms.close_waits named is held);
-}
-
 -- ---- each command
 
 not_false : (test : Bool) → not test ≡ false → test ≡ true

@@ -40,8 +40,8 @@ use Rattle.own_model.specs.InOrder.{IsAtWork}
 use Rattle.own_model.specs.Own.{input_of}
 use Rattle.own_model.specs.Solo.{is_no_buffer, phase_back, wakes_back}
 use Rattle.own_model.specs.Tied.{FoundAlike, InstancesAlike, IsFurther, PhasesAlike, WakesAlike, WasTold}
-use Rattle.group_model.specs.Group.{Group, GroupCall, GroupSession, GroupWaiter, Start, Waiting, comes_back, comes_back_in}
-use Rattle.group_model.specs.Group.{gives_up, instance_at, job_on, made, opens_again, retests, start_again, waits_on}
+use Rattle.group_model.specs.Group.{Group, GroupCall, GroupSession, GroupWaiter, Waiting, comes_back, comes_back_in}
+use Rattle.group_model.specs.Group.{gives_up, instance_at, made, opens_again, retests, start_again, waits_on}
 use Rattle.group_model.specs.Group as machine
 use Rattle.group_model.specs.Read.{Watched}
 use Rattle.group_law.specs.InOrder.{Fits}
@@ -50,11 +50,11 @@ use Rattle.group_law.specs.Tied.{AreTiedInstances, AreTiedSessions, AreTiedWaite
 use Rattle.group_law.specs.Tied.{IsTold, SessionsAlike, SessionsFoundAlike, found_at}
 use Rattle.group_law.proofs.Alike.{opened_same, sessions_removed}
 use Rattle.group_law.proofs.Ends.{NoOther, instance_put}
-use Rattle.group_law.proofs.Given.{IsSameCall, alike_itself, asking_flagged, begins_flagged, given_alike, given_flagged}
-use Rattle.group_law.proofs.Given.{given_same, own_given, same_given, wakes_alike, without_alike}
+use Rattle.group_law.proofs.Given.{IsSameCall, given_alike, given_same, own_given}
 use Rattle.group_law.proofs.LeftLine.{leaves_line, line_without}
 use Rattle.group_law.proofs.Progress.{OwnThere, Place, kept_at}
 use Rattle.group_law.proofs.Room.{IsReady}
+use Rattle.own_model.proofs.OwnOnward.{alike_itself, asking_flagged, begins_flagged, given_flagged, same_given, wakes_alike, without_alike}
 
 -- ---- what is known of the call
 

@@ -53,9 +53,6 @@ below_more a b lt = omega arith
 last_below : (a : ℕ) → a < a + 1
 last_below a = omega arith
 
-same_number : (a b : ℕ) → (a == b) ≡ true → a ≡ b
-same_number a b e = grind (arith, nat_tests)
-
 pub is_itself : (a : ℕ) → (a == a) ≡ true
 is_itself a = grind (arith, nat_tests)
 

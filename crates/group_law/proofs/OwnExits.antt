@@ -48,6 +48,7 @@ use Rattle.group_law.proofs.InOrder.{InOrderGoing, going_so}
 use Rattle.group_law.proofs.OrderedChanges.{InLine, is_on}
 use Rattle.group_law.proofs.Progress.{Comes, OwnThere, Place, comes_to, names_at}
 use Rattle.group_law.proofs.MoreSteps.{one_step}
+use Rattle.own_model.proofs.OwnExits.{AsksFor}
 
 -- ---- what is noted of it
 
@@ -256,13 +257,6 @@ request_so p own progress asked phase (Some place) c leaving tells is goes place
     goes
     (ap (λ b. if b then asked.told else reply.Alloc)
     (sym placed ∙ ap (λ (o : Option RequestPlace). is_some o) has_one))
-
--- a call that asks, waits or wakes was not settled as it came in
-abbrev AsksFor : CallPhase → Type 0
-AsksFor (Asks job wanted payload) = Unit {0}
-AsksFor (Waits params) = Unit {0}
-AsksFor (Ends result params told (Some woken)) = Unit {0}
-AsksFor _ = ⊥
 
 not_settled : (call_kind : CallKind) (phase : CallPhase) → AsksFor phase → Fits call_kind phase
     → call_kind ≡ kind.Settled → ⊥

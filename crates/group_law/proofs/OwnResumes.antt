@@ -46,7 +46,6 @@ use Rattle.group_law.specs.Laws.{AreTied, GoesAlong, SharesOne}
 use Rattle.group_law.specs.Resumes.{AreFitting, OwnResumesKeepTied}
 use Rattle.group_law.specs.Tied.{IsOfGroup, Tied}
 use Rattle.group_law.proofs.CallChanges.{call_changes, tables_change}
-use Rattle.group_law.proofs.Given.{asked_not, given_nothing, given_phase, given_seen, onward_seen, runs_seen, suspended_at}
 use Rattle.group_law.proofs.InOrder.{stays_in_order}
 use Rattle.group_law.proofs.Onward.{Returns, homes_of, onward_so}
 use Rattle.group_law.proofs.OwnExits.{found_there}
@@ -54,6 +53,7 @@ use Rattle.group_law.proofs.Progress.{OwnThere, Place, kept_at, kept_told, names
 use Rattle.group_law.proofs.Room.{IsReady, is_ready, log_grows, running_finds}
 use Rattle.group_law.proofs.Seen.{SeesAlike, sees_alike}
 use Rattle.group_law.proofs.Silent.{Silently, events_silent, replies_silent, silently, silently_on, silently_runs}
+use Rattle.own_model.proofs.OwnResumes.{given_nothing, asked_not, runs_seen, given_phase, given_seen, onward_seen, suspended_at}
 
 -- ---- what is known of a call that waits
 

@@ -9,7 +9,7 @@ use Rattle.job_model.specs.declared.call_kind.CallKind.TheVariants as kind
 use Rattle.job_model.specs.Flag.{HasSeenCancel}
 use Rattle.job_model.specs.Job.{Job, of_tee, with_cancel_seen}
 use Rattle.job_model.specs.Point.{no_params}
-use Rattle.job_model.specs.Steps.{End, Grant, JobStop, Left, Stop, Stopped, grant_of, stop_at}
+use Rattle.job_model.specs.Steps.{End, Grant, JobStop, Left, Stop, Stopped, grant_of}
 use Rattle.job_model.specs.Steps as steps
 use Rattle.job_model.proofs.JobSteps.{granted-IsGrant, stop-granted, stop_at-sum}
 use Rattle.job_model.proofs.SeenCancel.{cancel_stays_seen}
@@ -39,8 +39,10 @@ use Rattle.group_law.specs.InOrder.{Fits, IsInOrder}
 use Rattle.group_law.specs.Laws.{About, names_of}
 use Rattle.group_law.specs.Tied.{AreasAlike, CallsAlike, HomesAlike, IsTold, Names, Tied}
 use Rattle.group_law.proofs.CallChanges.{tables_change}
-use Rattle.group_law.proofs.Ends.{SessionsGo, ended_so, given_alike, gives_back_tied, killed_alike, panicked_so, unrun_so}
+use Rattle.group_law.proofs.Ends.{SessionsGo, ended_so, gives_back_tied, panicked_so, unrun_so}
 use Rattle.group_law.proofs.Woken.{woken_alike}
+use Rattle.own_model.proofs.OwnProgress.{stop_steps}
+use Rattle.own_model.proofs.OwnEnds.{given_alike, killed_alike}
 
 -- ---- a call of the group
 
@@ -165,12 +167,6 @@ total_steps now done_by_then used le = omega arith
 
 within : (now done_by_then used most : ℕ) → done_by_then ≤ now → now + used ≤ most → (now - done_by_then) + used ≤ most
 within now done_by_then used most le bound = omega arith
-
-stop_steps : (tables : Tables) (call : PendingCall) (why : JobStop)
-    → (after_stop tables call why).call.steps ≡ call.steps
-stop_steps tables call (steps.Ends end) = refl
-stop_steps tables call (steps.Panics code) = refl
-stop_steps tables call (steps.Asks wanted payload left) = refl
 
 -- a job that runs, and the machine's, which it is further than
 record OwnRuns (p : Place) (call : PendingCall) (own : GroupCall) (job from : Job) : Type 0 where

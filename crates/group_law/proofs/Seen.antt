@@ -1,18 +1,15 @@
 -- A call of the group that comes back sees that it was cancelled, and so does the machine's call.
-use Rattle.std.proofs.Common.{◌≡◌, ℕ, ◌-◌, Bool, true, false, not, List, [], ◌∷◌, ◌++◌, Option, Some, refl, ap}
+use Rattle.std.proofs.Common.{◌≡◌, ◌-◌, Bool, true, false, not, List, [], ◌∷◌, ◌++◌, Option, Some, refl, ap}
 use Rattle.std.proofs.Common.{subst, sym, ◌∙◌}
 use Rattle.std.specs.Prelude.{◌&&◌, if◌then◌else◌, slice_get, slice_set}
 use Rattle.std.specs.Option.{option_map, option_and_then}
 use Rattle.std.proofs.lemmas.List.{append-nil}
 use Rattle.base.specs.NumberMap.{NumberMap, get, insert}
-use Rattle.job_model.specs.Job.{Job, with_cancel_seen}
-use Rattle.job_model.proofs.SeenCancel.{cancel_stays_seen}
-use Rattle.kernel_model.specs.Kernel.{Asks, CallPhase, Ends, PendingCall, Runs, ThreadSlot, Waits}
+use Rattle.kernel_model.specs.Kernel.{CallPhase, PendingCall, ThreadSlot}
 use Rattle.kernel_model.specs.Resume.{phase_seen, sees}
 use Rattle.own_model.proofs.Maps.{get-insert-same, insert-again}
-use Rattle.own_model.proofs.OwnSeen.{as_far, flagged_job}
-use Rattle.own_model.specs.Solo.{phase_at}
-use Rattle.own_model.specs.Tied.{PhasesAlike, WasTold, call_in}
+use Rattle.own_model.proofs.OwnSeen.{flagged_too, seen_twice, caught_up}
+use Rattle.own_model.specs.Tied.{PhasesAlike, call_in}
 use Rattle.group_model.specs.Group.{Group, GroupCall, silent, with_call}
 use Rattle.group_model.specs.Group as machine
 use Rattle.group_model.specs.Read.{Logged, seen_noted, with_event}
@@ -23,72 +20,6 @@ use Rattle.group_law.specs.Tied.{CallsAlike, IsTold, Tied}
 use Rattle.group_law.proofs.CallChanges.{call_changes, calls_stay, others_changed}
 use Rattle.group_law.proofs.Progress.{OwnThere, Place, kept_at, kept_told, names_at, same_own}
 use Rattle.group_law.proofs.Silent.{Silently, silently}
-
--- ---- phases
-
--- a phase that the machine's has the flag of, has it
-flagged_too : (kept : Option ℕ) (now done_by_then : ℕ) (phase own_phase : CallPhase)
-    → PhasesAlike kept now done_by_then phase own_phase
-    → phase_seen own_phase ≡ own_phase → phase_seen phase ≡ phase
-flagged_too kept now done_by_then (Runs job) (Runs from) alike flagged =
-    ap (λ (j : Job). Runs j) (cancel_stays_seen.steps from job (now - done_by_then)
-    (flagged_job from flagged) alike.after)
-flagged_too kept now done_by_then (Asks job wanted payload) (Asks from asked bytes) alike flagged =
-    ap phase_seen alike.1 ∙ flagged ∙ sym alike.1
-flagged_too kept now done_by_then (Waits params) own_phase alike flagged = refl
-flagged_too kept now done_by_then (Ends result params told wakes) own_phase alike flagged = refl
-flagged_too kept now done_by_then (Runs job) (Asks from asked bytes) alike flagged = absurd alike
-flagged_too kept now done_by_then (Runs job) (Waits params) alike flagged = absurd alike
-flagged_too kept now done_by_then (Runs job) (Ends result params told wakes) alike flagged = absurd alike
-flagged_too kept now done_by_then (Asks job wanted payload) (Runs from) alike flagged = absurd alike
-flagged_too kept now done_by_then (Asks job wanted payload) (Waits params) alike flagged = absurd alike
-flagged_too kept now done_by_then (Asks job wanted payload) (Ends result params told wakes) alike flagged = absurd alike
-
-seen_twice : (phase : CallPhase) → phase_seen (phase_seen phase) ≡ phase_seen phase
-seen_twice (Runs job) = ap (λ (j : Job). Runs j) (cancel_stays_seen.again job)
-seen_twice (Asks job wanted payload) = ap (λ (j : Job). Asks j wanted payload) (cancel_stays_seen.again job)
-seen_twice (Waits params) = refl
-seen_twice (Ends result params told wakes) = refl
-
--- the machine's phase, caught up with the call's
-record CaughtUp (kept : Option ℕ) (now done_by_then : ℕ) (phase own_phase : CallPhase) : Type 0 where
-  up : CallPhase
-  is_at : phase_at (now - done_by_then) own_phase ≡ Some up
-  alike : PhasesAlike kept now now (phase_seen phase) (phase_seen up)
-  told : WasTold own_phase → WasTold (phase_seen up)
-
-caught_up : (kept : Option ℕ) (now done_by_then : ℕ) (phase own_phase : CallPhase)
-    → PhasesAlike kept now done_by_then phase own_phase
-    → CaughtUp kept now done_by_then phase own_phase
-caught_up kept now done_by_then (Runs job) (Runs from) alike = record {
-  up = Runs job;
-  is_at = ap (λ (o : Option Job). option_map (λ (j : Job). Runs j) o) alike.after;
-  alike = as_far now (with_cancel_seen job);
-  told = λ told. absurd told;
-}
-caught_up kept now done_by_then (Asks job wanted payload) (Asks from asked bytes) alike =
-    record {
-      up = Asks from asked bytes;
-      is_at = refl;
-      alike = (refl, ap phase_seen alike.1);
-      told = λ told. absurd told;
-    }
-caught_up kept now done_by_then (Waits params) (Waits copied) alike =
-    record { up = Waits copied; is_at = refl; alike = (refl, alike.1); told = λ told. absurd told }
-caught_up kept now done_by_then (Ends result params told wakes) (Ends answer remains shown woken) alike =
-    record { up = Ends answer remains shown woken; is_at = refl; alike = alike; told = λ was. was }
-caught_up kept now done_by_then (Runs job) (Asks from asked bytes) alike = absurd alike
-caught_up kept now done_by_then (Runs job) (Waits params) alike = absurd alike
-caught_up kept now done_by_then (Runs job) (Ends result params told wakes) alike = absurd alike
-caught_up kept now done_by_then (Asks job wanted payload) (Runs from) alike = absurd alike
-caught_up kept now done_by_then (Asks job wanted payload) (Waits params) alike = absurd alike
-caught_up kept now done_by_then (Asks job wanted payload) (Ends result params told wakes) alike = absurd alike
-caught_up kept now done_by_then (Waits params) (Runs from) alike = absurd alike
-caught_up kept now done_by_then (Waits params) (Asks from asked bytes) alike = absurd alike
-caught_up kept now done_by_then (Waits params) (Ends answer remains shown woken) alike = absurd alike
-caught_up kept now done_by_then (Ends result params told wakes) (Runs from) alike = absurd alike
-caught_up kept now done_by_then (Ends result params told wakes) (Asks from asked bytes) alike = absurd alike
-caught_up kept now done_by_then (Ends result params told wakes) (Waits copied) alike = absurd alike
 
 -- ---- the call
 

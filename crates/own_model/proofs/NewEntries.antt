@@ -45,7 +45,7 @@ free_there slots slot lowest =
     let found = position-Some is_free slots slot Free lowest in
     slice_get-get_or slots slot Free found.0 ∙ ap (λ (held : ThreadSlot). Some held) (is_free_slot _ found.1)
 
-slot_decides : (P : ℕ → Taken → Type 0) (kernel : Kernel) (slot : ℕ) (attempt : Attempt Answer Taken)
+pub slot_decides : (P : ℕ → Taken → Type 0) (kernel : Kernel) (slot : ℕ) (attempt : Attempt Answer Taken)
     → slice_get kernel.slots slot ≡ Some Free
     → AllOf (TakenIn (P slot)) attempt
     → AllOf (TakesFree P kernel) (decided_by (attempt >>= (λ taken. passes (slot, taken))))
@@ -84,7 +84,7 @@ pub record IsTaken (P : ℕ → Taken → Type 0) (kernel next : Kernel) (visit 
 same_call : (cpu : ℕ) (call now : PendingCall) → Active cpu call ≡ Active cpu now → call ≡ now
 same_call cpu call now e = cc
 
-decided_taken : (P : ℕ → Taken → Type 0) (kernel next : Kernel) (visit : Visit) (slot : ℕ) (now : PendingCall)
+pub decided_taken : (P : ℕ → Taken → Type 0) (kernel next : Kernel) (visit : Visit) (slot : ℕ) (now : PendingCall)
     (decision : Decision)
     → TakesFree P kernel decision → errand_of decision ≡ InSlot slot → after_decision kernel visit decision ≡ next
     → slice_get next.slots slot ≡ Some (Active visit.cpu now) → IsTaken P kernel next visit slot now

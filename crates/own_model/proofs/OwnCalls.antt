@@ -206,12 +206,12 @@ kept_uuid app whose slots z c named w h =
 -- ---- the job
 
 -- what a job begins with: the key, its program, and memory, objects and UUID of an instance
-abbrev job_with : List ℕ → Option Program → Instance → Login → ℕ → CopiedParams → List EntryPoint → Job
+abbrev pub job_with : List ℕ → Option Program → Instance → Login → ℕ → CopiedParams → List EntryPoint → Job
 job_with key program instance login context params points =
     begun_job (record { program = program; memory = instance.memory; seen = false })
     (idle_job (owner_of instance.uuid key) login context instance.objects params) points
 
-same_program : (boot : Booted) (app : Application) (instance : Instance) → app_of boot (uuid_of app) ≡ Some app
+pub same_program : (boot : Booted) (app : Application) (instance : Instance) → app_of boot (uuid_of app) ≡ Some app
     → instance.uuid ≡ uuid_of app
     → program_on boot instance ≡ (if instance.dead then None else Some (program_of app))
 same_program boot app instance of_boot uuid =

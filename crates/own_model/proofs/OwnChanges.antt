@@ -202,7 +202,7 @@ still_numbered : (numbers : NumberMap ℕ) (slot at other : ℕ) → (slot ≡ a
 still_numbered numbers slot at other apart has = get-remove-other numbers slot at apart ∙ has
 
 -- what has a number still is another slot
-is_another : (numbers : NumberMap ℕ) (slot at other : ℕ) → get (remove numbers slot) at ≡ Some other → slot ≡ at → ⊥
+pub is_another : (numbers : NumberMap ℕ) (slot at other : ℕ) → get (remove numbers slot) at ≡ Some other → slot ≡ at → ⊥
 is_another numbers slot at other has same =
     let no : None ≡ Some other = sym (get-remove-same numbers slot) ∙ ap (λ n. get (remove numbers slot) n) same
     ∙ has in absurd cc
@@ -216,7 +216,7 @@ holders_stay numbers slot (Some at) (Some number) apart alike =
 holders_stay numbers slot None (Some number) apart alike = absurd alike
 holders_stay numbers slot (Some at) None apart alike = absurd alike
 
-found_stays : (numbers : NumberMap ℕ) (slot : ℕ) (kept own : Option Instance)
+pub found_stays : (numbers : NumberMap ℕ) (slot : ℕ) (kept own : Option Instance)
     → ((instance : Instance) → kept ≡ Some instance → instance.holder ≡ Some slot → ⊥)
     → FoundAlike numbers kept own → FoundAlike (remove numbers slot) kept own
 found_stays numbers slot None None apart alike = tt

@@ -126,14 +126,14 @@ pub record ChangesAlike (numbers : NumberMap ℕ) (change : Instance → Instanc
       → InstancesAlike numbers (change kept) (change own)
   pub uuid : (kept : Instance) → (change kept).uuid ≡ kept.uuid
 
-given_alike : (numbers : NumberMap ℕ) (end : End) → ChangesAlike numbers (given_back end.memory end.objects)
+pub given_alike : (numbers : NumberMap ℕ) (end : End) → ChangesAlike numbers (given_back end.memory end.objects)
 given_alike numbers end = record {
   alike = λ kept own alike.
       record { uuid = alike.uuid; dead = alike.dead; holders = tt; memory = refl; objects = refl };
   uuid = λ kept. refl;
 }
 
-killed_alike : (numbers : NumberMap ℕ) → ChangesAlike numbers killed
+pub killed_alike : (numbers : NumberMap ℕ) → ChangesAlike numbers killed
 killed_alike numbers = record {
   alike = λ kept own alike. record { uuid = alike.uuid; dead = refl; holders = tt; memory = refl; objects = refl };
   uuid = λ kept. refl;

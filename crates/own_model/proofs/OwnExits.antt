@@ -226,7 +226,7 @@ request_so about kernel notes solo slot number own progress request wanted told 
     }
 
 -- a call that asks, waits or wakes was not settled as it came in
-abbrev AsksFor : CallPhase → Type 0
+abbrev pub AsksFor : CallPhase → Type 0
 AsksFor (Asks job wanted payload) = Unit {0}
 AsksFor (Waits params) = Unit {0}
 AsksFor (Ends result params told (Some woken)) = Unit {0}

@@ -61,13 +61,13 @@ shows_not slot tables call result params e =
     ends_not slot (shows_result tables call result params).call result params true (woken_by tables call call.kind) e
 
 -- a call that runs, whose grant left its job
-record IsLeft (tables : Tables) (call : PendingCall) (granted : ℕ) (phase : CallPhase)
+pub record IsLeft (tables : Tables) (call : PendingCall) (granted : ℕ) (phase : CallPhase)
     (progress : Progress) : Type 0 where
-  job : Job
-  left_job : Job
-  runs : phase ≡ Runs job
-  grant : grant_of granted job ≡ Some (Left left_job)
-  is : progress ≡ record { call = record (further call granted) { phase = Runs left_job }; tables = tables }
+  pub job : Job
+  pub left_job : Job
+  pub runs : phase ≡ Runs job
+  pub grant : grant_of granted job ≡ Some (Left left_job)
+  pub is : progress ≡ record { call = record (further call granted) { phase = Runs left_job }; tables = tables }
 
 stop_not : (slot : ℕ) (tables : Tables) (call : PendingCall) (why : JobStop)
     → leaving_of slot (after_stop tables call why).call ≡ Interrupted → ⊥
@@ -90,7 +90,7 @@ grant_left slot tables call granted job (Stopped used why) is e =
 same_progress : (found progress : Progress) → Some found ≡ Some progress → found ≡ progress
 same_progress found progress e = cc
 
-is_left : (slot : ℕ) (tables : Tables) (call : PendingCall) (granted : ℕ) (phase : CallPhase) (progress : Progress)
+pub is_left : (slot : ℕ) (tables : Tables) (call : PendingCall) (granted : ℕ) (phase : CallPhase) (progress : Progress)
     → call.phase ≡ phase
     → progress_in tables call granted phase ≡ Some progress → leaving_of slot progress.call ≡ Interrupted
     → IsLeft tables call granted phase progress
@@ -141,7 +141,7 @@ further_on now then granted job left_job from ahead grant =
           ∙ on.0;
     }
 
-phases_on : (kept : Option ℕ) (now then granted : ℕ) (job left_job : Job) (own : CallPhase)
+pub phases_on : (kept : Option ℕ) (now then granted : ℕ) (job left_job : Job) (own : CallPhase)
     → PhasesAlike kept now then (Runs job) own
     → grant_of granted job ≡ Some (Left left_job) → PhasesAlike kept (now + granted) then (Runs left_job) own
 phases_on kept now then granted job left_job (Runs from) alike grant =

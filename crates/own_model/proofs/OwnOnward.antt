@@ -56,7 +56,7 @@ use Rattle.own_model.specs.Tied.{WasTold, shown}
 
 -- ---- what is given
 
-asking_flagged : (job : Job) (wanted : Rpc) (payload : List ℕ)
+pub asking_flagged : (job : Job) (wanted : Rpc) (payload : List ℕ)
     → phase_seen (Asks job wanted payload) ≡ Asks job wanted payload → HasSeenCancel job
 asking_flagged job wanted payload e = same_asking (with_cancel_seen job) job e
   where
@@ -65,14 +65,14 @@ asking_flagged job wanted payload e = same_asking (with_cancel_seen job) job e
     same_asking first second same = cc
 
 -- a phase at work is as far as itself
-alike_itself : (kept : Option ℕ) (n : ℕ) (phase : CallPhase) → IsAtWork phase → PhasesAlike kept n n phase phase
+pub alike_itself : (kept : Option ℕ) (n : ℕ) (phase : CallPhase) → IsAtWork phase → PhasesAlike kept n n phase phase
 alike_itself kept n (Runs job) works = as_far n job
 alike_itself kept n (Asks job wanted payload) works = (refl, refl)
 alike_itself kept n (Waits params) works = absurd works
 alike_itself kept n (Ends result params told wakes) works = absurd works
 
 -- the kernel gives a job what the machine does
-same_given : (before : CallPhase) (job : Job) (given : Given)
+pub same_given : (before : CallPhase) (job : Job) (given : Given)
     → phase_when_given before job given ≡ phase_back before job (input_of given)
 same_given before job Nothing = refl
 same_given before job (Buffer buffer) = refl
@@ -91,7 +91,7 @@ advance_flagged before job came (Some (Stops (steps.Asks wanted payload left))) 
 advance_flagged before job came (Some (Stops (steps.Ends end))) flagged seen is = flagged
 advance_flagged before job came (Some (Stops (steps.Panics code))) flagged seen is = flagged
 
-given_flagged : (before : CallPhase) (job : Job) (given : Given) → phase_seen before ≡ before → HasSeenCancel job
+pub given_flagged : (before : CallPhase) (job : Job) (given : Given) → phase_seen before ≡ before → HasSeenCancel job
     → phase_seen (phase_back before job (input_of given)) ≡ phase_back before job (input_of given)
 given_flagged before job Nothing flagged seen = flagged
 given_flagged before job (Buffer buffer) flagged seen = flagged
@@ -100,14 +100,14 @@ given_flagged before job NoBuffer flagged seen =
 given_flagged before job (Reply reply) flagged seen =
     advance_flagged before job (answer.Replied reply) (advance_on_answer (answer.Replied reply) job) flagged seen refl
 
-wakes_alike : (kept : Option ℕ) (given : Given) (wakes woken : Option ℕ) → WakesAlike kept wakes woken
+pub wakes_alike : (kept : Option ℕ) (given : Given) (wakes woken : Option ℕ) → WakesAlike kept wakes woken
     → WakesAlike kept (still_wakes given wakes) (wakes_back woken (input_of given))
 wakes_alike kept Nothing wakes woken alike = alike
 wakes_alike kept (Buffer buffer) wakes woken alike = alike
 wakes_alike kept NoBuffer wakes woken alike = tt
 wakes_alike kept (Reply reply) wakes woken alike = tt
 
-without_alike : (given : Given) → is_without_buffer given ≡ is_no_buffer (input_of given)
+pub without_alike : (given : Given) → is_without_buffer given ≡ is_no_buffer (input_of given)
 without_alike Nothing = refl
 without_alike (Buffer buffer) = refl
 without_alike NoBuffer = refl
@@ -153,7 +153,7 @@ in_phase session instance kept call own phase own_phase alike phases flagged = r
 -- ---- a job that begins
 
 -- one that begins with the flag has it
-begins_flagged : (program : Option Program) (memory : List ℕ) (job : Job) (points : List EntryPoint) → HasSeenCancel job
+pub begins_flagged : (program : Option Program) (memory : List ℕ) (job : Job) (points : List EntryPoint) → HasSeenCancel job
     → HasSeenCancel (begun_job (record { program = program; memory = memory; seen = true }) job points)
 begins_flagged program memory job [] seen = seen
 begins_flagged None memory job (first ∷ behind) seen = seen

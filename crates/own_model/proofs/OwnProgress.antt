@@ -153,7 +153,7 @@ total_steps now done_by_then used le = omega arith
 within : (now done_by_then used most : ℕ) → done_by_then ≤ now → now + used ≤ most → (now - done_by_then) + used ≤ most
 within now done_by_then used most le bound = omega arith
 
-stop_steps : (tables : Tables) (call : PendingCall) (why : JobStop)
+pub stop_steps : (tables : Tables) (call : PendingCall) (why : JobStop)
     → (after_stop tables call why).call.steps ≡ call.steps
 stop_steps tables call (steps.Ends end) = refl
 stop_steps tables call (steps.Panics code) = refl

@@ -83,7 +83,7 @@ silent_runs about first second third (Some one) (Some other) on further =
 -- ---- what is noted
 
 -- an interrupted call is given nothing
-given_nothing : (regs : List ℕ) (leaving : Leaving) (reads : List Read) (given : Given) → leaving ≡ Interrupted
+pub given_nothing : (regs : List ℕ) (leaving : Leaving) (reads : List Read) (given : Given) → leaving ≡ Interrupted
     → reading (given_after regs leaving) reads ≡ Some given → given ≡ Nothing
 given_nothing regs leaving reads given is e =
     by_reads reads (sym (ap (λ (l : Leaving). reading (given_after regs l) reads) is) ∙ e)
@@ -103,7 +103,7 @@ back_is_noted notes number (Finishes result params) given out = refl
 -- ---- what the call had come to
 
 -- it was interrupted exactly where its application runs
-asked_not : (slot : ℕ) (call : PendingCall) (phase : CallPhase) → ((job : Job) → phase ≡ Runs job → ⊥)
+pub asked_not : (slot : ℕ) (call : PendingCall) (phase : CallPhase) → ((job : Job) → phase ≡ Runs job → ⊥)
     → leaving_in slot call phase ≡ Interrupted → ⊥
 asked_not slot call (Runs job) asked e = asked job refl
 asked_not slot call (Asks job wanted payload) asked e =
@@ -113,7 +113,7 @@ asked_not slot call (Waits params) asked e =
 asked_not slot call (Ends result params told wakes) asked e = ends_not slot call result params told wakes e
 
 -- seeing a cancellation leaves it running, or not
-runs_seen : (call : PendingCall) (job : Job) → call.phase ≡ Runs job → (seen : Job) × ((sees call).phase ≡ Runs seen)
+pub runs_seen : (call : PendingCall) (job : Job) → call.phase ≡ Runs job → (seen : Job) × ((sees call).phase ≡ Runs seen)
 runs_seen call job is = by_mark call.marked
   where
     by_mark : (marked : Bool)
@@ -122,13 +122,13 @@ runs_seen call job is = by_mark call.marked
     by_mark true = (with_cancel_seen job, ap phase_seen is)
     by_mark false = (job, is)
 
-given_phase : (given : Given) (call : PendingCall) → (call_given given call).phase ≡ call.phase
+pub given_phase : (given : Given) (call : PendingCall) → (call_given given call).phase ≡ call.phase
 given_phase Nothing call = refl
 given_phase (Buffer buffer) call = refl
 given_phase NoBuffer call = refl
 given_phase (Reply told) call = refl
 
-given_seen : (given : Given) (call : PendingCall) → (call_given given call).seen ≡ call.seen
+pub given_seen : (given : Given) (call : PendingCall) → (call_given given call).seen ≡ call.seen
 given_seen Nothing call = refl
 given_seen (Buffer buffer) call = refl
 given_seen NoBuffer call = refl
@@ -168,7 +168,7 @@ tested_seen r params session found =
     (if-both (SeenAs r) (is_without_buffer r.given) (ends_with r out_of_memory) (goes_on r (Waits params)) refl refl)
     (begins_seen r params session r.call.kind found))
 
-onward_seen : (r : Resumed) (phase : CallPhase) → SeenAs r (onward_in r phase)
+pub onward_seen : (r : Resumed) (phase : CallPhase) → SeenAs r (onward_in r phase)
 onward_seen r (Runs job) = refl
 onward_seen r (Asks job wanted payload) = refl
 onward_seen r (Waits params) =
@@ -360,7 +360,7 @@ module _ (boot : Booted) (about : About) (kernel : Kernel) (notes : Notes) (solo
 -- ---- the entry
 
 -- the slot holds the call, suspended
-suspended_at : (client : ℕ) (held : Option ThreadSlot) (call : PendingCall) → suspended_for client held ≡ Some call
+pub suspended_at : (client : ℕ) (held : Option ThreadSlot) (call : PendingCall) → suspended_for client held ≡ Some call
     → (owner : ℕ) × (held ≡ Some (Suspended owner call))
 suspended_at client None call e = absurd cc
 suspended_at client (Some Free) call e = absurd cc

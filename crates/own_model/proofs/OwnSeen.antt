@@ -53,7 +53,7 @@ pub flagged_job : (job : Job) → phase_seen (Runs job) ≡ Runs job → HasSeen
 flagged_job job e = same_job (with_cancel_seen job) job e
 
 -- a phase that the machine's has the flag of, has it
-flagged_too : (kept : Option ℕ) (now done_by_then : ℕ) (phase own_phase : CallPhase)
+pub flagged_too : (kept : Option ℕ) (now done_by_then : ℕ) (phase own_phase : CallPhase)
     → PhasesAlike kept now done_by_then phase own_phase
     → phase_seen own_phase ≡ own_phase → phase_seen phase ≡ phase
 flagged_too kept now done_by_then (Runs job) (Runs from) alike flagged =
@@ -70,20 +70,20 @@ flagged_too kept now done_by_then (Asks job wanted payload) (Runs from) alike fl
 flagged_too kept now done_by_then (Asks job wanted payload) (Waits params) alike flagged = absurd alike
 flagged_too kept now done_by_then (Asks job wanted payload) (Ends result params told wakes) alike flagged = absurd alike
 
-seen_twice : (phase : CallPhase) → phase_seen (phase_seen phase) ≡ phase_seen phase
+pub seen_twice : (phase : CallPhase) → phase_seen (phase_seen phase) ≡ phase_seen phase
 seen_twice (Runs job) = ap (λ (j : Job). Runs j) (cancel_stays_seen.again job)
 seen_twice (Asks job wanted payload) = ap (λ (j : Job). Asks j wanted payload) (cancel_stays_seen.again job)
 seen_twice (Waits params) = refl
 seen_twice (Ends result params told wakes) = refl
 
 -- the machine's phase, caught up with the call's
-record CaughtUp (kept : Option ℕ) (now done_by_then : ℕ) (phase own_phase : CallPhase) : Type 0 where
-  up : CallPhase
-  is_at : phase_at (now - done_by_then) own_phase ≡ Some up
-  alike : PhasesAlike kept now now (phase_seen phase) (phase_seen up)
-  told : WasTold own_phase → WasTold (phase_seen up)
+pub record CaughtUp (kept : Option ℕ) (now done_by_then : ℕ) (phase own_phase : CallPhase) : Type 0 where
+  pub up : CallPhase
+  pub is_at : phase_at (now - done_by_then) own_phase ≡ Some up
+  pub alike : PhasesAlike kept now now (phase_seen phase) (phase_seen up)
+  pub told : WasTold own_phase → WasTold (phase_seen up)
 
-caught_up : (kept : Option ℕ) (now done_by_then : ℕ) (phase own_phase : CallPhase)
+pub caught_up : (kept : Option ℕ) (now done_by_then : ℕ) (phase own_phase : CallPhase)
     → PhasesAlike kept now done_by_then phase own_phase
     → CaughtUp kept now done_by_then phase own_phase
 caught_up kept now done_by_then (Runs job) (Runs from) alike = record {
