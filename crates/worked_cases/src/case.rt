@@ -31,6 +31,23 @@ fn block_of(alloc: Global, lines: &str) -> Result<Vec<u8>, AllocError> {
     Ok(block)
 }
 
+/// Bytes that stand in the input from a place on, in place of as many others.
+#[derive(Drop)]
+struct Change {
+    at: u32,
+    bytes: Vec<u8>,
+}
+
+impl Change {
+    /// Puts the bytes, as far as the input reaches.
+    fn put(&self, input: &mut [u8]) {
+        let at = (self.at as usize).min(input.len());
+        let (_, behind) = input.split_at_mut(at);
+        let count = behind.len().min(self.bytes.len());
+        behind[..count].copy_from_slice(&self.bytes.as_slice()[..count]);
+    }
+}
+
 /// In what a run is not what its case says.
 #[derive(Clone, Copy)]
 enum Difference {
@@ -54,6 +71,8 @@ pub struct Case {
     input: Vec<u8>,
     output: Vec<u8>,
     part: Part,
+    /// What is changed in the input when it runs.
+    changes: Vec<Change>,
     /// It runs once with each number of bytes of the input from the first cut to the last, or with all where there are
     /// fewer.
     first_cut: u32,
@@ -64,7 +83,7 @@ pub struct Case {
 }
 
 impl Case {
-    /// A case of this name, with no words, no bytes, no cut and no call that fails.
+    /// A case of this name, with no words, no bytes, no change, no cut and no call that fails.
     pub fn new(alloc: Global, name: &str) -> Result<Case, AllocError> {
         Ok(Case {
             name: String::from_str(alloc, name)?,
@@ -72,6 +91,7 @@ impl Case {
             input: Vec::new(alloc),
             output: Vec::new(alloc),
             part: Part::Input,
+            changes: Vec::new(alloc),
             first_cut: u32::MAX,
             last_cut: u32::MAX,
             failing_takes: Vec::new(alloc),
@@ -79,12 +99,13 @@ impl Case {
         })
     }
 
-    /// The same words and input under another name, with no output, no cut and no call that fails.
+    /// The same words and input under another name, with no output, no change, no cut and no call that fails.
     pub fn begin_again(&mut self, alloc: Global, name: &str) -> Result<(), AllocError>
         ensures { OnOk result ((self.new.words ≡ self.old.words) × (self.new.input ≡ self.old.input)) }
     {
         self.name = String::from_str(alloc, name)?;
         self.output = Vec::new(alloc);
+        self.changes = Vec::new(alloc);
         self.first_cut = u32::MAX;
         self.last_cut = u32::MAX;
         self.failing_takes = Vec::new(alloc);
@@ -98,10 +119,30 @@ impl Case {
         let lines = String::from_utf8_lossy(alloc, self.output.as_slice())?;
         let block = block_of(alloc, lines.as_str())?;
         self.begin_again(alloc, name)?;
-        self.words = Vec::new(alloc);
-        self.push_words(alloc, "threads")?;
+        self.say_word(alloc, "threads")?;
         self.output = block;
         Ok(())
+    }
+
+    /// The journal that the word `record` writes of the same input, by the word `audit`, under another name.
+    pub fn begin_by_audit<R: Threads + Wait + Sync>(
+        &mut self,
+        rt: &R,
+        alloc: Global,
+        natives: &Natives,
+        name: &str,
+    ) -> Result<(), AllocError> {
+        self.begin_again(alloc, name)?;
+        self.say_word(alloc, "record")?;
+        let recorded = self.run_at(rt, alloc, natives, u32::MAX)?;
+        self.input = Vec::from_slice(alloc, recorded.sink.bytes())?;
+        self.say_word(alloc, "audit")
+    }
+
+    /// The command line is this word.
+    fn say_word(&mut self, alloc: Global, word: &str) -> Result<(), AllocError> {
+        self.words = Vec::new(alloc);
+        self.push_words(alloc, word)
     }
 
     /// Adds the words of a line to the command line.
@@ -172,6 +213,46 @@ impl Case {
         Ok(())
     }
 
+    /// As it runs, the input has new bytes from a place on. Says whether the old ones stand there, as many.
+    pub fn change(
+        &mut self,
+        alloc: Global,
+        at: u32,
+        old: &[u8],
+        new: &[u8],
+    ) -> Result<bool, AllocError>
+        ensures { OnOk result (self.new.input ≡ self.old.input) }
+    {
+        let first = (at as usize).min(self.input.len());
+        let fits = self.input.as_slice()[first..].starts_with(old) && old.len() == new.len();
+        if fits {
+            let bytes = Vec::from_slice(alloc, new)?;
+            self.changes.push(Change { at, bytes })?;
+        }
+        Ok(fits)
+    }
+
+    /// As it runs, the bytes of the input from a first place to a second stand behind those from there to a third. Says whether
+    /// there are such bytes.
+    pub fn swap(
+        &mut self,
+        alloc: Global,
+        first: u32,
+        second: u32,
+        third: u32,
+    ) -> Result<bool, AllocError>
+        ensures { OnOk result (self.new.input ≡ self.old.input) }
+    {
+        let fits = first < second && second < third && third as usize <= self.input.len();
+        if fits {
+            let input = self.input.as_slice();
+            let mut bytes = Vec::from_slice(alloc, &input[second as usize..third as usize])?;
+            bytes.extend_from_slice(&input[first as usize..second as usize])?;
+            self.changes.push(Change { at: first, bytes })?;
+        }
+        Ok(fits)
+    }
+
     /// It runs once with each number of bytes of its input from the first to the last.
     pub fn cut(&mut self, first: u32, last: u32)
         ensures { (self.new.first_cut ≡ first) × (self.new.last_cut ≡ last) }
@@ -186,6 +267,15 @@ impl Case {
     {
         let count = (cut as usize).min(self.input.len());
         Vec::from_slice(alloc, &self.input.as_slice()[..count])
+    }
+
+    /// The input up to a cut, with its changes.
+    fn changed_to(&self, alloc: Global, cut: u32) -> Result<Vec<u8>, AllocError> {
+        let mut bytes = self.input_to(alloc, cut)?;
+        for change in &self.changes {
+            change.put(bytes.as_mut_slice());
+        }
+        Ok(bytes)
     }
 
     /// Runs the case at each of its cuts, beside these built-in applications, and says what came of it.
@@ -213,7 +303,7 @@ impl Case {
         natives: &Natives,
         cut: u32,
     ) -> Result<Outcome, AllocError> {
-        let mut source = MemSource::new(self.input_to(alloc, cut)?, self.failing_takes.clone()?);
+        let mut source = MemSource::new(self.changed_to(alloc, cut)?, self.failing_takes.clone()?);
         let mut sink = MemSink::new(alloc, self.failing_puts.clone()?);
         let words = self.words.as_slice();
         let status = run(rt, alloc, words, &mut source, &mut sink, natives, &NoPace).number();

@@ -8,8 +8,10 @@
 //! `comment N` (a comment line of N bytes).
 //! `take N` and `put N` make call N of the source or the sink fail, counted from 0. `again NAME` begins a case with
 //! the words and the input of the one before, `by_threads NAME` one with that input, the word `threads` and the block of the
-//! output before, which is that of one processor, and `cut FIRST LAST` makes a case run once with each number of bytes of
-//! its input from the first to the last.
+//! output before, which is that of one processor, and `by_audit NAME` one with the word `audit` and the journal that the word `record`
+//! writes of that input. `cut FIRST LAST` makes a case run once with each number of bytes of its input from the first to the last.
+//! `change AT OLD NEW` has other bytes, as many and hexadecimal, stand in the input from a place on, and `swap A B C` puts its bytes
+//! from A to B behind those from B to C, for this case alone. A line that begins with `#` says why the output is what it is.
 #![tactic(auto)]
 
 mod case;
@@ -66,13 +68,15 @@ fn begins(alloc: Global, case: &mut Case, word: &str, rest: &str) -> Result<bool
     Ok(true)
 }
 
-/// Takes a line that gives bytes otherwise, a cut, or a call that fails, and says whether it does.
+/// Takes a line that gives bytes otherwise, a cut, a change, or a call that fails, and says whether it does.
 fn takes_numbers(alloc: Global, case: &mut Case, word: &str, rest: &str) -> Result<bool> {
     match word {
         "hex" => push_digits(alloc, case, rest)?,
         "comment" => case.push_comment(number(rest)?)?,
         "lines" => push_lines(case, rest)?,
         "cut" => cut(case, rest)?,
+        "change" => change(alloc, case, rest)?,
+        "swap" => swap(alloc, case, rest)?,
         "take" => case.fail_take(number(rest)?)?,
         "put" => case.fail_put(number(rest)?)?,
         _ => return Ok(false),
@@ -100,6 +104,27 @@ fn cut(case: &mut Case, rest: &str) -> Result<()> {
     Ok(())
 }
 
+/// Has other bytes stand in the input of the case.
+fn change(alloc: Global, case: &mut Case, rest: &str) -> Result<()> {
+    let (at, bytes) = halves(rest)?;
+    let (old, new) = halves(bytes)?;
+    let (old, new) = (hex::decode(alloc, old)?, hex::decode(alloc, new)?);
+    if !case.change(alloc, number(at)?, old.as_slice(), new.as_slice())? {
+        bail!("no such bytes: {rest}");
+    }
+    Ok(())
+}
+
+/// Has two parts of the input of the case, one behind the other, change places.
+fn swap(alloc: Global, case: &mut Case, rest: &str) -> Result<()> {
+    let (first, others) = halves(rest)?;
+    let (second, third) = halves(others)?;
+    if !case.swap(alloc, number(first)?, number(second)?, number(third)?)? {
+        bail!("no such parts: {rest}");
+    }
+    Ok(())
+}
+
 /// Runs a case that is to end with this status, and prints what came of it.
 fn tell_verdict<R: Print + Threads + Wait + Sync>(
     rt: &R,
@@ -113,6 +138,23 @@ fn tell_verdict<R: Print + Threads + Wait + Sync>(
     Ok(())
 }
 
+/// Takes a line at which a case runs, or the trace before is recorded, and says whether it does.
+fn runs<R: Print + Threads + Wait + Sync>(
+    rt: &R,
+    alloc: Global,
+    natives: &Natives,
+    case: &mut Case,
+    word: &str,
+    rest: &str,
+) -> Result<bool> {
+    match word {
+        "status" => tell_verdict(rt, alloc, natives, case, rest)?,
+        "by_audit" => case.begin_by_audit(rt, alloc, natives, rest)?,
+        _ => return Ok(false),
+    }
+    Ok(true)
+}
+
 /// Takes one line of a case. At its last line the case runs, and what came of it is printed.
 fn take_line<R: Files + AllocGlobal + Print + Threads + Wait + Sync>(
     rt: &R,
@@ -121,14 +163,14 @@ fn take_line<R: Files + AllocGlobal + Print + Threads + Wait + Sync>(
     case: &mut Case,
     line: &str,
 ) -> Result<()> {
-    if takes_bytes(rt, case, line)? {
+    if line.starts_with('#') || takes_bytes(rt, case, line)? {
         return Ok(());
     }
     let (word, rest) = line.split_once(' ').unwrap_or((line, ""));
-    if word == "status" {
-        return tell_verdict(rt, alloc, natives, case, rest);
-    }
-    if begins(alloc, case, word, rest)? || takes_numbers(alloc, case, word, rest)? {
+    if runs(rt, alloc, natives, case, word, rest)?
+        || begins(alloc, case, word, rest)?
+        || takes_numbers(alloc, case, word, rest)?
+    {
         return Ok(());
     }
     bail!("no line of a case: {line}")
