@@ -2,6 +2,8 @@
 use Rattle.std.proofs.Common.{◌≡◌, ℕ, ◌⊎◌, inl, inr, List, [], Option, Some, None, refl, subst}
 use Rattle.std.specs.Option.{option_and_then, option_map}
 use Rattle.std.specs.Prelude.{IfSome}
+use Rattle.audit.proofs.SteadyPlays.{plays_are_faultless}
+use Rattle.base.specs.Zeros.{zeros}
 use Rattle.kernel_model.specs.Application.{IsBooted, Native, booted}
 use Rattle.play_model.specs.Play.{Play, played}
 use Rattle.play_model.proofs.TrueToKernel.{plays_are_true}
@@ -44,6 +46,7 @@ recorded_play natives boot trace result bytes old new (Some play) e boots is sam
     record {
       play = play;
       is_true = plays_are_true natives boot trace play boots e;
+      steady = (plays_are_faultless (zeros 0x400000) natives boot trace play boots e).faultless.steady;
       bytes = subst (Appends old new) bytes_are put;
       status = same;
     }

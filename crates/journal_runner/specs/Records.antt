@@ -1,5 +1,6 @@
 -- What was played where `record` ends with 0, or with TooLong by a refused entry.
 use Rattle.std.specs.Prelude.{◌≡◌, ◌⊎◌, ℕ, List, [], Option, None, Some}
+use Rattle.audit_model.specs.Verdicts.{IsSteady}
 use Rattle.kernel_model.specs.Application.{Native}
 use Rattle.play_model.specs.Play.{Play}
 use Rattle.play_model.specs.TrueToKernel.{IsTrueToKernel}
@@ -17,11 +18,13 @@ use Rattle.word_parts.specs.declared.status.Status.TheVariants as status
 use Rattle.journal_runner.specs.Recording.{journal_of}
 
 -- of a trace that has this boot: just the bytes of the boot and of the history of its play were written, and the status is 0, or
--- TooLong where the play refuses an entry. That play is true to the written kernel: its history is legal
+-- TooLong where the play refuses an entry. That play is true to the written kernel: its history is legal; and it is steady, so
+-- that what was written has the verdict Legal
 pub record IsRecorded (natives : List Native) (boot : Boot) (trace : Trace) (result : Status) (old new : Option (List ℕ)) : Type 0
   where
     pub play : Play
     pub is_true : IsTrueToKernel natives boot trace play
+    pub steady : IsSteady play.history
     pub bytes : Appends old new (journal_of boot play)
     pub status : result ≡ status_of_play play.refused
 
