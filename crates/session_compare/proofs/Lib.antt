@@ -1,3 +1,2 @@
-pub mod Same
 pub mod Differences
 pub mod Logs
