@@ -3,47 +3,50 @@ use Rattle.std.proofs.Common.{◌≡◌, ℕ, ◌⊎◌, inl, inr, Bool, false, 
 use Rattle.std.specs.Prelude.{◌↔◌, IsTrue}
 use Rattle.ports.specs.Port.{Appends, Rose}
 use Rattle.journal_runner.specs.Auditing.{auditing}
-use Rattle.journal_runner.specs.Keeping.{Keeps}
+use Rattle.journal_runner.specs.Compares.{Compares}
+use Rattle.journal_runner.specs.Comparing.{comparing}
 use Rattle.journal_runner.specs.Recording.{recording}
 use Rattle.journal_runner.specs.Records.{Records}
+use Rattle.notify_runner.specs.Notified.{Notifies}
+use Rattle.notify_runner.specs.Run.{notifying}
 use Rattle.trace_runner.proofs.Readings.{not_serve, not_work, threads_alone}
 use Rattle.trace_runner.proofs.Running.{worked-statuses}
 use Rattle.trace_runner.specs.Plays.{IsSummedUp, Plays, SpellsTraces}
 use Rattle.trace_runner.specs.Run.{WorkStatuses, Worked, WritesSummary, reading, usage_line}
-use Rattle.word_parts.specs.Word.{CanBeRefused, CanBeServed, IsRefusedWhole, IsServedWhole, Ran, Statuses, Word}
+use Rattle.word_parts.specs.Keeping.{Keeps}
+use Rattle.word_parts.specs.Word.{Word}
 use Rattle.word_parts.specs.Answer.{Writes}
 use Rattle.trace_runner.specs.Words.{Say, SayNothing}
-use Rattle.trace_runner.specs.declared.command.Command.TheVariants.{Audit, Record, Serve, Threads, Work}
+use Rattle.trace_runner.specs.declared.command.Command.TheVariants.{Audit, Compare, Notify, Record, Serve, Threads, Work}
 use Rattle.trace_runner.specs.declared.command.Grammar.{Grammar}
-use Rattle.trace_runner.specs.declared.content.Content.{Content}
 use Rattle.word_parts.specs.declared.status.Status.{Status}
 use Rattle.word_parts.specs.declared.status.Status.TheVariants.{Memory, ReadFault, Usage, WriteFault}
 use Rattle.word_parts.specs.declared.status.Status.TheVariants as status
-use Rattle.core_c.specs.Running.{AskNothing, IsRun, Native, built_in}
+use Rattle.core_c.specs.Running.{AskNothing, Drivers, IsRun, Native, built_in, built_in_drivers}
 
 -- no fault is counted
 pub quiet : Rose 0 0 → ⊥
 quiet rose = grind arith
 
 -- the clauses of the top call without threads, where its ports count none
-pub record Clauses (natives : List Native) (texts : List (List ℕ)) (input : List ℕ) (left : Option (List ℕ))
+pub record Clauses (natives : List Native) (drivers : Drivers) (texts : List (List ℕ)) (input : List ℕ) (left : Option (List ℕ))
     (result : Status) (old new : Option (List ℕ)) : Type 0 where
   pub alone : Say texts Threads → ⊥
   pub usage : result ≡ Usage → SayNothing texts × Appends old new usage_line
   pub other_words : SayNothing texts → Writes Usage usage_line result old new
-  pub ran : (grammar : Grammar) → Say texts (Serve grammar) → Ran (reading grammar natives) input left result old new
-  pub statuses : (grammar : Grammar) → Say texts (Serve grammar) → Statuses (reading grammar natives) input left result old new
+  pub serves : (grammar : Grammar) → Say texts (Serve grammar)
+      → Keeps (reading grammar natives) input left result old new ((Rose 0 0 → ⊥) × (Rose 0 0 → ⊥))
   pub plays : (grammar : Grammar) → Say texts (Serve grammar) → SpellsTraces grammar
       → Plays grammar natives input result old new
-  pub complete : (grammar : Grammar) → Say texts (Serve grammar) → (content : Content)
-      → CanBeServed (reading grammar natives) input content → (Rose 0 0 → ⊥) → (Rose 0 0 → ⊥)
-      → IsServedWhole (reading grammar natives) content result old new ⊎ (result ≡ Memory)
-  pub refuses : (grammar : Grammar) → Say texts (Serve grammar) → CanBeRefused (reading grammar natives) input
-      → (Rose 0 0 → ⊥) → (Rose 0 0 → ⊥)
-      → IsRefusedWhole (reading grammar natives) input result old new ⊎ (result ≡ Memory)
   pub records : Say texts Record
       → Keeps (recording natives) input left result old new ((Rose 0 0 → ⊥) × (Rose 0 0 → ⊥)) × Records natives input result old new
   pub audits : Say texts Audit → Keeps (auditing natives) input left result old new ((Rose 0 0 → ⊥) × (Rose 0 0 → ⊥))
+  pub compares : (session : ℕ) → Say texts (Compare session)
+      → Keeps (comparing natives session) input left result old new ((Rose 0 0 → ⊥) × (Rose 0 0 → ⊥))
+      × Compares natives session input result old new
+  pub notifies : Say texts Notify
+      → Keeps (notifying natives drivers) input left result old new ((Rose 0 0 → ⊥) × (Rose 0 0 → ⊥))
+      × Notifies natives drivers input result old new
   pub worked : (seed count : ℕ) → Say texts (Work seed count) → Worked seed count result old new
   pub work_statuses : (seed count : ℕ) → Say texts (Work seed count) → WorkStatuses seed count result old new
   pub work_plays : (seed count : ℕ) → Say texts (Work seed count) → result ≡ status.Ok → IsSummedUp seed count old new
@@ -63,19 +66,16 @@ keeps_quiet word input left result old new k = record {
 }
 
 -- where nothing was held before
-pub of_clauses : (natives : List Native) (texts : List (List ℕ)) (input : List ℕ) (left : Option (List ℕ))
-    (result : Status) (output : List ℕ) → Clauses natives texts input left result (Some []) (Some output)
-    → IsRun natives texts input result output
-of_clauses natives texts input left result output c = record {
+pub of_clauses : (natives : List Native) (drivers : Drivers) (texts : List (List ℕ)) (input : List ℕ) (left : Option (List ℕ))
+    (result : Status) (output : List ℕ) → Clauses natives drivers texts input left result (Some []) (Some output)
+    → IsRun natives drivers texts input result output
+of_clauses natives drivers texts input left result output c = record {
   usage = λ e. (inl (c.usage e).0, (c.usage e).1);
   other_words = other;
   serves = λ grammar said. record {
     left = left;
-    ran = c.ran grammar said;
-    statuses = c.statuses grammar said;
+    keeps = keeps_quiet (reading grammar natives) input left result (Some []) (Some output) (c.serves grammar said);
     plays = c.plays grammar said;
-    complete = λ content can. c.complete grammar said content can quiet quiet;
-    refuses = λ can. c.refuses grammar said can quiet quiet;
   };
   records = λ said. record {
     left = left;
@@ -85,6 +85,16 @@ of_clauses natives texts input left result output c = record {
   audits = λ said. record {
     left = left;
     keeps = keeps_quiet (auditing natives) input left result (Some []) (Some output) (c.audits said);
+  };
+  compares = λ session said. record {
+    left = left;
+    keeps = keeps_quiet (comparing natives session) input left result (Some []) (Some output) (c.compares session said).0;
+    compares = (c.compares session said).1;
+  };
+  notifies = λ said. record {
+    left = left;
+    keeps = keeps_quiet (notifying natives drivers) input left result (Some []) (Some output) (c.notifies said).0;
+    notifies = (c.notifies said).1;
   };
   works = λ seed count said. record {
     worked = c.worked seed count said;
@@ -111,19 +121,23 @@ no_words (Serve grammar) said = let e = said.words in absurd cc
 no_words Threads said = let e = said.words in absurd cc
 no_words Record said = let e = said.words in absurd cc
 no_words Audit said = let e = said.words in absurd cc
+no_words (Compare session) said = let e = said.words in absurd cc
+no_words Notify said = let e = said.words in absurd cc
 no_words (Work seed count) said = let e = said.words in absurd cc
 
 -- the word `threads` is answered with the usage line
-pub of_threads : (natives : List Native) (texts : List (List ℕ)) (input : List ℕ) (result : Status) (output : List ℕ)
+pub of_threads : (natives : List Native) (drivers : Drivers) (texts : List (List ℕ)) (input : List ℕ) (result : Status) (output : List ℕ)
     → Say texts Threads → Writes Usage usage_line result (Some []) (Some output)
     → (result ≡ Usage → output ≡ usage_line) → (result ≡ ReadFault → ⊥) → (result ≡ WriteFault → ⊥)
-    → IsRun natives texts input result output
-of_threads natives texts input result output threads written usage reads writes = record {
+    → IsRun natives drivers texts input result output
+of_threads natives drivers texts input result output threads written usage reads writes = record {
   usage = λ e. (inr threads, usage e);
   other_words = λ nothing. written;
   serves = λ grammar said. absurd (not_serve texts grammar threads said);
   records = λ said. let same = threads_alone texts Record threads said in absurd cc;
   audits = λ said. let same = threads_alone texts Audit threads said in absurd cc;
+  compares = λ session said. let same = threads_alone texts (Compare session) threads said in absurd cc;
+  notifies = λ said. let same = threads_alone texts Notify threads said in absurd cc;
   works = λ seed count said. absurd (not_work texts seed count threads said);
   reads = reads;
   writes = writes;
@@ -143,22 +157,14 @@ unread word input = record {
   refuses = λ can no. inr refl;
 }
 
-unrun_so : (natives : List Native) (texts : List (List ℕ)) (input : List ℕ) → IsRun natives texts input Memory []
-unrun_so natives texts input = record {
+unrun_so : (natives : List Native) (drivers : Drivers) (texts : List (List ℕ)) (input : List ℕ) → IsRun natives drivers texts input Memory []
+unrun_so natives drivers texts input = record {
   usage = λ e. absurd cc;
   other_words = λ nothing. inr (inr refl, record { part = []; rest = usage_line; cut = refl; put = refl });
   serves = λ grammar said. record {
     left = None;
-    ran = inl (inr refl, refl);
-    statuses = record {
-      ok = λ e. absurd cc;
-      too_long = λ e. absurd cc;
-      bad_trace = λ e. absurd cc;
-      part = λ e. inl refl;
-    };
+    keeps = unread (reading grammar natives) input;
     plays = λ traces. record { ok = λ e. absurd cc; too_long = λ e. absurd cc };
-    complete = λ content can. inr refl;
-    refuses = λ can. inr refl;
   };
   records = λ said. record {
     left = None;
@@ -166,6 +172,16 @@ unrun_so natives texts input = record {
     records = record { ok = λ e. absurd cc; too_long = λ e. absurd cc };
   };
   audits = λ said. record { left = None; keeps = unread (auditing natives) input };
+  compares = λ session said. record {
+    left = None;
+    keeps = unread (comparing natives session) input;
+    compares = λ e. absurd cc;
+  };
+  notifies = λ said. record {
+    left = None;
+    keeps = unread (notifying natives drivers) input;
+    notifies = record { ok = λ e. absurd cc; too_long = λ e. absurd cc };
+  };
   works = λ seed count said. record {
     worked = inl (refl, refl);
     statuses = worked-statuses seed count Memory (Some []) (Some []) said.within.1 (inl (refl, refl));
@@ -176,25 +192,27 @@ unrun_so natives texts input = record {
   writes = λ e. absurd cc;
 }
 
-pub unrun : (natives : List Native) (texts : List (List ℕ)) (input output : List ℕ) → output ≡ []
-    → IsRun natives texts input Memory output
-unrun natives texts input output empty =
-    subst (λ (bytes : List ℕ). IsRun natives texts input Memory bytes) (sym empty) (unrun_so natives texts input)
+pub unrun : (natives : List Native) (drivers : Drivers) (texts : List (List ℕ)) (input output : List ℕ) → output ≡ []
+    → IsRun natives drivers texts input Memory output
+unrun natives drivers texts input output empty =
+    subst (λ (bytes : List ℕ). IsRun natives drivers texts input Memory bytes) (sym empty) (unrun_so natives drivers texts input)
 
--- beside just the applications that are built in
-pub beside : (natives : List Native) (texts : List (List ℕ)) (input output : List ℕ) (result : Status)
-    → natives ≡ built_in → IsRun natives texts input result output → IsRun built_in texts input result output
-beside natives texts input output result same run =
-    subst (λ (them : List Native). IsRun them texts input result output) same run
+-- beside just what is built in
+pub beside : (natives : List Native) (drivers : Drivers) (texts : List (List ℕ)) (input output : List ℕ) (result : Status)
+    → natives ≡ built_in → drivers ≡ built_in_drivers → IsRun natives drivers texts input result output
+    → IsRun built_in built_in_drivers texts input result output
+beside natives drivers texts input output result same likewise run =
+    subst (λ (them : List Native). IsRun them built_in_drivers texts input result output) same
+    (subst (λ (them : Drivers). IsRun natives them texts input result output) likewise run)
 
 -- with these very words
-pub worded : (natives : List Native) (texts others : List (List ℕ)) (input output : List ℕ) (result : Status)
-    → texts ≡ others → IsRun natives texts input result output → IsRun natives others input result output
-worded natives texts others input output result same run =
-    subst (λ (words : List (List ℕ)). IsRun natives words input result output) same run
+pub worded : (natives : List Native) (drivers : Drivers) (texts others : List (List ℕ)) (input output : List ℕ) (result : Status)
+    → texts ≡ others → IsRun natives drivers texts input result output → IsRun natives drivers others input result output
+worded natives drivers texts others input output result same run =
+    subst (λ (words : List (List ℕ)). IsRun natives drivers words input result output) same run
 
 -- over these very bytes
-pub fed : (natives : List Native) (texts : List (List ℕ)) (input other output : List ℕ) (result : Status)
-    → input ≡ other → IsRun natives texts input result output → IsRun natives texts other result output
-fed natives texts input other output result same run =
-    subst (λ (bytes : List ℕ). IsRun natives texts bytes result output) same run
+pub fed : (natives : List Native) (drivers : Drivers) (texts : List (List ℕ)) (input other output : List ℕ) (result : Status)
+    → input ≡ other → IsRun natives drivers texts input result output → IsRun natives drivers texts other result output
+fed natives drivers texts input other output result same run =
+    subst (λ (bytes : List ℕ). IsRun natives drivers texts bytes result output) same run

@@ -1,19 +1,23 @@
 -- What a call over bytes in memory comes to: it is the top call, whose source and sink count no fault.
 use Rattle.std.specs.Prelude.{◌≡◌, ◌≢◌, ℕ, ◌⊎◌, List, [], ◌∷◌, Option, Some}
+use Rattle.native_tas.specs.declared.driver_relation.DriverRelation.{DriverRelation}
+use Rattle.native_tas.specs.declared.driver_relation.DriverRelation.TheVariants.{Echo}
 use Rattle.native_tas.specs.declared.relation.Relation.{Relation}
 use Rattle.native_tas.specs.declared.relation.Relation.TheVariants.{Digest}
 use Rattle.journal_runner.specs.Auditing.{auditing}
-use Rattle.journal_runner.specs.Keeping.{Keeps}
+use Rattle.journal_runner.specs.Compares.{Compares}
+use Rattle.journal_runner.specs.Comparing.{comparing}
 use Rattle.journal_runner.specs.Recording.{recording}
 use Rattle.journal_runner.specs.Records.{Records}
+use Rattle.notify_runner.specs.Notified.{Notifies}
+use Rattle.notify_runner.specs.Run.{notifying}
 use Rattle.trace_runner.specs.Plays.{IsSummedUp, Plays, SpellsTraces}
 use Rattle.trace_runner.specs.Run.{WorkStatuses, Worked, WritesSummary, reading, usage_line}
-use Rattle.word_parts.specs.Word.{CanBeRefused, CanBeServed, IsRefusedWhole, IsServedWhole, Ran, Statuses}
+use Rattle.word_parts.specs.Keeping.{Keeps}
 use Rattle.word_parts.specs.Answer.{Writes}
 use Rattle.trace_runner.specs.Words.{Say, SayNothing}
-use Rattle.trace_runner.specs.declared.command.Command.TheVariants.{Audit, Record, Serve, Threads, Work}
+use Rattle.trace_runner.specs.declared.command.Command.TheVariants.{Audit, Compare, Notify, Record, Serve, Threads, Work}
 use Rattle.trace_runner.specs.declared.command.Grammar.{Grammar}
-use Rattle.trace_runner.specs.declared.content.Content.{Content}
 use Rattle.word_parts.specs.declared.status.Status.{Status}
 use Rattle.word_parts.specs.declared.status.Status.TheVariants.{Memory, ReadFault, Usage, WriteFault}
 use Rattle.word_parts.specs.declared.status.Status.TheVariants as status
@@ -27,21 +31,23 @@ digest_uuid =
 abbrev pub Native : Type 0
 Native = List ℕ × Relation
 
+-- drivers, each by its value and what its function answers
+abbrev pub Drivers : Type 0
+Drivers = List (ℕ × DriverRelation)
+
 -- those of the program
 abbrev pub built_in : List Native
 built_in = (digest_uuid, Digest) ∷ []
+
+abbrev pub built_in_drivers : Drivers
+built_in_drivers = (1, Echo) ∷ []
 
 -- an input that is read in this grammar, of which this is left, and what was put where nothing was held
 pub record Serves (natives : List Native) (grammar : Grammar) (input : List ℕ) (result : Status)
     (output : List ℕ) : Type 0 where
   pub left : Option (List ℕ)
-  pub ran : Ran (reading grammar natives) input left result (Some []) (Some output)
-  pub statuses : Statuses (reading grammar natives) input left result (Some []) (Some output)
+  pub keeps : Keeps (reading grammar natives) input left result (Some []) (Some output) (Unit {0})
   pub plays : SpellsTraces grammar → Plays grammar natives input result (Some []) (Some output)
-  pub complete : (content : Content) → CanBeServed (reading grammar natives) input content
-      → IsServedWhole (reading grammar natives) content result (Some []) (Some output) ⊎ (result ≡ Memory)
-  pub refuses : CanBeRefused (reading grammar natives) input
-      → IsRefusedWhole (reading grammar natives) input result (Some []) (Some output) ⊎ (result ≡ Memory)
 
 -- a made trace, likewise
 pub record Works (seed count : ℕ) (result : Status) (output : List ℕ) : Type 0 where
@@ -61,18 +67,34 @@ pub record HasAudited (natives : List Native) (input : List ℕ) (result : Statu
   pub left : Option (List ℕ)
   pub keeps : Keeps (auditing natives) input left result (Some []) (Some output) (Unit {0})
 
+-- and two journals of which it is written what they show of a session
+pub record HasCompared (natives : List Native) (session : ℕ) (input : List ℕ) (result : Status) (output : List ℕ) : Type 0
+  where
+    pub left : Option (List ℕ)
+    pub keeps : Keeps (comparing natives session) input left result (Some []) (Some output) (Unit {0})
+    pub compares : Compares natives session input result (Some []) (Some output)
+
+-- and a trace with signals
+pub record HasNotified (natives : List Native) (drivers : Drivers) (input : List ℕ) (result : Status) (output : List ℕ) : Type 0
+  where
+    pub left : Option (List ℕ)
+    pub keeps : Keeps (notifying natives drivers) input left result (Some []) (Some output) (Unit {0})
+    pub notifies : Notifies natives drivers input result (Some []) (Some output)
+
 -- no command is asked for that is served here: none at all, or `threads`, since no thread is started
 abbrev pub AskNothing : List (List ℕ) → Type 0
 AskNothing texts = SayNothing texts ⊎ Say texts Threads
 
 -- the top call of these words over this input ended with this status, and put this output
-pub record IsRun (natives : List Native) (texts : List (List ℕ)) (input : List ℕ) (result : Status)
+pub record IsRun (natives : List Native) (drivers : Drivers) (texts : List (List ℕ)) (input : List ℕ) (result : Status)
     (output : List ℕ) : Type 0 where
   pub usage : result ≡ Usage → AskNothing texts × (output ≡ usage_line)
   pub other_words : AskNothing texts → Writes Usage usage_line result (Some []) (Some output)
   pub serves : (grammar : Grammar) → Say texts (Serve grammar) → Serves natives grammar input result output
   pub records : Say texts Record → HasRecorded natives input result output
   pub audits : Say texts Audit → HasAudited natives input result output
+  pub compares : (session : ℕ) → Say texts (Compare session) → HasCompared natives session input result output
+  pub notifies : Say texts Notify → HasNotified natives drivers input result output
   pub works : (seed count : ℕ) → Say texts (Work seed count) → Works seed count result output
   pub reads : result ≢ ReadFault
   pub writes : result ≢ WriteFault

@@ -1,7 +1,10 @@
 //! The top call over bytes in memory.
-ghost use Rattle.std.specs.Prelude.{◌≡◌, ◌≢◌, ◌++◌, [], Some, map, string_bytes};
-ghost use Rattle.native_tas.specs.Table.{entries};
-ghost use Rattle.core_c.specs.Running.{IsRun, built_in};
+ghost use Rattle.std.specs.Prelude.{◌≡◌, ◌≢◌, ◌++◌, [], ◌∷◌, IfOk, IsTrue, Some, map, string_bytes};
+ghost use Rattle.native_tas.specs.Driver.{driver_of};
+ghost use Rattle.native_tas.specs.DriverRelation.{is_driver_value};
+ghost use Rattle.native_tas.specs.Native.{entry_of};
+ghost use Rattle.native_tas.specs.Table.{drivers, entries};
+ghost use Rattle.core_c.specs.Running.{IsRun, built_in, built_in_drivers};
 ghost use Rattle.core_c.specs.Words.{texts_in};
 ghost use Rattle.trace_runner.specs.Run.{usage_line};
 ghost use Rattle.word_parts.specs.Answer.{Writes};
@@ -9,8 +12,8 @@ ghost use Rattle.word_parts.specs.Answer.{Writes};
 use crate::growing_sink::GrowingSink;
 use crate::slice_source::SliceSource;
 use crate::words::words_in;
-use native_tas::{Native, Natives, Relation, digest};
-use std::alloc::Global;
+use native_tas::{Driver, DriverRelation, Native, Natives, Relation, digest};
+use std::alloc::{AllocError, Global};
 use trace_runner::{Status, asks_threads, run_alone};
 use uuid::Uuid;
 
@@ -51,7 +54,7 @@ fn run_beside(
     natives: &Natives,
 ) -> Status
     requires { out.old.held.items ≡ [] }
-    ensures { IsRun (entries natives.now) (map string_bytes words.now) input.old.left.now result out.new.held.items }
+    ensures { IsRun (entries natives.now) (drivers natives.now) (map string_bytes words.now) input.old.left.now result out.new.held.items }
 {
     if asks_threads(words) {
         tell_usage(alloc, input, out, natives)
@@ -60,7 +63,20 @@ fn run_beside(
     }
 }
 
-/// The top call, beside the built-in applications of the program.
+/// The table of what is built in. Of the refusals only want of memory can come, since nothing is kept before.
+fn natives_of(alloc: Global, app: Native, driver: Driver) -> Result<Natives, AllocError>
+    requires { IsTrue (is_driver_value driver.value) }
+    ensures app { IfOk result (λ natives. entries natives ≡ entry_of app ∷ []) }
+    ensures driver { IfOk result (λ natives. drivers natives ≡ driver_of driver ∷ []) }
+{
+    let mut natives = Natives::new(alloc);
+    if natives.add(app).is_err() || natives.add_driver(driver).is_err() {
+        return Err(AllocError);
+    }
+    Ok(natives)
+}
+
+/// The top call, beside the application and the driver that are built into the program.
 #[tactic(auto, using(crate::proofs::Runs::unrun, crate::proofs::Runs::beside))]
 fn run_words(
     alloc: Global,
@@ -69,16 +85,21 @@ fn run_words(
     out: &mut GrowingSink,
 ) -> Status
     requires { out.old.held.items ≡ [] }
-    ensures { IsRun built_in (map string_bytes words.now) input.old.left.now result out.new.held.items }
+    ensures { IsRun built_in built_in_drivers (map string_bytes words.now) input.old.left.now result out.new.held.items }
 {
-    let mut natives = Natives::new(alloc);
     let digest = Native {
         uuid: Uuid::from_bytes(DIGEST_UUID),
         relation: Relation::Digest,
         call: digest,
     };
-    match natives.add(digest) {
-        Ok(()) => run_beside(alloc, words, input, out, &natives),
+    // The notifications of value 1, which it answers by their number.
+    let echo = Driver {
+        value: 1,
+        relation: DriverRelation::Echo,
+        call: |count: u32| count,
+    };
+    match natives_of(alloc, digest, echo) {
+        Ok(natives) => run_beside(alloc, words, input, out, &natives),
         Err(_) => Status::Memory,
     }
 }
@@ -92,7 +113,7 @@ fn run_line(
     out: &mut GrowingSink,
 ) -> Status
     requires { out.old.held.items ≡ [] }
-    ensures { IsRun built_in (texts_in line.now) input.old.left.now result out.new.held.items }
+    ensures { IsRun built_in built_in_drivers (texts_in line.now) input.old.left.now result out.new.held.items }
 {
     match words_in(alloc, line) {
         Ok(words) => run_words(alloc, words.as_slice(), input, out),
@@ -103,7 +124,7 @@ fn run_line(
 /// The top call with the words of a line, over these bytes.
 #[tactic(auto, using(crate::proofs::Runs::fed))]
 pub fn outcome_of(alloc: Global, line: &[u8], input: &[u8]) -> Outcome
-    ensures { IsRun built_in (texts_in line.now) input.now result.status result.output.items }
+    ensures { IsRun built_in built_in_drivers (texts_in line.now) input.now result.status result.output.items }
 {
     let mut source = SliceSource::new(input);
     let mut sink = GrowingSink::new(alloc);

@@ -32,7 +32,7 @@ use Rattle.word_parts.specs.declared.status.Status.TheVariants as status
 use Rattle.trace_runner.proofs.Legal.{exits_in, refused_in}
 use Rattle.trace_runner.proofs.Readings.{one_meaning}
 use Rattle.word_parts.specs.Answer.{Writes}
-use Rattle.word_parts.specs.Input.{IsAtEnd, IsTooLong}
+use Rattle.word_parts.specs.Input.{IsAtEnd, IsTooLong, IsUnreadAs}
 use Rattle.word_parts.specs.Limits.{HasTooMany}
 use Rattle.word_parts.specs.Line.{bad_trace_line}
 use Rattle.word_parts.proofs.Answering.{is-short, writes-named, writes-part}
@@ -152,6 +152,14 @@ threads-read natives (Some l) (Some r) bytes result old new moved ended short an
 threads-read natives None None bytes result old new moved ended short answered = tt
 threads-read natives (Some l) None bytes result old new moved ended short answered = absurd moved
 threads-read natives None (Some r) bytes result old new moved ended short answered = absurd moved
+
+-- an input that wasn't read whole
+pub threads-unread : (natives : List Native) (told left : Option (List ℕ)) (result : Status) (held : Option (List ℕ))
+    → IfSome told (IsUnreadAs result) → IfSome told (λ input. RanOnThreads natives input left result held held)
+threads-unread natives (Some input) left result held (inl fault) = inl (inl fault, none-put held)
+threads-unread natives (Some input) left result held (inr (inl want)) = inl (inr want, none-put held)
+threads-unread natives (Some input) left result held (inr (inr long)) = inr (inl (long.0, long.1, none-put held))
+threads-unread natives None left result held unread = tt
 
 -- ---- each status
 

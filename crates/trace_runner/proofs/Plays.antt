@@ -14,10 +14,12 @@ use Rattle.ta_isa.specs.declared.boot.Boot.{Boot}
 use Rattle.ta_isa.specs.declared.image.Image.{Image}
 use Rattle.trace_text.specs.declared.trace.Trace.{Trace}
 use Rattle.workload.specs.Work.{made_boot, made_trace}
-use Rattle.trace_runner.specs.Content.{CanBeBooted, CanBePlayed, Spells, text_for}
+use Rattle.journal_runner.specs.Known.{CanBootWith}
+use Rattle.trace_runner.specs.Content.{CanBePlayed, Spells, text_for}
 use Rattle.trace_player.specs.Refused.{refused_by}
 use Rattle.trace_runner.specs.Plays.{IsPlayed, IsPrinted, IsPrintedBy, IsSummedUp, IsUnplayed, Plays, SpellsTraces}
 use Rattle.trace_runner.specs.Run.{Worked, reading}
+use Rattle.word_parts.specs.Keeping.{Keeps}
 use Rattle.word_parts.specs.Word.{IsServedBy, Ran}
 use Rattle.trace_player.specs.Starting.{uuids_of}
 use Rattle.word_parts.specs.Answer.{Writes, status_of_play}
@@ -51,7 +53,7 @@ printed-play natives boot trace result text old new (Some play) e boots is same 
 
 -- by the boot of the trace
 printed-by : (natives : List Native) (trace : Trace) (result : Status) (text : List ℕ) (old new : Option (List ℕ))
-    (boot : Option Boot) → CanBeBooted natives trace boot → text_by natives trace boot ≡ Some text
+    (boot : Option Boot) → CanBootWith natives trace boot → text_by natives trace boot ≡ Some text
     → result ≡ status_of_play (refused_by natives trace boot) → Appends old new text
     → IsPrintedBy natives trace result old new boot
 printed-by natives trace result text old new None none is same put =
@@ -146,13 +148,13 @@ ran-plays grammar natives input left result old new traces ran = record {
     long-played (inr played) = inr played
 
 -- over an input that the source tells
-pub told-plays : (grammar : Grammar) (natives : List Native) (told left : Option (List ℕ)) (result : Status)
-    (old new : Option (List ℕ)) → SpellsTraces grammar
-    → IfSome told (λ input. Ran (reading grammar natives) input left result old new)
+pub kept-plays : (grammar : Grammar) (natives : List Native) (told left : Option (List ℕ)) (result : Status)
+    (old new : Option (List ℕ)) (no_fault : Type 0) → SpellsTraces grammar
+    → IfSome told (λ input. Keeps (reading grammar natives) input left result old new no_fault)
     → IfSome told (λ input. Plays grammar natives input result old new)
-told-plays grammar natives (Some input) left result old new traces ran =
-    ran-plays grammar natives input left result old new traces ran
-told-plays grammar natives None left result old new traces ran = tt
+kept-plays grammar natives (Some input) left result old new no_fault traces kept =
+    ran-plays grammar natives input left result old new traces kept.ran
+kept-plays grammar natives None left result old new no_fault traces kept = tt
 
 -- ---- a made trace
 

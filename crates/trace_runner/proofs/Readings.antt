@@ -1,7 +1,10 @@
 -- What an input spells is one thing, in each grammar, and words ask for one command.
-use Rattle.std.proofs.Common.{◌≡◌, ℕ, List, [], length, get_or, ap, refl, sym, ◌∙◌, arith}
-use Rattle.std.specs.Prelude.{String, codes, map, string_bytes}
-use Rattle.std.proofs.lemmas.Fmt.{decimal_injective}
+use Rattle.std.proofs.Common.{◌≡◌, ℕ, ◌^◌, ◌<◌, List, [], get_or, ap, refl, sym, ◌∙◌, arith}
+use Rattle.std.specs.Prelude.{String, codes, if◌then◌else◌, map, string_bytes}
+use Rattle.std.specs.Fmt.{decimal}
+use Rattle.std.specs.Str.{bytes_eq}
+use Rattle.std.specs.Str.Parse.{digits_value}
+use Rattle.std.proofs.lemmas.Fmt.{decimal_is_IsNumeral}
 use Rattle.std.specs.Global.{Global}
 use Rattle.ta_asm.proofs.Meanings as asm
 use Rattle.ta_isa.specs.declared.image.Image.{Image}
@@ -14,9 +17,9 @@ use Rattle.trace_player.specs.Starting.{uuids_of}
 use Rattle.word_parts.specs.Word.{HasOneMeaning}
 use Rattle.trace_runner.specs.Content.{IsFirstFault, Spells}
 use Rattle.trace_runner.specs.Run.{reading}
-use Rattle.trace_runner.specs.Words.{Asks, Say, word_of}
+use Rattle.trace_runner.specs.Words.{Asks, IsWithin, Say, words_of}
 use Rattle.trace_runner.specs.declared.command.Command.{Command}
-use Rattle.trace_runner.specs.declared.command.Command.TheVariants.{Serve, Threads, Record, Audit, Work}
+use Rattle.trace_runner.specs.declared.command.Command.TheVariants.{Serve, Threads, Record, Audit, Compare, Notify, Work}
 use Rattle.trace_runner.specs.declared.content.Content.{Content}
 use Rattle.trace_runner.specs.declared.content.Content.TheVariants as variant
 use Rattle.trace_runner.specs.declared.command.Grammar.{Grammar}
@@ -60,116 +63,65 @@ one_meaning grammar natives input = record {
 
 -- ---- words
 
-abbrev first : List ℕ → ℕ
-first word = get_or word 0 0
-
+-- the words of a command are told apart by the first of them; a number is read back from its digits
 abbrev first_word : List (List ℕ) → List ℕ
 first_word words = get_or words 0 []
 
-abbrev second_word : List (List ℕ) → List ℕ
-second_word words = get_or words 1 []
+abbrev number_at : ℕ → List (List ℕ) → ℕ
+number_at place words = digits_value 10 (get_or words place [])
 
-abbrev third_word : List (List ℕ) → List ℕ
-third_word words = get_or words 2 []
+abbrev command_in : List (List ℕ) → Command
+command_in words =
+    if bytes_eq (first_word words) (codes "run") then Serve Text else
+    if bytes_eq (first_word words) (codes "run-binary") then Serve Records else
+    if bytes_eq (first_word words) (codes "asm") then Serve Assembler else
+    if bytes_eq (first_word words) (codes "threads") then Threads else
+    if bytes_eq (first_word words) (codes "record") then Record else
+    if bytes_eq (first_word words) (codes "audit") then Audit else
+    if bytes_eq (first_word words) (codes "compare") then Compare (number_at 1 words) else
+    if bytes_eq (first_word words) (codes "notify") then Notify else
+    Work (number_at 1 words) (number_at 2 words)
 
-same_word : (one other : Grammar) → word_of one ≡ word_of other → one ≡ other
-same_word Text Text e = refl
-same_word Text Records e = let length_is : 3 ≡ 10 = ap length e in absurd (omega (arith, length_is))
-same_word Text Assembler e = let first_is : 114 ≡ 97 = ap first e in absurd (omega (arith, first_is))
-same_word Records Text e = let length_is : 10 ≡ 3 = ap length e in absurd (omega (arith, length_is))
-same_word Records Records e = refl
-same_word Records Assembler e = let length_is : 10 ≡ 3 = ap length e in absurd (omega (arith, length_is))
-same_word Assembler Text e = let first_is : 97 ≡ 114 = ap first e in absurd (omega (arith, first_is))
-same_word Assembler Records e = let length_is : 3 ≡ 10 = ap length e in absurd (omega (arith, length_is))
-same_word Assembler Assembler e = refl
+read_back : (n : ℕ) → n < 2 ^ 64 → digits_value 10 (decimal n) ≡ n
+read_back n below = (decimal_is_IsNumeral n below).1
 
--- and none is that of `threads`
-no_threads : (grammar : Grammar) → word_of grammar ≡ codes "threads" → ⊥
-no_threads Text e = let length_is : 3 ≡ 7 = ap length e in absurd (omega (arith, length_is))
-no_threads Records e = let length_is : 10 ≡ 7 = ap length e in absurd (omega (arith, length_is))
-no_threads Assembler e = let length_is : 3 ≡ 7 = ap length e in absurd (omega (arith, length_is))
+command_back : (command : Command) → IsWithin command → command_in (words_of command) ≡ command
+command_back (Serve Text) within = refl
+command_back (Serve Records) within = refl
+command_back (Serve Assembler) within = refl
+command_back Threads within = refl
+command_back Record within = refl
+command_back Audit within = refl
+command_back (Compare session) within = ap (λ (n : ℕ). Compare n) (read_back session (omega (arith, within)))
+command_back Notify within = refl
+command_back (Work seed count) within =
+    let few = within.1 in
+    ap (λ (n : ℕ). Work n (digits_value 10 (decimal count))) (read_back seed within.0)
+    ∙ ap (λ (n : ℕ). Work seed n) (read_back count (omega (arith, few)))
 
-no_record : (grammar : Grammar) → word_of grammar ≡ codes "record" → ⊥
-no_record Text e = let length_is : 3 ≡ 6 = ap length e in absurd (omega (arith, length_is))
-no_record Records e = let length_is : 10 ≡ 6 = ap length e in absurd (omega (arith, length_is))
-no_record Assembler e = let length_is : 3 ≡ 6 = ap length e in absurd (omega (arith, length_is))
-
-no_audit : (grammar : Grammar) → word_of grammar ≡ codes "audit" → ⊥
-no_audit Text e = let length_is : 3 ≡ 5 = ap length e in absurd (omega (arith, length_is))
-no_audit Records e = let length_is : 10 ≡ 5 = ap length e in absurd (omega (arith, length_is))
-no_audit Assembler e = let length_is : 3 ≡ 5 = ap length e in absurd (omega (arith, length_is))
-
--- words say one command
+-- so words say one command
 same_command : (texts : List (List ℕ)) (one other : Command) → Say texts one → Say texts other → one ≡ other
-same_command texts (Serve a) (Serve b) p q =
-    let both = sym p.words ∙ q.words in
-    let same : word_of a ≡ word_of b = ap first_word both in
-    ap (λ (grammar : Grammar). Serve grammar) (same_word a b same)
-same_command texts (Serve a) (Work s n) p q =
-    let count_is : 1 ≡ 3 = ap length (sym p.words ∙ q.words) in absurd (omega (arith, count_is))
-same_command texts (Serve a) Threads p q = absurd (no_threads a (ap first_word (sym p.words ∙ q.words)))
-same_command texts Threads (Serve b) p q = absurd (no_threads b (ap first_word (sym q.words ∙ p.words)))
-same_command texts Threads Threads p q = refl
-same_command texts Threads (Work s n) p q =
-    let count_is : 1 ≡ 3 = ap length (sym p.words ∙ q.words) in absurd (omega (arith, count_is))
-same_command texts (Serve a) Record p q = absurd (no_record a (ap first_word (sym p.words ∙ q.words)))
-same_command texts (Serve a) Audit p q = absurd (no_audit a (ap first_word (sym p.words ∙ q.words)))
-same_command texts Record (Serve b) p q = absurd (no_record b (ap first_word (sym q.words ∙ p.words)))
-same_command texts Audit (Serve b) p q = absurd (no_audit b (ap first_word (sym q.words ∙ p.words)))
-same_command texts Record Record p q = refl
-same_command texts Audit Audit p q = refl
-same_command texts Threads Record p q =
-    let length_is : 7 ≡ 6 = ap (λ (words : List (List ℕ)). length (first_word words)) (sym p.words ∙ q.words) in
-    absurd (omega (arith, length_is))
-same_command texts Threads Audit p q =
-    let length_is : 7 ≡ 5 = ap (λ (words : List (List ℕ)). length (first_word words)) (sym p.words ∙ q.words) in
-    absurd (omega (arith, length_is))
-same_command texts Record Threads p q =
-    let length_is : 6 ≡ 7 = ap (λ (words : List (List ℕ)). length (first_word words)) (sym p.words ∙ q.words) in
-    absurd (omega (arith, length_is))
-same_command texts Record Audit p q =
-    let length_is : 6 ≡ 5 = ap (λ (words : List (List ℕ)). length (first_word words)) (sym p.words ∙ q.words) in
-    absurd (omega (arith, length_is))
-same_command texts Audit Threads p q =
-    let length_is : 5 ≡ 7 = ap (λ (words : List (List ℕ)). length (first_word words)) (sym p.words ∙ q.words) in
-    absurd (omega (arith, length_is))
-same_command texts Audit Record p q =
-    let length_is : 5 ≡ 6 = ap (λ (words : List (List ℕ)). length (first_word words)) (sym p.words ∙ q.words) in
-    absurd (omega (arith, length_is))
-same_command texts Record (Work s n) p q =
-    let count_is : 1 ≡ 3 = ap length (sym p.words ∙ q.words) in absurd (omega (arith, count_is))
-same_command texts (Work s n) Record p q =
-    let count_is : 3 ≡ 1 = ap length (sym p.words ∙ q.words) in absurd (omega (arith, count_is))
-same_command texts Audit (Work s n) p q =
-    let count_is : 1 ≡ 3 = ap length (sym p.words ∙ q.words) in absurd (omega (arith, count_is))
-same_command texts (Work s n) Audit p q =
-    let count_is : 3 ≡ 1 = ap length (sym p.words ∙ q.words) in absurd (omega (arith, count_is))
-same_command texts (Work s n) Threads p q =
-    let count_is : 3 ≡ 1 = ap length (sym p.words ∙ q.words) in absurd (omega (arith, count_is))
-same_command texts (Work s n) (Serve b) p q =
-    let count_is : 3 ≡ 1 = ap length (sym p.words ∙ q.words) in absurd (omega (arith, count_is))
-same_command texts (Work s n) (Work t m) p q =
-    let both = sym p.words ∙ q.words in
-    let few = p.within.1 in
-    let few_too = q.within.1 in
-    let seed : s ≡ t = decimal_injective s t p.within.0 q.within.0 (ap second_word both) in
-    let count : n ≡ m = decimal_injective n m (omega (arith, few)) (omega (arith, few_too)) (ap third_word both) in
-    ap (λ (k : ℕ). Work k n) seed ∙ ap (λ (k : ℕ). Work t k) count
+same_command texts one other p q =
+    sym (command_back one p.within) ∙ ap command_in (sym p.words ∙ q.words) ∙ command_back other q.within
 
 -- words ask for one command
 pub one_command : (words : List (String Global)) (one other : Command) → Asks words one → Asks words other → one ≡ other
 one_command words one other p q = same_command (map string_bytes words) one other p q
 
--- so the grammar is one, or the seed and the number of calls are, and never both
+-- so the grammar is one, or the session, or the seed and the number of calls
 pub one_grammar : (words : List (String Global)) (one other : Grammar) → Asks words (Serve one) → Asks words (Serve other)
     → one ≡ other
 one_grammar words one other p q = let same = one_command words (Serve one) (Serve other) p q in cc
+
+pub one_session : (words : List (String Global)) (one other : ℕ) → Asks words (Compare one) → Asks words (Compare other)
+    → one ≡ other
+one_session words one other p q = let same = one_command words (Compare one) (Compare other) p q in cc
 
 pub one_work : (words : List (String Global)) (s n t m : ℕ) → Asks words (Work s n) → Asks words (Work t m)
     → (s ≡ t) × (n ≡ m)
 one_work words s n t m p q = let same = one_command words (Work s n) (Work t m) p q in (cc, cc)
 
--- words that ask for an input's grammar, for a made trace, for a journal or for a verdict ask for nothing else
+-- words that ask for one command ask for no other
 pub no_other : {X : Type 0} (words : List (String Global)) (one other : Command) → (one ≡ other → ⊥) → Asks words one
     → Asks words other → X
 no_other words one other differ p q = absurd (differ (one_command words one other p q))

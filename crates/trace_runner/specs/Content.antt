@@ -1,6 +1,7 @@
 -- What an input spells in each grammar, what the first fault of any other input is, and what is written for it.
-use Rattle.std.specs.Prelude.{◌≡◌, ℕ, List, [], Option, Some, None}
-use Rattle.kernel_model.specs.Application.{IsBooted, Native, booted}
+use Rattle.std.specs.Prelude.{◌≡◌, ℕ, List, Option, Some, None}
+use Rattle.journal_runner.specs.Known.{CanBoot}
+use Rattle.kernel_model.specs.Application.{Native}
 use Rattle.play_model.specs.Text as play_text
 use Rattle.trace_player.specs.Refused.{refused_in}
 use Rattle.ta_asm.specs.Grammar as asm
@@ -8,7 +9,6 @@ use Rattle.ta_asm.specs.declared.fault.AsmFault.{AsmFault}
 use Rattle.ta_asm.specs.declared.fault.AsmFault.TheVariants.{BadLine, RepeatedLabel, UnknownLabel}
 use Rattle.ta_asm.specs.declared.fault.AsmFault.TheVariants as asm_fault
 use Rattle.ta_isa.specs.Spelling.{IsValid}
-use Rattle.ta_isa.specs.declared.boot.Boot.{Boot}
 use Rattle.trace_bin.specs.Grammar as records
 use Rattle.trace_text.specs.Grammar as text
 use Rattle.trace_text.specs.Sound.{IsSound}
@@ -16,7 +16,6 @@ use Rattle.trace_text.specs.declared.fault.BadKind.{BadKind}
 use Rattle.trace_text.specs.declared.fault.BadKind.TheVariants.{Asm}
 use Rattle.trace_text.specs.declared.fault.TraceFault.{TraceFault}
 use Rattle.trace_text.specs.declared.fault.TraceFault.TheVariants.{Bad, Memory}
-use Rattle.trace_text.specs.declared.trace.Trace.{Trace}
 use Rattle.word_parts.specs.Limits.{HasTooMany}
 use Rattle.trace_runner.specs.Line.{image_line}
 use Rattle.trace_runner.specs.declared.content.Content.{Content}
@@ -59,14 +58,9 @@ abbrev pub IsSoundContent : List (List ℕ) → Content → Type 0
 IsSoundContent natives (content.Trace trace) = IsSound natives trace
 IsSoundContent natives (content.Image image) = IsValid image
 
--- a core can be booted with this boot of the trace, beside built-in applications; with none it has no items
-abbrev pub CanBeBooted : List Native → Trace → Option Boot → Type 0
-CanBeBooted natives trace None = trace.items ≡ []
-CanBeBooted natives trace (Some boot) = IsBooted (booted boot natives)
-
--- so a trace can be played; an image has no play
+-- a trace can be played where a core can be booted with its boot, if it has one; an image has no play
 abbrev pub CanBePlayed : List Native → Content → Type 0
-CanBePlayed natives (content.Trace trace) = CanBeBooted natives trace trace.boot
+CanBePlayed natives (content.Trace trace) = CanBoot natives trace
 CanBePlayed natives (content.Image image) = Unit {0}
 
 -- ---- limits

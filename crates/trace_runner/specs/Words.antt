@@ -1,9 +1,9 @@
 -- What words ask for.
-use Rattle.std.specs.Prelude.{◌≡◌, ℕ, ◌^◌, ◌<◌, ◌≤◌, ◌⊎◌, List, [], ◌∷◌, codes, map, String, string_bytes}
+use Rattle.std.specs.Prelude.{◌≡◌, ℕ, ◌^◌, ◌<◌, ◌≤◌, List, [], ◌∷◌, codes, map, String, string_bytes}
 use Rattle.std.specs.Fmt.{decimal}
 use Rattle.std.specs.Global.{Global}
 use Rattle.trace_runner.specs.declared.command.Command.{Command}
-use Rattle.trace_runner.specs.declared.command.Command.TheVariants.{Serve, Threads, Record, Audit, Work}
+use Rattle.trace_runner.specs.declared.command.Command.TheVariants.{Serve, Threads, Record, Audit, Compare, Notify, Work}
 use Rattle.trace_runner.specs.declared.command.Grammar.{Grammar}
 use Rattle.trace_runner.specs.declared.command.Grammar.TheVariants.{Text, Records, Assembler}
 
@@ -19,14 +19,18 @@ words_of (Serve grammar) = word_of grammar ∷ []
 words_of Threads = codes "threads" ∷ []
 words_of Record = codes "record" ∷ []
 words_of Audit = codes "audit" ∷ []
+words_of (Compare session) = codes "compare" ∷ decimal session ∷ []
+words_of Notify = codes "notify" ∷ []
 words_of (Work seed count) = codes "work" ∷ decimal seed ∷ decimal count ∷ []
 
--- a seed is below 2^64, and there are at most 65,536 calls
+-- the number of a session is below 2^32, a seed below 2^64, and there are at most 65,536 calls
 abbrev pub IsWithin : Command → Type 0
 IsWithin (Serve grammar) = Unit {0}
 IsWithin Threads = Unit {0}
 IsWithin Record = Unit {0}
 IsWithin Audit = Unit {0}
+IsWithin (Compare session) = session < 2 ^ 32
+IsWithin Notify = Unit {0}
 IsWithin (Work seed count) = (seed < 2 ^ 64) × (count ≤ 2 ^ 16)
 
 -- these texts say the command, or none
@@ -44,7 +48,16 @@ Asks words command = Say (map string_bytes words) command
 abbrev pub AskNothing : List (String Global) → Type 0
 AskNothing words = SayNothing (map string_bytes words)
 
--- they ask for what reads an input
+-- all commands read an input but that of a made trace
+abbrev pub Reads : Command → Type 0
+Reads (Serve grammar) = Unit {0}
+Reads Threads = Unit {0}
+Reads Record = Unit {0}
+Reads Audit = Unit {0}
+Reads (Compare session) = Unit {0}
+Reads Notify = Unit {0}
+Reads (Work seed count) = ⊥
+
+-- words ask for one of these
 abbrev pub AskToRead : List (String Global) → Type 0
-AskToRead words =
-    ((grammar : Grammar) × Asks words (Serve grammar)) ⊎ Asks words Threads ⊎ Asks words Record ⊎ Asks words Audit
+AskToRead words = (command : Command) × Reads command × Asks words command

@@ -30,6 +30,10 @@ pub enum Command {
     Record,
     /// The input is read as the bytes of a journal, and the verdict on it is written.
     Audit,
+    /// The input is read as the bytes of two journals, and what they show of the session of this number is written.
+    Compare { session: u32 },
+    /// The input is read as the text of a trace with signals, which is played beside a desk of signals.
+    Notify,
     /// The trace that a seed makes with so many calls is played, and its play is summed up.
     Work { seed: u64, count: u32 },
 }
@@ -62,8 +66,26 @@ fn command_named(word: &str) -> Option<Command>
         "asm" => Some(Command::Serve(Grammar::Assembler)),
         "record" => Some(Command::Record),
         "audit" => Some(Command::Audit),
+        "notify" => Some(Command::Notify),
         _ => None,
     }
+}
+
+/// What a word and a number ask for.
+fn compare_of(word: &str, session: &str) -> Option<Command>
+    ensures said { IfSome result (Say (word.now ∷ session.now ∷ [])) }
+    ensures nothing { IsNone result → SayNothing (word.now ∷ session.now ∷ []) }
+{
+    if word != "compare" {
+        return None;
+    }
+    let session = number_in(session)?;
+    if session > u64::from(u32::MAX) {
+        return None;
+    }
+    Some(Command::Compare {
+        session: session as u32,
+    })
 }
 
 /// What a word and two numbers ask for.
@@ -92,6 +114,7 @@ pub fn command_of(words: &[String]) -> Option<Command>
 {
     match words {
         [word] => command_named(word.as_str()),
+        [word, session] => compare_of(word.as_str(), session.as_str()),
         [word, seed, count] => work_of(word.as_str(), seed.as_str(), count.as_str()),
         _ => None,
     }

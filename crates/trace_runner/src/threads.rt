@@ -18,8 +18,8 @@ use std::sync::Wait;
 use std::thread::Threads;
 use ta_isa::Boot;
 use threads_play::play_on_threads;
-use trace_text::{Fill, Item, Trace, TraceFault, read_trace};
-use word_parts::{InputFault, Status, answer_line, has_too_many, read_input, refuse};
+use trace_text::{Fill, Item, Trace, read_trace};
+use word_parts::{Status, answer_fault, answer_line, has_too_many, read_whole};
 
 /// What the processors of a trace have printed together.
 #[derive(Drop)]
@@ -120,8 +120,7 @@ fn answer_input<R: Threads + Wait + Sync, K: Sink, G: Pace + Sync>(
     drop(input);
     match read {
         Ok(trace) => answer_trace(rt, alloc, natives, trace, out, pace),
-        Err(TraceFault::Bad { place, kind }) => refuse(alloc, place, kind, out),
-        Err(TraceFault::Memory) => Status::Memory,
+        Err(fault) => answer_fault(alloc, fault, out),
     }
 }
 
@@ -147,10 +146,8 @@ pub fn run_on_threads<R: Threads + Wait + Sync, S: Source, K: Sink, G: Pace + Sy
     ensures input_stays { result ≢ Status.ReadFault → S.faults input.new ≡ S.faults input.old }
     ensures out_stays { result ≢ Status.WriteFault → K.faults out.new ≡ K.faults out.old }
 {
-    match read_input(alloc, input) {
+    match read_whole(alloc, input) {
         Ok(bytes) => answer_input(rt, alloc, bytes, out, natives, pace),
-        Err(InputFault::Failed) => Status::ReadFault,
-        Err(InputFault::TooLong) => Status::TooLong,
-        Err(InputFault::Memory) => Status::Memory,
+        Err(status) => status,
     }
 }

@@ -1,20 +1,24 @@
 //! The top call.
 
 ghost use Rattle.std.specs.Prelude.{◌≡◌, ◌≢◌, ℕ, ◌⊎◌, ◌≤◌, ◌+◌, ◌^◌, IfSome, Some, None, [], Err, length};
-ghost use Rattle.native_tas.specs.Table.{entries};
+ghost use Rattle.native_tas.specs.Table.{drivers, entries};
+ghost use Rattle.notify_runner.specs.Notified.{Notifies};
+ghost use Rattle.notify_runner.specs.Run.{notifying};
 ghost use Rattle.ports.specs.Port.{Appends, Rose};
 ghost use Rattle.ta_isa.specs.Spelling.{IsValid};
 ghost use Rattle.trace_text.specs.Sound.{IsSound};
 ghost use Rattle.trace_text.specs.declared.trace.Trace.{Trace};
 ghost use Rattle.trace_runner.specs.Content.{IsSoundContent};
 ghost use Rattle.journal_runner.specs.Auditing.{auditing};
-ghost use Rattle.journal_runner.specs.Keeping.{Keeps};
+ghost use Rattle.journal_runner.specs.Compares.{Compares};
+ghost use Rattle.journal_runner.specs.Comparing.{comparing};
 ghost use Rattle.journal_runner.specs.Recording.{recording};
 ghost use Rattle.journal_runner.specs.Records.{Records};
 ghost use Rattle.word_parts.specs.Input.{TakesAtMost};
 ghost use Rattle.word_parts.specs.Line.{bad_trace_line};
 ghost use Rattle.trace_runner.specs.Plays.{IsSummedUp, Plays, SpellsTraces};
-ghost use Rattle.word_parts.specs.Word.{Answered, CanBeRefused, CanBeServed, IsRefusedWhole, IsServedBy, IsServedWhole, Ran, Statuses};
+ghost use Rattle.word_parts.specs.Keeping.{Keeps};
+ghost use Rattle.word_parts.specs.Word.{Answered, CanBeRefused, IsRefusedWhole, IsServedBy};
 ghost use Rattle.trace_runner.specs.Run.{WorkStatuses, Worked, WritesSummary, reading, usage_line};
 ghost use Rattle.trace_player.specs.Starting.{uuids_of};
 ghost use Rattle.word_parts.specs.Answer.{Writes, status_after, status_of};
@@ -22,7 +26,7 @@ ghost use Rattle.trace_runner.specs.Threads.{CanBePlayedOnThreads, PrintsBlocks,
 ghost use Rattle.trace_runner.specs.Words.{AskNothing, AskToRead, Asks};
 ghost use Rattle.trace_runner.specs.declared.content.Content.{Content};
 ghost use Rattle.trace_runner.specs.declared.content.Content.TheVariants as content;
-ghost use Rattle.trace_runner.specs.declared.command.Command.TheVariants.{Serve, Work};
+ghost use Rattle.trace_runner.specs.declared.command.Command.TheVariants.{Serve, Compare, Work};
 ghost use Rattle.trace_runner.specs.declared.command.Command.TheVariants as command;
 ghost use Rattle.trace_runner.specs.declared.command.Grammar.{Grammar};
 ghost use Rattle.trace_runner.specs.declared.command.Grammar.TheVariants.{Text};
@@ -33,15 +37,16 @@ use crate::line::image_line;
 use crate::play::play;
 use crate::threads::run_on_threads;
 use crate::work::summary;
-use journal_runner::{audit, record};
+use journal_runner::{audit, compare, record};
 use native_tas::Natives;
+use notify_runner::notify;
 use ports::{Pace, Sink, Source};
 use std::alloc::Global;
 use std::sync::Wait;
 use std::thread::Threads;
 use ta_isa::Image;
-use trace_text::{Trace, TraceFault};
-use word_parts::{InputFault, Status, answer_line, has_too_many, read_input, refuse, status_of};
+use trace_text::Trace;
+use word_parts::{Status, answer_fault, answer_line, has_too_many, read_whole, status_of};
 
 const USAGE_LINE: &[u8] = b"usage: optee_run run | run-binary | threads | asm | work SEED COUNT\n";
 
@@ -112,8 +117,7 @@ fn answer<K: Sink>(
     drop(input);
     match content {
         Ok(content) => serve(alloc, natives, content, out),
-        Err(TraceFault::Bad { place, kind }) => refuse(alloc, place, kind, out),
-        Err(TraceFault::Memory) => Status::Memory,
+        Err(fault) => answer_fault(alloc, fault, out),
     }
 }
 
@@ -125,8 +129,9 @@ fn run_input<S: Source, K: Sink>(
     out: &mut K,
     natives: &Natives,
 ) -> Status
-    ensures told { IfSome (S.left input.old) (λ bytes.
-        Ran (reading grammar (entries natives.now)) bytes (S.left input.new) result (K.held out.old) (K.held out.new)) }
+    ensures keeps { IfSome (S.left input.old) (λ bytes.
+        Keeps (reading grammar (entries natives.now)) bytes (S.left input.new) result (K.held out.old) (K.held out.new)
+        ((Rose (S.faults input.old) (S.faults input.new) → ⊥) × (Rose (K.faults out.old) (K.faults out.new) → ⊥))) }
     ensures words { result ≡ Status.Usage → ⊥ }
     ensures read_fault { result ≡ Status.ReadFault →
         Rose (S.faults input.old) (S.faults input.new) × Appends (K.held out.old) (K.held out.new) [] }
@@ -137,11 +142,9 @@ fn run_input<S: Source, K: Sink>(
     ensures input_stays { result ≢ Status.ReadFault → S.faults input.new ≡ S.faults input.old }
     ensures out_stays { result ≢ Status.WriteFault → K.faults out.new ≡ K.faults out.old }
 {
-    match read_input(alloc, input) {
+    match read_whole(alloc, input) {
         Ok(bytes) => answer(alloc, grammar, bytes, out, natives),
-        Err(InputFault::Failed) => Status::ReadFault,
-        Err(InputFault::TooLong) => Status::TooLong,
-        Err(InputFault::Memory) => Status::Memory,
+        Err(status) => status,
     }
 }
 
@@ -164,9 +167,9 @@ fn answer_work<K: Sink>(alloc: Global, seed: u64, count: u32, out: &mut K) -> St
 /// Does what the words ask for, but for `threads`. `run` reads a trace as text from the input and plays it on one core, beside
 /// the applications that are built in, `run-binary` reads it as records, and `asm` reads a text of the assembler and prints
 /// its image in hexadecimal. `record` reads a trace as text, plays it, and writes the bytes of its journal; `audit` reads these and
-/// writes the verdict on them. `work SEED COUNT` reads nothing: it plays the trace that the seed makes with so many
-/// calls, without built-in applications, and prints a line that sums it up. Any other words are answered with the
-/// usage line.
+/// writes the verdict on them; `compare ID` reads the bytes of two journals and writes what they show of a session. `notify` reads
+/// a trace with signals as text and plays it beside the drivers that are built in. `work SEED COUNT` reads nothing: it plays the trace that the seed makes with so many calls, without built-in applications,
+/// and prints a line that sums it up. Any other words are answered with the usage line.
 ///
 /// The words are tested first, then the input is read to its end, then its length, its grammar and the number of its
 /// SMC items are tested, then it is played; the first answer met ends the call. The lines of a play are gathered and put
@@ -186,34 +189,16 @@ pub fn run_alone<S: Source, K: Sink>(
     ensures other_words { AskNothing words.now →
         Writes Status.Usage usage_line result (K.held out.old) (K.held out.new) × (S.left input.new ≡ S.left input.old) }
 
-    // ---- The input: it wasn't read whole, or it is too long, or it is answered by its meaning in the grammar.
-    ensures ran { (grammar : Grammar) → Asks words.now (Serve grammar) → IfSome (S.left input.old) (λ bytes.
-        Ran (reading grammar (entries natives.now)) bytes (S.left input.new) result (K.held out.old) (K.held out.new)) }
-
-    // ---- Each status, and what was then written.
-    ensures statuses { (grammar : Grammar) → Asks words.now (Serve grammar) → IfSome (S.left input.old) (λ bytes.
-        Statuses (reading grammar (entries natives.now)) bytes (S.left input.new) result (K.held out.old) (K.held out.new)) }
+    // ---- An input that is read in a grammar: all that the word keeps to.
+    ensures serves { (grammar : Grammar) → Asks words.now (Serve grammar) → IfSome (S.left input.old) (λ bytes.
+        Keeps (reading grammar (entries natives.now)) bytes (S.left input.new) result (K.held out.old) (K.held out.new)
+        ((Rose (S.faults input.old) (S.faults input.new) → ⊥) × (Rose (K.faults out.old) (K.faults out.new) → ⊥))) }
 
     // ---- The play of a trace, where just its text was written: each printed return is the written kernel's at its place
     // in one history, and what holds of resumes, of the thread limit and of isolation holds of that very play.
     ensures plays { (grammar : Grammar) → Asks words.now (Serve grammar) → SpellsTraces grammar →
         IfSome (S.left input.old) (λ bytes.
         Plays grammar (entries natives.now) bytes result (K.held out.old) (K.held out.new)) }
-
-    // ---- Each input within the limits is served whole, or there is want of memory.
-    ensures complete { (grammar : Grammar) → Asks words.now (Serve grammar) → IfSome (S.left input.old) (λ bytes.
-        (content : Content) → CanBeServed (reading grammar (entries natives.now)) bytes content →
-        (Rose (S.faults input.old) (S.faults input.new) → ⊥) → (Rose (K.faults out.old) (K.faults out.new) → ⊥) →
-        IsServedWhole (reading grammar (entries natives.now)) content result (K.held out.old) (K.held out.new)
-        ⊎ (result ≡ Status.Memory)) }
-
-    // ---- Each input of at most 2^24 bytes that leaves its grammar is answered by its first fault, or there is want of
-    // memory.
-    ensures refuses { (grammar : Grammar) → Asks words.now (Serve grammar) → IfSome (S.left input.old) (λ bytes.
-        CanBeRefused (reading grammar (entries natives.now)) bytes →
-        (Rose (S.faults input.old) (S.faults input.new) → ⊥) → (Rose (K.faults out.old) (K.faults out.new) → ⊥) →
-        IsRefusedWhole (reading grammar (entries natives.now)) bytes result (K.held out.old) (K.held out.new)
-        ⊎ (result ≡ Status.Memory)) }
 
     // ---- A made trace: nothing is read, and the summary of its play is written, whole or in part, at each status.
     ensures untouched { (seed count : ℕ) → Asks words.now (Work seed count) → input.new ≡ input.old }
@@ -239,6 +224,19 @@ pub fn run_alone<S: Source, K: Sink>(
         Keeps (auditing (entries natives.now)) bytes (S.left input.new) result (K.held out.old) (K.held out.new)
         ((Rose (S.faults input.old) (S.faults input.new) → ⊥) × (Rose (K.faults out.old) (K.faults out.new) → ⊥))) }
 
+    // ---- What two journals show of a session: where that is the same, it was answered the same in both.
+    ensures compares { (session : ℕ) → Asks words.now (Compare session) → IfSome (S.left input.old) (λ bytes.
+        Keeps (comparing (entries natives.now) session) bytes (S.left input.new) result (K.held out.old) (K.held out.new)
+        ((Rose (S.faults input.old) (S.faults input.new) → ⊥) × (Rose (K.faults out.old) (K.faults out.new) → ⊥))
+        × Compares (entries natives.now) session bytes result (K.held out.old) (K.held out.new)) }
+
+    // ---- The text of a trace with signals: all that the word keeps to, and the play whose text was written. The kernel's history
+    // of that play is legal, whatever is signalled, and a bottom half calls just the drivers that were signalled.
+    ensures notifies { Asks words.now command.Notify → IfSome (S.left input.old) (λ bytes.
+        Keeps (notifying (entries natives.now) (drivers natives.now)) bytes (S.left input.new) result (K.held out.old)
+        (K.held out.new) ((Rose (S.faults input.old) (S.faults input.new) → ⊥) × (Rose (K.faults out.old) (K.faults out.new) → ⊥))
+        × Notifies (entries natives.now) (drivers natives.now) bytes result (K.held out.old) (K.held out.new)) }
+
     // ---- Faults of the ports.
     ensures read_fault { result ≡ Status.ReadFault → AskToRead words.now
         × Rose (S.faults input.old) (S.faults input.new) × Appends (K.held out.old) (K.held out.new) [] }
@@ -256,6 +254,8 @@ pub fn run_alone<S: Source, K: Sink>(
         Some(Command::Threads) => unreachable!(),
         Some(Command::Record) => record(alloc, input, out, natives),
         Some(Command::Audit) => audit(alloc, input, out, natives),
+        Some(Command::Compare { session }) => compare(alloc, session, input, out, natives),
+        Some(Command::Notify) => notify(alloc, input, out, natives),
         Some(Command::Work { seed, count }) => answer_work(alloc, seed, count, out),
         None => answer_line(out, Status::Usage, USAGE_LINE),
     }
@@ -283,34 +283,16 @@ pub fn run<R: Threads + Wait + Sync, S: Source, K: Sink, G: Pace + Sync>(
     ensures other_words { AskNothing words.now →
         Writes Status.Usage usage_line result (K.held out.old) (K.held out.new) × (S.left input.new ≡ S.left input.old) }
 
-    // ---- The input: it wasn't read whole, or it is too long, or it is answered by its meaning in the grammar.
-    ensures ran { (grammar : Grammar) → Asks words.now (Serve grammar) → IfSome (S.left input.old) (λ bytes.
-        Ran (reading grammar (entries natives.now)) bytes (S.left input.new) result (K.held out.old) (K.held out.new)) }
-
-    // ---- Each status, and what was then written.
-    ensures statuses { (grammar : Grammar) → Asks words.now (Serve grammar) → IfSome (S.left input.old) (λ bytes.
-        Statuses (reading grammar (entries natives.now)) bytes (S.left input.new) result (K.held out.old) (K.held out.new)) }
+    // ---- An input that is read in a grammar: all that the word keeps to.
+    ensures serves { (grammar : Grammar) → Asks words.now (Serve grammar) → IfSome (S.left input.old) (λ bytes.
+        Keeps (reading grammar (entries natives.now)) bytes (S.left input.new) result (K.held out.old) (K.held out.new)
+        ((Rose (S.faults input.old) (S.faults input.new) → ⊥) × (Rose (K.faults out.old) (K.faults out.new) → ⊥))) }
 
     // ---- The play of a trace, where just its text was written: each printed return is the written kernel's at its place
     // in one history, and what holds of resumes, of the thread limit and of isolation holds of that very play.
     ensures plays { (grammar : Grammar) → Asks words.now (Serve grammar) → SpellsTraces grammar →
         IfSome (S.left input.old) (λ bytes.
         Plays grammar (entries natives.now) bytes result (K.held out.old) (K.held out.new)) }
-
-    // ---- Each input within the limits is served whole, or there is want of memory.
-    ensures complete { (grammar : Grammar) → Asks words.now (Serve grammar) → IfSome (S.left input.old) (λ bytes.
-        (content : Content) → CanBeServed (reading grammar (entries natives.now)) bytes content →
-        (Rose (S.faults input.old) (S.faults input.new) → ⊥) → (Rose (K.faults out.old) (K.faults out.new) → ⊥) →
-        IsServedWhole (reading grammar (entries natives.now)) content result (K.held out.old) (K.held out.new)
-        ⊎ (result ≡ Status.Memory)) }
-
-    // ---- Each input of at most 2^24 bytes that leaves its grammar is answered by its first fault, or there is want of
-    // memory.
-    ensures refuses { (grammar : Grammar) → Asks words.now (Serve grammar) → IfSome (S.left input.old) (λ bytes.
-        CanBeRefused (reading grammar (entries natives.now)) bytes →
-        (Rose (S.faults input.old) (S.faults input.new) → ⊥) → (Rose (K.faults out.old) (K.faults out.new) → ⊥) →
-        IsRefusedWhole (reading grammar (entries natives.now)) bytes result (K.held out.old) (K.held out.new)
-        ⊎ (result ≡ Status.Memory)) }
 
     // ---- A made trace: nothing is read, and the summary of its play is written, whole or in part, at each status.
     ensures untouched { (seed count : ℕ) → Asks words.now (Work seed count) → input.new ≡ input.old }
@@ -357,6 +339,19 @@ pub fn run<R: Threads + Wait + Sync, S: Source, K: Sink, G: Pace + Sync>(
     ensures audits { Asks words.now command.Audit → IfSome (S.left input.old) (λ bytes.
         Keeps (auditing (entries natives.now)) bytes (S.left input.new) result (K.held out.old) (K.held out.new)
         ((Rose (S.faults input.old) (S.faults input.new) → ⊥) × (Rose (K.faults out.old) (K.faults out.new) → ⊥))) }
+
+    // ---- What two journals show of a session: where that is the same, it was answered the same in both.
+    ensures compares { (session : ℕ) → Asks words.now (Compare session) → IfSome (S.left input.old) (λ bytes.
+        Keeps (comparing (entries natives.now) session) bytes (S.left input.new) result (K.held out.old) (K.held out.new)
+        ((Rose (S.faults input.old) (S.faults input.new) → ⊥) × (Rose (K.faults out.old) (K.faults out.new) → ⊥))
+        × Compares (entries natives.now) session bytes result (K.held out.old) (K.held out.new)) }
+
+    // ---- The text of a trace with signals: all that the word keeps to, and the play whose text was written. The kernel's history
+    // of that play is legal, whatever is signalled, and a bottom half calls just the drivers that were signalled.
+    ensures notifies { Asks words.now command.Notify → IfSome (S.left input.old) (λ bytes.
+        Keeps (notifying (entries natives.now) (drivers natives.now)) bytes (S.left input.new) result (K.held out.old)
+        (K.held out.new) ((Rose (S.faults input.old) (S.faults input.new) → ⊥) × (Rose (K.faults out.old) (K.faults out.new) → ⊥))
+        × Notifies (entries natives.now) (drivers natives.now) bytes result (K.held out.old) (K.held out.new)) }
 
     // ---- Faults of the ports.
     ensures read_fault { result ≡ Status.ReadFault → AskToRead words.now

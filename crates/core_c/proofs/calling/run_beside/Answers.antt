@@ -1,7 +1,7 @@
 -- The top call where its ports count no fault, and nothing was held.
 use Rattle.std.proofs.Common.{◌≡◌, List, ℕ, Some, ap, map, string_bytes, subst, ◌∙◌}
 use Rattle.std.specs.Prelude.{◌++◌}
-use Rattle.native_tas.specs.Table.{entries}
+use Rattle.native_tas.specs.Table.{drivers, entries}
 use Rattle.trace_runner.specs.Run.{usage_line}
 use Rattle.word_parts.specs.Answer.{Writes}
 use Rattle.word_parts.specs.declared.status.Status.TheVariants.{Usage}
@@ -12,23 +12,23 @@ pub returns-else-asks_threads : goal.returns-else-asks_threads
 returns-else-asks_threads g c =
     let e = c.run_alone.ensures in
     let natives = entries c.args.natives.now in
+    let notified = drivers c.args.natives.now in
     let texts = map string_bytes c.args.words.now in
     let input = c.args.input.now.left.now in
     let left = Some c.run_alone.new.input.left.now in
     let output = c.run_alone.new.out.held.items in
-    of_clauses natives texts input left c.run_alone.result output
-    (subst (λ (held : List ℕ). Clauses natives texts input left c.run_alone.result (Some held) (Some output)) c.requires
+    of_clauses natives notified texts input left c.run_alone.result output
+    (subst (λ (held : List ℕ). Clauses natives notified texts input left c.run_alone.result (Some held) (Some output)) c.requires
     (record {
       alone = not_threads texts c.asks_threads.result c.asks_threads.ensures c.if-asks_threads.false;
       usage = e.usage;
       other_words = λ nothing. (e.other_words nothing).0;
-      ran = e.ran;
-      statuses = e.statuses;
+      serves = e.serves;
       plays = e.plays;
-      complete = e.complete;
-      refuses = e.refuses;
       records = e.records;
       audits = e.audits;
+      compares = e.compares;
+      notifies = e.notifies;
       worked = e.worked;
       work_statuses = e.work_statuses;
       work_plays = e.work_plays;
@@ -42,7 +42,7 @@ returns-then-asks_threads g c =
     let e = c.tell_usage.ensures in
     let result = c.tell_usage.result in
     let output = c.tell_usage.new.out.held.items in
-    of_threads (entries c.args.natives.now) (map string_bytes c.args.words.now) c.args.input.now.left.now result output
+    of_threads (entries c.args.natives.now) (drivers c.args.natives.now) (map string_bytes c.args.words.now) c.args.input.now.left.now result output
     (c.asks_threads.ensures.0 c.if-asks_threads.true)
     (subst (λ (held : List ℕ). Writes Usage usage_line result (Some held) (Some output)) c.requires e.line)
     (λ is. e.usage is ∙ ap (λ (held : List ℕ). held ++ usage_line) c.requires) e.reads e.writes

@@ -1,4 +1,4 @@
-use Rattle.trace_runner.specs.declared.command.Command.TheVariants.{Threads, Record, Audit}
+use Rattle.trace_runner.specs.declared.command.Command.TheVariants.{Threads, Record, Audit, Notify}
 use Rattle.trace_runner.proofs.Readings.{no_other}
 use Rattle.trace_runner.proofs.OnThreads.{threads-refused, threads-statuses, threads-whole}
 use Rattle.trace_runner.proofs.top_call.run.Goals as goal
@@ -28,3 +28,12 @@ returns-then-asks_threads-clause-records g c =
 pub returns-then-asks_threads-clause-audits : goal.returns-then-asks_threads-clause-audits
 returns-then-asks_threads-clause-audits g c =
     λ asks. no_other c.args.words.now Threads Audit (λ e. absurd cc) (c.asks_threads.ensures.0 c.if-asks_threads.true) asks
+
+pub returns-then-asks_threads-clause-notifies : goal.returns-then-asks_threads-clause-notifies
+returns-then-asks_threads-clause-notifies g c =
+    λ asks. no_other c.args.words.now Threads Notify (λ e. absurd cc) (c.asks_threads.ensures.0 c.if-asks_threads.true) asks
+
+pub returns-then-asks_threads-clause-read_fault : goal.returns-then-asks_threads-clause-read_fault
+returns-then-asks_threads-clause-read_fault g c = λ e.
+    let failed = c.run_on_threads.ensures.read_fault e in
+    ((Threads, tt, c.asks_threads.ensures.0 c.if-asks_threads.true), failed.0, failed.1)

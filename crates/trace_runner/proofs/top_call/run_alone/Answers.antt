@@ -1,182 +1,178 @@
-use Rattle.std.proofs.Common.{◌≡◌, ℕ, inl, inr, refl, subst}
+use Rattle.std.proofs.Common.{ℕ, refl, subst}
 use Rattle.std.specs.Prelude.{IfSome}
 use Rattle.native_tas.specs.Table.{entries}
+use Rattle.journal_runner.specs.Compares.{Compares}
+use Rattle.journal_runner.specs.Comparing.{comparing}
+use Rattle.ports.specs.Port.{Rose}
 use Rattle.trace_runner.specs.Run.{Worked, reading}
-use Rattle.word_parts.specs.Word.{Ran}
+use Rattle.word_parts.specs.Keeping.{Keeps}
 use Rattle.trace_runner.specs.Words.{Asks}
-use Rattle.trace_runner.specs.declared.command.Command.{Command}
-use Rattle.trace_runner.specs.declared.command.Command.TheVariants.{Serve, Record, Audit, Work}
+use Rattle.trace_runner.specs.declared.command.Command.TheVariants.{Serve, Record, Audit, Compare, Notify, Work}
 use Rattle.trace_runner.specs.declared.command.Grammar.{Grammar}
 use Rattle.word_parts.specs.declared.status.Status.{Status}
-use Rattle.trace_runner.proofs.Plays.{told-plays, worked-plays}
-use Rattle.trace_runner.proofs.Readings.{no_other, one_grammar, one_meaning, one_work}
+use Rattle.trace_runner.proofs.Plays.{kept-plays, worked-plays}
+use Rattle.trace_runner.proofs.Readings.{no_other, one_grammar, one_session, one_work}
 use Rattle.trace_runner.proofs.Running.{both-some, worked-statuses, worked-whole}
-use Rattle.word_parts.proofs.Worded.{told-refused, told-statuses, told-whole}
 use Rattle.trace_runner.proofs.top_call.run_alone.Goals as goal
 
--- ---- an input
+-- ---- an input in its grammar
 
-pub returns-in-Some-Serve-clause-ran : goal.returns-in-Some-Serve-clause-ran
-returns-in-Some-Serve-clause-ran g c = λ grammar asks.
-    let whole = c.in-Some-Serve.is in
-    let named : c.in-Some-Serve.field-0 ≡ Serve c.in-Some-Serve.grammar = cc in
-    let asked = subst (λ (command : Command). Asks c.args.words.now command) named c.in-Some-Serve.ensures.asked in
+pub returns-in-Some-Serve-clause-serves : goal.returns-in-Some-Serve-clause-serves
+returns-in-Some-Serve-clause-serves g c = λ grammar asks.
+    let named = c.in-Some-Serve.field-0-is in
+    let asked = subst (Asks c.args.words.now) named c.in-Some-Serve.ensures.asked in
     subst (λ (in_it : Grammar). IfSome (g.S.Source.left c.args.input.now) (λ bytes.
-    Ran (reading in_it (entries c.args.natives.now)) bytes (g.S.Source.left c.run_input.new.input) c.run_input.result
-    (g.K.Sink.held c.args.out.now) (g.K.Sink.held c.run_input.new.out)))
+    Keeps (reading in_it (entries c.args.natives.now)) bytes (g.S.Source.left c.run_input.new.input) c.run_input.result
+    (g.K.Sink.held c.args.out.now) (g.K.Sink.held c.run_input.new.out)
+    ((Rose (g.S.Source.faults c.args.input.now) (g.S.Source.faults c.run_input.new.input) → ⊥)
+    × (Rose (g.K.Sink.faults c.args.out.now) (g.K.Sink.faults c.run_input.new.out) → ⊥))))
     (one_grammar c.args.words.now c.in-Some-Serve.grammar grammar asked asks)
-    c.run_input.ensures.told
-
-pub returns-in-Some-Serve-clause-statuses : goal.returns-in-Some-Serve-clause-statuses
-returns-in-Some-Serve-clause-statuses g c = λ grammar asks.
-    told-statuses (reading grammar (entries c.args.natives.now)) _ _ _ _ _ (returns-in-Some-Serve-clause-ran g c grammar asks)
+    c.run_input.ensures.keeps
 
 pub returns-in-Some-Serve-clause-plays : goal.returns-in-Some-Serve-clause-plays
 returns-in-Some-Serve-clause-plays g c = λ grammar asks traces.
-    told-plays grammar _ _ _ _ _ _ traces (returns-in-Some-Serve-clause-ran g c grammar asks)
-
-pub returns-in-Some-Serve-clause-complete : goal.returns-in-Some-Serve-clause-complete
-returns-in-Some-Serve-clause-complete g c = λ grammar asks.
-    told-whole (reading grammar (entries c.args.natives.now)) _ _ _ _ _ _ _ _ _
-    (one_meaning grammar (entries c.args.natives.now))
-    (λ e. (c.run_input.ensures.read_fault e).0) c.run_input.ensures.write_fault
-    (returns-in-Some-Serve-clause-ran g c grammar asks)
-
-pub returns-in-Some-Serve-clause-refuses : goal.returns-in-Some-Serve-clause-refuses
-returns-in-Some-Serve-clause-refuses g c = λ grammar asks.
-    told-refused (reading grammar (entries c.args.natives.now)) _ _ _ _ _ _ _ _ _
-    (λ e. (c.run_input.ensures.read_fault e).0) c.run_input.ensures.write_fault
-    (returns-in-Some-Serve-clause-ran g c grammar asks)
+    kept-plays grammar _ _ _ _ _ _ _ traces (returns-in-Some-Serve-clause-serves g c grammar asks)
 
 pub returns-in-Some-Serve-clause-records : goal.returns-in-Some-Serve-clause-records
 returns-in-Some-Serve-clause-records g c = λ asks.
-    let whole = c.in-Some-Serve.is in
-    let named : c.in-Some-Serve.field-0 ≡ Serve c.in-Some-Serve.grammar = cc in
-    let asked = subst (λ (command : Command). Asks c.args.words.now command) named c.in-Some-Serve.ensures.asked in
-    no_other c.args.words.now (Serve c.in-Some-Serve.grammar) Record (λ e. absurd cc) asked asks
+    no_other c.args.words.now (Serve c.in-Some-Serve.grammar) Record (λ e. absurd cc)
+    (subst (Asks c.args.words.now) c.in-Some-Serve.field-0-is c.in-Some-Serve.ensures.asked) asks
 
 pub returns-in-Some-Serve-clause-audits : goal.returns-in-Some-Serve-clause-audits
 returns-in-Some-Serve-clause-audits g c = λ asks.
-    let whole = c.in-Some-Serve.is in
-    let named : c.in-Some-Serve.field-0 ≡ Serve c.in-Some-Serve.grammar = cc in
-    let asked = subst (λ (command : Command). Asks c.args.words.now command) named c.in-Some-Serve.ensures.asked in
-    no_other c.args.words.now (Serve c.in-Some-Serve.grammar) Audit (λ e. absurd cc) asked asks
+    no_other c.args.words.now (Serve c.in-Some-Serve.grammar) Audit (λ e. absurd cc)
+    (subst (Asks c.args.words.now) c.in-Some-Serve.field-0-is c.in-Some-Serve.ensures.asked) asks
 
--- ---- a journal
+pub returns-in-Some-Serve-clause-notifies : goal.returns-in-Some-Serve-clause-notifies
+returns-in-Some-Serve-clause-notifies g c = λ asks.
+    no_other c.args.words.now (Serve c.in-Some-Serve.grammar) Notify (λ e. absurd cc)
+    (subst (Asks c.args.words.now) c.in-Some-Serve.field-0-is c.in-Some-Serve.ensures.asked) asks
 
-pub returns-in-Some-Record-clause-ran : goal.returns-in-Some-Record-clause-ran
-returns-in-Some-Record-clause-ran g c = λ grammar asks.
-    let whole = c.in-Some-Record.is in
-    let named : c.in-Some-Record.field-0 ≡ Record = cc in
-    let asked = subst (λ (command : Command). Asks c.args.words.now command) named c.in-Some-Record.ensures.asked in
-    no_other c.args.words.now Record (Serve grammar) (λ e. absurd cc) asked asks
+pub returns-in-Some-Serve-clause-read_fault : goal.returns-in-Some-Serve-clause-read_fault
+returns-in-Some-Serve-clause-read_fault g c = λ e.
+    let named = c.in-Some-Serve.field-0-is in
+    let failed = c.run_input.ensures.read_fault e in
+    ((Serve c.in-Some-Serve.grammar, tt, subst (Asks c.args.words.now) named c.in-Some-Serve.ensures.asked), failed.0, failed.1)
 
-pub returns-in-Some-Record-clause-statuses : goal.returns-in-Some-Record-clause-statuses
-returns-in-Some-Record-clause-statuses g c = λ grammar asks.
-    let whole = c.in-Some-Record.is in
-    let named : c.in-Some-Record.field-0 ≡ Record = cc in
-    let asked = subst (λ (command : Command). Asks c.args.words.now command) named c.in-Some-Record.ensures.asked in
-    no_other c.args.words.now Record (Serve grammar) (λ e. absurd cc) asked asks
+-- ---- journals
+
+pub returns-in-Some-Record-clause-serves : goal.returns-in-Some-Record-clause-serves
+returns-in-Some-Record-clause-serves g c = λ grammar asks.
+    no_other c.args.words.now Record (Serve grammar) (λ e. absurd cc)
+    (subst (Asks c.args.words.now) c.in-Some-Record.field-0-is c.in-Some-Record.ensures.asked) asks
 
 pub returns-in-Some-Record-clause-plays : goal.returns-in-Some-Record-clause-plays
 returns-in-Some-Record-clause-plays g c = λ grammar asks traces.
-    let whole = c.in-Some-Record.is in
-    let named : c.in-Some-Record.field-0 ≡ Record = cc in
-    let asked = subst (λ (command : Command). Asks c.args.words.now command) named c.in-Some-Record.ensures.asked in
-    no_other c.args.words.now Record (Serve grammar) (λ e. absurd cc) asked asks
-
-pub returns-in-Some-Record-clause-complete : goal.returns-in-Some-Record-clause-complete
-returns-in-Some-Record-clause-complete g c = λ grammar asks.
-    let whole = c.in-Some-Record.is in
-    let named : c.in-Some-Record.field-0 ≡ Record = cc in
-    let asked = subst (λ (command : Command). Asks c.args.words.now command) named c.in-Some-Record.ensures.asked in
-    no_other c.args.words.now Record (Serve grammar) (λ e. absurd cc) asked asks
-
-pub returns-in-Some-Record-clause-refuses : goal.returns-in-Some-Record-clause-refuses
-returns-in-Some-Record-clause-refuses g c = λ grammar asks.
-    let whole = c.in-Some-Record.is in
-    let named : c.in-Some-Record.field-0 ≡ Record = cc in
-    let asked = subst (λ (command : Command). Asks c.args.words.now command) named c.in-Some-Record.ensures.asked in
-    no_other c.args.words.now Record (Serve grammar) (λ e. absurd cc) asked asks
+    no_other c.args.words.now Record (Serve grammar) (λ e. absurd cc)
+    (subst (Asks c.args.words.now) c.in-Some-Record.field-0-is c.in-Some-Record.ensures.asked) asks
 
 pub returns-in-Some-Record-clause-audits : goal.returns-in-Some-Record-clause-audits
 returns-in-Some-Record-clause-audits g c = λ asks.
-    let whole = c.in-Some-Record.is in
-    let named : c.in-Some-Record.field-0 ≡ Record = cc in
-    let asked = subst (λ (command : Command). Asks c.args.words.now command) named c.in-Some-Record.ensures.asked in
-    no_other c.args.words.now Record Audit (λ e. absurd cc) asked asks
+    no_other c.args.words.now Record Audit (λ e. absurd cc)
+    (subst (Asks c.args.words.now) c.in-Some-Record.field-0-is c.in-Some-Record.ensures.asked) asks
 
 pub returns-in-Some-Record-clause-records : goal.returns-in-Some-Record-clause-records
-returns-in-Some-Record-clause-records g c = λ asks. both-some (g.S.Source.left c.args.input.now) _ _ c.record.ensures.keeps c.record.ensures.records
+returns-in-Some-Record-clause-records g c = λ asks.
+    both-some (g.S.Source.left c.args.input.now) _ _ c.record.ensures.keeps c.record.ensures.records
+
+pub returns-in-Some-Record-clause-notifies : goal.returns-in-Some-Record-clause-notifies
+returns-in-Some-Record-clause-notifies g c = λ asks.
+    no_other c.args.words.now Record Notify (λ e. absurd cc)
+    (subst (Asks c.args.words.now) c.in-Some-Record.field-0-is c.in-Some-Record.ensures.asked) asks
 
 pub returns-in-Some-Record-clause-read_fault : goal.returns-in-Some-Record-clause-read_fault
 returns-in-Some-Record-clause-read_fault g c = λ e.
-    let whole = c.in-Some-Record.is in
-    let named : c.in-Some-Record.field-0 ≡ Record = cc in
-    let asked = subst (λ (command : Command). Asks c.args.words.now command) named c.in-Some-Record.ensures.asked in
+    let named = c.in-Some-Record.field-0-is in
     let failed = c.record.ensures.read_fault e in
-    (inr (inr (inl asked)), failed.0, failed.1)
+    ((Record, tt, subst (Asks c.args.words.now) named c.in-Some-Record.ensures.asked), failed.0, failed.1)
 
-pub returns-in-Some-Audit-clause-ran : goal.returns-in-Some-Audit-clause-ran
-returns-in-Some-Audit-clause-ran g c = λ grammar asks.
-    let whole = c.in-Some-Audit.is in
-    let named : c.in-Some-Audit.field-0 ≡ Audit = cc in
-    let asked = subst (λ (command : Command). Asks c.args.words.now command) named c.in-Some-Audit.ensures.asked in
-    no_other c.args.words.now Audit (Serve grammar) (λ e. absurd cc) asked asks
-
-pub returns-in-Some-Audit-clause-statuses : goal.returns-in-Some-Audit-clause-statuses
-returns-in-Some-Audit-clause-statuses g c = λ grammar asks.
-    let whole = c.in-Some-Audit.is in
-    let named : c.in-Some-Audit.field-0 ≡ Audit = cc in
-    let asked = subst (λ (command : Command). Asks c.args.words.now command) named c.in-Some-Audit.ensures.asked in
-    no_other c.args.words.now Audit (Serve grammar) (λ e. absurd cc) asked asks
+pub returns-in-Some-Audit-clause-serves : goal.returns-in-Some-Audit-clause-serves
+returns-in-Some-Audit-clause-serves g c = λ grammar asks.
+    no_other c.args.words.now Audit (Serve grammar) (λ e. absurd cc)
+    (subst (Asks c.args.words.now) c.in-Some-Audit.field-0-is c.in-Some-Audit.ensures.asked) asks
 
 pub returns-in-Some-Audit-clause-plays : goal.returns-in-Some-Audit-clause-plays
 returns-in-Some-Audit-clause-plays g c = λ grammar asks traces.
-    let whole = c.in-Some-Audit.is in
-    let named : c.in-Some-Audit.field-0 ≡ Audit = cc in
-    let asked = subst (λ (command : Command). Asks c.args.words.now command) named c.in-Some-Audit.ensures.asked in
-    no_other c.args.words.now Audit (Serve grammar) (λ e. absurd cc) asked asks
-
-pub returns-in-Some-Audit-clause-complete : goal.returns-in-Some-Audit-clause-complete
-returns-in-Some-Audit-clause-complete g c = λ grammar asks.
-    let whole = c.in-Some-Audit.is in
-    let named : c.in-Some-Audit.field-0 ≡ Audit = cc in
-    let asked = subst (λ (command : Command). Asks c.args.words.now command) named c.in-Some-Audit.ensures.asked in
-    no_other c.args.words.now Audit (Serve grammar) (λ e. absurd cc) asked asks
-
-pub returns-in-Some-Audit-clause-refuses : goal.returns-in-Some-Audit-clause-refuses
-returns-in-Some-Audit-clause-refuses g c = λ grammar asks.
-    let whole = c.in-Some-Audit.is in
-    let named : c.in-Some-Audit.field-0 ≡ Audit = cc in
-    let asked = subst (λ (command : Command). Asks c.args.words.now command) named c.in-Some-Audit.ensures.asked in
-    no_other c.args.words.now Audit (Serve grammar) (λ e. absurd cc) asked asks
+    no_other c.args.words.now Audit (Serve grammar) (λ e. absurd cc)
+    (subst (Asks c.args.words.now) c.in-Some-Audit.field-0-is c.in-Some-Audit.ensures.asked) asks
 
 pub returns-in-Some-Audit-clause-records : goal.returns-in-Some-Audit-clause-records
 returns-in-Some-Audit-clause-records g c = λ asks.
-    let whole = c.in-Some-Audit.is in
-    let named : c.in-Some-Audit.field-0 ≡ Audit = cc in
-    let asked = subst (λ (command : Command). Asks c.args.words.now command) named c.in-Some-Audit.ensures.asked in
-    no_other c.args.words.now Audit Record (λ e. absurd cc) asked asks
+    no_other c.args.words.now Audit Record (λ e. absurd cc)
+    (subst (Asks c.args.words.now) c.in-Some-Audit.field-0-is c.in-Some-Audit.ensures.asked) asks
 
 pub returns-in-Some-Audit-clause-audits : goal.returns-in-Some-Audit-clause-audits
 returns-in-Some-Audit-clause-audits g c = λ asks. c.audit.ensures.keeps
 
+pub returns-in-Some-Audit-clause-notifies : goal.returns-in-Some-Audit-clause-notifies
+returns-in-Some-Audit-clause-notifies g c = λ asks.
+    no_other c.args.words.now Audit Notify (λ e. absurd cc)
+    (subst (Asks c.args.words.now) c.in-Some-Audit.field-0-is c.in-Some-Audit.ensures.asked) asks
+
 pub returns-in-Some-Audit-clause-read_fault : goal.returns-in-Some-Audit-clause-read_fault
 returns-in-Some-Audit-clause-read_fault g c = λ e.
-    let whole = c.in-Some-Audit.is in
-    let named : c.in-Some-Audit.field-0 ≡ Audit = cc in
-    let asked = subst (λ (command : Command). Asks c.args.words.now command) named c.in-Some-Audit.ensures.asked in
+    let named = c.in-Some-Audit.field-0-is in
     let failed = c.audit.ensures.read_fault e in
-    (inr (inr (inr asked)), failed.0, failed.1)
+    ((Audit, tt, subst (Asks c.args.words.now) named c.in-Some-Audit.ensures.asked), failed.0, failed.1)
+
+pub returns-in-Some-Compare-clause-compares : goal.returns-in-Some-Compare-clause-compares
+returns-in-Some-Compare-clause-compares g c = λ session asks.
+    let named = c.in-Some-Compare.field-0-is in
+    let asked = subst (Asks c.args.words.now) named c.in-Some-Compare.ensures.asked in
+    subst (λ (of : ℕ). IfSome (g.S.Source.left c.args.input.now) (λ bytes.
+    Keeps (comparing (entries c.args.natives.now) of) bytes (g.S.Source.left c.compare.new.input) c.compare.result
+    (g.K.Sink.held c.args.out.now) (g.K.Sink.held c.compare.new.out)
+    ((Rose (g.S.Source.faults c.args.input.now) (g.S.Source.faults c.compare.new.input) → ⊥)
+    × (Rose (g.K.Sink.faults c.args.out.now) (g.K.Sink.faults c.compare.new.out) → ⊥))
+    × Compares (entries c.args.natives.now) of bytes c.compare.result (g.K.Sink.held c.args.out.now)
+    (g.K.Sink.held c.compare.new.out)))
+    (one_session c.args.words.now c.in-Some-Compare.session session asked asks)
+    (both-some (g.S.Source.left c.args.input.now) _ _ c.compare.ensures.keeps c.compare.ensures.compares)
+
+pub returns-in-Some-Compare-clause-read_fault : goal.returns-in-Some-Compare-clause-read_fault
+returns-in-Some-Compare-clause-read_fault g c = λ e.
+    let named = c.in-Some-Compare.field-0-is in
+    let failed = c.compare.ensures.read_fault e in
+    ((Compare c.in-Some-Compare.session, tt, subst (Asks c.args.words.now) named c.in-Some-Compare.ensures.asked), failed.0, failed.1)
+
+-- ---- signals
+
+pub returns-in-Some-Notify-clause-serves : goal.returns-in-Some-Notify-clause-serves
+returns-in-Some-Notify-clause-serves g c = λ grammar asks.
+    no_other c.args.words.now Notify (Serve grammar) (λ e. absurd cc)
+    (subst (Asks c.args.words.now) c.in-Some-Notify.field-0-is c.in-Some-Notify.ensures.asked) asks
+
+pub returns-in-Some-Notify-clause-plays : goal.returns-in-Some-Notify-clause-plays
+returns-in-Some-Notify-clause-plays g c = λ grammar asks traces.
+    no_other c.args.words.now Notify (Serve grammar) (λ e. absurd cc)
+    (subst (Asks c.args.words.now) c.in-Some-Notify.field-0-is c.in-Some-Notify.ensures.asked) asks
+
+pub returns-in-Some-Notify-clause-records : goal.returns-in-Some-Notify-clause-records
+returns-in-Some-Notify-clause-records g c = λ asks.
+    no_other c.args.words.now Notify Record (λ e. absurd cc)
+    (subst (Asks c.args.words.now) c.in-Some-Notify.field-0-is c.in-Some-Notify.ensures.asked) asks
+
+pub returns-in-Some-Notify-clause-audits : goal.returns-in-Some-Notify-clause-audits
+returns-in-Some-Notify-clause-audits g c = λ asks.
+    no_other c.args.words.now Notify Audit (λ e. absurd cc)
+    (subst (Asks c.args.words.now) c.in-Some-Notify.field-0-is c.in-Some-Notify.ensures.asked) asks
+
+pub returns-in-Some-Notify-clause-notifies : goal.returns-in-Some-Notify-clause-notifies
+returns-in-Some-Notify-clause-notifies g c = λ asks.
+    both-some (g.S.Source.left c.args.input.now) _ _ c.notify.ensures.keeps c.notify.ensures.notifies
+
+pub returns-in-Some-Notify-clause-read_fault : goal.returns-in-Some-Notify-clause-read_fault
+returns-in-Some-Notify-clause-read_fault g c = λ e.
+    let named = c.in-Some-Notify.field-0-is in
+    let failed = c.notify.ensures.read_fault e in
+    ((Notify, tt, subst (Asks c.args.words.now) named c.in-Some-Notify.ensures.asked), failed.0, failed.1)
 
 -- ---- a made trace
 
 pub returns-in-Some-Work-clause-worked : goal.returns-in-Some-Work-clause-worked
 returns-in-Some-Work-clause-worked g c = λ seed count asks.
-    let whole = c.in-Some-Work.is in
-    let named : c.in-Some-Work.field-0 ≡ Work c.in-Some-Work.seed c.in-Some-Work.count = cc in
-    let asked = subst (λ (command : Command). Asks c.args.words.now command) named c.in-Some-Work.ensures.asked in
+    let named = c.in-Some-Work.field-0-is in
+    let asked = subst (Asks c.args.words.now) named c.in-Some-Work.ensures.asked in
     let same = one_work c.args.words.now c.in-Some-Work.seed c.in-Some-Work.count seed count asked asks in
     subst (λ (s : ℕ). Worked s count c.answer_work.result (g.K.Sink.held c.args.out.now)
     (g.K.Sink.held c.answer_work.new.out)) same.0
@@ -200,38 +196,32 @@ returns-in-Some-Work-clause-work_complete g c = λ seed count asks quiet.
 
 -- ---- other words
 
-pub returns-in-None-clause-ran : goal.returns-in-None-clause-ran
-returns-in-None-clause-ran g c = λ grammar asks. absurd (c.in-None.ensures.nothing refl (Serve grammar) asks)
-
-pub returns-in-None-clause-statuses : goal.returns-in-None-clause-statuses
-returns-in-None-clause-statuses g c = λ grammar asks. absurd (c.in-None.ensures.nothing refl (Serve grammar) asks)
+pub returns-in-None-clause-serves : goal.returns-in-None-clause-serves
+returns-in-None-clause-serves g c = λ grammar asks. absurd (c.in-None.ensures.nothing refl (Serve grammar) asks)
 
 pub returns-in-None-clause-plays : goal.returns-in-None-clause-plays
 returns-in-None-clause-plays g c = λ grammar asks traces. absurd (c.in-None.ensures.nothing refl (Serve grammar) asks)
-
-pub returns-in-None-clause-complete : goal.returns-in-None-clause-complete
-returns-in-None-clause-complete g c = λ grammar asks. absurd (c.in-None.ensures.nothing refl (Serve grammar) asks)
-
-pub returns-in-None-clause-refuses : goal.returns-in-None-clause-refuses
-returns-in-None-clause-refuses g c = λ grammar asks. absurd (c.in-None.ensures.nothing refl (Serve grammar) asks)
-
-pub returns-in-None-clause-worked : goal.returns-in-None-clause-worked
-returns-in-None-clause-worked g c = λ seed count asks. absurd (c.in-None.ensures.nothing refl (Work seed count) asks)
-
-pub returns-in-None-clause-work_statuses : goal.returns-in-None-clause-work_statuses
-returns-in-None-clause-work_statuses g c = λ seed count asks.
-    absurd (c.in-None.ensures.nothing refl (Work seed count) asks)
-
-pub returns-in-None-clause-work_plays : goal.returns-in-None-clause-work_plays
-returns-in-None-clause-work_plays g c = λ seed count asks is.
-    absurd (c.in-None.ensures.nothing refl (Work seed count) asks)
-
-pub returns-in-None-clause-work_complete : goal.returns-in-None-clause-work_complete
-returns-in-None-clause-work_complete g c = λ seed count asks.
-    absurd (c.in-None.ensures.nothing refl (Work seed count) asks)
 
 pub returns-in-None-clause-records : goal.returns-in-None-clause-records
 returns-in-None-clause-records g c = λ asks. absurd (c.in-None.ensures.nothing refl Record asks)
 
 pub returns-in-None-clause-audits : goal.returns-in-None-clause-audits
 returns-in-None-clause-audits g c = λ asks. absurd (c.in-None.ensures.nothing refl Audit asks)
+
+pub returns-in-None-clause-compares : goal.returns-in-None-clause-compares
+returns-in-None-clause-compares g c = λ session asks. absurd (c.in-None.ensures.nothing refl (Compare session) asks)
+
+pub returns-in-None-clause-notifies : goal.returns-in-None-clause-notifies
+returns-in-None-clause-notifies g c = λ asks. absurd (c.in-None.ensures.nothing refl Notify asks)
+
+pub returns-in-None-clause-worked : goal.returns-in-None-clause-worked
+returns-in-None-clause-worked g c = λ seed count asks. absurd (c.in-None.ensures.nothing refl (Work seed count) asks)
+
+pub returns-in-None-clause-work_statuses : goal.returns-in-None-clause-work_statuses
+returns-in-None-clause-work_statuses g c = λ seed count asks. absurd (c.in-None.ensures.nothing refl (Work seed count) asks)
+
+pub returns-in-None-clause-work_plays : goal.returns-in-None-clause-work_plays
+returns-in-None-clause-work_plays g c = λ seed count asks is. absurd (c.in-None.ensures.nothing refl (Work seed count) asks)
+
+pub returns-in-None-clause-work_complete : goal.returns-in-None-clause-work_complete
+returns-in-None-clause-work_complete g c = λ seed count asks. absurd (c.in-None.ensures.nothing refl (Work seed count) asks)
