@@ -1,5 +1,5 @@
 -- The top call where its ports count no fault, and nothing was held.
-use Rattle.std.proofs.Common.{◌≡◌, List, ℕ, Some, ap, map, string_bytes, subst, ◌∙◌}
+use Rattle.std.proofs.Common.{List, ℕ, Some, ap, map, string_bytes, subst, ◌∙◌}
 use Rattle.std.specs.Prelude.{◌++◌}
 use Rattle.native_tas.specs.Table.{drivers, entries}
 use Rattle.trace_runner.specs.Run.{usage_line}
