@@ -21,18 +21,16 @@ def examples():
 
 def worked_cases():
     """The cases of worked_cases whose word is `run` and in which no call fails, in the form that docs/formats.md gives; not those
-    that are made of them for `threads`."""
+    that are made of one before."""
     case = {}
     for line in read(CRATES / "worked_cases/stdin").splitlines(keepends=True):
         word, _, rest = line.rstrip("\n").partition(" ")
-        if word in ("case", "again"):
-            case = {"name": rest, "words": "", "input": [], "output": [], "fails": word == "again"}
+        if word in ("case", "again", "by_threads", "by_audit"):
+            case = {"name": rest, "words": "", "input": [], "output": [], "fails": word != "case"}
         elif word in ("words", "take", "put"):
             case["fails" if word != "words" else "words"] = rest
         elif word in ("input", "output"):
             into = case[word]
-        elif word == "by_threads":
-            continue
         elif word == "status":
             if case["words"] == "run" and not case["fails"]:
                 yield Play(case["name"], "".join(case["input"]), "".join(case["output"]), int(rest))
