@@ -43,7 +43,7 @@ pub record Clauses (natives : List Native) (drivers : Drivers) (texts : List (Li
   pub audits : Say texts Audit → Keeps (auditing natives) input left result old new ((Rose 0 0 → ⊥) × (Rose 0 0 → ⊥))
   pub compares : (session : ℕ) → Say texts (Compare session)
       → Keeps (comparing natives session) input left result old new ((Rose 0 0 → ⊥) × (Rose 0 0 → ⊥))
-      × Compares natives session input result old new
+      × Compares natives session input result old new ((Rose 0 0 → ⊥) × (Rose 0 0 → ⊥))
   pub notifies : Say texts Notify
       → Keeps (notifying natives drivers) input left result old new ((Rose 0 0 → ⊥) × (Rose 0 0 → ⊥))
       × Notifies natives drivers input result old new
@@ -63,6 +63,14 @@ keeps_quiet word input left result old new k = record {
   statuses = k.statuses;
   complete = λ content can no. k.complete content can (quiet, quiet);
   refuses = λ can no. k.refuses can (quiet, quiet);
+}
+
+compares_quiet : (natives : List Native) (session : ℕ) (input : List ℕ) (result : Status) (old new : Option (List ℕ))
+    → Compares natives session input result old new ((Rose 0 0 → ⊥) × (Rose 0 0 → ⊥))
+    → Compares natives session input result old new (Unit {0})
+compares_quiet natives session input result old new c = record {
+  ok = c.ok;
+  complete = λ one two pair short no. c.complete one two pair short (quiet, quiet);
 }
 
 -- where nothing was held before
@@ -89,7 +97,7 @@ of_clauses natives drivers texts input left result output c = record {
   compares = λ session said. record {
     left = left;
     keeps = keeps_quiet (comparing natives session) input left result (Some []) (Some output) (c.compares session said).0;
-    compares = (c.compares session said).1;
+    compares = compares_quiet natives session input result (Some []) (Some output) (c.compares session said).1;
   };
   notifies = λ said. record {
     left = left;
@@ -175,7 +183,7 @@ unrun_so natives drivers texts input = record {
   compares = λ session said. record {
     left = None;
     keeps = unread (comparing natives session) input;
-    compares = λ e. absurd cc;
+    compares = record { ok = λ e. absurd cc; complete = λ one two pair short no. inr refl };
   };
   notifies = λ said. record {
     left = None;

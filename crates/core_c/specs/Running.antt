@@ -72,7 +72,7 @@ pub record HasCompared (natives : List Native) (session : ℕ) (input : List ℕ
   where
     pub left : Option (List ℕ)
     pub keeps : Keeps (comparing natives session) input left result (Some []) (Some output) (Unit {0})
-    pub compares : Compares natives session input result (Some []) (Some output)
+    pub compares : Compares natives session input result (Some []) (Some output) (Unit {0})
 
 -- and a trace with signals
 pub record HasNotified (natives : List Native) (drivers : Drivers) (input : List ℕ) (result : Status) (output : List ℕ) : Type 0

@@ -1,6 +1,6 @@
 -- From two journals that were read to what is answered; and that bytes have one meaning.
-use Rattle.std.proofs.Common.{◌≡◌, ℕ, inl, inr, List, Option, Some, None, sym, ap, subst, ◌∙◌}
-use Rattle.std.specs.Prelude.{IfSome}
+use Rattle.std.proofs.Common.{◌≡◌, ℕ, inl, inr, List, Option, Some, None, refl, sym, ap, subst, ◌∙◌}
+use Rattle.std.specs.Prelude.{◌⊎◌, IfSome}
 use Rattle.audit_model.proofs.Comparisons.{one_comparison}
 use Rattle.audit_model.proofs.Replies.{same_gives_same_replies}
 use Rattle.audit_model.specs.Comparing.{IsComparedAs, Pair}
@@ -11,8 +11,11 @@ use Rattle.kernel_model.specs.Application.{Native}
 use Rattle.session_compare.specs.Pairs.{HaveSameReplies}
 use Rattle.trace_player.specs.Starting.{uuids_of}
 use Rattle.word_parts.specs.Keeping.{Keeps}
-use Rattle.word_parts.specs.Word.{Answered, HasOneMeaning}
+use Rattle.word_parts.specs.Input.{IsTooLong}
+use Rattle.word_parts.specs.Word.{Answered, HasOneMeaning, IsRefusedWhole, IsServedWhole}
 use Rattle.word_parts.specs.declared.status.Status.{Status}
+use Rattle.word_parts.specs.declared.status.Status.TheVariants.{Memory}
+use Rattle.word_parts.specs.declared.status.Status.TheVariants as status
 use Rattle.journal_runner.specs.Compares.{Compares, IsAnsweredForPair}
 use Rattle.journal_runner.specs.Comparing.{Comparison, SpellsCompared, comparing, pair_of}
 use Rattle.journal_runner.specs.Reading.{SpellsPair}
@@ -44,21 +47,74 @@ have_same_replies pair Other is = tt
 have_same_replies pair (Events at) is = tt
 have_same_replies pair (Same count) is = same_gives_same_replies pair count is
 
+-- ---- what was kept
+
+-- two journals that the input spells are answered with what they show, or there is want of memory: else the input would spell nothing,
+-- and so have a fault, which it hasn't
+module _ (natives : List Native) (session : ℕ) (input : List ℕ) (left : Option (List ℕ)) (result : Status)
+    (old new : Option (List ℕ)) (no_fault : Type 0)
+    (kept : Keeps (comparing natives session) input left result old new no_fault)
+  where
+    of_refused : (one two : Whole) → SpellsPair (uuids_of natives) input one two → (result ≡ Memory → ⊥)
+        → IsRefusedWhole (comparing natives session) input result old new ⊎ (result ≡ Memory) → ⊥
+    of_refused one two pair fits (inl refused) =
+        let bad = refused.1.1 in not_both_pair (uuids_of natives) input one two bad.0 bad.1 pair bad.2
+    of_refused one two pair fits (inr memory) = fits memory
+
+    of_served : (comparison : Comparison) → (result ≡ status.Ok → ⊥) → (result ≡ Memory → ⊥)
+        → IsServedWhole (comparing natives session) comparison result old new ⊎ (result ≡ Memory) → ⊥
+    of_served comparison not_ok fits (inl served) = not_ok served.0
+    of_served comparison not_ok fits (inr memory) = fits memory
+
+    nothing_else : (one two : Whole) → SpellsPair (uuids_of natives) input one two → (IsTooLong input → ⊥) → no_fault
+        → (result ≡ status.Ok → ⊥) → (result ≡ Memory → ⊥) → ⊥
+    nothing_else one two pair short none not_ok fits =
+        let nothing = λ (comparison : Comparison) (spelled : SpellsCompared natives session input comparison).
+        of_served comparison not_ok fits
+        (kept.complete comparison (record { short = short; spelled = spelled; few = λ never. never; goes_on = refl }) none) in
+        of_refused one two pair fits (kept.refuses (record { short = short; spells_nothing = nothing }) none)
+
+pub kept_complete : (natives : List Native) (session : ℕ) (input : List ℕ) (left : Option (List ℕ)) (result : Status)
+    (old new : Option (List ℕ)) (no_fault : Type 0)
+    → Keeps (comparing natives session) input left result old new no_fault
+    → (one two : Whole) → SpellsPair (uuids_of natives) input one two → (IsTooLong input → ⊥) → no_fault
+    → (result ≡ status.Ok) ⊎ (result ≡ Memory)
+kept_complete natives session input left status.Ok old new no_fault kept one two pair short none = inl refl
+kept_complete natives session input left status.Memory old new no_fault kept one two pair short none = inr refl
+kept_complete natives session input left status.Usage old new no_fault kept one two pair short none =
+    absurd (nothing_else natives session input left status.Usage old new no_fault kept one two pair short none (λ e. absurd cc)
+    (λ e. absurd cc))
+kept_complete natives session input left status.BadTrace old new no_fault kept one two pair short none =
+    absurd (nothing_else natives session input left status.BadTrace old new no_fault kept one two pair short none (λ e. absurd cc)
+    (λ e. absurd cc))
+kept_complete natives session input left status.ReadFault old new no_fault kept one two pair short none =
+    absurd (nothing_else natives session input left status.ReadFault old new no_fault kept one two pair short none (λ e. absurd cc)
+    (λ e. absurd cc))
+kept_complete natives session input left status.WriteFault old new no_fault kept one two pair short none =
+    absurd (nothing_else natives session input left status.WriteFault old new no_fault kept one two pair short none (λ e. absurd cc)
+    (λ e. absurd cc))
+kept_complete natives session input left status.TooLong old new no_fault kept one two pair short none =
+    absurd (nothing_else natives session input left status.TooLong old new no_fault kept one two pair short none (λ e. absurd cc)
+    (λ e. absurd cc))
+
 -- over an input that the source tells
 pub kept_compares : (natives : List Native) (session : ℕ) (told left : Option (List ℕ)) (result : Status)
     (old new : Option (List ℕ)) (no_fault : Type 0)
     → IfSome told (λ input. Keeps (comparing natives session) input left result old new no_fault)
-    → IfSome told (λ input. Compares natives session input result old new)
-kept_compares natives session (Some input) left result old new no_fault kept = λ ok.
-    let served = (kept.statuses.ok ok).1 in
-    let comparison = served.0 in
-    record {
-      comparison = comparison;
-      spelled = served.1.spelled;
-      line = served.2;
-      same_replies = have_same_replies (pair_of natives comparison.one comparison.two session) comparison.compared
-          served.1.spelled.is_compared;
-    }
+    → IfSome told (λ input. Compares natives session input result old new no_fault)
+kept_compares natives session (Some input) left result old new no_fault kept = record {
+  ok = λ ok.
+      let served = (kept.statuses.ok ok).1 in
+      let comparison = served.0 in
+      record {
+        comparison = comparison;
+        spelled = served.1.spelled;
+        line = served.2;
+        same_replies = have_same_replies (pair_of natives comparison.one comparison.two session) comparison.compared
+            served.1.spelled.is_compared;
+      };
+  complete = kept_complete natives session input left result old new no_fault kept;
+}
 kept_compares natives session None left result old new no_fault kept = tt
 
 -- ---- one meaning

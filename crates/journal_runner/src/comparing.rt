@@ -130,9 +130,11 @@ pub fn compare<S: Source, K: Sink>(
         Keeps (comparing (entries natives.now) session) bytes (S.left input.new) result (K.held out.old) (K.held out.new)
         ((Rose (S.faults input.old) (S.faults input.new) → ⊥) × (Rose (K.faults out.old) (K.faults out.new) → ⊥))) }
 
-    // ---- What was written: where both journals show the same of the session, it was answered the same in both.
+    // ---- What was written: where both journals show the same of the session, it was answered the same in both. And any two journals
+    // are answered so, or there is want of memory.
     ensures compares { IfSome (S.left input.old) (λ bytes.
-        Compares (entries natives.now) session bytes result (K.held out.old) (K.held out.new)) }
+        Compares (entries natives.now) session bytes result (K.held out.old) (K.held out.new)
+        ((Rose (S.faults input.old) (S.faults input.new) → ⊥) × (Rose (K.faults out.old) (K.faults out.new) → ⊥))) }
 
     // ---- Faults of the ports.
     ensures words { result ≡ Status.Usage → ⊥ }

@@ -224,11 +224,13 @@ pub fn run_alone<S: Source, K: Sink>(
         Keeps (auditing (entries natives.now)) bytes (S.left input.new) result (K.held out.old) (K.held out.new)
         ((Rose (S.faults input.old) (S.faults input.new) → ⊥) × (Rose (K.faults out.old) (K.faults out.new) → ⊥))) }
 
-    // ---- What two journals show of a session: where that is the same, it was answered the same in both.
+    // ---- What two journals show of a session: where that is the same, it was answered the same in both. Any two journals are
+    // answered so, or there is want of memory.
     ensures compares { (session : ℕ) → Asks words.now (Compare session) → IfSome (S.left input.old) (λ bytes.
         Keeps (comparing (entries natives.now) session) bytes (S.left input.new) result (K.held out.old) (K.held out.new)
         ((Rose (S.faults input.old) (S.faults input.new) → ⊥) × (Rose (K.faults out.old) (K.faults out.new) → ⊥))
-        × Compares (entries natives.now) session bytes result (K.held out.old) (K.held out.new)) }
+        × Compares (entries natives.now) session bytes result (K.held out.old) (K.held out.new)
+        ((Rose (S.faults input.old) (S.faults input.new) → ⊥) × (Rose (K.faults out.old) (K.faults out.new) → ⊥))) }
 
     // ---- The text of a trace with signals: all that the word keeps to, and the play whose text was written. The kernel's history
     // of that play is legal, whatever is signalled, and a bottom half calls just the drivers that were signalled.
@@ -340,11 +342,13 @@ pub fn run<R: Threads + Wait + Sync, S: Source, K: Sink, G: Pace + Sync>(
         Keeps (auditing (entries natives.now)) bytes (S.left input.new) result (K.held out.old) (K.held out.new)
         ((Rose (S.faults input.old) (S.faults input.new) → ⊥) × (Rose (K.faults out.old) (K.faults out.new) → ⊥))) }
 
-    // ---- What two journals show of a session: where that is the same, it was answered the same in both.
+    // ---- What two journals show of a session: where that is the same, it was answered the same in both. Any two journals are
+    // answered so, or there is want of memory.
     ensures compares { (session : ℕ) → Asks words.now (Compare session) → IfSome (S.left input.old) (λ bytes.
         Keeps (comparing (entries natives.now) session) bytes (S.left input.new) result (K.held out.old) (K.held out.new)
         ((Rose (S.faults input.old) (S.faults input.new) → ⊥) × (Rose (K.faults out.old) (K.faults out.new) → ⊥))
-        × Compares (entries natives.now) session bytes result (K.held out.old) (K.held out.new)) }
+        × Compares (entries natives.now) session bytes result (K.held out.old) (K.held out.new)
+        ((Rose (S.faults input.old) (S.faults input.new) → ⊥) × (Rose (K.faults out.old) (K.faults out.new) → ⊥))) }
 
     // ---- The text of a trace with signals: all that the word keeps to, and the play whose text was written. The kernel's history
     // of that play is legal, whatever is signalled, and a bottom half calls just the drivers that were signalled.

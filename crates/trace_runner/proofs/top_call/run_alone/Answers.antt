@@ -125,7 +125,9 @@ returns-in-Some-Compare-clause-compares g c = λ session asks.
     ((Rose (g.S.Source.faults c.args.input.now) (g.S.Source.faults c.compare.new.input) → ⊥)
     × (Rose (g.K.Sink.faults c.args.out.now) (g.K.Sink.faults c.compare.new.out) → ⊥))
     × Compares (entries c.args.natives.now) of bytes c.compare.result (g.K.Sink.held c.args.out.now)
-    (g.K.Sink.held c.compare.new.out)))
+    (g.K.Sink.held c.compare.new.out)
+    ((Rose (g.S.Source.faults c.args.input.now) (g.S.Source.faults c.compare.new.input) → ⊥)
+    × (Rose (g.K.Sink.faults c.args.out.now) (g.K.Sink.faults c.compare.new.out) → ⊥))))
     (one_session c.args.words.now c.in-Some-Compare.session session asked asks)
     (both-some (g.S.Source.left c.args.input.now) _ _ c.compare.ensures.keeps c.compare.ensures.compares)
 
