@@ -1,0 +1,5 @@
+pub mod Going
+pub mod Made
+pub mod Messages
+pub mod Preparing
+pub mod Smcs

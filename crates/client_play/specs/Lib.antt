@@ -1,0 +1,9 @@
+pub mod Calls
+pub mod Examples
+pub mod Laws
+pub mod Making
+pub mod Message
+pub mod Played
+pub mod Printed
+pub mod Served
+pub mod Standing

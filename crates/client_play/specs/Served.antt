@@ -1,0 +1,75 @@
+-- SMCs as a core serves them, one after the other, and that a client's run of such SMCs over a port is its call on the core. A
+-- port over a core has this of all SMCs that it has made.
+use Rattle.std.specs.Prelude.{◌≡◌, ℕ, ◌-◌, ◌≤◌, ◌^◌, ◌⊎◌, ◌++◌, ◌∷◌, List, [], length, Option, Some}
+use Rattle.std.specs.List.{flat_map}
+use Rattle.event_journal.specs.Journal.{copied_bytes}
+use Rattle.event_journal.specs.declared.event.Event.{Event}
+use Rattle.event_journal.specs.declared.event.Event.TheVariants.{Entry, Exit}
+use Rattle.kernel_model.specs.Application.{Booted}
+use Rattle.kernel_model.specs.Exit.{Exited, exit}
+use Rattle.kernel_model.specs.History.{after_event}
+use Rattle.kernel_model.specs.Kernel.{Kernel}
+use Rattle.play_model.specs.Play.{Play, enters}
+use Rattle.smc_abi.specs.declared.regs.Regs.{Regs}
+use Rattle.smc_port.specs.Smc.{Smc}
+use Rattle.teec.specs.Calls.{Call}
+use Rattle.teec.specs.Rounds.{Ended, Stage, regs_at}
+use Rattle.teec.specs.Runs.{Runs, Scene}
+use Rattle.client_play.specs.Standing.{Returned, Standing, Stopped, call_from, most_returns, play_of, prepared, steps_granted, tries, visit_with}
+
+-- ---- one SMC after the other
+
+-- the events of an SMC of processor 0
+abbrev pub events_of : Smc → List Event
+events_of smc = Entry 0 smc.regs steps_granted smc.reads ∷ Exit 0 smc.answer ∷ []
+
+-- processor 0 of this kernel enters with the SMC's registers and reads just what it has read; it exits with its answer and its
+-- writes
+pub record IsServed (boot : Booted) (kernel : Kernel) (smc : Smc) (next : Kernel) : Type 0 where
+  pub inside : Kernel
+  pub enters : after_event boot kernel (Entry 0 smc.regs steps_granted smc.reads) ≡ Some inside
+  pub exited : Exited
+  pub exits : exit inside 0 ≡ Some exited
+  pub answered : smc.answer.a ≡ exited.regs
+  pub written : smc.writes ≡ exited.writes
+  pub next_is : next ≡ exited.kernel
+
+-- each of them is served by the kernel that the one before has left
+abbrev pub AreServed : Booted → Kernel → List Smc → Kernel → Type 0
+AreServed boot kernel [] last = last ≡ kernel
+AreServed boot kernel (smc ∷ smcs) last =
+    (next : Kernel) × IsServed boot kernel smc next × AreServed boot next smcs last
+
+-- ---- runs of a client over them
+
+abbrev pub scene_of : Standing → Scene
+scene_of standing = record { ram = standing.ram; storage = standing.storage }
+
+-- a run of SMCs that the core has served leads from the one to the other, whose history is behind by their events. All that the
+-- core has read it may have read
+pub record IsRun (boot : Booted) (cancel_after : Option ℕ) (call : Call) (stage : Stage) (old : Standing) (smcs : List Smc) (last : Stage)
+    (new : Standing) : Type 0 where
+  pub served : AreServed boot old.kernel smcs new.kernel
+  pub history : new.history ≡ old.history ++ flat_map events_of smcs
+  pub few_bytes : copied_bytes new.history ≤ 2 ^ 28
+  pub runs : Runs (record { retries = tries; rounds = most_returns; cancel_after = cancel_after }) call stage (scene_of old) smcs last (scene_of new)
+
+-- one that ends is the call on the core
+abbrev pub RunsAreCalls : Type 0
+RunsAreCalls = (boot : Booted) (cancel_after : Option ℕ) (call : Call) (stage : Stage) (room : ℕ) (old new : Standing) (smcs : List Smc) →
+    IsRun boot cancel_after call stage old smcs Ended new → length smcs ≤ room →
+    call_from boot cancel_after call room stage old ≡ Some (Returned (room - length smcs) new)
+
+-- there is no room for an SMC: as many were made as a client makes; or the core refuses its entry
+abbrev pub HasNoRoom : Booted → ℕ → Regs → Standing → ℕ → Type 0
+HasNoRoom boot room regs asked more =
+    ((room ≡ 0) × (more ≡ 0))
+    ⊎ ((1 ≤ room) × ((play : Play) × (enters boot (play_of asked) (visit_with regs) ≡ Some play) × (play.refused ≡ Some more)))
+
+-- and one that comes to a stage whose SMC has no room stops there
+abbrev pub RunsStop : Type 0
+RunsStop = (boot : Booted) (cancel_after : Option ℕ) (call : Call) (stage last : Stage) (room more : ℕ) (old new : Standing)
+    (smcs : List Smc) (regs : Regs) →
+    IsRun boot cancel_after call stage old smcs last new → length smcs ≤ room → regs_at last ≡ Some regs →
+    HasNoRoom boot (room - length smcs) regs (prepared call last new) more →
+    call_from boot cancel_after call room stage old ≡ Some (Stopped more new.history)

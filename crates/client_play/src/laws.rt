@@ -1,0 +1,30 @@
+//! What holds of the definitions.
+
+ghost use Rattle.client_play.specs.Examples.{Examples};
+ghost use Rattle.client_play.specs.Laws.{CallsAreMadeAlike, PreparesAlike};
+ghost use Rattle.client_play.specs.Served.{RunsAreCalls, RunsStop};
+
+/// What is written before an SMC, and what the supplicant makes of a message, is what a client does there over any port.
+pub fn prepares_alike()
+    ensures { PreparesAlike }
+{}
+
+/// A client's run over a port whose SMCs a core has served is its call on the core, where it ends.
+pub fn runs_are_calls()
+    ensures { RunsAreCalls }
+{}
+
+/// Where its next SMC has no room, the call stops there.
+pub fn runs_stop()
+    ensures { RunsStop }
+{}
+
+/// A call that returns is a client's run of SMCs that the core has served.
+pub fn calls_are_made_alike()
+    ensures { CallsAreMadeAlike }
+{}
+
+/// Plays of small scripts, worked out by hand.
+pub fn worked_examples()
+    ensures { Examples }
+{}
