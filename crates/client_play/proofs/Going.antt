@@ -9,15 +9,14 @@ use Rattle.event_journal.specs.declared.event.Event.{Event}
 use Rattle.kernel_model.specs.Application.{Booted}
 use Rattle.kernel_model.specs.Kernel.{Kernel}
 use Rattle.ns_ram.specs.Reads.{total_bytes}
-use Rattle.play_model.specs.Play.{Play, enters, entry_event, leaves, unless_refused, with_event}
-use Rattle.play_model.proofs.Entries.{Entered, CameIn, WasRefused, entered, event_made}
+use Rattle.play_model.specs.Play.{Play}
 use Rattle.smc_abi.specs.declared.regs.Regs.{Regs}
 use Rattle.smc_port.specs.Smc.{Changes, Smc}
 use Rattle.teec.specs.Calls.{Call}
 use Rattle.teec.specs.Rounds.{Calls, Cancels, Ended, Failed, Resumes, Stage, after_answer, regs_at}
 use Rattle.teec.specs.Runs.{Runs, Scene, Turns}
 use Rattle.client_play.specs.Served.{AreServed, HasNoRoom, IsRun, IsServed, RunsAreCalls, RunsStop, events_of, scene_of}
-use Rattle.client_play.specs.Standing.{Came, Returned, Standing, Stopped, after_smc, answer_of, call_from, next_stage, play_of, prepared, standing_after, unless_ended, unless_full, visit_with}
+use Rattle.client_play.specs.Standing.{Came, Returned, Standing, Stopped, after_smc, answer_of, call_from, next_stage, play_of, prepared, standing_after, unless_ended, unless_full}
 use Rattle.client_play.proofs.Preparing.{prepares_alike}
 use Rattle.client_play.proofs.Smcs.{one_smc}
 
@@ -134,26 +133,10 @@ runs_are_calls boot cancel_after call stage (suc room) old new (smc ∷ smcs) ru
 
 -- ---- one that stops
 
--- a refused entry changes no history
-refused_there : (boot : Booted) (asked : Standing) (regs : Regs) (play : Play) (more : ℕ)
-    → enters boot (play_of asked) (visit_with regs) ≡ Some play → play.refused ≡ Some more → play.history ≡ asked.history
-refused_there boot asked regs play more comes refused =
-    elim (entered boot (visit_with regs) (play_of asked) play comes) [
-      | CameIn reads few came ↦
-          let made = event_made boot (entry_event (visit_with regs) reads) (play_of asked) play came in
-          let none : None ≡ Some more = sym made.1 ∙ refused in
-          absurd cc
-      | WasRefused reads much is ↦ ap (λ (p : Play). p.history) (sym is)
-    ]
-
-refused_by : (boot : Booted) (asked : Standing) (regs : Regs) (play : Play) (more : ℕ) (onward : Play → Option Came)
-    → enters boot (play_of asked) (visit_with regs) ≡ Some play → play.refused ≡ Some more
+refused_by : (boot : Booted) (asked : Standing) (regs : Regs) (more : ℕ) (onward : Play → Option Came)
+    → after_smc boot regs asked ≡ Some (record (play_of asked) { refused = Some more })
     → option_and_then (unless_full onward) (after_smc boot regs asked) ≡ Some (Stopped more asked.history)
-refused_by boot asked regs play more onward comes refused =
-    ap (λ (o : Option Play). option_and_then (unless_full onward) (option_and_then (unless_refused (leaves boot 0)) o)) comes
-    ∙ ap (λ (o : Option ℕ). option_and_then (unless_full onward) (option_map_or (λ (n : ℕ). Some play) o (leaves boot 0 play))) refused
-    ∙ ap (λ (o : Option ℕ). option_map_or (λ n. Some (Stopped n play.history)) o (onward play)) refused
-    ∙ ap (λ (history : List Event). Some (Stopped more history)) (refused_there boot asked regs play more comes refused)
+refused_by boot asked regs more onward refused = ap (λ (o : Option Play). option_and_then (unless_full onward) o) refused
 
 stops_here : (boot : Booted) (cancel_after : Option ℕ) (call : Call) (stage : Stage) (room more : ℕ) (standing : Standing) (regs : Regs)
     → regs_at stage ≡ Some regs → HasNoRoom boot room regs (prepared call stage standing) more
@@ -173,7 +156,7 @@ stops_here boot cancel_after call stage (suc room) more standing regs is none =
           let onward = λ (play : Play).
           call_from boot cancel_after call room (next_stage cancel_after stage (answer_of play)) (standing_after play asked.storage) in
           next_smc (suc room) stage standing (λ regs. option_and_then (unless_full onward) (after_smc boot regs asked)) regs is
-          ∙ refused_by boot asked regs full.1.0 more onward full.1.1 full.1.2
+          ∙ refused_by boot asked regs more onward full.1
     ]
 
 pub runs_stop : RunsStop

@@ -2,20 +2,21 @@
 -- port over a core has this of all SMCs that it has made.
 use Rattle.std.specs.Prelude.{◌≡◌, ℕ, ◌-◌, ◌≤◌, ◌^◌, ◌⊎◌, ◌++◌, ◌∷◌, List, [], length, Option, Some}
 use Rattle.std.specs.List.{flat_map}
+use Rattle.std.specs.Option.{option_map_or}
 use Rattle.event_journal.specs.Journal.{copied_bytes}
 use Rattle.event_journal.specs.declared.event.Event.{Event}
 use Rattle.event_journal.specs.declared.event.Event.TheVariants.{Entry, Exit}
 use Rattle.kernel_model.specs.Application.{Booted}
 use Rattle.kernel_model.specs.Exit.{Exited, exit}
-use Rattle.kernel_model.specs.History.{after_event}
+use Rattle.kernel_model.specs.History.{after_event, exit_after, kernel_after}
 use Rattle.kernel_model.specs.Kernel.{Kernel}
-use Rattle.play_model.specs.Play.{Play, enters}
+use Rattle.ns_ram.specs.Writes.{Write}
 use Rattle.smc_abi.specs.declared.regs.Regs.{Regs}
 use Rattle.smc_port.specs.Smc.{Smc}
 use Rattle.teec.specs.Calls.{Call}
 use Rattle.teec.specs.Rounds.{Ended, Stage, regs_at}
 use Rattle.teec.specs.Runs.{Runs, Scene}
-use Rattle.client_play.specs.Standing.{Returned, Standing, Stopped, call_from, most_returns, play_of, prepared, steps_granted, tries, visit_with}
+use Rattle.client_play.specs.Standing.{Returned, Standing, Stopped, after_smc, call_from, most_returns, play_of, prepared, steps_granted, tries}
 
 -- ---- one SMC after the other
 
@@ -40,6 +41,23 @@ AreServed boot kernel [] last = last ≡ kernel
 AreServed boot kernel (smc ∷ smcs) last =
     (next : Kernel) × IsServed boot kernel smc next × AreServed boot next smcs last
 
+-- what the exit of processor 0 writes behind these events
+abbrev pub exit_writes : Booted → List Event → List Write
+exit_writes boot events = option_map_or (λ (exited : Exited). exited.writes) (exit_after boot events 0) []
+
+-- each of the SMCs behind a history has the writes of its exit
+abbrev pub HaveTheirWrites : Booted → List Event → List Smc → Type 0
+HaveTheirWrites boot history [] = Unit {0}
+HaveTheirWrites boot history (smc ∷ smcs) =
+    (smc.writes ≡ exit_writes boot (history ++ Entry 0 smc.regs steps_granted smc.reads ∷ []))
+    × HaveTheirWrites boot (history ++ events_of smc) smcs
+
+-- so those whose events follow on the history were served
+abbrev pub SmcsAreServed : Type 0
+SmcsAreServed = (boot : Booted) (history : List Event) (kernel last : Kernel) (smcs : List Smc) →
+    kernel_after boot history ≡ Some kernel → kernel_after boot (history ++ flat_map events_of smcs) ≡ Some last →
+    HaveTheirWrites boot history smcs → AreServed boot kernel smcs last
+
 -- ---- runs of a client over them
 
 abbrev pub scene_of : Standing → Scene
@@ -60,11 +78,12 @@ RunsAreCalls = (boot : Booted) (cancel_after : Option ℕ) (call : Call) (stage 
     IsRun boot cancel_after call stage old smcs Ended new → length smcs ≤ room →
     call_from boot cancel_after call room stage old ≡ Some (Returned (room - length smcs) new)
 
--- there is no room for an SMC: as many were made as a client makes; or the core refuses its entry
+-- there is no room for an SMC: as many were made as a client makes; or the core refuses its entry, which would have read so many
+-- bytes
 abbrev pub HasNoRoom : Booted → ℕ → Regs → Standing → ℕ → Type 0
 HasNoRoom boot room regs asked more =
     ((room ≡ 0) × (more ≡ 0))
-    ⊎ ((1 ≤ room) × ((play : Play) × (enters boot (play_of asked) (visit_with regs) ≡ Some play) × (play.refused ≡ Some more)))
+    ⊎ ((1 ≤ room) × (after_smc boot regs asked ≡ Some (record (play_of asked) { refused = Some more })))
 
 -- and one that comes to a stage whose SMC has no room stops there
 abbrev pub RunsStop : Type 0

@@ -2,11 +2,16 @@
 
 ghost use Rattle.client_play.specs.Examples.{Examples};
 ghost use Rattle.client_play.specs.Laws.{CallsAreMadeAlike, PreparesAlike};
-ghost use Rattle.client_play.specs.Served.{RunsAreCalls, RunsStop};
+ghost use Rattle.client_play.specs.Served.{RunsAreCalls, RunsStop, SmcsAreServed};
 
 /// What is written before an SMC, and what the supplicant makes of a message, is what a client does there over any port.
 pub fn prepares_alike()
     ensures { PreparesAlike }
+{}
+
+/// SMCs whose events follow on a history, each with the writes of its exit, were served by the core, one after the other.
+pub fn smcs_are_served()
+    ensures { SmcsAreServed }
 {}
 
 /// A client's run over a port whose SMCs a core has served is its call on the core, where it ends.

@@ -9,4 +9,7 @@
 
 mod laws;
 
-pub use laws::{calls_are_made_alike, prepares_alike, runs_are_calls, runs_stop, worked_examples};
+pub use laws::{
+    calls_are_made_alike, prepares_alike, runs_are_calls, runs_stop, smcs_are_served,
+    worked_examples,
+};
