@@ -2,6 +2,7 @@
 
 ghost use Rattle.client_play.specs.Examples.{Examples};
 ghost use Rattle.client_play.specs.Laws.{CallsAreMadeAlike, PreparesAlike};
+ghost use Rattle.client_play.specs.PlayLaws.{PlaysAreOfTraces};
 ghost use Rattle.client_play.specs.Served.{RunsAreCalls, RunsStop, SmcsAreServed};
 
 /// What is written before an SMC, and what the supplicant makes of a message, is what a client does there over any port.
@@ -27,6 +28,12 @@ pub fn runs_stop()
 /// A call that returns is a client's run of SMCs that the core has served.
 pub fn calls_are_made_alike()
     ensures { CallsAreMadeAlike }
+{}
+
+/// The history of each play is that of a trace, whose items are the client's writes to the RAM of processor 0 and its SMCs
+/// there, and the play of that trace is true to the written kernel: so it is legal from the script's boot.
+pub fn plays_are_of_traces()
+    ensures { PlaysAreOfTraces }
 {}
 
 /// Plays of small scripts, worked out by hand.
