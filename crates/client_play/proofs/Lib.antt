@@ -2,6 +2,10 @@ pub mod Following
 pub mod Going
 pub mod Made
 pub mod Messages
+pub mod NewCalls
+pub mod NoFaults
 pub mod OfTraces
 pub mod Preparing
+pub mod ScriptsPlayed
 pub mod Smcs
+pub mod Turns

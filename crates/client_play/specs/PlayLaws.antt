@@ -1,5 +1,6 @@
 -- What holds of the plays of scripts.
-use Rattle.std.specs.Prelude.{◌≡◌, List, Some, All}
+use Rattle.std.specs.Prelude.{◌≡◌, ℕ, List, Some, All, IsSome}
+use Rattle.client_text.specs.Sound.{IsSoundScript}
 use Rattle.client_text.specs.declared.script.Script.{Script}
 use Rattle.event_journal.specs.declared.event.Event.{Event}
 use Rattle.kernel_model.specs.Application.{IsBooted, Native, booted}
@@ -38,3 +39,12 @@ pub record IsOfTrace (natives : List Native) (boot : Boot) (script : Script) (hi
 abbrev pub PlaysAreOfTraces : Type 0
 PlaysAreOfTraces = (natives : List Native) (boot : Boot) (script : Script) (play : ClientPlay) →
     IsBooted (booted boot natives) → played natives boot script ≡ Some play → IsOfTrace natives boot script play.history
+
+-- ---- each script has a play
+
+-- none of its calls fails on a core. Each finds a thread, has at most as many RPC returns as there can be SMCs, and is answered
+-- nothing strange
+abbrev pub ScriptsHavePlays : Type 0
+ScriptsHavePlays = (natives : List Native) (uuids : List (List ℕ)) (boot : Boot) (script : Script) →
+    IsBooted (booted boot natives) → IsSoundScript uuids script → script.boot ≡ Some boot →
+    IsSome (played natives boot script)

@@ -2,7 +2,7 @@
 
 ghost use Rattle.client_play.specs.Examples.{Examples};
 ghost use Rattle.client_play.specs.Laws.{CallsAreMadeAlike, PreparesAlike};
-ghost use Rattle.client_play.specs.PlayLaws.{PlaysAreOfTraces};
+ghost use Rattle.client_play.specs.PlayLaws.{PlaysAreOfTraces, ScriptsHavePlays};
 ghost use Rattle.client_play.specs.Served.{RunsAreCalls, RunsStop, SmcsAreServed};
 
 /// What is written before an SMC, and what the supplicant makes of a message, is what a client does there over any port.
@@ -34,6 +34,12 @@ pub fn calls_are_made_alike()
 /// there, and the play of that trace is true to the written kernel: so it is legal from the script's boot.
 pub fn plays_are_of_traces()
     ensures { PlaysAreOfTraces }
+{}
+
+/// Each script that is within its limits has a play: no call of its client fails. Each SMC comes, finds a slot free where it is a
+/// new call, and is answered OK or an RPC return; and there are fewer RPC returns than a client answers.
+pub fn scripts_have_plays()
+    ensures { ScriptsHavePlays }
 {}
 
 /// Plays of small scripts, worked out by hand.

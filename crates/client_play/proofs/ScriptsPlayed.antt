@@ -1,0 +1,472 @@
+-- Each script has a play: what a client writes before a call is a whole argument of a command, and so no call fails.
+use Rattle.std.proofs.Common.{◌≡◌, ℕ, zero, suc, ◌+◌, ◌-◌, ◌≤◌, ◌<◌, Bool, true, false, List, [], ◌∷◌, ◌++◌, length, map, take, drop, replicate, Option, Some, None, refl, ap, subst, sym, ◌∙◌, arith}
+use Rattle.std.proofs.Common.{append_assoc}
+use Rattle.std.specs.Prelude.{IfSome, IsSome, nat_le, slice_get, ◌^◌, ◌&&◌, ◌==◌, if◌then◌else◌}
+use Rattle.std.specs.List.{flat_map}
+use Rattle.std.specs.Option.{option_and_then, option_map_or}
+use Rattle.std.proofs.lemmas.Bool.Decides.{nat_tests}
+use Rattle.std.proofs.Math.Seq.{drop-append_seam}
+use Rattle.std.proofs.lemmas.List.{length-take}
+use Rattle.std.proofs.lemmas.Nat.{from_le_bytes-to_le_bytes_4}
+use Rattle.base.specs.Zeros.{zeros}
+use Rattle.base.proofs.ZeroLemmas.{length-zeros}
+use Rattle.client_text.specs.Sound.{IsClientBoot}
+use Rattle.client_text.specs.declared.script.ScriptCall.{ScriptCall}
+use Rattle.client_text.specs.declared.script.ScriptCall.TheVariants.{Close, Invoke, Open}
+use Rattle.kernel_model.specs.Application.{Booted, IsBooted, booted}
+use Rattle.kernel_model.specs.Argument.{reg}
+use Rattle.kernel_model.specs.Decision.{Taken, Tested}
+use Rattle.kernel_model.specs.Entry.{decision_of}
+use Rattle.kernel_model.specs.Kernel.{Free, Outside, PendingCall, Suspended, ThreadSlot, lowest_free}
+use Rattle.kernel_model.specs.Located.{at_address, has_argument}
+use Rattle.kernel_model.specs.NewCall.{NewCall, cancel_calls, close_session, command_of, invoke_command, open_session}
+use Rattle.kernel_model.proofs.Parts.{if-both}
+use Rattle.msg_args.specs.Layout.{argument_len}
+use Rattle.msg_args.specs.Reading.{head_at}
+use Rattle.msg_args.specs.Spelling.{head_bytes, param_bytes, spelling}
+use Rattle.msg_args.specs.declared.arg.MsgArg.{MsgArg}
+use Rattle.msg_args.specs.declared.head.MsgHead.{MsgHead}
+use Rattle.ns_ram.specs.Lane.{bytes_at, bytes_put, is_in_ram}
+use Rattle.ns_ram.specs.Writes.{Write, lane_after}
+use Rattle.ns_ram.proofs.LaneBytes.{bytes_at-is}
+use Rattle.ns_ram.proofs.WriteList.{lane_after-append}
+use Rattle.play_model.specs.Play.{Play}
+use Rattle.smc_abi.specs.Call as smc
+use Rattle.smc_abi.specs.declared.regs.Regs.{Regs}
+use Rattle.ta_isa.specs.declared.boot.Boot.{Boot}
+use Rattle.ta_params.specs.declared.copied_params.GpParam.{GpParam}
+use Rattle.teec.specs.Calls.{Call}
+use Rattle.teec.specs.declared.fault.TeecFault.TheVariants.{Rounds}
+use Rattle.teec.specs.Rounds.{Calls, Cancels, Ended, Failed, Resumes, Stage, after_cancel, after_resume, after_return, before_answer}
+use Rattle.teec.specs.Rounds as rounds
+use Rattle.teec_calls.specs.Answers.{call_with_arg, return_from_rpc, return_of}
+use Rattle.teec_calls.specs.Arguments.{cancel_argument, close_argument, invoke_argument, open_argument}
+use Rattle.teec_calls.specs.Operation.{buffer_writes, params_of, params_sent, sent_from}
+use Rattle.teec_calls.specs.Places.{argument_at, cancel_at}
+use Rattle.teec_calls.specs.declared.answer.RpcReturn.{RpcReturn}
+use Rattle.teec_calls.specs.declared.answer.Said.{Said}
+use Rattle.teec_calls.specs.declared.operation.Operation.{Operation}
+use Rattle.trace_text.specs.declared.trace.Fill.{Fill}
+use Rattle.client_play.specs.Calls.{Sessions, call_of, cancelled_after, operation_of, session_of}
+use Rattle.client_play.specs.PlayLaws.{ScriptsHavePlays}
+use Rattle.client_play.specs.Played.{Client, after_call, call_made, calls_made, first_client, first_standing, goes_on}
+use Rattle.client_play.specs.Making.{prepared_at}
+use Rattle.client_play.specs.Standing as standing
+use Rattle.client_play.specs.Standing.{Came, Fails, Standing, Stopped, after_smc, answer_of, call_from, most_returns, next_stage, prepared, standing_after, tries, unless_full}
+use Rattle.client_play.proofs.NewCalls.{IsSettled, IsWellMade, OnLane, TakesSlot, takes_for_client, takes_settled}
+use Rattle.client_play.proofs.NoFaults.{Comes, Full, Stands, Took, call_turns, cancel_turns, smc_comes, whole_after}
+use Rattle.client_play.proofs.OfTraces.{some_cpu}
+use Rattle.client_play.proofs.Turns.{Asked, Over, Turned, first_lowest, resumes_call, second_lowest, slots_with}
+
+-- ---- the head of an argument
+
+-- its bytes are read where they were written
+head_there : (lane : List ℕ) (addr : ℕ) (head : MsgHead) (rest : List ℕ) → 0x40000000 ≤ addr → addr - 0x40000000 ≤ length lane
+    → bytes_at (bytes_put lane addr (head_bytes head ++ rest)) addr 32 ≡ head_bytes head
+head_there lane addr head rest above within =
+    let offset = addr - 0x40000000 in
+    let bytes = head_bytes head ++ rest in
+    let behind = drop (offset + length bytes) lane in
+    let n : length (take offset lane) ≡ offset = omega (arith, length-take offset lane) in
+    let there : drop offset (take offset lane ++ (bytes ++ behind)) ≡ bytes ++ behind =
+    rw n at (drop-append_seam (take offset lane) (bytes ++ behind)) in
+    bytes_at-is (bytes_put lane addr bytes) addr 32 above
+    ∙ ap (λ (all : List ℕ). take 32 (drop offset all)) (append_assoc (take offset lane) bytes behind)
+    ∙ ap (λ (all : List ℕ). take 32 all) there
+
+cmd_again : (head : MsgHead) → head.cmd < 2 ^ 32 → (head_at (head_bytes head)).cmd ≡ head.cmd
+cmd_again head fits = from_le_bytes-to_le_bytes_4 head.cmd fits
+
+count_again : (head : MsgHead) → head.count < 2 ^ 32 → (head_at (head_bytes head)).count ≡ head.count
+count_again head fits = from_le_bytes-to_le_bytes_4 head.count fits
+
+-- an argument of so many parameters is whole at an address
+abbrev is_whole : ℕ → ℕ → Bool
+is_whole addr count = nat_le count 6 && (is_in_ram addr (argument_len count + 0) && true)
+
+few_are_whole : (count : ℕ) → count ≤ 6 → is_whole argument_at count ≡ true
+few_are_whole zero few = refl
+few_are_whole (suc zero) few = refl
+few_are_whole (suc (suc zero)) few = refl
+few_are_whole (suc (suc (suc zero))) few = refl
+few_are_whole (suc (suc (suc (suc zero)))) few = refl
+few_are_whole (suc (suc (suc (suc (suc zero))))) few = refl
+few_are_whole (suc (suc (suc (suc (suc (suc zero)))))) few = refl
+few_are_whole (suc (suc (suc (suc (suc (suc (suc more))))))) few = absurd (omega arith)
+
+-- ---- calls
+
+-- RAM has the whole argument of this command there
+pub record HasArgument (ram : List ℕ) (addr : ℕ) (command : NewCall → Tested Taken) : Type 0 where
+  pub whole : has_argument (at_address false addr) (head_at (bytes_at ram addr 32)) ≡ true
+  pub command_is : command_of (head_at (bytes_at ram addr 32)).cmd ≡ Some command
+
+-- whatever RAM has before
+pub record IsMade (call : Call) : Type 0 where
+  pub command : NewCall → Tested Taken
+  pub has : (ram : List ℕ) → HasArgument (lane_after ram call.writes) argument_at command
+
+-- behind other writes
+argument_made : (arg : MsgArg) (writes : List Write) (session : ℕ) (command : NewCall → Tested Taken) → arg.head.cmd < 2 ^ 32
+    → arg.head.count ≤ 6 → command_of arg.head.cmd ≡ Some command
+    → IsMade (record { writes = writes ++ record { addr = argument_at; bytes = spelling arg } ∷ []; session = session })
+argument_made arg writes session command cmd few known = record {
+  command = command;
+  has = λ ram.
+      let lane = lane_after ram writes in
+      let rest = list_flat arg in
+      let first : 0x40000000 ≤ argument_at = omega arith in
+      let within : argument_at - 0x40000000 ≤ length lane = omega arith in
+      let head : bytes_at (bytes_put lane argument_at (spelling arg)) argument_at 32 ≡ head_bytes arg.head =
+      head_there lane argument_at arg.head rest first within in
+      let fits : arg.head.count < 2 ^ 32 = omega (arith, few) in
+      let count : (head_at (head_bytes arg.head)).count ≡ arg.head.count = count_again arg.head fits in
+      subst (λ (all : List ℕ). HasArgument all argument_at command)
+      (sym (lane_after-append ram writes (record { addr = argument_at; bytes = spelling arg } ∷ [])))
+      (record {
+        whole = ap (λ (bytes : List ℕ). is_whole argument_at (head_at bytes).count) head
+            ∙ ap (λ (n : ℕ). is_whole argument_at n) count ∙ few_are_whole arg.head.count few;
+        command_is = ap (λ (bytes : List ℕ). command_of (head_at bytes).cmd) head
+            ∙ ap command_of (cmd_again arg.head cmd) ∙ known;
+      });
+}
+  where
+    list_flat : MsgArg → List ℕ
+    list_flat a = flat_map param_bytes a.params.items
+
+length-sent : (number : ℕ) (params : List GpParam) → length (sent_from number params) ≡ length params
+length-sent number [] = refl
+length-sent number (param ∷ params) = ap suc (length-sent (suc number) params)
+
+few_sent : (op : Operation) (sent : ℕ) → length (params_sent op sent) ≤ 4
+few_sent op sent =
+    let all = length-sent 0 (take sent (params_of op.params)) in
+    let cut = length-take sent (params_of op.params) in
+    omega (arith, all, cut)
+
+-- each call of a script
+pub calls_are_made : (sessions : Sessions) (call : ScriptCall) → IsMade (call_of sessions call)
+calls_are_made sessions (Open name uuid params) =
+    let op = operation_of params None in
+    let few = few_sent op (length params) in
+    let small : 0 < 2 ^ 32 = omega arith in
+    let six : suc (suc (length (params_sent op (length params)))) ≤ 6 = omega (arith, few) in
+    argument_made (open_argument uuid op (length params)) (buffer_writes op) 0 open_session small six refl
+calls_are_made sessions (Invoke name func cancel_after params) =
+    let op = operation_of params cancel_after in
+    let few = few_sent op (length params) in
+    let small : 1 < 2 ^ 32 = omega arith in
+    let six : length (params_sent op (length params)) ≤ 6 = omega (arith, few) in
+    argument_made (invoke_argument (session_of sessions name) func op (length params)) (buffer_writes op) (session_of sessions name)
+    invoke_command small six refl
+calls_are_made sessions (Close name) =
+    let small : 2 < 2 ^ 32 = omega arith in
+    let six : 0 ≤ 6 = omega arith in
+    argument_made (close_argument (session_of sessions name)) [] (session_of sessions name) close_session small six refl
+
+-- ---- a call
+
+-- in a call: so many RPC returns, and SMCs that can still be made
+record InCall (boot : Booted) (n returns room : ℕ) (rpc : RpcReturn) (at : Standing) : Type 0 where
+  pending : PendingCall
+  client : pending.client ≡ 0
+  stands : Stands boot (Suspended 0 pending) n at
+  thread : rpc.thread ≡ 0
+  few : returns + room ≤ 32768
+
+-- it returns between two calls, or stops
+abbrev IsWellDone : Booted → ℕ → ℕ → Came → Type 0
+IsWellDone boot n room (standing.Returned left after) = Stands boot Free n after × (left ≤ room)
+IsWellDone boot n room (Stopped more history) = Unit {0}
+IsWellDone boot n room (Fails fault) = ⊥
+
+module _ (boot : Booted) (boots : IsBooted boot) (n : ℕ) (cancel_after : Option ℕ) (call : Call) (made : IsMade call) where
+  abbrev Fits : Stage → ℕ → Standing → Type 0
+  Fits (Calls zero) room at = Stands boot Free n at
+  Fits (Calls (suc refused)) room at = ⊥
+  Fits (Cancels returns rpc) room at = InCall boot n returns room rpc at
+  Fits (Resumes returns rpc) room at = InCall boot n returns room rpc at
+  Fits Ended room at = Stands boot Free n at
+  Fits (Failed fault) room at = ⊥
+
+  abbrev IsWell : ℕ → Came → Type 0
+  IsWell room came = IsWellDone boot n room came
+
+  abbrev Well : ℕ → Option Came → Type 0
+  Well room found = (came : Came) × (found ≡ Some came) × IsWell room came
+
+  -- with room for one more
+  roomier : (room : ℕ) (came : Came) → IsWell room came → IsWell (suc room) came
+  roomier room (standing.Returned left after) well = (well.0, omega (arith, well.1))
+  roomier room (Stopped more history) well = tt
+  roomier room (Fails fault) well = well
+
+  -- the stage behind an answer to a call or a resume
+  same_return : (returns : ℕ) → returns < 65536 → (returns == 65536) ≡ false
+  same_return returns few = grind (arith, nat_tests)
+
+  -- the stages behind an RPC return, and behind the answers to a call and to a resume
+  abbrev answering : ℕ → RpcReturn → Stage
+  answering returns rpc = before_answer (record { retries = tries; rounds = most_returns; cancel_after = cancel_after }) returns rpc
+
+  abbrev returning : ℕ → RpcReturn → Stage
+  returning returns rpc = after_return (record { retries = tries; rounds = most_returns; cancel_after = cancel_after }) returns rpc
+
+  abbrev called_so : Regs → Said → Stage
+  called_so answer s = rounds.after_call (record { retries = tries; rounds = most_returns; cancel_after = cancel_after }) 0 answer s
+
+  abbrev resumed_so : ℕ → Regs → Said → Stage
+  resumed_so returns answer s = after_resume (record { retries = tries; rounds = most_returns; cancel_after = cancel_after }) returns answer s
+
+  fits_return : (returns room : ℕ) (rpc : RpcReturn) (at : Standing) → returns < 65536 → InCall boot n (suc returns) room rpc at
+      → Fits (returning returns rpc) room at
+  fits_return returns room rpc at few inside =
+      subst (λ (b : Bool). Fits (if b then Failed (Rounds most_returns) else answering (suc returns) rpc) room at)
+      (sym (same_return returns few))
+      (if-both (λ (stage : Stage). Fits stage room at) (option_map_or (λ after. after == suc returns) cancel_after false)
+      (Cancels (suc returns) rpc) (Resumes (suc returns) rpc) inside inside)
+
+  -- by what an SMC of the call has left and answered
+  after_first : (room : ℕ) (held : ThreadSlot) (answer : Regs) (at : Standing) → suc room ≤ 32768 → Turned held answer
+      → Stands boot held n at → Fits (next_stage cancel_after (Calls 0) answer) room at
+  after_first room held answer at few (Over free fin) stands =
+      subst (λ (s : Said). Fits (called_so answer s) room at) (sym fin) (subst (λ (h : ThreadSlot). Stands boot h n at) free stands)
+  after_first room held answer at few (Asked pending there client k ret) stands =
+      subst (λ (s : Said). Fits (called_so answer s) room at) (sym ret)
+      (fits_return 0 room (record { kind = k; thread = 0 }) at (omega arith) (record {
+        pending = pending;
+        client = client;
+        stands = subst (λ (h : ThreadSlot). Stands boot h n at) there stands;
+        thread = refl;
+        few = omega arith;
+      }))
+
+  after_another : (returns room : ℕ) (rpc : RpcReturn) (held : ThreadSlot) (answer : Regs) (at : Standing) → returns + suc room ≤ 32768
+      → Turned held answer → Stands boot held n at → Fits (next_stage cancel_after (Resumes returns rpc) answer) room at
+  after_another returns room rpc held answer at few (Over free fin) stands =
+      subst (λ (s : Said). Fits (resumed_so returns answer s) room at) (sym fin)
+      (subst (λ (h : ThreadSlot). Stands boot h n at) free stands)
+  after_another returns room rpc held answer at few (Asked pending there client k ret) stands =
+      subst (λ (s : Said). Fits (resumed_so returns answer s) room at) (sym ret)
+      (fits_return returns room (record { kind = k; thread = 0 }) at (omega arith) (record {
+        pending = pending;
+        client = client;
+        stands = subst (λ (h : ThreadSlot). Stands boot h n at) there stands;
+        thread = refl;
+        few = omega arith;
+      }))
+
+  -- an SMC, and what comes behind it
+  stopped_well : (room more : ℕ) (regs : Regs) (asked : Standing) (after : Play) (onward : Play → Option Came)
+      → after_smc boot regs asked ≡ Some after → after.refused ≡ Some more
+      → Well room (option_and_then (unless_full onward) (after_smc boot regs asked))
+  stopped_well room more regs asked after onward e full = (
+    Stopped more after.history,
+    ap (λ (o : Option Play). option_and_then (unless_full onward) o) e
+        ∙ ap (λ (o : Option ℕ). option_map_or (λ bytes. Some (Stopped bytes after.history)) o (onward after)) full,
+    tt,
+  )
+
+  went_well : (room : ℕ) (regs : Regs) (asked : Standing) (after : Play) (onward : Play → Option Came)
+      → after_smc boot regs asked ≡ Some after → after.refused ≡ None → Well room (onward after)
+      → Well (suc room) (option_and_then (unless_full onward) (after_smc boot regs asked))
+  went_well room regs asked after onward e going well = (
+    well.0,
+    ap (λ (o : Option Play). option_and_then (unless_full onward) o) e
+        ∙ ap (λ (o : Option ℕ). option_map_or (λ bytes. Some (Stopped bytes after.history)) o (onward after)) going ∙ well.1,
+    roomier room well.0 well.2,
+  )
+
+  -- RAM with what was written before an SMC
+  asked_stands : (held : ThreadSlot) (stage : Stage) (at : Standing) → Stands boot held n at → Stands boot held n (prepared call stage at)
+  asked_stands held stage at stands = record {
+    comes = stands.comes;
+    outside = stands.outside;
+    whole = whole_after at.ram (prepared_at call stage at.ram at.storage).writes stands.whole;
+    slots = stands.slots;
+  }
+
+  first_comes : (at : Standing) → Stands boot Free n at
+      → (let asked = prepared call (Calls 0) at in
+      (after : Play) × (after_smc boot (call_with_arg argument_at) asked ≡ Some after)
+      × Comes boot asked (call_with_arg argument_at) 0 (λ taken. taken.call.client ≡ 0) after)
+  first_comes at stands =
+      let asked = prepared call (Calls 0) at in
+      let ready = asked_stands Free (Calls 0) at stands in
+      let has = made.has at.ram in
+      let well : IsWellMade asked.kernel (call_with_arg argument_at).a asked.ram 0 (at_address false argument_at) made.command = record {
+        lowest = ap lowest_free stands.slots ∙ first_lowest n;
+        place = refl;
+        head = refl;
+        argument = has.whole;
+        command_is = has.command_is;
+      } in
+      smc_comes boot asked (call_with_arg argument_at) 0 (λ taken. taken.call.client ≡ 0) boots ready.comes ready.outside ready.whole
+      (takes_for_client boot asked.kernel (call_with_arg argument_at).a asked.ram 0 (at_address false argument_at) made.command well)
+
+  resume_comes : (returns room : ℕ) (rpc : RpcReturn) (at : Standing) → InCall boot n returns room rpc at
+      → (let asked = prepared call (Resumes returns rpc) at in
+      (after : Play) × (after_smc boot (return_from_rpc rpc) asked ≡ Some after)
+      × Comes boot asked (return_from_rpc rpc) 0 (λ taken. taken.call.client ≡ 0) after)
+  resume_comes returns room rpc at inside =
+      let asked = prepared call (Resumes returns rpc) at in
+      let ready = asked_stands (Suspended 0 inside.pending) (Resumes returns rpc) at inside.stands in
+      let on = resumes_call boot asked.kernel asked.ram rpc.kind inside.pending (Free ∷ replicate n Free) inside.stands.slots in
+      let for_client = subst (λ (c : ℕ). OnLane asked.ram (TakesSlot 0 (λ taken. taken.call.client ≡ c))
+      (decision_of boot asked.kernel (return_of rpc.kind 0).a (smc.call_of (reg (return_of rpc.kind 0).a 0)))) inside.client on in
+      smc_comes boot asked (return_from_rpc rpc) 0 (λ taken. taken.call.client ≡ 0) boots ready.comes ready.outside ready.whole
+      (subst (λ (t : ℕ). OnLane asked.ram (TakesSlot 0 (λ taken. taken.call.client ≡ 0))
+      (decision_of boot asked.kernel (return_of rpc.kind t).a (smc.call_of (reg (return_of rpc.kind t).a 0)))) (sym inside.thread) for_client)
+
+  cancel_comes : (returns room : ℕ) (rpc : RpcReturn) (at : Standing) → InCall boot n returns room rpc at
+      → (let asked = prepared call (Cancels returns rpc) at in
+      (after : Play) × (after_smc boot (call_with_arg cancel_at) asked ≡ Some after)
+      × Comes boot asked (call_with_arg cancel_at) 1 (λ taken. IsSettled taken.call) after)
+  cancel_comes returns room rpc at inside =
+      let asked = prepared call (Cancels returns rpc) at in
+      let ready = asked_stands (Suspended 0 inside.pending) (Cancels returns rpc) at inside.stands in
+      let arg = cancel_argument call.session in
+      let whole = inside.stands.whole in
+      let zero_fits : 0 < 2 ^ 32 = omega arith in
+      let three_fits : 3 < 2 ^ 32 = omega arith in
+      let head : bytes_at asked.ram cancel_at 32 ≡ head_bytes arg.head = head_there at.ram cancel_at arg.head [] (omega arith) (omega (arith, whole)) in
+      let well : IsWellMade asked.kernel (call_with_arg cancel_at).a asked.ram 1 (at_address false cancel_at) cancel_calls = record {
+        lowest = ap lowest_free inside.stands.slots ∙ second_lowest 0 n inside.pending;
+        place = refl;
+        head = refl;
+        argument = ap (λ (bytes : List ℕ). is_whole cancel_at (head_at bytes).count) head
+            ∙ ap (λ (count : ℕ). is_whole cancel_at count) (count_again arg.head zero_fits);
+        command_is = ap (λ (bytes : List ℕ). command_of (head_at bytes).cmd) head ∙ ap command_of (cmd_again arg.head three_fits);
+      } in
+      smc_comes boot asked (call_with_arg cancel_at) 1 (λ taken. IsSettled taken.call) boots ready.comes ready.outside ready.whole
+      (takes_settled boot asked.kernel (call_with_arg cancel_at).a asked.ram 1 (at_address false cancel_at) well)
+
+  -- from a stage on, while every stage that fits goes well with less room
+  abbrev GoesWell : ℕ → Type 0
+  GoesWell room = (stage : Stage) (at : Standing) → Fits stage room at → Well room (call_from boot cancel_after call room stage at)
+
+  abbrev onward_from : ℕ → Stage → Standing → Play → Option Came
+  onward_from room stage asked play =
+      call_from boot cancel_after call room (next_stage cancel_after stage (answer_of play)) (standing_after play asked.storage)
+
+  by_first : (room : ℕ) (at : Standing) (after : Play) → suc room ≤ 32768 → Stands boot Free n at → GoesWell room
+      → (let asked = prepared call (Calls 0) at in after_smc boot (call_with_arg argument_at) asked ≡ Some after
+      → Comes boot asked (call_with_arg argument_at) 0 (λ taken. taken.call.client ≡ 0) after
+      → Well (suc room) (option_and_then (unless_full (onward_from room (Calls 0) asked)) (after_smc boot (call_with_arg argument_at) asked)))
+  by_first room at after few stands rest e (Full more is) =
+      stopped_well (suc room) more (call_with_arg argument_at) (prepared call (Calls 0) at) after
+      (onward_from room (Calls 0) (prepared call (Calls 0) at)) e is
+  by_first room at after few stands rest e (Took going went) =
+      let asked = prepared call (Calls 0) at in
+      let turned = call_turns boot asked (call_with_arg argument_at) Free n after asked.storage (asked_stands Free (Calls 0) at stands) went in
+      went_well room (call_with_arg argument_at) asked after (onward_from room (Calls 0) asked) e going
+      (rest (next_stage cancel_after (Calls 0) (answer_of after)) (standing_after after asked.storage)
+      (after_first room turned.0 (answer_of after) (standing_after after asked.storage) few turned.1 turned.2))
+
+  by_resume : (returns room : ℕ) (rpc : RpcReturn) (at : Standing) (after : Play) → InCall boot n returns (suc room) rpc at → GoesWell room
+      → (let asked = prepared call (Resumes returns rpc) at in after_smc boot (return_from_rpc rpc) asked ≡ Some after
+      → Comes boot asked (return_from_rpc rpc) 0 (λ taken. taken.call.client ≡ 0) after
+      → Well (suc room) (option_and_then (unless_full (onward_from room (Resumes returns rpc) asked)) (after_smc boot (return_from_rpc rpc) asked)))
+  by_resume returns room rpc at after inside rest e (Full more is) =
+      stopped_well (suc room) more (return_from_rpc rpc) (prepared call (Resumes returns rpc) at) after
+      (onward_from room (Resumes returns rpc) (prepared call (Resumes returns rpc) at)) e is
+  by_resume returns room rpc at after inside rest e (Took going went) =
+      let asked = prepared call (Resumes returns rpc) at in
+      let held = Suspended 0 inside.pending in
+      let turned = call_turns boot asked (return_from_rpc rpc) held n after asked.storage
+      (asked_stands held (Resumes returns rpc) at inside.stands) went in
+      went_well room (return_from_rpc rpc) asked after (onward_from room (Resumes returns rpc) asked) e going
+      (rest (next_stage cancel_after (Resumes returns rpc) (answer_of after)) (standing_after after asked.storage)
+      (after_another returns room rpc turned.0 (answer_of after) (standing_after after asked.storage) inside.few turned.1 turned.2))
+
+  by_cancel : (returns room : ℕ) (rpc : RpcReturn) (at : Standing) (after : Play) → InCall boot n returns (suc room) rpc at → GoesWell room
+      → (let asked = prepared call (Cancels returns rpc) at in after_smc boot (call_with_arg cancel_at) asked ≡ Some after
+      → Comes boot asked (call_with_arg cancel_at) 1 (λ taken. IsSettled taken.call) after
+      → Well (suc room) (option_and_then (unless_full (onward_from room (Cancels returns rpc) asked)) (after_smc boot (call_with_arg cancel_at) asked)))
+  by_cancel returns room rpc at after inside rest e (Full more is) =
+      stopped_well (suc room) more (call_with_arg cancel_at) (prepared call (Cancels returns rpc) at) after
+      (onward_from room (Cancels returns rpc) (prepared call (Cancels returns rpc) at)) e is
+  by_cancel returns room rpc at after inside rest e (Took going went) =
+      let asked = prepared call (Cancels returns rpc) at in
+      let turned = cancel_turns boot asked (call_with_arg cancel_at) inside.pending n after asked.storage inside.client
+      (asked_stands (Suspended 0 inside.pending) (Cancels returns rpc) at inside.stands) went in
+      let few = inside.few in
+      let fits : InCall boot n returns room rpc (standing_after after asked.storage) = record {
+        pending = turned.0;
+        client = turned.1;
+        stands = turned.3;
+        thread = inside.thread;
+        few = omega (arith, few);
+      } in
+      went_well room (call_with_arg cancel_at) asked after (onward_from room (Cancels returns rpc) asked) e going
+      (rest (next_stage cancel_after (Cancels returns rpc) (answer_of after)) (standing_after after asked.storage)
+      (subst (λ (s : Said). Fits (after_cancel returns rpc (answer_of after) s) room (standing_after after asked.storage)) (sym turned.2) fits))
+
+  call_comes : (room : ℕ) → room ≤ 32768 → GoesWell room
+  call_comes zero few (Calls zero) at fits = (Stopped 0 at.history, refl, tt)
+  call_comes zero few (Calls (suc refused)) at fits = absurd fits
+  call_comes zero few (Cancels returns rpc) at fits = (Stopped 0 at.history, refl, tt)
+  call_comes zero few (Resumes returns rpc) at fits = (Stopped 0 at.history, refl, tt)
+  call_comes zero few Ended at fits = (standing.Returned 0 at, refl, (fits, omega arith))
+  call_comes zero few (Failed fault) at fits = absurd fits
+  call_comes (suc room) few (Calls zero) at fits =
+      let comes = first_comes at fits in
+      by_first room at comes.0 few fits (call_comes room (omega (arith, few))) comes.1 comes.2
+  call_comes (suc room) few (Calls (suc refused)) at fits = absurd fits
+  call_comes (suc room) few (Cancels returns rpc) at fits =
+      let comes = cancel_comes returns (suc room) rpc at fits in
+      by_cancel returns room rpc at comes.0 fits (call_comes room (omega (arith, few))) comes.1 comes.2
+  call_comes (suc room) few (Resumes returns rpc) at fits =
+      let comes = resume_comes returns (suc room) rpc at fits in
+      by_resume returns room rpc at comes.0 fits (call_comes room (omega (arith, few))) comes.1 comes.2
+  call_comes (suc room) few Ended at fits = (standing.Returned (suc room) at, refl, (fits, omega arith))
+  call_comes (suc room) few (Failed fault) at fits = absurd fits
+
+-- ---- calls
+
+-- by what the first comes to
+first_well : (boot : Booted) (n : ℕ) (calls : List ScriptCall) (client : Client) (call : ScriptCall) (came : Came)
+    → ((next : Client) → Stands boot Free n next.standing → next.room ≤ client.room → IsSome (calls_made boot calls next))
+    → call_made boot client call ≡ Some came → IsWellDone boot n client.room came
+    → IsSome (option_and_then (goes_on (λ next. calls_made boot calls next) client call) (call_made boot client call))
+first_well boot n calls client call (standing.Returned left after) rest e well =
+    subst (λ (o : Option Came). IsSome (option_and_then (goes_on (λ next. calls_made boot calls next) client call) o)) (sym e)
+    (rest (after_call client call left after) well.0 well.1)
+first_well boot n calls client call (Stopped more history) rest e well =
+    subst (λ (o : Option Came). IsSome (option_and_then (goes_on (λ next. calls_made boot calls next) client call) o)) (sym e) refl
+first_well boot n calls client call (Fails fault) rest e well = absurd well
+
+calls_come : (boot : Booted) → IsBooted boot → (n : ℕ) (calls : List ScriptCall) (client : Client) → Stands boot Free n client.standing
+    → client.room ≤ 32768 → IsSome (calls_made boot calls client)
+calls_come boot boots n [] client stands few = refl
+calls_come boot boots n (call ∷ calls) client stands few =
+    let came = call_comes boot boots n (cancelled_after call) (call_of client.sessions call) (calls_are_made client.sessions call)
+    client.room few (Calls 0) client.standing stands in
+    first_well boot n calls client call came.0
+    (λ next still less. calls_come boot boots n calls next still (omega (arith, few, less))) came.1 came.2
+
+-- ---- scripts
+
+two_slots : (threads : ℕ) → 2 ≤ threads → (n : ℕ) × (replicate threads Free ≡ slots_with Free n)
+two_slots zero two = absurd (omega arith)
+two_slots (suc zero) two = absurd (omega arith)
+two_slots (suc (suc n)) two = (n, refl)
+
+first_outside : (cpus : ℕ) → 1 ≤ cpus → slice_get (replicate cpus Outside) 0 ≡ Some Outside
+first_outside zero some = absurd (omega arith)
+first_outside (suc cpus) some = refl
+
+pub scripts_have_plays : ScriptsHavePlays
+scripts_have_plays natives uuids boot script boots sound is =
+    let on = booted boot natives in
+    let client : IsClientBoot uuids boot = subst (λ (b : Option Boot). IfSome b (IsClientBoot uuids)) is sound.boot in
+    let slots = two_slots boot.threads client.two_threads in
+    let size = length-zeros 0x400000 in
+    let whole : 0x400000 ≤ length (zeros 0x400000) = omega (arith, size) in
+    let stands : Stands on Free slots.0 (first_standing (zeros 0x400000) on script) = record {
+      comes = refl;
+      outside = first_outside boot.cpus (some_cpu on boots);
+      whole = whole_after (zeros 0x400000) (map (λ (fill : Fill). record { addr = fill.addr; bytes = fill.bytes }) script.fills) whole;
+      slots = slots.1;
+    } in
+    calls_come on boots slots.0 script.calls (first_client (first_standing (zeros 0x400000) on script)) stands (omega arith)
