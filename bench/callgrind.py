@@ -1,4 +1,4 @@
-"""Counts the instructions of a program's run, by callgrind."""
+"""Counts the instructions of a program's run, by callgrind, and the bytes on its heap, by massif."""
 
 import re
 import subprocess
@@ -30,3 +30,14 @@ def costs(program, *words, given=b""):
     total = int(re.search(rb"Collected : (\d+)", run.stderr).group(1))
     found = re.findall(r"^ *([\d,]+) +\S*?:(\S+)", told, re.MULTILINE)
     return total, {name: int(cost.replace(",", "")) for cost, name in found}, run.stdout
+
+
+def most_heap(program, *words, given=b""):
+    """The most bytes that the program has on the heap at once for these words and this input."""
+    with tempfile.TemporaryDirectory() as folder:
+        subprocess.run(
+            ["valgrind", "--tool=massif", f"--massif-out-file={folder}/out", program, *words],
+            input=given, capture_output=True, check=True,
+        )
+        with open(f"{folder}/out") as told:
+            return max(int(taken) for taken in re.findall(r"^mem_heap_B=(\d+)$", told.read(), re.MULTILINE))

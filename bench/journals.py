@@ -10,14 +10,11 @@ Usage: bench/journals.py [N..]
 """
 
 import os
-import pathlib
-import re
 import subprocess
 import sys
-import tempfile
 import time
 
-from callgrind import costs
+from callgrind import costs, most_heap
 from playing import BY_VECTORS, PROGRAM, trace
 
 SERVING = "entering::enter", "Work::run", "going_out::leave"
@@ -28,14 +25,6 @@ def said(given, word):
     begun = time.monotonic()
     run = subprocess.run([PROGRAM, word], input=given, capture_output=True, check=True)
     return run.stdout, time.monotonic() - begun
-
-
-def most_heap(given, word):
-    """The most bytes that the program has on the heap at once, by massif."""
-    with tempfile.TemporaryDirectory() as folder:
-        words = ["valgrind", "--tool=massif", f"--massif-out-file={folder}/out", PROGRAM, word]
-        subprocess.run(words, input=given, capture_output=True, check=True)
-        return max(int(bytes) for bytes in re.findall(r"mem_heap_B=(\d+)", pathlib.Path(folder, "out").read_text()))
 
 
 def counted(word, given, calls):
@@ -64,7 +53,7 @@ def main():
         for at, times in enumerate((calls, 2 * calls)):
             print(f"{times} calls: audit takes {found['audit'][at] / found['run'][at]:.3f} of run", flush=True)
         for times, given in ((calls, few), (2 * calls, many)):
-            taken = [f"{word} {said(given[word], word)[1]:.2f} s and {most_heap(given[word], word)} bytes" for word in given]
+            taken = [f"{word} {said(given[word], word)[1]:.2f} s and {most_heap(PROGRAM, word, given=given[word])} bytes" for word in given]
             print(f"{times} calls, a text of {len(given['run'])} bytes and a journal of {len(given['audit'])}: {', '.join(taken)}", flush=True)
 
 

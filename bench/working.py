@@ -10,12 +10,9 @@ Usage: bench/working.py [N..]
 """
 
 import os
-import re
-import subprocess
 import sys
-import tempfile
 
-from callgrind import costs
+from callgrind import costs, most_heap
 from playing import BY_VECTORS, LANE, PROGRAM, SEED
 
 MOST_CALLS = 65_536
@@ -34,24 +31,13 @@ def measured(count):
     return {"in all": whole, "making": making, "serving": serving, "printing": printing, "digesting": digesting}
 
 
-def most_heap(count):
-    """The most bytes on the heap at once, for so many calls."""
-    with tempfile.TemporaryDirectory() as folder:
-        subprocess.run(
-            ["valgrind", "--tool=massif", f"--massif-out-file={folder}/out", PROGRAM, "work", str(SEED), str(count)],
-            capture_output=True, check=True,
-        )
-        with open(f"{folder}/out") as told:
-            return max(int(taken) for taken in re.findall(r"^mem_heap_B=(\d+)$", told.read(), re.MULTILINE))
-
-
 def main():
     os.environ["GLIBC_TUNABLES"] = BY_VECTORS
     for count in [int(word) for word in sys.argv[1:]] or [1000, 32_000]:
         once, twice = measured(count), measured(2 * count)
         further = ", ".join(f"{name} {(twice[name] - once[name]) / count:.0f}" for name in once)
         print(f"{count} calls more behind {count}, for each: {further}", flush=True)
-    most = most_heap(MOST_CALLS)
+    most = most_heap(PROGRAM, "work", str(SEED), str(MOST_CALLS))
     print(f"{MOST_CALLS} calls: at most {most} bytes on the heap, {most - LANES * LANE} of them beside the lanes", flush=True)
 
 
