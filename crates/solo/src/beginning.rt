@@ -32,7 +32,7 @@ use tee_storage::Handles;
 
 /// What a call needs to begin, taken before anything is changed.
 #[derive(Drop)]
-pub(crate) struct Ready {
+pub struct Ready {
     pub app: Application,
     /// A memory of no bytes, which an instance of an image has that has none.
     pub empty: Plain,
@@ -76,7 +76,7 @@ fn entry_points(kind: CallKind) -> Points
 }
 
 /// What a call holds that begins on an instance with this memory: on a dead one nothing runs.
-fn held_of(ready: Ready, dead: bool, memory: Option<Plain>) -> Held<Plain>
+pub fn held_of(ready: Ready, dead: bool, memory: Option<Plain>) -> Held<Plain>
     requires valid { IsValidApp (application_of ready.app) }
     requires empty { ready.empty ≡ [] }
     ensures begins { (seen : Bool) (job : AnyJob) (points : List AnyPoint)

@@ -32,7 +32,7 @@ use ta_step::Plain;
 const SOME_BUFFER: RpcBuffer = RpcBuffer { addr: 0, cookie: 0 };
 
 /// The call is a close.
-fn is_close(kind: CallKind) -> bool
+pub fn is_close(kind: CallKind) -> bool
     ensures { result ≡ is_close kind }
 {
     matches!(kind, CallKind::Close)
@@ -46,7 +46,7 @@ fn is_lost(found: Found, kind: CallKind) -> bool
 }
 
 /// It wanted a buffer and was given none.
-fn is_no_buffer(input: &BackInput) -> bool
+pub fn is_no_buffer(input: &BackInput) -> bool
     ensures { result ≡ is_no_buffer input.now }
 {
     matches!(input, BackInput::NoBuffer)
@@ -54,7 +54,7 @@ fn is_no_buffer(input: &BackInput) -> bool
 
 /// The call has a buffer from now on where it is given one.
 #[tactic(auto, using(crate::proofs::Back::has_buffer))]
-fn takes_buffer(cont: &mut Cont<Plain>, input: &BackInput)
+pub fn takes_buffer(cont: &mut Cont<Plain>, input: &BackInput)
     ensures call { (call : AnyCall) → IsCall cont.old call
         → IsCall cont.new (record call { buffer = is_buffer input.now || call.buffer }) }
     ensures stays { cont.new ≡ record cont.old { buffer = cont.new.buffer } }
@@ -67,7 +67,7 @@ fn takes_buffer(cont: &mut Cont<Plain>, input: &BackInput)
 
 /// A call goes on that doesn't wait for the instance: with its reply, or without a buffer, its application goes on that
 /// has asked, and a call that has ended wakes nobody more.
-fn takes_answer(cont: &mut Cont<Plain>, input: &BackInput)
+pub fn takes_answer(cont: &mut Cont<Plain>, input: &BackInput)
     requires phase { cont.old.phase ≢ Phase.Waits }
     requires asked { cont.old.phase ≡ Phase.Asks → CanBeAnswered bytes_of cont.old }
     ensures { (app : AnyApplication) (solo next : AnySolo) (number : ℕ) (call : AnyCall) → IsCall cont.old call
@@ -82,7 +82,7 @@ fn takes_answer(cont: &mut Cont<Plain>, input: &BackInput)
 
 /// A call that has waited has this result, which no application returned.
 #[tactic(auto, using(crate::proofs::Back::ended_so))]
-fn ends_with(cont: &mut Cont<Plain>, code: u32)
+pub fn ends_with(cont: &mut Cont<Plain>, code: u32)
     requires { CanBegin cont.old }
     ensures { (call : AnyCall) → IsCall cont.old call
         → IsCall cont.new (record call { phase = Ends (of_tee code) no_params false None }) }

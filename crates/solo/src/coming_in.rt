@@ -17,7 +17,7 @@ use crate::beginning::Ready;
 use crate::copies::copied_if_some;
 use crate::entering::Entering;
 use crate::kept_session::KeptSession;
-use crate::made::made;
+use crate::made::made_instance;
 use crate::solo_session::SoloSession;
 use arrayvec::ArrayVec;
 use base::NoMemory;
@@ -28,6 +28,8 @@ use std::alloc::Global;
 use ta_params::codes::{TEE_ERROR_BAD_PARAMETERS, TEE_ERROR_TARGET_DEAD};
 use ta_params::{CallResult, CopiedParams, Login};
 use ta_step::Plain;
+use tee_storage::Key;
+use uuid::Uuid;
 
 /// What a call has from its entry on. No other session is there, no client and no argument, and of an area only whether
 /// there is one; who opened the session is told to a call as it begins.
@@ -50,6 +52,36 @@ fn entry_of(alloc: Global, entering: Entering, params: Option<CopiedParams>) -> 
     }
 }
 
+/// A call of the application of this UUID that comes in, as it waits with a copy of these parameters.
+pub fn waiting_call(
+    alloc: Global,
+    key: Key,
+    uuid: Uuid,
+    entering: Entering,
+    params: Option<&CopiedParams>,
+) -> Result<Cont<Plain>, NoMemory>
+    ensures call { IfOk result (λ call. IsCall call
+        (fresh_call entering.kind entering.area (Waits (kept_params (option_copied params.entry))))) }
+    ensures fresh { IfOk result CanBegin }
+{
+    let params = copied_if_some(alloc, params)?;
+    let mut cont = Cont::waiting(key, entry_of(alloc, entering, params));
+    cont.app = Some(ContApp::Dead { uuid });
+    Ok(cont)
+}
+
+/// A call that has this result as it comes in, which no application returned.
+pub fn settled_call(alloc: Global, key: Key, area: bool, code: u32) -> Cont<Plain>
+    ensures { IsCall result (fresh_call CallKind.Settled area (Ends (of_tee code) no_params false None)) }
+{
+    let entering = Entering {
+        kind: CallKind::Settled,
+        area,
+    };
+    let entered = entry_of(alloc, entering, None);
+    Cont::settled(key, entered, CallResult::of_tee(code))
+}
+
 impl SoloSession {
     /// A call that comes in to the application, as it waits with a copy of these parameters.
     fn fresh_call(
@@ -62,11 +94,7 @@ impl SoloSession {
             (fresh_call entering.kind entering.area (Waits (kept_params (option_copied params.entry))))) }
         ensures fresh { IfOk result (λ call. CanBegin call.value) }
     {
-        let params = copied_if_some(alloc, params)?;
-        let mut cont = Cont::waiting(self.key, entry_of(alloc, entering, params));
-        cont.app = Some(ContApp::Dead {
-            uuid: self.app.uuid(),
-        });
+        let cont = waiting_call(alloc, self.key, self.app.uuid(), entering, params)?;
         Ok(Box::new(alloc, cont)?)
     }
 
@@ -80,13 +108,7 @@ impl SoloSession {
         ensures { IfOk result (λ call. IsCall call.value (fresh_call CallKind.Settled area
             (Ends (of_tee code) no_params false None))) }
     {
-        let entering = Entering {
-            kind: CallKind::Settled,
-            area,
-        };
-        let entered = entry_of(alloc, entering, None);
-        let cont = Cont::settled(self.key, entered, CallResult::of_tee(code));
-        Ok(Box::new(alloc, cont)?)
+        Ok(Box::new(alloc, settled_call(alloc, self.key, area, code))?)
     }
 
     /// A call comes in and gets the next number.
@@ -220,7 +242,7 @@ impl SoloSession {
             area,
         };
         let call = self.fresh_call(alloc, entering, Some(params))?;
-        let instance = made(alloc, &self.app)?;
+        let instance = made_instance(alloc, &self.app)?;
         let ready = self.ready(alloc)?;
         self.session = Some(KeptSession {
             login,

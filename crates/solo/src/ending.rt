@@ -62,7 +62,7 @@ fn session_unrun(kind: CallKind, session: KeptSession) -> Option<KeptSession>
 }
 
 /// What asks for the call of a number to be woken, if one is.
-fn asked_wake(woken: Option<u32>) -> Option<Asked>
+pub fn asked_wake(woken: Option<u32>) -> Option<Asked>
     ensures { option_and_then (λ asked. woken_slot asked.rpc) result ≡ woken }
 {
     let number = woken?;

@@ -66,7 +66,7 @@ fn woken_call(cont: &Cont<Plain>) -> Option<u32>
 
 /// What a call asks for, if it does, where that has a place.
 #[tactic(auto, using(crate::proofs::Answering::runs_told, crate::proofs::Answering::asks_told, crate::proofs::Answering::asks_something, crate::proofs::Answering::waits_told, crate::proofs::Answering::ends_told))]
-fn asked_in(cont: &Cont<Plain>, room: Vec<u8>) -> Option<OwnReply>
+pub fn asked_in(cont: &Cont<Plain>, room: Vec<u8>) -> Option<OwnReply>
     requires empty { room.items ≡ [] }
     requires room { 3584 ≤ vec_capacity room }
     ensures { (phase : AnyPhase) → IsInPhase cont.now phase → result ≡ asked_in phase }
@@ -92,7 +92,7 @@ fn asks_with_payload(asked: &OwnReply) -> bool
 }
 
 /// What is asked for, where an area or a buffer gives it a place, or first a buffer.
-fn placed_or_alloc(asked: OwnReply, has_area: bool, has_buffer: bool) -> OwnReply
+pub fn placed_or_alloc(asked: OwnReply, has_area: bool, has_buffer: bool) -> OwnReply
     ensures { result ≡ placed_or_alloc has_area has_buffer asked }
 {
     if has_buffer || (has_area && !asks_with_payload(&asked)) {

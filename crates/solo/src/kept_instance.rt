@@ -3,7 +3,7 @@ use tee_storage::Handles;
 
 /// The session's instance.
 #[derive(Drop)]
-pub(crate) struct KeptInstance {
+pub struct KeptInstance {
     /// One of its entry points panicked.
     pub dead: bool,
     /// The number of the call that holds it.

@@ -18,7 +18,7 @@ fn buffer_len(param: &GpParam) -> usize
 }
 
 /// How many the longest buffer has, or that of four parameters.
-fn longest_with(longest: usize, params: &CopiedParams) -> usize
+pub fn longest_with(longest: usize, params: &CopiedParams) -> usize
     ensures least { longest ≤ result }
     ensures short { AreShort result params.now }
 {
@@ -40,7 +40,7 @@ pub(crate) fn longest_if_some(params: &Option<CopiedParams>) -> usize
 }
 
 /// How many the longest buffer has, or that of an invoke.
-fn longest_with_input(longest: usize, input: &OwnInput) -> usize
+pub fn longest_with_input(longest: usize, input: &OwnInput) -> usize
     ensures least { longest ≤ result }
     ensures short { IsShortInput result input.now }
 {

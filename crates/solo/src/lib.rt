@@ -6,6 +6,8 @@
 //! small function is one of that machine's, and has its name.
 //!
 //! Memory is taken before anything is changed: at want of memory the machine is as it was.
+//!
+//! What a call does by itself is there for the machine of a group of sessions, too.
 #![tactic(auto)]
 
 mod beginning;
@@ -28,6 +30,18 @@ mod solo_session;
 mod stepping;
 mod stops;
 
-pub use outputs::copied_outputs;
+pub use beginning::{Ready, held_of};
+pub use coming_back::{ends_with, is_close, is_no_buffer, takes_answer, takes_buffer};
+pub use coming_in::{settled_call, waiting_call};
+pub use ending::asked_wake;
+pub use entering::Entering;
+pub use going_out::{asked_in, placed_or_alloc};
+pub use kept_instance::KeptInstance;
+pub use lengths::{longest_with, longest_with_input};
+pub use made::{made_instance, of_boot, shared_app};
+pub use outputs::{copied_outputs, ended};
 pub use own_model::{BackInput, OwnEvent, OwnInput, OwnReply};
+pub use room::{OutputRoom, Room};
+pub use seeing::sees_cancel;
 pub use solo_session::SoloSession;
+pub use stops::{runs_on, runs_to_stop};

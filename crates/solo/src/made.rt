@@ -30,7 +30,7 @@ use uuid::Uuid;
 const PAGE_BYTES: u32 = 4096;
 
 /// An application of the boot, with its image where calls can share it.
-fn shared_app(alloc: Global, app: &App) -> Result<Application, NoMemory>
+pub fn shared_app(alloc: Global, app: &App) -> Result<Application, NoMemory>
     ensures { IfOk result (λ shared. application_of shared ≡ OfImage app.now) }
 {
     let image = Arc::new(alloc, copied_image(alloc, &app.image)?)?;
@@ -41,7 +41,7 @@ fn shared_app(alloc: Global, app: &App) -> Result<Application, NoMemory>
 }
 
 /// That of the boot.
-fn of_boot<'a>(boot: &'a Boot, uuid: &Uuid) -> Option<&'a App>
+pub fn of_boot<'a>(boot: &'a Boot, uuid: &Uuid) -> Option<&'a App>
     ensures { option_copied result ≡ find (λ app. bytes_eq app.uuid uuid.now) boot.now.apps }
 {
     boot.apps.as_slice().iter().find(|app| app.uuid == *uuid)
@@ -89,7 +89,7 @@ fn fresh_memory(alloc: Global, app: &Application) -> Result<Option<Plain>, NoMem
 }
 
 /// A new instance of the application.
-pub(crate) fn made(alloc: Global, app: &Application) -> Result<KeptInstance, NoMemory>
+pub fn made_instance(alloc: Global, app: &Application) -> Result<KeptInstance, NoMemory>
     requires { IsValidApp (application_of app.now) }
     ensures { IfOk result (λ instance. instance_of (uuid_of (application_of app.now)) instance
         ≡ made (application_of app.now)) }

@@ -70,11 +70,7 @@ fn outputs_with(
 }
 
 /// A call has ended with this result, and leaves these parameters.
-pub(crate) fn ended(
-    room: OutputRoom,
-    outcome: CallResult,
-    params: &Option<CopiedParams>,
-) -> OwnReply
+pub fn ended(room: OutputRoom, outcome: CallResult, params: &Option<CopiedParams>) -> OwnReply
     requires { IsOutputRoom room }
     ensures { (longest : ℕ) → HoldsBytes longest room → AreShort longest (kept_params params.now)
         → result ≡ ended outcome (kept_params params.now) }

@@ -7,7 +7,7 @@ use std::alloc::Global;
 
 /// Memory for the bytes of four parameters.
 #[derive(Drop)]
-pub(crate) struct OutputRoom {
+pub struct OutputRoom {
     pub p0: Vec<u8>,
     pub p1: Vec<u8>,
     pub p2: Vec<u8>,
@@ -16,7 +16,7 @@ pub(crate) struct OutputRoom {
 
 /// Memory for what a call tells as it goes out, taken before anything is changed.
 #[derive(Drop)]
-pub(crate) struct Room {
+pub struct Room {
     /// For the bytes of a request.
     pub payload: Vec<u8>,
     /// For the outputs of a call that has ended.

@@ -28,7 +28,7 @@ fn takes_flag(cont: &mut Cont<Plain>)
 
 /// It sees it after so many steps.
 #[tactic(auto, using(crate::proofs::Seen::sees_so))]
-fn sees_cancel(cont: &mut Cont<Plain>, done_by_now: u128)
+pub fn sees_cancel(cont: &mut Cont<Plain>, done_by_now: u128)
     requires { cont.old.phase ≡ Phase.Runs → CanAdvance bytes_of cont.old }
     ensures { (call : AnyCall) (at : AnyPhase) → IsCall cont.old call
         → phase_at (done_by_now - call.steps) call.phase ≡ Some at
