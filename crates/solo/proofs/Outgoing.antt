@@ -71,7 +71,7 @@ pub record HasStopped (old ran : Cont (List ℕ)) (answer : ContStop) : Type 0 w
   pub phase : ran.phase ≡ phase_after answer
   pub stays : ran ≡ record (worked old ran) { steps = ran.steps; phase = ran.phase }
 
-keeps_run : (old ran : Cont (List ℕ)) → ran ≡ record (worked old ran) { steps = ran.steps; phase = ran.phase } → Keeps old ran
+pub keeps_run : (old ran : Cont (List ℕ)) → ran ≡ record (worked old ran) { steps = ran.steps; phase = ran.phase } → Keeps old ran
 keeps_run old ran stays = record {
   kind = ap (λ (c : Cont (List ℕ)). c.kind) stays;
   seen = ap (λ (c : Cont (List ℕ)). c.cancelled) stays;
@@ -232,7 +232,7 @@ pub record EndsAs (cont : Cont (List ℕ)) (at : CallPhase) : Type 0 where
   pub is : at ≡ Ends result params was_told wakes
   pub ended : HasEnded cont result params was_told wakes
 
-ends_as : (cont : Cont (List ℕ)) (at : CallPhase) → cont.phase ≡ phase.Ends → IsInPhase cont at → EndsAs cont at
+pub ends_as : (cont : Cont (List ℕ)) (at : CallPhase) → cont.phase ≡ phase.Ends → IsInPhase cont at → EndsAs cont at
 ends_as cont (Runs job) here is = let there = is.1.phase in absurd cc
 ends_as cont (Asks job wanted payload) here is = let there = is.0 in absurd cc
 ends_as cont (Waits params) here is = let there = is.phase in absurd cc
