@@ -1,8 +1,5 @@
 //! The top call over bytes in memory.
-ghost use Rattle.std.specs.Prelude.{◌≡◌, ◌≢◌, ◌++◌, [], ◌∷◌, IfOk, IsTrue, Some, map, string_bytes};
-ghost use Rattle.native_tas.specs.Driver.{driver_of};
-ghost use Rattle.native_tas.specs.DriverRelation.{is_driver_value};
-ghost use Rattle.native_tas.specs.Native.{entry_of};
+ghost use Rattle.std.specs.Prelude.{◌≡◌, ◌≢◌, ◌++◌, [], Some, map, string_bytes};
 ghost use Rattle.native_tas.specs.Table.{drivers, entries};
 ghost use Rattle.core_c.specs.Running.{IsRun, built_in, built_in_drivers};
 ghost use Rattle.core_c.specs.Words.{texts_in};
@@ -13,7 +10,7 @@ use crate::growing_sink::GrowingSink;
 use crate::slice_source::SliceSource;
 use crate::words::words_in;
 use native_tas::{Driver, DriverRelation, Native, Natives, Relation, digest};
-use std::alloc::{AllocError, Global};
+use std::alloc::Global;
 use trace_runner::{Status, asks_threads, run_alone};
 use uuid::Uuid;
 
@@ -63,19 +60,6 @@ fn run_beside(
     }
 }
 
-/// The table of what is built in. Of the refusals only want of memory can come, since nothing is kept before.
-fn natives_of(alloc: Global, app: Native, driver: Driver) -> Result<Natives, AllocError>
-    requires { IsTrue (is_driver_value driver.value) }
-    ensures app { IfOk result (λ natives. entries natives ≡ entry_of app ∷ []) }
-    ensures driver { IfOk result (λ natives. drivers natives ≡ driver_of driver ∷ []) }
-{
-    let mut natives = Natives::new(alloc);
-    if natives.add(app).is_err() || natives.add_driver(driver).is_err() {
-        return Err(AllocError);
-    }
-    Ok(natives)
-}
-
 /// The top call, beside the application and the driver that are built into the program.
 #[tactic(auto, using(crate::proofs::Runs::unrun, crate::proofs::Runs::beside))]
 fn run_words(
@@ -98,7 +82,7 @@ fn run_words(
         relation: DriverRelation::Echo,
         call: |count: u32| count,
     };
-    match natives_of(alloc, digest, echo) {
+    match Natives::of_one(alloc, digest, echo) {
         Ok(natives) => run_beside(alloc, words, input, out, &natives),
         Err(_) => Status::Memory,
     }

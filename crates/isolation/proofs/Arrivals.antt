@@ -234,7 +234,7 @@ module _ (parts : Parts) (k : Kernel) (regs lane : List ℕ) (reads : List Read)
   abbrev now : PendingCall
   now = (goes_on_as parts regs decided before).call
 
-  seen_is : IsCall cont before → before.marked ≡ marked
+  pub seen_is : IsCall cont before → before.marked ≡ marked
       → (if marked && not cont.cancelled then Some cont.steps else None) ≡ seen_then before now
   seen_is is was =
       let r : Resumed = resumed_call (booted_with parts.setup) (tables_of parts.tables) (thread_in regs) before given in

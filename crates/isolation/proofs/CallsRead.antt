@@ -135,7 +135,7 @@ module _ (boot : Booted) (kernel : Kernel) (visit : Visit) where
   by_call Unknown is = absurd cc
 
 -- it takes a slot only where it has read the head
-head_read : (boot : Booted) (kernel next : Kernel) (cpu steps slot : ℕ) (regs : Regs) (reads : List Read) → IsNew regs.a
+pub head_read : (boot : Booted) (kernel next : Kernel) (cpu steps slot : ℕ) (regs : Regs) (reads : List Read) → IsNew regs.a
     → slice_get next.processors cpu ≡ Some (Inside regs.a steps (InSlot slot))
     → after_event boot kernel (Entry cpu regs steps reads) ≡ Some next → 32 ≤ total_bytes reads
 head_read boot kernel next cpu steps slot regs reads is inside e =

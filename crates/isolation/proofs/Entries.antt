@@ -62,10 +62,10 @@ kernel_done boot history replay is =
 
 module _ (replay : Replay) (visitor : Visitor) (reads : List Read)
     (can : CanGoOn replay (Entry visitor.cpu visitor.regs visitor.steps reads)) where
-  abbrev found : Kernel
+  abbrev pub found : Kernel
   found = (some_kernel replay.core).0
 
-  abbrev goes_on : Follows can.boot can.history found (Entry visitor.cpu visitor.regs visitor.steps reads)
+  abbrev pub goes_on : Follows can.boot can.history found (Entry visitor.cpu visitor.regs visitor.steps reads)
   goes_on =
       follows can.boot can.history found (Entry visitor.cpu visitor.regs visitor.steps reads)
       (kernel_done can.boot can.history replay can.done) can.next.follows
@@ -118,13 +118,13 @@ module _ (old : Core) (visitor : Visitor) (lane : List ℕ) (reads : List Read) 
     (was : kernel_of old ≡ Some kernel)
     (gives : after_event (booted_of old) kernel (Entry visitor.cpu visitor.regs visitor.steps reads) ≡ Some next)
     (held : HoldsReads lane reads) where
-  abbrev visit : Visit
+  abbrev pub visit : Visit
   visit = visit_of (coming_of visitor)
 
-  abbrev reader : Reader Kernel
+  abbrev pub reader : Reader Kernel
   reader = entry (booted_of old) kernel visit
 
-  by_journal : over_lane reader lane [] ≡ Some (next, reads)
+  pub by_journal : over_lane reader lane [] ≡ Some (next, reads)
   by_journal =
       (over_lane-reading reader lane reads next).1 ((came_in (booted_of old) kernel next visitor.cpu visitor.steps visitor.regs reads gives).entered, held)
 
@@ -147,7 +147,7 @@ module _ (old : Core) (visitor : Visitor) (lane : List ℕ) (reads : List Read) 
       let above = full.above in
       omega (arith, sum, known, so_far, above, few)
 
-  inside_so : (decision : Decision) → after_decision kernel visit decision ≡ next
+  pub inside_so : (decision : Decision) → after_decision kernel visit decision ≡ next
       → slice_get next.processors visitor.cpu ≡ Some (inside_for visit decision)
   inside_so decision so =
       ap (λ (k : Kernel). slice_get k.processors visitor.cpu) (sym so)
@@ -177,7 +177,7 @@ module _ (old : Core) (visitor : Visitor) (lane : List ℕ) (reads : List Read) 
     pub same_reads : has.reads ≡ reads
     same_reads = (some_pair_parts (some_kernel new).0 next has.reads reads (sym by_core ∙ by_journal)).1
 
-    same_next : (some_kernel new).0 ≡ next
+    pub same_next : (some_kernel new).0 ≡ next
     same_next = (some_pair_parts (some_kernel new).0 next has.reads reads (sym by_core ∙ by_journal)).0
 
     module _ (came : Arrival) where

@@ -82,7 +82,7 @@ module _ (replay : Replay) (cpu : ℕ) (can : CanGoOut replay cpu) where
 -- ---- and what it comes to
 
 -- RAM that nobody sees, as much as before
-with_lanes : (core : Core) (lanes others : List (List ℕ)) (works : List (Option Work)) → length others ≡ length lanes
+pub with_lanes : (core : Core) (lanes others : List (List ℕ)) (works : List (Option Work)) → length others ≡ length lanes
     → ∥ IsWhole core lanes works ∥₁ → ∥ IsWhole core others works ∥₁
 with_lanes core lanes others works many whole = ∥∥₁_map whole (λ (so : IsWhole core lanes works).
     let now : IsWhole core others works = record {

@@ -20,7 +20,7 @@ use Rattle.kernel_model.specs.Kernel.{Kernel, first_kernel}
 use Rattle.own_model.specs.Own.{noted}
 
 -- the front of a history that goes on is one
-front_follows : (boot : Booted) (history more : List Event) → IsSome (kernel_after boot (history ++ more)) → IsSome (kernel_after boot history)
+pub front_follows : (boot : Booted) (history more : List Event) → IsSome (kernel_after boot (history ++ more)) → IsSome (kernel_after boot history)
 front_follows boot history more follows =
     was_there (kernel_after boot history) (subst IsSome (after_events-append boot (first_kernel boot) history more) follows)
   where

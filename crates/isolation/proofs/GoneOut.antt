@@ -53,7 +53,7 @@ noted_prop code notes = Prim.hlevel (props, logged_set)
 -- ---- what a processor came for
 
 -- it is inside, with these registers and steps, for this
-record InsideFor (there : Option model.Processor) (errand : model.Errand) : Type 0 where
+pub record InsideFor (there : Option model.Processor) (errand : model.Errand) : Type 0 where
   pub came : List ℕ
   pub steps : ℕ
   pub inside : there ≡ Some (model.Inside came steps errand)
@@ -71,7 +71,7 @@ inside_as (Some (Inside regs steps its)) errand e =
     }
 
 -- the kernel's is inside for what the code's is
-inside_for : (core : Core) (kernel : Kernel) (cpu : ℕ) (errand : Errand) → kernel_of core ≡ Some kernel
+pub inside_for : (core : Core) (kernel : Kernel) (cpu : ℕ) (errand : Errand) → kernel_of core ≡ Some kernel
     → errand_at (slice_get core.parts.processors.items cpu) ≡ Some errand
     → InsideFor (slice_get kernel.processors cpu) (errand_of errand)
 inside_for core kernel cpu errand at is =
@@ -166,11 +166,11 @@ few_slots core ran slot can is = ∥∥₁_elim can (Prim.hlevel props) (λ (so 
 module _ (old new : Core) (ran : Ran) (lane now : List ℕ) (told : Regs) (has : HasLeft old new ran lane now told) (can : CanLeave old ran)
     (slot : ℕ) (for : errand_at (slice_get old.parts.processors.items ran.cpu) ≡ Some (InSlot slot)) where
   module _ (kernel next : Kernel) (before : kernel_of old ≡ Some kernel) (after : kernel_of new ≡ Some next) where
-    abbrev its : InsideFor (slice_get kernel.processors ran.cpu) (model.InSlot slot)
+    abbrev pub its : InsideFor (slice_get kernel.processors ran.cpu) (model.InSlot slot)
     its = inside_for old kernel ran.cpu (InSlot slot) before for
 
     -- the call that it carried, what that has come to, and what it left in its slot
-    record Gone : Type 0 where
+    pub record Gone : Type 0 where
       pub carries : CarriesIt kernel ran slot its.steps
       pub exits : ExitsFrom kernel ran.cpu slot its.steps its.came carries.call
       pub comes : progress_in_slot kernel its.steps slot ≡ Some exits.progress
@@ -209,17 +209,17 @@ module _ (old new : Core) (ran : Ran) (lane now : List ℕ) (told : Regs) (has :
           left = subst (IsSlotAt (slice_get new.parts.slots slot) (slice_get new.parts.cancellations.items slot)) there (stands.slots slot);
         }
 
-    gone : ∥ Gone ∥₁
+    pub gone : ∥ Gone ∥₁
     gone = ∥∥₁_map₂ can (stands_for new.parts next new.replay after)
         (λ (is : IsSomeAnd (kernel_of old) (λ k. IsRanFor k ran)) (stands : StandsFor new.parts next).
         gone_so (subst (λ (o : Option Kernel). IsSomeAnd o (λ k. IsRanFor k ran)) before is) stands)
 
     -- the call has finished, so something is told
-    tells_end : (g : Gone) → told_at_end ran.call ≡ ended_in g.exits.progress.call.phase
+    pub tells_end : (g : Gone) → told_at_end ran.call ≡ ended_in g.exits.progress.call.phase
     tells_end g = carried_told ran.call g.carries.cont g.carries.there
         ∙ told_so kernel.tables g.carries.cont.value g.carries.call its.steps ran.stop g.carries.is g.exits.progress g.exits.comes
 
-    finished : (g : Gone) → left_at (slice_get new.parts.slots slot) ≡ None → slot_left g.exits.progress.call (leaving_of slot g.exits.progress.call) ≡ model.Free
+    pub finished : (g : Gone) → left_at (slice_get new.parts.slots slot) ≡ None → slot_left g.exits.progress.call (leaving_of slot g.exits.progress.call) ≡ model.Free
     finished g left = is_free (slice_get new.parts.slots slot) (slice_get new.parts.cancellations.items slot) slot g.exits.progress.call g.left left
 
     module _ (session : ℕ) (notes : own.Notes) where

@@ -161,7 +161,7 @@ module _ (session : ℕ) (c : NewCall) (named : Session × Instance) (copies : C
   abbrev invoke_points : List EntryPoint
   invoke_points = point.Invoke c.head.func ∷ []
 
-  job_params : (program : Option Program)
+  pub job_params : (program : Option Program)
       → params_of (begun_job (record { program = program; memory = named.1.memory; seen = false })
       (idle_job (owner_of named.1.uuid c.boot.key) named.0.login named.0.context named.1.objects copies.params) invoke_points) ≡ copies.params
   job_params None = refl
@@ -220,7 +220,7 @@ named_kept c session instance e =
     ap (λ (s : Session). get c.tables.instances s.instance) (sym both.0) ∙ both.1)
 
 -- what begins there
-begins_there : (c : NewCall) (session : Session) (instance : Instance) (begins : Session × Instance → Taken)
+pub begins_there : (c : NewCall) (session : Session) (instance : Instance) (begins : Session × Instance → Taken)
     → named_session c ≡ Some (session, instance) → begins (session, instance) ≡ taken_in_session c session begins
 begins_there c session instance begins e =
     sym (ap (λ (o : Option Instance). option_map_or (λ (i : Instance). begins (session, i)) o (settles c bad_parameters))

@@ -21,7 +21,7 @@ use kernel_state::{Core, Errand, Processor, Tables, Work};
 use smc_abi::{Answer, ETHREAD_LIMIT};
 
 /// What a processor that is inside came for.
-pub(crate) fn errand_of(processors: &[Processor], cpu: u8) -> Option<Errand>
+pub fn errand_of(processors: &[Processor], cpu: u8) -> Option<Errand>
     ensures { result ≡ errand_at (slice_get processors.now cpu) }
 {
     match processors.get(usize::from(cpu)) {

@@ -44,7 +44,7 @@ pub(crate) enum Arrival {
 }
 
 /// What came of the parameters of an invoke that was settled with this code.
-fn input_settled(code: u32) -> OwnInput
+pub fn input_settled(code: u32) -> OwnInput
     ensures { result ≡ input_by code }
 {
     if code == TEE_ERROR_TARGET_DEAD {
@@ -160,7 +160,7 @@ fn back_of(cont: &Cont<Pages>, marked: bool, given: ResumeInput) -> Back
 }
 
 /// What the call comes back with that these registers name, and that is given this.
-fn back_in(core: &Core, regs: &Regs, given: ResumeInput) -> Back
+pub fn back_in(core: &Core, regs: &Regs, given: ResumeInput) -> Back
     requires { IsSuspended core.now.parts.slots regs.now.a }
     ensures { IsBackIn core.now.parts regs.now.a (given_as given) result }
 {

@@ -17,7 +17,7 @@ use std::alloc::Global;
 use thread_slots::{Slot, Slots};
 
 /// The call that a slot was left with, if one was.
-fn left_in(slots: &Slots<Box<Cont<Pages>>>, slot: u8) -> Option<&Cont<Pages>>
+pub fn left_in(slots: &Slots<Box<Cont<Pages>>>, slot: u8) -> Option<&Cont<Pages>>
     ensures { option_copied result ≡ left_at (slice_get slots.now slot) }
 {
     match slots.as_slice().get(usize::from(slot)) {

@@ -28,7 +28,7 @@ fn slot_woken(request: &Option<Asked>) -> Option<u32>
 }
 
 /// The slot of the call that a call which has ended wakes.
-pub(crate) fn wakes(cont: &Cont<Pages>) -> Option<u32>
+pub fn wakes(cont: &Cont<Pages>) -> Option<u32>
     ensures { result ≡ wakes_as cont.now }
 {
     match cont.phase {
@@ -83,7 +83,7 @@ fn told_behind(wakes: bool, has_place: bool, woken: Option<u32>) -> Option<OwnRe
 }
 
 /// What is told of a call that was left in its slot, where it wakes the call of this number: nothing of an interrupt.
-pub(crate) fn reply_of(
+pub fn reply_of(
     alloc: Global,
     cont: &Cont<Pages>,
     woken: Option<u32>,
@@ -111,7 +111,7 @@ fn ended(alloc: Global, cont: &Cont<Pages>) -> Result<OwnReply, NoMemory>
 }
 
 /// What is told of the call that a processor carries, if it goes out ended.
-pub(crate) fn told_at_end(alloc: Global, call: &Carried) -> Result<Option<OwnReply>, NoMemory>
+pub fn told_at_end(alloc: Global, call: &Carried) -> Result<Option<OwnReply>, NoMemory>
     ensures { IfOk result (λ told. told ≡ told_at_end call.now) }
 {
     match call {

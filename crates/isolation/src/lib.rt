@@ -21,6 +21,13 @@ mod replay;
 mod session_log;
 
 pub use base::NoMemory;
+pub use coming::errand_of;
+pub use entering::{back_in, input_settled};
+pub use going::left_in;
+pub use leaving::{reply_of, told_at_end, wakes};
+pub use notes::Back;
+pub use numbering::Numbering;
 pub use own::{own_events, own_log, own_replies};
 pub use own_model::{BackInput, OwnEvent, OwnInput, OwnReply};
+pub use replay::Replay;
 pub use session_log::{Logged, OwnLog};

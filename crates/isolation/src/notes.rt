@@ -23,11 +23,11 @@ const MOST_CPUS: usize = 8;
 
 /// What a call of the session comes back with.
 #[derive(Drop)]
-pub(crate) struct Back {
+pub struct Back {
     /// The steps that it had done, where it sees only now that it was cancelled.
-    pub(crate) seen: Option<u128>,
+    pub seen: Option<u128>,
     /// What it is given. None of a call that was interrupted, which had asked for nothing.
-    pub(crate) input: Option<BackInput>,
+    pub input: Option<BackInput>,
 }
 
 /// What is noted of a session.

@@ -9,13 +9,13 @@ const MOST_SLOTS: usize = 16;
 
 /// The numbers of a session's calls, by the slots that they are in.
 #[derive(Drop)]
-pub(crate) struct Numbering {
+pub struct Numbering {
     /// How many have come in: the number of the next one.
-    pub(crate) entered: u32,
+    pub entered: u32,
     /// Those of the calls that are in slots.
-    pub(crate) in_slots: [Option<u32>; MOST_SLOTS],
+    pub in_slots: [Option<u32>; MOST_SLOTS],
     /// Those of the calls that are woken, by the slots of the calls that wake them.
-    pub(crate) wakes: [Option<u32>; MOST_SLOTS],
+    pub wakes: [Option<u32>; MOST_SLOTS],
 }
 
 /// The number at a slot, if there is one.
@@ -30,7 +30,7 @@ fn number_at(numbers: &[Option<u32>], slot: u32) -> Option<u32>
 
 impl Numbering {
     /// No call has come in.
-    pub(crate) fn new() -> Numbering
+    pub fn new() -> Numbering
         ensures { AreNumbers result (record { entered = 0; in_slots = []; wakes = [] }) }
     {
         Numbering {
@@ -41,21 +41,21 @@ impl Numbering {
     }
 
     /// The number of the call in this slot, if it is one of the session.
-    pub(crate) fn in_slot(&self, slot: u32) -> Option<u32>
+    pub fn in_slot(&self, slot: u32) -> Option<u32>
         ensures { (numbers : own.Numbering) → AreNumbers self.now numbers → result ≡ get numbers.in_slots slot }
     {
         number_at(&self.in_slots, slot)
     }
 
     /// The number of the call that the call in this slot wakes, if that was fixed.
-    pub(crate) fn woken_by(&self, slot: u32) -> Option<u32>
+    pub fn woken_by(&self, slot: u32) -> Option<u32>
         ensures { (numbers : own.Numbering) → AreNumbers self.now numbers → result ≡ get numbers.wakes slot }
     {
         number_at(&self.wakes, slot)
     }
 
     /// A call comes into a slot, and gets the next number.
-    pub(crate) fn next_in(&mut self, slot: u8)
+    pub fn next_in(&mut self, slot: u8)
         requires slot { slot < 16 }
         requires few { self.old.entered + 1 < 2 ^ 32 }
         ensures { (numbers : own.Numbering) → AreNumbers self.old numbers
@@ -67,7 +67,7 @@ impl Numbering {
     }
 
     /// Whom the call of the slot wakes is kept.
-    pub(crate) fn with_wake(&mut self, slot: u8, woken: Option<u32>)
+    pub fn with_wake(&mut self, slot: u8, woken: Option<u32>)
         requires { slot < 16 }
         ensures { (numbers : own.Numbering) → AreNumbers self.old numbers
             → AreNumbers self.new (own.with_wake numbers slot woken) }
@@ -78,7 +78,7 @@ impl Numbering {
     }
 
     /// The slot holds no call of the session any more.
-    pub(crate) fn forget(&mut self, slot: u8)
+    pub fn forget(&mut self, slot: u8)
         requires { slot < 16 }
         ensures { (numbers : own.Numbering) → AreNumbers self.old numbers
             → AreNumbers self.new (without_slot numbers slot) }

@@ -33,12 +33,12 @@ use uuid::Uuid;
 
 /// A core on which a journal is done again.
 #[derive(Drop)]
-pub(crate) struct Replay {
-    core: Core,
+pub struct Replay {
+    pub core: Core,
     /// The work of each processor that is inside, by its number.
-    works: Vec<Option<Work>>,
+    pub works: Vec<Option<Work>>,
     /// RAM, written before each entry with what it read.
-    lane: Lane,
+    pub lane: Lane,
 }
 
 /// So many processors without work.
@@ -54,7 +54,7 @@ fn no_works(alloc: Global, cpus: u8) -> Result<Vec<Option<Work>>, NoMemory>
 
 impl Replay {
     /// A core where nothing has happened.
-    pub(crate) fn new(alloc: Global, boot: Boot, natives: &Natives) -> Result<Replay, NoMemory>
+    pub fn new(alloc: Global, boot: Boot, natives: &Natives) -> Result<Replay, NoMemory>
         requires limits { IsWithinLimits boot }
         requires apart { IsApart boot (entries natives.now) }
         ensures { IfOk result (HasDone (booted boot (entries natives.now)) []) }

@@ -69,6 +69,19 @@ impl Natives {
         }
     }
 
+    /// One application and one driver, the driver's value from 1 to 63. Of the refusals only want of memory can come.
+    pub fn of_one(alloc: Global, app: Native, driver: Driver) -> Result<Natives, AllocError>
+        requires { IsTrue (is_driver_value driver.value) }
+        ensures entries { IfOk result (λ natives. entries natives ≡ entry_of app ∷ []) }
+        ensures drivers { IfOk result (λ natives. drivers natives ≡ driver_of driver ∷ []) }
+    {
+        let mut natives = Natives::new(alloc);
+        if natives.add(app).is_err() || natives.add_driver(driver).is_err() {
+            return Err(AllocError);
+        }
+        Ok(natives)
+    }
+
     /// Adds an application behind the others. Repeated exactly where its UUID is there, else Full exactly
     /// where sixteen are kept. After a refusal the table is as it was.
     pub fn add(&mut self, native: Native) -> Result<(), AddFault>

@@ -1,15 +1,9 @@
 //! Reads a trace from standard input, plays it, prints its lines, and ends with the number of the status.
 #![tactic(auto)]
 
-ghost use Rattle.std.specs.Prelude.{◌≡◌, [], ◌∷◌, IfOk, IsTrue};
-ghost use Rattle.native_tas.specs.Driver.{driver_of};
-ghost use Rattle.native_tas.specs.DriverRelation.{is_driver_value};
-ghost use Rattle.native_tas.specs.Native.{entry_of};
-ghost use Rattle.native_tas.specs.Table.{drivers, entries};
-
 use native_tas::{Driver, DriverRelation, Native, Natives, Relation, digest};
 use ports::{NoPace, StdSink, StdSource};
-use std::alloc::{AllocError, Global};
+use std::alloc::AllocError;
 use std::io::ErrorKind;
 use std::process::ExitCode;
 use std::rt::Env;
@@ -31,19 +25,6 @@ fn words(rt: &(impl Env + AllocGlobal)) -> Result<Vec<String>, AllocError> {
     }
 }
 
-/// The table of what is built in. Of the refusals only want of memory can come, since nothing is kept before.
-fn built_in(alloc: Global, app: Native, driver: Driver) -> Result<Natives, AllocError>
-    requires { IsTrue (is_driver_value driver.value) }
-    ensures app { IfOk result (λ natives. entries natives ≡ entry_of app ∷ []) }
-    ensures driver { IfOk result (λ natives. drivers natives ≡ driver_of driver ∷ []) }
-{
-    let mut natives = Natives::new(alloc);
-    if natives.add(app).is_err() || natives.add_driver(driver).is_err() {
-        return Err(AllocError);
-    }
-    Ok(natives)
-}
-
 fn main(rt: HostRuntime) -> ExitCode {
     let Ok(words) = words(&rt) else {
         return ExitCode::from(Status::Memory.number());
@@ -59,7 +40,7 @@ fn main(rt: HostRuntime) -> ExitCode {
         relation: DriverRelation::Echo,
         call: |count: u32| count,
     };
-    let Ok(natives) = built_in(rt.alloc(), digest, echo) else {
+    let Ok(natives) = Natives::of_one(rt.alloc(), digest, echo) else {
         return ExitCode::from(Status::Memory.number());
     };
     let mut input = StdSource::new(rt.reader());

@@ -117,7 +117,7 @@ app_known boot history kernel session app e kept =
         (some_app of app (sym of_boot ∙ ap (app_of boot) (sym uuid) ∙ kept.of_app)) its
 
 -- what is noted of more events goes on from what was noted before them
-noted-append : (boot : Booted) (session : ℕ) (kernel last : Kernel) (notes : Notes) (events more : List Event)
+pub noted-append : (boot : Booted) (session : ℕ) (kernel last : Kernel) (notes : Notes) (events more : List Event)
     → after_events boot kernel events ≡ Some last
     → noted_from boot session kernel notes (events ++ more)
     ≡ noted_from boot session last (noted_from boot session kernel notes events) more
