@@ -33,7 +33,7 @@ impl Points {
     }
 
     /// Those of an open: its instance is made first where it is new, and taken apart again where the open fails.
-    pub(crate) fn opening(makes: bool, unmakes: bool) -> Points
+    pub fn opening(makes: bool, unmakes: bool) -> Points
         ensures { points_of result ≡ opening_points makes unmakes }
     {
         let mut behind = ArrayVec::new();
@@ -52,7 +52,7 @@ impl Points {
     }
 
     /// Those of a close, which takes the instance apart where nothing keeps it.
-    fn closing(unmakes: bool) -> Points
+    pub fn closing(unmakes: bool) -> Points
         ensures { points_of result ≡ EntryPoint.Close ∷ destroy_where unmakes }
     {
         let mut behind = ArrayVec::new();
