@@ -4,3 +4,4 @@ pub mod Meanings
 pub mod Parts
 pub mod Readings
 pub mod SoundScripts
+pub mod Uuids

@@ -1,10 +1,11 @@
 -- What is spelled is within its limits: the lines of the header lead to it as those of a trace, and each call is within those of
 -- calls.
-use Rattle.std.proofs.Common.{◌≡◌, ℕ, ◌+◌, ◌≤◌, Bool, true, false, cond, leb, ltb, List, [], ◌∷◌, ◌++◌, length, map, Option, Some, None, refl, sym, ap, subst, ◌∙◌, arith, length-drop}
+use Rattle.std.proofs.Common.{◌≡◌, ℕ, ◌+◌, ◌≤◌, Bool, true, false, cond, leb, ltb, List, [], ◌∷◌, ◌++◌, length, map, append_assoc, Option, Some, None, refl, sym, ap, subst, ◌∙◌, arith, length-drop}
 use Rattle.std.specs.Prelude.{All, IfNone, IfSome, IsTrue, drop, is_some}
 use Rattle.std.specs.List.{list_all}
+use Rattle.std.specs.Option.{option_map, option_map_or}
 use Rattle.std.proofs.lemmas.Bool.{and_parts, leb-true}
-use Rattle.std.proofs.lemmas.List.{length-map}
+use Rattle.std.proofs.lemmas.List.{append-nil, length-map}
 use Rattle.std.proofs.lemmas.List.Elements.{All-nil, All-push}
 use Rattle.std.proofs.lemmas.List.Sums.{AllPass-from_list_all}
 use Rattle.ta_isa.specs.declared.boot.App.{App}
@@ -21,17 +22,18 @@ use Rattle.trace_text.specs.declared.line_kind.LineKind.{LineKind}
 use Rattle.trace_text.specs.declared.line_kind.LineKind.TheVariants as kind
 use Rattle.trace_text.proofs.SoundLaws.{AreKept, IsSoFarOf, all_lines, are_kept, at_first}
 use Rattle.trace_text.proofs.SoundWords.{within}
-use Rattle.client_text.specs.Forms.{has_length, is_name, param_of}
+use Rattle.client_text.specs.Forms.{has_length, is_name, param_of, small}
 use Rattle.client_text.specs.Grammar.{Leads, Spells}
-use Rattle.client_text.specs.Rules.{ScriptFront, after_line, call_named, call_of, call_rules, close_rules, has_between, has_no_call, header_rules, invoke_rules, is_header, is_two_or_more, line_rules, no_lines, open_rules, params_behind, rules_of_words, before_params, thread_limits, with_call}
+use Rattle.client_text.specs.Rules.{ScriptFront, after_line, call_named, call_of, call_rules, cancel_in, close_rules, has_between, has_no_call, header_rules, invoke_rules, is_header, is_two_or_more, line_rules, no_lines, open_rules, params_behind, rules_of_words, before_params, thread_limits, with_call}
 use Rattle.trace_text.specs.Sound.{IsSoundBoot}
-use Rattle.client_text.specs.Sound.{IsClientBoot, IsSoundCall, IsSoundNamed, IsSoundScript}
+use Rattle.client_text.specs.Sound.{AreNamedBehind, IsClientBoot, IsNamedBehind, IsSoundCall, IsSoundCancel, IsSoundNamed, IsSoundScript}
 use Rattle.client_text.specs.declared.call_kind.CallKind.{CallKind}
 use Rattle.client_text.specs.declared.call_kind.CallKind.TheVariants as call
 use Rattle.client_text.specs.declared.script.Script.{Script}
 use Rattle.client_text.specs.declared.script.ScriptCall.{ScriptCall}
 use Rattle.client_text.specs.declared.script.ScriptParam.{ScriptParam}
 use Rattle.client_text.proofs.Counts.{before_there}
+use Rattle.client_text.proofs.Uuids.{sixteen_bytes}
 use Rattle.client_text.proofs.Lines.{after_skipped, after_some, both_kept, header_kept, kept_by_words, with_header}
 
 -- what the lines so far have led to
@@ -40,6 +42,7 @@ record IsSoFarScript (natives : List (List ℕ)) (front : ScriptFront) : Type 0 
   no_boot : IfNone front.header.boot (front.calls ≡ [])
   threads : IfSome front.header.boot (λ boot. 2 ≤ boot.threads)
   calls : All IsSoundCall front.calls
+  names : AreNamedBehind [] front.calls
 
 -- ---- a line of the header
 
@@ -131,6 +134,7 @@ so_far_header natives before line some is kept so_far =
       no_boot = if_none _ before.calls (no_call (kind_named (word (words_of line) 0)) natives before (words_of line) lines.0);
       threads = threads_line natives before line some lines.0 so_far.threads;
       calls = so_far.calls;
+      names = so_far.names;
     }
 
 -- ---- a call
@@ -139,6 +143,7 @@ so_far_header natives before line some is kept so_far =
 record IsKeptCall (before : ScriptFront) (added : ScriptCall) : Type 0 where
   boots : is_some before.header.boot ≡ true
   sound : IsSoundCall added
+  named : IsNamedBehind before.calls added
 
 -- at most four parameters are left of so few words
 few_left : (least most : ℕ) (words params : List (List ℕ)) → has_between least most words ≡ true
@@ -168,11 +173,30 @@ three_gone words e =
     let limits = within 3 7 (length words) p.0 in
     omega (arith, limits.0, length-drop 3 words)
 
+sound_cancel : (cancel : Option (List ℕ)) → option_map_or (λ number. is_within 1 1000 (small number)) cancel true ≡ true
+    → IsSoundCancel (option_map small cancel)
+sound_cancel None e = tt
+sound_cancel (Some number) e = e
+
+-- one call more
+named_more : (before calls : List ScriptCall) (added : ScriptCall) → AreNamedBehind before calls → IsNamedBehind (before ++ calls) added
+    → AreNamedBehind before (calls ++ added ∷ [])
+named_more before [] added names is = (subst (λ (b : List ScriptCall). IsNamedBehind b added) (append-nil before) is, tt)
+named_more before (call ∷ calls) added names is = (
+  names.0,
+  named_more (before ++ call ∷ []) calls added names.1
+      (subst (λ (b : List ScriptCall). IsNamedBehind b added) (sym (append_assoc before (call ∷ []) calls)) is),
+)
+
 kept_open : (before : ScriptFront) (words : List (List ℕ)) → AreKept (open_rules before words)
     → IsKeptCall before (call_of call.Open words)
-kept_open before words (counted, (boots, (name, (_, (_, (lengths, _)))))) = record {
+kept_open before words (counted, (boots, (name, (_, (id, (lengths, (new, _))))))) = record {
   boots = boots;
-  sound = named (word words 1) (drop 3 words) name (few_left 3 7 words (drop 3 words) counted (three_gone words counted)) lengths;
+  sound = (
+    named (word words 1) (drop 3 words) name (few_left 3 7 words (drop 3 words) counted (three_gone words counted)) lengths,
+    sixteen_bytes (word words 2) id,
+  );
+  named = new;
 }
 
 -- at most four are left
@@ -186,16 +210,21 @@ kept_params before words e there =
 
 kept_invoke : (before : ScriptFront) (words : List (List ℕ)) → AreKept (invoke_rules before words)
     → IsKeptCall before (call_of call.Invoke words)
-kept_invoke before words (counted, (boots, (name, (_, (_, (_, (_, (lengths, _)))))))) = record {
+kept_invoke before words (counted, (boots, (name, (_, (_, (_, (cancel, (lengths, (opened, _))))))))) = record {
   boots = boots;
-  sound = named (word words 1) (params_behind words) name (kept_params (before_params words) words counted (before_there words counted)) lengths;
+  sound = (
+    named (word words 1) (params_behind words) name (kept_params (before_params words) words counted (before_there words counted)) lengths,
+    sound_cancel (cancel_in words) cancel,
+  );
+  named = opened;
 }
 
 kept_close : (before : ScriptFront) (words : List (List ℕ)) → AreKept (close_rules before words)
     → IsKeptCall before (call_of call.Close words)
-kept_close before words (_, (boots, (name, _))) = record {
+kept_close before words (_, (boots, (name, (opened, _)))) = record {
   boots = boots;
   sound = record { letters = name; few = omega arith; lengths = All-nil (λ (param : ScriptParam). IsTrue (has_length param)) };
+  named = opened;
 }
 
 kept_call : (kind : CallKind) (before : ScriptFront) (words : List (List ℕ)) → AreKept (call_rules kind before words)
@@ -215,6 +244,7 @@ so_far_call natives before added kept so_far = record {
   no_boot = booted before.header.boot (before.calls ++ added ∷ []) kept.boots;
   threads = so_far.threads;
   calls = All-push IsSoundCall before.calls added so_far.calls kept.sound;
+  names = named_more [] before.calls added so_far.names kept.named;
 }
 
 -- ---- lines
@@ -248,7 +278,7 @@ so_far_lines natives before (line ∷ lines) after leads so_far =
     (so_far_any natives before line (is_skipped line) refl leads.0 so_far)
 
 so_far_first : (natives : List (List ℕ)) → IsSoFarScript natives no_lines
-so_far_first natives = record { header = at_first natives; no_boot = refl; threads = tt; calls = All-nil IsSoundCall }
+so_far_first natives = record { header = at_first natives; no_boot = refl; threads = tt; calls = All-nil IsSoundCall; names = tt }
 
 both : (natives : List (List ℕ)) (front : ScriptFront) → IsSoFarScript natives front → IfSome front.header.boot (IsClientBoot natives)
 both natives front so_far = by_boot front.header.boot so_far.header.is_boot so_far.threads
@@ -276,4 +306,5 @@ sound_spelled natives text script s =
       boot = both natives s.end last;
       fills = last.header.are_fills;
       calls = last.calls;
+      names = last.names;
     })
