@@ -1,11 +1,16 @@
+pub mod Ending
+pub mod Entering
 pub mod Following
 pub mod Going
+pub mod Growing
 pub mod Made
 pub mod Messages
 pub mod NewCalls
 pub mod NoFaults
 pub mod OfTraces
+pub mod OwnNumbers
 pub mod Preparing
 pub mod ScriptsPlayed
 pub mod Smcs
+pub mod Told
 pub mod Turns

@@ -16,7 +16,7 @@ use Rattle.kernel_model.specs.Located.{Located, has_argument, has_head, located}
 use Rattle.kernel_model.specs.NewCall.{NewCall, cancel_calls, cancels, command_of, named_session, new_call, new_call_in, new_call_of}
 use Rattle.kernel_model.specs.NewCall.{new_call_with, open_waits, opens, settles, shared_by}
 use Rattle.kernel_model.proofs.Parts.{AllOf, if-both, map_or-both}
-use Rattle.kernel_model.proofs.Tests.{TakenIn}
+use Rattle.kernel_model.proofs.Tests.{Ends as EachEnds, TakenIn, taken_ends}
 use Rattle.msg_args.specs.Reading.{head_at}
 use Rattle.ns_ram.specs.Attempt.{Attempt, known, need, passes, read, ◌>>=◌}
 use Rattle.ns_ram.specs.Lane.{bytes_at}
@@ -28,6 +28,17 @@ use Rattle.ns_ram.proofs.ReaderSteps.{lane_bytes-some}
 use Rattle.own_model.proofs.NewCalls.{OfAllEndings, call_ends}
 use Rattle.session_table.specs.declared.session.Session.{Session}
 use Rattle.smc_abi.specs.declared.answer.Answer.{Answer}
+
+-- ---- what stays of a call
+
+-- whose it is, and where its argument stands
+pub record Lasting : Type 0 where
+  pub client : ℕ
+  pub session : ℕ
+  pub arg : ℕ
+
+abbrev pub lasting : PendingCall → Lasting
+lasting call = record { client = call.client; session = call.session; arg = call.arg }
 
 -- ---- what holds of a reader over a lane
 
@@ -64,10 +75,10 @@ abbrev pub TakenSo : (Taken → Type 0) → Result Taken Answer → Type 0
 TakenSo P (Ok taken) = P taken
 TakenSo P (Err answer) = ⊥
 
-known_passes : {A B : Type 0} (lane : List ℕ) (Q : Result B Answer → Type 0) (found : Option A) (value : A) (refusal : Answer)
-    (onward : A → Attempt Answer B) → found ≡ Some value → OnLane lane Q (onward value) → OnLane lane Q (known found refusal >>= onward)
+pub known_passes : {F A B : Type 0} (lane : List ℕ) (Q : Result B F → Type 0) (found : Option A) (value : A) (refusal : F)
+    (onward : A → Attempt F B) → found ≡ Some value → OnLane lane Q (onward value) → OnLane lane Q (known found refusal >>= onward)
 known_passes lane Q None value refusal onward e all = absurd cc
-known_passes {A} lane Q (Some other) value refusal onward e all =
+known_passes {F} {A} lane Q (Some other) value refusal onward e all =
     let same : other ≡ value = cc in
     subst (λ (v : A). OnLane lane Q (onward v)) (sym same) all
 
@@ -87,6 +98,12 @@ tests_take : (lane : List ℕ) (P : Taken → Type 0) (tested : Tested Taken) �
 tests_take lane P (done result) all = all
 tests_take lane P (want_bytes addr len next) all = tests_take lane P (next (bytes_at lane addr len)) (all (bytes_at lane addr len))
 tests_take lane P (want_words addr most test next) all = λ got. tests_take lane P (next got) (all got)
+
+taken_there : (lane : List ℕ) (P : Taken → Type 0) (tested : Tested Taken)
+    → OnLane lane (λ (result : Result Taken Taken). P (taken_in result)) tested → OnLane lane (TakenSo P) (read (taken_by tested))
+taken_there lane P (done result) all = all
+taken_there lane P (want_bytes addr len next) all = taken_there lane P (next (bytes_at lane addr len)) all
+taken_there lane P (want_words addr most test next) all = λ got. taken_there lane P (next got) (all got)
 
 both : (lane : List ℕ) (P : Taken → Type 0) (attempt : Attempt Answer Taken) → OnLane lane IsPassed attempt → AllOf (TakenIn P) attempt
     → OnLane lane (TakenSo P) attempt
@@ -120,7 +137,7 @@ slot_taken lane P slot (want_words addr most test next) all = λ got. slot_taken
 
 module _ (boot : Booted) (kernel : Kernel) (regs : List ℕ) (lane : List ℕ) (slot : ℕ) (at : Located) (command : NewCall → Tested Taken)
     (made : IsWellMade kernel regs lane slot at command) where
-  abbrev c : NewCall
+  abbrev pub c : NewCall
   c = new_call_of boot kernel.tables regs slot at (bytes_at lane at.addr 32)
 
   -- its tests up to those of its command
@@ -137,6 +154,17 @@ module _ (boot : Booted) (kernel : Kernel) (regs : List ℕ) (lane : List ℕ) (
   decided P all =
       subst (λ (free : Option ℕ). OnLane lane (TakesSlot slot P) (decided_by (new_call_with boot kernel.tables regs free)))
       (sym made.lowest) (slot_taken lane P slot (new_call_in boot kernel.tables regs slot) all)
+
+  -- what holds of all that its command's tests take it for
+  pub takes_as : (P : Taken → Type 0) → EachEnds P (command c) → OnLane lane (TakesSlot slot P) (new_call boot kernel regs)
+  takes_as P ends =
+      decided P (in_call (TakenSo P) (both lane P (read (taken_by (command c))) (reads_pass lane (taken_by (command c)))
+      (taken_ends P (command c) ends)))
+
+  -- and of what they take it for where RAM is this
+  pub takes_there : (P : Taken → Type 0) → OnLane lane (λ (result : Result Taken Taken). P (taken_in result)) (command c)
+      → OnLane lane (TakesSlot slot P) (new_call boot kernel regs)
+  takes_there P all = decided P (in_call (TakenSo P) (taken_there lane P (command c) all))
 
   -- the client's
   pub takes_for_client : OnLane lane (TakesSlot slot (λ taken. taken.call.client ≡ client_in regs)) (new_call boot kernel regs)

@@ -1,6 +1,6 @@
 -- No call of a client fails on a core: each of its SMCs comes, and is answered OK or an RPC return from the call's slot. Between
 -- two calls all slots are free; in a call the first slot holds it, suspended for client 0, and all others are free.
-use Rattle.std.proofs.Common.{◌≡◌, ℕ, ◌≤◌, true, List, [], ◌∷◌, length, replicate, Option, Some, None, refl, ap, subst, sym, ◌∙◌, arith}
+use Rattle.std.proofs.Common.{◌≡◌, ℕ, ◌≤◌, true, List, [], ◌∷◌, ◌++◌, length, replicate, Option, Some, None, refl, ap, subst, sym, ◌∙◌, arith}
 use Rattle.std.specs.Prelude.{slice_get, slice_index_or, slice_set}
 use Rattle.std.specs.Option.{option_and_then, option_map_or}
 use Rattle.std.proofs.lemmas.List.Elements.{All-cons, All-head, All-nil}
@@ -12,16 +12,17 @@ use Rattle.kernel_model.specs.Application.{Booted, IsBooted}
 use Rattle.kernel_model.specs.Argument.{reg}
 use Rattle.kernel_model.specs.Decision.{Answers, Decision, Taken, Takes}
 use Rattle.kernel_model.specs.Entry.{after_decision, decision_of}
-use Rattle.kernel_model.specs.Exit.{progress_in, progress_of, shows_result, slot_left, tables_unrun, woken_by}
+use Rattle.kernel_model.specs.Exit.{progress_in, progress_of, shows_result, slot_left, tables_unrun, woken_by, writes_of}
 use Rattle.kernel_model.specs.Exit as exit
-use Rattle.kernel_model.specs.History.{kernel_after}
+use Rattle.kernel_model.specs.History.{after_event, kernel_after}
 use Rattle.kernel_model.specs.Kernel.{Active, CallPhase, Ends, Free, InSlot, Inside, Kernel, Outside, PendingCall, Progress, Suspended}
 use Rattle.kernel_model.specs.Kernel.{Tables, ThreadSlot, cancelled_slots}
 use Rattle.kernel_model.specs.Leaving.{Finishes, FreesBuffer, Leaving, leaving_in, leaving_of}
 use Rattle.kernel_model.proofs.Parts.{set_found, some_of}
 use Rattle.ns_ram.specs.Writes.{Write, lane_after}
+use Rattle.ns_ram.specs.declared.read.Read.{Read}
 use Rattle.play_model.specs.Coming.{AreLanes, IsWhole}
-use Rattle.play_model.specs.Play.{Play, enters, last_answer, leaves, unless_refused}
+use Rattle.play_model.specs.Play.{Play, enters, entry_event, last_answer, leaves, unless_refused}
 use Rattle.play_model.proofs.Coming.{comes_more, lanes_written}
 use Rattle.play_model.proofs.Entries.{entered, left, left_going}
 use Rattle.play_model.proofs.PlaysThere.{came_inside, entry_comes, exit_comes}
@@ -33,9 +34,9 @@ use Rattle.supplicant.specs.Supplicant.{Storage}
 use Rattle.teec_calls.specs.Answers.{said}
 use Rattle.teec_calls.specs.declared.answer.Said.TheVariants.{Finished}
 use Rattle.client_play.specs.Standing.{Standing, after_smc, answer_of, play_of, standing_after, steps_granted, visit_with}
-use Rattle.client_play.proofs.NewCalls.{IsSettled, OnLane, TakesSlot}
+use Rattle.client_play.proofs.NewCalls.{IsSettled, Lasting, OnLane, TakesSlot, lasting}
 use Rattle.client_play.proofs.Smcs.{told_exit}
-use Rattle.client_play.proofs.Turns.{GoesOut, Turned, entry_decides, first_taken, goes_out_of, kept_in, same_progress, second_taken, slots_with, turns}
+use Rattle.client_play.proofs.Turns.{CameWith, GoesOut, Turned, entry_decides, first_taken, goes_out_of, kept_in, same_progress, second_taken, slots_with, turns}
 
 -- ---- what stands between two SMCs
 
@@ -55,6 +56,9 @@ pub record Made (boot : Booted) (asked : Standing) (regs : Regs) (slot : ℕ) (P
   pub between : Play
   pub decided : after_decision asked.kernel (visit_with regs) (Takes slot taken) ≡ between.kernel
   pub lanes : between.lanes ≡ asked.ram ∷ []
+  pub reads : List Read
+  pub history : between.history ≡ asked.history ++ entry_event (visit_with regs) reads ∷ []
+  pub entered : after_event boot asked.kernel (entry_event (visit_with regs) reads) ≡ Some between.kernel
   pub comes : kernel_after boot between.history ≡ Some between.kernel
   pub went : leaves boot 0 between ≡ Some after
 
@@ -74,17 +78,21 @@ smc_comes boot asked regs slot P boots comes outside whole all =
     by_refusal first.0 first.1 first.0.refused refl
   where
     taken_so : (between after : Play) → between.refused ≡ None → leaves boot 0 between ≡ Some after
-        → (decision : Decision) → TakesSlot slot P decision → after_decision asked.kernel (visit_with regs) decision ≡ between.kernel
-        → between.lanes ≡ asked.ram ∷ [] → kernel_after boot between.history ≡ Some between.kernel
+        → (decision : Decision) → TakesSlot slot P decision → (reads : List Read)
+        → CameWith boot asked regs between reads (after_decision asked.kernel (visit_with regs) decision)
+        → kernel_after boot between.history ≡ Some between.kernel
         → Comes boot asked regs slot P after
-    taken_so between after going went (Answers answer) holds decided lanes here = absurd holds
-    taken_so between after going went (Takes at taken) holds decided lanes here =
+    taken_so between after going went (Answers answer) holds reads came here = absurd holds
+    taken_so between after going went (Takes at taken) holds reads came here =
         Took (left_going boot 0 between after (left boot 0 between after went) going) (record {
           taken = taken;
           holds = holds.1;
           between = between;
-          decided = ap (λ (number : ℕ). after_decision asked.kernel (visit_with regs) (Takes number taken)) (sym holds.0) ∙ decided;
-          lanes = lanes;
+          decided = ap (λ (number : ℕ). after_decision asked.kernel (visit_with regs) (Takes number taken)) (sym holds.0) ∙ came.kernel;
+          lanes = came.lanes;
+          reads = reads;
+          history = came.history;
+          entered = came.event;
           comes = here;
           went = went;
         })
@@ -121,7 +129,7 @@ module _ (boot : Booted) (asked : Standing) (regs : Regs) (slot : ℕ) (P : Take
     (outside : slice_get asked.kernel.processors 0 ≡ Some Outside) (whole : 0x400000 ≤ length asked.ram)
     (made : Made boot asked regs slot P after)
     (there : slice_get made.between.kernel.slots slot ≡ Some (Active 0 made.taken.call)) where
-  inside : slice_get made.between.kernel.processors 0 ≡ Some (Inside regs.a steps_granted (InSlot slot))
+  pub inside : slice_get made.between.kernel.processors 0 ≡ Some (Inside regs.a steps_granted (InSlot slot))
   inside =
       ap (λ (k : Kernel). slice_get k.processors 0) (sym made.decided)
       ∙ set_found asked.kernel.processors 0 (Inside regs.a steps_granted (InSlot slot)) Outside outside
@@ -134,14 +142,15 @@ module _ (boot : Booted) (asked : Standing) (regs : Regs) (slot : ℕ) (P : Take
       → Stands boot held n (standing_after after storage)
   stands_again held n storage slots =
       let o = out in
+      let writes = writes_of o.progress.call (leaving_of slot o.progress.call) in
       record {
         comes = ap (kernel_after boot) o.history
             ∙ comes_more boot made.between.history _ made.between.kernel after.kernel made.comes o.event;
         outside = ap (λ (k : Kernel). slice_get k.processors 0) o.kernel
             ∙ set_found made.between.kernel.processors 0 Outside (Inside regs.a steps_granted (InSlot slot)) inside;
         whole = subst (λ (lanes : List (List ℕ)). 0x400000 ≤ length (slice_index_or lanes 0 [])) (sym (o.lanes
-            ∙ ap (λ (lanes : List (List ℕ)). slice_set lanes 0 (lane_after (slice_index_or lanes 0 []) o.writes)) made.lanes))
-            (whole_after asked.ram o.writes whole);
+            ∙ ap (λ (lanes : List (List ℕ)). slice_set lanes 0 (lane_after (slice_index_or lanes 0 []) writes)) made.lanes))
+            (whole_after asked.ram writes whole);
         slots = slots;
       }
 
@@ -152,27 +161,36 @@ module _ (boot : Booted) (asked : Standing) (regs : Regs) (slot : ℕ) (P : Take
       ∙ ap (λ (a : List ℕ). record { a = a }) (told_exit made.between.history _)
 
 -- the call of the first slot
-pub call_turns : (boot : Booted) (asked : Standing) (regs : Regs) (was : ThreadSlot) (n : ℕ) (after : Play) (storage : Storage)
-    → Stands boot was n asked
-    → Made boot asked regs 0 (λ taken. taken.call.client ≡ 0) after
-    → (held : ThreadSlot) × Turned held (answer_of after) × Stands boot held n (standing_after after storage)
-call_turns boot asked regs was n after storage stands made =
-    let P = λ (taken : Taken). taken.call.client ≡ 0 in
-    let slots : made.between.kernel.slots ≡ slots_with (Active 0 made.taken.call) n =
-    ap (λ (k : Kernel). k.slots) (sym made.decided)
-    ∙ ap (λ (all : List ThreadSlot). slice_set (cancelled_slots all made.taken.cancels) 0 (Active 0 made.taken.call)) stands.slots
-    ∙ first_taken n was made.taken.cancels made.taken.call in
-    let there = ap (λ (all : List ThreadSlot). slice_get all 0) slots in
-    let o = out boot asked regs 0 P after stands.outside stands.whole made there in
-    let client = kept_in made.between.kernel.tables made.taken.call steps_granted made.taken.call.phase o.progress o.comes ∙ made.holds in
-    let held = slot_left o.progress.call (leaving_of 0 o.progress.call) in
-    let left_slots : after.kernel.slots ≡ slots_with held n =
-    ap (λ (k : Kernel). k.slots) o.kernel ∙ ap (λ (all : List ThreadSlot). slice_set all 0 held) slots in (
-      held,
-      subst (Turned held) (sym (answer_is boot asked regs 0 P after stands.outside stands.whole made there))
-          (turns o.progress.call regs.a (leaving_of 0 o.progress.call) client),
-      stands_again boot asked regs 0 P after stands.outside stands.whole made there held n storage left_slots,
-    )
+module _ (boot : Booted) (asked : Standing) (regs : Regs) (was : ThreadSlot) (n : ℕ) (P : Taken → Type 0) (after : Play)
+    (storage : Storage) (stands : Stands boot was n asked) (made : Made boot asked regs 0 P after) where
+  slots_then : made.between.kernel.slots ≡ slots_with (Active 0 made.taken.call) n
+  slots_then =
+      ap (λ (k : Kernel). k.slots) (sym made.decided)
+      ∙ ap (λ (all : List ThreadSlot). slice_set (cancelled_slots all made.taken.cancels) 0 (Active 0 made.taken.call)) stands.slots
+      ∙ first_taken n was made.taken.cancels made.taken.call
+
+  pub in_first : slice_get made.between.kernel.slots 0 ≡ Some (Active 0 made.taken.call)
+  in_first = ap (λ (all : List ThreadSlot). slice_get all 0) slots_then
+
+  abbrev pub first_out : GoesOut boot made.between after 0 made.taken.call regs
+  first_out = out boot asked regs 0 P after stands.outside stands.whole made in_first
+
+  pub call_turns : made.taken.call.client ≡ 0
+      → (held : ThreadSlot) × Turned made.taken.call (leaving_of 0 first_out.progress.call) held (answer_of after)
+      × Stands boot held n (standing_after after storage)
+  call_turns client =
+      let o = first_out in
+      let same = kept_in made.between.kernel.tables made.taken.call steps_granted made.taken.call.phase o.progress o.comes in
+      let held = slot_left o.progress.call (leaving_of 0 o.progress.call) in
+      let left_slots : after.kernel.slots ≡ slots_with held n =
+      ap (λ (k : Kernel). k.slots) o.kernel ∙ ap (λ (all : List ThreadSlot). slice_set all 0 held) slots_then in (
+        held,
+        subst (Turned made.taken.call (leaving_of 0 o.progress.call) held)
+            (sym (answer_is boot asked regs 0 P after stands.outside stands.whole made in_first))
+            (turns made.taken.call o.progress.call regs.a (leaving_of 0 o.progress.call) same
+            (ap (λ (l : Lasting). l.client) same ∙ client)),
+        stands_again boot asked regs 0 P after stands.outside stands.whole made in_first held n storage left_slots,
+      )
 
 -- ---- a cancellation
 
@@ -191,13 +209,13 @@ settled_leaves tables call progress settled e =
 
 -- the call in the first slot may be cancelled, and is there as before
 pub cancel_turns : (boot : Booted) (asked : Standing) (regs : Regs) (call : PendingCall) (n : ℕ) (after : Play) (storage : Storage)
-    → call.client ≡ 0 → Stands boot (Suspended 0 call) n asked
+    → Stands boot (Suspended 0 call) n asked
     → Made boot asked regs 1 (λ taken. IsSettled taken.call) after
-    → (now : PendingCall) × (now.client ≡ 0) × (said (answer_of after) ≡ Finished)
+    → (now : PendingCall) × (lasting now ≡ lasting call) × (said (answer_of after) ≡ Finished)
     × Stands boot (Suspended 0 now) n (standing_after after storage)
-cancel_turns boot asked regs call n after storage client stands made =
+cancel_turns boot asked regs call n after storage stands made =
     let P = λ (taken : Taken). IsSettled taken.call in
-    let second = second_taken n made.taken.cancels made.taken.call call client in
+    let second = second_taken n made.taken.cancels made.taken.call call in
     let slots : made.between.kernel.slots ≡ Suspended 0 second.0 ∷ Active 0 made.taken.call ∷ replicate n Free =
     ap (λ (k : Kernel). k.slots) (sym made.decided)
     ∙ ap (λ (all : List ThreadSlot). slice_set (cancelled_slots all made.taken.cancels) 1 (Active 0 made.taken.call)) stands.slots

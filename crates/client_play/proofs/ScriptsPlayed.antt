@@ -10,14 +10,16 @@ use Rattle.std.proofs.lemmas.List.{length-take}
 use Rattle.std.proofs.lemmas.Nat.{from_le_bytes-to_le_bytes_4}
 use Rattle.base.specs.Zeros.{zeros}
 use Rattle.base.proofs.ZeroLemmas.{length-zeros}
-use Rattle.client_text.specs.Sound.{IsClientBoot}
+use Rattle.client_text.specs.Sound.{IsClientBoot, IsSoundScript}
+use Rattle.client_text.specs.declared.script.Script.{Script}
 use Rattle.client_text.specs.declared.script.ScriptCall.{ScriptCall}
 use Rattle.client_text.specs.declared.script.ScriptCall.TheVariants.{Close, Invoke, Open}
-use Rattle.kernel_model.specs.Application.{Booted, IsBooted, booted}
+use Rattle.kernel_model.specs.Application.{Booted, IsBooted, Native, booted}
 use Rattle.kernel_model.specs.Argument.{reg}
 use Rattle.kernel_model.specs.Decision.{Taken, Tested}
 use Rattle.kernel_model.specs.Entry.{decision_of}
 use Rattle.kernel_model.specs.Kernel.{Free, Outside, PendingCall, Suspended, ThreadSlot, lowest_free}
+use Rattle.kernel_model.specs.Leaving.{Leaving}
 use Rattle.kernel_model.specs.Located.{at_address, has_argument}
 use Rattle.kernel_model.specs.NewCall.{NewCall, cancel_calls, close_session, command_of, invoke_command, open_session}
 use Rattle.kernel_model.proofs.Parts.{if-both}
@@ -43,6 +45,7 @@ use Rattle.teec_calls.specs.Answers.{call_with_arg, return_from_rpc, return_of}
 use Rattle.teec_calls.specs.Arguments.{cancel_argument, close_argument, invoke_argument, open_argument}
 use Rattle.teec_calls.specs.Operation.{buffer_writes, params_of, params_sent, sent_from}
 use Rattle.teec_calls.specs.Places.{argument_at, cancel_at}
+use Rattle.teec_calls.specs.declared.answer.RpcKind.{RpcKind}
 use Rattle.teec_calls.specs.declared.answer.RpcReturn.{RpcReturn}
 use Rattle.teec_calls.specs.declared.answer.Said.{Said}
 use Rattle.teec_calls.specs.declared.operation.Operation.{Operation}
@@ -53,7 +56,7 @@ use Rattle.client_play.specs.Played.{Client, after_call, call_made, calls_made, 
 use Rattle.client_play.specs.Making.{prepared_at}
 use Rattle.client_play.specs.Standing as standing
 use Rattle.client_play.specs.Standing.{Came, Fails, Standing, Stopped, after_smc, answer_of, call_from, most_returns, next_stage, prepared, standing_after, tries, unless_full}
-use Rattle.client_play.proofs.NewCalls.{IsSettled, IsWellMade, OnLane, TakesSlot, takes_for_client, takes_settled}
+use Rattle.client_play.proofs.NewCalls.{IsSettled, IsWellMade, Lasting, OnLane, TakesSlot, lasting, takes_for_client, takes_settled}
 use Rattle.client_play.proofs.NoFaults.{Comes, Full, Stands, Took, call_turns, cancel_turns, smc_comes, whole_after}
 use Rattle.client_play.proofs.OfTraces.{some_cpu}
 use Rattle.client_play.proofs.Turns.{Asked, Over, Turned, first_lowest, resumes_call, second_lowest, slots_with}
@@ -77,7 +80,7 @@ head_there lane addr head rest above within =
 cmd_again : (head : MsgHead) → head.cmd < 2 ^ 32 → (head_at (head_bytes head)).cmd ≡ head.cmd
 cmd_again head fits = from_le_bytes-to_le_bytes_4 head.cmd fits
 
-count_again : (head : MsgHead) → head.count < 2 ^ 32 → (head_at (head_bytes head)).count ≡ head.count
+pub count_again : (head : MsgHead) → head.count < 2 ^ 32 → (head_at (head_bytes head)).count ≡ head.count
 count_again head fits = from_le_bytes-to_le_bytes_4 head.count fits
 
 -- an argument of so many parameters is whole at an address
@@ -106,39 +109,44 @@ pub record IsMade (call : Call) : Type 0 where
   pub command : NewCall → Tested Taken
   pub has : (ram : List ℕ) → HasArgument (lane_after ram call.writes) argument_at command
 
--- behind other writes
+-- behind other writes RAM is what it was with the argument in front
+pub lane_is : (ram : List ℕ) (writes : List Write) (arg : MsgArg)
+    → lane_after ram (writes ++ record { addr = argument_at; bytes = spelling arg } ∷ [])
+    ≡ bytes_put (lane_after ram writes) argument_at (spelling arg)
+lane_is ram writes arg = lane_after-append ram writes (record { addr = argument_at; bytes = spelling arg } ∷ [])
+
+-- and so are its first bytes
+pub head_first : (lane : List ℕ) (arg : MsgArg) → bytes_at (bytes_put lane argument_at (spelling arg)) argument_at 32 ≡ head_bytes arg.head
+head_first lane arg =
+    let first : 0x40000000 ≤ argument_at = omega arith in
+    let within : argument_at - 0x40000000 ≤ length lane = omega arith in
+    head_there lane argument_at arg.head (flat_map param_bytes arg.params.items) first within
+
+pub argument_has : (arg : MsgArg) (writes : List Write) (command : NewCall → Tested Taken) → arg.head.cmd < 2 ^ 32
+    → arg.head.count ≤ 6 → command_of arg.head.cmd ≡ Some command → (ram : List ℕ)
+    → HasArgument (lane_after ram (writes ++ record { addr = argument_at; bytes = spelling arg } ∷ [])) argument_at command
+argument_has arg writes command cmd few known ram =
+    let head = head_first (lane_after ram writes) arg in
+    let fits : arg.head.count < 2 ^ 32 = omega (arith, few) in
+    let count : (head_at (head_bytes arg.head)).count ≡ arg.head.count = count_again arg.head fits in
+    subst (λ (all : List ℕ). HasArgument all argument_at command) (sym (lane_is ram writes arg)) (record {
+      whole = ap (λ (bytes : List ℕ). is_whole argument_at (head_at bytes).count) head
+          ∙ ap (λ (n : ℕ). is_whole argument_at n) count ∙ few_are_whole arg.head.count few;
+      command_is = ap (λ (bytes : List ℕ). command_of (head_at bytes).cmd) head
+          ∙ ap command_of (cmd_again arg.head cmd) ∙ known;
+    })
+
 argument_made : (arg : MsgArg) (writes : List Write) (session : ℕ) (command : NewCall → Tested Taken) → arg.head.cmd < 2 ^ 32
     → arg.head.count ≤ 6 → command_of arg.head.cmd ≡ Some command
     → IsMade (record { writes = writes ++ record { addr = argument_at; bytes = spelling arg } ∷ []; session = session })
-argument_made arg writes session command cmd few known = record {
-  command = command;
-  has = λ ram.
-      let lane = lane_after ram writes in
-      let rest = list_flat arg in
-      let first : 0x40000000 ≤ argument_at = omega arith in
-      let within : argument_at - 0x40000000 ≤ length lane = omega arith in
-      let head : bytes_at (bytes_put lane argument_at (spelling arg)) argument_at 32 ≡ head_bytes arg.head =
-      head_there lane argument_at arg.head rest first within in
-      let fits : arg.head.count < 2 ^ 32 = omega (arith, few) in
-      let count : (head_at (head_bytes arg.head)).count ≡ arg.head.count = count_again arg.head fits in
-      subst (λ (all : List ℕ). HasArgument all argument_at command)
-      (sym (lane_after-append ram writes (record { addr = argument_at; bytes = spelling arg } ∷ [])))
-      (record {
-        whole = ap (λ (bytes : List ℕ). is_whole argument_at (head_at bytes).count) head
-            ∙ ap (λ (n : ℕ). is_whole argument_at n) count ∙ few_are_whole arg.head.count few;
-        command_is = ap (λ (bytes : List ℕ). command_of (head_at bytes).cmd) head
-            ∙ ap command_of (cmd_again arg.head cmd) ∙ known;
-      });
-}
-  where
-    list_flat : MsgArg → List ℕ
-    list_flat a = flat_map param_bytes a.params.items
+argument_made arg writes session command cmd few known =
+    record { command = command; has = argument_has arg writes command cmd few known }
 
 length-sent : (number : ℕ) (params : List GpParam) → length (sent_from number params) ≡ length params
 length-sent number [] = refl
 length-sent number (param ∷ params) = ap suc (length-sent (suc number) params)
 
-few_sent : (op : Operation) (sent : ℕ) → length (params_sent op sent) ≤ 4
+pub few_sent : (op : Operation) (sent : ℕ) → length (params_sent op sent) ≤ 4
 few_sent op sent =
     let all = length-sent 0 (take sent (params_of op.params)) in
     let cut = length-take sent (params_of op.params) in
@@ -166,16 +174,31 @@ calls_are_made sessions (Close name) =
 
 -- ---- a call
 
+-- the call is in slot 0, suspended for client 0 behind this RPC return
+pub record Holds (boot : Booted) (n : ℕ) (rpc : RpcReturn) (at : Standing) : Type 0 where
+  pub pending : PendingCall
+  pub client : pending.client ≡ 0
+  pub stands : Stands boot (Suspended 0 pending) n at
+  pub thread : rpc.thread ≡ 0
+
+-- as an SMC has left it there
+holds_call : (boot : Booted) (n : ℕ) (was pending : PendingCall) (kind : RpcKind) (held : ThreadSlot) (at : Standing) → was.client ≡ 0
+    → lasting pending ≡ lasting was → held ≡ Suspended 0 pending → Stands boot held n at
+    → Holds boot n (record { kind = kind; thread = 0 }) at
+holds_call boot n was pending kind held at client same there stands = record {
+  pending = pending;
+  client = ap (λ (l : Lasting). l.client) same ∙ client;
+  stands = subst (λ (h : ThreadSlot). Stands boot h n at) there stands;
+  thread = refl;
+}
+
 -- in a call: so many RPC returns, and SMCs that can still be made
-record InCall (boot : Booted) (n returns room : ℕ) (rpc : RpcReturn) (at : Standing) : Type 0 where
-  pending : PendingCall
-  client : pending.client ≡ 0
-  stands : Stands boot (Suspended 0 pending) n at
-  thread : rpc.thread ≡ 0
-  few : returns + room ≤ 32768
+pub record InCall (boot : Booted) (n returns room : ℕ) (rpc : RpcReturn) (at : Standing) : Type 0 where
+  pub holds : Holds boot n rpc at
+  pub few : returns + room ≤ 32768
 
 -- it returns between two calls, or stops
-abbrev IsWellDone : Booted → ℕ → ℕ → Came → Type 0
+abbrev pub IsWellDone : Booted → ℕ → ℕ → Came → Type 0
 IsWellDone boot n room (standing.Returned left after) = Stands boot Free n after × (left ≤ room)
 IsWellDone boot n room (Stopped more history) = Unit {0}
 IsWellDone boot n room (Fails fault) = ⊥
@@ -227,34 +250,26 @@ module _ (boot : Booted) (boots : IsBooted boot) (n : ℕ) (cancel_after : Optio
       (Cancels (suc returns) rpc) (Resumes (suc returns) rpc) inside inside)
 
   -- by what an SMC of the call has left and answered
-  after_first : (room : ℕ) (held : ThreadSlot) (answer : Regs) (at : Standing) → suc room ≤ 32768 → Turned held answer
+  after_first : (room : ℕ) (was : PendingCall) (leaving : Leaving) (held : ThreadSlot) (answer : Regs) (at : Standing)
+      → suc room ≤ 32768 → was.client ≡ 0 → Turned was leaving held answer
       → Stands boot held n at → Fits (next_stage cancel_after (Calls 0) answer) room at
-  after_first room held answer at few (Over free fin) stands =
+  after_first room was leaving held answer at few client (Over result params leaves free fin) stands =
       subst (λ (s : Said). Fits (called_so answer s) room at) (sym fin) (subst (λ (h : ThreadSlot). Stands boot h n at) free stands)
-  after_first room held answer at few (Asked pending there client k ret) stands =
+  after_first room was leaving held answer at few client (Asked pending there same k ret) stands =
       subst (λ (s : Said). Fits (called_so answer s) room at) (sym ret)
-      (fits_return 0 room (record { kind = k; thread = 0 }) at (omega arith) (record {
-        pending = pending;
-        client = client;
-        stands = subst (λ (h : ThreadSlot). Stands boot h n at) there stands;
-        thread = refl;
-        few = omega arith;
-      }))
+      (fits_return 0 room (record { kind = k; thread = 0 }) at (omega arith)
+      (record { holds = holds_call boot n was pending k held at client same there stands; few = omega arith }))
 
-  after_another : (returns room : ℕ) (rpc : RpcReturn) (held : ThreadSlot) (answer : Regs) (at : Standing) → returns + suc room ≤ 32768
-      → Turned held answer → Stands boot held n at → Fits (next_stage cancel_after (Resumes returns rpc) answer) room at
-  after_another returns room rpc held answer at few (Over free fin) stands =
+  after_another : (returns room : ℕ) (rpc : RpcReturn) (was : PendingCall) (leaving : Leaving) (held : ThreadSlot) (answer : Regs)
+      (at : Standing) → returns + suc room ≤ 32768
+      → was.client ≡ 0 → Turned was leaving held answer → Stands boot held n at → Fits (next_stage cancel_after (Resumes returns rpc) answer) room at
+  after_another returns room rpc was leaving held answer at few client (Over result params leaves free fin) stands =
       subst (λ (s : Said). Fits (resumed_so returns answer s) room at) (sym fin)
       (subst (λ (h : ThreadSlot). Stands boot h n at) free stands)
-  after_another returns room rpc held answer at few (Asked pending there client k ret) stands =
+  after_another returns room rpc was leaving held answer at few client (Asked pending there same k ret) stands =
       subst (λ (s : Said). Fits (resumed_so returns answer s) room at) (sym ret)
-      (fits_return returns room (record { kind = k; thread = 0 }) at (omega arith) (record {
-        pending = pending;
-        client = client;
-        stands = subst (λ (h : ThreadSlot). Stands boot h n at) there stands;
-        thread = refl;
-        few = omega arith;
-      }))
+      (fits_return returns room (record { kind = k; thread = 0 }) at (omega arith)
+      (record { holds = holds_call boot n was pending k held at client same there stands; few = omega arith }))
 
   -- an SMC, and what comes behind it
   stopped_well : (room more : ℕ) (regs : Regs) (asked : Standing) (after : Play) (onward : Play → Option Came)
@@ -278,7 +293,7 @@ module _ (boot : Booted) (boots : IsBooted boot) (n : ℕ) (cancel_after : Optio
   )
 
   -- RAM with what was written before an SMC
-  asked_stands : (held : ThreadSlot) (stage : Stage) (at : Standing) → Stands boot held n at → Stands boot held n (prepared call stage at)
+  pub asked_stands : (held : ThreadSlot) (stage : Stage) (at : Standing) → Stands boot held n at → Stands boot held n (prepared call stage at)
   asked_stands held stage at stands = record {
     comes = stands.comes;
     outside = stands.outside;
@@ -304,34 +319,33 @@ module _ (boot : Booted) (boots : IsBooted boot) (n : ℕ) (cancel_after : Optio
       smc_comes boot asked (call_with_arg argument_at) 0 (λ taken. taken.call.client ≡ 0) boots ready.comes ready.outside ready.whole
       (takes_for_client boot asked.kernel (call_with_arg argument_at).a asked.ram 0 (at_address false argument_at) made.command well)
 
-  resume_comes : (returns room : ℕ) (rpc : RpcReturn) (at : Standing) → InCall boot n returns room rpc at
+  pub resume_comes : (returns : ℕ) (rpc : RpcReturn) (at : Standing) (holds : Holds boot n rpc at)
       → (let asked = prepared call (Resumes returns rpc) at in
       (after : Play) × (after_smc boot (return_from_rpc rpc) asked ≡ Some after)
-      × Comes boot asked (return_from_rpc rpc) 0 (λ taken. taken.call.client ≡ 0) after)
-  resume_comes returns room rpc at inside =
+      × Comes boot asked (return_from_rpc rpc) 0 (λ taken. lasting taken.call ≡ lasting holds.pending) after)
+  resume_comes returns rpc at holds =
       let asked = prepared call (Resumes returns rpc) at in
-      let ready = asked_stands (Suspended 0 inside.pending) (Resumes returns rpc) at inside.stands in
-      let on = resumes_call boot asked.kernel asked.ram rpc.kind inside.pending (Free ∷ replicate n Free) inside.stands.slots in
-      let for_client = subst (λ (c : ℕ). OnLane asked.ram (TakesSlot 0 (λ taken. taken.call.client ≡ c))
-      (decision_of boot asked.kernel (return_of rpc.kind 0).a (smc.call_of (reg (return_of rpc.kind 0).a 0)))) inside.client on in
-      smc_comes boot asked (return_from_rpc rpc) 0 (λ taken. taken.call.client ≡ 0) boots ready.comes ready.outside ready.whole
-      (subst (λ (t : ℕ). OnLane asked.ram (TakesSlot 0 (λ taken. taken.call.client ≡ 0))
-      (decision_of boot asked.kernel (return_of rpc.kind t).a (smc.call_of (reg (return_of rpc.kind t).a 0)))) (sym inside.thread) for_client)
+      let ready = asked_stands (Suspended 0 holds.pending) (Resumes returns rpc) at holds.stands in
+      let on = resumes_call boot asked.kernel asked.ram rpc.kind holds.pending (Free ∷ replicate n Free) holds.stands.slots in
+      smc_comes boot asked (return_from_rpc rpc) 0 (λ taken. lasting taken.call ≡ lasting holds.pending) boots ready.comes ready.outside
+      ready.whole
+      (subst (λ (t : ℕ). OnLane asked.ram (TakesSlot 0 (λ taken. lasting taken.call ≡ lasting holds.pending))
+      (decision_of boot asked.kernel (return_of rpc.kind t).a (smc.call_of (reg (return_of rpc.kind t).a 0)))) (sym holds.thread) on)
 
-  cancel_comes : (returns room : ℕ) (rpc : RpcReturn) (at : Standing) → InCall boot n returns room rpc at
+  pub cancel_comes : (returns : ℕ) (rpc : RpcReturn) (at : Standing) → Holds boot n rpc at
       → (let asked = prepared call (Cancels returns rpc) at in
       (after : Play) × (after_smc boot (call_with_arg cancel_at) asked ≡ Some after)
       × Comes boot asked (call_with_arg cancel_at) 1 (λ taken. IsSettled taken.call) after)
-  cancel_comes returns room rpc at inside =
+  cancel_comes returns rpc at holds =
       let asked = prepared call (Cancels returns rpc) at in
-      let ready = asked_stands (Suspended 0 inside.pending) (Cancels returns rpc) at inside.stands in
+      let ready = asked_stands (Suspended 0 holds.pending) (Cancels returns rpc) at holds.stands in
       let arg = cancel_argument call.session in
-      let whole = inside.stands.whole in
+      let whole = holds.stands.whole in
       let zero_fits : 0 < 2 ^ 32 = omega arith in
       let three_fits : 3 < 2 ^ 32 = omega arith in
       let head : bytes_at asked.ram cancel_at 32 ≡ head_bytes arg.head = head_there at.ram cancel_at arg.head [] (omega arith) (omega (arith, whole)) in
       let well : IsWellMade asked.kernel (call_with_arg cancel_at).a asked.ram 1 (at_address false cancel_at) cancel_calls = record {
-        lowest = ap lowest_free inside.stands.slots ∙ second_lowest 0 n inside.pending;
+        lowest = ap lowest_free holds.stands.slots ∙ second_lowest 0 n holds.pending;
         place = refl;
         head = refl;
         argument = ap (λ (bytes : List ℕ). is_whole cancel_at (head_at bytes).count) head
@@ -358,26 +372,29 @@ module _ (boot : Booted) (boots : IsBooted boot) (n : ℕ) (cancel_after : Optio
       (onward_from room (Calls 0) (prepared call (Calls 0) at)) e is
   by_first room at after few stands rest e (Took going went) =
       let asked = prepared call (Calls 0) at in
-      let turned = call_turns boot asked (call_with_arg argument_at) Free n after asked.storage (asked_stands Free (Calls 0) at stands) went in
+      let turned = call_turns boot asked (call_with_arg argument_at) Free n (λ taken. taken.call.client ≡ 0) after asked.storage
+      (asked_stands Free (Calls 0) at stands) went went.holds in
       went_well room (call_with_arg argument_at) asked after (onward_from room (Calls 0) asked) e going
       (rest (next_stage cancel_after (Calls 0) (answer_of after)) (standing_after after asked.storage)
-      (after_first room turned.0 (answer_of after) (standing_after after asked.storage) few turned.1 turned.2))
+      (after_first room went.taken.call _ turned.0 (answer_of after) (standing_after after asked.storage) few went.holds turned.1 turned.2))
 
-  by_resume : (returns room : ℕ) (rpc : RpcReturn) (at : Standing) (after : Play) → InCall boot n returns (suc room) rpc at → GoesWell room
-      → (let asked = prepared call (Resumes returns rpc) at in after_smc boot (return_from_rpc rpc) asked ≡ Some after
-      → Comes boot asked (return_from_rpc rpc) 0 (λ taken. taken.call.client ≡ 0) after
+  by_resume : (returns room : ℕ) (rpc : RpcReturn) (at : Standing) (after : Play) (inside : InCall boot n returns (suc room) rpc at)
+      → GoesWell room → (let asked = prepared call (Resumes returns rpc) at in after_smc boot (return_from_rpc rpc) asked ≡ Some after
+      → Comes boot asked (return_from_rpc rpc) 0 (λ taken. lasting taken.call ≡ lasting inside.holds.pending) after
       → Well (suc room) (option_and_then (unless_full (onward_from room (Resumes returns rpc) asked)) (after_smc boot (return_from_rpc rpc) asked)))
   by_resume returns room rpc at after inside rest e (Full more is) =
       stopped_well (suc room) more (return_from_rpc rpc) (prepared call (Resumes returns rpc) at) after
       (onward_from room (Resumes returns rpc) (prepared call (Resumes returns rpc) at)) e is
   by_resume returns room rpc at after inside rest e (Took going went) =
       let asked = prepared call (Resumes returns rpc) at in
-      let held = Suspended 0 inside.pending in
-      let turned = call_turns boot asked (return_from_rpc rpc) held n after asked.storage
-      (asked_stands held (Resumes returns rpc) at inside.stands) went in
+      let held = Suspended 0 inside.holds.pending in
+      let client = ap (λ (l : Lasting). l.client) went.holds ∙ inside.holds.client in
+      let turned = call_turns boot asked (return_from_rpc rpc) held n (λ taken. lasting taken.call ≡ lasting inside.holds.pending) after
+      asked.storage (asked_stands held (Resumes returns rpc) at inside.holds.stands) went client in
       went_well room (return_from_rpc rpc) asked after (onward_from room (Resumes returns rpc) asked) e going
       (rest (next_stage cancel_after (Resumes returns rpc) (answer_of after)) (standing_after after asked.storage)
-      (after_another returns room rpc turned.0 (answer_of after) (standing_after after asked.storage) inside.few turned.1 turned.2))
+      (after_another returns room rpc went.taken.call _ turned.0 (answer_of after) (standing_after after asked.storage) inside.few client
+      turned.1 turned.2))
 
   by_cancel : (returns room : ℕ) (rpc : RpcReturn) (at : Standing) (after : Play) → InCall boot n returns (suc room) rpc at → GoesWell room
       → (let asked = prepared call (Cancels returns rpc) at in after_smc boot (call_with_arg cancel_at) asked ≡ Some after
@@ -388,21 +405,21 @@ module _ (boot : Booted) (boots : IsBooted boot) (n : ℕ) (cancel_after : Optio
       (onward_from room (Cancels returns rpc) (prepared call (Cancels returns rpc) at)) e is
   by_cancel returns room rpc at after inside rest e (Took going went) =
       let asked = prepared call (Cancels returns rpc) at in
-      let turned = cancel_turns boot asked (call_with_arg cancel_at) inside.pending n after asked.storage inside.client
-      (asked_stands (Suspended 0 inside.pending) (Cancels returns rpc) at inside.stands) went in
+      let turned = cancel_turns boot asked (call_with_arg cancel_at) inside.holds.pending n after asked.storage
+      (asked_stands (Suspended 0 inside.holds.pending) (Cancels returns rpc) at inside.holds.stands) went in
       let few = inside.few in
-      let fits : InCall boot n returns room rpc (standing_after after asked.storage) = record {
+      let holds : Holds boot n rpc (standing_after after asked.storage) = record {
         pending = turned.0;
-        client = turned.1;
+        client = ap (λ (l : Lasting). l.client) turned.1 ∙ inside.holds.client;
         stands = turned.3;
-        thread = inside.thread;
-        few = omega (arith, few);
+        thread = inside.holds.thread;
       } in
+      let fits : InCall boot n returns room rpc (standing_after after asked.storage) = record { holds = holds; few = omega (arith, few) } in
       went_well room (call_with_arg cancel_at) asked after (onward_from room (Cancels returns rpc) asked) e going
       (rest (next_stage cancel_after (Cancels returns rpc) (answer_of after)) (standing_after after asked.storage)
       (subst (λ (s : Said). Fits (after_cancel returns rpc (answer_of after) s) room (standing_after after asked.storage)) (sym turned.2) fits))
 
-  call_comes : (room : ℕ) → room ≤ 32768 → GoesWell room
+  pub call_comes : (room : ℕ) → room ≤ 32768 → GoesWell room
   call_comes zero few (Calls zero) at fits = (Stopped 0 at.history, refl, tt)
   call_comes zero few (Calls (suc refused)) at fits = absurd fits
   call_comes zero few (Cancels returns rpc) at fits = (Stopped 0 at.history, refl, tt)
@@ -414,10 +431,10 @@ module _ (boot : Booted) (boots : IsBooted boot) (n : ℕ) (cancel_after : Optio
       by_first room at comes.0 few fits (call_comes room (omega (arith, few))) comes.1 comes.2
   call_comes (suc room) few (Calls (suc refused)) at fits = absurd fits
   call_comes (suc room) few (Cancels returns rpc) at fits =
-      let comes = cancel_comes returns (suc room) rpc at fits in
+      let comes = cancel_comes returns rpc at fits.holds in
       by_cancel returns room rpc at comes.0 fits (call_comes room (omega (arith, few))) comes.1 comes.2
   call_comes (suc room) few (Resumes returns rpc) at fits =
-      let comes = resume_comes returns (suc room) rpc at fits in
+      let comes = resume_comes returns rpc at fits.holds in
       by_resume returns room rpc at comes.0 fits (call_comes room (omega (arith, few))) comes.1 comes.2
   call_comes (suc room) few Ended at fits = (standing.Returned (suc room) at, refl, (fits, omega arith))
   call_comes (suc room) few (Failed fault) at fits = absurd fits
@@ -456,17 +473,27 @@ first_outside : (cpus : ℕ) → 1 ≤ cpus → slice_get (replicate cpus Outsid
 first_outside zero some = absurd (omega arith)
 first_outside (suc cpus) some = refl
 
-pub scripts_have_plays : ScriptsHavePlays
-scripts_have_plays natives uuids boot script boots sound is =
+-- before the first call all slots are free
+pub first_stands : (natives : List Native) (uuids : List (List ℕ)) (boot : Boot) (script : Script) → IsBooted (booted boot natives)
+    → IsSoundScript uuids script → script.boot ≡ Some boot
+    → (n : ℕ) × Stands (booted boot natives) Free n (first_standing (zeros 0x400000) (booted boot natives) script)
+first_stands natives uuids boot script boots sound is =
     let on = booted boot natives in
     let client : IsClientBoot uuids boot = subst (λ (b : Option Boot). IfSome b (IsClientBoot uuids)) is sound.boot in
     let slots = two_slots boot.threads client.two_threads in
     let size = length-zeros 0x400000 in
-    let whole : 0x400000 ≤ length (zeros 0x400000) = omega (arith, size) in
-    let stands : Stands on Free slots.0 (first_standing (zeros 0x400000) on script) = record {
-      comes = refl;
-      outside = first_outside boot.cpus (some_cpu on boots);
-      whole = whole_after (zeros 0x400000) (map (λ (fill : Fill). record { addr = fill.addr; bytes = fill.bytes }) script.fills) whole;
-      slots = slots.1;
-    } in
-    calls_come on boots slots.0 script.calls (first_client (first_standing (zeros 0x400000) on script)) stands (omega arith)
+    let whole : 0x400000 ≤ length (zeros 0x400000) = omega (arith, size) in (
+      slots.0,
+      record {
+        comes = refl;
+        outside = first_outside boot.cpus (some_cpu on boots);
+        whole = whole_after (zeros 0x400000) (map (λ (fill : Fill). record { addr = fill.addr; bytes = fill.bytes }) script.fills) whole;
+        slots = slots.1;
+      },
+    )
+
+pub scripts_have_plays : ScriptsHavePlays
+scripts_have_plays natives uuids boot script boots sound is =
+    let on = booted boot natives in
+    let first = first_stands natives uuids boot script boots sound is in
+    calls_come on boots first.0 script.calls (first_client (first_standing (zeros 0x400000) on script)) first.1 (omega arith)

@@ -16,7 +16,7 @@ use Rattle.kernel_model.specs.Argument.{reg, thread_in}
 use Rattle.kernel_model.specs.Codes.{eresume, out_of_memory, target_dead}
 use Rattle.kernel_model.specs.Decision.{Answers, Decision, Takes, works_on}
 use Rattle.kernel_model.specs.Entry.{after_decision, decision_of, entry}
-use Rattle.kernel_model.specs.Exit.{Exited, after_grant, answer_of, exit_of, goes_out_from, progress_held, progress_in, progress_in_slot, progress_of, slot_left}
+use Rattle.kernel_model.specs.Exit.{Exited, after_grant, answer_of, exit_of, goes_out_from, progress_held, progress_in, progress_in_slot, progress_of, slot_left, writes_of}
 use Rattle.kernel_model.specs.Given.{Buffer, Given, NoBuffer, Nothing, Reply, call_given, given_to}
 use Rattle.kernel_model.specs.History.{after_event}
 use Rattle.kernel_model.specs.Instances.{is_held}
@@ -29,7 +29,7 @@ use Rattle.kernel_model.proofs.Parts.{if-both, map_or-both, option_map_some}
 use Rattle.ns_ram.specs.Reader.{Reader, done, over_lane, reading, want_bytes, want_words, ◌>>=◌}
 use Rattle.ns_ram.specs.Lane.{bytes_at}
 use Rattle.ns_ram.specs.Reads.{total_bytes}
-use Rattle.ns_ram.specs.Writes.{Write, lane_after}
+use Rattle.ns_ram.specs.Writes.{lane_after}
 use Rattle.ns_ram.specs.declared.read.Read.{Read}
 use Rattle.ns_ram.proofs.ReaderLaws.{over_lane-reading}
 use Rattle.own_model.proofs.FixedAnswers as fixed
@@ -41,35 +41,36 @@ use Rattle.session_table.specs.declared.session.Session.{Session}
 use Rattle.smc_abi.specs.Answer.{registers_of}
 use Rattle.smc_abi.specs.Call.{call_of}
 use Rattle.smc_abi.specs.declared.regs.Regs.{Regs}
+use Rattle.ta_params.specs.declared.call_result.CallResult.{CallResult}
 use Rattle.ta_params.specs.declared.copied_params.CopiedParams.{CopiedParams}
 use Rattle.teec_calls.specs.Answers.{return_of, said}
 use Rattle.teec_calls.specs.declared.answer.RpcKind.{RpcKind}
 use Rattle.teec_calls.specs.declared.answer.RpcKind.TheVariants as rpc
 use Rattle.teec_calls.specs.declared.answer.Said.TheVariants.{Finished, Returned}
 use Rattle.client_play.specs.Standing.{Standing, play_of, steps_granted, visit_with}
-use Rattle.client_play.proofs.NewCalls.{OnLane, TakesSlot, made_on}
+use Rattle.client_play.proofs.NewCalls.{Lasting, OnLane, TakesSlot, lasting, made_on}
 
--- ---- the client of a call
+-- ---- what stays of a call
 
-kept_given : (given : Given) (call : PendingCall) → (call_given given call).client ≡ call.client
+kept_given : (given : Given) (call : PendingCall) → lasting (call_given given call) ≡ lasting call
 kept_given Nothing call = refl
 kept_given (Buffer buffer) call = refl
 kept_given NoBuffer call = refl
 kept_given (Reply reply) call = refl
 
-kept_seen : (call : PendingCall) → (sees call).client ≡ call.client
-kept_seen call = if-both (λ (c : PendingCall). c.client ≡ call.client) call.marked _ call refl refl
+kept_seen : (call : PendingCall) → lasting (sees call) ≡ lasting call
+kept_seen call = if-both (λ (c : PendingCall). lasting c ≡ lasting call) call.marked _ call refl refl
 
 -- what a resume makes of it
-abbrev IsSameClient : Resumed → Progress → Type 0
-IsSameClient r progress = progress.call.client ≡ r.call.client
+abbrev IsSame : Resumed → Progress → Type 0
+IsSame r progress = lasting progress.call ≡ lasting r.call
 
 kept_beginning : (r : Resumed) (params : CopiedParams) (session : Session) (call_kind : CallKind) (found : Option Instance)
-    → IsSameClient r (begins_in r params session call_kind found)
+    → IsSame r (begins_in r params session call_kind found)
 kept_beginning r params session kind.Open (Some instance) =
-    map_or-both (IsSameClient r) _ (app_of_call r) _ (λ app. refl) refl
+    map_or-both (IsSame r) _ (app_of_call r) _ (λ app. refl) refl
 kept_beginning r params session kind.Open None =
-    map_or-both (IsSameClient r) _ (app_of_call r) _ (λ app. if-both (IsSameClient r) _ _ _ refl refl) refl
+    map_or-both (IsSame r) _ (app_of_call r) _ (λ app. if-both (IsSame r) _ _ _ refl refl) refl
 kept_beginning r params session (kind.Invoke func) (Some instance) = refl
 kept_beginning r params session (kind.Invoke func) None = refl
 kept_beginning r params session kind.Close (Some instance) = refl
@@ -78,32 +79,32 @@ kept_beginning r params session kind.Settled (Some instance) = refl
 kept_beginning r params session kind.Settled None = refl
 
 kept_again : (r : Resumed) (params : CopiedParams) (session : Session) (found : Option Instance)
-    → IsSameClient r (tested_again r params session found)
+    → IsSame r (tested_again r params session found)
 kept_again r params session found =
     let dead = option_map_or (λ (instance : Instance). instance.dead) found false && not (is_close r.call.kind) in
     let held = option_map_or is_held found false in
     let begun = begins_in r params session r.call.kind found in
-    if-both (IsSameClient r) dead (ends_with r target_dead) (if held then sleeps_on r params else begun) refl
-    (if-both (IsSameClient r) held (sleeps_on r params) begun
-    (if-both (IsSameClient r) (is_without_buffer r.given) (ends_with r out_of_memory) (goes_on r (Waits params)) refl refl)
+    if-both (IsSame r) dead (ends_with r target_dead) (if held then sleeps_on r params else begun) refl
+    (if-both (IsSame r) held (sleeps_on r params) begun
+    (if-both (IsSame r) (is_without_buffer r.given) (ends_with r out_of_memory) (goes_on r (Waits params)) refl refl)
     (kept_beginning r params session r.call.kind found))
 
-kept_onward : (r : Resumed) (phase : CallPhase) → IsSameClient r (onward_in r phase)
+kept_onward : (r : Resumed) (phase : CallPhase) → IsSame r (onward_in r phase)
 kept_onward r (Runs job) = refl
 kept_onward r (Asks job wanted payload) = refl
 kept_onward r (Waits params) =
-    map_or-both (IsSameClient r) _ (get r.tables.sessions r.call.session) _
+    map_or-both (IsSame r) _ (get r.tables.sessions r.call.session) _
     (λ (session : Session). kept_again r params session (get r.tables.instances r.call.instance)) refl
 kept_onward r (Ends result params told wakes) = refl
 
 kept_resumed : (boot : Booted) (tables : Tables) (slot : ℕ) (call : PendingCall) (given : Given)
-    → (onward_of (resumed_call boot tables slot call given)).call.client ≡ call.client
+    → lasting (onward_of (resumed_call boot tables slot call given)).call ≡ lasting call
 kept_resumed boot tables slot call given =
     let r = resumed_call boot tables slot call given in
     kept_onward r r.call.phase ∙ kept_given given (sees call) ∙ kept_seen call
 
 -- what a grant of steps makes of it
-kept_granted : (tables : Tables) (call : PendingCall) (granted : ℕ) (grant : Grant) → (after_grant tables call granted grant).call.client ≡ call.client
+kept_granted : (tables : Tables) (call : PendingCall) (granted : ℕ) (grant : Grant) → lasting (after_grant tables call granted grant).call ≡ lasting call
 kept_granted tables call granted (Left job) = refl
 kept_granted tables call granted (Stopped used (steps.Ends end)) = refl
 kept_granted tables call granted (Stopped used (steps.Panics code)) = refl
@@ -113,14 +114,14 @@ pub same_progress : (one other : Progress) → Some one ≡ Some other → one �
 same_progress one other e = cc
 
 pub kept_in : (tables : Tables) (call : PendingCall) (granted : ℕ) (phase : CallPhase) (progress : Progress)
-    → progress_in tables call granted phase ≡ Some progress → progress.call.client ≡ call.client
+    → progress_in tables call granted phase ≡ Some progress → lasting progress.call ≡ lasting call
 kept_in tables call granted (Runs job) progress e =
     let came = option_map_some (after_grant tables call granted) (grant_of granted job) progress e in
-    ap (λ (p : Progress). p.call.client) (sym came.2) ∙ kept_granted tables call granted came.0
-kept_in tables call granted (Asks job wanted payload) progress e = ap (λ (p : Progress). p.call.client) (sym (same_progress _ progress e))
-kept_in tables call granted (Waits params) progress e = ap (λ (p : Progress). p.call.client) (sym (same_progress _ progress e))
-kept_in tables call granted (Ends result params true wakes) progress e = ap (λ (p : Progress). p.call.client) (sym (same_progress _ progress e))
-kept_in tables call granted (Ends result params false wakes) progress e = ap (λ (p : Progress). p.call.client) (sym (same_progress _ progress e))
+    ap (λ (p : Progress). lasting p.call) (sym came.2) ∙ kept_granted tables call granted came.0
+kept_in tables call granted (Asks job wanted payload) progress e = ap (λ (p : Progress). lasting p.call) (sym (same_progress _ progress e))
+kept_in tables call granted (Waits params) progress e = ap (λ (p : Progress). lasting p.call) (sym (same_progress _ progress e))
+kept_in tables call granted (Ends result params true wakes) progress e = ap (λ (p : Progress). lasting p.call) (sym (same_progress _ progress e))
+kept_in tables call granted (Ends result params false wakes) progress e = ap (λ (p : Progress). lasting p.call) (sym (same_progress _ progress e))
 
 -- ---- a resume
 
@@ -135,21 +136,21 @@ resumes_on lane Q slot onward (want_words addr most test next) all = λ got. res
 -- the call that is suspended in slot 0 for client 0 is resumed there
 pub resumes_call : (boot : Booted) (kernel : Kernel) (lane : List ℕ) (rpc_kind : RpcKind) (call : PendingCall) (others : List ThreadSlot)
     → kernel.slots ≡ Suspended 0 call ∷ others
-    → OnLane lane (TakesSlot 0 (λ taken. taken.call.client ≡ call.client))
+    → OnLane lane (TakesSlot 0 (λ taken. lasting taken.call ≡ lasting call))
     (decision_of boot kernel (return_of rpc_kind 0).a (call_of (reg (return_of rpc_kind 0).a 0)))
 resumes_call boot kernel lane rpc_kind call others held = by_kind rpc_kind
   where
     -- with these registers
     resumed : (regs : List ℕ) → thread_in regs ≡ 0 → call_resumed_by kernel.slots regs ≡ Some call
-        → OnLane lane (TakesSlot 0 (λ taken. taken.call.client ≡ call.client)) (resume boot kernel regs)
+        → OnLane lane (TakesSlot 0 (λ taken. lasting taken.call ≡ lasting call)) (resume boot kernel regs)
     resumed regs thread found =
-        subst (λ (o : Option PendingCall). OnLane lane (TakesSlot 0 (λ taken. taken.call.client ≡ call.client))
+        subst (λ (o : Option PendingCall). OnLane lane (TakesSlot 0 (λ taken. lasting taken.call ≡ lasting call))
         (option_map_or (takes_call boot kernel.tables regs) o (done (Answers eresume)))) (sym found)
-        (resumes_on lane (TakesSlot 0 (λ taken. taken.call.client ≡ call.client)) (thread_in regs)
+        (resumes_on lane (TakesSlot 0 (λ taken. lasting taken.call ≡ lasting call)) (thread_in regs)
         (λ given. onward_of (resumed_call boot kernel.tables (thread_in regs) call given)) (given_to regs (thread_in regs) call)
         (λ given. (thread, kept_resumed boot kernel.tables (thread_in regs) call given)))
 
-    by_kind : (k : RpcKind) → OnLane lane (TakesSlot 0 (λ taken. taken.call.client ≡ call.client))
+    by_kind : (k : RpcKind) → OnLane lane (TakesSlot 0 (λ taken. lasting taken.call ≡ lasting call))
         (decision_of boot kernel (return_of k 0).a (call_of (reg (return_of k 0).a 0)))
     by_kind rpc.Alloc = resumed (return_of rpc.Alloc 0).a refl (ap (λ (slots : List ThreadSlot). call_resumed_by slots (return_of rpc.Alloc 0).a) held)
     by_kind rpc.Free = resumed (return_of rpc.Free 0).a refl (ap (λ (slots : List ThreadSlot). call_resumed_by slots (return_of rpc.Free 0).a) held)
@@ -169,6 +170,14 @@ entry_on lane kernel visit Q (want_words addr most test next) all = λ got. entr
 same_kernel : (one other : Kernel) → Some one ≡ Some other → one ≡ other
 same_kernel one other e = cc
 
+-- an entry that came with these reads to this kernel: its event, and RAM as before
+pub record CameWith (boot : Booted) (standing : Standing) (regs : Regs) (between : Play) (reads : List Read) (next : Kernel) : Type 0
+  where
+    pub kernel : next ≡ between.kernel
+    pub lanes : between.lanes ≡ standing.ram ∷ []
+    pub history : between.history ≡ standing.history ++ entry_event (visit_with regs) reads ∷ []
+    pub event : after_event boot standing.kernel (entry_event (visit_with regs) reads) ≡ Some between.kernel
+
 module _ (boot : Booted) (standing : Standing) (regs : Regs) (Q : Decision → Type 0) (between : Play)
     (going : between.refused ≡ None) where
   abbrev play : Play
@@ -182,7 +191,7 @@ module _ (boot : Booted) (standing : Standing) (regs : Regs) (Q : Decision → T
 
   by_room : (next : Kernel) (reads : List Read) → reading reader reads ≡ Some next → (full : Bool)
       → (if full then Some (record play { refused = Some (total_bytes reads) }) else with_event boot (entry_event visit reads) play) ≡ Some between
-      → (next ≡ between.kernel) × (between.lanes ≡ standing.ram ∷ [])
+      → CameWith boot standing regs between reads next
   by_room next reads is_read true e =
       let same = some_is _ between e in
       let no : Some (total_bytes reads) ≡ None = ap (λ (p : Play). p.refused) same ∙ going in absurd cc
@@ -191,13 +200,19 @@ module _ (boot : Booted) (standing : Standing) (regs : Regs) (Q : Decision → T
       (λ (k : Kernel). record play { kernel = k; history = standing.history ++ entry_event visit reads ∷ [] })
       (after_event boot standing.kernel (entry_event visit reads)) between e in
       let entered = fixed.entered boot standing.kernel came.0 0 steps_granted regs reads came.1 in
-      (same_kernel next came.0 (sym is_read ∙ entered) ∙ ap (λ (p : Play). p.kernel) came.2, ap (λ (p : Play). p.lanes) (sym came.2))
+      let kernel = ap (λ (p : Play). p.kernel) came.2 in
+      record {
+        kernel = same_kernel next came.0 (sym is_read ∙ entered) ∙ kernel;
+        lanes = ap (λ (p : Play). p.lanes) (sym came.2);
+        history = ap (λ (p : Play). p.history) (sym came.2);
+        event = came.1 ∙ ap (λ (k : Kernel). Some k) kernel;
+      }
 
   -- the kernel behind an entry that came
   pub entry_decides : OnLane standing.ram Q (decision_of boot standing.kernel regs.a (call_of (reg regs.a 0)))
       → enters boot play visit ≡ Some between
-      → (decision : Decision) × Q decision × (after_decision standing.kernel visit decision ≡ between.kernel)
-      × (between.lanes ≡ standing.ram ∷ [])
+      → (decision : Decision) × Q decision × (reads : List Read)
+      × CameWith boot standing regs between reads (after_decision standing.kernel visit decision)
   entry_decides all e =
       option_and_then_some (enters_with boot play visit) (reads_of boot play visit) between e
       (λ (reads : List Read) there onward.
@@ -209,7 +224,9 @@ module _ (boot : Booted) (standing : Standing) (regs : Regs) (Q : Decision → T
       subst (λ (rs : List Read). reading reader rs ≡ Some over.0.0) over.2
       ((over_lane-reading reader standing.ram over.0.1 over.0.0).0 over.1).0 in
       let same = by_room over.0.0 reads is_read (nat_lt (2 ^ 28) (copied_bytes standing.history + total_bytes reads)) onward in
-      (decided.0, decided.1, decided.2 ∙ same.0, same.1))
+      let came : CameWith boot standing regs between reads (after_decision standing.kernel visit decided.0) =
+      record { kernel = decided.2 ∙ same.kernel; lanes = same.lanes; history = same.history; event = same.event } in
+      (decided.0, decided.1, reads, came))
 
 -- ---- an exit
 
@@ -225,8 +242,7 @@ pub record GoesOut (boot : Booted) (between after : Play) (slot : ℕ) (call : P
   pub event : after_event boot between.kernel (Exit 0 (record { a = registers_of (answer_of slot (leaving_of slot progress.call)) regs.a }))
       ≡ Some after.kernel
   -- and writes to RAM
-  pub writes : List Write
-  pub lanes : after.lanes ≡ slice_set between.lanes 0 (lane_after (lane_of between 0) writes)
+  pub lanes : after.lanes ≡ slice_set between.lanes 0 (lane_after (lane_of between 0) (writes_of progress.call (leaving_of slot progress.call)))
 
 pub goes_out_of : (boot : Booted) (between after : Play) (slot : ℕ) (call : PendingCall) (regs : Regs)
     → slice_get between.kernel.processors 0 ≡ Some (Inside regs.a steps_granted (InSlot slot))
@@ -255,29 +271,31 @@ goes_out_of boot between after slot call regs inside there e =
       going = ap (λ (p : Play). p.refused) (sym same);
       event = ap (λ (x : Exited). after_event boot between.kernel (Exit 0 (record { a = x.regs }))) found.2
           ∙ event.1 ∙ ap Some (ap (λ (p : Play). p.kernel) event.2 ∙ ap (λ (p : Play). p.kernel) out.is);
-      writes = out.exited.writes;
-      lanes = ap (λ (p : Play). p.lanes) (sym same);
+      lanes = ap (λ (p : Play). p.lanes) (sym same)
+          ∙ ap (λ (x : Exited). slice_set between.lanes 0 (lane_after (lane_of between 0) x.writes)) (sym found.2);
     }
 
 -- ---- what it leaves, and what it answers
 
--- slot 0 is free, and OK was answered; or the call is suspended there for client 0, and an RPC return from there was answered
-pub data Turned (held : ThreadSlot) (answer : Regs) : Type 0 where
-  Over : held ≡ Free → said answer ≡ Finished → Turned held answer
-  Asked : (call : PendingCall) → held ≡ Suspended 0 call → call.client ≡ 0 → (k : RpcKind)
-      → said answer ≡ Returned (record { kind = k; thread = 0 }) → Turned held answer
+-- the call has finished: slot 0 is free, and OK was answered; or it is suspended there for client 0, and an RPC return from there
+-- was answered
+pub data Turned (was : PendingCall) (leaving : Leaving) (held : ThreadSlot) (answer : Regs) : Type 0 where
+  Over : (result : CallResult) (params : CopiedParams) → leaving ≡ Finishes result params → held ≡ Free → said answer ≡ Finished
+      → Turned was leaving held answer
+  Asked : (call : PendingCall) → held ≡ Suspended 0 call → lasting call ≡ lasting was → (k : RpcKind)
+      → said answer ≡ Returned (record { kind = k; thread = 0 }) → Turned was leaving held answer
 
 for_client : (call : PendingCall) → call.client ≡ 0 → Suspended call.client call ≡ Suspended 0 call
 for_client call client = ap (λ (n : ℕ). Suspended n call) client
 
-pub turns : (call : PendingCall) (caller : List ℕ) (leaving : Leaving) → call.client ≡ 0
-    → Turned (slot_left call leaving) (record { a = registers_of (answer_of 0 leaving) caller })
-turns call caller Interrupted client = Asked call (for_client call client) client rpc.Interrupt refl
-turns call caller WantsBuffer client = Asked call (for_client call client) client rpc.Alloc refl
-turns call caller (Requests place request) client = Asked call (for_client call client) client (rpc.Cmd _) refl
-turns call caller (FreesBuffer buffer) client =
-    Asked (record call { buffer = None }) (for_client (record call { buffer = None }) client) client rpc.Free refl
-turns call caller (Finishes result params) client = Over refl refl
+pub turns : (was call : PendingCall) (caller : List ℕ) (leaving : Leaving) → lasting call ≡ lasting was → call.client ≡ 0
+    → Turned was leaving (slot_left call leaving) (record { a = registers_of (answer_of 0 leaving) caller })
+turns was call caller Interrupted same client = Asked call (for_client call client) same rpc.Interrupt refl
+turns was call caller WantsBuffer same client = Asked call (for_client call client) same rpc.Alloc refl
+turns was call caller (Requests place request) same client = Asked call (for_client call client) same (rpc.Cmd _) refl
+turns was call caller (FreesBuffer buffer) same client =
+    Asked (record call { buffer = None }) (for_client (record call { buffer = None }) client) same rpc.Free refl
+turns was call caller (Finishes result params) same client = Over result params refl refl refl
 
 -- ---- slots
 
@@ -303,13 +321,13 @@ first_taken n held None call = refl
 first_taken n held (Some cancel) call = ap (λ (slots : List ThreadSlot). Active 0 call ∷ Free ∷ slots) (all_free n cancel)
 
 -- where the second is taken, the call in the first may be cancelled
-pub second_taken : (n : ℕ) (cancels : Option Cancel) (call other : PendingCall) → other.client ≡ 0
-    → (now : PendingCall) × (now.client ≡ 0)
+pub second_taken : (n : ℕ) (cancels : Option Cancel) (call other : PendingCall)
+    → (now : PendingCall) × (lasting now ≡ lasting other)
     × (slice_set (cancelled_slots (slots_with (Suspended 0 other) n) cancels) 1 (Active 0 call)
     ≡ Suspended 0 now ∷ Active 0 call ∷ replicate n Free)
-second_taken n None call other client = (other, client, refl)
-second_taken n (Some cancel) call other client = (
+second_taken n None call other = (other, refl, refl)
+second_taken n (Some cancel) call other = (
   cancelled_call cancel other,
-  client,
+  refl,
   ap (λ (slots : List ThreadSlot). Suspended 0 (cancelled_call cancel other) ∷ Active 0 call ∷ slots) (all_free n cancel),
 )

@@ -1,16 +1,30 @@
 -- What holds of the plays of scripts.
-use Rattle.std.specs.Prelude.{◌≡◌, ℕ, List, Some, All, IsSome}
+use Rattle.std.specs.Prelude.{◌≡◌, ℕ, ◌+◌, ◌%◌, ◌^◌, List, [], ◌∷◌, ◌++◌, take, false, Some, All, IsSome}
 use Rattle.client_text.specs.Sound.{IsSoundScript}
 use Rattle.client_text.specs.declared.script.Script.{Script}
+use Rattle.client_text.specs.declared.script.ScriptCall.{ScriptCall}
+use Rattle.client_text.specs.declared.script.ScriptCall.TheVariants.{Close, Invoke, Open}
 use Rattle.event_journal.specs.declared.event.Event.{Event}
-use Rattle.kernel_model.specs.Application.{IsBooted, Native, booted}
+use Rattle.kernel_model.specs.Application.{Application, Booted, IsBooted, Native, booted}
+use Rattle.kernel_model.specs.History.{kernel_after}
+use Rattle.kernel_model.specs.Instances.{is_single}
+use Rattle.kernel_model.specs.Kernel.{Kernel}
+use Rattle.kernel_model.specs.Sessions.{opened_by}
+use Rattle.own_model.specs.Isolation.{IsKeptFor, steps_in}
+use Rattle.own_model.specs.Own.{own_app, own_events, own_replies}
+use Rattle.own_model.specs.Solo.{solo_replies}
+use Rattle.own_model.specs.declared.own_reply.OwnReply.{OwnReply}
+use Rattle.own_model.specs.declared.own_reply.OwnReply.TheVariants as reply
 use Rattle.play_model.specs.Play.{Play}
 use Rattle.play_model.specs.TrueToKernel.{IsTrueToKernel}
 use Rattle.ta_isa.specs.declared.boot.Boot.{Boot}
+use Rattle.ta_params.specs.declared.call_result.CallResult.{CallResult}
+use Rattle.ta_params.specs.declared.copied_params.CopiedParams.{CopiedParams}
 use Rattle.trace_text.specs.declared.item.Item.{Item}
 use Rattle.trace_text.specs.declared.item.Item.TheVariants as item
 use Rattle.trace_text.specs.declared.trace.Trace.{Trace}
 use Rattle.client_play.specs.Played.{ClientPlay, played}
+use Rattle.client_play.specs.Printed.{CallLine}
 use Rattle.client_play.specs.Standing.{steps_granted}
 
 -- ---- one legal history
@@ -48,3 +62,59 @@ abbrev pub ScriptsHavePlays : Type 0
 ScriptsHavePlays = (natives : List Native) (uuids : List (List ℕ)) (boot : Boot) (script : Script) →
     IsBooted (booted boot natives) → IsSoundScript uuids script → script.boot ≡ Some boot →
     IsSome (played natives boot script)
+
+-- ---- results are told alone
+
+-- before a call that begins behind so many events, the client has opened the session, which the kernel keeps for this application;
+-- its sessions share no instance
+pub record IsInSession (boot : Booted) (history : List Event) (from session : ℕ) (app : Application) : Type 0 where
+  pub kernel : Kernel
+  pub begins : kernel_after boot (take from history) ≡ Some kernel
+  pub kept : IsKeptFor boot kernel session app
+  pub opened : opened_by kernel.tables.sessions session 0 ≡ Some kept.kept
+
+-- the first event behind so many, which is the entry of an open, gives the session its number, for this application; its sessions
+-- share no instance
+pub record OpensSession (boot : Booted) (history : List Event) (from session : ℕ) (app : Application) : Type 0 where
+  pub kernel : Kernel
+  pub begins : kernel_after boot (take from history) ≡ Some kernel
+  pub next : session ≡ kernel.tables.next_session
+  pub of_app : own_app boot (take (from + 1) history) session ≡ Some app
+  pub shares_none : is_single app ≡ false
+
+-- the call of this line is one of the session: of an open, the one that it opens, also where that comes to nothing; of others, the
+-- one for which their name stands
+abbrev pub IsCallIn : Booted → List Event → CallLine → ℕ → Application → ScriptCall → Type 0
+IsCallIn boot history line session app (Open name uuid params) = OpensSession boot history line.from session app
+IsCallIn boot history line session app (Invoke name func cancel_after params) =
+    (session ≡ line.session) × IsInSession boot history line.from session app
+IsCallIn boot history line session app (Close name) = (session ≡ line.session) × IsInSession boot history line.from session app
+
+-- a number in 32 bits, as RAM tells it
+abbrev pub in_word : ℕ → ℕ
+in_word number = number % 2 ^ 32
+
+-- the session's last reply is that a call has ended with this result, and its own machine replies the same
+pub record IsToldAlone (boot : Booted) (history : List Event) (session : ℕ) (app : Application) (result : CallResult) : Type 0
+  where
+    pub of_app : own_app boot history session ≡ Some app
+    pub before : List OwnReply
+    pub told : CallResult
+    pub outputs : CopiedParams
+    pub replies : own_replies boot history session ≡ before ++ reply.Ended told.result told.origin outputs ∷ []
+    pub alone : solo_replies (steps_in history) app boot.key (own_events boot history session)
+        ≡ Some (own_replies boot history session)
+    pub printed : result ≡ record { result = in_word told.result; origin = in_word told.origin }
+
+-- so it is behind the last event of the line's call, whichever session the call is one of
+abbrev pub TellsAlone : Booted → List Event → CallLine → Type 0
+TellsAlone boot history line = (session : ℕ) (app : Application) →
+    IsCallIn boot history line session app line.call →
+    IsToldAlone boot (take line.to history) session app line.result
+
+-- each printed result of a session whose application's sessions share no instance is that of its `Ended` reply, which is its own
+-- machine's: others make no difference to it
+abbrev pub ResultsAreToldAlone : Type 0
+ResultsAreToldAlone = (natives : List Native) (uuids : List (List ℕ)) (boot : Boot) (script : Script) (play : ClientPlay) →
+    IsBooted (booted boot natives) → IsSoundScript uuids script → script.boot ≡ Some boot →
+    played natives boot script ≡ Some play → All (TellsAlone (booted boot natives) play.history) play.lines

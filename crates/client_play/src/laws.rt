@@ -2,7 +2,7 @@
 
 ghost use Rattle.client_play.specs.Examples.{Examples};
 ghost use Rattle.client_play.specs.Laws.{CallsAreMadeAlike, PreparesAlike};
-ghost use Rattle.client_play.specs.PlayLaws.{PlaysAreOfTraces, ScriptsHavePlays};
+ghost use Rattle.client_play.specs.PlayLaws.{PlaysAreOfTraces, ResultsAreToldAlone, ScriptsHavePlays};
 ghost use Rattle.client_play.specs.Served.{RunsAreCalls, RunsStop, SmcsAreServed};
 
 /// What is written before an SMC, and what the supplicant makes of a message, is what a client does there over any port.
@@ -40,6 +40,12 @@ pub fn plays_are_of_traces()
 /// new call, and is answered OK or an RPC return; and there are fewer RPC returns than a client answers.
 pub fn scripts_have_plays()
     ensures { ScriptsHavePlays }
+{}
+
+/// Each printed result of a session whose application's sessions share no instance is that of the session's `Ended` reply, which
+/// the session's own machine gives to its events alone.
+pub fn results_are_told_alone()
+    ensures { ResultsAreToldAlone }
 {}
 
 /// Plays of small scripts, worked out by hand.
