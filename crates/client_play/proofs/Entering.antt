@@ -1,7 +1,7 @@
 -- The first entry of a client's call: the kernel reads the argument that the client wrote, and takes the first slot for a call of
 -- the session that it names.
-use Rattle.std.proofs.Common.{◌≡◌, ℕ, suc, ◌+◌, ◌-◌, ◌*◌, ◌≤◌, ◌<◌, Bool, true, false, List, [], ◌∷◌, ◌++◌, length, map, take, drop, not, Option, Some, None, Result, refl, ap, subst, sym, ◌∙◌, arith}
-use Rattle.std.specs.Prelude.{if◌then◌else◌, nat_le, ◌^◌, ◌&&◌}
+use Rattle.std.proofs.Common.{◌≡◌, ℕ, suc, ◌+◌, ◌-◌, ◌*◌, ◌≤◌, ◌<◌, true, false, List, [], ◌∷◌, ◌++◌, length, map, take, drop, not, Option, Some, None, Result, refl, ap, subst, sym, ◌∙◌, arith}
+use Rattle.std.specs.Prelude.{if◌then◌else◌, nat_le, ◌^◌}
 use Rattle.std.specs.List.{flat_map, list_all}
 use Rattle.std.specs.Option.{option_and_then, option_map}
 use Rattle.std.specs.Simd.{first_chunks}
@@ -10,14 +10,14 @@ use Rattle.std.proofs.lemmas.Bool.{and_from, le-leb}
 use Rattle.std.proofs.lemmas.List.{length-map}
 use Rattle.std.proofs.lemmas.Nat.{from_le_bytes-to_le_bytes_4}
 use Rattle.base.specs.NumberMap.{get}
-use Rattle.kernel_model.specs.Application.{Application, Booted}
+use Rattle.kernel_model.specs.Application.{Booted}
 use Rattle.kernel_model.specs.Argument.{invocation, opening, params_in}
 use Rattle.kernel_model.specs.Codes.{bad_parameters, busy, item_not_found, out_of_memory, target_dead}
 use Rattle.kernel_model.specs.Decision.{Taken, Tested, taken_in}
 use Rattle.kernel_model.specs.Instances.{app_of, is_held}
 use Rattle.kernel_model.specs.Kernel.{Instance, Kernel, lowest_free}
 use Rattle.kernel_model.specs.Located.{at_address}
-use Rattle.kernel_model.specs.NewCall.{NewCall, close_session, closes, copied_params, has_pages, has_session_room, invoke_command, invokes}
+use Rattle.kernel_model.specs.NewCall.{NewCall, close_session, copied_params, has_pages, has_session_room, invoke_command, invokes}
 use Rattle.kernel_model.specs.NewCall.{is_taken, named_session, new_call, new_call_of, open_session, open_waits, opens, parameters, settles}
 use Rattle.kernel_model.specs.NewCall.{settles_invoke, settles_open, shared_by, shares_one}
 use Rattle.kernel_model.specs.Sessions.{opened_by}
@@ -33,7 +33,7 @@ use Rattle.msg_args.proofs.Pieces.{length-first_chunks, length-flat_map_params}
 use Rattle.ns_ram.specs.Attempt.{need, passes, ◌>>=◌, ◌>>◌}
 use Rattle.ns_ram.specs.Lane.{bytes_at, bytes_put}
 use Rattle.ns_ram.specs.Reader.{Reader, done, take_bytes, want_bytes, want_words}
-use Rattle.ns_ram.specs.Writes.{Write, lane_after}
+use Rattle.ns_ram.specs.Writes.{lane_after}
 use Rattle.ns_ram.proofs.LaneBytes.{bytes_at-is}
 use Rattle.param_copy.specs.Copying.{copying}
 use Rattle.session_table.specs.declared.session.Session.{Session}

@@ -1,5 +1,5 @@
 -- A run of SMCs that a core has served is a call on the core, or comes to where it stops.
-use Rattle.std.proofs.Common.{◌≡◌, ℕ, zero, suc, ◌+◌, ◌-◌, ◌≤◌, ◌<◌, ◌^◌, Bool, true, false, List, [], ◌∷◌, ◌++◌, length, Option, Some, None, refl, sym, ap, subst, ◌∙◌, arith, inl, inr, append_assoc, append-nil}
+use Rattle.std.proofs.Common.{◌≡◌, ℕ, zero, suc, ◌+◌, ◌-◌, ◌≤◌, ◌^◌, List, [], ◌∷◌, ◌++◌, length, Option, Some, None, refl, sym, ap, subst, ◌∙◌, arith, inl, inr, append_assoc, append-nil}
 use Rattle.std.specs.List.{flat_map}
 use Rattle.std.specs.Option.{option_and_then, option_map_or}
 use Rattle.std.proofs.lemmas.List.Sums.{sum_by-append}
@@ -13,9 +13,9 @@ use Rattle.play_model.specs.Play.{Play}
 use Rattle.smc_abi.specs.declared.regs.Regs.{Regs}
 use Rattle.smc_port.specs.Smc.{Changes, Smc}
 use Rattle.teec.specs.Calls.{Call}
-use Rattle.teec.specs.Rounds.{Calls, Cancels, Ended, Failed, Resumes, Stage, after_answer, regs_at}
-use Rattle.teec.specs.Runs.{Runs, Scene, Turns}
-use Rattle.client_play.specs.Served.{AreServed, HasNoRoom, IsRun, IsServed, RunsAreCalls, RunsStop, events_of, scene_of}
+use Rattle.teec.specs.Rounds.{Calls, Cancels, Ended, Failed, Resumes, Stage, regs_at}
+use Rattle.teec.specs.Runs.{Scene, Turns}
+use Rattle.client_play.specs.Served.{HasNoRoom, IsRun, IsServed, RunsAreCalls, RunsStop, events_of, scene_of}
 use Rattle.client_play.specs.Standing.{Came, Returned, Standing, Stopped, after_smc, answer_of, call_from, next_stage, play_of, prepared, standing_after, unless_ended, unless_full}
 use Rattle.client_play.proofs.Preparing.{prepares_alike}
 use Rattle.client_play.proofs.Smcs.{one_smc}

@@ -1,5 +1,5 @@
 -- Histories only grow: what a call or a script comes to has the history before it in front.
-use Rattle.std.proofs.Common.{◌≡◌, ℕ, zero, suc, ◌+◌, List, [], ◌∷◌, ◌++◌, length, take, Option, Some, None, refl, ap, subst, sym, ◌∙◌}
+use Rattle.std.proofs.Common.{◌≡◌, ℕ, zero, suc, List, [], ◌∷◌, ◌++◌, length, take, Option, Some, None, refl, ap, subst, sym, ◌∙◌}
 use Rattle.std.proofs.Common.{append_assoc}
 use Rattle.std.specs.Option.{option_and_then, option_map_or}
 use Rattle.std.proofs.Math.Seq.{take-append_seam}
@@ -9,7 +9,6 @@ use Rattle.client_text.specs.declared.script.ScriptCall.{ScriptCall}
 use Rattle.event_journal.specs.declared.event.Event.{Event}
 use Rattle.event_journal.specs.declared.event.Event.TheVariants.{Exit}
 use Rattle.kernel_model.specs.Application.{Booted}
-use Rattle.ns_ram.specs.declared.read.Read.{Read}
 use Rattle.play_model.specs.Play.{Play, enters, entry_event, leaves, unless_refused}
 use Rattle.play_model.proofs.Entries.{CameIn, Entered, WasRefused, entered, event_made, left}
 use Rattle.play_model.proofs.LinesStay.{some_is}

@@ -1,5 +1,5 @@
 -- A call on a core is a client's run of SMCs that the core has served.
-use Rattle.std.proofs.Common.{◌≡◌, ℕ, zero, suc, ◌+◌, ◌^◌, ◌<◌, Bool, true, false, List, [], ◌∷◌, ◌++◌, Option, Some, None, refl, sym, ap, subst, ◌∙◌, append_assoc, append-nil}
+use Rattle.std.proofs.Common.{◌≡◌, ℕ, zero, suc, ◌+◌, ◌^◌, Bool, true, false, List, [], ◌∷◌, ◌++◌, Option, Some, None, refl, sym, ap, subst, ◌∙◌, append_assoc, append-nil}
 use Rattle.std.specs.Prelude.{nat_lt, if◌then◌else◌}
 use Rattle.std.specs.List.{flat_map}
 use Rattle.std.specs.Option.{option_and_then, option_map_or}
@@ -27,7 +27,7 @@ use Rattle.smc_abi.specs.declared.regs.Regs.{Regs}
 use Rattle.smc_port.specs.Smc.{Smc}
 use Rattle.teec.specs.Calls.{Call}
 use Rattle.teec.specs.Rounds.{Calls, Cancels, Ended, Failed, Resumes, Stage, regs_at}
-use Rattle.teec.specs.Runs.{Runs, Turns}
+use Rattle.teec.specs.Runs.{Runs}
 use Rattle.client_play.specs.Laws.{CallsAreMadeAlike, MakesAlike}
 use Rattle.client_play.specs.Served.{IsServed, events_of, scene_of}
 use Rattle.client_play.specs.Standing.{Came, Fails, Returned, Standing, Stopped, after_smc, answer_of, call_from, most_returns, next_stage, play_of, prepared, standing_after, steps_granted, tries, unless_full, visit_with}

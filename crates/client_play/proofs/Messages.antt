@@ -1,6 +1,6 @@
 -- What is found in a message is a request that it holds, and one that it holds is found, of whatever numbers it consists.
-use Rattle.std.proofs.Common.{◌≡◌, ℕ, zero, suc, ◌+◌, ◌*◌, ◌/◌, ◌%◌, ◌<◌, ◌≤◌, ◌^◌, ◌&&◌, Bool, true, false, cond, List, [], ◌∷◌, ◌++◌, length, take, drop, get_or, Option, Some, None, refl, sym, ap, subst, ◌∙◌, arith, length-append, length-take, length-take-le, take-take, mod-lt}
-use Rattle.std.specs.Prelude.{IfSome, Result, Ok, Err, nat_le, bytes_eq}
+use Rattle.std.proofs.Common.{◌≡◌, ℕ, zero, suc, ◌+◌, ◌*◌, ◌/◌, ◌<◌, ◌≤◌, ◌^◌, ◌&&◌, Bool, true, false, cond, List, [], ◌∷◌, ◌++◌, length, take, drop, Option, Some, None, refl, sym, ap, ◌∙◌, arith, length-append, length-take, length-take-le, take-take, mod-lt}
+use Rattle.std.specs.Prelude.{IfSome, Result, Ok, Err, nat_le}
 use Rattle.std.specs.Int.{bytes_low_first, byte_at, to_le_bytes, w32, w64}
 use Rattle.std.specs.List.{flat_map}
 use Rattle.std.specs.Option.{option_and_then}
@@ -21,7 +21,7 @@ use Rattle.msg_args.proofs.Pieces.{length-flat_map_params}
 use Rattle.msg_args.proofs.Spellings.{argument_spells, spelled_is_read}
 use Rattle.rpc_msgs.specs.declared.rpc.Rpc.{Rpc}
 use Rattle.rpc_msgs.specs.declared.rpc.Rpc.TheVariants.{Time, Sleep, Wake, Suspend, FsOpen, FsCreate, FsClose, FsRead, FsWrite, FsRemove}
-use Rattle.rpc_msgs.specs.Request.{IsPayloadOf, IsRequest, argument as with_params, files, payload_in as bytes_in, payload_out as bytes_out, request_arg, value_in, value_out}
+use Rattle.rpc_msgs.specs.Request.{IsPayloadOf, IsRequest, argument as with_params, payload_in as bytes_in, payload_out as bytes_out, request_arg, value_in, value_out}
 use Rattle.rpc_requests.specs.Candidate.{front_of, rpc_in}
 use Rattle.rpc_requests.specs.Holding.{BeginsWith, Holds, IsValue}
 use Rattle.rpc_requests.proofs.Arguments.{counted}

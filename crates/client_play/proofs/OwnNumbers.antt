@@ -20,7 +20,7 @@ use Rattle.own_model.proofs.TiedEvents.{IsReady, event_along}
 use Rattle.own_model.proofs.WholeHistories.{IsAt, bound_now, from_first, goes_from, named_app, one_more, uuid_on}
 use Rattle.own_model.specs.InOrder.{IsInOrder}
 use Rattle.own_model.specs.Isolation.{steps_in}
-use Rattle.own_model.specs.Laws.{About, AreTied, SharesNone, about_next, whose_of}
+use Rattle.own_model.specs.Laws.{About, AreTied, SharesNone, about_next}
 use Rattle.own_model.specs.Own.{Notes, event_noted, events_in, no_notes, noted, noted_from, own_app, replies_in}
 use Rattle.own_model.specs.Solo.{Solo, unopened}
 use Rattle.own_model.specs.Tied.{call_at}

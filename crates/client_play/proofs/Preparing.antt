@@ -1,11 +1,9 @@
 -- What is prepared before an SMC is what a client prepares there over any port.
-use Rattle.std.proofs.Common.{◌≡◌, ℕ, zero, suc, Bool, true, false, cond, List, Option, Some, None, refl, sym, ap, subst, ◌∙◌, eqb-true, true≢false}
+use Rattle.std.proofs.Common.{◌≡◌, ℕ, zero, suc, Bool, true, false, cond, Option, Some, None, refl, sym, ap, subst, ◌∙◌, eqb-true, true≢false}
 use Rattle.std.specs.Prelude.{◌↔◌, ◌==◌, IfSome}
-use Rattle.rpc_msgs.specs.declared.rpc.Rpc.{Rpc}
 use Rattle.std.proofs.lemmas.Bool.{eq-eqb}
-use Rattle.teec.specs.Calls.{Call}
-use Rattle.teec.specs.Rounds.{Calls, Cancels, Ended, Failed, Resumes, Stage}
-use Rattle.teec.specs.Runs.{AnswersCmd, AnswersMessage, AnswersRpc, Prepares, Scene, message_of}
+use Rattle.teec.specs.Rounds.{Calls, Cancels, Ended, Failed, Resumes}
+use Rattle.teec.specs.Runs.{AnswersCmd, AnswersMessage, AnswersRpc, Scene, message_of}
 use Rattle.teec_calls.specs.Places.{message_cookie}
 use Rattle.teec_calls.specs.declared.answer.RpcKind.{RpcKind}
 use Rattle.teec_calls.specs.declared.answer.RpcKind.TheVariants.{Alloc, Free, Interrupt, Cmd}

@@ -1,5 +1,5 @@
 -- One SMC that a core has served is that of a client's call on the core.
-use Rattle.std.proofs.Common.{◌≡◌, ℕ, ◌+◌, ◌≤◌, ◌^◌, Bool, true, false, List, [], ◌∷◌, ◌++◌, Option, Some, None, refl, sym, ap, subst, ◌∙◌}
+use Rattle.std.proofs.Common.{◌≡◌, ℕ, ◌+◌, ◌≤◌, ◌^◌, Bool, List, [], ◌∷◌, ◌++◌, Option, Some, None, refl, sym, ap, subst, ◌∙◌}
 use Rattle.std.specs.Prelude.{IsSome, ◌==◌, if◌then◌else◌, replicate}
 use Rattle.std.specs.Option.{option_and_then, option_map}
 use Rattle.std.proofs.lemmas.Bool.{le-ltb}
@@ -11,7 +11,7 @@ use Rattle.kernel_model.specs.Kernel.{Kernel}
 use Rattle.ns_ram.specs.Reads.{total_bytes}
 use Rattle.ns_ram.specs.Writes.{Write, lane_after}
 use Rattle.play_model.specs.Line.{Ret}
-use Rattle.play_model.specs.Play.{Play, enters, enters_with, lane_of, last_answer, leaves, told_last, unless_refused, with_event, with_line, with_writes, entry_event}
+use Rattle.play_model.specs.Play.{Play, enters, lane_of, last_answer, leaves, told_last, unless_refused, with_event, with_line, with_writes}
 use Rattle.play_model.proofs.EventsCome.{entries_are_read, exits_come}
 use Rattle.smc_abi.specs.declared.regs.Regs.{Regs}
 use Rattle.smc_port.specs.Smc.{Changes, Smc}

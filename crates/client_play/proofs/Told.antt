@@ -1,12 +1,11 @@
 -- Each printed result of a session whose application's sessions share no instance is told by the session's own machine: its call is in
 -- the first slot from its first entry to the exit that ends it.
-use Rattle.std.proofs.Common.{◌≡◌, ℕ, zero, suc, ◌+◌, ◌≤◌, ◌<◌, Bool, true, false, List, [], ◌∷◌, ◌++◌, length, take, replicate, Option, Some, None, refl, ap, subst, sym, ◌∙◌, arith}
-use Rattle.std.specs.Prelude.{All, IfSome, is_some, slice_get, slice_index_or, slice_set, ◌^◌, ◌==◌}
+use Rattle.std.proofs.Common.{◌≡◌, ℕ, zero, suc, ◌+◌, ◌≤◌, ◌<◌, false, List, [], ◌∷◌, ◌++◌, length, take, Option, Some, None, refl, ap, subst, sym, ◌∙◌, arith}
+use Rattle.std.specs.Prelude.{All, is_some, slice_get, slice_index_or, slice_set, ◌^◌, ◌==◌}
 use Rattle.std.specs.Option.{option_and_then, option_map_or}
 use Rattle.std.proofs.lemmas.List.{length-append}
 use Rattle.std.proofs.lemmas.List.Elements.{All-nil, All-push}
 use Rattle.std.proofs.lemmas.Option.{option_and_then_some}
-use Rattle.base.specs.NumberMap.{get}
 use Rattle.base.specs.Zeros.{zeros}
 use Rattle.base.proofs.MapLemmas.{All-get}
 use Rattle.client_text.specs.declared.script.ScriptCall.{ScriptCall}
@@ -27,9 +26,9 @@ use Rattle.kernel_model.specs.SoundNumbers.{IsNumberedSession}
 use Rattle.kernel_model.proofs.Parts.{if-both}
 use Rattle.kernel_model.proofs.SoundNumbers.{numbered}
 use Rattle.msg_args.specs.Layout.{origin_at, ret_at}
-use Rattle.ns_ram.specs.Writes.{Write, lane_after}
+use Rattle.ns_ram.specs.Writes.{lane_after}
 use Rattle.ns_ram.proofs.WriteList.{lane_after-append}
-use Rattle.own_model.specs.Own.{Notes, call_noted, event_in, event_noted, event_of, no_notes, noted, numbered as with_number, own_app}
+use Rattle.own_model.specs.Own.{Notes, call_noted, event_in, event_of, no_notes, noted, numbered as with_number, own_app}
 use Rattle.own_model.specs.Tied.{call_in}
 use Rattle.own_model.specs.declared.own_event.OwnEvent.{OwnEvent}
 use Rattle.own_model.proofs.KeptSessions.{kept_sessions_known, noted-append}

@@ -48,7 +48,7 @@ use Rattle.teec_calls.specs.declared.answer.RpcKind.{RpcKind}
 use Rattle.teec_calls.specs.declared.answer.RpcKind.TheVariants as rpc
 use Rattle.teec_calls.specs.declared.answer.Said.TheVariants.{Finished, Returned}
 use Rattle.client_play.specs.Standing.{Standing, play_of, steps_granted, visit_with}
-use Rattle.client_play.proofs.NewCalls.{Lasting, OnLane, TakesSlot, lasting, made_on}
+use Rattle.client_play.proofs.NewCalls.{OnLane, TakesSlot, lasting, made_on}
 
 -- ---- what stays of a call
 

@@ -1,6 +1,6 @@
 -- What a client does before each SMC of a call: the writes to RAM that prepare it. Which SMC comes next, by the answers so far,
 -- is that of each client (`teec`).
-use Rattle.std.specs.Prelude.{ℕ, zero, suc, List, [], ◌==◌, if◌then◌else◌}
+use Rattle.std.specs.Prelude.{ℕ, zero, suc, List, ◌==◌, if◌then◌else◌}
 use Rattle.ns_ram.specs.Writes.{Write}
 use Rattle.supplicant.specs.Supplicant.{Storage}
 use Rattle.teec.specs.Calls.{Call, cancel_writes}

@@ -11,7 +11,7 @@ use Rattle.ns_ram.specs.Lane.{bytes_at}
 use Rattle.ns_ram.specs.Writes.{Write}
 use Rattle.rpc_msgs.specs.Request.{request_arg}
 use Rattle.rpc_msgs.specs.declared.rpc.Rpc.{Rpc}
-use Rattle.rpc_msgs.specs.declared.rpc.Rpc.TheVariants.{Time, Sleep, Wake, Suspend, FsOpen, FsCreate, FsClose, FsRead, FsWrite, FsRemove}
+use Rattle.rpc_msgs.specs.declared.rpc.Rpc.TheVariants.{FsOpen, FsCreate, FsRead, FsWrite, FsRemove}
 use Rattle.rpc_requests.specs.Answering.{refusal_writes, reply_writes}
 use Rattle.rpc_requests.specs.Candidate.{front_of, rpc_in}
 use Rattle.supplicant.specs.Supplicant.{Storage, answered}

@@ -8,6 +8,9 @@ pub returns : goal.returns
 unfolding zeros digits hex_on_literals
 returns c = record {
   adds = refl;
+  places = refl;
+  opens = refl;
+  replies = refl;
   closed = refl;
   cancelled = refl;
   nothing = refl;
