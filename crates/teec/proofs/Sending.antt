@@ -98,11 +98,11 @@ call_with {W = W} {seen = seen} {now = now} R ram made is cancel_after arg op se
 
 -- a fault is passed on
 pub run_stopped : {A : Type 0} (limits : Limits) (call : Call) (old : Scene) (old_made : List Smc) (result : Result A TeecFault) (fault : TeecFault) (new : Scene) (new_made : List Smc) (has_room : Regs → Bool)
-    → IsErrAnd result (λ other. other ≡ fault) → Stopped limits call (moment old.ram old_made old.storage (Calls 0)) new_made has_room fault
+    → IsErrAnd result (λ other. other ≡ fault) → Stopped limits call (moment old.ram old_made old.storage (Calls 0)) new new_made has_room fault
     → HasRun limits call old old_made result new new_made has_room
 run_stopped limits call old old_made (Ok value) fault new new_made has_room is stopped = absurd is
 run_stopped limits call old old_made (Err other) fault new new_made has_room is stopped =
-    subst (λ (fault : TeecFault). Stopped limits call (moment old.ram old_made old.storage (Calls 0)) new_made has_room fault) (sym is) stopped
+    subst (λ (fault : TeecFault). Stopped limits call (moment old.ram old_made old.storage (Calls 0)) new new_made has_room fault) (sym is) stopped
 
 pub retried_kept : {A : Type 0} (result : Result A TeecFault) (fault : TeecFault) (old new : Storage) (number : ℕ)
     → IsErrAnd result (λ other. other ≡ fault) → (ends_client fault ≡ None → new ≡ old) → IsErrOf result (Retried number) → new ≡ old

@@ -59,22 +59,24 @@ tried_taken limits call old start start_made refused now new now_made new_made a
     (first_taken limits refused answer (said answer) other) went
 
 -- the port refused the next SMC
-pub tried_stopped : (limits : Limits) (call : Call) (old start : Scene) (start_made : List Smc) (refused : ℕ) (now : Scene) (now_made new_made : List Smc) (has_room : Regs → Bool) (fault : TeecFault)
-    → refused < limits.retries → HasTried limits call old start start_made refused now now_made → new_made ≡ now_made
+pub tried_stopped : (limits : Limits) (call : Call) (old start : Scene) (start_made : List Smc) (refused : ℕ) (now : Scene) (now_made : List Smc) (new : Scene) (new_made : List Smc) (has_room : Regs → Bool) (fault : TeecFault)
+    → Prepares call (Calls 0) old start → refused < limits.retries → HasTried limits call old start start_made refused now now_made → new ≡ now → new_made ≡ now_made
     → ((stage : Stage) → regs_at stage ≡ Some (call_with_arg argument_at) → IsStop stage has_room fault)
-    → Stopped limits call (moment old.ram start_made old.storage (Calls 0)) new_made has_room fault
-tried_stopped limits call old start start_made zero now now_made new_made has_room fault less (same, stays) unmade stops =
-    stopped_at limits call (moment old.ram start_made old.storage (Calls 0)) new_made has_room fault (sym (unmade ∙ stays)) (stops (Calls 0) refl)
-tried_stopped limits call old start start_made (suc refused) now now_made new_made has_room fault less tried unmade stops =
+    → Stopped limits call (moment old.ram start_made old.storage (Calls 0)) new new_made has_room fault
+tried_stopped limits call old start start_made zero now now_made new new_made has_room fault prepared less (same, stays) unchanged unmade stops =
+    stopped_at limits call (moment old.ram start_made old.storage (Calls 0)) new new_made has_room fault (sym (unmade ∙ stays)) (stops (Calls 0) refl)
+    (λ spent. unchanged ∙ same ∙ prepared)
+tried_stopped limits call old start start_made (suc refused) now now_made new new_made has_room fault prepared less tried unchanged unmade stops =
     let before = subst (λ (stage : Stage). Went limits call (moment old.ram start_made old.storage (Calls 0)) (moment now.ram now_made now.storage stage)) (tries_left limits refused less) tried in
-    stopped_then limits call (moment old.ram start_made old.storage (Calls 0)) (moment now.ram now_made now.storage (Calls (suc refused))) new_made has_room fault before
-    (stopped_at limits call (moment now.ram now_made now.storage (Calls (suc refused))) new_made has_room fault (sym unmade) (stops (Calls (suc refused)) refl))
+    stopped_then limits call (moment old.ram start_made old.storage (Calls 0)) (moment now.ram now_made now.storage (Calls (suc refused))) new new_made has_room fault before
+    (stopped_at limits call (moment now.ram now_made now.storage (Calls (suc refused))) new new_made has_room fault (sym unmade) (stops (Calls (suc refused)) refl)
+    (λ spent. unchanged))
 
 -- no thread was free, as often as the client tries
 pub tried_enough : (limits : Limits) (call : Call) (old start : Scene) (start_made : List Smc) (refused : ℕ) (now : Scene) (now_made : List Smc) (has_room : Regs → Bool)
     → refused ≡ limits.retries → 1 ≤ limits.retries → HasTried limits call old start start_made refused now now_made
-    → Stopped limits call (moment old.ram start_made old.storage (Calls 0)) now_made has_room (Retried limits.retries)
+    → Stopped limits call (moment old.ram start_made old.storage (Calls 0)) now now_made has_room (Retried limits.retries)
 tried_enough limits call old start start_made zero now now_made has_room all one tried = absurd (omega arith)
 tried_enough limits call old start start_made (suc refused) now now_made has_room all one tried =
     let before = subst (λ (stage : Stage). Went limits call (moment old.ram start_made old.storage (Calls 0)) (moment now.ram now_made now.storage stage)) (last_try limits refused all) tried in
-    record { last = moment now.ram now_made now.storage (Failed (Retried limits.retries)); went = before; all_made = refl; stop = refl }
+    record { last = moment now.ram now_made now.storage (Failed (Retried limits.retries)); went = before; all_made = refl; stop = refl; prepared = λ wrong. absurd cc }

@@ -54,7 +54,7 @@ abbrev pub HasRun : {A : Type 0} → Limits → Call → Scene → List Smc → 
 HasRun limits call old old_made (Ok value) new new_made has_room =
     Went limits call (moment old.ram old_made old.storage (Calls 0)) (moment new.ram new_made new.storage Ended)
 HasRun limits call old old_made (Err fault) new new_made has_room =
-    Stopped limits call (moment old.ram old_made old.storage (Calls 0)) new_made has_room fault
+    Stopped limits call (moment old.ram old_made old.storage (Calls 0)) new new_made has_room fault
 
 -- the client has failed with this fault now, if it was one that ends it
 abbrev pub KeepsFault : {A : Type 0} → {W : Type 0} → Result A TeecFault → Calling W → Type 0

@@ -128,13 +128,15 @@ pub record Went (limits : Limits) (call : Call) (old new : Moment) : Type 0 wher
   pub made : new.made ≡ old.made ++ smcs
   pub runs : Runs limits call old.stage old.scene smcs new.stage new.scene
 
--- the call went to a moment at which it stopped with a fault, when these SMCs had been made. A fault of its own is its stage;
--- where there is no room, or no memory, its next SMC wasn't made
-pub record Stopped (limits : Limits) (call : Call) (old : Moment) (made : List Smc) (has_room : Regs → Bool) (fault : TeecFault) : Type 0 where
-  pub last : Moment
-  pub went : Went limits call old last
-  pub all_made : last.made ≡ made
-  pub stop : IsStop last.stage has_room fault
+-- the call went to a moment at which it stopped with a fault, when these SMCs had been made, and this stands now. A fault of its
+-- own is its stage; where there is no room, or no memory, its next SMC wasn't made, and where there is no room it was prepared
+pub record Stopped (limits : Limits) (call : Call) (old : Moment) (now : Scene) (made : List Smc) (has_room : Regs → Bool) (fault : TeecFault) : Type 0
+  where
+    pub last : Moment
+    pub went : Went limits call old last
+    pub all_made : last.made ≡ made
+    pub stop : IsStop last.stage has_room fault
+    pub prepared : fault ≡ Spent → Prepares call last.stage last.scene now
 
 -- the moment of this RAM, of these SMCs, of this storage
 abbrev pub moment : List ℕ → List Smc → Storage → Stage → Moment

@@ -52,7 +52,7 @@ impl<W: World> Line<W> {
         ensures stopped { IfErr result (λ fault. (call : Call) (old : Scene)
             → IsPrepared call session old (scene_of (W.ram self.old.world) self.old.supplicant)
             → Stopped limits.now call (moment old.ram (W.made self.old.world) old.storage (Calls 0))
-            (W.made self.new.world) (W.has_room self.new.world) fault) }
+            (scene_of (W.ram self.new.world) self.new.supplicant) (W.made self.new.world) (W.has_room self.new.world) fault) }
         ensures storage { IfErr result (λ fault. ends_client fault ≡ None → self.new.supplicant ≡ self.old.supplicant) }
     {
         let answer = self.call_until_taken(limits)?;
@@ -70,7 +70,7 @@ impl<W: World> Line<W> {
         ensures stopped { IfErr result (λ fault. (call : Call) (old : Scene)
             → IsPrepared call call.session old (scene_of (W.ram self.old.world) self.old.supplicant)
             → Stopped limits.now call (moment old.ram (W.made self.old.world) old.storage (Calls 0))
-            (W.made self.new.world) (W.has_room self.new.world) fault) }
+            (scene_of (W.ram self.new.world) self.new.supplicant) (W.made self.new.world) (W.has_room self.new.world) fault) }
         ensures storage { self.new.supplicant ≡ self.old.supplicant }
     {
         for tries in 0..limits.retries {
@@ -97,7 +97,7 @@ impl<W: World> Line<W> {
         ensures stopped { IfErr result (λ fault. (call : Call) → call.session ≡ session
             → Stopped limits.now call (moment (W.ram self.old.world) (W.made self.old.world) self.old.supplicant
             (after_resume limits.now 0 first (said first)))
-            (W.made self.new.world) (W.has_room self.new.world) fault) }
+            (scene_of (W.ram self.new.world) self.new.supplicant) (W.made self.new.world) (W.has_room self.new.world) fault) }
         ensures ends { IfErr result (λ fault. is_some (ends_client fault) ≡ true) }
     {
         let mut answer = first;
@@ -131,7 +131,7 @@ impl<W: World> Line<W> {
         ensures stopped { IfErr result (λ fault. (call : Call) → call.session ≡ session
             → Stopped limits.now call (moment (W.ram self.old.world) (W.made self.old.world) self.old.supplicant
             (after_return limits.now returns rpc.now))
-            (W.made self.new.world) (W.has_room self.new.world) fault) }
+            (scene_of (W.ram self.new.world) self.new.supplicant) (W.made self.new.world) (W.has_room self.new.world) fault) }
         ensures ends { IfErr result (λ fault. is_some (ends_client fault) ≡ true) }
     {
         self.cancel_where_due(limits, session, returns + 1)?;
@@ -152,7 +152,7 @@ impl<W: World> Line<W> {
         ensures stopped { IfErr result (λ fault. (call : Call) (rpc : AnyReturn) → call.session ≡ session
             → Stopped limits.now call (moment (W.ram self.old.world) (W.made self.old.world) self.old.supplicant
             (before_answer limits.now number rpc))
-            (W.made self.new.world) (W.has_room self.new.world) fault) }
+            (scene_of (W.ram self.new.world) self.new.supplicant) (W.made self.new.world) (W.has_room self.new.world) fault) }
         ensures ends { IfErr result (λ fault. is_some (ends_client fault) ≡ true) }
     {
         if limits.cancels_at(number) {
@@ -170,7 +170,7 @@ impl<W: World> Line<W> {
             (moment (W.ram self.new.world) (W.made self.new.world) self.new.supplicant (Resumes returns rpc))) }
         ensures stopped { IfErr result (λ fault. (limits : AnyLimits) (call : Call) (returns : ℕ) (rpc : AnyReturn) → call.session ≡ session
             → Stopped limits call (moment (W.ram self.old.world) (W.made self.old.world) self.old.supplicant (Cancels returns rpc))
-            (W.made self.new.world) (W.has_room self.new.world) fault) }
+            (scene_of (W.ram self.new.world) self.new.supplicant) (W.made self.new.world) (W.has_room self.new.world) fault) }
         ensures ends { IfErr result (λ fault. is_some (ends_client fault) ≡ true) }
     {
         self.put_argument(CANCEL_AT, &cancel_argument(session));
@@ -189,7 +189,7 @@ impl<W: World> Line<W> {
             (after_resume limits returns answer (said answer)))) }
         ensures stopped { IfErr result (λ fault. (limits : AnyLimits) (call : Call) (returns : ℕ)
             → Stopped limits call (moment (W.ram self.old.world) (W.made self.old.world) self.old.supplicant (Resumes returns rpc.now))
-            (W.made self.new.world) (W.has_room self.new.world) fault) }
+            (scene_of (W.ram self.new.world) self.new.supplicant) (W.made self.new.world) (W.has_room self.new.world) fault) }
         ensures ends { IfErr result (λ fault. is_some (ends_client fault) ≡ true) }
     {
         self.answer_rpc(alloc, rpc)?;
@@ -248,6 +248,7 @@ impl<W: World> Line<W> {
         ensures made { IfOk result (λ answer. Makes (W.ram self.old.world) (W.made self.old.world) regs answer
             (W.ram self.new.world) (W.made self.new.world)) }
         ensures storage { self.new.supplicant ≡ self.old.supplicant }
+        ensures ram_stays { OnErr result (W.ram self.new.world ≡ W.ram self.old.world) }
         ensures made_stays { OnErr result (W.made self.new.world ≡ W.made self.old.world) }
         ensures stop { IfErr result (λ fault. (stage : Stage) → regs_at stage ≡ Some regs
             → IsStop stage (W.has_room self.new.world) fault) }

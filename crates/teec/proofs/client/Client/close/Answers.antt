@@ -15,7 +15,7 @@ returns-in_err-finish-clause-run g c = λ alive.
     run_stopped (limits_of c.args.self.now None) (close_call c.args.session) (scene_of (g.W.SmcPort.ram c.args.self.now.world) c.args.self.now.storage) (g.W.SmcPort.made c.args.self.now.world) c.from_residual-in_err-finish.result c.in_err-finish.field-0.0 (scene_of (g.W.SmcPort.ram c.finish.new.self.world) c.finish.new.self.storage) (g.W.SmcPort.made c.finish.new.self.world) (g.W.SmcPort.has_room c.finish.new.self.world)
     c.from_residual-in_err-finish.ensures.1
     (close_of
-    (λ (limits : Limits) (call : Call) (old : Scene) (made : List Smc). Stopped limits call (moment old.ram made old.storage (Calls 0)) (g.W.SmcPort.made c.finish.new.self.world) (g.W.SmcPort.has_room c.finish.new.self.world) c.in_err-finish.field-0.0)
+    (λ (limits : Limits) (call : Call) (old : Scene) (made : List Smc). Stopped limits call (moment old.ram made old.storage (Calls 0)) (scene_of (g.W.SmcPort.ram c.finish.new.self.world) c.finish.new.self.storage) (g.W.SmcPort.made c.finish.new.self.world) (g.W.SmcPort.has_room c.finish.new.self.world) c.in_err-finish.field-0.0)
     g.W.SmcPort.ram g.W.SmcPort.made c.self.view_is c.args.session c.close_argument.result c.put_argument.new.self.world c.put_argument.new.self.supplicant
     c.close_argument.ensures c.put_argument.ensures.ram c.put_argument.ensures.made c.put_argument.ensures.storage
     c.in_err-finish.ensures.run)

@@ -19,7 +19,7 @@ pub returns-in_err-run-clause-run : goal.returns-in_err-run-clause-run
 returns-in_err-run-clause-run g c = λ alive.
     run_stopped (limits_of c.args.self.now c.args.op.now.cancel_after) (invoke_call c.args.session c.args.func c.args.op.now c.args.sent) (scene_of (g.W.SmcPort.ram c.args.self.now.world) c.args.self.now.storage) (g.W.SmcPort.made c.args.self.now.world) c.from_residual-in_err-run.result c.in_err-run.field-0.0 (scene_of (g.W.SmcPort.ram c.run.new.self.world) c.run.new.self.storage) (g.W.SmcPort.made c.run.new.self.world) (g.W.SmcPort.has_room c.run.new.self.world)
     c.from_residual-in_err-run.ensures.1
-    (subst (λ (arg : MsgArg). Stopped (limits_of c.args.self.now c.args.op.now.cancel_after) (call_of arg c.args.op.now c.args.session) (moment (g.W.SmcPort.ram c.args.self.now.world) (g.W.SmcPort.made c.args.self.now.world) c.args.self.now.storage (Calls 0)) (g.W.SmcPort.made c.run.new.self.world) (g.W.SmcPort.has_room c.run.new.self.world) c.in_err-run.field-0.0)
+    (subst (λ (arg : MsgArg). Stopped (limits_of c.args.self.now c.args.op.now.cancel_after) (call_of arg c.args.op.now c.args.session) (moment (g.W.SmcPort.ram c.args.self.now.world) (g.W.SmcPort.made c.args.self.now.world) c.args.self.now.storage (Calls 0)) (scene_of (g.W.SmcPort.ram c.run.new.self.world) c.run.new.self.storage) (g.W.SmcPort.made c.run.new.self.world) (g.W.SmcPort.has_room c.run.new.self.world) c.in_err-run.field-0.0)
     c.invoke_argument-arg.ensures c.in_err-run.ensures.run)
 
 pub returns-in_err-run-clause-causes : goal.returns-in_err-run-clause-causes

@@ -9,7 +9,7 @@ pub returns-in_err-cancel_where_due-clause-stopped : goal.returns-in_err-cancel_
 returns-in_err-cancel_where_due-clause-stopped g c =
     passed_on c.from_residual.result c.in_err-cancel_where_due.field-0.0 _ c.from_residual.ensures.1 (λ call same.
     return_stopped c.args.limits.now call c.args.returns (c.args.returns + 1) c.args.rpc.now (scene_of (g.W.SmcPort.ram c.args.self.now.world) c.args.self.now.supplicant)
-    (g.W.SmcPort.made c.args.self.now.world) (g.W.SmcPort.made c.cancel_where_due.new.self.world) (g.W.SmcPort.has_room c.cancel_where_due.new.self.world)
+    (g.W.SmcPort.made c.args.self.now.world) (scene_of (g.W.SmcPort.ram c.cancel_where_due.new.self.world) c.cancel_where_due.new.self.supplicant) (g.W.SmcPort.made c.cancel_where_due.new.self.world) (g.W.SmcPort.has_room c.cancel_where_due.new.self.world)
     c.in_err-cancel_where_due.field-0.0 c.requires refl (c.in_err-cancel_where_due.ensures.stopped call c.args.rpc.now same))
 
 pub returns-clause-went : goal.returns-clause-went
@@ -27,8 +27,8 @@ returns-clause-stopped g c =
     (Resumes (c.args.returns + 1) c.args.rpc.now) in
     IfErr-weaker c.resume.result _ _ (λ fault stopped call same.
     return_stopped c.args.limits.now call c.args.returns (c.args.returns + 1) c.args.rpc.now (scene_of (g.W.SmcPort.ram c.args.self.now.world) c.args.self.now.supplicant)
-    (g.W.SmcPort.made c.args.self.now.world) (g.W.SmcPort.made c.resume.new.self.world) (g.W.SmcPort.has_room c.resume.new.self.world) fault c.requires refl
+    (g.W.SmcPort.made c.args.self.now.world) (scene_of (g.W.SmcPort.ram c.resume.new.self.world) c.resume.new.self.supplicant) (g.W.SmcPort.made c.resume.new.self.world) (g.W.SmcPort.has_room c.resume.new.self.world) fault c.requires refl
     (stopped_then c.args.limits.now call
     (moment (g.W.SmcPort.ram c.args.self.now.world) (g.W.SmcPort.made c.args.self.now.world) c.args.self.now.supplicant (before_answer c.args.limits.now (c.args.returns + 1) c.args.rpc.now))
-    between (g.W.SmcPort.made c.resume.new.self.world) (g.W.SmcPort.has_room c.resume.new.self.world) fault
+    between (scene_of (g.W.SmcPort.ram c.resume.new.self.world) c.resume.new.self.supplicant) (g.W.SmcPort.made c.resume.new.self.world) (g.W.SmcPort.has_room c.resume.new.self.world) fault
     (c.in_ok-cancel_where_due.ensures.went call c.args.rpc.now same) (stopped c.args.limits.now call (c.args.returns + 1)))) c.resume.ensures.stopped

@@ -23,7 +23,7 @@ returns-in_err-answer-clause-stopped g c =
     passed_on c.from_residual-in_err-answer.result c.in_err-answer.field-0.0 _ c.from_residual-in_err-answer.ensures.1 (λ call same.
     stopped_then c.args.limits.now call (moment (g.W.SmcPort.ram c.args.self.now.world) (g.W.SmcPort.made c.args.self.now.world) c.args.self.now.supplicant (after_resume c.args.limits.now 0 c.args.first (said c.args.first)))
     (moment (g.W.SmcPort.ram c.loop-returns.self.world) (g.W.SmcPort.made c.loop-returns.self.world) c.loop-returns.self.supplicant (after_return c.args.limits.now c.loop-returns.returns c.in-Some.rpc))
-    (g.W.SmcPort.made c.answer_return.new.self.world) (g.W.SmcPort.has_room c.answer_return.new.self.world) c.in_err-answer.field-0.0
+    (scene_of (g.W.SmcPort.ram c.answer_return.new.self.world) c.answer_return.new.self.supplicant) (g.W.SmcPort.made c.answer_return.new.self.world) (g.W.SmcPort.has_room c.answer_return.new.self.world) c.in_err-answer.field-0.0
     (returned_next c.args.limits.now call (moment (g.W.SmcPort.ram c.args.self.now.world) (g.W.SmcPort.made c.args.self.now.world) c.args.self.now.supplicant (after_resume c.args.limits.now 0 c.args.first (said c.args.first)))
     (scene_of (g.W.SmcPort.ram c.loop-returns.self.world) c.loop-returns.self.supplicant) (g.W.SmcPort.made c.loop-returns.self.world) c.loop-returns.returns c.loop-returns.answer c.in-Some.rpc
     (sym c.rpc_return.ensures ∙ c.in_ok-rpc.was ∙ ap returned_so c.in-Some.is) (c.loop-returns.invariant call same))

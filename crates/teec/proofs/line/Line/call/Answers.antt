@@ -2,7 +2,7 @@ use Rattle.std.proofs.Common.{refl}
 use Rattle.std.proofs.lemmas.Result.{IfErr-weaker, on_ok_weaker}
 use Rattle.teec_calls.specs.Answers.{said}
 use Rattle.teec.specs.Rounds.{Calls, Ended, after_resume}
-use Rattle.teec.specs.Runs.{moment}
+use Rattle.teec.specs.Runs.{moment, scene_of}
 use Rattle.teec.proofs.Going.{stopped_then, went_then}
 use Rattle.teec.proofs.line.Line.call.Goals as goal
 
@@ -22,6 +22,6 @@ returns-clause-stopped g c =
     stopped_then c.args.limits.now call (moment old.ram (g.W.SmcPort.made c.args.self.now.world) old.storage (Calls 0))
     (moment (g.W.SmcPort.ram c.call_until_taken.new.self.world) (g.W.SmcPort.made c.call_until_taken.new.self.world) c.call_until_taken.new.self.supplicant
     (after_resume c.args.limits.now 0 c.in_ok-answer.answer (said c.in_ok-answer.answer)))
-    (g.W.SmcPort.made c.answer_returns.new.self.world) (g.W.SmcPort.has_room c.answer_returns.new.self.world) fault
+    (scene_of (g.W.SmcPort.ram c.answer_returns.new.self.world) c.answer_returns.new.self.supplicant) (g.W.SmcPort.made c.answer_returns.new.self.world) (g.W.SmcPort.has_room c.answer_returns.new.self.world) fault
     (c.in_ok-answer.ensures.taken call old (record { session_is = refl; written = prepared.written }))
     (stopped call prepared.session_is)) c.answer_returns.ensures.stopped
