@@ -1,0 +1,15 @@
+pub mod Arrivals
+pub mod Arrived
+pub mod CallsRead
+pub mod Decided
+pub mod Entries
+pub mod Exits
+pub mod FewCalls
+pub mod Further
+pub mod GoneOut
+pub mod HasCome
+pub mod Logs
+pub mod NotesKept
+pub mod Plans
+pub mod Sessions
+pub mod WentOut

@@ -1,0 +1,62 @@
+-- What is told of a group by its notes.
+use Rattle.std.proofs.Common.{◌≡◌, ℕ, List, [], ◌∷◌, ◌++◌, Option, Some, None, refl, ap, ◌∙◌}
+use Rattle.std.proofs.Math.Logic.{∥∥₁_elim}
+use Rattle.std.proofs.lemmas.List.Elements.{filter_map-append}
+use Rattle.std.specs.Option.{option_map_or, option_to_list}
+use Rattle.std.specs.Prelude.{IfOk, Result, Ok, Err}
+use Rattle.base.specs.declared.no_memory.NoMemory.{NoMemory}
+use Rattle.event_journal.specs.declared.event.Event.{Event}
+use Rattle.group_model.specs.Read as group
+use Rattle.group_model.specs.declared.group_event.GroupEvent.{GroupEvent}
+use Rattle.group_model.specs.declared.group_reply.GroupReply.{GroupReply}
+use Rattle.instance_groups.proofs.GoneOut.{log_prop}
+use Rattle.instance_groups.specs.Journals.{events_in, group_events_of, group_replies_of, log_by, replies_in}
+use Rattle.instance_groups.specs.Noted.{AreNoted}
+use Rattle.instance_groups.specs.declared.notes.Notes.{Notes}
+use Rattle.kernel_model.specs.Application.{Application, Booted}
+use Rattle.kernel_model.specs.Instances.{app_of}
+use Rattle.kernel_state.specs.Setup.{application_of}
+use Rattle.kernel_state.specs.declared.setup.Application.{Application as CodeApp}
+
+-- what is told of bare notes is the definition's log
+pub log_so : (code : Notes) (boot : Booted) (events : List Event) (app : CodeApp) (told : List group.Logged)
+    → ∥ AreNoted code (group.noted boot events (application_of code.app)) ∥₁ → code.app ≡ app
+    → ((notes : group.Notes) → AreNoted code notes → told ≡ notes.log) → told ≡ (group.noted boot events (application_of app)).log
+log_so code boot events app told noted same tells =
+    ∥∥₁_elim noted (log_prop told (group.noted boot events (application_of app)).log)
+    (λ (are : AreNoted code (group.noted boot events (application_of code.app))).
+    tells (group.noted boot events (application_of code.app)) are
+    ∙ ap (λ (a : CodeApp). (group.noted boot events (application_of a)).log) same)
+
+-- with one event more there is its reply more, if it has one
+pub replies_more : (log : List group.Logged) (logged : group.Logged)
+    → replies_in (log ++ logged ∷ []) ≡ replies_in log ++ option_to_list logged.1
+replies_more log logged = filter_map-append (λ (one : group.Logged). one.1) log (logged ∷ [])
+    ∙ ap (λ (rest : List GroupReply). replies_in log ++ rest) (its logged.0 logged.1)
+  where
+    its : (event : GroupEvent) (told : Option GroupReply) → replies_in ((event, told) ∷ []) ≡ option_to_list told
+    its event None = refl
+    its event (Some reply) = refl
+
+-- the events of the log by an application, and its replies
+events_by : (boot : Booted) (history : List Event) (app : Option Application)
+    → events_in (log_by boot history app) ≡ option_map_or (group.group_events boot history) app []
+events_by boot history None = refl
+events_by boot history (Some app) = refl
+
+replies_by : (boot : Booted) (history : List Event) (app : Option Application)
+    → replies_in (log_by boot history app) ≡ option_map_or (group.group_replies boot history) app []
+replies_by boot history None = refl
+replies_by boot history (Some app) = refl
+
+pub events_are : {T : Type 0} (result : Result T NoMemory) (items : T → List GroupEvent) (log : List group.Logged) (boot : Booted)
+    (history : List Event) (uuid : List ℕ) → log ≡ log_by boot history (app_of boot uuid)
+    → IfOk result (λ x. items x ≡ events_in log) → IfOk result (λ x. items x ≡ group_events_of boot history uuid)
+events_are (Ok x) items log boot history uuid same e = e ∙ ap events_in same ∙ events_by boot history (app_of boot uuid)
+events_are (Err error) items log boot history uuid same e = tt
+
+pub replies_are : {T : Type 0} (result : Result T NoMemory) (items : T → List GroupReply) (log : List group.Logged) (boot : Booted)
+    (history : List Event) (uuid : List ℕ) → log ≡ log_by boot history (app_of boot uuid)
+    → IfOk result (λ x. items x ≡ replies_in log) → IfOk result (λ x. items x ≡ group_replies_of boot history uuid)
+replies_are (Ok x) items log boot history uuid same e = e ∙ ap replies_in same ∙ replies_by boot history (app_of boot uuid)
+replies_are (Err error) items log boot history uuid same e = tt

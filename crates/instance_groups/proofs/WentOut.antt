@@ -1,0 +1,132 @@
+-- What is noted of a group's call that goes out of its slot.
+use Rattle.std.proofs.Common.{◌≡◌, ℕ, Bool, true, false, List, [], ◌∷◌, Option, Some, None, refl, ap, sym, ◌∙◌}
+use Rattle.std.specs.Prelude.{if◌then◌else◌, ◌==◌}
+use Rattle.std.specs.Option.{option_and_then, option_map_or}
+use Rattle.base.specs.NumberMap.{get}
+use Rattle.group_model.specs.Read.{Notes, exit_noted, opened_in, with_reply}
+use Rattle.instance_groups.specs.Noted.{HasFinishedAs, opened_so}
+use Rattle.isolation.specs.Noted.{HasFinished, IsLeft, without_slot, woken_as}
+use Rattle.isolation.specs.Telling.{told_by, wakes_as}
+use Rattle.isolation.proofs.LeftCalls.{noted_finished, noted_left}
+use Rattle.job_model.specs.declared.call_kind.CallKind.{CallKind}
+use Rattle.job_model.specs.declared.call_kind.CallKind.TheVariants as kind
+use Rattle.kernel_model.specs.Codes.{success}
+use Rattle.kernel_model.specs.Exit.{slot_left}
+use Rattle.kernel_model.specs.Kernel.{CallPhase, Free, PendingCall, Suspended}
+use Rattle.kernel_model.specs.Leaving.{Leaving, Interrupted, WantsBuffer, Requests, FreesBuffer, Finishes, leaving_of}
+use Rattle.own_model.specs.Own as own
+use Rattle.own_model.specs.declared.own_reply.OwnReply.{OwnReply}
+use Rattle.rpc_cont.specs.declared.cont.Cont.{Cont}
+
+-- ---- the notes behind it
+
+-- with the reply, if there is one, and these numbers
+abbrev pub gone_noted : Notes → ℕ → Option ℕ → Option OwnReply → own.Numbering → Notes
+gone_noted notes number opened told numbers =
+    record (option_map_or (with_reply number notes opened) told notes) { numbering = numbers }
+
+-- ---- as those of a session with the same numbers
+
+module _ (numbers : own.Numbering) where
+  abbrev beside : own.Notes
+  beside = record own.no_notes { numbering = numbers }
+
+  abbrev first_told : List own.Logged → Option OwnReply
+  first_told [] = None
+  first_told (logged ∷ rest) = logged.1
+
+  shown : (number : ℕ) (told : Option OwnReply) → first_told (option_map_or (own.with_reply number beside) told beside).log ≡ told
+  shown number None = refl
+  shown number (Some reply) = refl
+
+  abbrev ReplyOf : ℕ → PendingCall → Option OwnReply
+  ReplyOf slot call = own.reply_of (own.woken_in numbers slot call.phase) call.phase (leaving_of slot call)
+
+  abbrev NumbersOf : ℕ → PendingCall → own.Numbering
+  NumbersOf slot call = own.slot_kept (own.with_wake numbers slot (own.woken_in numbers slot call.phase)) slot (leaving_of slot call)
+
+  left_reply : (slot : ℕ) (call : PendingCall) (cont : Cont (List ℕ)) → IsLeft slot call cont
+      → ReplyOf slot call ≡ told_by cont (woken_as numbers slot (wakes_as cont))
+  left_reply slot call cont is =
+      sym (shown 0 (ReplyOf slot call))
+      ∙ ap (λ (n : own.Notes). first_told n.log) (noted_left beside slot 0 call cont is)
+      ∙ shown 0 (told_by cont (woken_as numbers slot (wakes_as cont)))
+
+  left_numbers : (slot : ℕ) (call : PendingCall) (cont : Cont (List ℕ)) → IsLeft slot call cont
+      → NumbersOf slot call ≡ own.with_wake numbers slot (woken_as numbers slot (wakes_as cont))
+  left_numbers slot call cont is = ap (λ (n : own.Notes). n.numbering) (noted_left beside slot 0 call cont is)
+
+  end_reply : (slot : ℕ) (call : PendingCall) (told : OwnReply) → HasFinished slot call told → ReplyOf slot call ≡ Some told
+  end_reply slot call told is =
+      sym (shown 0 (ReplyOf slot call))
+      ∙ ap (λ (n : own.Notes). first_told n.log) (noted_finished beside slot 0 call told is)
+
+  end_numbers : (slot : ℕ) (call : PendingCall) (told : OwnReply) → HasFinished slot call told
+      → NumbersOf slot call ≡ without_slot numbers slot
+  end_numbers slot call told is = ap (λ (n : own.Notes). n.numbering) (noted_finished beside slot 0 call told is)
+
+-- ---- what it has opened
+
+module _ (notes : Notes) (call : PendingCall) where
+  -- one that stays in its slot, nothing
+  nothing_opened : (of : CallKind) (leaving : Leaving) (left : PendingCall) → slot_left call leaving ≡ Suspended call.client left
+      → opened_in notes call of leaving ≡ None
+  nothing_opened kind.Open Interrupted left e = refl
+  nothing_opened kind.Open WantsBuffer left e = refl
+  nothing_opened kind.Open (Requests place request) left e = refl
+  nothing_opened kind.Open (FreesBuffer buffer) left e = refl
+  nothing_opened kind.Open (Finishes result params) left e = absurd cc
+  nothing_opened (kind.Invoke func) leaving left e = refl
+  nothing_opened kind.Close leaving left e = refl
+  nothing_opened kind.Settled leaving left e = refl
+
+  looked_up : (session : ℕ) (test : Bool)
+      → (if test then get notes.sessions session else None)
+      ≡ option_and_then (get notes.sessions) (if test then Some session else None)
+  looked_up session true = refl
+  looked_up session false = refl
+
+  -- one that has finished, what its reply says
+  end_opened : (of : CallKind) (leaving : Leaving) (woken : Option ℕ) (phase : CallPhase) (told : OwnReply)
+      → slot_left call leaving ≡ Free → own.reply_of woken phase leaving ≡ Some told
+      → opened_in notes call of leaving ≡ option_and_then (get notes.sessions) (opened_so of call.session told)
+  end_opened kind.Open Interrupted woken phase told free is = absurd cc
+  end_opened kind.Open WantsBuffer woken phase told free is = absurd cc
+  end_opened kind.Open (Requests place request) woken phase told free is = absurd cc
+  end_opened kind.Open (FreesBuffer buffer) woken phase told free is = absurd cc
+  end_opened kind.Open (Finishes result params) woken phase told free is =
+      let same : own.ended result params ≡ told = cc in
+      looked_up call.session (result.result == success)
+      ∙ ap (λ (r : OwnReply). option_and_then (get notes.sessions) (opened_so kind.Open call.session r)) same
+  end_opened (kind.Invoke func) leaving woken phase told free is = refl
+  end_opened kind.Close leaving woken phase told free is = refl
+  end_opened kind.Settled leaving woken phase told free is = refl
+
+-- ---- both
+
+pub group_left : (notes : Notes) (slot number : ℕ) (call : PendingCall) (cont : Cont (List ℕ)) → IsLeft slot call cont
+    → exit_noted notes slot call number
+    ≡ gone_noted notes number None (told_by cont (woken_as notes.numbering slot (wakes_as cont)))
+    (own.with_wake notes.numbering slot (woken_as notes.numbering slot (wakes_as cont)))
+group_left notes slot number call cont is =
+    ap (λ (o : Option ℕ). gone_noted notes number o (ReplyOf notes.numbering slot call) (NumbersOf notes.numbering slot call))
+    (nothing_opened notes call call.kind (leaving_of slot call) is.left is.in_slot)
+    ∙ ap (λ (r : Option OwnReply). gone_noted notes number None r (NumbersOf notes.numbering slot call))
+    (left_reply notes.numbering slot call cont is)
+    ∙ ap (λ (n : own.Numbering). gone_noted notes number None (told_by cont (woken_as notes.numbering slot (wakes_as cont))) n)
+    (left_numbers notes.numbering slot call cont is)
+
+pub group_finished : (notes : Notes) (slot number : ℕ) (call : PendingCall) (told : OwnReply) (opened : Option ℕ)
+    → HasFinishedAs slot call told opened
+    → exit_noted notes slot call number
+    ≡ gone_noted notes number (option_and_then (get notes.sessions) opened) (Some told) (without_slot notes.numbering slot)
+group_finished notes slot number call told opened is =
+    let reply = end_reply notes.numbering slot call told is.finished in
+    ap (λ (o : Option ℕ). gone_noted notes number o (ReplyOf notes.numbering slot call) (NumbersOf notes.numbering slot call))
+    (end_opened notes call call.kind (leaving_of slot call) (own.woken_in notes.numbering slot call.phase) call.phase told
+    is.finished.free reply
+    ∙ ap (option_and_then (get notes.sessions)) (sym is.opened))
+    ∙ ap (λ (r : Option OwnReply). gone_noted notes number (option_and_then (get notes.sessions) opened) r
+    (NumbersOf notes.numbering slot call)) reply
+    ∙ ap (λ (n : own.Numbering). gone_noted notes number (option_and_then (get notes.sessions) opened) (Some told) n)
+    (end_numbers notes.numbering slot call told is.finished)

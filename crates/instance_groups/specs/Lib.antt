@@ -1,0 +1,4 @@
+pub mod Arriving
+pub mod Journals
+pub mod Noted
+pub mod Replaying

@@ -1,0 +1,93 @@
+//! What is noted of a processor that has come in.
+ghost use Rattle.std.specs.Prelude.{◌≡◌, ◌<◌, List};
+ghost use Rattle.instance_groups.specs.Arriving.{watch};
+ghost use Rattle.instance_groups.specs.Noted.{HasNumbersLeft, session_of};
+ghost use Rattle.instance_groups.specs.Replaying.{HasArrived, HasArrivedIn, IsEntryNoted};
+ghost use Rattle.kernel_entry.specs.declared.visitor.Visitor.{Visitor as AnyVisitor};
+ghost use Rattle.kernel_model.specs.Application.{Booted};
+ghost use Rattle.kernel_model.specs.Kernel.{Kernel};
+ghost use Rattle.kernel_state.specs.Entering.{HasWork};
+ghost use Rattle.kernel_state.specs.Setup.{application_of};
+ghost use Rattle.ns_ram.specs.declared.read.Read.{Read as AnyRead};
+
+use crate::arriving::{Arrival, NewCall, Resumed};
+use crate::notes::Notes;
+use base::NoMemory;
+use isolation::errand_of;
+use kernel_entry::Visitor;
+use kernel_state::{Carried, Core, Errand, Work};
+
+/// The kernel's session of the call that a processor carries.
+fn session_of(call: &Carried) -> u32
+    ensures { result ≡ session_of call.now }
+{
+    match call {
+        Carried::Nothing => 0,
+        Carried::Resting(cont) | Carried::Running(cont) => cont.session,
+    }
+}
+
+/// Notes a new call that has come into a slot.
+fn has_come_new(notes: &mut Notes, slot: u8, call: NewCall, work: &Work) -> Result<(), NoMemory>
+    requires slot { slot < 16 }
+    requires few { HasNumbersLeft notes.old }
+    ensures noted { (boot : Booted) (kernel next : Kernel) (visitor : AnyVisitor) (reads : List AnyRead)
+        → HasArrivedIn (watch boot (application_of notes.old.app) kernel) next visitor reads (Arrival.New call) work.now slot
+        → IsEntryNoted boot notes.old notes.new kernel next visitor reads result }
+    ensures app { notes.new.app ≡ notes.old.app }
+{
+    notes.comes_in(slot, session_of(&work.call), call)
+}
+
+/// Notes a call that has come back into its slot.
+fn has_come_back(notes: &mut Notes, slot: u8, came: Resumed, work: &Work) -> Result<(), NoMemory>
+    ensures noted { (boot : Booted) (kernel next : Kernel) (visitor : AnyVisitor) (reads : List AnyRead)
+        → HasArrivedIn (watch boot (application_of notes.old.app) kernel) next visitor reads (Arrival.Back came) work.now slot
+        → IsEntryNoted boot notes.old notes.new kernel next visitor reads result }
+    ensures app { notes.new.app ≡ notes.old.app }
+{
+    match notes.number_in(slot) {
+        Some(number) => notes.comes_back(number, came),
+        None => Ok(()),
+    }
+}
+
+/// Notes what has come into a slot.
+fn has_come_for(notes: &mut Notes, slot: u8, arrival: Arrival, work: &Work) -> Result<(), NoMemory>
+    requires slot { slot < 16 }
+    requires few { HasNumbersLeft notes.old }
+    ensures noted { (boot : Booted) (kernel next : Kernel) (visitor : AnyVisitor) (reads : List AnyRead)
+        → HasArrivedIn (watch boot (application_of notes.old.app) kernel) next visitor reads arrival work.now slot
+        → IsEntryNoted boot notes.old notes.new kernel next visitor reads result }
+    ensures app { notes.new.app ≡ notes.old.app }
+{
+    match arrival {
+        Arrival::New(call) => has_come_new(notes, slot, call, work),
+        Arrival::Back(came) => has_come_back(notes, slot, came, work),
+        Arrival::Nothing => Ok(()),
+    }
+}
+
+/// Notes that a processor has come in.
+pub(crate) fn has_come(
+    notes: &mut Notes,
+    core: &Core,
+    visitor: Visitor,
+    arrival: Arrival,
+    work: &Work,
+) -> Result<(), NoMemory>
+    requires cpu { visitor.cpu < 8 }
+    requires work { HasWork core.now work.now }
+    requires own { work.now.cpu ≡ visitor.cpu }
+    requires few { HasNumbersLeft notes.old }
+    ensures noted { (boot : Booted) (kernel next : Kernel) (reads : List AnyRead)
+        → HasArrived core.now.parts (watch boot (application_of notes.old.app) kernel) next visitor reads arrival work.now
+        → IsEntryNoted boot notes.old notes.new kernel next visitor reads result }
+    ensures app { notes.new.app ≡ notes.old.app }
+{
+    match errand_of(core.parts.processors.as_slice(), visitor.cpu) {
+        Some(Errand::InSlot(slot)) => has_come_for(notes, slot, arrival, work),
+        Some(Errand::Fixed(_)) => Ok(()),
+        None => unreachable!(),
+    }
+}

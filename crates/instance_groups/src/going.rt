@@ -1,0 +1,103 @@
+//! What is noted of a processor that goes out.
+ghost use Rattle.std.specs.Prelude.{◌≡◌, ◌<◌, IfOk, Some, slice_get};
+ghost use Rattle.std.specs.Option.{option_and_then};
+ghost use Rattle.instance_groups.specs.Noted.{has_succeeded, opened_by, opened_so};
+ghost use Rattle.instance_groups.specs.Replaying.{IsExitNoted};
+ghost use Rattle.isolation.specs.Replaying.{errand_at};
+ghost use Rattle.kernel_state.specs.Leaving.{CanLeave};
+
+use crate::arriving::is_open;
+use crate::notes::Notes;
+use base::NoMemory;
+use isolation::{errand_of, left_in, told_at_end};
+use job_model::CallKind;
+use kernel_exit::leave;
+use kernel_state::{Carried, Core, Errand, Ran};
+use ns_ram::Lane;
+use own_model::OwnReply;
+use std::alloc::Global;
+
+/// The reply is that of a call which has succeeded.
+fn has_succeeded(told: &OwnReply) -> bool
+    ensures { result ≡ has_succeeded told.now }
+{
+    match told {
+        OwnReply::Ended { result, .. } => *result == 0,
+        _ => false,
+    }
+}
+
+/// The session that a call of this kind has opened, by what is told of it.
+fn opened_so(kind: CallKind, session: u32, told: &OwnReply) -> Option<u32>
+    ensures { result ≡ opened_so kind session told.now }
+{
+    if is_open(kind) && has_succeeded(told) {
+        Some(session)
+    } else {
+        None
+    }
+}
+
+/// The session that the call has opened that a processor carries, by what is told of it.
+fn opened_by(call: &Carried, told: &Option<OwnReply>) -> Option<u32>
+    ensures { result ≡ option_and_then (opened_by call.now) told.now }
+{
+    let told = told.as_ref()?;
+    match call {
+        Carried::Nothing => None,
+        Carried::Resting(cont) | Carried::Running(cont) => {
+            opened_so(cont.kind, cont.session, told)
+        }
+    }
+}
+
+/// A processor goes out from the call of a slot.
+fn goes_out_of(
+    alloc: Global,
+    core: &mut Core,
+    slot: u8,
+    ran: Ran,
+    lane: &mut Lane,
+    notes: &mut Notes,
+) -> Result<(), NoMemory>
+    requires slot { slot < 16 }
+    requires can { CanLeave core.old ran }
+    requires errand { errand_at (slice_get core.old.parts.processors.items ran.cpu) ≡ Some (Errand.InSlot slot) }
+    ensures noted { IfOk result (λ _. IsExitNoted core.old core.new notes.old notes.new ran lane.old lane.new) }
+    ensures app { notes.new.app ≡ notes.old.app }
+{
+    let Some(number) = notes.number_in(slot) else {
+        leave(core, ran, lane);
+        return Ok(());
+    };
+    let told = told_at_end(alloc, &ran.call)?;
+    let opened = opened_by(&ran.call, &told);
+    leave(core, ran, lane);
+    match (left_in(&core.parts.slots, slot), told) {
+        (Some(cont), _) => notes.goes_out(alloc, slot, number, cont),
+        (None, Some(told)) => notes.finishes(slot, number, opened, told),
+        (None, None) => unreachable!(),
+    }
+}
+
+/// A processor goes out, which has done its granted steps.
+pub(crate) fn goes_out(
+    alloc: Global,
+    core: &mut Core,
+    ran: Ran,
+    lane: &mut Lane,
+    notes: &mut Notes,
+) -> Result<(), NoMemory>
+    requires { CanLeave core.old ran }
+    ensures noted { IfOk result (λ _. IsExitNoted core.old core.new notes.old notes.new ran lane.old lane.new) }
+    ensures app { notes.new.app ≡ notes.old.app }
+{
+    match errand_of(core.parts.processors.as_slice(), ran.cpu) {
+        Some(Errand::InSlot(slot)) => goes_out_of(alloc, core, slot, ran, lane, notes),
+        Some(Errand::Fixed(_)) => {
+            leave(core, ran, lane);
+            Ok(())
+        }
+        None => unreachable!(),
+    }
+}

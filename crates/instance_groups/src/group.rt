@@ -1,0 +1,126 @@
+//! What happened to the sessions of an application, and what they were answered.
+ghost use Rattle.std.specs.Prelude.{◌≡◌, ◌++◌, IfOk};
+ghost use Rattle.std.specs.Option.{option_to_list};
+ghost use Rattle.instance_groups.specs.Journals.{IsLogOf, events_in, group_events_of, group_replies_of, replies_in};
+ghost use Rattle.isolation.specs.Journals.{IsJournal};
+ghost use Rattle.kernel_model.specs.Application.{booted};
+ghost use Rattle.native_tas.specs.Table.{entries};
+
+use crate::group_log::{GroupLog, Logged};
+use crate::replay::log_of;
+use base::NoMemory;
+use event_journal::Journal;
+use group_model::{GroupEvent, GroupReply};
+use isolation::Replay;
+use journal_replay::copy_boot;
+use native_tas::Natives;
+use std::alloc::Global;
+use ta_isa::Boot;
+use uuid::Uuid;
+
+/// The application of this UUID, and the events of its sessions with their replies, by the journal of a core of this boot that
+/// is legal, whose entries have read at most 2^28 bytes in all, and each of them the same byte wherever its reads share an
+/// address. No application and no events where the boot has none of this UUID. `NoMemory` where memory is wanting.
+pub fn read_group_log(
+    alloc: Global,
+    boot: &Boot,
+    natives: &Natives,
+    journal: &Journal,
+    uuid: Uuid,
+) -> Result<GroupLog, NoMemory>
+    requires { IsJournal (booted boot.now (entries natives.now)) journal.now.events }
+    ensures { IfOk result (IsLogOf (booted boot.now (entries natives.now)) journal.now.events uuid) }
+{
+    let mut replay = Replay::new(alloc, copy_boot(alloc, boot)?, natives)?;
+    let Some(app) = replay.core.parts.setup.application(&uuid)? else {
+        return Ok(GroupLog {
+            app: None,
+            entries: Vec::new(alloc),
+        });
+    };
+    let (app, entries) = log_of(alloc, &mut replay, journal.as_slice(), app)?;
+    Ok(GroupLog {
+        app: Some(app),
+        entries,
+    })
+}
+
+/// The event itself.
+fn event_of(logged: Logged) -> GroupEvent
+    ensures { result ≡ logged.0 }
+{
+    logged.0
+}
+
+/// The events of a log.
+fn events_in(alloc: Global, log: Vec<Logged>) -> Result<Vec<GroupEvent>, NoMemory>
+    ensures { IfOk result (λ events. events.items ≡ events_in log.items) }
+{
+    let mut events = Vec::with_capacity(alloc, log.len())?;
+    for logged in log {
+        events.push(event_of(logged))?;
+    }
+    Ok(events)
+}
+
+/// The reply of an event, if it has one.
+fn reply_of(logged: Logged) -> Option<GroupReply>
+    ensures { result ≡ logged.1 }
+{
+    logged.1
+}
+
+/// Adds a reply, if there is one.
+fn add(replies: &mut Vec<GroupReply>, told: Option<GroupReply>) -> Result<(), NoMemory>
+    ensures { IfOk result (λ _. replies.new.items ≡ replies.old.items ++ option_to_list told) }
+{
+    if let Some(reply) = told {
+        replies.push(reply)?;
+    }
+    Ok(())
+}
+
+/// The replies of a log.
+fn replies_in(alloc: Global, log: Vec<Logged>) -> Result<Vec<GroupReply>, NoMemory>
+    ensures { IfOk result (λ replies. replies.items ≡ replies_in log.items) }
+{
+    let mut replies = Vec::with_capacity(alloc, log.len())?;
+    for logged in log {
+        add(&mut replies, reply_of(logged))?;
+    }
+    Ok(replies)
+}
+
+/// What has happened to the sessions of the application of this UUID, by the journal of a core of this boot that is legal, whose
+/// entries have read at most 2^28 bytes in all, and each of them the same byte wherever its reads share an address. Nothing
+/// where the boot has no application of this UUID. `NoMemory` where memory is wanting.
+pub fn group_events(
+    alloc: Global,
+    boot: &Boot,
+    natives: &Natives,
+    journal: &Journal,
+    uuid: Uuid,
+) -> Result<Vec<GroupEvent>, NoMemory>
+    requires { IsJournal (booted boot.now (entries natives.now)) journal.now.events }
+    ensures { IfOk result (λ events. events.items
+        ≡ group_events_of (booted boot.now (entries natives.now)) journal.now.events uuid) }
+{
+    let log = read_group_log(alloc, boot, natives, journal, uuid)?;
+    events_in(alloc, log.entries)
+}
+
+/// What they were answered, by the same.
+pub fn group_replies(
+    alloc: Global,
+    boot: &Boot,
+    natives: &Natives,
+    journal: &Journal,
+    uuid: Uuid,
+) -> Result<Vec<GroupReply>, NoMemory>
+    requires { IsJournal (booted boot.now (entries natives.now)) journal.now.events }
+    ensures { IfOk result (λ replies. replies.items
+        ≡ group_replies_of (booted boot.now (entries natives.now)) journal.now.events uuid) }
+{
+    let log = read_group_log(alloc, boot, natives, journal, uuid)?;
+    replies_in(alloc, log.entries)
+}

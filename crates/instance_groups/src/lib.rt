@@ -1,0 +1,22 @@
+//! What happened to the sessions of an application, and what they were answered, read off the journal of a core.
+//!
+//! The journal is done again as `isolation` does it again for one session. What an entry and an exit are for the group is
+//! read off that core, as the definitions of `group_model` read it off the kernel, and noted.
+//!
+//! `group_log` has what is read off, `notes` what is noted, `arriving` what is seen of an entry and `coming` what is noted of
+//! one, `going` what is noted of a call that goes out, `replay` the core on which the journal is done again, and `group` what is
+//! offered.
+#![tactic(auto)]
+
+mod arriving;
+mod coming;
+mod going;
+mod group;
+mod group_log;
+mod notes;
+mod replay;
+
+pub use base::NoMemory;
+pub use group::{group_events, group_replies, read_group_log};
+pub use group_log::{GroupLog, Logged};
+pub use group_model::{GroupEvent, GroupReply};
