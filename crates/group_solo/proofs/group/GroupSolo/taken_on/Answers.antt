@@ -1,0 +1,38 @@
+use Rattle.std.proofs.Common.{◌≡◌, refl, sym, ap, subst, ◌∙◌}
+use Rattle.base.specs.NumberMap.{IsRising}
+use Rattle.group_model.specs.Group.{Group}
+use Rattle.kernel_model.specs.Kernel.{Runs}
+use Rattle.solo.proofs.Outgoing.{at_end, no_panic, not_over}
+use Rattle.group_solo.proofs.Outgoing.{asking_so, ending_so, in_phase_of, panicking_so, stops_at}
+use Rattle.group_solo.specs.declared.kept_call.KeptCall.{KeptCall}
+use Rattle.group_solo.proofs.group.GroupSolo.taken_on.Goals as goal
+
+pub returns-in-Interrupted-clause-going : goal.returns-in-Interrupted-clause-going
+returns-in-Interrupted-clause-going c most g own going job beside rising is runs room e =
+    let old = c.args.call.now in
+    let ran = c.runs_to_stop in
+    let left : KeptCall = record old { cont = ran.new.cont } in
+    asking_so c.args.self.now old left ran.result g own going most
+    (record { stops = ran.ensures.stops; asks = ran.ensures.asks; phase = ran.ensures.phase; stays = ran.ensures.stays }) refl
+    (not_over ran.result c.in-Interrupted.is) beside is room (stops_at old g own going job most (in_phase_of old own (Runs job) is runs) e)
+
+pub returns-in-Ended-clause-going : goal.returns-in-Ended-clause-going
+returns-in-Ended-clause-going c most g own going job beside rising is runs room e =
+    let old = c.args.call.now in
+    let ran = c.runs_to_stop in
+    let left : KeptCall = record old { cont = ran.new.cont } in
+    ending_so c.args.self.now c.ended.new.self old left c.ended.new.call ran.result g own going most
+    (record { stops = ran.ensures.stops; asks = ran.ensures.asks; phase = ran.ensures.phase; stays = ran.ensures.stays }) refl
+    (record { beside = c.ended.ensures.beside (subst IsRising (ap (λ (base : Group). base.sessions) beside) rising); wakes = c.ended.ensures.wakes; stays = c.ended.ensures.stays })
+    (no_panic ran.result _ c.in-Ended.is) (at_end ran.result _ c.in-Ended.is) beside is room
+    (stops_at old g own going job most (in_phase_of old own (Runs job) is runs) e)
+
+pub returns-in-Panicked-clause-going : goal.returns-in-Panicked-clause-going
+returns-in-Panicked-clause-going c most g own going job beside rising is runs room e =
+    let old = c.args.call.now in
+    let ran = c.runs_to_stop in
+    let left : KeptCall = record old { cont = ran.new.cont } in
+    panicking_so c.args.self.now c.panicked.new.self old left c.panicked.new.call ran.result g own going most _
+    (record { stops = ran.ensures.stops; asks = ran.ensures.asks; phase = ran.ensures.phase; stays = ran.ensures.stays }) refl
+    (record { beside = c.panicked.ensures.beside; wakes = c.panicked.ensures.wakes; stays = c.panicked.ensures.stays })
+    c.in-Panicked.is beside is room (stops_at old g own going job most (in_phase_of old own (Runs job) is runs) e)

@@ -1,0 +1,9 @@
+pub mod Calls
+pub mod Standing
+pub mod Found
+pub mod Ending
+pub mod Opening
+pub mod Coming
+pub mod GoingOut
+pub mod Beginning
+pub mod Stepping
