@@ -1,5 +1,5 @@
 -- A call that goes out as plain code stands for the machine's that does.
-use Rattle.std.proofs.Common.{◌≡◌, ℕ, ◌+◌, Bool, true, false, List, [], Option, None, refl, sym, ap, subst, add-zero, ◌∙◌}
+use Rattle.std.proofs.Common.{◌≡◌, ℕ, ◌+◌, Bool, true, List, [], Option, None, refl, sym, ap, subst, add-zero, ◌∙◌}
 use Rattle.std.specs.Prelude.{is_some}
 use Rattle.std.specs.Option.{option_and_then}
 use Rattle.base.specs.NumberMap.{NumberMap}

@@ -1,5 +1,5 @@
 -- What a call that goes out leaves.
-use Rattle.std.proofs.Common.{◌≡◌, ℕ, Bool, true, false, List, Option, Some, None, refl, sym, ap, subst, ◌∙◌}
+use Rattle.std.proofs.Common.{◌≡◌, ℕ, Bool, true, false, Option, Some, None, refl, sym, ap, subst, ◌∙◌}
 use Rattle.std.specs.Prelude.{◌&&◌, ◌||◌, not, if◌then◌else◌, is_some, slice_get, slice_set}
 use Rattle.std.specs.Global.{Box}
 use Rattle.std.specs.Option.{option_and_then}
@@ -16,7 +16,6 @@ use Rattle.own_model.specs.Own.{ended}
 use Rattle.own_model.specs.declared.own_reply.OwnReply.{OwnReply}
 use Rattle.own_model.specs.declared.own_reply.OwnReply.TheVariants as reply
 use Rattle.rpc_cont.specs.Conts.{kept_params}
-use Rattle.rpc_cont.specs.declared.cont.Cont.{Cont}
 use Rattle.rpc_msgs.specs.Request.{has_payload}
 use Rattle.rpc_msgs.specs.declared.rpc.Rpc.{Rpc}
 use Rattle.rpc_msgs.specs.declared.rpc.Rpc.TheVariants as rpc

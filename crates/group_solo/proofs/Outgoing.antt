@@ -18,10 +18,9 @@ use Rattle.rpc_cont.specs.declared.phase.Phase.TheVariants as phase
 use Rattle.rpc_cont.specs.declared.stop.ContStop.{ContStop}
 use Rattle.rpc_cont.specs.declared.stop.ContStop.TheVariants as stop
 use Rattle.rpc_msgs.specs.declared.rpc_buffer.RpcBuffer.{RpcBuffer}
-use Rattle.solo.proofs.Going.{Keeps}
 use Rattle.solo.proofs.Outgoing.{HasStopped, ends_as, keeps_run}
 use Rattle.solo.proofs.Stepped.{some_found}
-use Rattle.group_solo.proofs.Going.{HasRun, Shows, ended_so, panicked_so, unrun_so}
+use Rattle.group_solo.proofs.Going.{ended_so, panicked_so, unrun_so}
 use Rattle.group_solo.specs.Calls.{IsGroupCall}
 use Rattle.group_solo.specs.Ending.{after_end, after_panic, after_unrun, home_of, is_woken}
 use Rattle.group_solo.specs.GoingOut.{IsGoing}

@@ -1,5 +1,5 @@
 -- What a call leaves as it ends.
-use Rattle.std.specs.Prelude.{◌==◌, ℕ, Bool, false, Option, Some, None, find, if◌then◌else◌}
+use Rattle.std.specs.Prelude.{◌==◌, ℕ, Bool, false, Option, None, find, if◌then◌else◌}
 use Rattle.std.specs.Option.{option_map, option_map_or}
 use Rattle.group_model.specs.Group.{Group, GroupWaiter, instance_at, instance_back, sessions_ended, sessions_panicked, sessions_unrun}
 use Rattle.job_model.specs.declared.call_kind.CallKind.{CallKind}

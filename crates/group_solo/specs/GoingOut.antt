@@ -1,5 +1,5 @@
 -- A call that goes out.
-use Rattle.std.specs.Prelude.{◌≡◌, ℕ}
+use Rattle.std.specs.Prelude.{◌≡◌}
 use Rattle.group_model.specs.Group.{Going, Group}
 use Rattle.group_solo.specs.Calls.{IsGroupCall}
 use Rattle.group_solo.specs.Standing.{IsBeside}

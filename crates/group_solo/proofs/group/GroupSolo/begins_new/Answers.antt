@@ -1,4 +1,4 @@
-use Rattle.std.proofs.Common.{◌≡◌, ◌∙◌, refl, sym, ap, subst}
+use Rattle.std.proofs.Common.{◌∙◌, refl, sym, ap, subst}
 use Rattle.group_model.specs.Group.{GroupCall, fresh_call}
 use Rattle.kernel_model.specs.Kernel.{Waits}
 use Rattle.solo.proofs.Stepped.{on_err_always}

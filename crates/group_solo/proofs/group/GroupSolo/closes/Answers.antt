@@ -1,8 +1,7 @@
-use Rattle.std.proofs.Common.{◌≡◌, ◌∙◌, ap, subst, List}
+use Rattle.std.proofs.Common.{ap, subst}
 use Rattle.group_model.specs.Group.{works_or_waits}
 use Rattle.job_model.specs.Point.{no_params}
 use Rattle.job_model.specs.declared.call_kind.CallKind.TheVariants as kind
-use Rattle.job_model.specs.declared.entry_point.EntryPoint.{EntryPoint}
 use Rattle.solo.proofs.Adding.{on_ok}
 use Rattle.group_solo.proofs.Homes.{about_same, at_home, closing_same, found_is}
 use Rattle.group_solo.specs.Standing.{StandsFor, app_in}

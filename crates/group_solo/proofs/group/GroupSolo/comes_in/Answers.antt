@@ -1,4 +1,3 @@
-use Rattle.std.proofs.Common.{◌≡◌}
 use Rattle.std.proofs.lemmas.Result.{on_err_weaker}
 use Rattle.solo.proofs.Adding.{on_ok}
 use Rattle.group_solo.proofs.Adding.{added, reserved}

@@ -1,5 +1,4 @@
-use Rattle.std.proofs.Common.{◌≡◌, ◌<◌, ◌^◌, ℕ, arith, ap, sym, subst}
-use Rattle.base.specs.NumberMap.{IsRising}
+use Rattle.std.proofs.Common.{◌<◌, ◌^◌, arith}
 use Rattle.group_model.specs.Group.{Going, goes_out_in, going_in}
 use Rattle.solo.proofs.Stepped.{some_found}
 use Rattle.group_solo.proofs.Keeping.{runs_when_kept}

@@ -1,5 +1,5 @@
-use Rattle.std.proofs.Common.{◌≡◌, ◌∙◌, ℕ, ◌∷◌, [], List, sym, ap, subst}
-use Rattle.group_model.specs.Group.{About, about_home, works_or_waits}
+use Rattle.std.proofs.Common.{◌∙◌, List, ap, subst}
+use Rattle.group_model.specs.Group.{works_or_waits}
 use Rattle.job_model.specs.declared.call_kind.CallKind.TheVariants as kind
 use Rattle.job_model.specs.declared.entry_point.EntryPoint.{EntryPoint}
 use Rattle.solo.proofs.Adding.{on_ok}

@@ -1,4 +1,4 @@
-use Rattle.std.proofs.Common.{◌≡◌, refl, sym, ap, subst, ◌∙◌}
+use Rattle.std.proofs.Common.{refl, ap, subst}
 use Rattle.base.specs.NumberMap.{IsRising}
 use Rattle.group_model.specs.Group.{Group}
 use Rattle.kernel_model.specs.Kernel.{Runs}

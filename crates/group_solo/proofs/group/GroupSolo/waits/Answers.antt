@@ -1,4 +1,4 @@
-use Rattle.std.proofs.Common.{◌≡◌, ℕ, refl, ap, subst}
+use Rattle.std.proofs.Common.{ℕ, refl, subst}
 use Rattle.std.specs.Option.{option_copied}
 use Rattle.group_model.specs.Group.{fresh_call}
 use Rattle.kernel_model.specs.Kernel.{Waits}

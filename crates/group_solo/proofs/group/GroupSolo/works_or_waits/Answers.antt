@@ -1,4 +1,4 @@
-use Rattle.std.proofs.Common.{rules, ◌≡◌, ◌∙◌, ℕ, true, false, refl, sym, ap, subst}
+use Rattle.std.proofs.Common.{rules, ◌≡◌, ◌∙◌, true, false, refl, sym, ap, subst}
 use Rattle.std.specs.Option.{option_copied}
 use Rattle.begin_call.specs.Points.{points_of}
 use Rattle.group_model.specs.Group.{About, fresh_call, waits}
