@@ -1,5 +1,5 @@
 -- A call that comes back, and doesn't wait.
-use Rattle.std.proofs.Common.{◌⊎◌, inl, inr, ◌≡◌, ℕ, Bool, List, [], Option, Some, None, refl, sym, ap, subst, ◌∙◌}
+use Rattle.std.proofs.Common.{◌⊎◌, inl, inr, ◌≡◌, ℕ, List, [], Some, refl, sym, ap, subst, ◌∙◌}
 use Rattle.std.specs.Prelude.{◌||◌}
 use Rattle.base.specs.NumberMap.{get}
 use Rattle.group_model.specs.Group.{Group, GroupCall, comes_back_in, with_call}
@@ -18,7 +18,6 @@ use Rattle.solo.specs.Standing as alone_standing
 use Rattle.group_solo.specs.Calls.{IsGroupCall, alone}
 use Rattle.group_solo.specs.Standing.{HasCall}
 use Rattle.group_solo.specs.declared.kept_call.KeptCall.{KeptCall}
-use Rattle.ta_params.specs.declared.copied_params.CopiedParams.{CopiedParams}
 
 -- with a buffer where it was given one
 pub buffered : (old new : KeptCall) (call : GroupCall) (input : BackInput) → new ≡ record old { cont = new.cont } → IsGroupCall old call →

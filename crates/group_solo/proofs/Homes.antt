@@ -19,7 +19,6 @@ use Rattle.solo.proofs.Stepped.{some_found, some_map}
 use Rattle.group_solo.specs.Beginning.{Beginner, begun, counted}
 use Rattle.group_solo.specs.Found.{found_home}
 use Rattle.group_solo.specs.Standing.{IsBeside, app_in, sessions_of, without_calls}
-use Rattle.group_solo.specs.declared.found.Found.{Found}
 use Rattle.group_solo.specs.declared.found.Home as code
 use Rattle.group_solo.specs.declared.group.GroupSolo.{GroupSolo}
 use Rattle.ta_params.specs.declared.copied_params.CopiedParams.{CopiedParams}

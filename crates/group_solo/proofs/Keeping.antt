@@ -1,5 +1,5 @@
 -- What a call that a group's code keeps can do, by its phase.
-use Rattle.std.proofs.Common.{◌≡◌, ℕ, List, Option, Some, None, sym, ap, subst}
+use Rattle.std.proofs.Common.{◌≡◌, ℕ, Option, Some, None, sym, ap, subst}
 use Rattle.std.proofs.Math.Logic.{∥∥₁_elim}
 use Rattle.std.specs.Prelude.{slice_get}
 use Rattle.std.specs.Global.{Box}

@@ -1,7 +1,7 @@
 -- A call that has waited, as plain code that is tested again.
 use Rattle.std.proofs.Common.{◌⊎◌, inl, inr, ◌≡◌, ℕ, Bool, true, false, not, List, ◌∷◌, Option, Some, None, refl, sym, ap, subst, ◌∙◌}
 use Rattle.std.specs.Prelude.{◌&&◌, if◌then◌else◌}
-use Rattle.std.specs.Option.{option_and_then, option_map, option_map_or}
+use Rattle.std.specs.Option.{option_map, option_map_or}
 use Rattle.base.specs.NumberMap.{get, remove}
 use Rattle.begin_call.specs.Points.{destroy_where, opening_points}
 use Rattle.group_model.specs.Group.{Group, GroupCall, GroupSession, Waiting, begins_again, begins_on, closing_points, comes_back_in, destroy_after, gives_up, goes_on, instance_at, made, opens_again, retests, start_again, tested_again, waits_on, with_call, without_waiter}

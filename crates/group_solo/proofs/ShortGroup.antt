@@ -1,9 +1,9 @@
 -- The parameters of a group's calls stay short, whatever happens to its machine that brings no longer ones.
 use Rattle.std.proofs.Common.{◌≡◌, ◌≤◌, ℕ, ◌+◌, ◌-◌, true, false, not, [], ◌∷◌, Bool, List, Option, Some, None, refl, ap, subst, sym}
-use Rattle.std.specs.Prelude.{◌&&◌, ◌||◌, if◌then◌else◌}
+use Rattle.std.specs.Prelude.{◌&&◌, ◌||◌}
 use Rattle.std.specs.Option.{option_and_then, option_map, option_map_or}
 use Rattle.base.specs.NumberMap.{NumberMap, get, insert, remove}
-use Rattle.group_model.specs.Group.{About, Answered, Begun, Coming, Going, Group, GroupCall, GroupSession, Home, Opener, Start, Waiting, about_home, awaited_number, begins_again, closes, closing_points, comes_back, comes_back_in, comes_in, destroy_after, finds_it_gone, finds_room, fresh_call, gives_up, goes_on, goes_out, goes_out_in, going_in, home, instance_at, invokes, invokes_with, is_dead, is_taken, job_on, made, open_begins, open_waits, opens, opens_again, opens_kept, opens_made, opens_new, opens_tested, opens_there, opens_with, retests, sees, settles, silent, start_again, start_at, start_of_open, step, stopped, taken_on, tested_again, waits, waits_on, with_call, works_or_waits}
+use Rattle.group_model.specs.Group.{Answered, Begun, Coming, Going, Group, GroupCall, GroupSession, Home, Opener, Start, Waiting, about_home, awaited_number, begins_again, closes, closing_points, comes_back, comes_back_in, destroy_after, finds_it_gone, finds_room, fresh_call, gives_up, goes_on, goes_out, goes_out_in, going_in, home, instance_at, invokes, invokes_with, is_dead, is_taken, job_on, made, open_begins, open_waits, opens, opens_again, opens_kept, opens_made, opens_new, opens_tested, opens_there, opens_with, retests, sees, settles, silent, start_again, start_at, start_of_open, step, stopped, taken_on, tested_again, waits, waits_on, with_call, works_or_waits}
 use Rattle.group_model.specs.declared.group_event.GroupEvent.{GroupEvent}
 use Rattle.group_model.specs.declared.group_event.GroupEvent.TheVariants.{Open, Invoke, Close, Cancel, Seen, Room, Back, Out}
 use Rattle.group_model.specs.declared.group_reply.GroupReply.{GroupReply}

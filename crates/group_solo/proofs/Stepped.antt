@@ -1,8 +1,8 @@
 -- What a step of the machine of a group tells of its event.
-use Rattle.std.proofs.Common.{◌⊎◌, inl, inr, ◌≡◌, ◌≤◌, ℕ, Bool, false, Option, Some, None, refl, sym, ap, subst, ◌∙◌}
+use Rattle.std.proofs.Common.{◌⊎◌, inl, inr, ◌≡◌, ◌≤◌, ℕ, Bool, false, Option, Some, None, sym, ap, subst, ◌∙◌}
 use Rattle.std.specs.Option.{option_and_then, option_map}
 use Rattle.base.specs.NumberMap.{get}
-use Rattle.group_model.specs.Group.{Answered, Group, GroupCall, Home, Opener, closes, comes_back, finds_room, goes_out, home, invokes, opens_tested, sees, settles, silent, step}
+use Rattle.group_model.specs.Group.{Answered, Group, GroupCall, Home, closes, comes_back, finds_room, goes_out, home, invokes, opens_tested, sees, settles, silent, step}
 use Rattle.group_model.specs.declared.group_event.GroupEvent.{GroupEvent}
 use Rattle.group_model.specs.declared.group_event.GroupEvent.TheVariants as event
 use Rattle.group_model.specs.declared.group_reply.GroupReply.{GroupReply}

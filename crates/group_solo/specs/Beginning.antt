@@ -1,5 +1,5 @@
 -- What a call begins with on the instance that the sessions share.
-use Rattle.std.specs.Prelude.{◌≡◌, ℕ, ◌+◌, Bool, List, [], ◌∷◌, ◌++◌, Option, Some, None, if◌then◌else◌}
+use Rattle.std.specs.Prelude.{◌≡◌, ℕ, ◌+◌, List, [], ◌∷◌, ◌++◌, Some, None, if◌then◌else◌}
 use Rattle.base.specs.NumberMap.{NumberMap, insert}
 use Rattle.group_model.specs.Group.{Group, GroupCall, GroupSession, Start, begins_on, start_at, with_call}
 use Rattle.job_model.specs.Beginning.{Beginning}

@@ -1,4 +1,4 @@
-use Rattle.std.proofs.Common.{None, Some, refl}
+use Rattle.std.proofs.Common.{None, Some}
 use Rattle.group_solo.proofs.Onward.{by_found, found_here, none_here, some_here}
 use Rattle.group_solo.specs.Standing.{app_in}
 use Rattle.group_solo.proofs.group.GroupSolo.begins_again.Goals as goal

@@ -1,6 +1,6 @@
-use Rattle.std.proofs.Common.{Some, refl, ap, ◌∙◌}
+use Rattle.std.proofs.Common.{Some, refl}
 use Rattle.begin_call.specs.Points.{points_of}
-use Rattle.group_model.specs.Group.{destroy_after, gives_up}
+use Rattle.group_model.specs.Group.{gives_up}
 use Rattle.job_model.specs.declared.call_kind.CallKind.TheVariants as kind
 use Rattle.kernel_model.specs.Codes.{bad_parameters}
 use Rattle.group_solo.proofs.Onward.{beginner, by_kind, closing_at, comes_same, gone_there, kept_at, some_same}

@@ -1,4 +1,4 @@
-use Rattle.std.proofs.Common.{◌≡◌, ℕ, None, false, refl, sym, subst}
+use Rattle.std.proofs.Common.{ℕ, None, false, refl, sym, subst}
 use Rattle.group_model.specs.Group.{gives_up, without_waiter}
 use Rattle.job_model.specs.Job.{of_tee}
 use Rattle.job_model.specs.Point.{no_params}

@@ -1,7 +1,6 @@
-use Rattle.std.proofs.Common.{ap, sym, subst}
+use Rattle.std.proofs.Common.{ap}
 use Rattle.begin_call.specs.Points.{points_of}
 use Rattle.group_model.specs.Group.{without_waiter}
-use Rattle.kernel_model.specs.Application.{Application}
 use Rattle.group_solo.proofs.Line.{line_left}
 use Rattle.group_solo.proofs.Onward.{gone_on}
 use Rattle.group_solo.specs.Standing.{app_in}

@@ -1,4 +1,4 @@
-use Rattle.std.proofs.Common.{◌-◌, sym, subst, true}
+use Rattle.std.proofs.Common.{sym, subst, true}
 use Rattle.std.specs.Box.{with_value}
 use Rattle.std.specs.Global.{Box}
 use Rattle.kernel_model.specs.Resume.{phase_seen}

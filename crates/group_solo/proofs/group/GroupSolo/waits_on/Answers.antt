@@ -1,4 +1,4 @@
-use Rattle.std.proofs.Common.{sym, refl, ap, ◌∙◌}
+use Rattle.std.proofs.Common.{sym, refl, ◌∙◌}
 use Rattle.group_model.specs.Group.{with_call}
 use Rattle.group_solo.proofs.Onward.{comes_same, waits_still, waits_without}
 use Rattle.group_solo.proofs.Putting.{comes_with}
