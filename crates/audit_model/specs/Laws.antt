@@ -1,11 +1,8 @@
 -- Laws of the definitions.
-use Rattle.std.specs.Prelude.{◌≡◌, ℕ, List}
+use Rattle.std.specs.Prelude.{◌≡◌, List}
 use Rattle.event_journal.specs.declared.event.Event.{Event}
 use Rattle.kernel_model.specs.Application.{Booted, IsBooted}
-use Rattle.audit_model.specs.declared.verdict.Compared.{Compared}
-use Rattle.audit_model.specs.declared.verdict.Compared.TheVariants.{Same}
 use Rattle.audit_model.specs.declared.verdict.Verdict.{Verdict}
-use Rattle.audit_model.specs.Comparing.{IsComparedAs, Pair, replies_in}
 use Rattle.audit_model.specs.Verdicts.{CanBegin, IsFaultless, IsVerdict}
 
 -- events that some faultless history begins with are one themselves: none of them needs what comes behind it
@@ -24,11 +21,3 @@ pub record HasVerdict (boot : Booted) (events : List Event) : Type 0 where
 -- and there is on each, whatever its events are, where a core can be booted so
 abbrev pub EachHasAVerdict : Type 0
 EachHasAVerdict = (boot : Booted) (events : List Event) → IsBooted boot → HasVerdict boot events
-
--- two answers on two journals and a session are the same
-abbrev pub OneComparison : Type 0
-OneComparison = (pair : Pair) (one other : Compared) → IsComparedAs pair one → IsComparedAs pair other → one ≡ other
-
--- where two journals show the same of a session, it was answered the same
-abbrev pub SameGivesSameReplies : Type 0
-SameGivesSameReplies = (pair : Pair) (count : ℕ) → IsComparedAs pair (Same count) → replies_in pair pair.one ≡ replies_in pair pair.two

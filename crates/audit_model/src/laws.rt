@@ -1,7 +1,6 @@
 //! Laws of the definitions, each the contract of a function that does nothing.
 
-ghost use Rattle.audit_model.specs.CompareExamples.{CompareExamples};
-ghost use Rattle.audit_model.specs.Laws.{EachHasAVerdict, OneComparison, OneVerdict, PrefixesCanBe, SameGivesSameReplies};
+ghost use Rattle.audit_model.specs.Laws.{EachHasAVerdict, OneVerdict, PrefixesCanBe};
 ghost use Rattle.audit_model.specs.VerdictExamples.{VerdictExamples};
 
 /// Events that a legal and steady history begins with are one.
@@ -19,22 +18,7 @@ pub fn each_has_a_verdict()
     ensures { EachHasAVerdict }
 {}
 
-/// Two journals have one answer at most.
-pub fn one_comparison()
-    ensures { OneComparison }
-{}
-
-/// Where two journals show the same of a session, it was answered the same in both.
-pub fn same_journals_give_same_replies()
-    ensures { SameGivesSameReplies }
-{}
-
 /// Verdicts on journals that were worked out by hand.
 pub fn verdict_examples()
     ensures { VerdictExamples }
-{}
-
-/// What two journals show of a session, worked out by hand.
-pub fn compared_examples()
-    ensures { CompareExamples }
 {}

@@ -1,14 +1,13 @@
 -- From two journals that were read to what is answered; and that bytes have one meaning.
 use Rattle.std.proofs.Common.{◌≡◌, ℕ, inl, inr, List, Option, Some, None, refl, sym, ap, subst, ◌∙◌}
 use Rattle.std.specs.Prelude.{◌⊎◌, IfSome}
-use Rattle.audit_model.proofs.Comparisons.{one_comparison}
-use Rattle.audit_model.proofs.Replies.{same_gives_same_replies}
-use Rattle.audit_model.specs.Comparing.{IsComparedAs, Pair}
-use Rattle.audit_model.specs.declared.verdict.Compared.{Compared}
-use Rattle.audit_model.specs.declared.verdict.Compared.TheVariants.{Illegal, Absent, Other, Events, Same}
+use Rattle.compare_model.proofs.Comparisons.{one_comparison}
+use Rattle.compare_model.proofs.Replies.{journals_are_answered_alone, same_gives_same_replies}
+use Rattle.compare_model.specs.Comparing.{IsComparedAs}
+use Rattle.compare_model.specs.declared.compared.Compared.{Compared}
+use Rattle.compare_model.specs.declared.subject.Subject.{Subject}
 use Rattle.journal_bytes.specs.Grammar.{Whole}
 use Rattle.kernel_model.specs.Application.{Native}
-use Rattle.session_compare.specs.Pairs.{HaveSameReplies}
 use Rattle.trace_player.specs.Starting.{uuids_of}
 use Rattle.word_parts.specs.Keeping.{Keeps}
 use Rattle.word_parts.specs.Input.{IsTooLong}
@@ -24,11 +23,11 @@ use Rattle.journal_runner.proofs.Meanings.{not_both_pair, same_first, same_secon
 -- ---- answering
 
 -- what is written for two journals is what the word answers
-pub answered_pair : (natives : List Native) (session : ℕ) (input : List ℕ) (one two : Whole) (result : Status)
+pub answered_pair : (natives : List Native) (subject : Subject) (input : List ℕ) (one two : Whole) (result : Status)
     (old new : Option (List ℕ)) → SpellsPair (uuids_of natives) input one two
-    → IsAnsweredForPair natives session one two result old new → Answered (comparing natives session) input result old new
-answered_pair natives session input one two result old new pair (inl want) = inl want
-answered_pair natives session input one two result old new pair (inr told) =
+    → IsAnsweredForPair natives subject one two result old new → Answered (comparing natives subject) input result old new
+answered_pair natives subject input one two result old new pair (inl want) = inl want
+answered_pair natives subject input one two result old new pair (inr told) =
     let comparison : Comparison = record { one = one; two = two; compared = told.0 } in
     inr (inr (record {
       content = comparison;
@@ -37,85 +36,77 @@ answered_pair natives session input one two result old new pair (inr told) =
       served = inr (λ never. never, inr told.2);
     }))
 
--- ---- what was written
-
--- journals that show the same of a session have answered it the same
-have_same_replies : (pair : Pair) (compared : Compared) → IsComparedAs pair compared → HaveSameReplies pair compared
-have_same_replies pair (Illegal journal at) is = tt
-have_same_replies pair (Absent journal) is = tt
-have_same_replies pair Other is = tt
-have_same_replies pair (Events at) is = tt
-have_same_replies pair (Same count) is = same_gives_same_replies pair count is
-
 -- ---- what was kept
 
 -- two journals that the input spells are answered with what they show, or there is want of memory: else the input would spell nothing,
 -- and so have a fault, which it hasn't
-module _ (natives : List Native) (session : ℕ) (input : List ℕ) (left : Option (List ℕ)) (result : Status)
+module _ (natives : List Native) (subject : Subject) (input : List ℕ) (left : Option (List ℕ)) (result : Status)
     (old new : Option (List ℕ)) (no_fault : Type 0)
-    (kept : Keeps (comparing natives session) input left result old new no_fault)
+    (kept : Keeps (comparing natives subject) input left result old new no_fault)
   where
     of_refused : (one two : Whole) → SpellsPair (uuids_of natives) input one two → (result ≡ Memory → ⊥)
-        → IsRefusedWhole (comparing natives session) input result old new ⊎ (result ≡ Memory) → ⊥
+        → IsRefusedWhole (comparing natives subject) input result old new ⊎ (result ≡ Memory) → ⊥
     of_refused one two pair fits (inl refused) =
         let bad = refused.1.1 in not_both_pair (uuids_of natives) input one two bad.0 bad.1 pair bad.2
     of_refused one two pair fits (inr memory) = fits memory
 
     of_served : (comparison : Comparison) → (result ≡ status.Ok → ⊥) → (result ≡ Memory → ⊥)
-        → IsServedWhole (comparing natives session) comparison result old new ⊎ (result ≡ Memory) → ⊥
+        → IsServedWhole (comparing natives subject) comparison result old new ⊎ (result ≡ Memory) → ⊥
     of_served comparison not_ok fits (inl served) = not_ok served.0
     of_served comparison not_ok fits (inr memory) = fits memory
 
     nothing_else : (one two : Whole) → SpellsPair (uuids_of natives) input one two → (IsTooLong input → ⊥) → no_fault
         → (result ≡ status.Ok → ⊥) → (result ≡ Memory → ⊥) → ⊥
     nothing_else one two pair short none not_ok fits =
-        let nothing = λ (comparison : Comparison) (spelled : SpellsCompared natives session input comparison).
+        let nothing = λ (comparison : Comparison) (spelled : SpellsCompared natives subject input comparison).
         of_served comparison not_ok fits
         (kept.complete comparison (record { short = short; spelled = spelled; few = λ never. never; goes_on = refl }) none) in
         of_refused one two pair fits (kept.refuses (record { short = short; spells_nothing = nothing }) none)
 
-pub kept_complete : (natives : List Native) (session : ℕ) (input : List ℕ) (left : Option (List ℕ)) (result : Status)
+pub kept_complete : (natives : List Native) (subject : Subject) (input : List ℕ) (left : Option (List ℕ)) (result : Status)
     (old new : Option (List ℕ)) (no_fault : Type 0)
-    → Keeps (comparing natives session) input left result old new no_fault
+    → Keeps (comparing natives subject) input left result old new no_fault
     → (one two : Whole) → SpellsPair (uuids_of natives) input one two → (IsTooLong input → ⊥) → no_fault
     → (result ≡ status.Ok) ⊎ (result ≡ Memory)
-kept_complete natives session input left status.Ok old new no_fault kept one two pair short none = inl refl
-kept_complete natives session input left status.Memory old new no_fault kept one two pair short none = inr refl
-kept_complete natives session input left status.Usage old new no_fault kept one two pair short none =
-    absurd (nothing_else natives session input left status.Usage old new no_fault kept one two pair short none (λ e. absurd cc)
+kept_complete natives subject input left status.Ok old new no_fault kept one two pair short none = inl refl
+kept_complete natives subject input left status.Memory old new no_fault kept one two pair short none = inr refl
+kept_complete natives subject input left status.Usage old new no_fault kept one two pair short none =
+    absurd (nothing_else natives subject input left status.Usage old new no_fault kept one two pair short none (λ e. absurd cc)
     (λ e. absurd cc))
-kept_complete natives session input left status.BadTrace old new no_fault kept one two pair short none =
-    absurd (nothing_else natives session input left status.BadTrace old new no_fault kept one two pair short none (λ e. absurd cc)
+kept_complete natives subject input left status.BadTrace old new no_fault kept one two pair short none =
+    absurd (nothing_else natives subject input left status.BadTrace old new no_fault kept one two pair short none (λ e. absurd cc)
     (λ e. absurd cc))
-kept_complete natives session input left status.ReadFault old new no_fault kept one two pair short none =
-    absurd (nothing_else natives session input left status.ReadFault old new no_fault kept one two pair short none (λ e. absurd cc)
+kept_complete natives subject input left status.ReadFault old new no_fault kept one two pair short none =
+    absurd (nothing_else natives subject input left status.ReadFault old new no_fault kept one two pair short none (λ e. absurd cc)
     (λ e. absurd cc))
-kept_complete natives session input left status.WriteFault old new no_fault kept one two pair short none =
-    absurd (nothing_else natives session input left status.WriteFault old new no_fault kept one two pair short none (λ e. absurd cc)
+kept_complete natives subject input left status.WriteFault old new no_fault kept one two pair short none =
+    absurd (nothing_else natives subject input left status.WriteFault old new no_fault kept one two pair short none (λ e. absurd cc)
     (λ e. absurd cc))
-kept_complete natives session input left status.TooLong old new no_fault kept one two pair short none =
-    absurd (nothing_else natives session input left status.TooLong old new no_fault kept one two pair short none (λ e. absurd cc)
+kept_complete natives subject input left status.TooLong old new no_fault kept one two pair short none =
+    absurd (nothing_else natives subject input left status.TooLong old new no_fault kept one two pair short none (λ e. absurd cc)
     (λ e. absurd cc))
 
 -- over an input that the source tells
-pub kept_compares : (natives : List Native) (session : ℕ) (told left : Option (List ℕ)) (result : Status)
+pub kept_compares : (natives : List Native) (subject : Subject) (told left : Option (List ℕ)) (result : Status)
     (old new : Option (List ℕ)) (no_fault : Type 0)
-    → IfSome told (λ input. Keeps (comparing natives session) input left result old new no_fault)
-    → IfSome told (λ input. Compares natives session input result old new no_fault)
-kept_compares natives session (Some input) left result old new no_fault kept = record {
+    → IfSome told (λ input. Keeps (comparing natives subject) input left result old new no_fault)
+    → IfSome told (λ input. Compares natives subject input result old new no_fault)
+kept_compares natives subject (Some input) left result old new no_fault kept = record {
   ok = λ ok.
       let served = (kept.statuses.ok ok).1 in
       let comparison = served.0 in
+      let pair = pair_of natives comparison.one comparison.two in
       record {
         comparison = comparison;
         spelled = served.1.spelled;
         line = served.2;
-        same_replies = have_same_replies (pair_of natives comparison.one comparison.two session) comparison.compared
-            served.1.spelled.is_compared;
+        same_replies = same_gives_same_replies pair subject comparison.compared served.1.spelled.is_compared;
+        alone_in_one = journals_are_answered_alone.legal pair subject pair.one;
+        alone_in_two = journals_are_answered_alone.legal pair subject pair.two;
       };
-  complete = kept_complete natives session input left result old new no_fault kept;
+  complete = kept_complete natives subject input left result old new no_fault kept;
 }
-kept_compares natives session None left result old new no_fault kept = tt
+kept_compares natives subject None left result old new no_fault kept = tt
 
 -- ---- one meaning
 
@@ -126,19 +117,19 @@ same_comparison a b one two compared =
     ∙ ap (λ (c : Compared). record { one = b.one; two = b.two; compared = c }) compared
 
 -- bytes spell two journals, which show one thing of a session, or they have a fault, and not both
-pub one_meaning : (natives : List Native) (session : ℕ) (input : List ℕ) → HasOneMeaning (comparing natives session) input
-one_meaning natives session input = record {
+pub one_meaning : (natives : List Native) (subject : Subject) (input : List ℕ) → HasOneMeaning (comparing natives subject) input
+one_meaning natives subject input = record {
   one_content = one_comparison_of;
   not_both = λ comparison place kind p fault.
       not_both_pair (uuids_of natives) input comparison.one comparison.two place kind p.pair fault;
 }
   where
-    one_comparison_of : (a b : Comparison) → SpellsCompared natives session input a → SpellsCompared natives session input b
+    one_comparison_of : (a b : Comparison) → SpellsCompared natives subject input a → SpellsCompared natives subject input b
         → a ≡ b
     one_comparison_of a b p q =
         let one = same_first (uuids_of natives) input a.one b.one a.two b.two p.pair q.pair in
         let two = same_second (uuids_of natives) input a.one b.one a.two b.two p.pair q.pair in
         same_comparison a b one two
-        (one_comparison (pair_of natives a.one a.two session) a.compared b.compared p.is_compared
-        (subst (λ (w : Whole). IsComparedAs (pair_of natives w a.two session) b.compared) (sym one)
-        (subst (λ (w : Whole). IsComparedAs (pair_of natives b.one w session) b.compared) (sym two) q.is_compared)))
+        (one_comparison (pair_of natives a.one a.two) subject a.compared b.compared p.is_compared
+        (subst (λ (w : Whole). IsComparedAs (pair_of natives w a.two) subject b.compared) (sym one)
+        (subst (λ (w : Whole). IsComparedAs (pair_of natives b.one w) subject b.compared) (sym two) q.is_compared)))

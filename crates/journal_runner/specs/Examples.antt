@@ -1,8 +1,8 @@
 -- What the words write of small inputs, computed.
 use Rattle.std.specs.Prelude.{◌≡◌, ℕ, List, [], ◌∷◌, ◌++◌, None, Some, codes, map, replicate}
 use Rattle.audit_model.specs.VerdictExamples.{answered, asks}
-use Rattle.audit_model.specs.declared.verdict.Compared.TheVariants.{Illegal as IllegalIn, Absent, Other, Events, Same}
 use Rattle.audit_model.specs.declared.verdict.Verdict.TheVariants.{Legal, Illegal}
+use Rattle.compare_model.specs.declared.compared.Compared.TheVariants.{Illegal as IllegalIn, Absent, Other, Events, Same}
 use Rattle.journal_bytes.specs.Examples.{asking_bytes, boot_bytes, magic_bytes, small_boot, whole_bytes}
 use Rattle.journal_bytes.specs.Grammar.{Whole}
 use Rattle.trace_text.specs.declared.fault.BadKind.TheVariants.{Cut, Item}

@@ -1,6 +1,6 @@
 //! The word `compare`.
 ghost use Rattle.std.specs.Prelude.{◌≡◌, ◌≢◌, ◌≤◌, ◌+◌, ◌^◌, ◌++◌, [], IfOk, IfSome, OnOk, length};
-ghost use Rattle.audit_model.specs.Comparing.{IsComparedAs};
+ghost use Rattle.compare_model.specs.Comparing.{IsComparedAs};
 ghost use Rattle.journal_bytes.specs.Grammar.{whole_of};
 ghost use Rattle.native_tas.specs.Table.{entries};
 ghost use Rattle.ports.specs.Port.{Appends, Rose};
@@ -16,9 +16,9 @@ use crate::reading::{ReadPair, read_pair};
 use answer_lines::push_numbered;
 use audit::read_boots_can_be_checked;
 use base::NoMemory;
+use compare_model::{Compared, Subject};
 use native_tas::Natives;
 use ports::{Sink, Source};
-use session_compare::Compared;
 use std::alloc::{AllocError, Global};
 use word_parts::{Status, answer_fault, answer_line, read_whole};
 
@@ -48,39 +48,39 @@ fn compared_line(alloc: Global, compared: Compared) -> Result<Vec<u8>, AllocErro
     Ok(line)
 }
 
-/// What the two journals show of the session.
+/// What the two journals show of the session or of the group.
 fn shown_by(
     alloc: Global,
     natives: &Natives,
-    session: u32,
+    subject: Subject,
     read: &ReadPair,
 ) -> Result<Compared, NoMemory>
     requires one { KeepsLimits (uuids_of (entries natives.now)) read.now.one }
     requires two { KeepsLimits (uuids_of (entries natives.now)) read.now.two }
-    ensures { IfOk result (IsComparedAs (pair_of (entries natives.now) (whole_of read.now.one) (whole_of read.now.two) session)) }
+    ensures { IfOk result (IsComparedAs (pair_of (entries natives.now) (whole_of read.now.one) (whole_of read.now.two)) subject) }
 {
     read_boots_can_be_checked();
-    session_compare::compare(alloc, &read.one, &read.two, natives, session)
+    session_compare::compare_on(alloc, &read.one, &read.two, natives, subject)
 }
 
-/// Writes what two journals that were read show of the session.
+/// Writes what two journals that were read show of the session or of the group.
 fn compare_journals<K: Sink>(
     alloc: Global,
     natives: &Natives,
-    session: u32,
+    subject: Subject,
     read: &ReadPair,
     out: &mut K,
 ) -> Status
     requires one { KeepsLimits (uuids_of (entries natives.now)) read.now.one }
     requires two { KeepsLimits (uuids_of (entries natives.now)) read.now.two }
-    ensures answered { IsAnsweredForPair (entries natives.now) session (whole_of read.now.one) (whole_of read.now.two)
+    ensures answered { IsAnsweredForPair (entries natives.now) subject (whole_of read.now.one) (whole_of read.now.two)
         result (K.held out.old) (K.held out.new) }
     ensures words { result ≡ Status.Usage → ⊥ }
     ensures write_fault { result ≡ Status.WriteFault → Rose (K.faults out.old) (K.faults out.new) }
     ensures count { K.faults out.old ≤ K.faults out.new }
     ensures stays { result ≢ Status.WriteFault → K.faults out.new ≡ K.faults out.old }
 {
-    let Ok(compared) = shown_by(alloc, natives, session, read) else {
+    let Ok(compared) = shown_by(alloc, natives, subject, read) else {
         return Status::Memory;
     };
     match compared_line(alloc, compared) {
@@ -92,13 +92,13 @@ fn compare_journals<K: Sink>(
 /// Compares the journals of an input that was read whole. Its bytes are free before they are compared.
 fn answer<K: Sink>(
     alloc: Global,
-    session: u32,
+    subject: Subject,
     input: Vec<u8>,
     out: &mut K,
     natives: &Natives,
 ) -> Status
     requires { length input.items ≤ 2 ^ 24 }
-    ensures answered { Answered (comparing (entries natives.now) session) input.items result (K.held out.old) (K.held out.new) }
+    ensures answered { Answered (comparing (entries natives.now) subject) input.items result (K.held out.old) (K.held out.new) }
     ensures words { result ≡ Status.Usage → ⊥ }
     ensures write_fault { result ≡ Status.WriteFault → Rose (K.faults out.old) (K.faults out.new) }
     ensures count { K.faults out.old ≤ K.faults out.new }
@@ -107,33 +107,34 @@ fn answer<K: Sink>(
     let read = read_pair(alloc, input.as_slice(), natives.uuids().as_slice());
     drop(input);
     match read {
-        Ok(read) => compare_journals(alloc, natives, session, &read, out),
+        Ok(read) => compare_journals(alloc, natives, subject, &read, out),
         Err(fault) => answer_fault(alloc, fault, out),
     }
 }
 
-/// Reads the bytes of two journals ([`journal_bytes`]), the second right behind the end of the first, and writes what they show of the
-/// session of this number, beside the applications that are built in: the first event of one of them that can't be, as `illegal J AT`;
-/// or that the number stands for no session there whose application has an instance for each, as `absent J`; or that the applications or
-/// the keys differ, as `other`; or the first of the session's own events that differs, as `events N`, counted from 0; or else how many
-/// replies it was given, as `same N`. Places go on counting in the second journal. Bytes behind its end are
-/// [`trace_text::BadKind::Item`] at the place after that of the end.
+/// Reads the bytes of two journals ([`journal_bytes`]), the second right behind the end of the first, and writes what they show of a
+/// session, or of the group of sessions that share one instance, beside the applications that are built in: the first event of one of
+/// them that can't be, as `illegal J AT`; or that the number stands for no session there whose application has an instance for each, or
+/// the UUID for no application whose sessions share one, as `absent J`; or that the applications or the keys differ, as `other`; or the
+/// first of the events of the session or of the group that differs, as `events N`, counted from 0; or else how many replies it was
+/// given, as `same N`. Places go on counting in the second journal. Bytes behind its end are [`trace_text::BadKind::Item`] at the place
+/// after that of the end.
 pub fn compare<S: Source, K: Sink>(
     alloc: Global,
-    session: u32,
+    subject: Subject,
     input: &mut S,
     out: &mut K,
     natives: &Natives,
 ) -> Status
     // ---- All that the word keeps to: the input, each status, and when an input is served or refused whole.
     ensures keeps { IfSome (S.left input.old) (λ bytes.
-        Keeps (comparing (entries natives.now) session) bytes (S.left input.new) result (K.held out.old) (K.held out.new)
+        Keeps (comparing (entries natives.now) subject) bytes (S.left input.new) result (K.held out.old) (K.held out.new)
         ((Rose (S.faults input.old) (S.faults input.new) → ⊥) × (Rose (K.faults out.old) (K.faults out.new) → ⊥))) }
 
-    // ---- What was written: where both journals show the same of the session, it was answered the same in both. And any two journals
-    // are answered so, or there is want of memory.
+    // ---- What was written: where both journals show the same of the session or of the group, it was answered the same in both. And
+    // any two journals are answered so, or there is want of memory.
     ensures compares { IfSome (S.left input.old) (λ bytes.
-        Compares (entries natives.now) session bytes result (K.held out.old) (K.held out.new)
+        Compares (entries natives.now) subject bytes result (K.held out.old) (K.held out.new)
         ((Rose (S.faults input.old) (S.faults input.new) → ⊥) × (Rose (K.faults out.old) (K.faults out.new) → ⊥))) }
 
     // ---- Faults of the ports.
@@ -150,7 +151,7 @@ pub fn compare<S: Source, K: Sink>(
     ensures out_stays { result ≢ Status.WriteFault → K.faults out.new ≡ K.faults out.old }
 {
     match read_whole(alloc, input) {
-        Ok(bytes) => answer(alloc, session, bytes, out, natives),
+        Ok(bytes) => answer(alloc, subject, bytes, out, natives),
         Err(status) => status,
     }
 }

@@ -1,102 +1,188 @@
 -- What two logs show is what the two journals show.
-use Rattle.std.proofs.Common.{◌≡◌, ◌↔◌, List, Bool, true, false, Option, Some, None, refl, ap, sym, subst, ◌∙◌, length, inl, inr}
-use Rattle.std.specs.Prelude.{IfOk, IsSome, IsTrue, ◌⊎◌, Result, Ok, Err}
-use Rattle.std.specs.Option.{option_and_then, option_map}
+use Rattle.std.proofs.Common.{◌≡◌, ◌↔◌, ℕ, List, [], Bool, true, false, Option, Some, None, refl, ap, sym, subst, ◌∙◌, length, inl, inr}
+use Rattle.std.specs.Prelude.{IfOk, IsTrue, ◌⊎◌, Result, Ok, Err}
+use Rattle.std.specs.Option.{option_and_then, option_map, option_map_or}
 use Rattle.audit_model.proofs.Prefixes.{prefixes_can_be}
-use Rattle.audit_model.proofs.Replies.{same_gives_same_replies}
-use Rattle.audit_model.specs.Comparing.{DifferFirstAt, IsComparedAs, IsOfOne, Journaled, Pair, app_in, core_of, unless_shared}
-use Rattle.audit_model.specs.Comparing as compared
-use Rattle.audit_model.specs.declared.verdict.Compared.{Compared}
-use Rattle.audit_model.specs.declared.verdict.Compared.TheVariants.{Absent, Events, Illegal, Other, Same}
 use Rattle.base.specs.declared.no_memory.NoMemory.{NoMemory}
+use Rattle.compare_model.proofs.Replies.{same_gives_same_replies}
+use Rattle.compare_model.specs.Comparing.{AreOfOne, AreShownAs, CanBe, CanBeBoth, DifferFirstAt, FailsAt, HaveSameReplies, IsComparedAs, Pair}
+use Rattle.compare_model.specs.Comparing.{Shown, core_of, group_in, if_shared, session_in, unless_shared}
+use Rattle.compare_model.specs.declared.compared.Compared.{Compared}
+use Rattle.compare_model.specs.declared.compared.Compared.TheVariants.{Absent, Events, Illegal, Other, Same}
+use Rattle.compare_model.specs.declared.subject.Subject.{Subject}
+use Rattle.compare_model.specs.declared.subject.Subject.TheVariants.{Group, Session}
+use Rattle.event_journal.specs.declared.event.Event.{Event}
+use Rattle.group_model.specs.Read.{group_events, group_replies}
+use Rattle.instance_groups.specs.Journals.{log_by}
+use Rattle.instance_groups.specs.declared.group_log.GroupLog.{GroupLog}
 use Rattle.isolation.specs.Journals.{IsJournal}
-use Rattle.isolation.specs.Logs.{IsLogOf}
 use Rattle.isolation.specs.declared.session_log.OwnLog.{OwnLog}
 use Rattle.journal_bytes.specs.declared.reading.ReadJournal.{ReadJournal}
-use Rattle.kernel_model.specs.Application.{Application, Native, booted}
+use Rattle.kernel_model.specs.Application.{Application, Booted, Native, booted}
+use Rattle.kernel_model.specs.Instances.{app_of}
 use Rattle.kernel_state.specs.Setup.{application_of}
 use Rattle.kernel_state.specs.declared.setup.Application.{Application as AnyApplication}
-use Rattle.own_model.specs.Own.{Logged, events_in, replies_in}
-use Rattle.own_model.specs.declared.own_event.OwnEvent.{OwnEvent}
-use Rattle.session_compare.specs.Logs.{AreLogsOf, IsShownBy}
-use Rattle.session_compare.specs.Pairs.{CanBeCompared, CanBeRead, HaveSameReplies}
+use Rattle.session_compare.specs.Logs.{AreGroupLogsOf, AreLogsOf, AreToldApart, IsShownBy, events_in, replies_in}
+use Rattle.session_compare.specs.Pairs.{CanBeCompared, CanBeRead}
 
 -- ---- a journal that can be
 
--- what `own_log` asks of it
+-- what `own_log` and `read_group_log` ask of it
 pub journal_of : (natives : List Native) (read : ReadJournal) → CanBeCompared natives read → CanBeRead natives read
     → IsJournal (booted read.boot natives) read.journal.events
 journal_of natives read so can =
     let is = prefixes_can_be (booted read.boot natives) read.journal.events can in
     record { legal = is.legal; few = so.few; agree = is.steady }
 
--- ---- a log
+-- ---- a journal that can't be
 
-module _ (pair : Pair) (journal : Journaled) (log : OwnLog) (is : IsLogOf (core_of pair journal) journal.events pair.session log) where
-  -- the session's application, where its sessions share no instance
-  app_so : (found : Option AnyApplication) → option_and_then unless_shared (option_map application_of log.app) ≡ option_map application_of found
-      → app_in pair journal ≡ option_map application_of found
-  app_so found unless = ap (λ (o : Option Application). option_and_then unless_shared o) is.app ∙ unless
+-- whatever is compared, the first is illegal; or the second, where the first can be
+pub illegal_in_one : (pair : Pair) (subject : Subject) (at : ℕ) → FailsAt pair pair.one at → IsComparedAs pair subject (Illegal 1 at)
+illegal_in_one pair (Session session) at fails = inl (refl, fails)
+illegal_in_one pair (Group uuid) at fails = inl (refl, fails)
 
-  events_so : compared.events_in pair journal ≡ events_in log.entries.items
-  events_so = sym (ap events_in is.entries)
+pub illegal_in_two : (pair : Pair) (subject : Subject) (at : ℕ) → CanBe pair pair.one → FailsAt pair pair.two at
+    → IsComparedAs pair subject (Illegal 2 at)
+illegal_in_two pair (Session session) at can fails = inr (refl, can, fails)
+illegal_in_two pair (Group uuid) at can fails = inr (refl, can, fails)
 
--- ---- both
+-- ---- what each of two journals shows, by a log
 
-module _ (pair : Pair) (one two : OwnLog) (are : AreLogsOf pair one two) where
-  pub absent_one : option_and_then unless_shared (option_map application_of one.app) ≡ None → IsComparedAs pair (Absent 1)
-  absent_one none = (are.can_be, inl (refl, app_so pair pair.one one are.in_one None none))
+module _ {E R : Type 0} where
+  -- the log of what is shown, by an application of the code's where it is there
+  pub record IsLoggedAs (shown : Shown E R) (app : Option AnyApplication) (log : List (E × Option R)) : Type 0 where
+    pub app_is : shown.app ≡ option_map application_of app
+    pub events_are : shown.events ≡ events_in log
+    pub replies_are : shown.replies ≡ replies_in log
 
-  module _ (app : AnyApplication) (unless : option_and_then unless_shared (option_map application_of one.app) ≡ Some (application_of app)) where
-    in_one : app_in pair pair.one ≡ Some (application_of app)
-    in_one = app_so pair pair.one one are.in_one (Some app) unless
+  module _ (pair : Pair) (one two : Shown E R) (can : CanBeBoth pair) where
+    apart_so : (told : Compared) → AreToldApart pair one.app two.app (Some told) → AreShownAs pair one two told
+    apart_so (Illegal of at) is = absurd is
+    apart_so (Absent of) is = (can, is)
+    apart_so Other is = (can, is)
+    apart_so (Events at) is = absurd is
+    apart_so (Same count) is = absurd is
 
-    pub absent_two : option_and_then unless_shared (option_map application_of two.app) ≡ None → IsComparedAs pair (Absent 2)
-    absent_two none = (are.can_be, inr (refl, subst IsSome (sym in_one) refl, app_so pair pair.two two are.in_two None none))
+    module _ (app other : Option AnyApplication) (log log_too : List (E × Option R)) (its : IsLoggedAs one app log)
+        (other_its : IsLoggedAs two other log_too) where
+      told_so : (told : Option Compared) → AreToldApart pair (option_map application_of app) (option_map application_of other) told
+          → AreToldApart pair one.app two.app told
+      told_so told is =
+          subst (λ (o : Option Application). AreToldApart pair o two.app told) (sym its.app_is)
+          (subst (λ (o : Option Application). AreToldApart pair (option_map application_of app) o told) (sym other_its.app_is) is)
 
-    module _ (other : AnyApplication)
-        (unless_two : option_and_then unless_shared (option_map application_of two.app) ≡ Some (application_of other)) where
-      in_two : app_in pair pair.two ≡ Some (application_of other)
-      in_two = app_so pair pair.two two are.in_two (Some other) unless_two
+      -- the applications differ
+      pub shown_apart : (told : Compared)
+          → AreToldApart pair (option_map application_of app) (option_map application_of other) (Some told) → AreShownAs pair one two told
+      shown_apart told is = apart_so told (told_so (Some told) is)
 
-      pub of_two : ((application_of app ≡ application_of other → ⊥) ⊎ (pair.one.boot.key ≡ pair.two.boot.key → ⊥)) → IsComparedAs pair Other
-      of_two differ = (
-        are.can_be,
-        record {
-          app = application_of app;
-          other = application_of other;
-          in_one = in_one;
-          in_two = in_two;
-          differ = differ;
-        },
+      alike_so : AreOfOne pair one.app two.app → (told : Compared) → IsShownBy log log_too told → AreShownAs pair one two told
+      alike_so are (Illegal of at) is = absurd is
+      alike_so are (Absent of) is = absurd is
+      alike_so are Other is = absurd is
+      alike_so are (Events at) is = (
+        can,
+        are,
+        subst (λ (events : List E). DifferFirstAt events two.events at) (sym its.events_are)
+            (subst (λ (events : List E). DifferFirstAt (events_in log) events at) (sym other_its.events_are) is),
+      )
+      alike_so are (Same count) is = (
+        can,
+        are,
+        its.events_are ∙ is.0 ∙ sym other_its.events_are,
+        is.1 ∙ ap (λ (replies : List R). length replies) (sym its.replies_are),
       )
 
-      of_one : application_of app ≡ application_of other → pair.one.boot.key ≡ pair.two.boot.key → IsOfOne pair
-      of_one same keys =
-          record { app = application_of app; in_one = in_one; in_two = in_two ∙ ap (λ (a : Application). Some a) (sym same); keys = keys }
+      -- they are one, and it is for the events to show
+      pub shown_alike : AreToldApart pair (option_map application_of app) (option_map application_of other) None → (told : Compared)
+          → IsShownBy log log_too told → AreShownAs pair one two told
+      shown_alike are told is = alike_so (told_so None are) told is
 
-      pub shown : application_of app ≡ application_of other → pair.one.boot.key ≡ pair.two.boot.key → (told : Compared)
-          → IsShownBy one.entries.items two.entries.items told → IsComparedAs pair told
-      shown same keys (Illegal of at) is = absurd is
-      shown same keys (Absent of) is = absurd is
-      shown same keys Other is = absurd is
-      shown same keys (Events at) is = (
-        are.can_be,
-        of_one same keys,
-        subst (λ (events : List OwnEvent). DifferFirstAt events (compared.events_in pair pair.two) at) (sym (events_so pair pair.one one are.in_one))
-            (subst (λ (events : List OwnEvent). DifferFirstAt (events_in one.entries.items) events at) (sym (events_so pair pair.two two are.in_two)) is),
-      )
-      shown same keys (Same count) is = (
-        are.can_be,
-        of_one same keys,
-        events_so pair pair.one one are.in_one ∙ is.0 ∙ sym (events_so pair pair.two two are.in_two),
-        is.1 ∙ ap (λ (log : List Logged). length (replies_in log)) are.in_one.entries,
-      )
+-- ---- sessions
+
+module _ (pair : Pair) (session : ℕ) (one two : OwnLog) (are : AreLogsOf pair session one two) (app other : Option AnyApplication)
+    (unless : option_and_then unless_shared (option_map application_of one.app) ≡ option_map application_of app)
+    (unless_too : option_and_then unless_shared (option_map application_of two.app) ≡ option_map application_of other) where
+  one_logged : IsLoggedAs (session_in pair session pair.one) app one.entries.items
+  one_logged = record {
+    app_is = ap (λ (o : Option Application). option_and_then unless_shared o) are.in_one.app ∙ unless;
+    events_are = sym (ap events_in are.in_one.entries);
+    replies_are = sym (ap replies_in are.in_one.entries);
+  }
+
+  two_logged : IsLoggedAs (session_in pair session pair.two) other two.entries.items
+  two_logged = record {
+    app_is = ap (λ (o : Option Application). option_and_then unless_shared o) are.in_two.app ∙ unless_too;
+    events_are = sym (ap events_in are.in_two.entries);
+    replies_are = sym (ap replies_in are.in_two.entries);
+  }
+
+  pub sessions_apart : (told : Compared)
+      → AreToldApart pair (option_map application_of app) (option_map application_of other) (Some told)
+      → IsComparedAs pair (Session session) told
+  sessions_apart told is =
+      shown_apart pair (session_in pair session pair.one) (session_in pair session pair.two) are.can_be app other one.entries.items
+      two.entries.items one_logged two_logged told is
+
+  pub sessions_alike : AreToldApart pair (option_map application_of app) (option_map application_of other) None → (told : Compared)
+      → IsShownBy one.entries.items two.entries.items told → IsComparedAs pair (Session session) told
+  sessions_alike same told is =
+      shown_alike pair (session_in pair session pair.one) (session_in pair session pair.two) are.can_be app other one.entries.items
+      two.entries.items one_logged two_logged same told is
+
+-- ---- groups
+
+-- the events of what is noted by an application, and the replies
+events_by : (boot : Booted) (history : List Event) (app : Option Application)
+    → option_map_or (group_events boot history) app [] ≡ events_in (log_by boot history app)
+events_by boot history None = refl
+events_by boot history (Some app) = refl
+
+replies_by : (boot : Booted) (history : List Event) (app : Option Application)
+    → option_map_or (group_replies boot history) app [] ≡ replies_in (log_by boot history app)
+replies_by boot history None = refl
+replies_by boot history (Some app) = refl
+
+module _ (pair : Pair) (uuid : List ℕ) (one two : GroupLog) (are : AreGroupLogsOf pair uuid one two) (app other : Option AnyApplication)
+    (kept : option_and_then if_shared (option_map application_of one.app) ≡ option_map application_of app)
+    (kept_too : option_and_then if_shared (option_map application_of two.app) ≡ option_map application_of other) where
+  one_grouped : IsLoggedAs (group_in pair uuid pair.one) app one.entries.items
+  one_grouped =
+      let core = core_of pair pair.one in
+      record {
+        app_is = ap (λ (o : Option Application). option_and_then if_shared o) are.in_one.app ∙ kept;
+        events_are = events_by core pair.one.events (app_of core uuid) ∙ sym (ap events_in are.in_one.entries);
+        replies_are = replies_by core pair.one.events (app_of core uuid) ∙ sym (ap replies_in are.in_one.entries);
+      }
+
+  two_grouped : IsLoggedAs (group_in pair uuid pair.two) other two.entries.items
+  two_grouped =
+      let core = core_of pair pair.two in
+      record {
+        app_is = ap (λ (o : Option Application). option_and_then if_shared o) are.in_two.app ∙ kept_too;
+        events_are = events_by core pair.two.events (app_of core uuid) ∙ sym (ap events_in are.in_two.entries);
+        replies_are = replies_by core pair.two.events (app_of core uuid) ∙ sym (ap replies_in are.in_two.entries);
+      }
+
+  pub groups_apart : (told : Compared)
+      → AreToldApart pair (option_map application_of app) (option_map application_of other) (Some told)
+      → IsComparedAs pair (Group uuid) told
+  groups_apart told is =
+      shown_apart pair (group_in pair uuid pair.one) (group_in pair uuid pair.two) are.can_be app other one.entries.items two.entries.items
+      one_grouped two_grouped told is
+
+  pub groups_alike : AreToldApart pair (option_map application_of app) (option_map application_of other) None → (told : Compared)
+      → IsShownBy one.entries.items two.entries.items told → IsComparedAs pair (Group uuid) told
+  groups_alike same told is =
+      shown_alike pair (group_in pair uuid pair.one) (group_in pair uuid pair.two) are.can_be app other one.entries.items two.entries.items
+      one_grouped two_grouped same told is
+
+-- ---- applications
 
 not_true : IsTrue false → ⊥
 not_true is = absurd cc
 
--- two sessions that aren't of one application under one key
+-- two applications that aren't one under one key
 pub differ_so : (one_key are : Bool) (A K : Type 0) → (IsTrue one_key ↔ K) → (IsTrue are ↔ (A × IsTrue one_key)) → are ≡ false
     → (A → ⊥) ⊎ (K → ⊥)
 differ_so one_key true A K keys both is = absurd cc
@@ -105,13 +191,7 @@ differ_so false false A K keys both is = inr (λ k. not_true (keys.1 k))
 
 -- ---- replies
 
-replies_same : (pair : Pair) (told : Compared) → IsComparedAs pair told → HaveSameReplies pair told
-replies_same pair (Illegal of at) is = tt
-replies_same pair (Absent of) is = tt
-replies_same pair Other is = tt
-replies_same pair (Events at) is = tt
-replies_same pair (Same count) is = same_gives_same_replies pair count is
-
-pub told_same : (pair : Pair) (result : Result Compared NoMemory) → IfOk result (IsComparedAs pair) → IfOk result (HaveSameReplies pair)
-told_same pair (Ok told) is = replies_same pair told is
-told_same pair (Err error) is = tt
+pub told_same : (pair : Pair) (subject : Subject) (result : Result Compared NoMemory) → IfOk result (IsComparedAs pair subject)
+    → IfOk result (HaveSameReplies pair subject)
+told_same pair subject (Ok told) is = same_gives_same_replies pair subject told is
+told_same pair subject (Err error) is = tt

@@ -1,6 +1,6 @@
 -- Where lists of own events first differ, worked out by hand.
 use Rattle.std.specs.Prelude.{ℕ, false, true, [], ◌∷◌}
-use Rattle.audit_model.specs.Comparing.{DifferFirstAt}
+use Rattle.compare_model.specs.Comparing.{DifferFirstAt}
 use Rattle.own_model.specs.Examples.{numbers}
 use Rattle.own_model.specs.declared.own_event.BackInput.TheVariants.{Buffer, NoBuffer}
 use Rattle.own_model.specs.declared.own_event.OwnEvent.{OwnEvent}

@@ -1,10 +1,8 @@
 -- Two journals that were read, as a pair that is compared.
-use Rattle.std.specs.Prelude.{◌≡◌, ℕ, ◌≤◌, ◌^◌, List}
+use Rattle.std.specs.Prelude.{◌≤◌, ◌^◌, List}
 use Rattle.audit.specs.Laws.{CanBeCheckedBeside}
-use Rattle.audit_model.specs.Comparing.{Journaled, Pair, replies_in}
 use Rattle.audit_model.specs.Verdicts.{CanBegin}
-use Rattle.audit_model.specs.declared.verdict.Compared.{Compared}
-use Rattle.audit_model.specs.declared.verdict.Compared.TheVariants.{Same}
+use Rattle.compare_model.specs.Comparing.{Journaled, Pair}
 use Rattle.event_journal.specs.Journal.{copied_bytes}
 use Rattle.journal_bytes.specs.declared.reading.ReadJournal.{ReadJournal}
 use Rattle.kernel_model.specs.Application.{Native, booted}
@@ -18,14 +16,9 @@ pub record CanBeCompared (natives : List Native) (read : ReadJournal) : Type 0 w
 abbrev pub journaled : ReadJournal → Journaled
 journaled read = record { boot = read.boot; events = read.journal.events }
 
-abbrev pub pair_of : List Native → ReadJournal → ReadJournal → ℕ → Pair
-pair_of natives one two session = record { one = journaled one; two = journaled two; natives = natives; session = session }
+abbrev pub pair_of : List Native → ReadJournal → ReadJournal → Pair
+pair_of natives one two = record { one = journaled one; two = journaled two; natives = natives }
 
 -- a legal and steady history begins with its events
 abbrev pub CanBeRead : List Native → ReadJournal → Type 0
 CanBeRead natives read = CanBegin (booted read.boot natives) read.journal.events
-
--- where both show the same of the session, it was answered the same in both
-abbrev pub HaveSameReplies : Pair → Compared → Type 0
-HaveSameReplies pair (Same count) = replies_in pair pair.one ≡ replies_in pair pair.two
-HaveSameReplies pair _ = Unit {0}

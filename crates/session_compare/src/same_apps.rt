@@ -1,7 +1,7 @@
-//! Whether two sessions are of one application.
+//! Whether two sessions, or two groups, are of one application.
 ghost use Rattle.std.specs.Prelude.{◌≡◌, ◌↔◌, IsTrue};
 ghost use Rattle.std.specs.Option.{option_and_then, option_map};
-ghost use Rattle.audit_model.specs.Comparing.{unless_shared};
+ghost use Rattle.compare_model.specs.Comparing.{if_shared, unless_shared};
 ghost use Rattle.kernel_state.specs.Setup.{app_of, application_of};
 
 use kernel_state::{Application, SharedApp};
@@ -14,6 +14,14 @@ pub(crate) fn unless_shared(app: Option<Application>) -> Option<Application>
 {
     let app = app?;
     if app.is_single() { None } else { Some(app) }
+}
+
+/// The application, where its sessions share an instance.
+pub(crate) fn if_shared(app: Option<Application>) -> Option<Application>
+    ensures { option_and_then if_shared (option_map application_of app) ≡ option_map application_of result }
+{
+    let app = app?;
+    if app.is_single() { Some(app) } else { None }
 }
 
 /// Both instructions are the same.

@@ -1,46 +1,12 @@
-//! Whether two own events are the same.
+//! Whether two events of a session are the same.
 ghost use Rattle.std.specs.Prelude.{◌≡◌, ◌↔◌, IsTrue};
 ghost use Rattle.own_model.specs.declared.own_event.OwnEvent.TheVariants.{Back, Close, Invoke, Open, Out, Seen};
 
+use crate::differing::SameEvent;
+use crate::same_inputs::{is_same_back, is_same_input};
 use crate::same_params::{are_same_params, is_same_login};
 use own_model::{BackInput, OwnEvent, OwnInput};
-use rpc_msgs::RpcReply;
 use ta_params::{CopiedParams, Login};
-
-/// What came of the parameters of two invokes is the same.
-fn is_same_input(one: &OwnInput, other: &OwnInput) -> bool
-    ensures { IsTrue result ↔ (one.now ≡ other.now) }
-{
-    match (one, other) {
-        (OwnInput::Copied(params), OwnInput::Copied(others)) => are_same_params(params, others),
-        (OwnInput::Faulty, OwnInput::Faulty) | (OwnInput::Unread, OwnInput::Unread) => true,
-        _ => false,
-    }
-}
-
-/// Both replies of the normal world are the same.
-fn is_same_reply(one: &RpcReply, other: &RpcReply) -> bool
-    ensures { IsTrue result ↔ (one.now ≡ other.now) }
-{
-    one.ret == other.ret
-        && one.v == other.v
-        && one.w == other.w
-        && one.size == other.size
-        && one.bytes.bytes() == other.bytes.bytes()
-}
-
-/// Two calls came back with the same.
-fn is_same_back(one: &BackInput, other: &BackInput) -> bool
-    ensures { IsTrue result ↔ (one.now ≡ other.now) }
-{
-    match (one, other) {
-        (BackInput::Reply(reply), BackInput::Reply(others)) => is_same_reply(reply, others),
-        (BackInput::Nothing, BackInput::Nothing)
-        | (BackInput::Buffer, BackInput::Buffer)
-        | (BackInput::NoBuffer, BackInput::NoBuffer) => true,
-        _ => false,
-    }
-}
 
 /// The event is this open.
 fn is_open(event: &OwnEvent, params: &CopiedParams, login: &Login, area: bool) -> bool
@@ -117,7 +83,7 @@ fn is_out(event: &OwnEvent, call: u32) -> bool
 }
 
 /// Both events are the same.
-pub(crate) fn is_same_event(one: &OwnEvent, other: &OwnEvent) -> bool
+fn is_same_event(one: &OwnEvent, other: &OwnEvent) -> bool
     ensures { IsTrue result ↔ (one.now ≡ other.now) }
 {
     match one {
@@ -133,5 +99,11 @@ pub(crate) fn is_same_event(one: &OwnEvent, other: &OwnEvent) -> bool
         OwnEvent::Back { call, input } => is_back(other, *call, input),
         OwnEvent::Out { call } => is_out(other, *call),
         OwnEvent::Limited => matches!(other, OwnEvent::Limited),
+    }
+}
+
+impl SameEvent for OwnEvent {
+    fn is_same(&self, other: &OwnEvent) -> bool {
+        is_same_event(self, other)
     }
 }

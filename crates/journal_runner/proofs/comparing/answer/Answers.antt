@@ -24,7 +24,7 @@ returns-in-Ok-clause-answered g c =
     let natives = entries c.args.natives.now in
     let one = whole_of c.in-Ok.read.one in
     let two = whole_of c.in-Ok.read.two in
-    answered_pair natives c.args.session c.args.input.items one two _ _ _
+    answered_pair natives c.args.subject c.args.input.items one two _ _ _
     (subst (λ (bytes : List ℕ). SpellsPair (uuids_of natives) bytes one two) c.as_slice.ensures.value
     (subst (λ (us : List (List ℕ)). SpellsPair us c.as_slice.result.now one two)
     (c.as_slice-2.ensures.value ∙ c.uuids.ensures.order) c.in-Ok.ensures.found))
@@ -37,5 +37,5 @@ returns-in-Err-clause-answered g c =
     subst (λ (bytes : List ℕ). IsFaultOfPairOf (uuids_of natives) bytes c.in-Err.fault) c.as_slice.ensures.value
     (subst (λ (us : List (List ℕ)). IsFaultOfPairOf us c.as_slice.result.now c.in-Err.fault)
     (c.as_slice-2.ensures.value ∙ c.uuids.ensures.order) c.in-Err.ensures.bad) in
-    fault-answered (comparing natives c.args.session) c.args.input.items c.in-Err.fault _ _ _
+    fault-answered (comparing natives c.args.subject) c.args.input.items c.in-Err.fault _ _ _
     (λ place kind is. subst (IsFaultOfPairOf (uuids_of natives) c.args.input.items) is bad) c.answer_fault.ensures.answered

@@ -1,11 +1,11 @@
-use Rattle.std.proofs.Common.{List, ap, arith, length, ◌∙◌}
+use Rattle.std.proofs.Common.{ap, arith, length, ◌∙◌}
 use Rattle.std.proofs.lemmas.List.{take_all}
-use Rattle.own_model.specs.Own.{Logged, replies_in}
+use Rattle.session_compare.specs.Logs.{replies_in}
 use Rattle.session_compare.proofs.Differences.{replies_next}
 use Rattle.session_compare.proofs.differing.count_replies.Goals as goal
 
 pub loop-logged-preserved : goal.loop-logged-preserved
-loop-logged-preserved c =
+loop-logged-preserved g c =
     let next = replies_next c.args.log.now c.loop-logged.logged-index c.logged-item.result c.loop-logged-test.true c.logged-item.is in
     record {
       few = omega (arith, c.loop-logged.invariant.few, c.replies_of-count.ensures.few);
@@ -13,6 +13,6 @@ loop-logged-preserved c =
     }
 
 pub returns : goal.returns
-returns c =
+returns g c =
     c.loop-logged.invariant.counted
-    ∙ ap (λ (log : List Logged). length (replies_in log)) (take_all c.loop-logged.logged-index c.args.log.now c.loop-logged-test.false)
+    ∙ ap (λ log. length (replies_in log)) (take_all c.loop-logged.logged-index c.args.log.now c.loop-logged-test.false)

@@ -2,4 +2,4 @@ use Rattle.session_compare.proofs.Differences.{AreSameTo}
 use Rattle.session_compare.proofs.differing.first_difference.Given as goal
 
 abbrev pub invariant-loop-at : goal.invariant-loop-at
-invariant-loop-at l = AreSameTo l.one l.other l.at
+invariant-loop-at g l = AreSameTo l.one l.other l.at

@@ -1,8 +1,7 @@
-use Rattle.std.proofs.Common.{inl, refl}
 use Rattle.native_tas.specs.Table.{entries}
-use Rattle.session_compare.proofs.Logs.{told_same}
+use Rattle.session_compare.proofs.Logs.{illegal_in_one, told_same}
 use Rattle.session_compare.specs.Pairs.{pair_of}
-use Rattle.session_compare.proofs.comparing.compare.Goals as goal
+use Rattle.session_compare.proofs.comparing.compare_on.Goals as goal
 
 pub check-requires-clause-limits : goal.check-requires-clause-limits
 check-requires-clause-limits g c = c.requires.one.boot.limits
@@ -18,7 +17,8 @@ compare_with-requires-clause-can_be g c = rw c.in-Legal.is at c.in_ok-verdict.en
 
 pub returns-in-Legal-clause-same_replies : goal.returns-in-Legal-clause-same_replies
 returns-in-Legal-clause-same_replies g c =
-    told_same (pair_of (entries c.args.natives.now) c.args.one.now c.args.two.now c.args.session) c.compare_with.result c.compare_with.ensures
+    told_same (pair_of (entries c.args.natives.now) c.args.one.now c.args.two.now) c.args.subject c.compare_with.result c.compare_with.ensures
 
 pub returns-in-Illegal-clause-compared : goal.returns-in-Illegal-clause-compared
-returns-in-Illegal-clause-compared g c = inl (refl, rw c.in-Illegal.is at c.in_ok-verdict.ensures)
+returns-in-Illegal-clause-compared g c = illegal_in_one (pair_of (entries c.args.natives.now) c.args.one.now c.args.two.now) c.args.subject
+    c.in-Illegal.at (rw c.in-Illegal.is at c.in_ok-verdict.ensures)

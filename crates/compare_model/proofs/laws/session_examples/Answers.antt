@@ -13,12 +13,12 @@ use Rattle.own_model.specs.declared.own_event.OwnInput.TheVariants.{Copied}
 use Rattle.own_model.specs.Examples.{numbers}
 use Rattle.ta_isa.specs.InstructionTable.{is_instruction}
 use Rattle.ta_isa.specs.Spelling.{are_allowed}
-use Rattle.audit_model.specs.CompareExamples.{done, invoked, keyed, opened, step_by_step}
+use Rattle.compare_model.specs.SessionExamples.{done, invoked, keyed, opened, step_by_step}
 use Rattle.audit_model.specs.VerdictExamples.{answered, asks}
 use Rattle.audit_model.specs.Verdicts.{CanBegin}
 use Rattle.audit_model.proofs.Prefixes.{prefixes_can_be}
 use Rattle.audit_model.proofs.Disjoint.{none_agrees, two_agree}
-use Rattle.audit_model.proofs.laws.compared_examples.Goals as goal
+use Rattle.compare_model.proofs.laws.session_examples.Goals as goal
 
 abbrev adder : Booted
 adder = booted (boot_with 1 1 1 (app_with add ∷ [])) []

@@ -1,5 +1,0 @@
-use Rattle.audit_model.proofs.Comparisons.{one_comparison as law}
-use Rattle.audit_model.proofs.laws.one_comparison.Goals as goal
-
-pub returns : goal.returns
-returns c = law
