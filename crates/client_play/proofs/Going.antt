@@ -15,8 +15,9 @@ use Rattle.smc_port.specs.Smc.{Changes, Smc}
 use Rattle.teec.specs.Calls.{Call}
 use Rattle.teec.specs.Rounds.{Calls, Cancels, Ended, Failed, Resumes, Stage, regs_at}
 use Rattle.teec.specs.Runs.{Scene, Turns}
-use Rattle.client_play.specs.Served.{HasNoRoom, IsRun, IsServed, RunsAreCalls, RunsStop, events_of, scene_of}
-use Rattle.client_play.specs.Standing.{Came, Returned, Standing, Stopped, after_smc, answer_of, call_from, next_stage, play_of, prepared, standing_after, unless_ended, unless_full}
+use Rattle.teec.specs.declared.fault.TeecFault.{TeecFault}
+use Rattle.client_play.specs.Served.{HasNoRoom, IsRun, IsServed, RunsAreCalls, RunsFail, RunsStop, events_of, scene_of}
+use Rattle.client_play.specs.Standing.{Came, Fails, Returned, Standing, Stopped, after_smc, answer_of, call_from, next_stage, play_of, prepared, standing_after, unless_ended, unless_full}
 use Rattle.client_play.proofs.Preparing.{prepares_alike}
 use Rattle.client_play.proofs.Smcs.{one_smc}
 
@@ -130,6 +131,26 @@ runs_are_calls boot cancel_after call stage (suc room) old new (smc ∷ smcs) ru
     (behind old smc run.served.0 run.runs.0) new smcs
     (rest_of boot cancel_after call stage Ended old new smc smcs run) fewer
     ∙ ap (λ (n : ℕ). Some (Returned n new)) left
+
+-- ---- one that fails
+
+failed : (boot : Booted) (cancel_after : Option ℕ) (call : Call) (room : ℕ) (fault : TeecFault) (standing : Standing)
+    → call_from boot cancel_after call room (Failed fault) standing ≡ Some (Fails fault)
+failed boot cancel_after call zero fault standing = refl
+failed boot cancel_after call (suc room) fault standing = refl
+
+pub runs_fail : RunsFail
+runs_fail boot cancel_after call stage room fault old new [] run few =
+    let same = stays boot cancel_after call stage (Failed fault) old new run in
+    subst (λ (at : Stage). call_from boot cancel_after call room at old ≡ Some (Fails fault)) same.0
+    (failed boot cancel_after call room fault old)
+runs_fail boot cancel_after call stage zero fault old new (smc ∷ smcs) run few = absurd (omega (arith, few))
+runs_fail boot cancel_after call stage (suc room) fault old new (smc ∷ smcs) run few =
+    let fewer : length smcs ≤ room = omega (arith, few) in
+    steps boot cancel_after call room stage (Failed fault) old new smc smcs run
+    ∙ runs_fail boot cancel_after call (next_stage cancel_after stage smc.answer) room fault
+    (behind old smc run.served.0 run.runs.0) new smcs
+    (rest_of boot cancel_after call stage (Failed fault) old new smc smcs run) fewer
 
 -- ---- one that stops
 

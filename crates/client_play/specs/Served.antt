@@ -14,9 +14,10 @@ use Rattle.ns_ram.specs.Writes.{Write}
 use Rattle.smc_abi.specs.declared.regs.Regs.{Regs}
 use Rattle.smc_port.specs.Smc.{Smc}
 use Rattle.teec.specs.Calls.{Call}
-use Rattle.teec.specs.Rounds.{Ended, Stage, regs_at}
+use Rattle.teec.specs.Rounds.{Ended, Failed, Stage, regs_at}
 use Rattle.teec.specs.Runs.{Runs, Scene}
-use Rattle.client_play.specs.Standing.{Returned, Standing, Stopped, after_smc, call_from, most_returns, play_of, prepared, steps_granted, tries}
+use Rattle.teec.specs.declared.fault.TeecFault.{TeecFault}
+use Rattle.client_play.specs.Standing.{Fails, Returned, Standing, Stopped, after_smc, call_from, most_returns, play_of, prepared, steps_granted, tries}
 
 -- ---- one SMC after the other
 
@@ -92,3 +93,9 @@ RunsStop = (boot : Booted) (cancel_after : Option ℕ) (call : Call) (stage last
     IsRun boot cancel_after call stage old smcs last new → length smcs ≤ room → regs_at last ≡ Some regs →
     HasNoRoom boot (room - length smcs) regs (prepared call last new) more →
     call_from boot cancel_after call room stage old ≡ Some (Stopped more new.history)
+
+-- one that fails by its answers is a call that does
+abbrev pub RunsFail : Type 0
+RunsFail = (boot : Booted) (cancel_after : Option ℕ) (call : Call) (stage : Stage) (room : ℕ) (fault : TeecFault) (old new : Standing)
+    (smcs : List Smc) → IsRun boot cancel_after call stage old smcs (Failed fault) new → length smcs ≤ room →
+    call_from boot cancel_after call room stage old ≡ Some (Fails fault)

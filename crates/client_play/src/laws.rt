@@ -3,7 +3,7 @@
 ghost use Rattle.client_play.specs.Examples.{Examples};
 ghost use Rattle.client_play.specs.Laws.{CallsAreMadeAlike, PreparesAlike};
 ghost use Rattle.client_play.specs.PlayLaws.{PlaysAreOfTraces, ResultsAreToldAlone, ScriptsHavePlays};
-ghost use Rattle.client_play.specs.Served.{RunsAreCalls, RunsStop, SmcsAreServed};
+ghost use Rattle.client_play.specs.Served.{RunsAreCalls, RunsFail, RunsStop, SmcsAreServed};
 
 /// What is written before an SMC, and what the supplicant makes of a message, is what a client does there over any port.
 pub fn prepares_alike()
@@ -18,6 +18,11 @@ pub fn smcs_are_served()
 /// A client's run over a port whose SMCs a core has served is its call on the core, where it ends.
 pub fn runs_are_calls()
     ensures { RunsAreCalls }
+{}
+
+/// Where it fails by its answers, the call fails.
+pub fn runs_fail()
+    ensures { RunsFail }
 {}
 
 /// Where its next SMC has no room, the call stops there.

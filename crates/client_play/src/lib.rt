@@ -11,5 +11,5 @@ mod laws;
 
 pub use laws::{
     calls_are_made_alike, plays_are_of_traces, prepares_alike, results_are_told_alone,
-    runs_are_calls, runs_stop, scripts_have_plays, smcs_are_served, worked_examples,
+    runs_are_calls, runs_fail, runs_stop, scripts_have_plays, smcs_are_served, worked_examples,
 };

@@ -1,0 +1,6 @@
+pub mod Called
+pub mod Gathered
+pub mod Names
+pub mod PortServed
+pub mod Sendable
+pub mod Started
