@@ -1,6 +1,7 @@
 -- From the clauses of the top call to what a call over memory comes to.
 use Rattle.std.proofs.Common.{◌≡◌, ℕ, ◌⊎◌, inl, inr, Bool, false, List, [], Option, Some, None, refl, sym, subst, arith}
 use Rattle.std.specs.Prelude.{◌↔◌, IsTrue}
+use Rattle.compare_model.specs.declared.subject.Subject.{Subject}
 use Rattle.ports.specs.Port.{Appends, Rose}
 use Rattle.journal_runner.specs.Auditing.{auditing}
 use Rattle.journal_runner.specs.Compares.{Compares}
@@ -41,9 +42,9 @@ pub record Clauses (natives : List Native) (drivers : Drivers) (texts : List (Li
   pub records : Say texts Record
       → Keeps (recording natives) input left result old new ((Rose 0 0 → ⊥) × (Rose 0 0 → ⊥)) × Records natives input result old new
   pub audits : Say texts Audit → Keeps (auditing natives) input left result old new ((Rose 0 0 → ⊥) × (Rose 0 0 → ⊥))
-  pub compares : (session : ℕ) → Say texts (Compare session)
-      → Keeps (comparing natives session) input left result old new ((Rose 0 0 → ⊥) × (Rose 0 0 → ⊥))
-      × Compares natives session input result old new ((Rose 0 0 → ⊥) × (Rose 0 0 → ⊥))
+  pub compares : (subject : Subject) → Say texts (Compare subject)
+      → Keeps (comparing natives subject) input left result old new ((Rose 0 0 → ⊥) × (Rose 0 0 → ⊥))
+      × Compares natives subject input result old new ((Rose 0 0 → ⊥) × (Rose 0 0 → ⊥))
   pub notifies : Say texts Notify
       → Keeps (notifying natives drivers) input left result old new ((Rose 0 0 → ⊥) × (Rose 0 0 → ⊥))
       × Notifies natives drivers input result old new
@@ -65,10 +66,10 @@ keeps_quiet word input left result old new k = record {
   refuses = λ can no. k.refuses can (quiet, quiet);
 }
 
-compares_quiet : (natives : List Native) (session : ℕ) (input : List ℕ) (result : Status) (old new : Option (List ℕ))
-    → Compares natives session input result old new ((Rose 0 0 → ⊥) × (Rose 0 0 → ⊥))
-    → Compares natives session input result old new (Unit {0})
-compares_quiet natives session input result old new c = record {
+compares_quiet : (natives : List Native) (subject : Subject) (input : List ℕ) (result : Status) (old new : Option (List ℕ))
+    → Compares natives subject input result old new ((Rose 0 0 → ⊥) × (Rose 0 0 → ⊥))
+    → Compares natives subject input result old new (Unit {0})
+compares_quiet natives subject input result old new c = record {
   ok = c.ok;
   complete = λ one two pair short no. c.complete one two pair short (quiet, quiet);
 }
@@ -94,10 +95,10 @@ of_clauses natives drivers texts input left result output c = record {
     left = left;
     keeps = keeps_quiet (auditing natives) input left result (Some []) (Some output) (c.audits said);
   };
-  compares = λ session said. record {
+  compares = λ subject said. record {
     left = left;
-    keeps = keeps_quiet (comparing natives session) input left result (Some []) (Some output) (c.compares session said).0;
-    compares = compares_quiet natives session input result (Some []) (Some output) (c.compares session said).1;
+    keeps = keeps_quiet (comparing natives subject) input left result (Some []) (Some output) (c.compares subject said).0;
+    compares = compares_quiet natives subject input result (Some []) (Some output) (c.compares subject said).1;
   };
   notifies = λ said. record {
     left = left;
@@ -129,7 +130,7 @@ no_words (Serve grammar) said = let e = said.words in absurd cc
 no_words Threads said = let e = said.words in absurd cc
 no_words Record said = let e = said.words in absurd cc
 no_words Audit said = let e = said.words in absurd cc
-no_words (Compare session) said = let e = said.words in absurd cc
+no_words (Compare subject) said = let e = said.words.2 in absurd cc
 no_words Notify said = let e = said.words in absurd cc
 no_words (Work seed count) said = let e = said.words in absurd cc
 
@@ -144,7 +145,7 @@ of_threads natives drivers texts input result output threads written usage reads
   serves = λ grammar said. absurd (not_serve texts grammar threads said);
   records = λ said. let same = threads_alone texts Record threads said in absurd cc;
   audits = λ said. let same = threads_alone texts Audit threads said in absurd cc;
-  compares = λ session said. let same = threads_alone texts (Compare session) threads said in absurd cc;
+  compares = λ subject said. let same = threads_alone texts (Compare subject) threads said in absurd cc;
   notifies = λ said. let same = threads_alone texts Notify threads said in absurd cc;
   works = λ seed count said. absurd (not_work texts seed count threads said);
   reads = reads;
@@ -180,9 +181,9 @@ unrun_so natives drivers texts input = record {
     records = record { ok = λ e. absurd cc; too_long = λ e. absurd cc };
   };
   audits = λ said. record { left = None; keeps = unread (auditing natives) input };
-  compares = λ session said. record {
+  compares = λ subject said. record {
     left = None;
-    keeps = unread (comparing natives session) input;
+    keeps = unread (comparing natives subject) input;
     compares = record { ok = λ e. absurd cc; complete = λ one two pair short no. inr refl };
   };
   notifies = λ said. record {

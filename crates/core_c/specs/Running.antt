@@ -1,5 +1,6 @@
 -- What a call over bytes in memory comes to: it is the top call, whose source and sink count no fault.
 use Rattle.std.specs.Prelude.{◌≡◌, ◌≢◌, ℕ, ◌⊎◌, List, [], ◌∷◌, Option, Some}
+use Rattle.compare_model.specs.declared.subject.Subject.{Subject}
 use Rattle.native_tas.specs.declared.driver_relation.DriverRelation.{DriverRelation}
 use Rattle.native_tas.specs.declared.driver_relation.DriverRelation.TheVariants.{Echo}
 use Rattle.native_tas.specs.declared.relation.Relation.{Relation}
@@ -67,12 +68,12 @@ pub record HasAudited (natives : List Native) (input : List ℕ) (result : Statu
   pub left : Option (List ℕ)
   pub keeps : Keeps (auditing natives) input left result (Some []) (Some output) (Unit {0})
 
--- and two journals of which it is written what they show of a session
-pub record HasCompared (natives : List Native) (session : ℕ) (input : List ℕ) (result : Status) (output : List ℕ) : Type 0
+-- and two journals of which it is written what they show of a session, or of the sessions that share an application's instance
+pub record HasCompared (natives : List Native) (subject : Subject) (input : List ℕ) (result : Status) (output : List ℕ) : Type 0
   where
     pub left : Option (List ℕ)
-    pub keeps : Keeps (comparing natives session) input left result (Some []) (Some output) (Unit {0})
-    pub compares : Compares natives session input result (Some []) (Some output) (Unit {0})
+    pub keeps : Keeps (comparing natives subject) input left result (Some []) (Some output) (Unit {0})
+    pub compares : Compares natives subject input result (Some []) (Some output) (Unit {0})
 
 -- and a trace with signals
 pub record HasNotified (natives : List Native) (drivers : Drivers) (input : List ℕ) (result : Status) (output : List ℕ) : Type 0
@@ -93,7 +94,7 @@ pub record IsRun (natives : List Native) (drivers : Drivers) (texts : List (List
   pub serves : (grammar : Grammar) → Say texts (Serve grammar) → Serves natives grammar input result output
   pub records : Say texts Record → HasRecorded natives input result output
   pub audits : Say texts Audit → HasAudited natives input result output
-  pub compares : (session : ℕ) → Say texts (Compare session) → HasCompared natives session input result output
+  pub compares : (subject : Subject) → Say texts (Compare subject) → HasCompared natives subject input result output
   pub notifies : Say texts Notify → HasNotified natives drivers input result output
   pub works : (seed count : ℕ) → Say texts (Work seed count) → Works seed count result output
   pub reads : result ≢ ReadFault

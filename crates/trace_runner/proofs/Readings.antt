@@ -6,10 +6,13 @@ use Rattle.std.specs.Str.{bytes_eq}
 use Rattle.std.specs.Str.Parse.{digits_value}
 use Rattle.std.proofs.lemmas.Fmt.{decimal_is_IsNumeral}
 use Rattle.std.specs.Global.{Global}
+use Rattle.compare_model.specs.declared.subject.Subject.{Subject}
+use Rattle.compare_model.specs.declared.subject.Subject.TheVariants.{Session, Group}
 use Rattle.ta_asm.proofs.Meanings as asm
 use Rattle.ta_isa.specs.declared.image.Image.{Image}
 use Rattle.trace_bin.proofs.GrammarLaws as records
 use Rattle.trace_text.proofs.GrammarLaws as text
+use Rattle.trace_text.specs.Forms.{is_uuid, uuid}
 use Rattle.trace_text.specs.declared.fault.BadKind.{BadKind}
 use Rattle.trace_text.specs.declared.trace.Trace.{Trace}
 use Rattle.kernel_model.specs.Application.{Native}
@@ -17,7 +20,8 @@ use Rattle.trace_player.specs.Starting.{uuids_of}
 use Rattle.word_parts.specs.Word.{HasOneMeaning}
 use Rattle.trace_runner.specs.Content.{IsFirstFault, Spells}
 use Rattle.trace_runner.specs.Run.{reading}
-use Rattle.trace_runner.specs.Words.{Asks, IsWithin, Say, words_of}
+use Rattle.trace_runner.specs.Words.{Asks, IsNumbered, Names, Say}
+use Rattle.trace_runner.proofs.Commands.{no_uuid}
 use Rattle.trace_runner.specs.declared.command.Command.{Command}
 use Rattle.trace_runner.specs.declared.command.Command.TheVariants.{Serve, Threads, Record, Audit, Compare, Notify, Work}
 use Rattle.trace_runner.specs.declared.content.Content.{Content}
@@ -70,6 +74,9 @@ first_word words = get_or words 0 []
 abbrev number_at : ℕ → List (List ℕ) → ℕ
 number_at place words = digits_value 10 (get_or words place [])
 
+abbrev subject_in : List ℕ → Subject
+subject_in word = if is_uuid word then Group (uuid word) else Session (digits_value 10 word)
+
 abbrev command_in : List (List ℕ) → Command
 command_in words =
     if bytes_eq (first_word words) (codes "run") then Serve Text else
@@ -78,44 +85,51 @@ command_in words =
     if bytes_eq (first_word words) (codes "threads") then Threads else
     if bytes_eq (first_word words) (codes "record") then Record else
     if bytes_eq (first_word words) (codes "audit") then Audit else
-    if bytes_eq (first_word words) (codes "compare") then Compare (number_at 1 words) else
+    if bytes_eq (first_word words) (codes "compare") then Compare (subject_in (get_or words 1 [])) else
     if bytes_eq (first_word words) (codes "notify") then Notify else
     Work (number_at 1 words) (number_at 2 words)
 
 read_back : (n : ℕ) → n < 2 ^ 64 → digits_value 10 (decimal n) ≡ n
 read_back n below = (decimal_is_IsNumeral n below).1
 
-command_back : (command : Command) → IsWithin command → command_in (words_of command) ≡ command
-command_back (Serve Text) within = refl
-command_back (Serve Records) within = refl
-command_back (Serve Assembler) within = refl
-command_back Threads within = refl
-command_back Record within = refl
-command_back Audit within = refl
-command_back (Compare session) within = ap (λ (n : ℕ). Compare n) (read_back session (omega (arith, within)))
-command_back Notify within = refl
-command_back (Work seed count) within =
-    let few = within.1 in
-    ap (λ (n : ℕ). Work n (digits_value 10 (decimal count))) (read_back seed within.0)
+subject_back : (subject : Subject) (word : List ℕ) → IsNumbered subject → Names subject word → subject_in word ≡ subject
+subject_back (Session number) word small is =
+    rw (no_uuid number word small is) (ap (λ (w : List ℕ). Session (digits_value 10 w)) is ∙ ap (λ (n : ℕ). Session n) (read_back number (omega (arith, small))))
+subject_back (Group id) word numbered named = rw named.0 (ap (λ (u : List ℕ). Group u) (sym named.1))
+
+command_back : (texts : List (List ℕ)) (command : Command) → Say texts command → command_in texts ≡ command
+command_back texts (Serve Text) said = ap command_in said.words
+command_back texts (Serve Records) said = ap command_in said.words
+command_back texts (Serve Assembler) said = ap command_in said.words
+command_back texts Threads said = ap command_in said.words
+command_back texts Record said = ap command_in said.words
+command_back texts Audit said = ap command_in said.words
+command_back texts (Compare subject) said =
+    ap command_in said.words.2 ∙ ap (λ (s : Subject). Compare s) (subject_back subject said.words.0 said.within said.words.1)
+command_back texts Notify said = ap command_in said.words
+command_back texts (Work seed count) said =
+    let few = said.within.1 in
+    ap command_in said.words
+    ∙ ap (λ (n : ℕ). Work n (digits_value 10 (decimal count))) (read_back seed said.within.0)
     ∙ ap (λ (n : ℕ). Work seed n) (read_back count (omega (arith, few)))
 
 -- so words say one command
 same_command : (texts : List (List ℕ)) (one other : Command) → Say texts one → Say texts other → one ≡ other
 same_command texts one other p q =
-    sym (command_back one p.within) ∙ ap command_in (sym p.words ∙ q.words) ∙ command_back other q.within
+    sym (command_back texts one p) ∙ command_back texts other q
 
 -- words ask for one command
 pub one_command : (words : List (String Global)) (one other : Command) → Asks words one → Asks words other → one ≡ other
 one_command words one other p q = same_command (map string_bytes words) one other p q
 
--- so the grammar is one, or the session, or the seed and the number of calls
+-- so the grammar is one, or what is compared, or the seed and the number of calls
 pub one_grammar : (words : List (String Global)) (one other : Grammar) → Asks words (Serve one) → Asks words (Serve other)
     → one ≡ other
 one_grammar words one other p q = let same = one_command words (Serve one) (Serve other) p q in cc
 
-pub one_session : (words : List (String Global)) (one other : ℕ) → Asks words (Compare one) → Asks words (Compare other)
+pub one_subject : (words : List (String Global)) (one other : Subject) → Asks words (Compare one) → Asks words (Compare other)
     → one ≡ other
-one_session words one other p q = let same = one_command words (Compare one) (Compare other) p q in cc
+one_subject words one other p q = let same = one_command words (Compare one) (Compare other) p q in cc
 
 pub one_work : (words : List (String Global)) (s n t m : ℕ) → Asks words (Work s n) → Asks words (Work t m)
     → (s ≡ t) × (n ≡ m)

@@ -1,7 +1,10 @@
 -- What words ask for.
-use Rattle.std.specs.Prelude.{◌≡◌, ℕ, ◌^◌, ◌<◌, ◌≤◌, List, [], ◌∷◌, codes, map, String, string_bytes}
+use Rattle.std.specs.Prelude.{◌≡◌, ℕ, ◌^◌, ◌<◌, ◌≤◌, true, List, [], ◌∷◌, codes, map, String, string_bytes}
 use Rattle.std.specs.Fmt.{decimal}
 use Rattle.std.specs.Global.{Global}
+use Rattle.compare_model.specs.declared.subject.Subject.{Subject}
+use Rattle.compare_model.specs.declared.subject.Subject.TheVariants.{Session, Group}
+use Rattle.trace_text.specs.Forms.{is_uuid, uuid}
 use Rattle.trace_runner.specs.declared.command.Command.{Command}
 use Rattle.trace_runner.specs.declared.command.Command.TheVariants.{Serve, Threads, Record, Audit, Compare, Notify, Work}
 use Rattle.trace_runner.specs.declared.command.Grammar.{Grammar}
@@ -13,30 +16,41 @@ word_of Text = codes "run"
 word_of Records = codes "run-binary"
 word_of Assembler = codes "asm"
 
--- the words of each command. A number is its digits in decimal, so it has no leading zero but in `0`
-abbrev pub words_of : Command → List (List ℕ)
-words_of (Serve grammar) = word_of grammar ∷ []
-words_of Threads = codes "threads" ∷ []
-words_of Record = codes "record" ∷ []
-words_of Audit = codes "audit" ∷ []
-words_of (Compare session) = codes "compare" ∷ decimal session ∷ []
-words_of Notify = codes "notify" ∷ []
-words_of (Work seed count) = codes "work" ∷ decimal seed ∷ decimal count ∷ []
+-- a number is its digits in decimal, so it has no leading zero but in `0`; a UUID is in the hyphenated form, with letters of either
+-- case
+abbrev pub Names : Subject → List ℕ → Type 0
+Names (Session number) word = word ≡ decimal number
+Names (Group id) word = (is_uuid word ≡ true) × (id ≡ uuid word)
 
--- the number of a session is below 2^32, a seed below 2^64, and there are at most 65,536 calls
+-- the number of a session is below 2^32
+abbrev pub IsNumbered : Subject → Type 0
+IsNumbered (Session number) = number < 2 ^ 32
+IsNumbered (Group id) = Unit {0}
+
+-- texts are the words of a command
+abbrev pub AreWordsOf : Command → List (List ℕ) → Type 0
+AreWordsOf (Serve grammar) texts = texts ≡ word_of grammar ∷ []
+AreWordsOf Threads texts = texts ≡ codes "threads" ∷ []
+AreWordsOf Record texts = texts ≡ codes "record" ∷ []
+AreWordsOf Audit texts = texts ≡ codes "audit" ∷ []
+AreWordsOf (Compare subject) texts = (word : List ℕ) × Names subject word × (texts ≡ codes "compare" ∷ word ∷ [])
+AreWordsOf Notify texts = texts ≡ codes "notify" ∷ []
+AreWordsOf (Work seed count) texts = texts ≡ codes "work" ∷ decimal seed ∷ decimal count ∷ []
+
+-- a seed is below 2^64, and there are at most 65,536 calls
 abbrev pub IsWithin : Command → Type 0
 IsWithin (Serve grammar) = Unit {0}
 IsWithin Threads = Unit {0}
 IsWithin Record = Unit {0}
 IsWithin Audit = Unit {0}
-IsWithin (Compare session) = session < 2 ^ 32
+IsWithin (Compare subject) = IsNumbered subject
 IsWithin Notify = Unit {0}
 IsWithin (Work seed count) = (seed < 2 ^ 64) × (count ≤ 2 ^ 16)
 
 -- these texts say the command, or none
 pub record Say (texts : List (List ℕ)) (command : Command) : Type 0 where
   pub within : IsWithin command
-  pub words : texts ≡ words_of command
+  pub words : AreWordsOf command texts
 
 abbrev pub SayNothing : List (List ℕ) → Type 0
 SayNothing texts = (command : Command) → Say texts command → ⊥
@@ -54,7 +68,7 @@ Reads (Serve grammar) = Unit {0}
 Reads Threads = Unit {0}
 Reads Record = Unit {0}
 Reads Audit = Unit {0}
-Reads (Compare session) = Unit {0}
+Reads (Compare subject) = Unit {0}
 Reads Notify = Unit {0}
 Reads (Work seed count) = ⊥
 

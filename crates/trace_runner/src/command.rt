@@ -2,10 +2,13 @@
 
 ghost use Rattle.std.specs.Prelude.{◌≡◌, ◌↔◌, ℕ, ◌<◌, ◌^◌, [], ◌∷◌, IfSome, IsNone, IsTrue};
 ghost use Rattle.std.specs.Fmt.{decimal};
-ghost use Rattle.trace_runner.specs.Words.{AskNothing, Asks, Say, SayNothing};
+ghost use Rattle.compare_model.specs.declared.subject.Subject.{Subject as AnySubject};
+ghost use Rattle.trace_runner.specs.Words.{AskNothing, Asks, IsNumbered, Names, Say, SayNothing};
 ghost use Rattle.trace_runner.specs.declared.command.Command.TheVariants.{Threads};
 
 use itoa::Buffer;
+use journal_runner::Subject;
+use trace_text::word::uuid;
 use workload::MOST_CALLS;
 
 /// In which grammar an input is read.
@@ -30,8 +33,8 @@ pub enum Command {
     Record,
     /// The input is read as the bytes of a journal, and the verdict on it is written.
     Audit,
-    /// The input is read as the bytes of two journals, and what they show of the session of this number is written.
-    Compare { session: u32 },
+    /// The input is read as the bytes of two journals, and what they show of this is written.
+    Compare { subject: Subject },
     /// The input is read as the text of a trace with signals, which is played beside a desk of signals.
     Notify,
     /// The trace that a seed makes with so many calls is played, and its play is summed up.
@@ -71,21 +74,31 @@ fn command_named(word: &str) -> Option<Command>
     }
 }
 
-/// What a word and a number ask for.
-fn compare_of(word: &str, session: &str) -> Option<Command>
-    ensures said { IfSome result (Say (word.now ∷ session.now ∷ [])) }
-    ensures nothing { IsNone result → SayNothing (word.now ∷ session.now ∷ []) }
+/// What a word names: the sessions of an application by its UUID, or one session by its number.
+fn subject_of(word: &str) -> Option<Subject>
+    ensures named { IfSome result (λ subject. IsNumbered subject × Names subject word.now) }
+    ensures nothing { IsNone result → (subject : AnySubject) → IsNumbered subject → Names subject word.now → ⊥ }
+{
+    if let Some(uuid) = uuid(word.as_bytes()) {
+        return Some(Subject::Group(uuid));
+    }
+    let number = number_in(word)?;
+    if number > u64::from(u32::MAX) {
+        return None;
+    }
+    Some(Subject::Session(number as u32))
+}
+
+/// What a word and the name of a subject ask for.
+fn compare_of(word: &str, subject: &str) -> Option<Command>
+    ensures said { IfSome result (Say (word.now ∷ subject.now ∷ [])) }
+    ensures nothing { IsNone result → SayNothing (word.now ∷ subject.now ∷ []) }
 {
     if word != "compare" {
         return None;
     }
-    let session = number_in(session)?;
-    if session > u64::from(u32::MAX) {
-        return None;
-    }
-    Some(Command::Compare {
-        session: session as u32,
-    })
+    let subject = subject_of(subject)?;
+    Some(Command::Compare { subject })
 }
 
 /// What a word and two numbers ask for.
@@ -114,7 +127,7 @@ pub fn command_of(words: &[String]) -> Option<Command>
 {
     match words {
         [word] => command_named(word.as_str()),
-        [word, session] => compare_of(word.as_str(), session.as_str()),
+        [word, subject] => compare_of(word.as_str(), subject.as_str()),
         [word, seed, count] => work_of(word.as_str(), seed.as_str(), count.as_str()),
         _ => None,
     }

@@ -1,6 +1,7 @@
 //! The top call.
 
 ghost use Rattle.std.specs.Prelude.{◌≡◌, ◌≢◌, ℕ, ◌⊎◌, ◌≤◌, ◌+◌, ◌^◌, IfSome, Some, None, [], Err, length};
+ghost use Rattle.compare_model.specs.declared.subject.Subject.{Subject};
 ghost use Rattle.native_tas.specs.Table.{drivers, entries};
 ghost use Rattle.notify_runner.specs.Notified.{Notifies};
 ghost use Rattle.notify_runner.specs.Run.{notifying};
@@ -167,9 +168,11 @@ fn answer_work<K: Sink>(alloc: Global, seed: u64, count: u32, out: &mut K) -> St
 /// Does what the words ask for, but for `threads`. `run` reads a trace as text from the input and plays it on one core, beside
 /// the applications that are built in, `run-binary` reads it as records, and `asm` reads a text of the assembler and prints
 /// its image in hexadecimal. `record` reads a trace as text, plays it, and writes the bytes of its journal; `audit` reads these and
-/// writes the verdict on them; `compare ID` reads the bytes of two journals and writes what they show of a session. `notify` reads
-/// a trace with signals as text and plays it beside the drivers that are built in. `work SEED COUNT` reads nothing: it plays the trace that the seed makes with so many calls, without built-in applications,
-/// and prints a line that sums it up. Any other words are answered with the usage line.
+/// writes the verdict on them; `compare ID` reads the bytes of two journals and writes what they show of a session, and
+/// `compare UUID` what they show of the sessions of an application that share its instance. `notify` reads a trace with signals as
+/// text and plays it beside the drivers that are built in. `work SEED COUNT` reads nothing: it plays the trace that the seed makes
+/// with so many calls, without built-in applications, and prints a line that sums it up. Any other words are answered with the
+/// usage line.
 ///
 /// The words are tested first, then the input is read to its end, then its length, its grammar and the number of its
 /// SMC items are tested, then it is played; the first answer met ends the call. The lines of a play are gathered and put
@@ -224,12 +227,12 @@ pub fn run_alone<S: Source, K: Sink>(
         Keeps (auditing (entries natives.now)) bytes (S.left input.new) result (K.held out.old) (K.held out.new)
         ((Rose (S.faults input.old) (S.faults input.new) → ⊥) × (Rose (K.faults out.old) (K.faults out.new) → ⊥))) }
 
-    // ---- What two journals show of a session: where that is the same, it was answered the same in both. Any two journals are
-    // answered so, or there is want of memory.
-    ensures compares { (session : ℕ) → Asks words.now (Compare session) → IfSome (S.left input.old) (λ bytes.
-        Keeps (comparing (entries natives.now) session) bytes (S.left input.new) result (K.held out.old) (K.held out.new)
+    // ---- What two journals show of a session, or of the sessions that share an application's instance: where that is the same,
+    // they were answered the same in both. Any two journals are answered so, or there is want of memory.
+    ensures compares { (subject : Subject) → Asks words.now (Compare subject) → IfSome (S.left input.old) (λ bytes.
+        Keeps (comparing (entries natives.now) subject) bytes (S.left input.new) result (K.held out.old) (K.held out.new)
         ((Rose (S.faults input.old) (S.faults input.new) → ⊥) × (Rose (K.faults out.old) (K.faults out.new) → ⊥))
-        × Compares (entries natives.now) session bytes result (K.held out.old) (K.held out.new)
+        × Compares (entries natives.now) subject bytes result (K.held out.old) (K.held out.new)
         ((Rose (S.faults input.old) (S.faults input.new) → ⊥) × (Rose (K.faults out.old) (K.faults out.new) → ⊥))) }
 
     // ---- The text of a trace with signals: all that the word keeps to, and the play whose text was written. The kernel's history
@@ -256,7 +259,7 @@ pub fn run_alone<S: Source, K: Sink>(
         Some(Command::Threads) => unreachable!(),
         Some(Command::Record) => record(alloc, input, out, natives),
         Some(Command::Audit) => audit(alloc, input, out, natives),
-        Some(Command::Compare { session }) => compare(alloc, session, input, out, natives),
+        Some(Command::Compare { subject }) => compare(alloc, subject, input, out, natives),
         Some(Command::Notify) => notify(alloc, input, out, natives),
         Some(Command::Work { seed, count }) => answer_work(alloc, seed, count, out),
         None => answer_line(out, Status::Usage, USAGE_LINE),
@@ -342,12 +345,12 @@ pub fn run<R: Threads + Wait + Sync, S: Source, K: Sink, G: Pace + Sync>(
         Keeps (auditing (entries natives.now)) bytes (S.left input.new) result (K.held out.old) (K.held out.new)
         ((Rose (S.faults input.old) (S.faults input.new) → ⊥) × (Rose (K.faults out.old) (K.faults out.new) → ⊥))) }
 
-    // ---- What two journals show of a session: where that is the same, it was answered the same in both. Any two journals are
-    // answered so, or there is want of memory.
-    ensures compares { (session : ℕ) → Asks words.now (Compare session) → IfSome (S.left input.old) (λ bytes.
-        Keeps (comparing (entries natives.now) session) bytes (S.left input.new) result (K.held out.old) (K.held out.new)
+    // ---- What two journals show of a session, or of the sessions that share an application's instance: where that is the same,
+    // they were answered the same in both. Any two journals are answered so, or there is want of memory.
+    ensures compares { (subject : Subject) → Asks words.now (Compare subject) → IfSome (S.left input.old) (λ bytes.
+        Keeps (comparing (entries natives.now) subject) bytes (S.left input.new) result (K.held out.old) (K.held out.new)
         ((Rose (S.faults input.old) (S.faults input.new) → ⊥) × (Rose (K.faults out.old) (K.faults out.new) → ⊥))
-        × Compares (entries natives.now) session bytes result (K.held out.old) (K.held out.new)
+        × Compares (entries natives.now) subject bytes result (K.held out.old) (K.held out.new)
         ((Rose (S.faults input.old) (S.faults input.new) → ⊥) × (Rose (K.faults out.old) (K.faults out.new) → ⊥))) }
 
     // ---- The text of a trace with signals: all that the word keeps to, and the play whose text was written. The kernel's history

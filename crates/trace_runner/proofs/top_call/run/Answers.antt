@@ -1,4 +1,4 @@
-use Rattle.trace_runner.specs.declared.command.Command.TheVariants.{Threads, Record, Audit, Notify}
+use Rattle.trace_runner.specs.declared.command.Command.TheVariants.{Threads, Record, Audit, Compare, Notify}
 use Rattle.trace_runner.proofs.Readings.{no_other}
 use Rattle.trace_runner.proofs.OnThreads.{threads-refused, threads-statuses, threads-whole}
 use Rattle.trace_runner.proofs.top_call.run.Goals as goal
@@ -28,6 +28,11 @@ returns-then-asks_threads-clause-records g c =
 pub returns-then-asks_threads-clause-audits : goal.returns-then-asks_threads-clause-audits
 returns-then-asks_threads-clause-audits g c =
     λ asks. no_other c.args.words.now Threads Audit (λ e. absurd cc) (c.asks_threads.ensures.0 c.if-asks_threads.true) asks
+
+pub returns-then-asks_threads-clause-compares : goal.returns-then-asks_threads-clause-compares
+returns-then-asks_threads-clause-compares g c =
+    λ subject asks. no_other c.args.words.now Threads (Compare subject) (λ e. absurd cc)
+    (c.asks_threads.ensures.0 c.if-asks_threads.true) asks
 
 pub returns-then-asks_threads-clause-notifies : goal.returns-then-asks_threads-clause-notifies
 returns-then-asks_threads-clause-notifies g c =

@@ -1,5 +1,6 @@
-use Rattle.std.proofs.Common.{ℕ, refl, subst}
+use Rattle.std.proofs.Common.{refl, subst}
 use Rattle.std.specs.Prelude.{IfSome}
+use Rattle.compare_model.specs.declared.subject.Subject.{Subject}
 use Rattle.native_tas.specs.Table.{entries}
 use Rattle.journal_runner.specs.Compares.{Compares}
 use Rattle.journal_runner.specs.Comparing.{comparing}
@@ -11,7 +12,7 @@ use Rattle.trace_runner.specs.declared.command.Command.TheVariants.{Serve, Recor
 use Rattle.trace_runner.specs.declared.command.Grammar.{Grammar}
 use Rattle.word_parts.specs.declared.status.Status.{Status}
 use Rattle.trace_runner.proofs.Plays.{kept-plays, worked-plays}
-use Rattle.trace_runner.proofs.Readings.{no_other, one_grammar, one_session, one_work}
+use Rattle.trace_runner.proofs.Readings.{no_other, one_grammar, one_subject, one_work}
 use Rattle.trace_runner.proofs.Running.{both-some, worked-statuses, worked-whole}
 use Rattle.trace_runner.proofs.top_call.run_alone.Goals as goal
 
@@ -48,6 +49,11 @@ returns-in-Some-Serve-clause-notifies g c = λ asks.
     no_other c.args.words.now (Serve c.in-Some-Serve.grammar) Notify (λ e. absurd cc)
     (subst (Asks c.args.words.now) c.in-Some-Serve.field-0-is c.in-Some-Serve.ensures.asked) asks
 
+pub returns-in-Some-Serve-clause-compares : goal.returns-in-Some-Serve-clause-compares
+returns-in-Some-Serve-clause-compares g c = λ subject asks.
+    no_other c.args.words.now (Serve c.in-Some-Serve.grammar) (Compare subject) (λ e. absurd cc)
+    (subst (Asks c.args.words.now) c.in-Some-Serve.field-0-is c.in-Some-Serve.ensures.asked) asks
+
 pub returns-in-Some-Serve-clause-read_fault : goal.returns-in-Some-Serve-clause-read_fault
 returns-in-Some-Serve-clause-read_fault g c = λ e.
     let named = c.in-Some-Serve.field-0-is in
@@ -80,6 +86,11 @@ returns-in-Some-Record-clause-notifies g c = λ asks.
     no_other c.args.words.now Record Notify (λ e. absurd cc)
     (subst (Asks c.args.words.now) c.in-Some-Record.field-0-is c.in-Some-Record.ensures.asked) asks
 
+pub returns-in-Some-Record-clause-compares : goal.returns-in-Some-Record-clause-compares
+returns-in-Some-Record-clause-compares g c = λ subject asks.
+    no_other c.args.words.now Record (Compare subject) (λ e. absurd cc)
+    (subst (Asks c.args.words.now) c.in-Some-Record.field-0-is c.in-Some-Record.ensures.asked) asks
+
 pub returns-in-Some-Record-clause-read_fault : goal.returns-in-Some-Record-clause-read_fault
 returns-in-Some-Record-clause-read_fault g c = λ e.
     let named = c.in-Some-Record.field-0-is in
@@ -109,17 +120,72 @@ returns-in-Some-Audit-clause-notifies g c = λ asks.
     no_other c.args.words.now Audit Notify (λ e. absurd cc)
     (subst (Asks c.args.words.now) c.in-Some-Audit.field-0-is c.in-Some-Audit.ensures.asked) asks
 
+pub returns-in-Some-Audit-clause-compares : goal.returns-in-Some-Audit-clause-compares
+returns-in-Some-Audit-clause-compares g c = λ subject asks.
+    no_other c.args.words.now Audit (Compare subject) (λ e. absurd cc)
+    (subst (Asks c.args.words.now) c.in-Some-Audit.field-0-is c.in-Some-Audit.ensures.asked) asks
+
 pub returns-in-Some-Audit-clause-read_fault : goal.returns-in-Some-Audit-clause-read_fault
 returns-in-Some-Audit-clause-read_fault g c = λ e.
     let named = c.in-Some-Audit.field-0-is in
     let failed = c.audit.ensures.read_fault e in
     ((Audit, tt, subst (Asks c.args.words.now) named c.in-Some-Audit.ensures.asked), failed.0, failed.1)
 
+pub returns-in-Some-Compare-clause-serves : goal.returns-in-Some-Compare-clause-serves
+returns-in-Some-Compare-clause-serves g c = λ grammar asks.
+    no_other c.args.words.now (Compare c.in-Some-Compare.subject) (Serve grammar) (λ e. absurd cc)
+    (subst (Asks c.args.words.now) c.in-Some-Compare.field-0-is c.in-Some-Compare.ensures.asked) asks
+
+pub returns-in-Some-Compare-clause-plays : goal.returns-in-Some-Compare-clause-plays
+returns-in-Some-Compare-clause-plays g c = λ grammar asks traces.
+    no_other c.args.words.now (Compare c.in-Some-Compare.subject) (Serve grammar) (λ e. absurd cc)
+    (subst (Asks c.args.words.now) c.in-Some-Compare.field-0-is c.in-Some-Compare.ensures.asked) asks
+
+pub returns-in-Some-Compare-clause-records : goal.returns-in-Some-Compare-clause-records
+returns-in-Some-Compare-clause-records g c = λ asks.
+    no_other c.args.words.now (Compare c.in-Some-Compare.subject) Record (λ e. absurd cc)
+    (subst (Asks c.args.words.now) c.in-Some-Compare.field-0-is c.in-Some-Compare.ensures.asked) asks
+
+pub returns-in-Some-Compare-clause-audits : goal.returns-in-Some-Compare-clause-audits
+returns-in-Some-Compare-clause-audits g c = λ asks.
+    no_other c.args.words.now (Compare c.in-Some-Compare.subject) Audit (λ e. absurd cc)
+    (subst (Asks c.args.words.now) c.in-Some-Compare.field-0-is c.in-Some-Compare.ensures.asked) asks
+
+pub returns-in-Some-Compare-clause-notifies : goal.returns-in-Some-Compare-clause-notifies
+returns-in-Some-Compare-clause-notifies g c = λ asks.
+    no_other c.args.words.now (Compare c.in-Some-Compare.subject) Notify (λ e. absurd cc)
+    (subst (Asks c.args.words.now) c.in-Some-Compare.field-0-is c.in-Some-Compare.ensures.asked) asks
+
+pub returns-in-Some-Compare-clause-untouched : goal.returns-in-Some-Compare-clause-untouched
+returns-in-Some-Compare-clause-untouched g c = λ seed count asks.
+    no_other c.args.words.now (Compare c.in-Some-Compare.subject) (Work seed count) (λ e. absurd cc)
+    (subst (Asks c.args.words.now) c.in-Some-Compare.field-0-is c.in-Some-Compare.ensures.asked) asks
+
+pub returns-in-Some-Compare-clause-worked : goal.returns-in-Some-Compare-clause-worked
+returns-in-Some-Compare-clause-worked g c = λ seed count asks.
+    no_other c.args.words.now (Compare c.in-Some-Compare.subject) (Work seed count) (λ e. absurd cc)
+    (subst (Asks c.args.words.now) c.in-Some-Compare.field-0-is c.in-Some-Compare.ensures.asked) asks
+
+pub returns-in-Some-Compare-clause-work_statuses : goal.returns-in-Some-Compare-clause-work_statuses
+returns-in-Some-Compare-clause-work_statuses g c = λ seed count asks.
+    no_other c.args.words.now (Compare c.in-Some-Compare.subject) (Work seed count) (λ e. absurd cc)
+    (subst (Asks c.args.words.now) c.in-Some-Compare.field-0-is c.in-Some-Compare.ensures.asked) asks
+
+pub returns-in-Some-Compare-clause-work_plays : goal.returns-in-Some-Compare-clause-work_plays
+returns-in-Some-Compare-clause-work_plays g c = λ seed count asks is.
+    no_other c.args.words.now (Compare c.in-Some-Compare.subject) (Work seed count) (λ e. absurd cc)
+    (subst (Asks c.args.words.now) c.in-Some-Compare.field-0-is c.in-Some-Compare.ensures.asked) asks
+
+pub returns-in-Some-Compare-clause-work_complete : goal.returns-in-Some-Compare-clause-work_complete
+returns-in-Some-Compare-clause-work_complete g c = λ seed count asks quiet.
+    no_other c.args.words.now (Compare c.in-Some-Compare.subject) (Work seed count) (λ e. absurd cc)
+    (subst (Asks c.args.words.now) c.in-Some-Compare.field-0-is c.in-Some-Compare.ensures.asked) asks
+
 pub returns-in-Some-Compare-clause-compares : goal.returns-in-Some-Compare-clause-compares
-returns-in-Some-Compare-clause-compares g c = λ session asks.
+returns-in-Some-Compare-clause-compares g c = λ subject asks.
     let named = c.in-Some-Compare.field-0-is in
     let asked = subst (Asks c.args.words.now) named c.in-Some-Compare.ensures.asked in
-    subst (λ (of : ℕ). IfSome (g.S.Source.left c.args.input.now) (λ bytes.
+    subst (λ (of : Subject). IfSome (g.S.Source.left c.args.input.now) (λ bytes.
     Keeps (comparing (entries c.args.natives.now) of) bytes (g.S.Source.left c.compare.new.input) c.compare.result
     (g.K.Sink.held c.args.out.now) (g.K.Sink.held c.compare.new.out)
     ((Rose (g.S.Source.faults c.args.input.now) (g.S.Source.faults c.compare.new.input) → ⊥)
@@ -128,14 +194,14 @@ returns-in-Some-Compare-clause-compares g c = λ session asks.
     (g.K.Sink.held c.compare.new.out)
     ((Rose (g.S.Source.faults c.args.input.now) (g.S.Source.faults c.compare.new.input) → ⊥)
     × (Rose (g.K.Sink.faults c.args.out.now) (g.K.Sink.faults c.compare.new.out) → ⊥))))
-    (one_session c.args.words.now c.in-Some-Compare.session session asked asks)
+    (one_subject c.args.words.now c.in-Some-Compare.subject subject asked asks)
     (both-some (g.S.Source.left c.args.input.now) _ _ c.compare.ensures.keeps c.compare.ensures.compares)
 
 pub returns-in-Some-Compare-clause-read_fault : goal.returns-in-Some-Compare-clause-read_fault
 returns-in-Some-Compare-clause-read_fault g c = λ e.
     let named = c.in-Some-Compare.field-0-is in
     let failed = c.compare.ensures.read_fault e in
-    ((Compare c.in-Some-Compare.session, tt, subst (Asks c.args.words.now) named c.in-Some-Compare.ensures.asked), failed.0, failed.1)
+    ((Compare c.in-Some-Compare.subject, tt, subst (Asks c.args.words.now) named c.in-Some-Compare.ensures.asked), failed.0, failed.1)
 
 -- ---- signals
 
@@ -163,6 +229,11 @@ pub returns-in-Some-Notify-clause-notifies : goal.returns-in-Some-Notify-clause-
 returns-in-Some-Notify-clause-notifies g c = λ asks.
     both-some (g.S.Source.left c.args.input.now) _ _ c.notify.ensures.keeps c.notify.ensures.notifies
 
+pub returns-in-Some-Notify-clause-compares : goal.returns-in-Some-Notify-clause-compares
+returns-in-Some-Notify-clause-compares g c = λ subject asks.
+    no_other c.args.words.now Notify (Compare subject) (λ e. absurd cc)
+    (subst (Asks c.args.words.now) c.in-Some-Notify.field-0-is c.in-Some-Notify.ensures.asked) asks
+
 pub returns-in-Some-Notify-clause-read_fault : goal.returns-in-Some-Notify-clause-read_fault
 returns-in-Some-Notify-clause-read_fault g c = λ e.
     let named = c.in-Some-Notify.field-0-is in
@@ -170,6 +241,11 @@ returns-in-Some-Notify-clause-read_fault g c = λ e.
     ((Notify, tt, subst (Asks c.args.words.now) named c.in-Some-Notify.ensures.asked), failed.0, failed.1)
 
 -- ---- a made trace
+
+pub returns-in-Some-Work-clause-compares : goal.returns-in-Some-Work-clause-compares
+returns-in-Some-Work-clause-compares g c = λ subject asks.
+    no_other c.args.words.now (Work c.in-Some-Work.seed c.in-Some-Work.count) (Compare subject) (λ e. absurd cc)
+    (subst (Asks c.args.words.now) c.in-Some-Work.field-0-is c.in-Some-Work.ensures.asked) asks
 
 pub returns-in-Some-Work-clause-worked : goal.returns-in-Some-Work-clause-worked
 returns-in-Some-Work-clause-worked g c = λ seed count asks.
@@ -211,7 +287,7 @@ pub returns-in-None-clause-audits : goal.returns-in-None-clause-audits
 returns-in-None-clause-audits g c = λ asks. absurd (c.in-None.ensures.nothing refl Audit asks)
 
 pub returns-in-None-clause-compares : goal.returns-in-None-clause-compares
-returns-in-None-clause-compares g c = λ session asks. absurd (c.in-None.ensures.nothing refl (Compare session) asks)
+returns-in-None-clause-compares g c = λ subject asks. absurd (c.in-None.ensures.nothing refl (Compare subject) asks)
 
 pub returns-in-None-clause-notifies : goal.returns-in-None-clause-notifies
 returns-in-None-clause-notifies g c = λ asks. absurd (c.in-None.ensures.nothing refl Notify asks)
