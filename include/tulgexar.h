@@ -34,9 +34,10 @@ enum tulgexar_status {
  * happened, and equal calls print the same.
  *
  *   words, words_length   the words, parted by single spaces, of UTF-8 and without a zero at the end:
- *                         "run", "run-binary", "asm", "record", "audit", "notify", "compare ID", "compare UUID" or
- *                         "work SEED COUNT" with decimal numbers, of which ID is below 2^32, SEED below 2^64 and COUNT
- *                         at most 65,536, and a UUID in the hyphenated form; docs/formats.md has the grammars
+ *                         "run", "run-binary", "asm", "record", "audit", "notify", "client", "compare ID",
+ *                         "compare UUID" or "work SEED COUNT" with decimal numbers, of which ID is below 2^32, SEED below
+ *                         2^64 and COUNT at most 65,536, and a UUID in the hyphenated form; docs/formats.md has the
+ *                         grammars
  *   input, input_length   the input, in bytes; "work" reads none of it
  *   output, capacity      the buffer, and how many bytes it has
  *   written               gets the length of the whole output in bytes, also where it is longer than the buffer

@@ -1,2 +1,4 @@
+pub mod Client
 pub mod Playing
+pub mod Scripts
 pub mod Told

@@ -4,8 +4,8 @@
 //! over that core ([`core_port`]), with a supplicant that keeps files in memory. Each call that ends is a line. What the lines are
 //! is defined by `client_play`, of the script alone.
 //!
-//! `playing` plays a script, `player` has the client and makes one call, `operations` makes a call's parameters, `sessions` has
-//! the names that were opened, `outcome` what a call came to, and `lines` its line.
+//! `word` is the word, `playing` plays a script, `player` has the client and makes one call, `operations` makes a call's parameters,
+//! `sessions` has the names that were opened, `outcome` what a call came to, and `lines` its line.
 #![tactic(auto)]
 
 mod lines;
@@ -14,5 +14,6 @@ mod outcome;
 mod player;
 mod playing;
 mod sessions;
+mod word;
 
-pub use playing::play;
+pub use word::client;

@@ -72,7 +72,7 @@ fn play_booted<B: OfBoot, K: Sink>(
 }
 
 /// Plays a script and puts its lines, up to an SMC without room, a fault of the sink or want of memory.
-pub fn play<K: Sink>(
+pub(crate) fn play<K: Sink>(
     alloc: Global,
     natives: &Natives,
     script: Script,

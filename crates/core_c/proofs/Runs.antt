@@ -1,6 +1,8 @@
 -- From the clauses of the top call to what a call over memory comes to.
 use Rattle.std.proofs.Common.{◌≡◌, ℕ, ◌⊎◌, inl, inr, Bool, false, List, [], Option, Some, None, refl, sym, subst, arith}
 use Rattle.std.specs.Prelude.{◌↔◌, IsTrue}
+use Rattle.client_runner.specs.Client.{client_word}
+use Rattle.client_runner.specs.Scripts.{PlaysScripts}
 use Rattle.compare_model.specs.declared.subject.Subject.{Subject}
 use Rattle.ports.specs.Port.{Appends, Rose}
 use Rattle.journal_runner.specs.Auditing.{auditing}
@@ -18,7 +20,7 @@ use Rattle.word_parts.specs.Keeping.{Keeps}
 use Rattle.word_parts.specs.Word.{Word}
 use Rattle.word_parts.specs.Answer.{Writes}
 use Rattle.trace_runner.specs.Words.{Say, SayNothing}
-use Rattle.trace_runner.specs.declared.command.Command.TheVariants.{Audit, Compare, Notify, Record, Serve, Threads, Work}
+use Rattle.trace_runner.specs.declared.command.Command.TheVariants.{Audit, Client, Compare, Notify, Record, Serve, Threads, Work}
 use Rattle.trace_runner.specs.declared.command.Grammar.{Grammar}
 use Rattle.word_parts.specs.declared.status.Status.{Status}
 use Rattle.word_parts.specs.declared.status.Status.TheVariants.{Memory, ReadFault, Usage, WriteFault}
@@ -48,6 +50,8 @@ pub record Clauses (natives : List Native) (drivers : Drivers) (texts : List (Li
   pub notifies : Say texts Notify
       → Keeps (notifying natives drivers) input left result old new ((Rose 0 0 → ⊥) × (Rose 0 0 → ⊥))
       × Notifies natives drivers input result old new
+  pub plays_scripts : Say texts Client
+      → Keeps (client_word natives) input left result old new ((Rose 0 0 → ⊥) × (Rose 0 0 → ⊥)) × PlaysScripts natives input result old new
   pub worked : (seed count : ℕ) → Say texts (Work seed count) → Worked seed count result old new
   pub work_statuses : (seed count : ℕ) → Say texts (Work seed count) → WorkStatuses seed count result old new
   pub work_plays : (seed count : ℕ) → Say texts (Work seed count) → result ≡ status.Ok → IsSummedUp seed count old new
@@ -105,6 +109,11 @@ of_clauses natives drivers texts input left result output c = record {
     keeps = keeps_quiet (notifying natives drivers) input left result (Some []) (Some output) (c.notifies said).0;
     notifies = (c.notifies said).1;
   };
+  plays_scripts = λ said. record {
+    left = left;
+    keeps = keeps_quiet (client_word natives) input left result (Some []) (Some output) (c.plays_scripts said).0;
+    plays = (c.plays_scripts said).1;
+  };
   works = λ seed count said. record {
     worked = c.worked seed count said;
     statuses = c.work_statuses seed count said;
@@ -132,6 +141,7 @@ no_words Record said = let e = said.words in absurd cc
 no_words Audit said = let e = said.words in absurd cc
 no_words (Compare subject) said = let e = said.words.2 in absurd cc
 no_words Notify said = let e = said.words in absurd cc
+no_words Client said = let e = said.words in absurd cc
 no_words (Work seed count) said = let e = said.words in absurd cc
 
 -- the word `threads` is answered with the usage line
@@ -147,6 +157,7 @@ of_threads natives drivers texts input result output threads written usage reads
   audits = λ said. let same = threads_alone texts Audit threads said in absurd cc;
   compares = λ subject said. let same = threads_alone texts (Compare subject) threads said in absurd cc;
   notifies = λ said. let same = threads_alone texts Notify threads said in absurd cc;
+  plays_scripts = λ said. let same = threads_alone texts Client threads said in absurd cc;
   works = λ seed count said. absurd (not_work texts seed count threads said);
   reads = reads;
   writes = writes;
@@ -190,6 +201,11 @@ unrun_so natives drivers texts input = record {
     left = None;
     keeps = unread (notifying natives drivers) input;
     notifies = record { ok = λ e. absurd cc; too_long = λ e. absurd cc };
+  };
+  plays_scripts = λ said. record {
+    left = None;
+    keeps = unread (client_word natives) input;
+    plays = record { ok = λ e. absurd cc; too_long = λ e. absurd cc };
   };
   works = λ seed count said. record {
     worked = inl (refl, refl);

@@ -1,5 +1,7 @@
 -- What a call over bytes in memory comes to: it is the top call, whose source and sink count no fault.
 use Rattle.std.specs.Prelude.{◌≡◌, ◌≢◌, ℕ, ◌⊎◌, List, [], ◌∷◌, Option, Some}
+use Rattle.client_runner.specs.Client.{client_word}
+use Rattle.client_runner.specs.Scripts.{PlaysScripts}
 use Rattle.compare_model.specs.declared.subject.Subject.{Subject}
 use Rattle.native_tas.specs.declared.driver_relation.DriverRelation.{DriverRelation}
 use Rattle.native_tas.specs.declared.driver_relation.DriverRelation.TheVariants.{Echo}
@@ -17,7 +19,7 @@ use Rattle.trace_runner.specs.Run.{WorkStatuses, Worked, WritesSummary, reading,
 use Rattle.word_parts.specs.Keeping.{Keeps}
 use Rattle.word_parts.specs.Answer.{Writes}
 use Rattle.trace_runner.specs.Words.{Say, SayNothing}
-use Rattle.trace_runner.specs.declared.command.Command.TheVariants.{Audit, Compare, Notify, Record, Serve, Threads, Work}
+use Rattle.trace_runner.specs.declared.command.Command.TheVariants.{Audit, Client, Compare, Notify, Record, Serve, Threads, Work}
 use Rattle.trace_runner.specs.declared.command.Grammar.{Grammar}
 use Rattle.word_parts.specs.declared.status.Status.{Status}
 use Rattle.word_parts.specs.declared.status.Status.TheVariants.{Memory, ReadFault, Usage, WriteFault}
@@ -82,6 +84,12 @@ pub record HasNotified (natives : List Native) (drivers : Drivers) (input : List
     pub keeps : Keeps (notifying natives drivers) input left result (Some []) (Some output) (Unit {0})
     pub notifies : Notifies natives drivers input result (Some []) (Some output)
 
+-- and a client's script
+pub record HasPlayedScript (natives : List Native) (input : List ℕ) (result : Status) (output : List ℕ) : Type 0 where
+  pub left : Option (List ℕ)
+  pub keeps : Keeps (client_word natives) input left result (Some []) (Some output) (Unit {0})
+  pub plays : PlaysScripts natives input result (Some []) (Some output)
+
 -- no command is asked for that is served here: none at all, or `threads`, since no thread is started
 abbrev pub AskNothing : List (List ℕ) → Type 0
 AskNothing texts = SayNothing texts ⊎ Say texts Threads
@@ -96,6 +104,7 @@ pub record IsRun (natives : List Native) (drivers : Drivers) (texts : List (List
   pub audits : Say texts Audit → HasAudited natives input result output
   pub compares : (subject : Subject) → Say texts (Compare subject) → HasCompared natives subject input result output
   pub notifies : Say texts Notify → HasNotified natives drivers input result output
+  pub plays_scripts : Say texts Client → HasPlayedScript natives input result output
   pub works : (seed count : ℕ) → Say texts (Work seed count) → Works seed count result output
   pub reads : result ≢ ReadFault
   pub writes : result ≢ WriteFault

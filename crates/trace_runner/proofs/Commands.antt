@@ -10,7 +10,7 @@ use Rattle.compare_model.specs.declared.subject.Subject.{Subject}
 use Rattle.compare_model.specs.declared.subject.Subject.TheVariants.{Session, Group}
 use Rattle.trace_text.specs.Forms.{is_uuid}
 use Rattle.trace_runner.specs.Words.{IsNumbered, Names, Say, SayNothing}
-use Rattle.trace_runner.specs.declared.command.Command.TheVariants.{Serve, Threads, Record, Audit, Compare, Notify, Work}
+use Rattle.trace_runner.specs.declared.command.Command.TheVariants.{Serve, Threads, Record, Audit, Compare, Notify, Client, Work}
 
 -- texts that differ are not one number's
 pub other_text : (text word : List ℕ) (one other : ℕ) → bytes_eq text word ≡ false → text ≡ decimal one → one ≡ other
@@ -29,6 +29,7 @@ too_many word seed count number below many is Record say = let e = say.words in 
 too_many word seed count number below many is Audit say = let e = say.words in absurd cc
 too_many word seed count number below many is (Compare subject) say = let e = say.words.2 in absurd cc
 too_many word seed count number below many is Notify say = let e = say.words in absurd cc
+too_many word seed count number below many is Client say = let e = say.words in absurd cc
 too_many word seed count number below many is (Work s n) say =
     let e = say.words in
     let said : count ≡ decimal n = cc in
@@ -58,6 +59,7 @@ nothing_compared word name nothing Threads say = let e = say.words in absurd cc
 nothing_compared word name nothing Record say = let e = say.words in absurd cc
 nothing_compared word name nothing Audit say = let e = say.words in absurd cc
 nothing_compared word name nothing Notify say = let e = say.words in absurd cc
+nothing_compared word name nothing Client say = let e = say.words in absurd cc
 nothing_compared word name nothing (Compare subject) say =
     let e = say.words.2 in
     let first : word ≡ codes "compare" = cc in

@@ -23,7 +23,7 @@ use Rattle.trace_runner.specs.Run.{reading}
 use Rattle.trace_runner.specs.Words.{Asks, IsNumbered, Names, Say}
 use Rattle.trace_runner.proofs.Commands.{no_uuid}
 use Rattle.trace_runner.specs.declared.command.Command.{Command}
-use Rattle.trace_runner.specs.declared.command.Command.TheVariants.{Serve, Threads, Record, Audit, Compare, Notify, Work}
+use Rattle.trace_runner.specs.declared.command.Command.TheVariants.{Serve, Threads, Record, Audit, Compare, Notify, Client, Work}
 use Rattle.trace_runner.specs.declared.content.Content.{Content}
 use Rattle.trace_runner.specs.declared.content.Content.TheVariants as variant
 use Rattle.trace_runner.specs.declared.command.Grammar.{Grammar}
@@ -87,6 +87,7 @@ command_in words =
     if bytes_eq (first_word words) (codes "audit") then Audit else
     if bytes_eq (first_word words) (codes "compare") then Compare (subject_in (get_or words 1 [])) else
     if bytes_eq (first_word words) (codes "notify") then Notify else
+    if bytes_eq (first_word words) (codes "client") then Client else
     Work (number_at 1 words) (number_at 2 words)
 
 read_back : (n : ℕ) → n < 2 ^ 64 → digits_value 10 (decimal n) ≡ n
@@ -107,6 +108,7 @@ command_back texts Audit said = ap command_in said.words
 command_back texts (Compare subject) said =
     ap command_in said.words.2 ∙ ap (λ (s : Subject). Compare s) (subject_back subject said.words.0 said.within said.words.1)
 command_back texts Notify said = ap command_in said.words
+command_back texts Client said = ap command_in said.words
 command_back texts (Work seed count) said =
     let few = said.within.1 in
     ap command_in said.words

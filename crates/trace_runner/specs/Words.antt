@@ -6,7 +6,7 @@ use Rattle.compare_model.specs.declared.subject.Subject.{Subject}
 use Rattle.compare_model.specs.declared.subject.Subject.TheVariants.{Session, Group}
 use Rattle.trace_text.specs.Forms.{is_uuid, uuid}
 use Rattle.trace_runner.specs.declared.command.Command.{Command}
-use Rattle.trace_runner.specs.declared.command.Command.TheVariants.{Serve, Threads, Record, Audit, Compare, Notify, Work}
+use Rattle.trace_runner.specs.declared.command.Command.TheVariants.{Serve, Threads, Record, Audit, Compare, Notify, Client, Work}
 use Rattle.trace_runner.specs.declared.command.Grammar.{Grammar}
 use Rattle.trace_runner.specs.declared.command.Grammar.TheVariants.{Text, Records, Assembler}
 
@@ -35,6 +35,7 @@ AreWordsOf Record texts = texts ≡ codes "record" ∷ []
 AreWordsOf Audit texts = texts ≡ codes "audit" ∷ []
 AreWordsOf (Compare subject) texts = (word : List ℕ) × Names subject word × (texts ≡ codes "compare" ∷ word ∷ [])
 AreWordsOf Notify texts = texts ≡ codes "notify" ∷ []
+AreWordsOf Client texts = texts ≡ codes "client" ∷ []
 AreWordsOf (Work seed count) texts = texts ≡ codes "work" ∷ decimal seed ∷ decimal count ∷ []
 
 -- a seed is below 2^64, and there are at most 65,536 calls
@@ -45,6 +46,7 @@ IsWithin Record = Unit {0}
 IsWithin Audit = Unit {0}
 IsWithin (Compare subject) = IsNumbered subject
 IsWithin Notify = Unit {0}
+IsWithin Client = Unit {0}
 IsWithin (Work seed count) = (seed < 2 ^ 64) × (count ≤ 2 ^ 16)
 
 -- these texts say the command, or none
@@ -70,6 +72,7 @@ Reads Record = Unit {0}
 Reads Audit = Unit {0}
 Reads (Compare subject) = Unit {0}
 Reads Notify = Unit {0}
+Reads Client = Unit {0}
 Reads (Work seed count) = ⊥
 
 -- words ask for one of these

@@ -37,6 +37,8 @@ pub enum Command {
     Compare { subject: Subject },
     /// The input is read as the text of a trace with signals, which is played beside a desk of signals.
     Notify,
+    /// The input is read as the text of a client's script, whose calls are made on a core.
+    Client,
     /// The trace that a seed makes with so many calls is played, and its play is summed up.
     Work { seed: u64, count: u32 },
 }
@@ -70,6 +72,7 @@ fn command_named(word: &str) -> Option<Command>
         "record" => Some(Command::Record),
         "audit" => Some(Command::Audit),
         "notify" => Some(Command::Notify),
+        "client" => Some(Command::Client),
         _ => None,
     }
 }

@@ -1,6 +1,8 @@
 //! The top call.
 
 ghost use Rattle.std.specs.Prelude.{◌≡◌, ◌≢◌, ℕ, ◌⊎◌, ◌≤◌, ◌+◌, ◌^◌, IfSome, Some, None, [], Err, length};
+ghost use Rattle.client_runner.specs.Client.{client_word};
+ghost use Rattle.client_runner.specs.Scripts.{PlaysScripts};
 ghost use Rattle.compare_model.specs.declared.subject.Subject.{Subject};
 ghost use Rattle.native_tas.specs.Table.{drivers, entries};
 ghost use Rattle.notify_runner.specs.Notified.{Notifies};
@@ -38,6 +40,7 @@ use crate::line::image_line;
 use crate::play::play;
 use crate::threads::run_on_threads;
 use crate::work::summary;
+use client_runner::client;
 use journal_runner::{audit, compare, record};
 use native_tas::Natives;
 use notify_runner::notify;
@@ -170,14 +173,14 @@ fn answer_work<K: Sink>(alloc: Global, seed: u64, count: u32, out: &mut K) -> St
 /// its image in hexadecimal. `record` reads a trace as text, plays it, and writes the bytes of its journal; `audit` reads these and
 /// writes the verdict on them; `compare ID` reads the bytes of two journals and writes what they show of a session, and
 /// `compare UUID` what they show of the sessions of an application that share its instance. `notify` reads a trace with signals as
-/// text and plays it beside the drivers that are built in. `work SEED COUNT` reads nothing: it plays the trace that the seed makes
-/// with so many calls, without built-in applications, and prints a line that sums it up. Any other words are answered with the
-/// usage line.
+/// text and plays it beside the drivers that are built in. `client` reads a client's script as text, makes its calls on one core,
+/// and prints what each comes to. `work SEED COUNT` reads nothing: it plays the trace that the seed makes with so many calls,
+/// without built-in applications, and prints a line that sums it up. Any other words are answered with the usage line.
 ///
 /// The words are tested first, then the input is read to its end, then its length, its grammar and the number of its
-/// SMC items are tested, then it is played; the first answer met ends the call. The lines of a play are gathered and put
-/// 64 KiB at a time, the last of them before the status is answered. Want of memory may come at any time; lines that are
-/// not put by then are lost.
+/// SMC items, of a script that of its calls, are tested, then it is played; the first answer met ends the call. The lines of a
+/// play are gathered and put 64 KiB at a time, the last of them before the status is answered. Want of memory may come at any
+/// time; lines that are not put by then are lost.
 pub fn run_alone<S: Source, K: Sink>(
     alloc: Global,
     words: &[String],
@@ -242,6 +245,14 @@ pub fn run_alone<S: Source, K: Sink>(
         (K.held out.new) ((Rose (S.faults input.old) (S.faults input.new) → ⊥) × (Rose (K.faults out.old) (K.faults out.new) → ⊥))
         × Notifies (entries natives.now) (drivers natives.now) bytes result (K.held out.old) (K.held out.new)) }
 
+    // ---- The text of a client's script: all that the word keeps to, and the play whose text was written, which is the one that the
+    // script's calls make on its core. Its history is that of the client's writes and SMCs, legal from the script's boot; and each
+    // result of a session that shares no instance is the one with which its own machine, fed by its own events alone, ends the call.
+    ensures plays_scripts { Asks words.now command.Client → IfSome (S.left input.old) (λ bytes.
+        Keeps (client_word (entries natives.now)) bytes (S.left input.new) result (K.held out.old) (K.held out.new)
+        ((Rose (S.faults input.old) (S.faults input.new) → ⊥) × (Rose (K.faults out.old) (K.faults out.new) → ⊥))
+        × PlaysScripts (entries natives.now) bytes result (K.held out.old) (K.held out.new)) }
+
     // ---- Faults of the ports.
     ensures read_fault { result ≡ Status.ReadFault → AskToRead words.now
         × Rose (S.faults input.old) (S.faults input.new) × Appends (K.held out.old) (K.held out.new) [] }
@@ -261,6 +272,7 @@ pub fn run_alone<S: Source, K: Sink>(
         Some(Command::Audit) => audit(alloc, input, out, natives),
         Some(Command::Compare { subject }) => compare(alloc, subject, input, out, natives),
         Some(Command::Notify) => notify(alloc, input, out, natives),
+        Some(Command::Client) => client(alloc, input, out, natives),
         Some(Command::Work { seed, count }) => answer_work(alloc, seed, count, out),
         None => answer_line(out, Status::Usage, USAGE_LINE),
     }
@@ -359,6 +371,14 @@ pub fn run<R: Threads + Wait + Sync, S: Source, K: Sink, G: Pace + Sync>(
         Keeps (notifying (entries natives.now) (drivers natives.now)) bytes (S.left input.new) result (K.held out.old)
         (K.held out.new) ((Rose (S.faults input.old) (S.faults input.new) → ⊥) × (Rose (K.faults out.old) (K.faults out.new) → ⊥))
         × Notifies (entries natives.now) (drivers natives.now) bytes result (K.held out.old) (K.held out.new)) }
+
+    // ---- The text of a client's script: all that the word keeps to, and the play whose text was written, which is the one that the
+    // script's calls make on its core. Its history is that of the client's writes and SMCs, legal from the script's boot; and each
+    // result of a session that shares no instance is the one with which its own machine, fed by its own events alone, ends the call.
+    ensures plays_scripts { Asks words.now command.Client → IfSome (S.left input.old) (λ bytes.
+        Keeps (client_word (entries natives.now)) bytes (S.left input.new) result (K.held out.old) (K.held out.new)
+        ((Rose (S.faults input.old) (S.faults input.new) → ⊥) × (Rose (K.faults out.old) (K.faults out.new) → ⊥))
+        × PlaysScripts (entries natives.now) bytes result (K.held out.old) (K.held out.new)) }
 
     // ---- Faults of the ports.
     ensures read_fault { result ≡ Status.ReadFault → AskToRead words.now

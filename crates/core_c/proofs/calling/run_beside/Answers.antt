@@ -29,6 +29,7 @@ returns-else-asks_threads g c =
       audits = e.audits;
       compares = e.compares;
       notifies = e.notifies;
+      plays_scripts = e.plays_scripts;
       worked = e.worked;
       work_statuses = e.work_statuses;
       work_plays = e.work_plays;

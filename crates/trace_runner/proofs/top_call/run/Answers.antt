@@ -1,4 +1,4 @@
-use Rattle.trace_runner.specs.declared.command.Command.TheVariants.{Threads, Record, Audit, Compare, Notify}
+use Rattle.trace_runner.specs.declared.command.Command.TheVariants.{Threads, Record, Audit, Compare, Notify, Client}
 use Rattle.trace_runner.proofs.Readings.{no_other}
 use Rattle.trace_runner.proofs.OnThreads.{threads-refused, threads-statuses, threads-whole}
 use Rattle.trace_runner.proofs.top_call.run.Goals as goal
@@ -37,6 +37,10 @@ returns-then-asks_threads-clause-compares g c =
 pub returns-then-asks_threads-clause-notifies : goal.returns-then-asks_threads-clause-notifies
 returns-then-asks_threads-clause-notifies g c =
     λ asks. no_other c.args.words.now Threads Notify (λ e. absurd cc) (c.asks_threads.ensures.0 c.if-asks_threads.true) asks
+
+pub returns-then-asks_threads-clause-plays_scripts : goal.returns-then-asks_threads-clause-plays_scripts
+returns-then-asks_threads-clause-plays_scripts g c =
+    λ asks. no_other c.args.words.now Threads Client (λ e. absurd cc) (c.asks_threads.ensures.0 c.if-asks_threads.true) asks
 
 pub returns-then-asks_threads-clause-read_fault : goal.returns-then-asks_threads-clause-read_fault
 returns-then-asks_threads-clause-read_fault g c = λ e.

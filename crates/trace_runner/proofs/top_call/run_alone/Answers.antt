@@ -8,7 +8,7 @@ use Rattle.ports.specs.Port.{Rose}
 use Rattle.trace_runner.specs.Run.{Worked, reading}
 use Rattle.word_parts.specs.Keeping.{Keeps}
 use Rattle.trace_runner.specs.Words.{Asks}
-use Rattle.trace_runner.specs.declared.command.Command.TheVariants.{Serve, Record, Audit, Compare, Notify, Work}
+use Rattle.trace_runner.specs.declared.command.Command.TheVariants.{Serve, Record, Audit, Compare, Notify, Client, Work}
 use Rattle.trace_runner.specs.declared.command.Grammar.{Grammar}
 use Rattle.word_parts.specs.declared.status.Status.{Status}
 use Rattle.trace_runner.proofs.Plays.{kept-plays, worked-plays}
@@ -49,6 +49,11 @@ returns-in-Some-Serve-clause-notifies g c = λ asks.
     no_other c.args.words.now (Serve c.in-Some-Serve.grammar) Notify (λ e. absurd cc)
     (subst (Asks c.args.words.now) c.in-Some-Serve.field-0-is c.in-Some-Serve.ensures.asked) asks
 
+pub returns-in-Some-Serve-clause-plays_scripts : goal.returns-in-Some-Serve-clause-plays_scripts
+returns-in-Some-Serve-clause-plays_scripts g c = λ asks.
+    no_other c.args.words.now (Serve c.in-Some-Serve.grammar) Client (λ e. absurd cc)
+    (subst (Asks c.args.words.now) c.in-Some-Serve.field-0-is c.in-Some-Serve.ensures.asked) asks
+
 pub returns-in-Some-Serve-clause-compares : goal.returns-in-Some-Serve-clause-compares
 returns-in-Some-Serve-clause-compares g c = λ subject asks.
     no_other c.args.words.now (Serve c.in-Some-Serve.grammar) (Compare subject) (λ e. absurd cc)
@@ -86,6 +91,11 @@ returns-in-Some-Record-clause-notifies g c = λ asks.
     no_other c.args.words.now Record Notify (λ e. absurd cc)
     (subst (Asks c.args.words.now) c.in-Some-Record.field-0-is c.in-Some-Record.ensures.asked) asks
 
+pub returns-in-Some-Record-clause-plays_scripts : goal.returns-in-Some-Record-clause-plays_scripts
+returns-in-Some-Record-clause-plays_scripts g c = λ asks.
+    no_other c.args.words.now Record Client (λ e. absurd cc)
+    (subst (Asks c.args.words.now) c.in-Some-Record.field-0-is c.in-Some-Record.ensures.asked) asks
+
 pub returns-in-Some-Record-clause-compares : goal.returns-in-Some-Record-clause-compares
 returns-in-Some-Record-clause-compares g c = λ subject asks.
     no_other c.args.words.now Record (Compare subject) (λ e. absurd cc)
@@ -118,6 +128,11 @@ returns-in-Some-Audit-clause-audits g c = λ asks. c.audit.ensures.keeps
 pub returns-in-Some-Audit-clause-notifies : goal.returns-in-Some-Audit-clause-notifies
 returns-in-Some-Audit-clause-notifies g c = λ asks.
     no_other c.args.words.now Audit Notify (λ e. absurd cc)
+    (subst (Asks c.args.words.now) c.in-Some-Audit.field-0-is c.in-Some-Audit.ensures.asked) asks
+
+pub returns-in-Some-Audit-clause-plays_scripts : goal.returns-in-Some-Audit-clause-plays_scripts
+returns-in-Some-Audit-clause-plays_scripts g c = λ asks.
+    no_other c.args.words.now Audit Client (λ e. absurd cc)
     (subst (Asks c.args.words.now) c.in-Some-Audit.field-0-is c.in-Some-Audit.ensures.asked) asks
 
 pub returns-in-Some-Audit-clause-compares : goal.returns-in-Some-Audit-clause-compares
@@ -181,6 +196,11 @@ returns-in-Some-Compare-clause-work_complete g c = λ seed count asks quiet.
     no_other c.args.words.now (Compare c.in-Some-Compare.subject) (Work seed count) (λ e. absurd cc)
     (subst (Asks c.args.words.now) c.in-Some-Compare.field-0-is c.in-Some-Compare.ensures.asked) asks
 
+pub returns-in-Some-Compare-clause-plays_scripts : goal.returns-in-Some-Compare-clause-plays_scripts
+returns-in-Some-Compare-clause-plays_scripts g c = λ asks.
+    no_other c.args.words.now (Compare c.in-Some-Compare.subject) Client (λ e. absurd cc)
+    (subst (Asks c.args.words.now) c.in-Some-Compare.field-0-is c.in-Some-Compare.ensures.asked) asks
+
 pub returns-in-Some-Compare-clause-compares : goal.returns-in-Some-Compare-clause-compares
 returns-in-Some-Compare-clause-compares g c = λ subject asks.
     let named = c.in-Some-Compare.field-0-is in
@@ -229,6 +249,11 @@ pub returns-in-Some-Notify-clause-notifies : goal.returns-in-Some-Notify-clause-
 returns-in-Some-Notify-clause-notifies g c = λ asks.
     both-some (g.S.Source.left c.args.input.now) _ _ c.notify.ensures.keeps c.notify.ensures.notifies
 
+pub returns-in-Some-Notify-clause-plays_scripts : goal.returns-in-Some-Notify-clause-plays_scripts
+returns-in-Some-Notify-clause-plays_scripts g c = λ asks.
+    no_other c.args.words.now Notify Client (λ e. absurd cc)
+    (subst (Asks c.args.words.now) c.in-Some-Notify.field-0-is c.in-Some-Notify.ensures.asked) asks
+
 pub returns-in-Some-Notify-clause-compares : goal.returns-in-Some-Notify-clause-compares
 returns-in-Some-Notify-clause-compares g c = λ subject asks.
     no_other c.args.words.now Notify (Compare subject) (λ e. absurd cc)
@@ -239,6 +264,48 @@ returns-in-Some-Notify-clause-read_fault g c = λ e.
     let named = c.in-Some-Notify.field-0-is in
     let failed = c.notify.ensures.read_fault e in
     ((Notify, tt, subst (Asks c.args.words.now) named c.in-Some-Notify.ensures.asked), failed.0, failed.1)
+
+-- ---- scripts
+
+pub returns-in-Some-Client-clause-serves : goal.returns-in-Some-Client-clause-serves
+returns-in-Some-Client-clause-serves g c = λ grammar asks.
+    no_other c.args.words.now Client (Serve grammar) (λ e. absurd cc)
+    (subst (Asks c.args.words.now) c.in-Some-Client.field-0-is c.in-Some-Client.ensures.asked) asks
+
+pub returns-in-Some-Client-clause-plays : goal.returns-in-Some-Client-clause-plays
+returns-in-Some-Client-clause-plays g c = λ grammar asks traces.
+    no_other c.args.words.now Client (Serve grammar) (λ e. absurd cc)
+    (subst (Asks c.args.words.now) c.in-Some-Client.field-0-is c.in-Some-Client.ensures.asked) asks
+
+pub returns-in-Some-Client-clause-records : goal.returns-in-Some-Client-clause-records
+returns-in-Some-Client-clause-records g c = λ asks.
+    no_other c.args.words.now Client Record (λ e. absurd cc)
+    (subst (Asks c.args.words.now) c.in-Some-Client.field-0-is c.in-Some-Client.ensures.asked) asks
+
+pub returns-in-Some-Client-clause-audits : goal.returns-in-Some-Client-clause-audits
+returns-in-Some-Client-clause-audits g c = λ asks.
+    no_other c.args.words.now Client Audit (λ e. absurd cc)
+    (subst (Asks c.args.words.now) c.in-Some-Client.field-0-is c.in-Some-Client.ensures.asked) asks
+
+pub returns-in-Some-Client-clause-notifies : goal.returns-in-Some-Client-clause-notifies
+returns-in-Some-Client-clause-notifies g c = λ asks.
+    no_other c.args.words.now Client Notify (λ e. absurd cc)
+    (subst (Asks c.args.words.now) c.in-Some-Client.field-0-is c.in-Some-Client.ensures.asked) asks
+
+pub returns-in-Some-Client-clause-plays_scripts : goal.returns-in-Some-Client-clause-plays_scripts
+returns-in-Some-Client-clause-plays_scripts g c = λ asks.
+    both-some (g.S.Source.left c.args.input.now) _ _ c.client.ensures.keeps c.client.ensures.plays
+
+pub returns-in-Some-Client-clause-compares : goal.returns-in-Some-Client-clause-compares
+returns-in-Some-Client-clause-compares g c = λ subject asks.
+    no_other c.args.words.now Client (Compare subject) (λ e. absurd cc)
+    (subst (Asks c.args.words.now) c.in-Some-Client.field-0-is c.in-Some-Client.ensures.asked) asks
+
+pub returns-in-Some-Client-clause-read_fault : goal.returns-in-Some-Client-clause-read_fault
+returns-in-Some-Client-clause-read_fault g c = λ e.
+    let named = c.in-Some-Client.field-0-is in
+    let failed = c.client.ensures.read_fault e in
+    ((Client, tt, subst (Asks c.args.words.now) named c.in-Some-Client.ensures.asked), failed.0, failed.1)
 
 -- ---- a made trace
 
@@ -291,6 +358,9 @@ returns-in-None-clause-compares g c = λ subject asks. absurd (c.in-None.ensures
 
 pub returns-in-None-clause-notifies : goal.returns-in-None-clause-notifies
 returns-in-None-clause-notifies g c = λ asks. absurd (c.in-None.ensures.nothing refl Notify asks)
+
+pub returns-in-None-clause-plays_scripts : goal.returns-in-None-clause-plays_scripts
+returns-in-None-clause-plays_scripts g c = λ asks. absurd (c.in-None.ensures.nothing refl Client asks)
 
 pub returns-in-None-clause-worked : goal.returns-in-None-clause-worked
 returns-in-None-clause-worked g c = λ seed count asks. absurd (c.in-None.ensures.nothing refl (Work seed count) asks)

@@ -1,0 +1,34 @@
+-- An input that was read is what its bytes spell, and can be played.
+use Rattle.std.proofs.Common.{List, ℕ, inr, subst, sym, ◌∙◌}
+use Rattle.client_text.specs.Grammar.{IsFaultOf, Spells}
+use Rattle.native_tas.specs.Table.{entries}
+use Rattle.trace_player.specs.Starting.{uuids_of}
+use Rattle.word_parts.proofs.Worded.{fault-answered}
+use Rattle.client_runner.specs.Client.{client_word}
+use Rattle.client_runner.proofs.Answering.{AreApart, can_be_played}
+use Rattle.client_runner.proofs.word.answer.Goals as goal
+
+pub returns-in-Ok-clause-answered : goal.returns-in-Ok-clause-answered
+returns-in-Ok-clause-answered g c =
+    let script = c.in-Ok.script in
+    let natives = entries c.args.natives.now in
+    let uuids = c.as_slice-2.ensures.value ∙ c.uuids.ensures.order in
+    inr (inr (record {
+      content = script;
+      spelled =
+          subst (λ (bytes : List ℕ). Spells (uuids_of natives) bytes script) c.as_slice.ensures.value
+          (subst (λ (us : List (List ℕ)). Spells us c.as_slice.result.now script) uuids c.in-Ok.ensures.found);
+      known = can_be_played natives c.as_slice-2.result.now script uuids c.as_slice-2.ensures.fits
+          (subst AreApart (sym c.as_slice-2.ensures.value) c.uuids.ensures.apart) c.in-Ok.ensures.sound;
+      served = c.serve.ensures.served;
+    }))
+
+pub returns-in-Err-clause-answered : goal.returns-in-Err-clause-answered
+returns-in-Err-clause-answered g c =
+    let natives = entries c.args.natives.now in
+    let bad =
+    subst (λ (bytes : List ℕ). IsFaultOf (uuids_of natives) bytes c.in-Err.fault) c.as_slice.ensures.value
+    (subst (λ (us : List (List ℕ)). IsFaultOf us c.as_slice.result.now c.in-Err.fault)
+    (c.as_slice-2.ensures.value ∙ c.uuids.ensures.order) c.in-Err.ensures.bad) in
+    fault-answered (client_word natives) c.args.input.items c.in-Err.fault _ _ _
+    (λ place kind is. subst (IsFaultOf (uuids_of natives) c.args.input.items) is bad) c.answer_fault.ensures.answered

@@ -1,0 +1,26 @@
+use Rattle.std.proofs.Common.{Err, ap, arith}
+use Rattle.native_tas.specs.Table.{entries}
+use Rattle.word_parts.proofs.Worded.{keeps-read, keeps-unread}
+use Rattle.client_runner.specs.Client.{client_word}
+use Rattle.client_runner.proofs.Answering.{kept_plays, one_meaning}
+use Rattle.client_runner.proofs.word.client.Goals as goal
+
+pub returns-in-Ok-clause-keeps : goal.returns-in-Ok-clause-keeps
+returns-in-Ok-clause-keeps g c =
+    let natives = entries c.args.natives.now in
+    let whole = c.in-Ok.ensures.whole in
+    keeps-read (client_word natives) _ _ c.in-Ok.bytes.items _ _ _ _ _ _ _ (one_meaning natives)
+    c.answer.ensures.write_fault whole.1 whole.2 (omega (arith, c.in-Ok.bytes.ok.0)) c.answer.ensures.answered
+
+pub returns-in-Ok-clause-plays : goal.returns-in-Ok-clause-plays
+returns-in-Ok-clause-plays g c = kept_plays (entries c.args.natives.now) _ _ _ _ _ _ (returns-in-Ok-clause-keeps g c)
+
+pub returns-in-Err-clause-keeps : goal.returns-in-Err-clause-keeps
+returns-in-Err-clause-keeps g c =
+    let natives = entries c.args.natives.now in
+    let e = c.in-Err.ensures in
+    keeps-unread (client_word natives) _ _ c.in-Err.status _ _ _ _ _ (one_meaning natives)
+    (λ is. e.read_fault (ap Err is)) (λ is. e.writes (ap Err is)) e.unread
+
+pub returns-in-Err-clause-plays : goal.returns-in-Err-clause-plays
+returns-in-Err-clause-plays g c = kept_plays (entries c.args.natives.now) _ _ _ _ _ _ (returns-in-Err-clause-keeps g c)
