@@ -231,7 +231,8 @@ pub fn run_alone<S: Source, K: Sink>(
         ((Rose (S.faults input.old) (S.faults input.new) → ⊥) × (Rose (K.faults out.old) (K.faults out.new) → ⊥))) }
 
     // ---- What two journals show of a session, or of the sessions that share an application's instance: where that is the same,
-    // they were answered the same in both. Any two journals are answered so, or there is want of memory.
+    // they were answered the same in both. In each that is a legal history they were answered as the machine that has their events
+    // alone answers. Any two journals are answered so, or there is want of memory.
     ensures compares { (subject : Subject) → Asks words.now (Compare subject) → IfSome (S.left input.old) (λ bytes.
         Keeps (comparing (entries natives.now) subject) bytes (S.left input.new) result (K.held out.old) (K.held out.new)
         ((Rose (S.faults input.old) (S.faults input.new) → ⊥) × (Rose (K.faults out.old) (K.faults out.new) → ⊥))
@@ -358,7 +359,8 @@ pub fn run<R: Threads + Wait + Sync, S: Source, K: Sink, G: Pace + Sync>(
         ((Rose (S.faults input.old) (S.faults input.new) → ⊥) × (Rose (K.faults out.old) (K.faults out.new) → ⊥))) }
 
     // ---- What two journals show of a session, or of the sessions that share an application's instance: where that is the same,
-    // they were answered the same in both. Any two journals are answered so, or there is want of memory.
+    // they were answered the same in both. In each that is a legal history they were answered as the machine that has their events
+    // alone answers. Any two journals are answered so, or there is want of memory.
     ensures compares { (subject : Subject) → Asks words.now (Compare subject) → IfSome (S.left input.old) (λ bytes.
         Keeps (comparing (entries natives.now) subject) bytes (S.left input.new) result (K.held out.old) (K.held out.new)
         ((Rose (S.faults input.old) (S.faults input.new) → ⊥) × (Rose (K.faults out.old) (K.faults out.new) → ⊥))
