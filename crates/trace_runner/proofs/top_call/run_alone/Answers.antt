@@ -1,4 +1,4 @@
-use Rattle.std.proofs.Common.{refl, subst}
+use Rattle.std.proofs.Common.{ℕ, refl, subst}
 use Rattle.std.specs.Prelude.{IfSome}
 use Rattle.compare_model.specs.declared.subject.Subject.{Subject}
 use Rattle.native_tas.specs.Table.{entries}
