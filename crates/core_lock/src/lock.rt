@@ -1,11 +1,10 @@
 ghost use Rattle.std.specs.Prelude.{◌≡◌, ◌<◌, ◌≤◌, ℕ, List, [], ◌∷◌, ◌++◌, map, All, Some, IfOk, IfErr, vec_len, vec_capacity};
 
-use crate::logged::Logged;
 use crate::pass::{LockSeat, Pass, Turn};
 use crate::rule::{LockRule, Terms};
 use crate::view::View;
 use atomic_table::{Refused, Table};
-use base::NoMemory;
+use base::{Logged, NoMemory};
 use std::alloc::Global;
 use std::snapshot::Snapshot;
 use std::sync::Wait;

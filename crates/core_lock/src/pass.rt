@@ -1,6 +1,6 @@
-use crate::logged::Logged;
 use crate::view::View;
 use atomic_table::Seat;
+use base::Logged;
 use std::snapshot::Snapshot;
 
 /// A seat at a lock's table.

@@ -1,7 +1,7 @@
 //! The rule of the lock's table, and what each kind of step tells.
-use crate::logged::Logged;
 use crate::view::View;
 use atomic_table::{Join, Play, Split, TableRule};
+use base::Logged;
 use std::marker::PhantomData;
 use std::snapshot::Snapshot;
 

@@ -6,9 +6,9 @@ ghost use Rattle.atomic_table.specs.Table.{rest};
 ghost use Rattle.core_lock.specs.Rule.{IsRecord};
 
 use super::CoreLock;
-use crate::logged::Logged;
 use crate::pass::LockSeat;
 use crate::rule::{Counts, Deals, Draws, Gathers, Looks, Serves};
+use base::Logged;
 use std::sync::Wait;
 use std::thread;
 

@@ -1,11 +1,11 @@
 ghost use Rattle.std.specs.Prelude.{◌≡◌, ℕ, List, length};
 
-/// A value that stands for a list of entries.
+/// A value that stands for a list of entries, each made under a number. It is all that a lock knows of the value behind it.
 pub trait Logged {
     /// What the value's list is made of.
     type Entry;
 
-    /// What no turn changes.
+    /// What stays while entries are added: no turn of a lock changes it.
     type Basis;
 
     // The entries that the value stands for, in order.
