@@ -7,6 +7,8 @@
 
 ghost use Rattle.core_lock.specs.Examples.{Examples};
 
+mod gate;
+mod held;
 mod lock;
 mod pass;
 mod rule;
