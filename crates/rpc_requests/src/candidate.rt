@@ -8,14 +8,14 @@ ghost use Rattle.rpc_msgs.specs.Request.{IsPayloadOf, IsRequest};
 ghost use Rattle.rpc_requests.specs.Candidate.{file_request_in, front_of, len_in, name_in, notification_in, of_command, rpc_in, u32_in};
 ghost use Rattle.rpc_requests.specs.Holding.{BeginsWith, Holds, IsValue};
 
-use crate::commands::{
+use crate::request::Request;
+use msg_args::{MsgArg, MsgParam, read_arg, read_head};
+use rpc_msgs::commands::{
     OPTEE_RPC_CMD_FS, OPTEE_RPC_CMD_GET_TIME, OPTEE_RPC_CMD_NOTIFICATION, OPTEE_RPC_CMD_SUSPEND,
     OPTEE_RPC_FS_CLOSE, OPTEE_RPC_FS_CREATE, OPTEE_RPC_FS_OPEN, OPTEE_RPC_FS_READ,
     OPTEE_RPC_FS_REMOVE, OPTEE_RPC_FS_WRITE, OPTEE_RPC_NOTIFICATION_SEND,
     OPTEE_RPC_NOTIFICATION_WAIT,
 };
-use crate::request::Request;
-use msg_args::{MsgArg, MsgParam, read_arg, read_head};
 use rpc_msgs::{FileName, MAX_FILE_NAME, MAX_PAYLOAD, PAYLOAD_OFFSET, Payload, Rpc};
 
 /// The most parameters of a request.

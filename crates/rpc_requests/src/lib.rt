@@ -8,9 +8,7 @@
 //! Nothing here takes memory.
 #![tactic(auto)]
 
-mod argument;
 mod candidate;
-mod commands;
 mod examples;
 mod laws;
 mod reply;

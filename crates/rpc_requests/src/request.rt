@@ -5,10 +5,9 @@ ghost use Rattle.ns_ram.specs.Lane.{IsInRam, bytes_at};
 ghost use Rattle.rpc_msgs.specs.declared.rpc.Rpc.{Rpc as AnyRpc};
 ghost use Rattle.rpc_requests.specs.Holding.{Holds, HoldsBytes};
 
-use crate::argument::request_arg;
 use crate::candidate::candidate;
 use msg_args::write_arg;
-use rpc_msgs::{PAYLOAD_OFFSET, Payload, Rpc};
+use rpc_msgs::{PAYLOAD_OFFSET, Payload, Rpc, request_arg};
 use smc_port::World;
 
 /// A request with its payload: the name's bytes of one that names a file, the bytes of a write, and else none.
