@@ -4,9 +4,9 @@ use Rattle.ns_ram.specs.Lane.{bytes_at}
 use Rattle.ns_ram.specs.Writes.{lane_after}
 use Rattle.rpc_msgs.specs.declared.rpc.Rpc.{Rpc}
 use Rattle.rpc_msgs.specs.declared.rpc.RpcReply.{RpcReply}
-use Rattle.rpc_requests.specs.declared.request.Request.{Request}
-use Rattle.rpc_requests.specs.Answering.{refusal_writes, reply_writes}
-use Rattle.rpc_requests.specs.Holding.{Holds}
+use Rattle.supplicant.specs.declared.request.Request.{Request}
+use Rattle.supplicant.specs.Answering.{refusal_writes, reply_writes}
+use Rattle.supplicant.specs.Holding.{Holds}
 use Rattle.supplicant.specs.Supplicant.{Storage, answered}
 use Rattle.teec_calls.specs.declared.answer.RpcKind.{RpcKind}
 use Rattle.teec_calls.specs.declared.answer.RpcKind.TheVariants.{Alloc, Free, Interrupt, Cmd}

@@ -3,8 +3,8 @@ use Rattle.std.specs.Prelude.{◌≡◌, ◌≢◌, ◌⊎◌, ℕ, suc, zero, B
 use Rattle.ns_ram.specs.Lane.{bytes_at}
 use Rattle.ns_ram.specs.Writes.{Write, lane_after}
 use Rattle.rpc_msgs.specs.declared.rpc.Rpc.{Rpc}
-use Rattle.rpc_requests.specs.Answering.{refusal_writes, reply_writes}
-use Rattle.rpc_requests.specs.Holding.{Holds}
+use Rattle.supplicant.specs.Answering.{refusal_writes, reply_writes}
+use Rattle.supplicant.specs.Holding.{Holds}
 use Rattle.smc_abi.specs.declared.regs.Regs.{Regs}
 use Rattle.smc_port.specs.Smc.{Changes, Smc}
 use Rattle.supplicant.specs.Supplicant.{Storage, answered}

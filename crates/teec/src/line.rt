@@ -17,11 +17,10 @@ ghost use Rattle.teec.specs.Runs.{AnswersMessage, AnswersRpc, IsPrepared, IsStop
 use crate::fault::TeecFault;
 use crate::limits::Limits;
 use msg_args::{MsgArg, write_arg};
-use rpc_requests::{put_refusal, put_reply, read_request};
 use smc_abi::Regs;
 use smc_port::World;
 use std::alloc::Global;
-use supplicant::Supplicant;
+use supplicant::{Supplicant, put_refusal, put_reply, read_request};
 use teec_calls::{
     ARGUMENT_AT, CANCEL_AT, MESSAGE_AT, MESSAGE_COOKIE, RpcKind, RpcReturn, Said, call_with_arg,
     cancel_argument, return_from_rpc,
