@@ -27,7 +27,7 @@ use Rattle.supplicant.specs.Holding.{BeginsWith, Holds, IsValue}
 use Rattle.supplicant.proofs.Arguments.{counted}
 use Rattle.supplicant.proofs.Candidates.{count_there, front_only, rpc_again, spelled_there}
 use Rattle.supplicant.proofs.Finding.{FindsArguments, argument_found, its_value}
-use Rattle.teec_calls.specs.Places.{message_at, message_cookie}
+use Rattle.teec.specs.Places.{message_at, message_cookie}
 use Rattle.client_play.specs.Message.{Request, argument_in, begins_with, if_held, payload_in, request_in, request_with}
 
 -- ---- a spelling consists of bytes

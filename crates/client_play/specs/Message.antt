@@ -15,7 +15,7 @@ use Rattle.rpc_msgs.specs.declared.rpc.Rpc.TheVariants.{FsOpen, FsCreate, FsRead
 use Rattle.supplicant.specs.Answering.{refusal_writes, reply_writes}
 use Rattle.supplicant.specs.Candidate.{front_of, rpc_in}
 use Rattle.supplicant.specs.Supplicant.{Storage, answered}
-use Rattle.teec_calls.specs.Places.{message_at, message_cookie}
+use Rattle.teec.specs.Places.{message_at, message_cookie}
 
 -- a request with its payload
 abbrev pub Request : Type 0

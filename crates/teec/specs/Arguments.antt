@@ -5,9 +5,9 @@ use Rattle.msg_args.specs.declared.arg.MsgArg.{MsgArg}
 use Rattle.msg_args.specs.declared.head.MsgHead.{MsgHead}
 use Rattle.msg_args.specs.declared.kind.ParamKind.TheVariants as kinds
 use Rattle.msg_args.specs.declared.param.MsgParam.{MsgParam}
-use Rattle.teec_calls.specs.declared.operation.Operation.{Operation}
-use Rattle.teec_calls.specs.Operation.{params_sent}
-use Rattle.teec_calls.specs.Places.{cancel_id}
+use Rattle.teec.specs.declared.operation.Operation.{Operation}
+use Rattle.teec.specs.Operation.{params_sent}
+use Rattle.teec.specs.Places.{cancel_id}
 
 -- a head of a command and a session. Where nothing is named it is 0: result and origin too, as in a new argument of a driver
 abbrev pub head_of : ℕ → ℕ → ℕ → ℕ → MsgHead

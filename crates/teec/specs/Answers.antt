@@ -1,12 +1,12 @@
 -- What the answer to an SMC says to a client, by its a0 of optee_smc.h, and the registers of the SMCs that a client makes.
 use Rattle.std.specs.Prelude.{ℕ, ◌+◌, ◌*◌, ◌^◌, ◌==◌, if◌then◌else◌, [], ◌∷◌, slice_index}
 use Rattle.smc_abi.specs.declared.regs.Regs.{Regs}
-use Rattle.teec_calls.specs.declared.answer.RpcKind.{RpcKind}
-use Rattle.teec_calls.specs.declared.answer.RpcKind.TheVariants.{Alloc, Free, Interrupt, Cmd}
-use Rattle.teec_calls.specs.declared.answer.RpcReturn.{RpcReturn}
-use Rattle.teec_calls.specs.declared.answer.Said.{Said}
-use Rattle.teec_calls.specs.declared.answer.Said.TheVariants.{Finished, NoThread, Returned, Unknown}
-use Rattle.teec_calls.specs.Places.{message_at, message_cookie}
+use Rattle.teec.specs.declared.answer.RpcKind.{RpcKind}
+use Rattle.teec.specs.declared.answer.RpcKind.TheVariants.{Alloc, Free, Interrupt, Cmd}
+use Rattle.teec.specs.declared.answer.RpcReturn.{RpcReturn}
+use Rattle.teec.specs.declared.answer.Said.{Said}
+use Rattle.teec.specs.declared.answer.Said.TheVariants.{Finished, NoThread, Returned, Unknown}
+use Rattle.teec.specs.Places.{message_at, message_cookie}
 
 -- ---- answers
 

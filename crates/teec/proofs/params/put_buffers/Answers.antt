@@ -1,5 +1,5 @@
-use Rattle.teec_calls.proofs.Sending.{four_buffers}
-use Rattle.teec_calls.proofs.params.put_buffers.Goals as goal
+use Rattle.teec.proofs.SentParams.{four_buffers}
+use Rattle.teec.proofs.params.put_buffers.Goals as goal
 
 pub returns-clause-ram : goal.returns-clause-ram
 returns-clause-ram g c =

@@ -1,4 +1,4 @@
--- The definitions on small inputs, worked out by hand.
+-- The definitions of arguments, answers and results on small inputs, worked out by hand.
 use Rattle.std.specs.Prelude.{◌≡◌, ℕ, true, false, List, [], ◌∷◌, ◌++◌, replicate, None}
 use Rattle.msg_args.specs.declared.arg.MsgArg.{MsgArg}
 use Rattle.msg_args.specs.declared.kind.ParamKind.{ParamKind}
@@ -8,13 +8,13 @@ use Rattle.smc_abi.specs.declared.regs.Regs.{Regs}
 use Rattle.ta_params.specs.declared.copied_params.Way.TheVariants.{In, Out, Inout}
 use Rattle.ta_params.specs.declared.copied_params.GpParam.{GpParam}
 use Rattle.ta_params.specs.declared.copied_params.GpParam.TheVariants.{Empty, Value, Memref}
-use Rattle.teec_calls.specs.declared.answer.RpcKind.TheVariants.{Alloc, Cmd}
-use Rattle.teec_calls.specs.declared.answer.Said.TheVariants.{Returned, Unknown}
-use Rattle.teec_calls.specs.declared.operation.Operation.{Operation}
-use Rattle.teec_calls.specs.Answers.{return_from_rpc, said}
-use Rattle.teec_calls.specs.Arguments.{cancel_argument, close_argument, invoke_argument, open_argument}
-use Rattle.teec_calls.specs.Results.{opened_in}
-use Rattle.teec_calls.specs.Operation.{buffer_writes, param_back, params_sent}
+use Rattle.teec.specs.declared.answer.RpcKind.TheVariants.{Alloc, Cmd}
+use Rattle.teec.specs.declared.answer.Said.TheVariants.{Returned, Unknown}
+use Rattle.teec.specs.declared.operation.Operation.{Operation}
+use Rattle.teec.specs.Answers.{return_from_rpc, said}
+use Rattle.teec.specs.Arguments.{cancel_argument, close_argument, invoke_argument, open_argument}
+use Rattle.teec.specs.Results.{opened_in}
+use Rattle.teec.specs.Operation.{buffer_writes, param_back, params_sent}
 
 -- ---- parameters
 
@@ -64,7 +64,7 @@ short_buffer = left (0x10 ∷ 0 ∷ 0xff ∷ 0xff ∷ [])
 abbrev pub answer_of : ℕ → ℕ → ℕ → ℕ → Regs
 answer_of a0 a1 a2 a3 = record { a = a0 ∷ a1 ∷ a2 ∷ a3 ∷ 0 ∷ 0 ∷ 0 ∷ 0 ∷ [] }
 
-pub record Examples : Type 0 where
+pub record CallExamples : Type 0 where
   -- arguments
   pub opens : open_argument app one_value 0 ≡ argument 0 0 0 2 (meta_value 0x3333222211111111 0x5555555555554444 ∷ meta_value 0 0 ∷ [])
   pub invokes : invoke_argument 1 0xfa one_value 1 ≡ argument 1 0xfa 1 1 (param kinds.ValueInout 5 7 ∷ [])

@@ -1,19 +1,19 @@
 //! Where a client keeps what it shares with a core.
 
 ghost use Rattle.std.specs.Prelude.{◌≡◌, ◌<◌};
-ghost use Rattle.teec_calls.specs.Places.{memory_at};
+ghost use Rattle.teec.specs.Places.{memory_at};
 
 /// The argument of a call.
-pub const ARGUMENT_AT: u64 = 0x4000_0000;
+pub(crate) const ARGUMENT_AT: u64 = 0x4000_0000;
 
 /// The argument of a call's cancellation.
-pub const CANCEL_AT: u64 = 0x4000_1000;
+pub(crate) const CANCEL_AT: u64 = 0x4000_1000;
 
 /// The buffer in which a core asks for something.
-pub const MESSAGE_AT: u64 = 0x4001_0000;
+pub(crate) const MESSAGE_AT: u64 = 0x4001_0000;
 
 /// The cookie by which the core names that buffer.
-pub const MESSAGE_COOKIE: u64 = 1;
+pub(crate) const MESSAGE_COOKIE: u64 = 1;
 
 /// The number by which each call can be cancelled.
 pub(crate) const CANCEL_ID: u32 = 1;

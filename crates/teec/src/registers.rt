@@ -1,14 +1,14 @@
 //! The registers of the SMCs that a client makes, as client 0.
 
 ghost use Rattle.std.specs.Prelude.{◌≡◌, ◌<◌, ◌^◌};
-ghost use Rattle.teec_calls.specs.Answers.{call_with_arg, return_from_rpc};
+ghost use Rattle.teec.specs.Answers.{call_with_arg, return_from_rpc};
 
 use crate::answer::{RpcKind, RpcReturn};
 use crate::places::{MESSAGE_AT, MESSAGE_COOKIE};
 use smc_abi::{CALL_WITH_ARG, RETURN_FROM_RPC, Regs};
 
 /// A call of the argument at an address.
-pub fn call_with_arg(arg: u64) -> Regs
+pub(crate) fn call_with_arg(arg: u64) -> Regs
     requires { arg < 2 ^ 32 }
     ensures { result ≡ call_with_arg arg }
 {
@@ -19,7 +19,7 @@ pub fn call_with_arg(arg: u64) -> Regs
 
 /// What answers an RPC return. One that asks for a buffer is given the client's one buffer, however many bytes it asked
 /// for.
-pub fn return_from_rpc(rpc: &RpcReturn) -> Regs
+pub(crate) fn return_from_rpc(rpc: &RpcReturn) -> Regs
     ensures { result ≡ return_from_rpc rpc.now }
 {
     let (buffer, cookie) = match rpc.kind {

@@ -1,7 +1,7 @@
 //! What RAM tells of a call that has ended.
 
 ghost use Rattle.std.specs.Prelude.{◌≡◌};
-ghost use Rattle.teec_calls.specs.Results.{opened_in, result_in};
+ghost use Rattle.teec.specs.Results.{opened_in, result_in};
 
 use crate::params::low_word;
 use crate::places::ARGUMENT_AT;
@@ -19,7 +19,7 @@ pub struct Opened {
 }
 
 /// The result, and where it comes from.
-pub fn result_in<W: World>(world: &W) -> CallResult
+pub(crate) fn result_in<W: World>(world: &W) -> CallResult
     ensures { result ≡ result_in (W.ram world.now) }
 {
     CallResult {
@@ -29,7 +29,7 @@ pub fn result_in<W: World>(world: &W) -> CallResult
 }
 
 /// The result of an open, with its session where that is SUCCESS.
-pub fn opened_in<W: World>(world: &W) -> Opened
+pub(crate) fn opened_in<W: World>(world: &W) -> Opened
     ensures { result ≡ opened_in (W.ram world.now) }
 {
     let result = result_in(world);

@@ -13,8 +13,8 @@ use Rattle.ta_params.specs.declared.copied_params.Way.TheVariants.{In, Out, Inou
 use Rattle.ta_params.specs.declared.copied_params.GpParam.{GpParam}
 use Rattle.ta_params.specs.declared.copied_params.GpParam.TheVariants.{Empty, Value, Memref}
 use Rattle.ta_params.specs.declared.copied_params.CopiedParams.{CopiedParams}
-use Rattle.teec_calls.specs.declared.operation.Operation.{Operation}
-use Rattle.teec_calls.specs.Places.{argument_at, memory_at}
+use Rattle.teec.specs.declared.operation.Operation.{Operation}
+use Rattle.teec.specs.Places.{argument_at, memory_at}
 
 -- the four, the first one first
 abbrev pub params_of : CopiedParams → List GpParam

@@ -2,9 +2,9 @@
 use Rattle.std.specs.Prelude.{◌==◌, ℕ, if◌then◌else◌, List}
 use Rattle.msg_args.specs.Layout.{origin_at, ret_at, session_at}
 use Rattle.ta_params.specs.declared.call_result.CallResult.{CallResult}
-use Rattle.teec_calls.specs.declared.outcome.Opened.{Opened}
-use Rattle.teec_calls.specs.Operation.{low_word}
-use Rattle.teec_calls.specs.Places.{argument_at}
+use Rattle.teec.specs.declared.outcome.Opened.{Opened}
+use Rattle.teec.specs.Operation.{low_word}
+use Rattle.teec.specs.Places.{argument_at}
 
 abbrev pub result_in : List ℕ → CallResult
 result_in ram = record { result = low_word ram (ret_at argument_at); origin = low_word ram (origin_at argument_at) }

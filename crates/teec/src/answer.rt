@@ -1,13 +1,13 @@
 //! What the answer to an SMC says to a client.
 
 ghost use Rattle.std.specs.Prelude.{◌≡◌};
-ghost use Rattle.teec_calls.specs.Answers.{cookie_in, said};
+ghost use Rattle.teec.specs.Answers.{cookie_in, said};
 
 use smc_abi::{ETHREAD_LIMIT, OK, RPC_ALLOC, RPC_CMD, RPC_FREE, RPC_INTERRUPT, Regs};
 
 /// What a core asks for in an RPC return.
 #[derive(Clone, Copy, Debug, PartialEq, Eq)]
-pub enum RpcKind {
+pub(crate) enum RpcKind {
     /// A buffer for its requests.
     Alloc,
     /// To take the buffer back.
@@ -20,14 +20,14 @@ pub enum RpcKind {
 
 /// An RPC return, and the thread by which it is answered.
 #[derive(Clone, Copy, Debug, PartialEq, Eq)]
-pub struct RpcReturn {
-    pub kind: RpcKind,
-    pub thread: u32,
+pub(crate) struct RpcReturn {
+    pub(crate) kind: RpcKind,
+    pub(crate) thread: u32,
 }
 
 /// What an answer says.
 #[derive(Clone, Copy, Debug, PartialEq, Eq)]
-pub enum Said {
+pub(crate) enum Said {
     /// The call has ended.
     Finished,
     /// No thread is free.
@@ -39,7 +39,7 @@ pub enum Said {
 
 impl Said {
     /// What an answer says. Nothing but its a0 tells.
-    pub fn of(answer: &Regs) -> Said
+    pub(crate) fn of(answer: &Regs) -> Said
         ensures { result ≡ said answer.now }
     {
         let kind = match answer.a[0] {

@@ -4,8 +4,8 @@ use Rattle.msg_args.specs.declared.param.MsgParam.{MsgParam}
 use Rattle.ns_ram.specs.Writes.{Write, lane_after}
 use Rattle.ns_ram.proofs.WriteList.{lane_after-append}
 use Rattle.ta_params.specs.declared.copied_params.GpParam.{GpParam}
-use Rattle.teec_calls.specs.declared.operation.Operation.{Operation}
-use Rattle.teec_calls.specs.Operation.{buffer_writes, memory_writes, param_sent, params_of, params_sent, sent_from}
+use Rattle.teec.specs.declared.operation.Operation.{Operation}
+use Rattle.teec.specs.Operation.{buffer_writes, memory_writes, param_sent, params_of, params_sent, sent_from}
 
 -- ---- as many parameters as are sent
 

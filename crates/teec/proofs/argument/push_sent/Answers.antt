@@ -1,7 +1,7 @@
 use Rattle.std.proofs.Common.{arith}
 use Rattle.std.proofs.lemmas.Grind.{common_steps}
-use Rattle.teec_calls.proofs.Sending.{sent_so}
-use Rattle.teec_calls.proofs.argument.push_sent.Goals as goal
+use Rattle.teec.proofs.SentParams.{sent_so}
+use Rattle.teec.proofs.argument.push_sent.Goals as goal
 
 pub returns : goal.returns
 returns c =

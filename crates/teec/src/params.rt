@@ -3,7 +3,7 @@
 ghost use Rattle.std.specs.Prelude.{◌≡◌, ◌+◌, ◌<◌, ◌≤◌};
 ghost use Rattle.ns_ram.specs.Lane.{IsInRam};
 ghost use Rattle.ns_ram.specs.Writes.{lane_after};
-ghost use Rattle.teec_calls.specs.Operation.{FitsItsPlace, IsSendable, buffer_writes, low_word, memory_kind, memory_writes, operation_back, param_back, param_sent, value_kind};
+ghost use Rattle.teec.specs.Operation.{FitsItsPlace, IsSendable, buffer_writes, low_word, memory_kind, memory_writes, operation_back, param_back, param_sent, value_kind};
 
 use crate::operation::Operation;
 use crate::places::{ARGUMENT_AT, memory_at};
@@ -57,7 +57,7 @@ fn memory_kind(way: Way) -> ParamKind
 }
 
 /// Writes the bytes of an operation's buffers to their places, outputs too.
-pub fn put_buffers<W: World>(world: &mut W, op: &Operation)
+pub(crate) fn put_buffers<W: World>(world: &mut W, op: &Operation)
     requires { IsSendable op.now }
     ensures ram { W.ram world.new ≡ lane_after (W.ram world.old) (buffer_writes op.now) }
     ensures made { W.made world.new ≡ W.made world.old }
@@ -80,7 +80,7 @@ fn put_buffer<W: World>(world: &mut W, number: u64, param: &GpParam)
 }
 
 /// Takes the outputs out of RAM. So many parameters of the argument stand before the operation's.
-pub fn take_outputs<W: World>(world: &W, before: u64, op: &mut Operation)
+pub(crate) fn take_outputs<W: World>(world: &W, before: u64, op: &mut Operation)
     requires before { before ≤ 2 }
     requires fits { IsSendable op.old }
     ensures { op.new ≡ operation_back (W.ram world.now) before op.old }

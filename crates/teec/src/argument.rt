@@ -1,8 +1,8 @@
 //! The arguments of a client's calls.
 
 ghost use Rattle.std.specs.Prelude.{◌≡◌, ◌≤◌, ◌++◌, length};
-ghost use Rattle.teec_calls.specs.Arguments.{argument_of, cancel_argument, close_argument, invoke_argument, name_of, nobody, open_argument};
-ghost use Rattle.teec_calls.specs.Operation.{IsSendable, Sends, params_sent};
+ghost use Rattle.teec.specs.Arguments.{argument_of, cancel_argument, close_argument, invoke_argument, name_of, nobody, open_argument};
+ghost use Rattle.teec.specs.Operation.{IsSendable, Sends, params_sent};
 
 use crate::operation::Operation;
 use crate::params::param_sent;
@@ -16,7 +16,7 @@ use msg_args::{
 use uuid::Uuid;
 
 /// Of an open: the application, the client, which has no name, and as many of the operation's parameters as are sent.
-pub fn open_argument(uuid: Uuid, op: &Operation, sent: u32) -> MsgArg
+pub(crate) fn open_argument(uuid: Uuid, op: &Operation, sent: u32) -> MsgArg
     requires fits { IsSendable op.now }
     requires sent { Sends op.now sent }
     ensures { result ≡ open_argument uuid op.now sent }
@@ -29,7 +29,7 @@ pub fn open_argument(uuid: Uuid, op: &Operation, sent: u32) -> MsgArg
 }
 
 /// Of an invoke: as many of the operation's parameters as are sent.
-pub fn invoke_argument(session: u32, func: u32, op: &Operation, sent: u32) -> MsgArg
+pub(crate) fn invoke_argument(session: u32, func: u32, op: &Operation, sent: u32) -> MsgArg
     requires fits { IsSendable op.now }
     requires sent { Sends op.now sent }
     ensures { result ≡ invoke_argument session func op.now sent }
@@ -39,14 +39,14 @@ pub fn invoke_argument(session: u32, func: u32, op: &Operation, sent: u32) -> Ms
     argument_of(OPTEE_MSG_CMD_INVOKE_COMMAND, func, session, params)
 }
 
-pub fn close_argument(session: u32) -> MsgArg
+pub(crate) fn close_argument(session: u32) -> MsgArg
     ensures { result ≡ close_argument session }
 {
     argument_of(OPTEE_MSG_CMD_CLOSE_SESSION, 0, session, ArrayVec::new())
 }
 
 /// Of the cancellation of a call in a session.
-pub fn cancel_argument(session: u32) -> MsgArg
+pub(crate) fn cancel_argument(session: u32) -> MsgArg
     ensures { result ≡ cancel_argument session }
 {
     argument_of(OPTEE_MSG_CMD_CANCEL, 0, session, ArrayVec::new())
