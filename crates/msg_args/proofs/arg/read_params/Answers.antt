@@ -2,11 +2,8 @@ use Rattle.std.proofs.Common.{◌≡◌, ℕ, ◌*◌, ◌/◌, length, take, ap
 use Rattle.std.proofs.lemmas.List.{length-take}
 use Rattle.std.specs.Simd.{first_chunks}
 use Rattle.msg_args.specs.Reading.{params_of}
-use Rattle.msg_args.proofs.Pieces.{length-first_chunks, first_chunks-take}
+use Rattle.msg_args.proofs.Pieces.{first_chunks-take}
 use Rattle.msg_args.proofs.arg.read_params.Goals as goal
-
-pub read_pieces-requires : goal.read_pieces-requires
-read_pieces-requires c = ?
 
 pub returns : goal.returns
 returns c =
