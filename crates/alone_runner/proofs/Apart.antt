@@ -1,6 +1,7 @@
 -- What is within its limits can be played: a core can be booted with its boot.
 use Rattle.std.proofs.Common.{◌≡◌, ℕ, ◌≤◌, List, length}
-use Rattle.journal_runner.proofs.Booting.{AreApart, can_boot}
+use Rattle.journal_runner.proofs.Booting.{can_boot}
+use Rattle.trace_player.proofs.Booting.{AreApart}
 use Rattle.kernel_model.specs.Application.{Native}
 use Rattle.trace_player.specs.Starting.{uuids_of}
 use Rattle.alone_runner.specs.Content.{CanBePlayed, IsSoundContent}

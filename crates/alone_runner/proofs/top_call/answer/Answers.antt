@@ -1,6 +1,6 @@
 -- An input that was read is what its bytes spell, and can be played.
 use Rattle.std.proofs.Common.{List, ℕ, inr, subst, sym, ◌∙◌}
-use Rattle.journal_runner.proofs.Booting.{AreApart}
+use Rattle.trace_player.proofs.Booting.{AreApart}
 use Rattle.native_tas.specs.Table.{entries}
 use Rattle.trace_player.specs.Starting.{uuids_of}
 use Rattle.word_parts.proofs.Worded.{fault-answered}
