@@ -11,7 +11,7 @@ use rpc_cont::{Cont, Phase};
 use rpc_msgs::{RequestPlace, Rpc, RpcBuffer};
 
 /// What a call asks the normal world for.
-#[derive(Clone, Copy, Debug, PartialEq, Eq)]
+#[derive(Clone, Copy)]
 pub enum Wanted {
     /// What its application asked for: the call's `request`.
     Asked,
@@ -22,7 +22,7 @@ pub enum Wanted {
 }
 
 /// What a call goes out with.
-#[derive(Clone, Copy, Debug, PartialEq, Eq)]
+#[derive(Clone, Copy)]
 pub enum Leaving {
     /// Its application still runs.
     Interrupted,

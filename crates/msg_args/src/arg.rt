@@ -15,7 +15,7 @@ use std::fmt;
 const MAX_PARAMS: u32 = 6;
 
 /// An argument: its head and its parameters. It has a spelling where the head counts the parameters.
-#[derive(Debug, Drop, PartialEq, Eq)]
+#[derive(Drop)]
 pub struct MsgArg {
     pub head: MsgHead,
     pub params: ArrayVec<MsgParam, 6>,

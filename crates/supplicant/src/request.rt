@@ -11,7 +11,7 @@ use rpc_msgs::{PAYLOAD_OFFSET, Payload, Rpc, request_arg};
 use smc_port::World;
 
 /// A request with its payload: the name's bytes of one that names a file, the bytes of a write, and else none.
-#[derive(Debug, Drop, PartialEq, Eq)]
+#[derive(Drop)]
 pub struct Request {
     pub rpc: Rpc,
     pub payload: Payload,

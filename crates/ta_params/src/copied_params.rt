@@ -73,7 +73,7 @@ impl Clone for GpParam {
 }
 
 /// The four parameters of a call, copied out of shared memory.
-#[derive(Debug, Drop)]
+#[derive(Drop)]
 pub struct CopiedParams {
     pub p0: GpParam,
     pub p1: GpParam,

@@ -4,7 +4,7 @@ ghost use Rattle.tee_storage.specs.ObjectFiles.{format_number};
 use rpc_msgs::FileName;
 
 /// The format of an object's file.
-#[derive(Clone, Copy, Debug)]
+#[derive(Clone, Copy)]
 pub enum FileFormat {
     /// Format 1: the header and the data alone.
     Untagged,
@@ -25,7 +25,7 @@ impl FileFormat {
 }
 
 /// One open object.
-#[derive(Debug, Drop)]
+#[derive(Drop)]
 pub struct Handle {
     /// The name of the object's file in the storage of the normal world.
     pub name: FileName,

@@ -23,7 +23,7 @@ const MAGIC: [u8; 4] = [0x4f, 0x54, 0x4f, 0x32];
 const MAX_DIGITS: usize = 128;
 
 /// What the header of an object's file says.
-#[derive(Clone, Copy, Debug, Drop)]
+#[derive(Clone, Copy, Drop)]
 pub struct Header {
     pub(crate) format: FileFormat,
     /// How many bytes the object has.

@@ -6,7 +6,7 @@ ghost use Rattle.teec.specs.Answers.{cookie_in, said};
 use smc_abi::{ETHREAD_LIMIT, OK, RPC_ALLOC, RPC_CMD, RPC_FREE, RPC_INTERRUPT, Regs};
 
 /// What a core asks for in an RPC return.
-#[derive(Clone, Copy, Debug, PartialEq, Eq)]
+#[derive(Clone, Copy)]
 pub(crate) enum RpcKind {
     /// A buffer for its requests.
     Alloc,
@@ -19,14 +19,14 @@ pub(crate) enum RpcKind {
 }
 
 /// An RPC return, and the thread by which it is answered.
-#[derive(Clone, Copy, Debug, PartialEq, Eq)]
+#[derive(Clone, Copy)]
 pub(crate) struct RpcReturn {
     pub(crate) kind: RpcKind,
     pub(crate) thread: u32,
 }
 
 /// What an answer says.
-#[derive(Clone, Copy, Debug, PartialEq, Eq)]
+#[derive(Clone, Copy)]
 pub(crate) enum Said {
     /// The call has ended.
     Finished,

@@ -1,7 +1,7 @@
 use ta_params::CopiedParams;
 
 /// What a call is made with: four parameters, in which the outputs come back.
-#[derive(Debug, Drop)]
+#[derive(Drop)]
 pub struct Operation {
     /// A buffer has at most 65,536 bytes, and the size of memory is that of its buffer.
     pub params: CopiedParams,

@@ -11,7 +11,7 @@ use ta_params::CallResult;
 use ta_params::codes::TEE_SUCCESS;
 
 /// What an open came to.
-#[derive(Clone, Copy, Debug, PartialEq, Eq)]
+#[derive(Clone, Copy)]
 pub struct Opened {
     /// The session's number, 0 where the result isn't SUCCESS.
     pub session: u32,
