@@ -2,11 +2,11 @@
 use Rattle.std.proofs.Common.{◌≡◌, ℕ, Bool, List, Option, Some, None, refl, sym, ◌∙◌, ap, ap₂}
 use Rattle.std.specs.Prelude.{IsSome}
 use Rattle.std.specs.Option.{option_and_then, option_map, option_map_or}
-use Rattle.call_leaving.specs.Leaving.{asked_request, asking, asking_nothing, leaving_as, leaving_by, place_of, request_of, wanted_in}
-use Rattle.call_leaving.specs.declared.leaving.Leaving.{Leaving}
-use Rattle.call_leaving.specs.declared.leaving.Leaving.TheVariants.{Requests}
-use Rattle.call_leaving.specs.declared.leaving.Wanted.{Wanted}
-use Rattle.call_leaving.specs.declared.leaving.Wanted.TheVariants.{Asked, Sleep, Wake}
+use Rattle.kernel_state.specs.CallLeaving.{asked_request, asking, asking_nothing, leaving_as, leaving_by, place_of, request_of, wanted_in}
+use Rattle.kernel_state.specs.declared.leaving.Leaving.{Leaving}
+use Rattle.kernel_state.specs.declared.leaving.Leaving.TheVariants.{Requests}
+use Rattle.kernel_state.specs.declared.leaving.Wanted.{Wanted}
+use Rattle.kernel_state.specs.declared.leaving.Wanted.TheVariants.{Asked, Sleep, Wake}
 use Rattle.kernel_model.specs.Kernel.{CallPhase, Runs, Asks, Waits, Ends, PendingCall}
 use Rattle.kernel_model.specs.Leaving as model
 use Rattle.kernel_state.specs.Calls.{IsCall, IsInPhase, woken_slot}

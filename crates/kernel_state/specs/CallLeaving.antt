@@ -1,10 +1,10 @@
 -- What a call as data goes out with.
 use Rattle.std.specs.Prelude.{ℕ, List, Option, Some, None}
 use Rattle.std.specs.Option.{option_and_then, option_map}
-use Rattle.call_leaving.specs.declared.leaving.Leaving.{Leaving}
-use Rattle.call_leaving.specs.declared.leaving.Leaving.TheVariants.{Interrupted, WantsBuffer, Requests, FreesBuffer, Finishes}
-use Rattle.call_leaving.specs.declared.leaving.Wanted.{Wanted}
-use Rattle.call_leaving.specs.declared.leaving.Wanted.TheVariants.{Asked, Sleep, Wake}
+use Rattle.kernel_state.specs.declared.leaving.Leaving.{Leaving}
+use Rattle.kernel_state.specs.declared.leaving.Leaving.TheVariants.{Interrupted, WantsBuffer, Requests, FreesBuffer, Finishes}
+use Rattle.kernel_state.specs.declared.leaving.Wanted.{Wanted}
+use Rattle.kernel_state.specs.declared.leaving.Wanted.TheVariants.{Asked, Sleep, Wake}
 use Rattle.kernel_model.specs.Leaving as model
 use Rattle.kernel_model.specs.Leaving.{Request, plain_request}
 use Rattle.kernel_state.specs.Calls.{woken_slot}

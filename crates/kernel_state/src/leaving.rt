@@ -1,10 +1,12 @@
+//! What a call goes out with, from the call as plain data: a resume asks it of a call that is suspended, and an exit of one
+//! that goes out.
 ghost use Rattle.std.specs.Prelude.{◌≡◌, ℕ, IsSome, Some};
 ghost use Rattle.std.specs.Option.{option_and_then};
 ghost use Rattle.kernel_model.specs.Kernel.{PendingCall};
 ghost use Rattle.kernel_model.specs.Leaving.{leaving_of};
 ghost use Rattle.kernel_state.specs.Calls.{IsCall, woken_slot};
 ghost use Rattle.rpc_msgs.specs.declared.request_place.RequestPlace.{RequestPlace as AnyPlace};
-ghost use Rattle.call_leaving.specs.Leaving.{asking_nothing, leaving_as, leaving_by, place_of, wanted_in};
+ghost use Rattle.kernel_state.specs.CallLeaving.{asking_nothing, leaving_as, leaving_by, place_of, wanted_in};
 
 use frame_pool::Pages;
 use rpc_cont::{Cont, Phase};
@@ -38,7 +40,7 @@ pub enum Leaving {
 
 impl Leaving {
     /// What the call of a slot goes out with.
-    #[tactic(auto, using(crate::proofs::Told::leaving_told, crate::proofs::Told::asked_there, crate::proofs::Told::asked_kept))]
+    #[tactic(auto, using(crate::proofs::LeavingTold::leaving_told, crate::proofs::LeavingTold::asked_there, crate::proofs::LeavingTold::asked_kept))]
     pub fn of(slot: u32, cont: &Cont<Pages>) -> Leaving
         ensures call { (call : PendingCall) → IsCall cont.now call → leaving_of slot call ≡ leaving_as cont.now result }
         ensures asked { (place : AnyPlace) → result ≡ Leaving.Requests place Wanted.Asked → IsSome cont.now.request }
