@@ -1,4 +1,3 @@
-use Rattle.normal_cpus.proofs.Crossing.{shared_sync}
 use Rattle.std.proofs.Common.{ℕ, ap, sym, ◌∙◌}
 use Rattle.core_lock.specs.Counts.{numbers_from, times}
 use Rattle.normal_cpus.proofs.shared_core.SharedCore.close.Goals as goal
