@@ -197,6 +197,28 @@ impl Case {
         self.push_bytes(b"\n")
     }
 
+    /// So many zeros.
+    pub fn push_zeros(&mut self, count: u32) -> Result<(), AllocError> {
+        for _ in 0..count {
+            self.push_bytes(&[0])?;
+        }
+        Ok(())
+    }
+
+    /// The bytes of the part that was begun from this place on stand there so many times in all.
+    pub fn repeat(&mut self, alloc: Global, at: u32, count: u32) -> Result<(), AllocError> {
+        let part = match self.part {
+            Part::Input => self.input.as_slice(),
+            Part::Output => self.output.as_slice(),
+        };
+        let at = (at as usize).min(part.len());
+        let bytes = Vec::from_slice(alloc, &part[at..])?;
+        for _ in 1..count {
+            self.push_bytes(bytes.as_slice())?;
+        }
+        Ok(())
+    }
+
     /// The source's call of this number, counted from 0, fails.
     pub fn fail_take(&mut self, call: u32) -> Result<(), AllocError>
         ensures { OnOk result (self.new.failing_takes.items ≡ self.old.failing_takes.items ++ call ∷ []) }

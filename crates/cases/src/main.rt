@@ -4,8 +4,9 @@
 //! A case is lines: `case NAME`, `words W..`, the bytes of the input after a line `input` and those of the
 //! output after a line `output`, and last `status N`, at which it runs. Bytes are given by lines `|TEXT` (the
 //! text and a line feed), `=TEXT` (the text alone), `<FILE` (those of a file, whose path is relative to the folder
-//! that the program runs in), `hex HEX` (those of hexadecimal digits), `lines N TEXT` (N lines of the text) and
-//! `comment N` (a comment line of N bytes).
+//! that the program runs in), `hex HEX` (those of hexadecimal digits), `lines N TEXT` (N lines of the text),
+//! `comment N` (a comment line of N bytes), `zeros N` (N zeros) and `repeat AT N` (those from place AT on stand there N times
+//! in all).
 //! `take N` and `put N` make call N of the source or the sink fail, counted from 0. `again NAME` begins a case with
 //! the words and the input of the one before, `by_threads NAME` one with that input, the word `threads` and the block of the
 //! output before, which is that of one processor, and `by_audit NAME` one with the word `audit` and the journal that the word `record`
@@ -18,7 +19,7 @@ mod case;
 
 use anyhow::{Context, Result, bail};
 use case::Case;
-use native_tas::{Driver, DriverRelation, MAX_NATIVES, Native, Natives, Relation, digest};
+use native_tas::{DIGEST_UUID, MAX_NATIVES, Native, Natives, Relation, digest, program_natives};
 use std::alloc::Global;
 use std::fs;
 use std::io::{BufRead, BufReader};
@@ -26,12 +27,6 @@ use std::rt::Files;
 use std::sync::Wait;
 use std::thread::Threads;
 use uuid::Uuid;
-
-/// The UUID of the digest application. It is built in, and so is the same under fifteen other UUIDs, with other last octets:
-/// sixteen are as many as can be.
-const DIGEST_UUID: [u8; 16] = [
-    0x3f, 0x0c, 0x7a, 0x11, 0x52, 0xb8, 0x4d, 0x6e, 0x9a, 0x40, 0x0e, 0x6b, 0x5d, 0x2c, 0x8f, 0x01,
-];
 
 /// Adds the bytes of a file.
 fn push_file(rt: &(impl Files + AllocGlobal), case: &mut Case, path: &str) -> Result<()> {
@@ -68,12 +63,22 @@ fn begins(alloc: Global, case: &mut Case, word: &str, rest: &str) -> Result<bool
     Ok(true)
 }
 
-/// Takes a line that gives bytes otherwise, a cut, a change, or a call that fails, and says whether it does.
-fn takes_numbers(alloc: Global, case: &mut Case, word: &str, rest: &str) -> Result<bool> {
+/// Takes a line that gives bytes otherwise, and says whether it does.
+fn takes_counts(alloc: Global, case: &mut Case, word: &str, rest: &str) -> Result<bool> {
     match word {
         "hex" => push_digits(alloc, case, rest)?,
         "comment" => case.push_comment(number(rest)?)?,
         "lines" => push_lines(case, rest)?,
+        "zeros" => case.push_zeros(number(rest)?)?,
+        "repeat" => repeat(alloc, case, rest)?,
+        _ => return Ok(false),
+    }
+    Ok(true)
+}
+
+/// Takes a cut, a change, or a call that fails, and says whether it does.
+fn takes_numbers(alloc: Global, case: &mut Case, word: &str, rest: &str) -> Result<bool> {
+    match word {
         "cut" => cut(case, rest)?,
         "change" => change(alloc, case, rest)?,
         "swap" => swap(alloc, case, rest)?,
@@ -94,6 +99,13 @@ fn push_digits(alloc: Global, case: &mut Case, digits: &str) -> Result<()> {
 fn push_lines(case: &mut Case, rest: &str) -> Result<()> {
     let (count, text) = halves(rest)?;
     case.push_lines(number(count)?, text)?;
+    Ok(())
+}
+
+/// Has bytes of the part stand there several times.
+fn repeat(alloc: Global, case: &mut Case, rest: &str) -> Result<()> {
+    let (at, count) = halves(rest)?;
+    case.repeat(alloc, number(at)?, number(count)?)?;
     Ok(())
 }
 
@@ -169,6 +181,7 @@ fn take_line<R: Files + AllocGlobal + Print + Threads + Wait + Sync>(
     let (word, rest) = line.split_once(' ').unwrap_or((line, ""));
     if runs(rt, alloc, natives, case, word, rest)?
         || begins(alloc, case, word, rest)?
+        || takes_counts(alloc, case, word, rest)?
         || takes_numbers(alloc, case, word, rest)?
     {
         return Ok(());
@@ -187,8 +200,10 @@ fn number(text: &str) -> Result<u32> {
 
 fn main(rt: HostRuntime) -> Result<()> {
     let alloc = rt.alloc();
-    let mut natives = Natives::new(alloc);
-    for last_octet in 1..=MAX_NATIVES as u8 {
+    // What the program has built in, and its digest application under fifteen other UUIDs, with other last octets: sixteen are
+    // as many as can be.
+    let mut natives = program_natives!(alloc)?;
+    for last_octet in 2..=MAX_NATIVES as u8 {
         let mut uuid = DIGEST_UUID;
         uuid[15] = last_octet;
         let built_in = natives.add(Native {
@@ -199,14 +214,6 @@ fn main(rt: HostRuntime) -> Result<()> {
         if built_in.is_err() {
             bail!("no memory for the applications that are built in");
         }
-    }
-    let echo = Driver {
-        value: 1,
-        relation: DriverRelation::Echo,
-        call: |count: u32| count,
-    };
-    if natives.add_driver(echo).is_err() {
-        bail!("no memory for the driver that is built in");
     }
     let mut case = Case::new(alloc, "")?;
     for line in BufReader::new(alloc, rt.reader())?.lines(alloc) {
