@@ -1,11 +1,11 @@
 #!/usr/bin/env python3
 """Counts the instructions that assembling a text costs for each byte, and whether they grow in a line.
 
-Makes texts of applications of 4,096 and of 8,192 instructions, each with its labels, runs `asm_check` on them under
+Makes texts of applications of 4,096 and of 8,192 instructions, each with its labels, runs `parts` on them under
 callgrind, and prints the instructions for each byte: of the text, which is also disassembled and printed as bytes, and of the
 text with a fault in one more line, which is assembled to its end alone. Then it gives 16 MiB of comments, of labels, and of
 comments before a fault, within a stack of 8 MiB, and prints the most memory that the program took. Build the program first, by
-`rt run` in crates/asm_check.
+`rt run` in crates/parts.
 Usage: bench/assembling.py
 """
 
@@ -18,7 +18,7 @@ import tempfile
 
 from callgrind import counted
 
-PROGRAM = pathlib.Path(__file__).resolve().parent.parent / "crates/asm_check/out/asm_check"
+PROGRAM = pathlib.Path(__file__).resolve().parent.parent / "crates/parts/out/parts"
 ENTRIES = ["create", "open", "invoke", "close", "destroy"]
 HEADER = ".flags 0\n.pages 64\n" + "".join(f".entry {name} L0\n" for name in ENTRIES)
 WHOLE = 1 << 24
@@ -54,7 +54,7 @@ def program(count):
 
 def instructions(text):
     """How many instructions the program needs for this text, and what it prints."""
-    return counted(PROGRAM, given=text.encode())
+    return counted(PROGRAM, "asm", given=text.encode())
 
 
 def filled(line, size):
@@ -77,7 +77,7 @@ def whole(text):
     with tempfile.TemporaryFile() as given, tempfile.TemporaryFile() as printed:
         given.write(text.encode())
         given.seek(0)
-        run = subprocess.Popen([PROGRAM], stdin=given, stdout=printed, preexec_fn=small_stack)
+        run = subprocess.Popen([PROGRAM, "asm"], stdin=given, stdout=printed, preexec_fn=small_stack)
         _, status, usage = os.wait4(run.pid, 0)
         assert status == 0
         printed.seek(0)

@@ -2,7 +2,7 @@
 """Counts the host's instructions for a step of the application machine.
 
 Runs a loop of arithmetic and a loop of loads and stores for N and for 2N steps under callgrind, and prints the
-instructions for each further step. Build the program first, by `rt run` in crates/machine_loops.
+instructions for each further step. Build the program first, by `rt run` in crates/parts.
 Usage: bench/machine_steps.py [N]
 """
 
@@ -12,7 +12,7 @@ import sys
 
 from callgrind import counted
 
-PROGRAM = pathlib.Path(__file__).resolve().parent.parent / "crates/machine_loops/out/machine_loops"
+PROGRAM = pathlib.Path(__file__).resolve().parent.parent / "crates/parts/out/parts"
 
 # op, d, a, b, imm; each loop's last instruction goes back to instruction 1
 LOOPS = {
@@ -42,7 +42,7 @@ def image(code):
 
 def instructions(code, steps):
     """How many instructions the program needs for so many steps."""
-    count, printed = counted(PROGRAM, image(code).hex(), str(steps))
+    count, printed = counted(PROGRAM, "invoke", image(code).hex(), str(steps))
     assert printed == b"Interrupted after %d\n" % steps
     return count
 

@@ -14,7 +14,7 @@ import sys
 
 from playing import PROGRAM, SEED, trace
 
-CASES = pathlib.Path(__file__).resolve().parent.parent / "crates/worked_cases/stdin"
+CASES = pathlib.Path(__file__).resolve().parent.parent / "crates/cases/stdin"
 MOST_CALLS = 65_536
 KINDS = {
     "ok": lambda a0: a0 == 0,

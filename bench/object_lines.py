@@ -1,12 +1,12 @@
 #!/usr/bin/env python3
-"""Works out what `machine_loops` has to print of its calls on objects.
+"""Works out what `parts` has to print of its calls on objects.
 
 The calls are written a second time from their rules (docs/formats.md, "Objects") and not from the Rattle code, and the tags are
 those of Python's `hmac`. A call is a generator that yields a request and its payload, and is sent the reply. At the top of
 the repository
 
-    bench/object_lines.py cases | diff - <(grep -E '^(object|unbuffered) ' crates/machine_loops/stdin)
-    bench/object_lines.py | diff - <(tail -n +42 crates/machine_loops/stdout)
+    bench/object_lines.py cases | diff - <(grep -E '^(object|unbuffered) ' crates/parts/stdin)
+    bench/object_lines.py | diff - <(sed -n '/^create: FsCreate/,/^no-handle: /p' crates/parts/stdout)
 
 say nothing.
 """

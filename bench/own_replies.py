@@ -1,15 +1,14 @@
 #!/usr/bin/env python3
-"""Works out what `solo_cases` and `isolation_cases` have to print.
+"""Works out what `core_cases` has to print of the machines of sessions.
 
 A session's own machine, written a second time from its rules (docs/definitions.md) and not from the Rattle code: an
 application is a generator that yields what it asks for, in the place of instructions that are counted. At the top of the
 repository
 
-    bench/own_replies.py | diff - crates/solo_cases/stdout
-    bench/own_replies.py histories | diff - <(grep -v '^  events ' crates/isolation_cases/stdout)
+    bench/own_replies.py | diff - <(sed -n '/^case sessions /,$p' crates/core_cases/stdout | grep -v '^  events ')
 
-say nothing. The histories from which the events are read off stand in `specs/Histories.antt` of the one crate and in
-`stdin` of the other; they were read by hand. Behind an event of a call that comes in, `area` says that it has an area.
+says nothing. The histories from which the events are read off stand in the crate's `stdin`; they were read by hand.
+Behind an event of a call that comes in, `area` says that it has an area.
 """
 
 import sys
@@ -239,29 +238,6 @@ class Session:
         return self.back(int(rest[0]), what)
 
 
-# ---- the cases: a title, the application, the events
-
-CASES = [
-    ("a sum", adds, "open, out 0, add 5 7, out 1"),
-    ("the same, a step at a time", adds, "open, out 0, add 5 7, out 1"),
-    ("bytes", fills, "open, out 0, fill 4 4, out 1, fill 5 4, out 2"),
-    ("an object", stores, "open, out 0, invoke 0, out 1, buffer 1, out 1, opened 1 3, out 1, reply 1, out 1, nothing 1, out 1"),
-    ("a wake", waits,
-     "open, out 0, invoke 250, out 1, invoke 250, out 2, buffer 2, out 2, reply 2, out 2, no_buffer 1, out 1,"
-     "buffer 1, out 1, reply 2, out 2, reply 1, out 1, nothing 1, out 1, reply 2, out 2, nothing 2, out 2"),
-    ("a panic", panics, "open, out 0, invoke 1, out 1, invoke 1, out 2, close, out 3"),
-    ("beside a panic", panics, "open, out 0, invoke 0, out 1, close, out 2"),
-    ("a cancel", waits_and_panics,
-     "open, out 0, invoke 250, out 1, limited, cancel, out 2, invoke 5, out 3, buffer 3, out 3, seen 1, buffer 1, out 1,"
-     "reply 1, out 1, reply 1, out 1, nothing 1, out 1, reply 3, out 3, nothing 3, out 3, invoke 5, out 4,"
-     "cancel, out 5, close, out 6"),
-    ("beside a cancel", waits_and_panics,
-     "open, out 0, invoke 100, out 1, limited, buffer 1, out 1, reply 1, out 1, nothing 1, out 1, limited, close, out 2"),
-    ("in an area", waits, "open, out 0, invoke 250 area, out 1, reply 1, out 1"),
-    ("an object beside an area", stores,
-     "open, out 0, invoke 0 area, out 1, buffer 1, out 1, opened 1 3, out 1, reply 1, out 1, nothing 1, out 1"),
-]
-
 # ---- the histories: a title, the application, and the events of some sessions by their numbers
 
 HISTORIES = [
@@ -277,10 +253,12 @@ HISTORIES = [
     ("cancel-of-a-masked-call", waits,
      {1: "open, out 0, invoke 250, out 1, cancel, out 2, seen 1, buffer 1, out 1, reply 1, out 1, nothing 1, out 1"}),
     ("rpc-argument-beside-the-message", waits, {1: "open, out 0, invoke 250 area, out 1, reply 1, out 1"}),
+    ("create-object-beside-an-area", stores,
+     {1: "open, out 0, invoke 0 area, out 1, buffer 1, out 1, opened 1 3, out 1, reply 1, out 1, nothing 1, out 1"}),
     ("thread-limit-and-session-numbers", adds,
      {1: "open, limited, out 0", 2: "open, limited, out 0", 3: "open, out 0"}),
     ("panic-leaves-other-sessions", panics,
-     {1: "open, out 0, invoke 1, out 1, invoke 1, out 2, close, out 3", 2: "open, out 0, invoke 0, out 1"}),
+     {1: "open, out 0, invoke 1, out 1, invoke 1, out 2, close, out 3", 2: "open, out 0, invoke 0, out 1, close, out 2"}),
     ("two-clients-with-cancels-limits-and-a-panic", waits_and_panics,
      {1: "open, out 0, invoke 250, out 1, limited, cancel, out 2, invoke 5, out 3, buffer 3, out 3, seen 1, buffer 1, out 1,"
          "reply 1, out 1, reply 1, out 1, nothing 1, out 1, reply 3, out 3, nothing 3, out 3, invoke 5, out 4,"
@@ -298,16 +276,11 @@ def print_replies(application, events):
 
 
 def main():
-    if sys.argv[1:] == ["histories"]:
-        for title, application, sessions in HISTORIES:
-            print("case", title, *sessions)
-            for session, events in sessions.items():
-                print(f"session {session}")
-                print_replies(application, events)
-        return
-    for title, application, events in CASES:
-        print(title)
-        print_replies(application, events)
+    for title, application, sessions in HISTORIES:
+        print("case sessions", title, *sessions)
+        for session, events in sessions.items():
+            print(f"session {session}")
+            print_replies(application, events)
 
 
 main()

@@ -1,9 +1,9 @@
 #!/usr/bin/env python3
 """Counts the instructions that reading a text trace costs for each byte, and whether they grow in a line.
 
-Makes texts of `write` lines, of comments and of `smc` lines, of N and of 2N bytes, runs `trace_check` on them under
+Makes texts of `write` lines, of comments and of `smc` lines, of N and of 2N bytes, runs `parts` on them under
 callgrind, and prints the instructions for each byte. Then it reads 16 MiB of each within a stack of 8 MiB, and prints
-the most memory that the program took. Build the program first, by `rt run` in crates/trace_check.
+the most memory that the program took. Build the program first, by `rt run` in crates/parts.
 Usage: bench/reading.py [N]
 """
 
@@ -17,7 +17,7 @@ import tempfile
 
 from callgrind import counted
 
-PROGRAM = pathlib.Path(__file__).resolve().parent.parent / "crates/trace_check/out/trace_check"
+PROGRAM = pathlib.Path(__file__).resolve().parent.parent / "crates/parts/out/parts"
 BOOT = b"boot 4 4 256\n"
 
 
@@ -52,7 +52,7 @@ def text(line, size):
 
 def instructions(content):
     """How many instructions the program needs for this text."""
-    count, printed = counted(PROGRAM, given=content)
+    count, printed = counted(PROGRAM, "text", given=content)
     assert printed.startswith(b"0 applications"), printed
     return count
 
@@ -67,7 +67,7 @@ def whole(content):
     with tempfile.TemporaryFile() as given, tempfile.TemporaryFile() as printed:
         given.write(content)
         given.seek(0)
-        run = subprocess.Popen([PROGRAM], stdin=given, stdout=printed, preexec_fn=small_stack)
+        run = subprocess.Popen([PROGRAM, "text"], stdin=given, stdout=printed, preexec_fn=small_stack)
         _, status, usage = os.wait4(run.pid, 0)
         assert status == 0
         printed.seek(0)

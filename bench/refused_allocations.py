@@ -1,12 +1,12 @@
 #!/usr/bin/env python3
 """Refuses each allocation of some traces in turn, and tests that the core is then as it was.
 
-Plays three cases of crates/core_cases: an open and an invoke with values, a register over two page lists, and two
-waiting calls and a wake. Each is played once for each of its allocations, which is refused. Where that was in serving a
-list, the program prints `memory` and serves what is left of it once more, and all other lines have to be the same as
-ever: the exits, the bytes that are shown, and the events, bytes read, slots and pages at the end. A refusal elsewhere,
-as in reading the trace or in printing, has to end the program before its first line. Prints how many there were of
-both. Build the program first, by `rt run` in crates/core_cases.
+Plays five cases of crates/core_cases: an open and an invoke with values, a register over two page lists, two waiting
+calls and a wake, and an object with a tag that is created, also beside an area. Each is played once for each of its
+allocations, which is refused. Where that was in serving a list, the program prints `memory` and serves what is left of it
+once more, and all other lines have to be the same as ever: the exits, the bytes that are shown, and the events, bytes
+read, slots and pages at the end. A refusal elsewhere, as in reading the trace or in printing, has to end the program
+before its first line. Prints how many there were of both. Build the program first, by `rt run` in crates/core_cases.
 Usage: bench/refused_allocations.py
 """
 
@@ -19,13 +19,19 @@ import tempfile
 HERE = pathlib.Path(__file__).resolve().parent
 CRATE = HERE.parent / "crates/core_cases"
 PROGRAM = CRATE / "out/core_cases"
-CASES = ["open-invoke-close", "register-over-two-lists-and-again", "two-waiting-calls-and-a-wake"]
+CASES = [
+    "open-invoke-close",
+    "register-over-two-lists-and-again",
+    "two-waiting-calls-and-a-wake",
+    "create-object-with-a-tag",
+    "create-object-beside-an-area",
+]
 
 
 def cases(path):
-    """The cases of a file by their names, each with its line `case NAME`."""
-    parts = path.read_text().split("case ")[1:]
-    return {part.split("\n", 1)[0]: "case " + part for part in parts}
+    """The cases of a file that are served by lists, by their names, each with its line `case lists NAME`."""
+    parts = path.read_text().split("case lists ")[1:]
+    return {part.split("\n", 1)[0]: "case lists " + part.split("case ")[0] for part in parts}
 
 
 def played(library, case, number):

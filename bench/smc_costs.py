@@ -1,10 +1,10 @@
 #!/usr/bin/env python3
 """Counts the host's instructions for an entry and an exit of the core.
 
-Plays traces that do the same N and 2N times, as cases of `worked_cases`, under callgrind, and prints what `enter` and `leave` take for
+Plays traces that do the same N and 2N times, as cases of `cases`, under callgrind, and prints what `enter` and `leave` take for
 each further time, with all that these call; where the compiler has dissolved one into its caller, it counts none. A row whose trace
 would have too many entries is left out. Blocks are moved and cleared by vectors here: by `rep` instructions, which is the C library's
-way with long ones, callgrind counts each byte. Build the program first, by `rt run` in crates/worked_cases.
+way with long ones, callgrind counts each byte. Build the program first, by `rt run` in crates/cases.
 
 With `whole` it runs `optee_run` on these traces, and prints what it takes for each further time in all: reading, serving and printing.
 With `objects` it does so with traces that read and write an object of 32,256 bytes, which ask for one thing at each of their SMCs, and
@@ -22,7 +22,7 @@ from callgrind import costs, counted
 from object_files import tag_of
 from playing import PROGRAM as OPTEE_RUN
 
-PROGRAM = pathlib.Path(__file__).resolve().parent.parent / "crates/worked_cases/out/worked_cases"
+PROGRAM = pathlib.Path(__file__).resolve().parent.parent / "crates/cases/out/cases"
 TIMES = [1_000, 32_000]
 MOST_ENTRIES = 65_536
 BY_VECTORS = "glibc.cpu.x86_rep_stosb_threshold=100000000:glibc.cpu.x86_rep_movsb_threshold=100000000"

@@ -20,10 +20,10 @@ def examples():
 
 
 def worked_cases():
-    """The cases of worked_cases whose word is `run` and in which no call fails, in the form that docs/formats.md gives; not those
+    """The cases of `cases` whose word is `run` and in which no call fails, in the form that docs/formats.md gives; not those
     that are made of one before."""
     case = {}
-    for line in read(CRATES / "worked_cases/stdin").splitlines(keepends=True):
+    for line in read(CRATES / "cases/stdin").splitlines(keepends=True):
         word, _, rest = line.rstrip("\n").partition(" ")
         if word in ("case", "again", "by_threads", "by_audit"):
             case = {"name": rest, "words": "", "input": [], "output": [], "fails": word != "case"}
@@ -53,7 +53,8 @@ def bytes_of(line, word, rest):
 
 
 def core_cases():
-    """The traces of core_cases, each with what it prints but counts of events; not those with a refused entry."""
+    """The traces of core_cases that are served by lists, each with what it prints but counts of events; not those with a refused
+    entry."""
     traces, outputs = (sections(read(CRATES / "core_cases" / name)) for name in ("stdin", "stdout"))
     for name, trace in traces.items():
         if not any(line.startswith("full ") for line in outputs[name]):
@@ -61,38 +62,51 @@ def core_cases():
 
 
 def sections(text):
-    """The lines below each line `case NAME`."""
+    """The lines below each line `case lists NAME`."""
     found = {}
     for line in text.splitlines(keepends=True):
         if line.startswith("case "):
-            lines = found[line[5:-1]] = []
+            lines = []
+            if line.startswith("case lists "):
+                found[line[11:-1]] = lines
         else:
             lines.append(line)
     return found
 
 
-def trace_rows():
-    """The rows of trace_check that are texts, each with its outcome: `|` is a line feed, and `let` names a part."""
+def rows(kind):
+    """The rows of `parts` of this kind, each with its outcome: `|` is a line feed, and `let` names a part."""
     names = {}
-    wanted = iter(read(CRATES / "trace_check/stdout").splitlines())
-    for row in read(CRATES / "trace_check/stdin").split("\n"):
-        if row.startswith("hex "):
-            return
+    wanted = iter(read(CRATES / "parts/stdout").splitlines())
+    for row in read(CRATES / "parts/stdin").split("\n")[:-1]:
         if row.startswith("## "):
             continue
-        for name, part in names.items():
-            row = row.replace(name, part)
         if row.startswith("let "):
             _, name, part = row.split(" ", 2)
-            names[name] = part
+            names[name] = in_full(part, names)
         else:
-            yield row.replace("|", "\n"), next(wanted)
+            told = next(wanted)
+            if row.startswith(kind + " "):
+                yield in_full(row[len(kind) + 1 :], names).replace("|", "\n"), told
+
+
+def in_full(row, names):
+    """A row in which the names stand for their parts."""
+    for name, part in names.items():
+        row = row.replace(name, part)
+    return row
+
+
+def trace_rows():
+    """The texts of traces, each with its outcome."""
+    return rows("trace")
 
 
 def assembler_rows():
-    """The texts of asm_check, each with what it comes to: `canonical HEX`, `other HEX` or a fault."""
-    texts = read(CRATES / "asm_check/stdin").split("\f")
-    return zip(texts, read(CRATES / "asm_check/stdout").splitlines(), strict=True)
+    """The texts of the assembler, each with what it comes to: `canonical HEX`, `other HEX` or a fault."""
+    yield from rows("asm")
+    for digits, told in rows("asm-bytes"):
+        yield bytes.fromhex(digits).decode("latin-1"), told
 
 
 def applications():

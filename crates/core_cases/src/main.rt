@@ -1,38 +1,83 @@
-//! Plays traces over a core by lists of entries and exits, and prints what they tell.
+//! Plays traces over cores, and prints what they tell.
 //!
-//! Standard input has the cases, each a line `case NAME` and the text of a trace. The name of each case is printed, and
-//! then what `trace_play` tells of it.
+//! Standard input has the cases, each a line `case KIND NAME` and a text. That line is printed, and then what the case tells.
+//!
+//! - `lists`, and a trace: what comes in and goes out from one `write` or `show` to the next is served as one list. A line
+//!   is told for each exit and each show, as of any trace that is played, and last how the core then stands. A show of one
+//!   byte tells that too. An entry that is refused since it would read too much ends its list: `full COPIED MORE` tells how
+//!   many bytes the entries before have read, and how many this one would. At one that wants for memory `memory` is told,
+//!   and what is left of its list is served once more.
+//! - `orders`, a line for each order, a line `trace`, and a trace of two processors: it is served in each order by a core
+//!   that the processors share, all by one thread. An order names, for each entry and each exit, the processor whose it is;
+//!   each processor takes its items in the order of the trace. The lines of the trace are told, those of an exit with the
+//!   places of its entry and its own in the history, and behind them whose the events of the core are.
+//! - `sessions`, with numbers of sessions behind the name, and a trace whose boot has one application: it is played, and the
+//!   machines of these sessions are fed with the sessions' own events. For each a line `session SESSION` is told, a line of
+//!   its own events, and then a line for each reply of its machine; where the session was answered otherwise, that stands
+//!   behind it.
+//! - `compared`, with the number of a session or the UUID of an application behind the name, and two journals in hexadecimal
+//!   digits: what they show of the session, or of the sessions of the application.
 #![tactic(auto)]
 
+// Traces, and machines on which lists are served
+mod booting;
+mod lists;
+mod reading;
+mod telling;
+
+// Two processors that share a core
+mod cpu;
+mod pair;
+mod script;
+mod serving;
+
+// Sessions and their own machines
+mod comparing;
+mod comparisons;
+mod conditions;
+mod events;
+mod feeding;
+mod playing;
+mod replies;
+
+use crate::comparing::sessions_told;
+use crate::comparisons::comparison_told;
+use crate::lists::play_text;
+use crate::serving::orders_told;
 use anyhow::{Context, Result, bail};
-use native_tas::{Native, Natives, Relation, Uuid, digest};
+use native_tas::{Natives, program_natives};
 use std::alloc::Global;
 use std::io;
-use trace_play::play_text;
+use std::sync::Wait;
 
-/// The UUID of the digest application, which is built in.
-const DIGEST_UUID: [u8; 16] = [
-    0x3f, 0x0c, 0x7a, 0x11, 0x52, 0xb8, 0x4d, 0x6e, 0x9a, 0x40, 0x0e, 0x6b, 0x5d, 0x2c, 0x8f, 0x01,
-];
+/// What a case of this line tells.
+fn told(
+    rt: &impl Wait,
+    alloc: Global,
+    natives: &Natives,
+    line: &str,
+    text: &str,
+) -> Result<Vec<u8>> {
+    let (kind, name) = line.split_once(' ').context("reading a name")?;
+    match kind {
+        "lists" => play_text(alloc, natives, text.as_bytes()),
+        "orders" => orders_told(rt, alloc, natives, text),
+        "sessions" => sessions_told(alloc, name, text.as_bytes()),
+        "compared" => comparison_told(alloc, natives, name, text),
+        _ => bail!("no kind of case: {kind}"),
+    }
+}
 
-/// Prints the name of a case and what its trace tells.
-fn print_case(rt: &impl Print, alloc: Global, natives: &Natives, case: &str) -> Result<()> {
-    let (name, text) = case.split_once('\n').context("reading a name")?;
-    let told = String::from_utf8(play_text(alloc, natives, text.as_bytes())?)?;
-    print!(rt; "case {name}\n{told}").context("printing a case")
+/// Prints the line of a case and what it tells.
+fn print_case<R: Print + Wait>(rt: &R, alloc: Global, natives: &Natives, case: &str) -> Result<()> {
+    let (line, text) = case.split_once('\n').context("reading a line")?;
+    let told = String::from_utf8(told(rt, alloc, natives, line, text)?)?;
+    print!(rt; "case {line}\n{told}").context("printing a case")
 }
 
 fn main(rt: HostRuntime) -> Result<()> {
     let alloc = rt.alloc();
-    let mut natives = Natives::new(alloc);
-    let built_in = natives.add(Native {
-        uuid: Uuid::from_bytes(DIGEST_UUID),
-        relation: Relation::Digest,
-        call: digest,
-    });
-    if built_in.is_err() {
-        bail!("no memory for the application that is built in");
-    }
+    let natives = program_natives!(alloc)?;
     let input = io::read_to_string(alloc, rt.reader())?;
     for case in input.as_str().split("case ").skip(1) {
         print_case(&rt, alloc, &natives, case)?;

@@ -2,13 +2,14 @@
 //! calls, until the other has come so far. No order in which one processor plays after the other lets both go on, nor does
 //! one in which a call is done from its entry to its exit while the other processor stands still.
 //!
-//! Prints the status, the places of all answers, and whether each processor came to where the other waited for it.
+//! Prints the status, and where each processor came to where the other waited for it the places of all answers, and of each
+//! processor how often the pace was called for its first call, its second, its third and any other number.
 #![tactic(auto)]
 
 mod meeting;
 
 use crate::meeting::Meeting;
-use anyhow::{Context, Result};
+use anyhow::{Context, Result, bail};
 use native_tas::Natives;
 use ports::{MemSink, MemSource};
 use std::alloc::Global;
@@ -63,22 +64,36 @@ fn places_in(alloc: Global, text: &str) -> Result<Vec<u32>> {
     Ok(places)
 }
 
+/// Prints the places that the lines of a text name.
+fn print_places(rt: &impl Print, alloc: Global, text: &[u8]) -> Result<()> {
+    let text = String::from_utf8_lossy(alloc, text)?;
+    print!(rt; "places")?;
+    for place in places_in(alloc, text.as_str())?.as_slice() {
+        print!(rt; " {place}")?;
+    }
+    println!(rt; "").context("printing places")
+}
+
+/// Prints how often the pace was called for a processor.
+fn print_counts(rt: &impl Print, meeting: &Meeting, cpu: u8) -> Result<()> {
+    let counts = meeting.counts(cpu);
+    let (first, second, third) = (counts.count(1), counts.count(2), counts.count(3));
+    let others = counts.count(0);
+    println!(rt; "pace of {cpu}: {first} {second} {third}, others {others}").context(
+        "printing counts",
+    )
+}
+
 fn main(rt: HostRuntime) -> Result<()> {
     let alloc = rt.alloc();
     let meeting = Meeting::new();
     let mut sink = MemSink::new(alloc, Vec::new(alloc));
     let status = play_script(&rt, alloc, &meeting, &mut sink)?;
     println!(rt; "status {}", status.number())?;
-    let text = String::from_utf8_lossy(alloc, sink.bytes())?;
-    print!(rt; "places")?;
-    for place in places_in(alloc, text.as_str())?.as_slice() {
-        print!(rt; " {place}")?;
+    if !meeting.has_met() {
+        bail!("a processor did not come to where the other waits for it, or waited in vain");
     }
-    println!(rt; "")?;
-    if meeting.has_failed() {
-        println!(rt; "a processor waited in vain")?;
-    } else {
-        println!(rt; "each came to where the other waited for it")?;
-    }
-    Ok(())
+    print_places(&rt, alloc, sink.bytes())?;
+    print_counts(&rt, &meeting, 0)?;
+    print_counts(&rt, &meeting, 1)
 }

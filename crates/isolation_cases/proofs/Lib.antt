@@ -1,4 +1,0 @@
-pub mod Opened
-pub mod Fed
-pub mod Again
-pub mod Tests

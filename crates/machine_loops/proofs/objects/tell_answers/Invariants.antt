@@ -1,5 +1,0 @@
-use Rattle.tee_storage.specs.States.{CanGoOn}
-use Rattle.machine_loops.proofs.objects.tell_answers.Given as goal
-
-abbrev pub invariant-replies : goal.invariant-replies
-invariant-replies l = CanGoOn l.state l.range.bytes.items

@@ -1,3 +1,0 @@
-pub mod Feeding
-pub mod Histories
-pub mod Cases

@@ -1,7 +1,0 @@
-use Rattle.std.proofs.Common.{◌≡◌}
-use Rattle.kernel_state.specs.Meaning.{booted_of}
-use Rattle.trace_play.proofs.lists.play.Given as goal
-
--- the machine was booted with the same
-abbrev pub invariant-loop-item : goal.invariant-loop-item
-invariant-loop-item l = booted_of l.machine.core ≡ booted_of l.fn.machine.core
