@@ -16,6 +16,7 @@ import tempfile
 import annotate
 import answers
 import arg
+import client
 import documented
 import expected
 import formats
@@ -205,6 +206,27 @@ def following(lines, line):
     return [behind for before, behind in zip(lines, lines[1:]) if before == line]
 
 
+def check_machine(comparison):
+    """The machine's table, read a second time: what clients' calls come to, and steps of shipped applications."""
+    for play in shipped.worked_cases("client"):
+        is_served = play.status == 0 or play.output
+        if is_served and not play.output.startswith("bad trace"):
+            comparison.same(f"client.py at {play.name}", client.play(play.trace), play.output)
+    for words, (status, wanted) in expected.STEPS.items():
+        name, *entries = words.split(" ")
+        given = tool("step.py", shipped.EXAMPLES / f"applications/{name}.hex", *entries)
+        comparison.same(f"step.py {words}", (given[0], last_lines(given[1], wanted)), (status, wanted))
+    comparison.same("step.py at no image", tool("step.py", "-", "open", text="4f")[:2], (1, NO_IMAGE))
+
+
+def last_lines(text, wanted):
+    """As many of the last lines as are wanted."""
+    return "".join(text.splitlines(keepends=True)[-wanted.count("\n") :])
+
+
+NO_IMAGE = "BadHeader(0): 1 bytes are fewer than 36\n"
+
+
 def check_scripts(comparison):
     """Each script makes the items of its example."""
     for path in sorted(shipped.SCRIPTS.glob("*.script")):
@@ -245,6 +267,7 @@ CHECKS = [
     check_faults,
     check_outputs,
     check_examples,
+    check_machine,
     check_scripts,
     check_words,
 ]

@@ -320,6 +320,31 @@ COUNTS = {
     + ["1 SUCCESS of TRUSTED_APP"],
 }
 
+# What step.py prints of shipped applications, or the last lines of it: the steps of an invoke that one_step_at_a_time shows to
+# be six; a panic of the application's own, and one for want of a parameter; copied bytes; a count that is kept; a cancelled wait.
+STEPS = {
+    "add invoke 0 vio:5:7": (
+        0,
+        """invoke begins with 00000000 00000003 00000000
+    1    1  const r0 0
+    2    2  sys 3                     value (0 3 0)  r0 00000005  r1 00000007
+    3    3  add r1 r0 r1              r1 0000000c
+    4    4  const r0 0                r0 00000000
+    5    5  sys 4                     set value (0 c 0)  value 0 0000000c 00000000
+    6    6  sys 0                     return (0 c 0)
+invoke returns 00000000 0000000c in 6 steps v:0000000c:00000000
+""",
+    ),
+    "add invoke 0": (1, "invoke panics with 00000005 at 2: no such parameter, or an object handle that isn't open\n"),
+    "panic open invoke 1 close": (1, "invoke panics with 00000001 at 3: by its own system call\n"),
+    "copy invoke 0 mi:6162 mo:4": (0, "invoke returns 00000000 00000002 in 31 steps m:2:6162\n"),
+    "copy invoke 0 mi:6162 mo:1": (0, "invoke returns ffff0010 00000002 in 14 steps m:2:\n"),
+    "counter invoke 0 vo invoke 0 vo": (0, "invoke returns 00000000 00000002 in 39 steps v:00000002:00000000\n"),
+    "wait_unmasked invoke fa cancelled": (0, "invoke returns ffff0002 00000000 in 5 steps\n"),
+    "wait invoke fa cancelled": (0, "invoke returns 00000000 00000000 in 2 steps\n"),
+    "mark invoke 0 invoke 0 r2=1": (0, "invoke returns 00000005 00000000 in 5 steps\n"),
+}
+
 # Words that each tool has to refuse, and scripts that lift.py has to refuse at their second line.
 BAD_WORDS = {
     "arg.py": [
@@ -349,6 +374,7 @@ BAD_WORDS = {
     "image.py": ["x", "comments x"],
     "lift.py": ["", "a b", "no_such_file"],
     "check.py": ["x"],
+    "step.py": ["", "-", "- opens", "- invoke", "- invoke x", "- close vo", "- invoke 0 vi:1", "- open mi:", "- open r16=0"],
 }
 BAD_SCRIPTS = [
     "smc 0 1 GET_THREADS",
