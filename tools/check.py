@@ -17,12 +17,14 @@ import annotate
 import answers
 import arg
 import client
+import client_test
 import documented
 import expected
 import formats
 import image
 import lift
 import plays
+import program
 import shipped
 from words import BadWords, run
 
@@ -227,6 +229,29 @@ def last_lines(text, wanted):
 NO_IMAGE = "BadHeader(0): 1 bytes are fewer than 36\n"
 
 
+def check_clients(comparison):
+    """Scripts as tests: the shipped ones, and each of their lines changed, left out, or of another status."""
+    known = f"program={FOLDER / 'known.py'}"
+    for path in sorted(shipped.EXAMPLES.glob("*.client")):
+        script, output = shipped.read(path), shipped.read(path.with_suffix(".out"))
+        calls = client_test.calls_of(script)
+        comparison.same(f"lines wanted by {path.name}", [call.wanted for call in calls], output.splitlines())
+        count = len(calls)
+        given = tool("client_test.py", known, path)
+        comparison.same(f"client_test.py {path.name}", given[:2], (0, f"{path}: ok, {count} calls, {count} compared\n"))
+        for line in output.splitlines(keepends=True):
+            for other in (output.replace(line, line.replace("0000", "0001", 1), 1), output.replace(line, "", 1)):
+                said = client_test.differing(calls, program.Done(other, 0))
+                comparison.same(f"client_test.py at another line {line}", said != [], True)
+        said = client_test.differing(calls, program.Done(output, 7))
+        comparison.same("client_test.py at status 7", said, ["  the program ended with status 7"])
+    for script, (output, status, wanted) in expected.CLIENT_TESTS.items():
+        said = client_test.differing(client_test.calls_of(script), program.Done(output, status))
+        comparison.same(f"client_test.py at {script}", said, wanted)
+    given = tool("client_test.py", known, "-", text="boot 1 2 1\n#= open s 00000000 00000004\n")
+    comparison.same("client_test.py at a line behind no call", given[0], 1)
+
+
 def check_scripts(comparison):
     """Each script makes the items of its example."""
     for path in sorted(shipped.SCRIPTS.glob("*.script")):
@@ -268,6 +293,7 @@ CHECKS = [
     check_outputs,
     check_examples,
     check_machine,
+    check_clients,
     check_scripts,
     check_words,
 ]

@@ -345,6 +345,33 @@ invoke returns 00000000 0000000c in 6 steps v:0000000c:00000000
     "mark invoke 0 invoke 0 r2=1": (0, "invoke returns 00000005 00000000 in 5 steps\n"),
 }
 
+# What client_test.py says of a script, by what the program has printed for it and its status.
+CLIENT_TESTS = {
+    f"open s {FIRST}\n#= open s SUCCESS TRUSTED_APP\nclose s\n#= close s SUCCESS TEE\n": (
+        "open s ffff0008 00000003\nclose s ffff0006 00000003\n",
+        0,
+        [
+            f"  open s {FIRST}",
+            "    wanted open s SUCCESS TRUSTED_APP",
+            "    came   open s ITEM_NOT_FOUND TEE",
+            "  close s",
+            "    wanted close s SUCCESS TEE",
+            "    came   close s BAD_PARAMETERS TEE",
+        ],
+    ),
+    f"open s {FIRST}\nclose s\n#= close s SUCCESS TEE\n": (
+        "open s 00000000 00000004\n",
+        7,
+        [
+            "  close s",
+            "    wanted close s SUCCESS TEE",
+            "    came   nothing",
+            "  the program ended with status 7",
+        ],
+    ),
+    f"open s {FIRST}\n#= open s 00000000 00000004\n": ("bad trace 1 place\n", 3, ["  bad trace 1 place"]),
+}
+
 # Words that each tool has to refuse, and scripts that lift.py has to refuse at their second line.
 BAD_WORDS = {
     "arg.py": [
@@ -374,6 +401,8 @@ BAD_WORDS = {
     "image.py": ["x", "comments x"],
     "lift.py": ["", "a b", "no_such_file"],
     "check.py": ["x"],
+    "client_test.py": ["", "program=no_such_file examples"],
+    "known.py": [""],
     "step.py": ["", "-", "- opens", "- invoke", "- invoke x", "- close vo", "- invoke 0 vi:1", "- open mi:", "- open r16=0"],
 }
 BAD_SCRIPTS = [
