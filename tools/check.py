@@ -22,10 +22,12 @@ import documented
 import expected
 import formats
 import image
+import journal
 import lift
 import plays
 import program
 import shipped
+import story
 from words import BadWords, run
 
 FOLDER = shipped.ROOT / "tools"
@@ -136,11 +138,78 @@ def check_outputs(comparison):
         comparison.same(f"annotate.py at {play.name}", printed, play.output)
         text = annotate.annotated(entries)
         kept = "".join(line for line in text.splitlines(keepends=True) if not line.startswith(annotate.INDENT))
-        comparison.same(f"the trace in annotate.py at {play.name}", kept.rstrip("\n"), play.trace.rstrip("\n"))
+        trace = "".join(f"{annotate.shortened(line)}\n" for line in play.trace.splitlines())
+        comparison.same(f"the trace in annotate.py at {play.name}", kept.rstrip("\n"), trace.rstrip("\n"))
         rets = sum(line.startswith("ret ") for line in play.output.splitlines())
         comparison.same(f"answers.py at {play.name}", answers.counted(entries).splitlines()[0], f"answers {rets}")
         for output in other_outputs(play):
             comparison.same(f"annotate.py at {play.name} and {output[:80]!r}..", laid_out(play.trace, output), None)
+
+
+def check_other_words(comparison):
+    """Outputs of `client`, `notify` and `threads` under their inputs, and another one found; journals by their records."""
+    for word in ("client", "notify", "threads"):
+        for play in shipped.worked_cases(word):
+            if play.status == 7 and not play.output:
+                continue
+            entries = laid_out(play.trace, play.output)
+            is_cut_off = play.status == 7 and word != "threads"
+            comparison.same(f"annotate.py at {play.name} fits", entries is None, is_cut_off)
+            blocks = [entry.printed or entry.text for entry in entries or () if entry.printed or entry.text.startswith("cpu ")]
+            printed = "".join(f"{line}\n" for line in blocks)
+            comparison.same(f"annotate.py at {play.name}", printed, play.output if entries else "")
+            for output in other_outputs(play) if play.status == 0 else []:
+                comparison.same(f"annotate.py at {play.name} and {output[:80]!r}..", laid_out(play.trace, output), None)
+    for name in ("session", "session_in_steps"):
+        told = journal.told((shipped.EXAMPLES / f"{name}.journal").read_bytes())
+        left = [entry.text.partition("leave ")[2] for entry in told if " leave " in entry.text]
+        rets = shipped.read(shipped.EXAMPLES / f"{name}.out").splitlines()
+        comparison.same(f"exits of {name}.journal", left, [line[4:] for line in rets if line.startswith("ret ")])
+        given = tool("annotate.py", shipped.EXAMPLES / f"{name}.journal")
+        comparison.same(f"annotate.py {name}.journal", given[:2], (0, annotate.annotated(told)))
+    for play in shipped.worked_cases("record"):
+        data = play.output.encode("latin-1")
+        if data.startswith(journal.MAGIC):
+            header = [line for line in items(play.trace) if line.split(" ")[0] in ("boot", "ta", "key")]
+            told = [entry.text for entry in journal.told(data) if entry.text.split(" ")[0] in ("boot", "ta", "key")]
+            is_told = all(line.lower() in told or line == f"key {64 * '0'}" for line in header)
+            comparison.same(f"the header of the journal of {play.name}", is_told, True)
+            for cut in (1, len(data) // 2, len(data) - 1):
+                comparison.same(f"the journal of {play.name} cut at {cut}", is_journal(data[:cut]), False)
+
+
+def is_journal(data):
+    try:
+        return journal.told(data) is not None
+    except plays.Mismatch:
+        return False
+
+
+def check_pictures(comparison):
+    """The pictures of docs/, and that slots are taken as each answer that asks for something tells them."""
+    pictures = shipped.ROOT / "docs/pictures"
+    shown = [(shipped.EXAMPLES / "wait_and_wake", "wait_and_wake.svg"), (pictures / "two_processors", "two_processors.svg")]
+    for path, picture in shown:
+        given = tool("chart.py", path.with_suffix(".trace"), path.with_suffix(".out"))
+        comparison.same(f"chart.py {path.name}", given, (0, shipped.read(pictures / picture), ""))
+    for play in [*shipped.examples(), *threads_plays(pictures)]:
+        told = story.Story(story.visits_of(play.trace, play.output))
+        for visit in told.visits:
+            if visit.answer in formats.RPCS.values():
+                comparison.same(f"the slot at {visit.exit} of {play.name}", visit.slot, visit.answered[3])
+        rets = sum(line.startswith("ret ") for line in play.output.splitlines())
+        comparison.same(f"visits of {play.name}", len(told.visits), rets)
+        comparison.same(f"places of {play.name}", sorted(places_of(told)), list(range(2 * rets)))
+
+
+def threads_plays(pictures):
+    path = pictures / "two_processors"
+    yield shipped.Play(path.name, shipped.read(path.with_suffix(".trace")), shipped.read(path.with_suffix(".out")), 0)
+    yield from (play for play in shipped.worked_cases("threads") if play.status == 0)
+
+
+def places_of(told):
+    return [place for visit in told.visits for place in (visit.entry, visit.exit)]
 
 
 def laid_out(trace, output):
@@ -291,6 +360,8 @@ CHECKS = [
     check_images,
     check_faults,
     check_outputs,
+    check_other_words,
+    check_pictures,
     check_examples,
     check_machine,
     check_clients,

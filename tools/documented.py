@@ -28,10 +28,12 @@ def tables(text):
     _, image_rows = section(text, "Image")
     _, machine_rows = section(text, "Machine")
     trace, trace_rows = section(text, "Text trace")
+    _, signal_rows = section(text, "Trace with signals")
     results = between(codes, "SUCCESS 0; with the upper half FFFF: ", ". Origins")
     upper, whole = results.split("; ")
     return {
         "FUNCTIONS": {int(a0, 16): name for a0, name, *_ in register_rows if re.fullmatch("[0-9A-F]{8}", a0)},
+        "NOTIFY_FUNCTIONS": dict(call for row in signal_rows for call in named_call(row[0])),
         "CODES": by_number(between(registers, "Return codes: ", " are never answered")),
         "RPCS": {int(row[1], 16): row[0].upper() for row in register_rows if row[1].startswith("FFFF")},
         "CAPABILITIES": re.findall("([A-Za-z][A-Za-z ]+?) (?:bit )?[0-9]", between(registers, "secure world: ", ";")),
@@ -47,6 +49,12 @@ def tables(text):
         "FAULTS": [row[0].strip("`") for row in trace_rows if re.fullmatch("`[a-z]+`", row[0])]
         + re.findall("the fault is `([a-z]+)`", trace),
     }
+
+
+def named_call(cell):
+    """A call by its number and its name, `ENABLE_ASYNC_NOTIF, b2000010`."""
+    call = re.fullmatch("([A-Z_]+), ([0-9a-f]{8})", cell)
+    return [(int(call[2], 16), call[1])] if call else []
 
 
 def kinds(text):

@@ -401,6 +401,7 @@ BAD_WORDS = {
     "image.py": ["x", "comments x"],
     "lift.py": ["", "a b", "no_such_file"],
     "check.py": ["x"],
+    "chart.py": ["", "a b c", "program=no_such_file a", "no_such_file no_such_file"],
     "client_test.py": ["", "program=no_such_file examples"],
     "known.py": [""],
     "step.py": ["", "-", "- opens", "- invoke", "- invoke x", "- close vo", "- invoke 0 vi:1", "- open mi:", "- open r16=0"],
