@@ -1,10 +1,12 @@
 #!/usr/bin/env python3
 """Runs the tools over all shipped examples and cases, and compares what they give with what is wanted.
 
-That are the shipped files, expected.py, and, for the tables that the tools share, those of docs/formats.md. It prints each
-thing that doesn't agree, and at the end how many were compared.
-Status: 0 where all agree, 1 where something doesn't, 2 at words.
-usage: check.py
+That are the shipped files, expected.py, and, for the tables that the tools share, those of docs/formats.md. The commands that pages
+of docs/ show are run, and what they print is compared. The program answers by the shipped cases alone there (known.py), so that
+each run of a page is one of the gate; FILE is run instead, where it is given. It prints each thing that doesn't agree, and at the
+end how many were compared.
+Status: 0 where all agree, 1 where something doesn't, 2 at other words.
+usage: check.py [program=FILE]
 """
 
 import pathlib
@@ -24,6 +26,7 @@ import formats
 import image
 import journal
 import lift
+import pages
 import plays
 import program
 import shipped
@@ -336,6 +339,17 @@ def items(trace):
     return [line for line in trace.splitlines() if line and line[0] != "#"]
 
 
+def check_pages(comparison, file=None):
+    """The commands of the tutorials, and those of other pages that show some."""
+    runner = pathlib.Path(file).resolve() if file else FOLDER / "known.py"
+    for path in sorted((shipped.ROOT / "docs").glob("*.md")):
+        for shown, given in pages.run_page(path, runner):
+            what = f"{path.name} line {shown.line}: {shown.command}"
+            comparison.same(what, given if not pages.is_shown(given, shown.printed) else shown.printed, shown.printed)
+    shown = [["a"], ["..", "b"], ["a", ".."], ["a", "..", "b"], [".."]]
+    comparison.same("lines that are left out", [pages.is_shown(["a", "b"], lines) for lines in shown], [False] + [True] * 4)
+
+
 def check_words(comparison):
     """Other words end with the usage line and 2."""
     for name, rows in expected.BAD_WORDS.items():
@@ -371,11 +385,16 @@ CHECKS = [
 
 
 def main(words):
+    words = list(words)
+    file = program.taken_from(words)
     if words:
         raise BadWords()
+    if file:
+        program.Program(file)
     comparison = Comparison()
     for check in CHECKS:
         check(comparison)
+    check_pages(comparison, file)
     print(f"{comparison.compared} compared, {comparison.differing} differ")
     return 1 if comparison.differing else 0
 
