@@ -350,6 +350,22 @@ def check_pages(comparison, file=None):
     comparison.same("lines that are left out", [pages.is_shown(["a", "b"], lines) for lines in shown], [False] + [True] * 4)
 
 
+def check_links(comparison):
+    """Links between pages lead to files and headings that there are, and the cases and examples that formats.md names are shipped."""
+    texts = {path: shipped.read(path) for path in documented.PAGES}
+    headings = {path: documented.anchors(text) for path, text in texts.items()}
+    for path, text in texts.items():
+        for target, anchor in documented.links(text):
+            to = (path.parent / target).resolve() if target else path
+            comparison.same(f"{path.name}: the link to {target}", to.exists(), True)
+            if anchor:
+                comparison.same(f"{path.name}: the link to {target}#{anchor}", anchor in headings.get(to, []), True)
+    names = set(shipped.case_names()) | set(shipped.core_names())
+    files = {path.stem for path in shipped.EXAMPLES.iterdir()}
+    for kind, name in documented.shown_by(texts[shipped.ROOT / "docs/formats.md"]):
+        comparison.same(f"formats.md names the {kind} {name}", name in (names if kind == "case" else files), True)
+
+
 def check_words(comparison):
     """Other words end with the usage line and 2."""
     for name, rows in expected.BAD_WORDS.items():
@@ -380,6 +396,7 @@ CHECKS = [
     check_machine,
     check_clients,
     check_scripts,
+    check_links,
     check_words,
 ]
 

@@ -1,6 +1,32 @@
-"""The tables of docs/formats.md, read from its text, for check.py to compare formats.py with. It isn't run by itself."""
+"""The tables of docs/formats.md, read from its text, for check.py to compare formats.py with; and what pages name and link to. It
+isn't run by itself."""
 
 import re
+
+import shipped
+
+PAGES = [
+    path.resolve()
+    for pattern in ("README.md", "docs/*.md", "tools/README.md", "bench/README.md", "examples/README.md")
+    for path in sorted(shipped.ROOT.glob(pattern))
+]
+
+
+def links(text):
+    """The links of a page to others of the repository, each with its anchor."""
+    return re.findall(r"\]\(([^():#]*)#?([^()]*)\)", text)
+
+
+def anchors(text):
+    """The anchors of a page's headings."""
+    found = re.findall("^#+ (.*)$", text, flags=re.MULTILINE)
+    return [re.sub("[^a-z0-9 _-]", "", heading.lower()).replace(" ", "-") for heading in found]
+
+
+def shown_by(text):
+    """What a page names in brackets behind its rules: (`case` or `example`, name)."""
+    for kind, names in re.findall("\\b(case|example)s? ((?:`[a-z0-9_-]+`(?:,\\s+|\\s+and\\s+)?)+)", text):
+        yield from ((kind, name) for name in re.findall("`([a-z0-9_-]+)`", names))
 
 
 def section(text, heading):

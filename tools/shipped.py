@@ -40,6 +40,17 @@ def worked_cases(wanted="run"):
             into.append(bytes_of(line, word, rest))
 
 
+def case_names():
+    """The names of all worked cases."""
+    lines = (line.split(" ") for line in read(CRATES / "worked_cases/stdin").splitlines())
+    return [words[1] for words in lines if words[0] in ("case", "again", "by_threads", "by_audit") and len(words) == 2]
+
+
+def core_names():
+    """The names of the traces of core_cases."""
+    return sections(read(CRATES / "core_cases/stdin"))
+
+
 def bytes_of(line, word, rest):
     """What a line of bytes of a worked case stands for."""
     if word == "lines":
