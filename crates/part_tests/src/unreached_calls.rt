@@ -26,7 +26,7 @@ fn copies_without_a_list_of_reads_find_memory(rt: HostRuntime) -> Result<(), Fai
     Ok(())
 }
 
-/// The program has no notifications.
+/// The word `notify` alone has a desk of signals; this one is outside any play.
 #[test]
 fn a_desk_of_signals_finds_memory(rt: HostRuntime) -> Result<(), Fail> {
     let alloc = rt.alloc();
