@@ -35,6 +35,7 @@ ARGUMENTS = {
         "unregister 31",
     ],
     "session": [f"open {FIRST}", "invoke 1 0 value_inout 5 7"],
+    "session_in_steps": [f"open {FIRST}", "invoke 1 0 value_inout 5 7"],
     "session_with_a_memref": [f"open {FIRST}", "invoke 1 4 tmem_out 40002000 4"],
     "single_instance": [f"open {FIRST}", f"open {SECOND}", f"open {THIRD}"]
     + [f"invoke {session} 0" for session in (2, 3, 4, 5, 6)]
@@ -49,6 +50,7 @@ ARGUMENTS = {
     ],
     "thread_limit": [f"open {FIRST}"],
     "time_and_wait": [f"open {FIRST}", "invoke 1 0xfa value_out value_out"],
+    "two_rams": [f"open {FIRST}", "invoke 1 0 value_inout 5 7"],
     "wait_and_resume": [f"open {FIRST}", "invoke 1 0xfa"],
     "wait_and_wake": [f"open {FIRST}", "invoke 1 250"],
 }
@@ -407,6 +409,8 @@ BAD_WORDS = {
     "step.py": ["", "-", "- opens", "- invoke", "- invoke x", "- close vo", "- invoke 0 vi:1", "- open mi:", "- open r16=0"],
 }
 BAD_SCRIPTS = [
+    "name",
+    "name WITHOUT_WORDS",
     "smc 0 1 GET_THREADS",
     "smc 0 1 CALL_WITH_ARG x=1",
     "smc 0 1 CALL_WITH_ARG argument=x",

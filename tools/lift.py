@@ -49,7 +49,7 @@ class Script:
             return []
         if not line or line.startswith("#"):
             return [line]
-        item, *words = self.named(line).split()
+        item, *words = self.named(line).split() or [""]
         if item not in FORMS:
             return [" ".join([item, *words])]
         try:
@@ -68,6 +68,8 @@ class Script:
         return self.names[name]
 
     def name(self, name, *words):
+        if not words:
+            raise BadWords(f"the name {name} stands for no words")
         self.names[name] = " ".join(words)
         return []
 
