@@ -1,13 +1,14 @@
 #!/usr/bin/env python3
 """Draws a play as a picture, SVG on standard output.
 
-TRACE is a trace as text, OUTPUT what `run` or `threads` has printed for it; `-` is standard input. Time goes to the right, in bands
-one below the other. Above are the processors: a box is a processor inside, with its call at the entry and, below it, its answer at
-the exit; the small numbers are the places of both in the core's one history. Below are the slots: a bar is a call, dark while a
-processor works on it and light while it is suspended; it is striped while it sleeps until its instance is free.
+TRACE is a trace as text, OUTPUT what `run` or `threads` has printed for it; `-` is standard input. Time goes to the right, in
+bands one below the other. Above are the processors: a box is a processor inside, with its call at the entry and, below it, its
+answer at the exit; the small numbers are the places of both in the core's one history. Below are the slots: a bar is a call,
+dark while a processor works on it and light while it is suspended; it is striped while it sleeps until its instance is free.
 Requests and results have names where the trace shows their bytes.
 
-Without OUTPUT the program plays the trace, and lines `show` are put behind its calls, so that each request and result has its name.
+Without OUTPUT the program plays the trace, and lines `show` are put behind its calls, so that each request and result has its
+name. The program is what `rt run` has built in crates/optee_run, or FILE.
 Status: 0, 1 where the output isn't that of the trace; 2 at other words.
 usage: chart.py [program=FILE] TRACE [OUTPUT]
 """
@@ -24,9 +25,17 @@ from words import BadWords, run, text_of
 
 LEFT, INSIDE, OUTSIDE, BAND = 76, 96, 16, 980
 LANE, SLOT, TITLE, GAP = 74, 22, 16, 22
-COLORS = {"inside": "#3b6ea5", "suspended": "#c9d9ea", "box": "#eef3f8", "line": "#7a8794", "text": "#1d2733", "wait": "#e8b04a"}
+COLORS = {
+    "inside": "#3b6ea5",
+    "suspended": "#c9d9ea",
+    "wait": "#e8b04a",
+    "box": "#eef3f8",
+    "line": "#7a8794",
+    "text": "#1d2733",
+}
 PATTERN = f"""<defs><pattern id="waits" width="6" height="6" patternUnits="userSpaceOnUse" patternTransform="rotate(45)">
-<rect width="6" height="6" fill="{COLORS['suspended']}"/><rect width="3" height="6" fill="{COLORS['wait']}"/></pattern></defs>"""
+<rect width="6" height="6" fill="{COLORS['suspended']}"/><rect width="3" height="6" fill="{COLORS['wait']}"/>
+</pattern></defs>"""
 
 HALO = ' stroke="#ffffff" stroke-width="3" stroke-linejoin="round" paint-order="stroke"'
 
@@ -35,7 +44,7 @@ Band = collections.namedtuple("Band", "first last xs")
 
 
 def bands_of(told):
-    """The bands in which the places are drawn. A band ends behind an exit, where no processor is inside, if that comes soon."""
+    """The bands in which the places are drawn. One ends behind an exit, where no processor is inside, if that comes soon."""
     is_entry = {visit.entry: True for visit in told.visits} | {visit.exit: False for visit in told.visits}
     bands, first, xs, inside = [], 0, {}, 0
     for place in range(told.length):

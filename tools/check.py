@@ -1,10 +1,10 @@
 #!/usr/bin/env python3
 """Runs the tools over all shipped examples and cases, and compares what they give with what is wanted.
 
-That are the shipped files, expected.py, and, for the tables that the tools share, those of docs/formats.md. The commands that pages
-of docs/ show are run, and what they print is compared. The program answers by the shipped cases alone there (known.py), so that
-each run of a page is one of the gate; FILE is run instead, where it is given. It prints each thing that doesn't agree, and at the
-end how many were compared.
+That are the shipped files, expected.py, and, for the tables that the tools share, those of docs/formats.md. The commands that
+pages of docs/ show are run, and what they print is compared. The program answers by the shipped cases alone there (known.py), so
+that each run of a page is one of the gate; FILE is run instead, where it is given. It prints each thing that doesn't agree, and
+at the end how many were compared.
 Status: 0 where all agree, 1 where something doesn't, 2 at other words.
 usage: check.py [program=FILE]
 """
@@ -158,8 +158,8 @@ def check_other_words(comparison):
             entries = laid_out(play.trace, play.output)
             is_cut_off = play.status == 7 and word != "threads"
             comparison.same(f"annotate.py at {play.name} fits", entries is None, is_cut_off)
-            blocks = [entry.printed or entry.text for entry in entries or () if entry.printed or entry.text.startswith("cpu ")]
-            printed = "".join(f"{line}\n" for line in blocks)
+            found = [entry for entry in entries or () if entry.printed or entry.text.startswith("cpu ")]
+            printed = "".join(f"{entry.printed or entry.text}\n" for entry in found)
             comparison.same(f"annotate.py at {play.name}", printed, play.output if entries else "")
             for output in other_outputs(play) if play.status == 0 else []:
                 comparison.same(f"annotate.py at {play.name} and {output[:80]!r}..", laid_out(play.trace, output), None)
@@ -351,7 +351,7 @@ def check_pages(comparison, file=None):
 
 
 def check_links(comparison):
-    """Links between pages lead to files and headings that there are, and the cases and examples that formats.md names are shipped."""
+    """Links between pages lead to files and headings that there are; the cases and examples that formats.md names are shipped."""
     texts = {path: shipped.read(path) for path in documented.PAGES}
     headings = {path: documented.anchors(text) for path, text in texts.items()}
     for path, text in texts.items():

@@ -2,8 +2,8 @@
 """Runs scripts of a client as tests: each call's line is compared with the one that is wanted.
 
 SCRIPT is a script for the word `client`, or one from which lift.py makes such a script, so that an image may be named by its
-file. FOLDER has several, whose names end with `.client`. A comment line `#= LINE`, behind a call, says what the call has to print;
-result and origin may be names of docs/formats.md:
+file. FOLDER has several, whose names end with `.client`. A comment line `#= LINE`, behind a call, says what the call has to
+print; result and origin may be names of docs/formats.md:
     invoke s 0 vio:5:7
     #= invoke s SUCCESS TRUSTED_APP v:0000000c:00000000
 A call without such a line may print anything. The program is what `rt run` has built in crates/optee_run, or FILE.

@@ -1,5 +1,5 @@
-"""The tables of docs/formats.md, read from its text, for check.py to compare formats.py with; and what pages name and link to. It
-isn't run by itself."""
+"""The tables of docs/formats.md, read from its text, for check.py to compare formats.py with; and what pages name and link to.
+It isn't run by itself."""
 
 import re
 

@@ -323,7 +323,7 @@ COUNTS = {
 }
 
 # What step.py prints of shipped applications, or the last lines of it: the steps of an invoke that one_step_at_a_time shows to
-# be six; a panic of the application's own, and one for want of a parameter; copied bytes; a count that is kept; a cancelled wait.
+# be six; a panic for want of a parameter, and one of the application's own; copied bytes; a count that is kept; cancelled waits.
 STEPS = {
     "add invoke 0 vio:5:7": (
         0,

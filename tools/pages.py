@@ -1,8 +1,8 @@
 """Commands that pages of docs/ show, with what they print, run as a shell runs them. It isn't run by itself.
 
 In an indented block of a page a line that begins with `$ ` is a command, and below it stands what it prints on standard output,
-all of it, but that a line `..` stands for some lines that are left out. A command with `<<END` goes on to a line `END`. The commands of a page
-run one after the other at the top of the repository, where T is a folder of their own and RUN the program.
+all of it, but that a line `..` stands for some lines that are left out. A command with `<<END` goes on to a line `END`. The
+commands of a page run one after the other at the top of the repository, where T is a folder of their own and RUN the program.
 """
 
 import collections

@@ -18,7 +18,8 @@ class Program:
     def __init__(self, file=None):
         self.file = pathlib.Path(file) if file else BUILT
         if not self.file.is_file():
-            raise BadWords(f"{self.file} is no program: `rt run` in crates/optee_run builds one, and program=FILE names another")
+            how = "`rt run` in crates/optee_run builds one, and program=FILE names another"
+            raise BadWords(f"{self.file} is no program: {how}")
 
     def run(self, words, text):
         """Runs it over an input; both the input and the output are bytes as text."""
