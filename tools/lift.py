@@ -11,7 +11,7 @@ Lines of a script, of which the first three name something and leave nothing in 
     write CPU ADDRESS text TEXT the bytes of a text
 Operands: argument or buffer, an address (a1 and a2); cookie (a4 and a5); thread (a3); client (a7); a1 to a7. Values are
 hexadecimal, and `last` is what the register was in the processor's last answer. A register that isn't named is 0.
-All other lines are those of a trace. Comments and empty lines are copied, but for those that begin with ##.
+All other lines are those of a trace, or of a client's script. Comments and empty lines are copied, but for those that begin with ##.
 
 Status: 0, 1 where a line of the script isn't of its form, 2 at other words.
 usage: lift.py SCRIPT
