@@ -11,6 +11,10 @@
 #include <stdlib.h>
 #include <string.h>
 
+#if TULGEXAR_VERSION != 1
+#error "written for version 1 of tulgexar.h"
+#endif
+
 enum { CALL_WITH_ARG = 0x32000004, RETURN_FROM_RPC = 0x32000003 };
 enum { OPEN = 0, INVOKE = 1, CLOSE = 2 };
 /* Two arguments, a page each, and the buffer that the bench lends. The client's number goes in a7. */

@@ -6,6 +6,10 @@
 #include <stddef.h>
 #include <stdint.h>
 
+/* Which calls this header tells of. It rises where a call that was right before is answered otherwise or no longer
+ * allowed, and not where words or statuses come in addition. */
+#define TULGEXAR_VERSION 1
+
 #ifdef __cplusplus
 extern "C" {
 #endif
@@ -21,8 +25,10 @@ enum tulgexar_status {
     TULGEXAR_BAD_TRACE = 3,
     /* Want of memory. A part from the front of the text is in the buffer, also nothing. The same call may be made again. */
     TULGEXAR_MEMORY = 6,
-    /* The input has more than 2^24 bytes, or more than 65,536 lines `smc` and `enter`, and the buffer has nothing; or
-     * its entries would have read more than 2^28 bytes of RAM, and what came before is in the buffer. */
+    /* The input has more than 2^24 bytes, or more than 65,536 lines `smc` and `enter`, by "client" more than 512 calls,
+     * and the buffer has nothing. Or its entries would have read more than 2^28 bytes of RAM, or by "client" an SMC had no
+     * room, being the 32,769th or one that would have read so much: then what came before is in the buffer, by "client" the
+     * lines of the calls before. */
     TULGEXAR_TOO_LONG = 7,
     /* The output is longer than the buffer, which its front fills. The same call with a buffer of *written bytes has
      * all of it, and then tells how it ended. */
@@ -43,6 +49,10 @@ enum tulgexar_status {
  *   written               gets the length of the whole output in bytes, also where it is longer than the buffer
  *
  * It answers one of the statuses above. The buffer's bytes behind the output are as they were.
+ *
+ * A call that boots a core takes 4 MiB of RAM for each processor of the boot and clears them, whatever its input does
+ * with them; "client" does so for one processor alone, and "audit" and "compare" for one each time that they go through a
+ * journal.
  *
  * The caller keeps to this, and nothing tests it:
  *   - no pointer is null, also where its length is 0; each points to as many bytes as are said, below 2^63;

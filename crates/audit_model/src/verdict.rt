@@ -1,5 +1,5 @@
 /// What the events of a journal are.
-#[derive(Clone, Copy, Debug, PartialEq, Eq)]
+#[derive(Clone, Copy)]
 pub enum Verdict {
     /// A legal history in which each entry's reads agree begins with them.
     Legal,

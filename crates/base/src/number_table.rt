@@ -9,7 +9,7 @@ use std::alloc::Global;
 use std::marker::Model;
 
 /// Values by their numbers, with room for `ROOM` of them. Contracts see the finite map. Only `new` takes memory.
-#[derive(Debug, Drop)]
+#[derive(Drop)]
 pub struct NumberTable<T, const ROOM: usize> {
     // In rising order of numbers.
     entries: Vec<(u64, T)>,

@@ -1,5 +1,6 @@
 ghost use Rattle.std.specs.Prelude.{◌≡◌, List, length};
 
+use std::alloc::AllocError;
 use std::marker::Model;
 
 /// A `Vec` that contracts see as the list of its elements, so that two of them with the same elements
@@ -43,5 +44,16 @@ impl<T> Sequence<T> {
         ensures { result ≡ length self.now }
     {
         self.elements.len()
+    }
+}
+
+impl<T: Clone> Clone for Sequence<T> {
+    // The list of the elements' copies: where each is equal to its element, that list is this one.
+    ghost is_clone = { λ list copies. ((element copy : T) → T.is_clone element copy → copy ≡ element) → copies ≡ list };
+
+    fn clone(&self) -> Result<Sequence<T>, AllocError> {
+        Ok(Sequence {
+            elements: self.elements.clone()?,
+        })
     }
 }

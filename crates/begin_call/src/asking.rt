@@ -13,7 +13,7 @@ ghost use Rattle.begin_call.specs.Asking.{shown};
 use kernel_state::{Application, Setup, Tables};
 
 /// The instance that an open shares, and what is asked of it.
-#[derive(Clone, Copy, Debug, PartialEq, Eq)]
+#[derive(Clone, Copy)]
 pub struct SharedInstance {
     pub number: u32,
     /// One of its entry points has panicked.

@@ -31,8 +31,8 @@ use Rattle.own_model.proofs.WholeHistories.{answered_as_alone, goes_from, one_mo
 use Rattle.smc_abi.specs.declared.regs.Regs.{Regs}
 use Rattle.ta_params.specs.declared.call_result.CallResult.{CallResult}
 use Rattle.ta_params.specs.declared.copied_params.CopiedParams.{CopiedParams}
-use Rattle.teec_calls.specs.Places.{argument_at}
-use Rattle.teec_calls.specs.Results.{result_in}
+use Rattle.teec.specs.Places.{argument_at}
+use Rattle.teec.specs.Results.{result_in}
 use Rattle.client_play.specs.PlayLaws.{IsToldAlone, in_word}
 
 -- ---- what is noted

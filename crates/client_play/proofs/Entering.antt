@@ -41,11 +41,11 @@ use Rattle.ta_params.specs.declared.copied_params.GpParam.{GpParam}
 use Rattle.ta_params.specs.declared.copied_params.GpParam.TheVariants.{Empty, Memref, Value}
 use Rattle.ta_params.specs.declared.copied_params.Way.TheVariants.{In, Inout, Out}
 use Rattle.teec.specs.Calls.{close_call, invoke_call, open_call}
-use Rattle.teec_calls.specs.Answers.{call_with_arg}
-use Rattle.teec_calls.specs.Arguments.{close_argument, invoke_argument, open_argument}
-use Rattle.teec_calls.specs.Operation.{buffer_writes, param_sent, params_of, params_sent, sent_from}
-use Rattle.teec_calls.specs.Places.{argument_at}
-use Rattle.teec_calls.specs.declared.operation.Operation.{Operation}
+use Rattle.teec.specs.Answers.{call_with_arg}
+use Rattle.teec.specs.Arguments.{close_argument, invoke_argument, open_argument}
+use Rattle.teec.specs.Operation.{buffer_writes, param_sent, params_of, params_sent, sent_from}
+use Rattle.teec.specs.Places.{argument_at}
+use Rattle.teec.specs.declared.operation.Operation.{Operation}
 use Rattle.client_play.proofs.NewCalls.{IsWellMade, Lasting, OnLane, TakesSlot, known_passes, lasting, takes_as, takes_there}
 use Rattle.client_play.proofs.ScriptsPlayed.{HasArgument, argument_has, count_again, few_sent, head_first, lane_is}
 

@@ -15,8 +15,8 @@ use Rattle.play_model.proofs.LinesStay.{some_is}
 use Rattle.smc_abi.specs.declared.regs.Regs.{Regs}
 use Rattle.teec.specs.Calls.{Call}
 use Rattle.teec.specs.Rounds.{Calls, Cancels, Ended, Failed, Resumes, Stage}
-use Rattle.teec_calls.specs.Answers.{call_with_arg, return_from_rpc}
-use Rattle.teec_calls.specs.Places.{argument_at, cancel_at}
+use Rattle.teec.specs.Answers.{call_with_arg, return_from_rpc}
+use Rattle.teec.specs.Places.{argument_at, cancel_at}
 use Rattle.client_play.specs.Calls.{call_of, cancelled_after}
 use Rattle.client_play.specs.Played.{Client, ClientPlay, after_call, call_made, calls_made, ended, goes_on}
 use Rattle.client_play.specs.Standing.{Came, Fails, Returned, Standing, Stopped, after_smc, answer_of, call_from, next_stage, play_of, prepared, standing_after, unless_full, visit_with}

@@ -22,12 +22,12 @@ use Rattle.msg_args.proofs.Spellings.{argument_spells, spelled_is_read}
 use Rattle.rpc_msgs.specs.declared.rpc.Rpc.{Rpc}
 use Rattle.rpc_msgs.specs.declared.rpc.Rpc.TheVariants.{Time, Sleep, Wake, Suspend, FsOpen, FsCreate, FsClose, FsRead, FsWrite, FsRemove}
 use Rattle.rpc_msgs.specs.Request.{IsPayloadOf, IsRequest, argument as with_params, payload_in as bytes_in, payload_out as bytes_out, request_arg, value_in, value_out}
-use Rattle.rpc_requests.specs.Candidate.{front_of, rpc_in}
-use Rattle.rpc_requests.specs.Holding.{BeginsWith, Holds, IsValue}
-use Rattle.rpc_requests.proofs.Arguments.{counted}
-use Rattle.rpc_requests.proofs.Candidates.{count_there, front_only, rpc_again, spelled_there}
-use Rattle.rpc_requests.proofs.Finding.{FindsArguments, argument_found, its_value}
-use Rattle.teec_calls.specs.Places.{message_at, message_cookie}
+use Rattle.supplicant.specs.Candidate.{front_of, rpc_in}
+use Rattle.supplicant.specs.Holding.{BeginsWith, Holds, IsValue}
+use Rattle.supplicant.proofs.Arguments.{counted}
+use Rattle.supplicant.proofs.Candidates.{count_there, front_only, rpc_again, spelled_there}
+use Rattle.supplicant.proofs.Finding.{FindsArguments, argument_found, its_value}
+use Rattle.teec.specs.Places.{message_at, message_cookie}
 use Rattle.client_play.specs.Message.{Request, argument_in, begins_with, if_held, payload_in, request_in, request_with}
 
 -- ---- a spelling consists of bytes

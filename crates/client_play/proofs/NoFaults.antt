@@ -31,8 +31,8 @@ use Rattle.smc_abi.specs.Answer.{registers_of}
 use Rattle.smc_abi.specs.Call.{call_of}
 use Rattle.smc_abi.specs.declared.regs.Regs.{Regs}
 use Rattle.supplicant.specs.Supplicant.{Storage}
-use Rattle.teec_calls.specs.Answers.{said}
-use Rattle.teec_calls.specs.declared.answer.Said.TheVariants.{Finished}
+use Rattle.teec.specs.Answers.{said}
+use Rattle.teec.specs.declared.answer.Said.TheVariants.{Finished}
 use Rattle.client_play.specs.Standing.{Standing, after_smc, answer_of, play_of, standing_after, steps_granted, visit_with}
 use Rattle.client_play.proofs.NewCalls.{IsSettled, Lasting, OnLane, TakesSlot, lasting}
 use Rattle.client_play.proofs.Smcs.{told_exit}

@@ -25,8 +25,8 @@ use Rattle.play_model.proofs.TrueToKernel.{plays_are_true}
 use Rattle.smc_abi.specs.declared.regs.Regs.{Regs}
 use Rattle.teec.specs.Calls.{Call}
 use Rattle.teec.specs.Rounds.{Calls, Cancels, Ended, Failed, Resumes, Stage}
-use Rattle.teec_calls.specs.Answers.{call_with_arg, return_from_rpc}
-use Rattle.teec_calls.specs.Places.{argument_at, cancel_at}
+use Rattle.teec.specs.Answers.{call_with_arg, return_from_rpc}
+use Rattle.teec.specs.Places.{argument_at, cancel_at}
 use Rattle.trace_text.specs.declared.item.Item.{Item}
 use Rattle.trace_text.specs.declared.item.Item.TheVariants as item
 use Rattle.trace_text.specs.declared.item.Reg.{Reg}

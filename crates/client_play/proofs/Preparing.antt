@@ -4,9 +4,9 @@ use Rattle.std.specs.Prelude.{◌↔◌, ◌==◌, IfSome}
 use Rattle.std.proofs.lemmas.Bool.{eq-eqb}
 use Rattle.teec.specs.Rounds.{Calls, Cancels, Ended, Failed, Resumes}
 use Rattle.teec.specs.Runs.{AnswersCmd, AnswersMessage, AnswersRpc, Scene, message_of}
-use Rattle.teec_calls.specs.Places.{message_cookie}
-use Rattle.teec_calls.specs.declared.answer.RpcKind.{RpcKind}
-use Rattle.teec_calls.specs.declared.answer.RpcKind.TheVariants.{Alloc, Free, Interrupt, Cmd}
+use Rattle.teec.specs.Places.{message_cookie}
+use Rattle.teec.specs.declared.answer.RpcKind.{RpcKind}
+use Rattle.teec.specs.declared.answer.RpcKind.TheVariants.{Alloc, Free, Interrupt, Cmd}
 use Rattle.client_play.specs.Laws.{PreparesAlike, scene_after}
 use Rattle.client_play.specs.Making.{answer_rpc}
 use Rattle.client_play.specs.Message.{Request, answer_message, nothing_done, reply_to, request_in}

@@ -41,14 +41,14 @@ use Rattle.teec.specs.Calls.{Call}
 use Rattle.teec.specs.declared.fault.TeecFault.TheVariants.{Rounds}
 use Rattle.teec.specs.Rounds.{Calls, Cancels, Ended, Failed, Resumes, Stage, after_cancel, after_resume, after_return, before_answer}
 use Rattle.teec.specs.Rounds as rounds
-use Rattle.teec_calls.specs.Answers.{call_with_arg, return_from_rpc, return_of}
-use Rattle.teec_calls.specs.Arguments.{cancel_argument, close_argument, invoke_argument, open_argument}
-use Rattle.teec_calls.specs.Operation.{buffer_writes, params_of, params_sent, sent_from}
-use Rattle.teec_calls.specs.Places.{argument_at, cancel_at}
-use Rattle.teec_calls.specs.declared.answer.RpcKind.{RpcKind}
-use Rattle.teec_calls.specs.declared.answer.RpcReturn.{RpcReturn}
-use Rattle.teec_calls.specs.declared.answer.Said.{Said}
-use Rattle.teec_calls.specs.declared.operation.Operation.{Operation}
+use Rattle.teec.specs.Answers.{call_with_arg, return_from_rpc, return_of}
+use Rattle.teec.specs.Arguments.{cancel_argument, close_argument, invoke_argument, open_argument}
+use Rattle.teec.specs.Operation.{buffer_writes, params_of, params_sent, sent_from}
+use Rattle.teec.specs.Places.{argument_at, cancel_at}
+use Rattle.teec.specs.declared.answer.RpcKind.{RpcKind}
+use Rattle.teec.specs.declared.answer.RpcReturn.{RpcReturn}
+use Rattle.teec.specs.declared.answer.Said.{Said}
+use Rattle.teec.specs.declared.operation.Operation.{Operation}
 use Rattle.trace_text.specs.declared.trace.Fill.{Fill}
 use Rattle.client_play.specs.Calls.{Sessions, call_of, cancelled_after, operation_of, session_of}
 use Rattle.client_play.specs.PlayLaws.{ScriptsHavePlays}

@@ -46,14 +46,14 @@ use Rattle.teec.specs.Calls.{Call}
 use Rattle.teec.specs.Rounds.{Calls, Cancels, Ended, Failed, Resumes, Stage, after_cancel, after_resume, before_answer}
 use Rattle.teec.specs.Rounds as rounds
 use Rattle.teec.specs.declared.fault.TeecFault.TheVariants.{Rounds}
-use Rattle.teec_calls.specs.Answers.{call_with_arg, return_from_rpc, said}
-use Rattle.teec_calls.specs.Places.{argument_at, cancel_at}
-use Rattle.teec_calls.specs.Results.{result_in}
-use Rattle.teec_calls.specs.declared.answer.RpcKind.{RpcKind}
-use Rattle.teec_calls.specs.declared.answer.RpcReturn.{RpcReturn}
-use Rattle.teec_calls.specs.declared.answer.Said.{Said}
-use Rattle.teec_calls.specs.declared.answer.Said.TheVariants.{Finished}
-use Rattle.teec_calls.specs.declared.answer.Said.TheVariants as says
+use Rattle.teec.specs.Answers.{call_with_arg, return_from_rpc, said}
+use Rattle.teec.specs.Places.{argument_at, cancel_at}
+use Rattle.teec.specs.Results.{result_in}
+use Rattle.teec.specs.declared.answer.RpcKind.{RpcKind}
+use Rattle.teec.specs.declared.answer.RpcReturn.{RpcReturn}
+use Rattle.teec.specs.declared.answer.Said.{Said}
+use Rattle.teec.specs.declared.answer.Said.TheVariants.{Finished}
+use Rattle.teec.specs.declared.answer.Said.TheVariants as says
 use Rattle.client_play.specs.Calls.{call_of, cancelled_after, operation_of, session_of}
 use Rattle.client_play.specs.PlayLaws.{IsCallIn, IsInSession, IsToldAlone, OpensSession, ResultsAreToldAlone, TellsAlone}
 use Rattle.client_play.specs.Played.{Client, ClientPlay, after_call, call_made, calls_made, ended, first_client, first_standing, goes_on, line_of}

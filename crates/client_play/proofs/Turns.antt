@@ -43,10 +43,10 @@ use Rattle.smc_abi.specs.Call.{call_of}
 use Rattle.smc_abi.specs.declared.regs.Regs.{Regs}
 use Rattle.ta_params.specs.declared.call_result.CallResult.{CallResult}
 use Rattle.ta_params.specs.declared.copied_params.CopiedParams.{CopiedParams}
-use Rattle.teec_calls.specs.Answers.{return_of, said}
-use Rattle.teec_calls.specs.declared.answer.RpcKind.{RpcKind}
-use Rattle.teec_calls.specs.declared.answer.RpcKind.TheVariants as rpc
-use Rattle.teec_calls.specs.declared.answer.Said.TheVariants.{Finished, Returned}
+use Rattle.teec.specs.Answers.{return_of, said}
+use Rattle.teec.specs.declared.answer.RpcKind.{RpcKind}
+use Rattle.teec.specs.declared.answer.RpcKind.TheVariants as rpc
+use Rattle.teec.specs.declared.answer.Said.TheVariants.{Finished, Returned}
 use Rattle.client_play.specs.Standing.{Standing, play_of, steps_granted, visit_with}
 use Rattle.client_play.proofs.NewCalls.{OnLane, TakesSlot, lasting, made_on}
 

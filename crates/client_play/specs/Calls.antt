@@ -9,9 +9,9 @@ use Rattle.ta_params.specs.declared.copied_params.GpParam.{GpParam}
 use Rattle.ta_params.specs.declared.copied_params.GpParam.TheVariants.{Empty, Value, Memref}
 use Rattle.ta_params.specs.declared.copied_params.Way.TheVariants.{In, Out, Inout}
 use Rattle.teec.specs.Calls.{Call, close_call, invoke_call, open_call}
-use Rattle.teec_calls.specs.Operation.{operation_back}
-use Rattle.teec_calls.specs.Results.{session_in}
-use Rattle.teec_calls.specs.declared.operation.Operation.{Operation}
+use Rattle.teec.specs.Operation.{operation_back}
+use Rattle.teec.specs.Results.{session_in}
+use Rattle.teec.specs.declared.operation.Operation.{Operation}
 
 -- ---- operations
 

@@ -5,9 +5,9 @@ use Rattle.ns_ram.specs.Writes.{Write}
 use Rattle.supplicant.specs.Supplicant.{Storage}
 use Rattle.teec.specs.Calls.{Call, cancel_writes}
 use Rattle.teec.specs.Rounds.{Calls, Cancels, Ended, Failed, Resumes, Stage}
-use Rattle.teec_calls.specs.Places.{message_cookie}
-use Rattle.teec_calls.specs.declared.answer.RpcKind.{RpcKind}
-use Rattle.teec_calls.specs.declared.answer.RpcKind.TheVariants.{Alloc, Free, Interrupt, Cmd}
+use Rattle.teec.specs.Places.{message_cookie}
+use Rattle.teec.specs.declared.answer.RpcKind.{RpcKind}
+use Rattle.teec.specs.declared.answer.RpcKind.TheVariants.{Alloc, Free, Interrupt, Cmd}
 use Rattle.client_play.specs.Message.{Prepared, answer_message, nothing_done}
 
 -- these writes, and the storage stays

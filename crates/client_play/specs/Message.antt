@@ -12,10 +12,10 @@ use Rattle.ns_ram.specs.Writes.{Write}
 use Rattle.rpc_msgs.specs.Request.{request_arg}
 use Rattle.rpc_msgs.specs.declared.rpc.Rpc.{Rpc}
 use Rattle.rpc_msgs.specs.declared.rpc.Rpc.TheVariants.{FsOpen, FsCreate, FsRead, FsWrite, FsRemove}
-use Rattle.rpc_requests.specs.Answering.{refusal_writes, reply_writes}
-use Rattle.rpc_requests.specs.Candidate.{front_of, rpc_in}
+use Rattle.supplicant.specs.Answering.{refusal_writes, reply_writes}
+use Rattle.supplicant.specs.Candidate.{front_of, rpc_in}
 use Rattle.supplicant.specs.Supplicant.{Storage, answered}
-use Rattle.teec_calls.specs.Places.{message_at, message_cookie}
+use Rattle.teec.specs.Places.{message_at, message_cookie}
 
 -- a request with its payload
 abbrev pub Request : Type 0

@@ -12,7 +12,7 @@ use Rattle.kernel_model.specs.Kernel.{first_kernel}
 use Rattle.play_model.specs.Play.{filled}
 use Rattle.supplicant.specs.Supplicant.{Storage}
 use Rattle.ta_isa.specs.declared.boot.Boot.{Boot}
-use Rattle.teec_calls.specs.Results.{result_in}
+use Rattle.teec.specs.Results.{result_in}
 use Rattle.client_play.specs.Calls.{Sessions, call_of, cancelled_after, params_after, session_for, sessions_after}
 use Rattle.client_play.specs.Printed.{CallLine, text_of_line}
 use Rattle.client_play.specs.Standing.{Came, Fails, Returned, Standing, Stopped, called}

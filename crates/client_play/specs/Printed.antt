@@ -12,7 +12,7 @@ use Rattle.ta_params.specs.declared.copied_params.CopiedParams.{CopiedParams}
 use Rattle.ta_params.specs.declared.copied_params.GpParam.{GpParam}
 use Rattle.ta_params.specs.declared.copied_params.GpParam.TheVariants.{Empty, Value, Memref}
 use Rattle.ta_params.specs.declared.copied_params.Way.TheVariants.{In, Out, Inout}
-use Rattle.teec_calls.specs.Operation.{params_of}
+use Rattle.teec.specs.Operation.{params_of}
 
 -- what a call has come to
 pub record CallLine : Type 0 where

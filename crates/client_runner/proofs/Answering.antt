@@ -1,6 +1,6 @@
 -- From what was read, played and answered to what the word says of it.
-use Rattle.std.proofs.Common.{◌≡◌, ◌≢◌, ℕ, ◌≤◌, inl, inr, List, [], length, Option, Some, None, refl, sym, subst}
-use Rattle.std.specs.Prelude.{◌⊎◌, AllPairs, IfNone, IfSome}
+use Rattle.std.proofs.Common.{◌≡◌, ℕ, ◌≤◌, inl, inr, List, [], length, Option, Some, None, refl, sym, subst}
+use Rattle.std.specs.Prelude.{◌⊎◌, IfNone, IfSome}
 use Rattle.std.specs.Option.{option_and_then, option_map}
 use Rattle.client_play.proofs.OfTraces.{plays_are_of_traces}
 use Rattle.client_play.proofs.Told.{results_are_told_alone}
@@ -9,13 +9,11 @@ use Rattle.client_text.proofs.Meanings.{every_text}
 use Rattle.client_text.specs.Grammar.{Spells}
 use Rattle.client_text.specs.Sound.{IsClientBoot, IsSoundScript}
 use Rattle.client_text.specs.declared.script.Script.{Script}
-use Rattle.core_machine.proofs.Apart.{none_repeated}
 use Rattle.kernel_model.specs.Application.{IsBooted, Native, booted}
-use Rattle.kernel_state.proofs.Apart.{natives_if_none}
 use Rattle.ports.specs.Port.{Appends}
 use Rattle.ta_isa.specs.declared.boot.Boot.{Boot}
+use Rattle.trace_player.proofs.Booting.{AreApart, sound_boots}
 use Rattle.trace_player.specs.Starting.{uuids_of}
-use Rattle.trace_text.specs.Sound.{IsSoundBoot}
 use Rattle.word_parts.proofs.Answering.{writes-named}
 use Rattle.word_parts.proofs.Worded.{some-and}
 use Rattle.word_parts.specs.Answer.{status_of_play}
@@ -38,22 +36,6 @@ one_meaning natives input = record {
 }
 
 -- ---- booting
-
--- UUIDs of built-in applications are apart
-abbrev pub AreApart : List (List ℕ) → Type 0
-AreApart uuids = AllPairs (λ (earlier later : List ℕ). earlier ≢ later) uuids
-
--- a core can be booted beside built-in applications whose UUIDs are few and apart
-sound_boots : (natives : List Native) (boot : Boot) → length (uuids_of natives) ≤ 16 → AreApart (uuids_of natives)
-    → IsSoundBoot (uuids_of natives) boot → IsBooted (booted boot natives)
-sound_boots natives boot few apart sound = record {
-  boot = boot;
-  natives = natives;
-  is_boot = sound.boots;
-  are_natives = natives_if_none None boot natives (uuids_of natives) boot.apps
-      (sym (none_repeated (uuids_of natives) boot sound)) refl refl few apart;
-  same = refl;
-}
 
 by_boot : (natives : List Native) (boot : Option Boot) → length (uuids_of natives) ≤ 16 → AreApart (uuids_of natives)
     → IfSome boot (IsClientBoot (uuids_of natives)) → IfSome boot (λ b. IsBooted (booted b natives))

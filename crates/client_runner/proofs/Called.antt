@@ -31,7 +31,7 @@ use Rattle.teec.specs.Runs.{Moment, Runs, Scene, Went, moment, scene_of}
 use Rattle.teec.specs.Runs as over_port
 use Rattle.teec.specs.declared.fault.TeecFault.{TeecFault}
 use Rattle.teec.specs.declared.fault.TeecFault.TheVariants as fault
-use Rattle.teec_calls.specs.Results.{result_in}
+use Rattle.teec.specs.Results.{result_in}
 use Rattle.word_parts.specs.declared.stop.Stop.{Stop}
 use Rattle.word_parts.specs.declared.stop.Stop.TheVariants.{Full, Failed as SinkFailed, Memory}
 use Rattle.client_runner.proofs.PortServed.{have_their_writes}

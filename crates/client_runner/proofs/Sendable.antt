@@ -9,8 +9,8 @@ use Rattle.client_text.specs.Forms.{has_length}
 use Rattle.client_text.specs.declared.script.ScriptParam.{ScriptParam}
 use Rattle.client_text.specs.declared.script.ScriptParam.TheVariants as script
 use Rattle.ta_params.specs.declared.copied_params.GpParam.{GpParam}
-use Rattle.teec_calls.specs.declared.operation.Operation.{Operation}
-use Rattle.teec_calls.specs.Operation.{FitsItsPlace, IsSendable, Sends}
+use Rattle.teec.specs.declared.operation.Operation.{Operation}
+use Rattle.teec.specs.Operation.{FitsItsPlace, IsSendable, Sends}
 use Rattle.trace_text.specs.Limits.{is_within}
 
 -- ---- bounds

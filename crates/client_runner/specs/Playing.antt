@@ -18,7 +18,7 @@ use Rattle.ta_isa.specs.declared.boot.Boot.{Boot}
 use Rattle.teec.specs.Client.{Calling}
 use Rattle.teec.specs.declared.fault.TeecFault.{TeecFault}
 use Rattle.teec.specs.declared.fault.TeecFault.TheVariants as fault
-use Rattle.teec_calls.specs.Results.{result_in}
+use Rattle.teec.specs.Results.{result_in}
 use Rattle.trace_player.specs.Starting.{uuids_of}
 use Rattle.trace_text.specs.declared.trace.Fill.{Fill}
 use Rattle.word_parts.specs.declared.stop.Stop.{Stop}

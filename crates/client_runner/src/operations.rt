@@ -2,13 +2,13 @@
 ghost use Rattle.std.specs.Prelude.{◌≡◌, ◌≤◌, All, IfOk, IsTrue, length};
 ghost use Rattle.client_play.specs.Calls.{operation_of, param_at, param_of};
 ghost use Rattle.client_text.specs.Forms.{has_length};
-ghost use Rattle.teec_calls.specs.Operation.{FitsItsPlace, IsSendable, Sends};
+ghost use Rattle.teec.specs.Operation.{FitsItsPlace, IsSendable, Sends};
 
 use base::NoMemory;
 use client_text::ScriptParam;
 use std::alloc::Global;
 use ta_params::{Buf, CopiedParams, GpParam, Way};
-use teec_calls::Operation;
+use teec::Operation;
 
 fn value(way: Way, a: u32, b: u32) -> GpParam
     ensures { result ≡ GpParam.Value way a b }

@@ -2,7 +2,7 @@
 use ta_params::{CallResult, CopiedParams};
 
 /// The result of a call, and its parameters, outputs as they came back.
-#[derive(Debug, Drop)]
+#[derive(Drop)]
 pub(crate) struct Outcome {
     pub(crate) told: CallResult,
     pub(crate) params: CopiedParams,

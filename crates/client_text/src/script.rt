@@ -4,7 +4,7 @@ use trace_text::Fill;
 use uuid::Uuid;
 
 /// A parameter that a call sends.
-#[derive(Debug, Drop)]
+#[derive(Drop)]
 pub enum ScriptParam {
     /// Nothing at its place.
     Empty,
@@ -23,7 +23,7 @@ pub enum ScriptParam {
 }
 
 /// A call of a client. Its session goes by a name of 1 to 16 lower-case letters.
-#[derive(Debug, Drop)]
+#[derive(Drop)]
 pub enum ScriptCall {
     /// Opens a session with an application, under a name that stands for it from then on.
     Open {
@@ -46,7 +46,7 @@ pub enum ScriptCall {
 
 /// What a client does on a core, one call after the other. Each has at most four parameters. Without a boot there are no fills
 /// and no calls.
-#[derive(Debug, Drop)]
+#[derive(Drop)]
 pub struct Script {
     /// What the core is booted with, which has at least two threads.
     pub boot: Option<Boot>,

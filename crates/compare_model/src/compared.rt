@@ -1,6 +1,6 @@
 /// What two journals show of a session or of a group of sessions. The causes stand in the order in which they are looked for;
 /// journals are numbered 1 and 2.
-#[derive(Clone, Copy, Debug, PartialEq, Eq)]
+#[derive(Clone, Copy)]
 pub enum Compared {
     /// The event `at` of this journal, from 0, is the first with which no legal history begins in which each entry's reads agree.
     Illegal { journal: u8, at: u64 },

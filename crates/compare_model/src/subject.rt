@@ -1,7 +1,7 @@
 use uuid::Uuid;
 
 /// What two journals are compared on.
-#[derive(Clone, Copy, Debug, PartialEq, Eq)]
+#[derive(Clone, Copy)]
 pub enum Subject {
     /// The session of this number.
     Session(u32),

@@ -12,20 +12,21 @@ use Rattle.journal_runner.specs.Recording.{recording}
 use Rattle.journal_runner.specs.Records.{Records}
 use Rattle.notify_runner.specs.Notified.{Notifies}
 use Rattle.notify_runner.specs.Run.{notifying}
-use Rattle.trace_runner.proofs.Readings.{not_serve, not_work, threads_alone}
-use Rattle.trace_runner.proofs.Running.{worked-statuses}
-use Rattle.trace_runner.specs.Plays.{IsSummedUp, Plays, SpellsTraces}
-use Rattle.trace_runner.specs.Run.{WorkStatuses, Worked, WritesSummary, reading, usage_line}
+use Rattle.alone_runner.proofs.Readings.{not_serve, not_work, threads_alone}
+use Rattle.alone_runner.proofs.Running.{worked-statuses}
+use Rattle.alone_runner.specs.Plays.{IsSummedUp, Plays, SpellsTraces}
+use Rattle.alone_runner.specs.Run.{WorkStatuses, Worked, WritesSummary, reading, usage_line}
 use Rattle.word_parts.specs.Keeping.{Keeps}
 use Rattle.word_parts.specs.Word.{Word}
 use Rattle.word_parts.specs.Answer.{Writes}
-use Rattle.trace_runner.specs.Words.{Say, SayNothing}
-use Rattle.trace_runner.specs.declared.command.Command.TheVariants.{Audit, Client, Compare, Notify, Record, Serve, Threads, Work}
-use Rattle.trace_runner.specs.declared.command.Grammar.{Grammar}
+use Rattle.alone_runner.specs.Words.{Say, SayNothing}
+use Rattle.alone_runner.specs.declared.command.Command.TheVariants.{Audit, Client, Compare, Notify, Record, Serve, Threads, Work}
+use Rattle.alone_runner.specs.declared.command.Grammar.{Grammar}
 use Rattle.word_parts.specs.declared.status.Status.{Status}
 use Rattle.word_parts.specs.declared.status.Status.TheVariants.{Memory, ReadFault, Usage, WriteFault}
 use Rattle.word_parts.specs.declared.status.Status.TheVariants as status
-use Rattle.core_c.specs.Running.{AskNothing, Drivers, IsRun, Native, built_in, built_in_drivers}
+use Rattle.native_tas.specs.Program.{program_drivers, program_entries}
+use Rattle.core_c.specs.Running.{AskNothing, Drivers, IsRun, Native}
 
 -- no fault is counted
 pub quiet : Rose 0 0 → ⊥
@@ -224,10 +225,10 @@ unrun natives drivers texts input output empty =
 
 -- beside just what is built in
 pub beside : (natives : List Native) (drivers : Drivers) (texts : List (List ℕ)) (input output : List ℕ) (result : Status)
-    → natives ≡ built_in → drivers ≡ built_in_drivers → IsRun natives drivers texts input result output
-    → IsRun built_in built_in_drivers texts input result output
+    → natives ≡ program_entries → drivers ≡ program_drivers → IsRun natives drivers texts input result output
+    → IsRun program_entries program_drivers texts input result output
 beside natives drivers texts input output result same likewise run =
-    subst (λ (them : List Native). IsRun them built_in_drivers texts input result output) same
+    subst (λ (them : List Native). IsRun them program_drivers texts input result output) same
     (subst (λ (them : Drivers). IsRun natives them texts input result output) likewise run)
 
 -- with these very words

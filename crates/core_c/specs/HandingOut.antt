@@ -2,7 +2,8 @@
 use Rattle.std.specs.Prelude.{◌≡◌, ℕ, ◌<◌, ◌≤◌, List, ◌++◌, drop, length, take}
 use Rattle.word_parts.specs.Status.{number_of}
 use Rattle.word_parts.specs.declared.status.Status.{Status}
-use Rattle.core_c.specs.Running.{IsRun, built_in, built_in_drivers}
+use Rattle.native_tas.specs.Program.{program_drivers, program_entries}
+use Rattle.core_c.specs.Running.{IsRun}
 use Rattle.core_c.specs.Words.{texts_in}
 
 -- the status of an output that is longer than its buffer
@@ -22,5 +23,5 @@ pub record HandsOut (status : Status) (output : List ℕ) (old new : List ℕ) (
 pub record IsAnswered (line input old new : List ℕ) (written result : ℕ) : Type 0 where
   pub status : Status
   pub output : List ℕ
-  pub run : IsRun built_in built_in_drivers (texts_in line) input status output
+  pub run : IsRun program_entries program_drivers (texts_in line) input status output
   pub handed : HandsOut status output old new written result

@@ -4,9 +4,7 @@ use Rattle.client_runner.specs.Client.{client_word}
 use Rattle.client_runner.specs.Scripts.{PlaysScripts}
 use Rattle.compare_model.specs.declared.subject.Subject.{Subject}
 use Rattle.native_tas.specs.declared.driver_relation.DriverRelation.{DriverRelation}
-use Rattle.native_tas.specs.declared.driver_relation.DriverRelation.TheVariants.{Echo}
 use Rattle.native_tas.specs.declared.relation.Relation.{Relation}
-use Rattle.native_tas.specs.declared.relation.Relation.TheVariants.{Digest}
 use Rattle.journal_runner.specs.Auditing.{auditing}
 use Rattle.journal_runner.specs.Compares.{Compares}
 use Rattle.journal_runner.specs.Comparing.{comparing}
@@ -14,21 +12,16 @@ use Rattle.journal_runner.specs.Recording.{recording}
 use Rattle.journal_runner.specs.Records.{Records}
 use Rattle.notify_runner.specs.Notified.{Notifies}
 use Rattle.notify_runner.specs.Run.{notifying}
-use Rattle.trace_runner.specs.Plays.{IsSummedUp, Plays, SpellsTraces}
-use Rattle.trace_runner.specs.Run.{WorkStatuses, Worked, WritesSummary, reading, usage_line}
+use Rattle.alone_runner.specs.Plays.{IsSummedUp, Plays, SpellsTraces}
+use Rattle.alone_runner.specs.Run.{WorkStatuses, Worked, WritesSummary, reading, usage_line}
 use Rattle.word_parts.specs.Keeping.{Keeps}
 use Rattle.word_parts.specs.Answer.{Writes}
-use Rattle.trace_runner.specs.Words.{Say, SayNothing}
-use Rattle.trace_runner.specs.declared.command.Command.TheVariants.{Audit, Client, Compare, Notify, Record, Serve, Threads, Work}
-use Rattle.trace_runner.specs.declared.command.Grammar.{Grammar}
+use Rattle.alone_runner.specs.Words.{Say, SayNothing}
+use Rattle.alone_runner.specs.declared.command.Command.TheVariants.{Audit, Client, Compare, Notify, Record, Serve, Threads, Work}
+use Rattle.alone_runner.specs.declared.command.Grammar.{Grammar}
 use Rattle.word_parts.specs.declared.status.Status.{Status}
 use Rattle.word_parts.specs.declared.status.Status.TheVariants.{Memory, ReadFault, Usage, WriteFault}
 use Rattle.word_parts.specs.declared.status.Status.TheVariants as status
-
--- the UUID of the digest application
-abbrev pub digest_uuid : List ℕ
-digest_uuid =
-    0x3f ∷ 0x0c ∷ 0x7a ∷ 0x11 ∷ 0x52 ∷ 0xb8 ∷ 0x4d ∷ 0x6e ∷ 0x9a ∷ 0x40 ∷ 0x0e ∷ 0x6b ∷ 0x5d ∷ 0x2c ∷ 0x8f ∷ 0x01 ∷ []
 
 -- a built-in application, by its UUID and what its function answers
 abbrev pub Native : Type 0
@@ -37,13 +30,6 @@ Native = List ℕ × Relation
 -- drivers, each by its value and what its function answers
 abbrev pub Drivers : Type 0
 Drivers = List (ℕ × DriverRelation)
-
--- those of the program
-abbrev pub built_in : List Native
-built_in = (digest_uuid, Digest) ∷ []
-
-abbrev pub built_in_drivers : Drivers
-built_in_drivers = (1, Echo) ∷ []
 
 -- an input that is read in this grammar, of which this is left, and what was put where nothing was held
 pub record Serves (natives : List Native) (grammar : Grammar) (input : List ℕ) (result : Status)

@@ -1,23 +1,18 @@
 //! The top call over bytes in memory.
 ghost use Rattle.std.specs.Prelude.{◌≡◌, ◌≢◌, ◌++◌, [], Some, map, string_bytes};
 ghost use Rattle.native_tas.specs.Table.{drivers, entries};
-ghost use Rattle.core_c.specs.Running.{IsRun, built_in, built_in_drivers};
+ghost use Rattle.native_tas.specs.Program.{program_drivers, program_entries};
+ghost use Rattle.core_c.specs.Running.{IsRun};
 ghost use Rattle.core_c.specs.Words.{texts_in};
-ghost use Rattle.trace_runner.specs.Run.{usage_line};
+ghost use Rattle.alone_runner.specs.Run.{usage_line};
 ghost use Rattle.word_parts.specs.Answer.{Writes};
 
 use crate::growing_sink::GrowingSink;
 use crate::slice_source::SliceSource;
 use crate::words::words_in;
-use native_tas::{Driver, DriverRelation, Native, Natives, Relation, digest};
+use alone_runner::{Status, asks_threads, run_alone};
+use native_tas::{Natives, program_natives};
 use std::alloc::Global;
-use trace_runner::{Status, asks_threads, run_alone};
-use uuid::Uuid;
-
-/// The UUID of the digest application, which is built in.
-const DIGEST_UUID: [u8; 16] = [
-    0x3f, 0x0c, 0x7a, 0x11, 0x52, 0xb8, 0x4d, 0x6e, 0x9a, 0x40, 0x0e, 0x6b, 0x5d, 0x2c, 0x8f, 0x01,
-];
 
 /// How a call ended, and what it has put.
 #[derive(Drop)]
@@ -69,20 +64,9 @@ fn run_words(
     out: &mut GrowingSink,
 ) -> Status
     requires { out.old.held.items ≡ [] }
-    ensures { IsRun built_in built_in_drivers (map string_bytes words.now) input.old.left.now result out.new.held.items }
+    ensures { IsRun program_entries program_drivers (map string_bytes words.now) input.old.left.now result out.new.held.items }
 {
-    let digest = Native {
-        uuid: Uuid::from_bytes(DIGEST_UUID),
-        relation: Relation::Digest,
-        call: digest,
-    };
-    // The notifications of value 1, which it answers by their number.
-    let echo = Driver {
-        value: 1,
-        relation: DriverRelation::Echo,
-        call: |count: u32| count,
-    };
-    match Natives::of_one(alloc, digest, echo) {
+    match program_natives!(alloc) {
         Ok(natives) => run_beside(alloc, words, input, out, &natives),
         Err(_) => Status::Memory,
     }
@@ -97,7 +81,7 @@ fn run_line(
     out: &mut GrowingSink,
 ) -> Status
     requires { out.old.held.items ≡ [] }
-    ensures { IsRun built_in built_in_drivers (texts_in line.now) input.old.left.now result out.new.held.items }
+    ensures { IsRun program_entries program_drivers (texts_in line.now) input.old.left.now result out.new.held.items }
 {
     match words_in(alloc, line) {
         Ok(words) => run_words(alloc, words.as_slice(), input, out),
@@ -108,7 +92,7 @@ fn run_line(
 /// The top call with the words of a line, over these bytes.
 #[tactic(auto, using(crate::proofs::Runs::fed))]
 pub fn outcome_of(alloc: Global, line: &[u8], input: &[u8]) -> Outcome
-    ensures { IsRun built_in built_in_drivers (texts_in line.now) input.now result.status result.output.items }
+    ensures { IsRun program_entries program_drivers (texts_in line.now) input.now result.status result.output.items }
 {
     let mut source = SliceSource::new(input);
     let mut sink = GrowingSink::new(alloc);

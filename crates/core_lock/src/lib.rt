@@ -7,15 +7,15 @@
 
 ghost use Rattle.core_lock.specs.Examples.{Examples};
 
+mod gate;
+mod held;
 mod lock;
-mod logged;
 mod pass;
 mod rule;
 mod view;
 
-pub use base::NoMemory;
+pub use base::{Logged, NoMemory};
 pub use lock::CoreLock;
-pub use logged::Logged;
 pub use pass::{Pass, Turn};
 
 /// Small tables, computed.

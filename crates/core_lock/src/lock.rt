@@ -1,11 +1,12 @@
 ghost use Rattle.std.specs.Prelude.{◌≡◌, ◌<◌, ◌≤◌, ℕ, List, [], ◌∷◌, ◌++◌, map, All, Some, IfOk, IfErr, vec_len, vec_capacity};
 
-use crate::logged::Logged;
+use crate::gate::Gate;
+use crate::held::Held;
 use crate::pass::{LockSeat, Pass, Turn};
 use crate::rule::{LockRule, Terms};
 use crate::view::View;
 use atomic_table::{Refused, Table};
-use base::NoMemory;
+use base::{Logged, NoMemory};
 use std::alloc::Global;
 use std::snapshot::Snapshot;
 use std::sync::Wait;
@@ -15,10 +16,11 @@ mod steps;
 /// A ticket lock round a value. Each turn goes to a pass of the lock, and adds entries under its number.
 ///
 /// Its table has three words, the next ticket, the ticket that is served and the number of entries, and one
-/// slot, which has the value.
+/// slot, which has the value. A ticket is drawn behind a gate, so that threads that wait hold none.
 #[derive(Drop)]
 pub struct CoreLock<T: Logged> {
-    table: Table<Option<T>, View<T::Entry, T::Basis>, Terms<T>, LockRule<T>, Global>,
+    table: Table<Option<Held<T>>, View<T::Entry, T::Basis>, Terms<T>, LockRule<T>, Global>,
+    gate: Gate,
     ghost laid: { (table.shared.table_id.words ≡ 3) × (table.shared.table_id.slots ≡ 1) × (0 < table.shared.key.count) },
 }
 
@@ -48,13 +50,24 @@ impl<T: Logged> CoreLock<T> {
         let Ok(passes) = Vec::with_capacity(alloc, count as usize) else {
             return Err((value, NoMemory));
         };
-        let (lock, seat) = CoreLock::lay(alloc, value, count)?;
+        let held = match Held::new(alloc, value) {
+            Ok(held) => held,
+            Err(value) => return Err((value, NoMemory)),
+        };
+        let (lock, seat) = match CoreLock::lay(alloc, held, count) {
+            Ok(laid) => laid,
+            Err((held, error)) => return Err((held.into_inner(), error)),
+        };
         let passes = lock.deal(seat, count, passes);
         Ok((lock, passes))
     }
 
     // Lays the table round the value, with its first seat.
-    fn lay(alloc: Global, value: T, count: u32) -> Result<(CoreLock<T>, LockSeat<T>), (T, NoMemory)>
+    fn lay(
+        alloc: Global,
+        value: Held<T>,
+        count: u32,
+    ) -> Result<(CoreLock<T>, LockSeat<T>), (Held<T>, NoMemory)>
         requires entries { T.entries value ≡ [] }
         requires count { (0 < count) × (count ≤ 64) }
         ensures lock { IfOk result (λ r. (count_of r.0 ≡ count) × (basis_of T.basis r.0 ≡ T.basis value)) }
@@ -66,11 +79,17 @@ impl<T: Logged> CoreLock<T> {
         };
         let terms = Terms {
             count,
-            first: Snapshot::of(&value),
+            first: Snapshot::of(value.value()),
         };
         slots.push_reserved(Some(value));
         match Table::new(alloc, &[0, 0, 0], slots, &terms) {
-            Ok((table, seat)) => Ok((CoreLock { table }, seat)),
+            Ok((table, seat)) => Ok((
+                CoreLock {
+                    table,
+                    gate: Gate::new(),
+                },
+                seat,
+            )),
             Err(Refused { slots }) => Err((only(slots), NoMemory)),
         }
     }
@@ -106,13 +125,13 @@ impl<T: Logged> CoreLock<T> {
         ensures makers { All (λ e. T.maker e < count_of self) (T.entries result) }
     {
         let seat = self.gather(passes);
-        let CoreLock { table } = self;
+        let CoreLock { table, gate: _ } = self;
         let mut closed = table.close_with(seat);
         let Some(value) = closed.take(0) else {
             unreachable!()
         };
         closed.free();
-        value
+        value.into_inner()
     }
 
     // Joins all passes into one seat.
@@ -135,8 +154,8 @@ impl<T: Logged> CoreLock<T> {
         all
     }
 
-    /// Draws a ticket, waits until it is served, and hands out the value. Its entries begin with all that
-    /// the pass had seen, and have just those that the pass made under its number.
+    /// Goes in at the gate, draws a ticket, waits until it is served, and hands out the value. Its entries begin with
+    /// all that the pass had seen, and have just those that the pass made under its number.
     ///
     /// Nothing is said of when a turn comes, nor that turns go in the order of the tickets.
     pub fn take_turn(&self, rt: &impl Wait, pass: &mut Pass<T>) -> Turn<T>
@@ -149,6 +168,7 @@ impl<T: Logged> CoreLock<T> {
         ensures seen { IsPrefix (seen pass.old) (T.entries result.value) × (seen pass.new ≡ T.entries result.value) }
         ensures made { made_by T.maker (number pass.new) (T.entries result.value) ≡ made pass.new }
     {
+        self.gate.go_in(rt);
         let ticket = self.draw(&mut pass.seat);
         self.wait_for(rt, &mut pass.seat, ticket);
         let value = self.take(&mut pass.seat);
@@ -156,7 +176,8 @@ impl<T: Logged> CoreLock<T> {
         Turn { value, of }
     }
 
-    /// Gives the value back, with the entries that were added to it, and ends the turn. It takes no memory.
+    /// Gives the value back, with the entries that were added to it, ends the turn and opens the gate. It takes no
+    /// memory.
     pub fn give_back(&self, pass: &mut Pass<T>, turn: Turn<T>)
         requires own { IsPassOf T.maker T.basis self.now pass.old }
         requires turn { IsTurnOf pass.old turn }
@@ -170,10 +191,11 @@ impl<T: Logged> CoreLock<T> {
         ensures more { (more : List T.Entry) → T.entries turn.value ≡ seen pass.old ++ more → made pass.new ≡ made pass.old ++ more }
     {
         let Turn { value, of: _ } = turn;
-        let entries = value.length();
+        let entries = value.value().length();
         self.put(&mut pass.seat, value);
         self.count(&mut pass.seat, entries);
         self.serve(&mut pass.seat);
+        self.gate.go_out();
     }
 }
 

@@ -1,10 +1,14 @@
-use crate::logged::Logged;
+use crate::held::Held;
 use crate::view::View;
 use atomic_table::Seat;
+use base::Logged;
 use std::snapshot::Snapshot;
 
 /// A seat at a lock's table.
-pub(crate) type LockSeat<T> = Seat<Option<T>, View<<T as Logged>::Entry, <T as Logged>::Basis>>;
+pub(crate) type LockSeat<T> = Seat<
+    Option<Held<T>>,
+    View<<T as Logged>::Entry, <T as Logged>::Basis>,
+>;
 
 /// A right to take turns, under a number of its own. It carries what was seen and what was made.
 pub struct Pass<T: Logged> {
@@ -39,7 +43,7 @@ impl<T: Logged> Drop for Pass<T> {
 
 /// The value, while it is a pass's turn. It has to be given back.
 pub struct Turn<T: Logged> {
-    pub(crate) value: T,
+    pub(crate) value: Held<T>,
     // The pass as it was when it took the turn.
     pub(crate) of: Snapshot<Pass<T>>,
 }
@@ -53,7 +57,7 @@ impl<T: Logged> Turn<T> {
     pub fn value(&self) -> &T
         ensures { result.now ≡ self.now.value }
     {
-        &self.value
+        self.value.value()
     }
 
     /// The value, lent to change: what is put there is the value afterwards.
@@ -61,6 +65,6 @@ impl<T: Logged> Turn<T> {
         ensures* writes_back { sem 𝓛 (LendsValue T.row T.Entry.row T.Basis.row self.entry result) }
         ensures value { result.now ≡ self.old.value }
     {
-        &mut self.value
+        self.value.value_mut()
     }
 }

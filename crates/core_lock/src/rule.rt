@@ -1,7 +1,8 @@
 //! The rule of the lock's table, and what each kind of step tells.
-use crate::logged::Logged;
+use crate::held::Held;
 use crate::view::View;
 use atomic_table::{Join, Play, Split, TableRule};
+use base::Logged;
 use std::marker::PhantomData;
 use std::snapshot::Snapshot;
 
@@ -17,7 +18,7 @@ pub struct LockRule<T> {
     value: PhantomData<T>,
 }
 
-impl<T: Logged> TableRule<Option<T>, View<T::Entry, T::Basis>, Terms<T>> for LockRule<T> {
+impl<T: Logged> TableRule<Option<Held<T>>, View<T::Entry, T::Basis>, Terms<T>> for LockRule<T> {
     ghost use Rattle.core_lock.specs.Rule.{Kept, opening_view};
 
     ghost holds = { λ k. Kept T.entries T.maker T.basis k.count (T.basis k.first.value) };
@@ -62,7 +63,7 @@ pub(crate) struct Looks<T> {
     value: PhantomData<T>,
 }
 
-impl<T: Logged> Play<Option<T>, View<T::Entry, T::Basis>> for Looks<T> {
+impl<T: Logged> Play<Option<Held<T>>, View<T::Entry, T::Basis>> for Looks<T> {
     ghost use Rattle.core_lock.specs.Steps.{looked};
 
     ghost then = { looked T.entries T.maker T.basis };
@@ -73,7 +74,7 @@ pub(crate) struct Counts<T> {
     value: PhantomData<T>,
 }
 
-impl<T: Logged> Play<Option<T>, View<T::Entry, T::Basis>> for Counts<T> {
+impl<T: Logged> Play<Option<Held<T>>, View<T::Entry, T::Basis>> for Counts<T> {
     ghost use Rattle.core_lock.specs.Steps.{counted};
 
     ghost then = { counted T.entries T.maker };

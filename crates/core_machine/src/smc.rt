@@ -3,7 +3,7 @@ use kernel_state::EnterRefusal;
 use smc_abi::Regs;
 
 /// What a processor does next.
-#[derive(Clone, Copy, Debug, PartialEq, Eq)]
+#[derive(Clone, Copy)]
 pub enum Smc {
     /// It comes in.
     Comes(Visitor),
@@ -12,14 +12,14 @@ pub enum Smc {
 }
 
 /// The registers that a processor went out with.
-#[derive(Clone, Copy, Debug, PartialEq, Eq)]
+#[derive(Clone, Copy)]
 pub struct Told {
     pub cpu: u8,
     pub regs: Regs,
 }
 
 /// Why a list was not served to its end, and how much of it was.
-#[derive(Clone, Copy, Debug, PartialEq, Eq)]
+#[derive(Clone, Copy)]
 pub struct Stopped {
     /// How many of the list have come.
     pub served: usize,

@@ -19,7 +19,7 @@ const ASYNC_NOTIF: u32 = 1 << 5;
 const HIGHEST_VALUE: u32 = 63;
 
 /// The result that goes into an argument, from `TEE_ORIGIN_TEE`.
-#[derive(Clone, Copy, Debug, PartialEq, Eq)]
+#[derive(Clone, Copy)]
 pub struct ResultIn {
     /// The address of the argument.
     pub arg: u64,
@@ -27,7 +27,7 @@ pub struct ResultIn {
 }
 
 /// What a processor is told as it goes out, and what is written before.
-#[derive(Clone, Copy, Debug, PartialEq, Eq)]
+#[derive(Clone, Copy)]
 pub struct Told {
     pub regs: Regs,
     pub result: Option<ResultIn>,

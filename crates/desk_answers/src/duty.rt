@@ -17,7 +17,7 @@ const ENABLE_ASYNC_NOTIF: u32 = 0xb200_0010;
 const GET_ASYNC_NOTIF_VALUE: u32 = 0xb200_0011;
 
 /// What an exit asks of a desk of signals.
-#[derive(Clone, Copy, Debug, PartialEq, Eq)]
+#[derive(Clone, Copy)]
 pub enum Duty {
     /// Nothing: the kernel's answer is told.
     Nothing,

@@ -5,7 +5,7 @@ use ns_ram::Reads;
 use smc_abi::Regs;
 
 /// A processor comes into the core, or goes back.
-#[derive(Debug, Drop)]
+#[derive(Drop)]
 pub enum Event {
     /// The processor comes in with these registers, is granted so many steps, and has read this of its RAM.
     Entry {

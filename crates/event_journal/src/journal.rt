@@ -9,7 +9,7 @@ use std::marker::Model;
 
 /// All events so far. Contracts see the list of them, and beside it how many more can be pushed before
 /// room has to be reserved.
-#[derive(Debug, Drop)]
+#[derive(Drop)]
 pub struct Journal {
     events: Vec<Event>,
     copied: u64,

@@ -1,11 +1,9 @@
 -- The definitions on small inputs.
 use Rattle.std.specs.Prelude.{◌≡◌, [], ◌∷◌}
 use Rattle.base.specs.Zeros.{zeros}
-use Rattle.frame_pool.specs.declared.pool.TheConstants.{MAX_FRAMES}
 use Rattle.frame_pool.specs.Pages.{page_count}
 
 pub record Examples : Type 0 where
-  pub most_frames : MAX_FRAMES ≡ 1024
   pub no_zeros : zeros 0 ≡ []
   pub three_zeros : zeros 3 ≡ 0 ∷ 0 ∷ 0 ∷ []
   pub no_pages : page_count [] ≡ 0

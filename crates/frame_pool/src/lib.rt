@@ -20,5 +20,5 @@ pub use examples::worked_examples;
 pub use frame::PAGE_BYTES;
 pub use laws::pages_of_zeros;
 pub use pages::{MAX_PAGES, Pages};
-pub use pool::{MAX_FRAMES, Pool};
+pub use pool::Pool;
 pub use short::Short;

@@ -13,9 +13,6 @@ use base::NoMemory;
 use std::alloc::Global;
 use std::marker::Model;
 
-/// The most frames that a pool has.
-pub const MAX_FRAMES: u16 = 1024;
-
 /// The page frames of a core. Contracts see how many there are in all, and how many of them are free.
 #[derive(Drop)]
 pub struct Pool {

@@ -3,7 +3,7 @@ use ta_params::Login;
 
 /// What happens to a group of sessions. Its calls are numbered from 0 in the order in which they come in; its sessions
 /// are numbered from 0 by the opens that got a session, in their order. This project's own.
-#[derive(Debug, Drop)]
+#[derive(Drop)]
 pub enum GroupEvent {
     /// An open comes in. Its input is unread where a dead instance, a session that has the instance alone, or a shared
     /// limit stopped it; `limited` says that a limit did. Of each call `area` says whether it has an area for the arguments

@@ -12,7 +12,6 @@ use base::NoMemory;
 use event_journal::Journal;
 use group_model::{GroupEvent, GroupReply};
 use isolation::Replay;
-use journal_replay::copy_boot;
 use native_tas::Natives;
 use std::alloc::Global;
 use ta_isa::Boot;
@@ -31,7 +30,7 @@ pub fn read_group_log(
     requires { IsJournal (booted boot.now (entries natives.now)) journal.now.events }
     ensures { IfOk result (IsLogOf (booted boot.now (entries natives.now)) journal.now.events uuid) }
 {
-    let mut replay = Replay::new(alloc, copy_boot(alloc, boot)?, natives)?;
+    let mut replay = Replay::new(alloc, boot.clone()?, natives)?;
     let Some(app) = replay.core.parts.setup.application(&uuid)? else {
         return Ok(GroupLog {
             app: None,

@@ -4,7 +4,6 @@ ghost use Rattle.std.specs.Option.{option_and_then, option_map};
 ghost use Rattle.isolation.specs.Telling.{asked_reply, asks_with_payload, ended_as, has_place, told_at_end, told_behind, told_by, wakes_as};
 ghost use Rattle.kernel_state.specs.Calls.{woken_slot};
 
-use crate::copies::buffer_of;
 use base::NoMemory;
 use frame_pool::Pages;
 use kernel_state::Carried;
@@ -13,6 +12,7 @@ use rpc_cont::{Asked, Cont, Phase};
 use rpc_msgs::Rpc;
 use solo::copied_outputs;
 use std::alloc::Global;
+use ta_params::Buf;
 
 /// The slot that is asked to be woken.
 fn slot_woken(request: &Option<Asked>) -> Option<u32>
@@ -44,7 +44,7 @@ fn asked_reply(alloc: Global, request: &Option<Asked>) -> Result<Option<OwnReply
     match request {
         Some(asked) => Ok(Some(OwnReply::Ask {
             rpc: asked.rpc.clone()?,
-            payload: buffer_of(alloc, asked.payload.bytes())?,
+            payload: Buf::of(asked.payload.bytes().to_vec(alloc)?),
         })),
         None => Ok(None),
     }

@@ -10,7 +10,6 @@
 #![tactic(auto)]
 
 mod coming;
-mod copies;
 mod entering;
 mod going;
 mod leaving;

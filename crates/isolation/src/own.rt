@@ -14,7 +14,6 @@ use crate::replay::Replay;
 use crate::session_log::{Logged, OwnLog};
 use base::NoMemory;
 use event_journal::Journal;
-use journal_replay::copy_boot;
 use native_tas::Natives;
 use own_model::{OwnEvent, OwnReply};
 use std::alloc::Global;
@@ -33,7 +32,7 @@ pub fn own_log(
     requires { IsJournal (booted boot.now (entries natives.now)) journal.now.events }
     ensures { IfOk result (IsLogOf (booted boot.now (entries natives.now)) journal.now.events session) }
 {
-    let mut replay = Replay::new(alloc, copy_boot(alloc, boot)?, natives)?;
+    let mut replay = Replay::new(alloc, boot.clone()?, natives)?;
     replay.log_of(alloc, journal.as_slice(), session)
 }
 

@@ -10,6 +10,7 @@ use Rattle.ta_params.specs.declared.copied_params.CopiedParams.{CopiedParams}
 use Rattle.ta_step.specs.Runs.{Ran, runs}
 use Rattle.ta_step.specs.State.{State}
 use Rattle.ta_step.specs.Examples.{instr, sum_code, params_of, somebody}
+use Rattle.tee_storage.specs.declared.handle.FileFormat.TheVariants.{Untagged}
 use Rattle.tee_storage.specs.declared.handle.Handle.{Handle}
 use Rattle.job_model.specs.Owner.{Owner, owner_of}
 use Rattle.job_model.specs.declared.entry_point.EntryPoint.{EntryPoint}
@@ -71,7 +72,7 @@ memory = 1 ∷ 2 ∷ 0 ∷ 0 ∷ 9 ∷ 0 ∷ 0 ∷ 0 ∷ []
 
 -- an open object
 abbrev pub one_object : NumberMap Handle
-one_object = (3, record { name = 0x31 ∷ []; fd = 70; length = 10; position = 3; format = 1 }) ∷ []
+one_object = (3, record { name = 0x31 ∷ []; fd = 70; length = 10; position = 3; format = Untagged }) ∷ []
 
 abbrev pub nothing_to_run : Job
 nothing_to_run = idle_job owner somebody 20 one_object no_params
@@ -126,7 +127,7 @@ invokes_with func context image =
 
 -- the same object, at another position
 abbrev pub object_at : ℕ → NumberMap Handle
-object_at position = (3, record { name = 0x31 ∷ []; fd = 70; length = 10; position = position; format = 1 }) ∷ []
+object_at position = (3, record { name = 0x31 ∷ []; fd = 70; length = 10; position = position; format = Untagged }) ∷ []
 
 -- what an invoke ends with that leaves this memory and these objects
 abbrev pub ends_as : ℕ → ℕ → List ℕ → NumberMap Handle → JobStop

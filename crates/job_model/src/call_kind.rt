@@ -1,5 +1,5 @@
 /// What a call asks for. This project's own.
-#[derive(Clone, Copy, Debug, PartialEq, Eq)]
+#[derive(Clone, Copy)]
 pub enum CallKind {
     /// `OPTEE_MSG_CMD_OPEN_SESSION`.
     Open,

@@ -2,7 +2,7 @@ ghost use Rattle.std.specs.Prelude.{◌≡◌, ◌<◌};
 ghost use Rattle.job_model.specs.Point.{number_of};
 
 /// An entry point of an application, as the TEE Internal Core API has them ("TA Interface").
-#[derive(Clone, Copy, Debug, Default, PartialEq, Eq)]
+#[derive(Clone, Copy, Default)]
 pub enum EntryPoint {
     /// `TA_CreateEntryPoint`, which makes an instance.
     #[default]

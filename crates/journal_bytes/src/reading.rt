@@ -19,7 +19,7 @@ use trace_text::{BadKind, Trace, TraceFault};
 use uuid::Uuid;
 
 /// A journal that was read.
-#[derive(Debug, Drop)]
+#[derive(Drop)]
 pub struct ReadJournal {
     /// What the core was booted with.
     pub boot: Boot,

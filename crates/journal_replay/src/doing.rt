@@ -10,7 +10,6 @@ ghost use Rattle.native_tas.specs.Table.{entries};
 
 use crate::booting::core_of;
 use crate::comparing::{are_same_regs, last_has_read};
-use crate::copies::copy_boot;
 use crate::laying::lay;
 use crate::replay::Replay;
 use base::NoMemory;
@@ -49,7 +48,7 @@ impl Replay {
     {
         let works = no_works(alloc, boot.cpus)?;
         let lane = Lane::new(alloc)?;
-        let core = core_of(alloc, copy_boot(alloc, boot)?, natives)?;
+        let core = core_of(alloc, boot.clone()?, natives)?;
         Ok(Replay { core, works, lane })
     }
 

@@ -10,7 +10,6 @@
 
 mod booting;
 mod comparing;
-mod copies;
 mod doing;
 mod laws;
 mod laying;
@@ -18,7 +17,6 @@ mod replay;
 
 pub use base::NoMemory;
 pub use booting::core_of;
-pub use copies::copy_boot;
 pub use laws::replays_are_faultless;
 pub use laying::lay;
 pub use replay::Replay;

@@ -1,30 +1,13 @@
 -- What was read beside built-in applications can be booted beside them.
-use Rattle.std.proofs.Common.{◌≡◌, ◌≢◌, ℕ, ◌≤◌, List, [], length, Option, Some, None, refl, sym, subst}
-use Rattle.std.specs.Prelude.{IfNone, IfSome, AllPairs}
-use Rattle.core_machine.proofs.Apart.{none_repeated}
-use Rattle.kernel_model.specs.Application.{IsBooted, Native, booted}
-use Rattle.kernel_state.proofs.Apart.{natives_if_none}
+use Rattle.std.proofs.Common.{◌≡◌, ℕ, ◌≤◌, List, [], length, Option, Some, None, sym, subst}
+use Rattle.std.specs.Prelude.{IfNone, IfSome}
+use Rattle.kernel_model.specs.Application.{Native, booted}
 use Rattle.ta_isa.specs.declared.boot.Boot.{Boot}
+use Rattle.trace_player.proofs.Booting.{AreApart, sound_boots}
 use Rattle.trace_player.specs.Starting.{uuids_of}
 use Rattle.trace_text.specs.Sound.{IsSound, IsSoundBoot}
 use Rattle.trace_text.specs.declared.trace.Trace.{Trace}
 use Rattle.journal_runner.specs.Known.{CanBoot, CanBootWith}
-
--- UUIDs of built-in applications are few and apart
-abbrev pub AreApart : List (List ℕ) → Type 0
-AreApart uuids = AllPairs (λ (earlier later : List ℕ). earlier ≢ later) uuids
-
--- a core can be booted with a sound boot, beside built-in applications whose UUIDs are few and apart
-pub sound_boots : (natives : List Native) (boot : Boot) → length (uuids_of natives) ≤ 16 → AreApart (uuids_of natives)
-    → IsSoundBoot (uuids_of natives) boot → IsBooted (booted boot natives)
-sound_boots natives boot few apart sound = record {
-  boot = boot;
-  natives = natives;
-  is_boot = sound.boots;
-  are_natives = natives_if_none None boot natives (uuids_of natives) boot.apps
-      (sym (none_repeated (uuids_of natives) boot sound)) refl refl few apart;
-  same = refl;
-}
 
 by_boot : (natives : List Native) (trace : Trace) (boot : Option Boot) → length (uuids_of natives) ≤ 16
     → AreApart (uuids_of natives) → IfSome boot (IsSoundBoot (uuids_of natives))

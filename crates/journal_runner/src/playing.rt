@@ -12,7 +12,6 @@ use audit::core_journals_are_sound;
 use base::NoMemory;
 use core_machine::machines_stand;
 use journal_bytes::write_journal;
-use journal_replay::copy_boot;
 use native_tas::Natives;
 use std::alloc::Global;
 use ta_isa::Boot;
@@ -57,7 +56,7 @@ pub fn record_play(
     requires { IsSound (uuids_of (entries natives.now)) (trace_of boot fills.now items.now) }
     ensures { IfOk result (IsRecordOf (entries natives.now) (trace_of boot fills.now items.now)) }
 {
-    let header = copy_boot(alloc, &boot)?;
+    let header = boot.clone()?;
     let mut player = Player::booted(alloc, boot, natives, fills)?;
     let status = play_items(alloc, &mut player, items)?;
     core_journals_are_sound();

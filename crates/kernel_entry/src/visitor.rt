@@ -11,7 +11,7 @@ use ns_ram::Reads;
 use smc_abi::Regs;
 
 /// A processor that comes in: its number, its registers, and the steps that it is granted.
-#[derive(Clone, Copy, Debug, PartialEq, Eq)]
+#[derive(Clone, Copy)]
 pub struct Visitor {
     pub cpu: u8,
     pub regs: Regs,

@@ -5,8 +5,8 @@ use Rattle.std.proofs.Props.{props}
 use Rattle.std.specs.Prelude.{IsSomeAnd}
 use Rattle.std.specs.Global.{Box}
 use Rattle.base.specs.NumberMap.{NumberMap}
-use Rattle.call_leaving.specs.declared.leaving.Leaving.{Leaving}
-use Rattle.call_leaving.specs.declared.leaving.Leaving.TheVariants.{Interrupted, WantsBuffer, Requests, FreesBuffer, Finishes}
+use Rattle.kernel_state.specs.declared.leaving.Leaving.{Leaving}
+use Rattle.kernel_state.specs.declared.leaving.Leaving.TheVariants.{Interrupted, WantsBuffer, Requests, FreesBuffer, Finishes}
 use Rattle.job_model.specs.declared.call_kind.CallKind.{CallKind}
 use Rattle.job_model.specs.declared.call_kind.CallKind.TheVariants.{Open, Invoke, Close, Settled}
 use Rattle.kernel_model.specs.Application.{Booted}

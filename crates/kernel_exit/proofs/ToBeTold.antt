@@ -3,11 +3,11 @@ use Rattle.std.proofs.Common.{◌≡◌, ℕ, List, Option, Some, None, sym, ◌
 use Rattle.std.specs.Prelude.{IsSome, IsSomeAnd}
 use Rattle.std.specs.List.{AllByRecursion}
 use Rattle.std.specs.Option.{option_map}
-use Rattle.call_leaving.specs.Leaving.{leaving_as, request_of}
-use Rattle.call_leaving.specs.declared.leaving.Leaving.{Leaving}
-use Rattle.call_leaving.specs.declared.leaving.Leaving.TheVariants.{Interrupted, WantsBuffer, Requests, FreesBuffer, Finishes}
-use Rattle.call_leaving.specs.declared.leaving.Wanted.{Wanted}
-use Rattle.call_leaving.specs.declared.leaving.Wanted.TheVariants.{Asked}
+use Rattle.kernel_state.specs.CallLeaving.{leaving_as, request_of}
+use Rattle.kernel_state.specs.declared.leaving.Leaving.{Leaving}
+use Rattle.kernel_state.specs.declared.leaving.Leaving.TheVariants.{Interrupted, WantsBuffer, Requests, FreesBuffer, Finishes}
+use Rattle.kernel_state.specs.declared.leaving.Wanted.{Wanted}
+use Rattle.kernel_state.specs.declared.leaving.Wanted.TheVariants.{Asked}
 use Rattle.kernel_model.specs.Kernel.{CallPhase, PendingCall, Progress, Tables}
 use Rattle.kernel_model.specs.Exit.{after_grant, answer_of, progress_in, slot_left, tables_left, writes_of}
 use Rattle.kernel_model.specs.Leaving as model

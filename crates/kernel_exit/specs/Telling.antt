@@ -2,11 +2,11 @@
 use Rattle.std.specs.Prelude.{◌≡◌, ℕ, List, Option, slice_set, IsSomeAnd}
 use Rattle.std.specs.Global.{Box}
 use Rattle.std.specs.List.{AllByRecursion}
-use Rattle.call_leaving.specs.Leaving.{request_of}
-use Rattle.call_leaving.specs.declared.leaving.Leaving.{Leaving}
-use Rattle.call_leaving.specs.declared.leaving.Leaving.TheVariants.{Interrupted, WantsBuffer, Requests, FreesBuffer, Finishes}
-use Rattle.call_leaving.specs.declared.leaving.Wanted.{Wanted}
-use Rattle.call_leaving.specs.declared.leaving.Wanted.TheVariants.{Asked}
+use Rattle.kernel_state.specs.CallLeaving.{request_of}
+use Rattle.kernel_state.specs.declared.leaving.Leaving.{Leaving}
+use Rattle.kernel_state.specs.declared.leaving.Leaving.TheVariants.{Interrupted, WantsBuffer, Requests, FreesBuffer, Finishes}
+use Rattle.kernel_state.specs.declared.leaving.Wanted.{Wanted}
+use Rattle.kernel_state.specs.declared.leaving.Wanted.TheVariants.{Asked}
 use Rattle.kernel_model.specs.Kernel as model
 use Rattle.kernel_state.specs.Blanks.{Boxes, with_box}
 use Rattle.kernel_state.specs.StandsFor.{IsSlot}

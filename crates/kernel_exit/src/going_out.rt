@@ -12,10 +12,9 @@ ghost use Rattle.kernel_exit.specs.GoingOut.{CanCome, CanExitWith, CanGoFrom, Ha
 
 use crate::progress::{after_grant, after_rest};
 use crate::telling::{answer_of, slot_left, tables_left, tell};
-use call_leaving::Leaving;
 use event_journal::Event;
 use frame_pool::Pages;
-use kernel_state::{Carried, Core, Errand, Parts, Processor, Ran, Setup, Tables};
+use kernel_state::{Carried, Core, Errand, Leaving, Parts, Processor, Ran, Setup, Tables};
 use ns_ram::Lane;
 use rpc_cont::{Cont, ContStop};
 use smc_abi::{Answer, Regs, encode_answer};

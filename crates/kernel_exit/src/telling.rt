@@ -1,7 +1,7 @@
 //! What is told of a call as it goes out: the answer, what is written, and what its slot is left with.
 ghost use Rattle.std.specs.Prelude.{◌≡◌, ℕ, List, [], ◌∷◌};
 ghost use Rattle.std.specs.List.{AllByRecursion};
-ghost use Rattle.call_leaving.specs.Leaving.{leaving_as, request_of};
+ghost use Rattle.kernel_state.specs.CallLeaving.{leaving_as, request_of};
 ghost use Rattle.kernel_model.specs.Exit.{answer_of, output_writes, result_writes, session_writes, slot_left, tables_left, word32, writes_of};
 ghost use Rattle.kernel_model.specs.Kernel.{PendingCall};
 ghost use Rattle.kernel_state.specs.Calls.{IsCall};
@@ -17,10 +17,9 @@ ghost use Rattle.rpc_msgs.specs.Place.{writes_at};
 ghost use Rattle.thread_slots.specs.Slots.{IsActiveAt};
 ghost use Rattle.kernel_exit.specs.Telling.{CanBeAsked, CanBeTold, HasRoomForResult, HoldsNow, boxes_left};
 
-use call_leaving::{Leaving, Wanted};
 use frame_pool::Pages;
 use job_model::CallKind;
-use kernel_state::{Blanks, Tables};
+use kernel_state::{Blanks, Leaving, Tables, Wanted};
 use msg_args::{origin_at, ret_at, session_at};
 use ns_ram::Lane;
 use param_copy::copy_out;

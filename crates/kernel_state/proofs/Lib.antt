@@ -8,6 +8,7 @@ pub mod CoreEvents
 pub mod Crossing
 pub mod Granting
 pub mod Kept
+mod LeavingTold
 pub mod Maps
 pub mod Opened
 pub mod Others

@@ -1,5 +1,6 @@
 pub mod Blanks
 pub mod Booting
+pub mod CallLeaving
 pub mod Calls
 pub mod Cancelling
 pub mod Carried

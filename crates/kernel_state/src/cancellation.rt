@@ -3,7 +3,7 @@ ghost use Rattle.kernel_state.specs.Cancelling.{marked_by};
 
 /// How the call of a slot is cancelled, and whether it was: what others ask and change also while a processor works on
 /// the call. Where the slot is free it means nothing.
-#[derive(Clone, Copy, Debug, PartialEq, Eq)]
+#[derive(Clone, Copy)]
 pub struct Cancellation {
     /// The number of its session, 0 where it has none.
     pub session: u32,

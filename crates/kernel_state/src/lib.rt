@@ -13,6 +13,7 @@ mod carried;
 mod enter_refusal;
 mod kernel_core;
 mod laws;
+mod leaving;
 mod logging;
 mod parts;
 mod processor;
@@ -34,6 +35,7 @@ pub use laws::{
     answers_come_exactly, entries_stand_at_their_places, fixed_answers_pass, journals_stay_legal,
     returns_continue, work_can_leave, work_stays, work_stays_onward,
 };
+pub use leaving::{Leaving, Wanted};
 pub use logging::CoreBasis;
 pub use parts::Parts;
 pub use processor::{Errand, Processor};

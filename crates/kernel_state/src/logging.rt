@@ -1,7 +1,7 @@
 //! What a lock round a core sees of it: its events, each made by its processor, and what it was booted with.
 use crate::kernel_core::Core;
 use crate::setup::Setup;
-use core_lock::Logged;
+use base::Logged;
 use event_journal::Event;
 use std::marker::Model;
 

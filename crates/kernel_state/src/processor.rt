@@ -5,7 +5,7 @@ ghost use Rattle.kernel_state.specs.Processors.{processor_of};
 use smc_abi::{Answer, Regs};
 
 /// What a processor that is inside came for.
-#[derive(Clone, Copy, Debug, PartialEq, Eq)]
+#[derive(Clone, Copy)]
 pub enum Errand {
     /// An answer that was fixed as it came in.
     Fixed(Answer),
@@ -14,7 +14,7 @@ pub enum Errand {
 }
 
 /// A processor.
-#[derive(Clone, Copy, Debug, PartialEq, Eq)]
+#[derive(Clone, Copy)]
 pub enum Processor {
     /// It runs the normal world.
     Outside,

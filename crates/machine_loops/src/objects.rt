@@ -143,7 +143,7 @@ fn tell(alloc: Global, told: &mut String, step: &StorageStep) -> Result<(), Allo
 fn tell_open(told: &mut String, handles: &Handles, handle: u32) -> Result<(), AllocError> {
     match handles.get(handle) {
         Some(object) => {
-            let (fd, format) = (object.fd, object.format);
+            let (fd, format) = (object.fd, object.format.number());
             let (len, position) = (object.length, object.position);
             write!(
                 told,

@@ -1,5 +1,5 @@
 -- What reading gives, test by test.
-use Rattle.std.proofs.Common.{◌≡◌, ℕ, ◌+◌, ◌*◌, ◌/◌, ◌≤◌, Bool, false, cond, eqb, ltb, List, length, take, drop, map, Option, Some, None, Result, Ok, refl, sym, ap, ◌∙◌, arith}
+use Rattle.std.proofs.Common.{◌≡◌, ℕ, ◌+◌, ◌*◌, ◌≤◌, Bool, false, cond, eqb, ltb, List, length, take, drop, map, Option, Some, None, Result, Ok, refl, sym, ap, ◌∙◌, arith}
 use Rattle.std.specs.Simd.{first_chunks}
 use Rattle.std.proofs.lemmas.Bool.{le-ltb, eq-eqb}
 use Rattle.arrayvec.specs.ArrayVec.{ArrayVec}
@@ -30,12 +30,11 @@ none_from_ok (Some f) x y e = absurd cc
 abbrev done : MsgHead → ArrayVec MsgParam → Result MsgArg Misshapen
 done head params = Ok (record { head = head; params = params })
 
-pub all_is_read : (bytes head rest : List ℕ) (h : MsgHead) (spelled : List (List ℕ)) (r : Result (ArrayVec MsgParam) Misshapen) (params : ArrayVec MsgParam) → head ≡ take 32 bytes → rest ≡ drop 32 bytes → length rest + 32 ≡ length bytes → h ≡ head_at head → h.count ≤ 6 → length rest ≡ 32 * h.count → spelled ≡ first_chunks 32 (length rest / 32) rest → r ≡ params_of spelled → r ≡ Ok params → done h params ≡ argument bytes
-all_is_read bytes head rest h spelled r params e_head e_rest len e_h few whole e_spelled read ok =
+pub all_is_read : (bytes head rest : List ℕ) (h : MsgHead) (r : Result (ArrayVec MsgParam) Misshapen) (params : ArrayVec MsgParam) → head ≡ take 32 bytes → rest ≡ drop 32 bytes → length rest + 32 ≡ length bytes → h ≡ head_at head → h.count ≤ 6 → length rest ≡ 32 * h.count → r ≡ params_of (first_chunks 32 h.count rest) → r ≡ Ok params → done h params ≡ argument bytes
+all_is_read bytes head rest h r params e_head e_rest len e_h few whole read ok =
     let head-is : h ≡ head_at (take 32 bytes) = e_h ∙ ap head_at e_head in
     let count-is : h.count ≡ (head_at (take 32 bytes)).count = ap (λ (x : MsgHead). x.count) head-is in
-    let quotient : length rest / 32 ≡ (head_at (take 32 bytes)).count = omega arith in
-    let spelled-is : spelled ≡ pieces bytes = e_spelled ∙ ap (λ (n : ℕ). first_chunks 32 n rest) quotient ∙ ap (first_chunks 32 (head_at (take 32 bytes)).count) e_rest in
+    let spelled-is : first_chunks 32 h.count rest ≡ pieces bytes = ap (λ (n : ℕ). first_chunks 32 n rest) count-is ∙ ap (first_chunks 32 (head_at (take 32 bytes)).count) e_rest in
     let none = none_from_ok (bad_param (pieces bytes)) (record { items = map param_at (pieces bytes) }) params (sym (read ∙ ap params_of spelled-is) ∙ ok) in
     let no_fault : fault bytes ≡ None = fault_of_params bytes (omega arith) (omega arith) ∙ none.0 in
     ap (λ (x : MsgHead). done x params) head-is ∙ ap (done (head_at (take 32 bytes))) none.1 ∙ sym (ap (λ (o : Option Misshapen). unless o (record { head = head_at (take 32 bytes); params = record { items = map param_at (pieces bytes) } })) no_fault)

@@ -1,11 +1,11 @@
 -- The parameters behind the head: pieces of 32 bytes, each read and written by itself.
-use Rattle.std.proofs.Common.{◌≡◌, ℕ, zero, suc, ◌+◌, ◌*◌, ◌≤◌, Bool, true, false, cond, not, ltb, List, [], ◌∷◌, ◌++◌, length, take, drop, map, Option, Some, None, refl, sym, ap, ◌∙◌, arith, inl, inr, length-append}
+use Rattle.std.proofs.Common.{◌≡◌, ℕ, zero, suc, ◌+◌, ◌*◌, ◌≤◌, Bool, true, false, cond, not, ltb, List, [], ◌∷◌, ◌++◌, length, take, drop, map, Option, Some, None, refl, sym, ap, ap₂, ◌∙◌, arith, inl, inr, length-append}
 use Rattle.std.specs.Prelude.{All}
 use Rattle.std.specs.Option.{option_map}
 use Rattle.std.specs.List.{flat_map, position_or_len}
 use Rattle.std.specs.Simd.{first_chunks}
 use Rattle.std.proofs.lemmas.Bool.{cases_Bool, ltb-false}
-use Rattle.std.proofs.lemmas.List.{take-append-drop, length-take, length-drop, nil_from_length}
+use Rattle.std.proofs.lemmas.List.{take-append-drop, take-take, drop-take, length-take, length-drop, nil_from_length}
 use Rattle.std.proofs.lemmas.List.Elements.{All-cons, All-tail}
 use Rattle.msg_args.specs.declared.param.MsgParam.{MsgParam}
 use Rattle.msg_args.specs.declared.arg.Misshapen.{Misshapen}
@@ -46,6 +46,15 @@ good_parts x xs le =
 pub length-first_chunks : (n : ℕ) (bytes : List ℕ) → length (first_chunks 32 n bytes) ≡ n
 length-first_chunks zero bytes = refl
 length-first_chunks (suc n) bytes = ap suc (length-first_chunks n (drop 32 bytes))
+
+-- so many pieces, of bytes that are cut behind them
+pub first_chunks-take : (n : ℕ) (bytes : List ℕ) → first_chunks 32 n (take (32 * n) bytes) ≡ first_chunks 32 n bytes
+first_chunks-take zero bytes = refl
+first_chunks-take (suc n) bytes =
+    let more : 32 * suc n ≡ 32 + 32 * n = omega arith in
+    let first : take 32 (take (32 * suc n) bytes) ≡ take 32 bytes = take-take 32 (32 * suc n) bytes (omega arith) in
+    let others : drop 32 (take (32 * suc n) bytes) ≡ take (32 * n) (drop 32 bytes) = ap (λ (len : ℕ). drop 32 (take len bytes)) more ∙ drop-take 32 (32 * n) bytes in
+    ap₂ ◌∷◌ first (ap (first_chunks 32 n) others ∙ first_chunks-take n (drop 32 bytes))
 
 -- the pieces are the spelling of what is read from them
 pub pieces_back : (n : ℕ) (bytes : List ℕ) → length bytes ≡ 32 * n → IsBytes bytes → n ≤ good_len (first_chunks 32 n bytes) → (flat_map param_bytes (map param_at (first_chunks 32 n bytes)) ≡ bytes) × All IsAllowed (map param_at (first_chunks 32 n bytes)) × All FitsParam (map param_at (first_chunks 32 n bytes))

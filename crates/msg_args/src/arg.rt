@@ -1,4 +1,5 @@
-ghost use Rattle.std.specs.Prelude.{◌≡◌, ◌≤◌, length, Ok, IfOk, All};
+ghost use Rattle.std.specs.Prelude.{◌≡◌, ◌*◌, ◌≤◌, length, Ok, IfOk, All};
+ghost use Rattle.std.specs.Simd.{first_chunks};
 ghost use Rattle.arrayvec.specs.ArrayVec.{array_vec_len};
 ghost use Rattle.msg_args.specs.Attribute.{IsAllowed};
 ghost use Rattle.msg_args.specs.Spelling.{spelling, Spells};
@@ -14,7 +15,7 @@ use std::fmt;
 const MAX_PARAMS: u32 = 6;
 
 /// An argument: its head and its parameters. It has a spelling where the head counts the parameters.
-#[derive(Debug, Drop, PartialEq, Eq)]
+#[derive(Drop)]
 pub struct MsgArg {
     pub head: MsgHead,
     pub params: ArrayVec<MsgParam, 6>,
@@ -44,7 +45,18 @@ impl fmt::Display for Misshapen {
 
 impl Error for Misshapen {}
 
-fn read_params(spelled: &[[u8; 32]]) -> Result<ArrayVec<MsgParam, 6>, Misshapen>
+/// The parameters at the front of these bytes, so many pieces of 32 bytes, or the first fault of their attributes, which is
+/// `Attr`. The bytes are those behind a head, and the count is the head's.
+pub fn read_params(count: u32, bytes: &[u8]) -> Result<ArrayVec<MsgParam, 6>, Misshapen>
+    requires few { count ≤ 6 }
+    requires room { 32 * count ≤ length bytes.now }
+    ensures { result ≡ params_of (first_chunks 32 count bytes.now) }
+{
+    let (spelled, _) = bytes[..32 * count as usize].as_chunks::<32>();
+    read_pieces(spelled)
+}
+
+fn read_pieces(spelled: &[[u8; 32]]) -> Result<ArrayVec<MsgParam, 6>, Misshapen>
     requires { length spelled.now ≤ 6 }
     ensures { result ≡ params_of spelled.now }
 {
@@ -71,8 +83,7 @@ fn read(bytes: &[u8]) -> Result<MsgArg, Misshapen>
     if rest.len() != 32 * head.count as usize {
         return Err(Misshapen::Length);
     }
-    let (spelled, _) = rest.as_chunks::<32>();
-    let params = read_params(spelled)?;
+    let params = read_params(head.count, rest)?;
     Ok(MsgArg { head, params })
 }
 

@@ -9,7 +9,7 @@ use byteorder::{ByteOrder, LittleEndian};
 /// | Offset | 0 | 4 | 8 | 12 | 16 | 20 | 24 | 28 |
 /// |---|---|---|---|---|---|---|---|---|
 /// | Field | cmd | func | session | cancel_id | pad | ret | origin | count |
-#[derive(Clone, Copy, Debug, Default, PartialEq, Eq)]
+#[derive(Clone, Copy, Default)]
 pub struct MsgHead {
     /// One of `OPTEE_MSG_CMD_*`. Any other number is kept too.
     pub cmd: u32,

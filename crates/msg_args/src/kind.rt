@@ -11,7 +11,7 @@ use crate::constants::{
 
 /// What a parameter is, and which way it goes, as seen by the one who is called: values, registered
 /// memory (`Rmem`), or memory that the argument names by address (`Tmem`).
-#[derive(Clone, Copy, Debug, Default, PartialEq, Eq)]
+#[derive(Clone, Copy, Default)]
 pub enum ParamKind {
     #[default]
     Empty,

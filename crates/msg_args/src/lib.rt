@@ -17,7 +17,7 @@ mod laws;
 mod layout;
 mod param;
 
-pub use arg::{Misshapen, MsgArg, read_arg, write_arg};
+pub use arg::{Misshapen, MsgArg, read_arg, read_params, write_arg};
 pub use constants::{
     OPTEE_MSG_ATTR_CACHE_MASK, OPTEE_MSG_ATTR_CACHE_PREDEFINED, OPTEE_MSG_ATTR_CACHE_SHIFT,
     OPTEE_MSG_ATTR_META, OPTEE_MSG_ATTR_NONCONTIG, OPTEE_MSG_ATTR_TYPE_MASK,

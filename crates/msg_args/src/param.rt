@@ -20,7 +20,7 @@ use byteorder::{ByteOrder, LittleEndian};
 /// | Value | a | b | c |
 /// | Rmem | offset | size | shm_ref |
 /// | Tmem | buf_ptr | size | shm_ref |
-#[derive(Clone, Copy, Debug, Default, PartialEq, Eq)]
+#[derive(Clone, Copy, Default)]
 pub struct MsgParam {
     pub kind: ParamKind,
     pub meta: bool,

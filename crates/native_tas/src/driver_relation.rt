@@ -1,5 +1,5 @@
 /// What a driver answers to each number of notifications. This project's own.
-#[derive(Clone, Copy, Debug, PartialEq, Eq)]
+#[derive(Clone, Copy)]
 pub enum DriverRelation {
     /// The number itself.
     Echo,

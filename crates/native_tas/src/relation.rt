@@ -5,7 +5,7 @@ use crate::digesting::digest;
 use ta_params::CopiedParams;
 
 /// What a native application answers to each command with each parameters. This project's own.
-#[derive(Clone, Copy, Debug, PartialEq, Eq)]
+#[derive(Clone, Copy, PartialEq, Eq)]
 pub enum Relation {
     /// Command 0 writes the SHA-256 of the first buffer into the second.
     Digest,

@@ -5,10 +5,9 @@ ghost use Rattle.std.specs.Option.{option_map};
 ghost use Rattle.kernel_model.specs.Argument.{has_no_meta, invocation, octets};
 ghost use Rattle.kernel_model.specs.Argument.{is_rmem, params_in, registering, unregistering};
 ghost use Rattle.msg_args.specs.Attribute.{is_tmem};
-ghost use Rattle.msg_args.specs.Reading.{head_at};
 
 use arrayvec::ArrayVec;
-use msg_args::{MsgArg, MsgParam, ParamKind, read_arg};
+use msg_args::{MsgParam, ParamKind, read_params};
 
 /// The parameters in so many pieces of 32 bytes, where each has a valid attribute.
 pub(crate) fn params_in(count: u32, bytes: &[u8]) -> Option<ArrayVec<MsgParam, 6>>
@@ -16,22 +15,7 @@ pub(crate) fn params_in(count: u32, bytes: &[u8]) -> Option<ArrayVec<MsgParam, 6
     requires whole { length bytes.now ≡ 32 * count }
     ensures { option_map (λ params. params.items) result ≡ params_in count bytes.now }
 {
-    let mut whole: ArrayVec<u8, 224> = ArrayVec::new();
-    whole.try_extend_from_slice(&counting_head(count)).unwrap();
-    whole.try_extend_from_slice(bytes).unwrap();
-    match read_arg(whole.as_slice()) {
-        Ok(MsgArg { params, .. }) => Some(params),
-        Err(_) => None,
-    }
-}
-
-/// A head that counts so many parameters, and has nothing else.
-fn counting_head(count: u32) -> [u8; 32]
-    ensures { (head_at result).count ≡ count }
-{
-    let mut head = [0; 32];
-    head[28..].copy_from_slice(&count.to_le_bytes());
-    head
+    read_params(count, bytes).ok()
 }
 
 /// None of them is META.

@@ -9,7 +9,7 @@ use msg_args::{
 };
 
 /// A command of `optee_msg.h` that is served.
-#[derive(Clone, Copy, Debug, PartialEq, Eq)]
+#[derive(Clone, Copy)]
 pub(crate) enum Command {
     OpenSession,
     InvokeCommand,

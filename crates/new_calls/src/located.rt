@@ -17,14 +17,14 @@ use shm_registry::Registry;
 use smc_abi::{Call, Regs, decode_call};
 
 /// A cookie that names an argument, and how many bytes from there on stand in the same page and in the buffer.
-#[derive(Clone, Copy, Debug)]
+#[derive(Clone, Copy)]
 pub(crate) struct Named {
     pub cookie: u64,
     pub room: u32,
 }
 
 /// Where a call has its argument, whether it has an area behind that, and by what it is named, if a cookie does.
-#[derive(Clone, Copy, Debug)]
+#[derive(Clone, Copy)]
 pub(crate) struct Located {
     pub addr: u64,
     pub has_area: bool,

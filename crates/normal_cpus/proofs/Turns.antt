@@ -1,5 +1,5 @@
 -- What a turn makes of a pass, by what the lock says of the core before and after it.
-use Rattle.std.proofs.Common.{◌≡◌, ℕ, List, [], ◌∷◌, ◌++◌, ap, sym, subst, ◌∙◌}
+use Rattle.std.proofs.Common.{◌≡◌, ℕ, ◌^◌, ◌≤◌, List, [], ◌∷◌, ◌++◌, ap, sym, subst, ◌∙◌}
 use Rattle.std.specs.Prelude.{All}
 use Rattle.std.specs.List.{AllByRecursion}
 use Rattle.std.proofs.lemmas.List.{append-nil}
@@ -7,6 +7,7 @@ use Rattle.std.proofs.lemmas.List.Elements.{All-cons, All-nil}
 use mathlib.Core.List.{IsPrefix}
 use Rattle.core_lock.specs.Counts.{made_by}
 use Rattle.core_lock.specs.Passes.{made, number, seen}
+use Rattle.event_journal.specs.Journal.{copied_bytes}
 use Rattle.event_journal.specs.declared.event.Event.{Event}
 use Rattle.kernel_model.specs.Application.{Booted}
 use Rattle.kernel_model.specs.History.{IsLegal}
@@ -15,6 +16,7 @@ use Rattle.kernel_model.specs.Turns.{cpu_of}
 use Rattle.kernel_state.specs.Meaning.{booted_of, events_of}
 use Rattle.kernel_state.specs.declared.kernel_core.Core.{Core}
 use Rattle.kernel_state.proofs.CoreEvents.{core_is_legal}
+use Rattle.kernel_state.proofs.Told.{few_bytes}
 use Rattle.normal_cpus.specs.Seeing.{HasMade, HasOnlySeen}
 use Rattle.normal_cpus.specs.Sharing.{CpuPass}
 use Rattle.normal_cpus.proofs.OwnEvents.{others_behind}
@@ -70,10 +72,16 @@ legal_of boot history core booted is =
     subst (λ (events : List Event). IsLegal boot events) (sym is)
     (subst (λ (b : Booted). IsLegal b (events_of core)) booted (core_is_legal core))
 
+-- the entries of a core have read few bytes
+few_of : (history : List Event) (core : Core) → history ≡ events_of core → copied_bytes history ≤ 2 ^ 28
+few_of history core is =
+    subst (λ (events : List Event). copied_bytes events ≤ 2 ^ 28) (sym is) (few_bytes core.parts core.replay)
+
 pub only_seen : (boot : Booted) (old new : CpuPass) (before after : Core) → IsFound boot old before → IsGivenBack old new before after →
     booted_of after ≡ booted_of before → events_of after ≡ events_of before → HasOnlySeen boot old new
 only_seen boot old new before after found given same none = record {
   legal = legal_of boot (seen new) after (same ∙ found.booted) given.now_seen;
+  few = few_of (seen new) after given.now_seen;
   begins = subst (λ (events : List Event). IsPrefix (seen old) events) (sym (given.now_seen ∙ none)) found.begins;
   own = given.now_own;
   made_none = given.now_made [] (none ∙ sym (append-nil (events_of before))) ∙ append-nil (made old);
@@ -84,6 +92,7 @@ pub has_made : (boot : Booted) (old new : CpuPass) (before after : Core) (event 
     HasMade boot old new (events_of before) event
 has_made boot old new before after event found given same one = record {
   legal = legal_of boot (seen new) after (same ∙ found.booted) given.now_seen;
+  few = few_of (seen new) after given.now_seen;
   ends = given.now_seen ∙ one;
   begins = found.begins;
   own = given.now_own;

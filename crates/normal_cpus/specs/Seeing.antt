@@ -1,10 +1,11 @@
--- What a turn makes of a pass: what it has seen is a legal history, which goes on from all that it had seen. Of its own
--- processor that history has just the events that the pass made, in their order, each once.
-use Rattle.std.specs.Prelude.{◌≡◌, ℕ, List, [], ◌∷◌, ◌++◌, length}
+-- What a turn makes of a pass: what it has seen is a legal history, whose entries have read at most 2^28 bytes, and which goes on
+-- from all that it had seen. Of its own processor that history has just the events that the pass made, in their order, each once.
+use Rattle.std.specs.Prelude.{◌≡◌, ℕ, ◌^◌, ◌≤◌, List, [], ◌∷◌, ◌++◌, length}
 use Rattle.std.specs.List.{AllByRecursion}
 use mathlib.Core.List.{IsPrefix}
 use Rattle.core_lock.specs.Counts.{made_by}
 use Rattle.core_lock.specs.Passes.{made, number, seen}
+use Rattle.event_journal.specs.Journal.{copied_bytes}
 use Rattle.event_journal.specs.declared.event.Event.{Event}
 use Rattle.event_journal.specs.declared.event.Event.TheVariants.{Entry, Exit}
 use Rattle.kernel_model.specs.Application.{Booted}
@@ -16,6 +17,7 @@ use Rattle.normal_cpus.specs.Sharing.{CpuPass}
 -- the pass has seen a legal history that begins with all that it had seen, and has made no event
 pub record HasOnlySeen (boot : Booted) (old new : CpuPass) : Type 0 where
   pub legal : IsLegal boot (seen new)
+  pub few : copied_bytes (seen new) ≤ 2 ^ 28
   pub begins : IsPrefix (seen old) (seen new)
   pub own : made_by cpu_of (number old) (seen new) ≡ made new
   pub made_none : made new ≡ made old
@@ -24,6 +26,7 @@ pub record HasOnlySeen (boot : Booted) (old new : CpuPass) : Type 0 where
 -- had seen, and maybe more
 pub record HasMade (boot : Booted) (old new : CpuPass) (before : List Event) (event : Event) : Type 0 where
   pub legal : IsLegal boot (seen new)
+  pub few : copied_bytes (seen new) ≤ 2 ^ 28
   pub ends : seen new ≡ before ++ event ∷ []
   pub begins : IsPrefix (seen old) before
   pub own : made_by cpu_of (number old) (seen new) ≡ made new

@@ -6,7 +6,7 @@ ghost use Rattle.notif.specs.Desk.{answer_to, called, first_answer, signalled, w
 use native_tas::Natives;
 
 /// How often a driver was signalled since it was last called.
-#[derive(Clone, Copy, Debug, PartialEq, Eq)]
+#[derive(Clone, Copy)]
 pub struct DriverCount {
     /// The value of the driver, from 1 to 63.
     pub value: u32,

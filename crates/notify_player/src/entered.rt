@@ -15,7 +15,7 @@ use ns_ram::Read;
 use smc_abi::Regs;
 
 /// What an exit asks of the desk.
-#[derive(Clone, Copy, Debug, PartialEq, Eq)]
+#[derive(Clone, Copy)]
 pub struct Asked {
     /// The registers that its processor came in with.
     pub caller: Regs,

@@ -1,13 +1,11 @@
 -- From what was read, played and answered to what the word says of it.
-use Rattle.std.proofs.Common.{◌≡◌, ◌≢◌, ℕ, ◌≤◌, ◌⊎◌, inl, inr, List, [], ◌∷◌, ◌++◌, length, take, drop, Option, Some, None, refl, sym, ap, subst, ◌∙◌}
-use Rattle.std.specs.Prelude.{AllPairs, IfNone, IfSome}
+use Rattle.std.proofs.Common.{◌≡◌, ℕ, ◌≤◌, ◌⊎◌, inl, inr, List, [], ◌∷◌, ◌++◌, length, take, drop, Option, Some, None, refl, sym, ap, subst, ◌∙◌}
+use Rattle.std.specs.Prelude.{IfNone, IfSome}
 use Rattle.std.specs.Option.{option_and_then, option_map}
 use Rattle.std.proofs.lemmas.List.{take-append-drop}
 use Rattle.std.proofs.lemmas.Option.{option_and_then_some}
 use Rattle.base.specs.Zeros.{zeros}
-use Rattle.core_machine.proofs.Apart.{none_repeated}
 use Rattle.kernel_model.specs.Application.{Booted, IsBooted, Native, booted}
-use Rattle.kernel_state.proofs.Apart.{natives_if_none}
 use Rattle.notify_play.proofs.Asking.{steps_call_desk}
 use Rattle.notify_play.proofs.Following.{steps_are_played}
 use Rattle.notify_play.specs.NotifyPlay.{Drivers, NotifyPlay, after_step, after_steps, notify_played, unless_refused}
@@ -19,6 +17,7 @@ use Rattle.notify_text.specs.Steps.{Step, steps_of}
 use Rattle.notify_text.specs.declared.notify_trace.NotifyTrace.{NotifyTrace}
 use Rattle.ports.specs.Port.{Appends}
 use Rattle.ta_isa.specs.declared.boot.Boot.{Boot}
+use Rattle.trace_player.proofs.Booting.{AreApart, sound_boots}
 use Rattle.trace_player.specs.Starting.{uuids_of}
 use Rattle.trace_text.specs.Sound.{IsSoundBoot}
 use Rattle.word_parts.specs.Answer.{status_of_play}
@@ -44,22 +43,6 @@ one_meaning natives drivers input = record {
 }
 
 -- ---- booting
-
--- UUIDs of built-in applications are apart
-abbrev pub AreApart : List (List ℕ) → Type 0
-AreApart uuids = AllPairs (λ (earlier later : List ℕ). earlier ≢ later) uuids
-
--- a core can be booted beside built-in applications whose UUIDs are few and apart
-sound_boots : (natives : List Native) (boot : Boot) → length (uuids_of natives) ≤ 16 → AreApart (uuids_of natives)
-    → IsSoundBoot (uuids_of natives) boot → IsBooted (booted boot natives)
-sound_boots natives boot few apart sound = record {
-  boot = boot;
-  natives = natives;
-  is_boot = sound.boots;
-  are_natives = natives_if_none None boot natives (uuids_of natives) boot.apps
-      (sym (none_repeated (uuids_of natives) boot sound)) refl refl few apart;
-  same = refl;
-}
 
 by_boot : (natives : List Native) (told : NotifyTrace) (boot : Option Boot) → length (uuids_of natives) ≤ 16
     → AreApart (uuids_of natives) → IfSome boot (IsSoundBoot (uuids_of natives))

@@ -2,7 +2,7 @@ use base::Sequence;
 use trace_text::Trace;
 
 /// The hardware signals a value.
-#[derive(Clone, Copy, Debug, PartialEq, Eq)]
+#[derive(Clone, Copy)]
 pub struct Signal {
     /// How many items of the trace stand before it.
     pub at: usize,
@@ -11,7 +11,7 @@ pub struct Signal {
 }
 
 /// A trace, and the signals between its items, in their order. Without a boot there are no signals.
-#[derive(Debug, Drop)]
+#[derive(Drop)]
 pub struct NotifyTrace {
     pub trace: Trace,
     pub signals: Sequence<Signal>,

@@ -1,7 +1,7 @@
 use base::Sequence;
 
 /// One read of the normal world's RAM.
-#[derive(Debug, Drop)]
+#[derive(Drop)]
 pub struct Read {
     /// The address of the first byte.
     pub addr: u64,

@@ -10,7 +10,7 @@ use std::alloc::Global;
 use std::marker::Model;
 
 /// What one call read of the normal world's RAM, in the order of the reads. A read of no bytes isn't listed.
-#[derive(Debug, Drop)]
+#[derive(Drop)]
 pub struct Reads {
     list: Vec<Read>,
 }

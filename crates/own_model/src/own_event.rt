@@ -2,7 +2,7 @@ use rpc_msgs::RpcReply;
 use ta_params::{CopiedParams, Login};
 
 /// What came of the parameters of an invoke.
-#[derive(Debug, Drop)]
+#[derive(Drop)]
 pub enum OwnInput {
     /// They were copied.
     Copied(CopiedParams),
@@ -13,7 +13,7 @@ pub enum OwnInput {
 }
 
 /// What a resume brought a call that had asked for something.
-#[derive(Debug, Drop)]
+#[derive(Drop)]
 pub enum BackInput {
     /// Nothing: the call had given its buffer back.
     Nothing,
@@ -27,7 +27,7 @@ pub enum BackInput {
 
 /// What happens to one session. Its calls are numbered from 0 in the order in which they come in. This project's
 /// own.
-#[derive(Debug, Drop)]
+#[derive(Drop)]
 pub enum OwnEvent {
     /// The open comes in, which is the session's first call. Of each call `area` says whether it has an area for the
     /// arguments of its requests.

@@ -3,7 +3,7 @@ use ta_params::{Buf, CopiedParams};
 
 /// What one session is answered, or one of a group's. No thread, address, cookie or session number stands in it. This
 /// project's own.
-#[derive(Debug, Drop)]
+#[derive(Drop)]
 pub enum OwnReply {
     /// A call wants a buffer for its request.
     Alloc,

@@ -22,7 +22,7 @@ use ta_params::CopiedParams;
 pub const MAX_MEMREF_BYTES: u64 = 65536;
 
 /// Where a parameter of a call came from, and where its results go.
-#[derive(Debug, Drop)]
+#[derive(Drop)]
 pub struct Place {
     /// The number of the parameter in the argument, counted from 0.
     pub number: u8,
@@ -44,7 +44,7 @@ impl MadeWith<Global> for Place {
 pub type Places = ArrayVec<Place, 4, Global>;
 
 /// The parameters of a call, copied out of RAM.
-#[derive(Debug, Drop)]
+#[derive(Drop)]
 pub struct Copied {
     /// The parameters; behind the last one all are empty.
     pub params: CopiedParams,

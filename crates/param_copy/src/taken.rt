@@ -17,7 +17,7 @@ pub(crate) struct CopiedParam {
 }
 
 /// The parameters of a call, copied out of RAM, without what was read.
-#[derive(Debug, Drop)]
+#[derive(Drop)]
 pub struct TakenParams {
     /// The parameters; behind the last one all are empty.
     pub params: CopiedParams,

@@ -25,7 +25,7 @@ use Rattle.play_model.specs.TrueToKernel.{ChangesNothing, ExitsIn, PlaysAreTrue,
 use Rattle.play_model.proofs.Items.{traces_are_played}
 use Rattle.play_model.proofs.Returns.{kernel_before, legal_before, one_more, returns_in}
 
-exits_in : (boot : Booted) (history : List Event) → IsLegal boot history → ExitsIn boot history
+pub exits_in : (boot : Booted) (history : List Event) → IsLegal boot history → ExitsIn boot history
 exits_in boot history legal before behind cpu regs cut = exits_follow boot before behind cpu regs (subst (IsLegal boot) cut legal)
 
 -- ---- returns from RPC that find no call
@@ -97,7 +97,7 @@ module _ (boot : Booted) (before between : List Event) (visit : Visit) (reads : 
         writes_nothing = out;
       }
 
-refused_in : (boot : Booted) (history : List Event) → IsLegal boot history → RefusedIn boot history
+pub refused_in : (boot : Booted) (history : List Event) → IsLegal boot history → RefusedIn boot history
 refused_in boot history legal before between behind visit reads told kernel cut others there finds =
     changes_nothing boot before between visit reads told kernel others there finds
     (legal_before boot (came_and_went before visit reads between told) behind (subst (IsLegal boot) cut legal))

@@ -4,7 +4,7 @@ ghost use Rattle.ports.specs.FaultPlan.{is_failing, fresh, passed, failed};
 use std::marker::Model;
 
 /// Which calls fail, the number of the next call, and how many have failed.
-#[derive(Debug, Drop)]
+#[derive(Drop)]
 pub(crate) struct FaultPlan {
     /// The numbers of the calls that fail, counted from 0.
     fails: Vec<u32>,

@@ -9,7 +9,7 @@ use std::alloc::Global;
 use std::marker::Model;
 
 /// A sink that holds its bytes in memory, and whose calls fail as they were told to.
-#[derive(Debug, Drop)]
+#[derive(Drop)]
 pub struct MemSink {
     held: Vec<u8>,
     plan: FaultPlan,

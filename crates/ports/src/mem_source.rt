@@ -8,7 +8,7 @@ use crate::source::{Source, Taken};
 use std::marker::Model;
 
 /// A source over bytes in memory, whose calls fail as they were told to.
-#[derive(Debug, Drop)]
+#[derive(Drop)]
 pub struct MemSource {
     bytes: Vec<u8>,
     /// How many of the bytes are gone.

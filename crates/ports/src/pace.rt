@@ -6,7 +6,7 @@ pub trait Pace {
 }
 
 /// Does nothing.
-#[derive(Clone, Copy, Debug, PartialEq, Eq)]
+#[derive(Clone, Copy)]
 pub struct NoPace;
 
 impl Pace for NoPace {

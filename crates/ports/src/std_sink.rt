@@ -9,7 +9,7 @@ use std::io::Write;
 use std::marker::Model;
 
 /// A write or a flush failed, or a write took no bytes.
-#[derive(Clone, Copy, Debug, PartialEq, Eq)]
+#[derive(Clone, Copy)]
 struct Fault;
 
 /// A sink over a writer: the edge to the outside, of whose bytes no contract speaks. A write of 0 bytes
@@ -17,7 +17,7 @@ struct Fault;
 ///
 /// A call writes until the writer has taken all its bytes, and flushes, so that it keeps none of them back
 /// after `Done`.
-#[derive(Debug, Drop)]
+#[derive(Drop)]
 pub struct StdSink<W> {
     writer: W,
     faults: u64,

@@ -9,7 +9,7 @@ use std::io::Read;
 use std::marker::Model;
 
 /// Why a reader stopped.
-#[derive(Clone, Copy, Debug, PartialEq, Eq)]
+#[derive(Clone, Copy)]
 pub enum Stop {
     /// A read gave no bytes.
     End,
@@ -23,7 +23,7 @@ pub enum Stop {
 /// A call reads until its buffer is full, or the reader stops. Where it stops with bytes read, the call
 /// gives these, and the next call answers why it stopped, without a read. An empty buffer is `End`, and
 /// changes nothing.
-#[derive(Debug, Drop)]
+#[derive(Drop)]
 pub struct StdSource<R: Read> {
     reader: R,
     faults: u64,

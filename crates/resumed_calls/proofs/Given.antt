@@ -18,10 +18,10 @@ use Rattle.rpc_msgs.specs.declared.request_place.RequestPlace.{RequestPlace}
 use Rattle.resumed_calls.proofs.Facts.{places_prop, request_prop}
 use Rattle.resumed_calls.proofs.Requests.{GoesThere, goes_in}
 use Rattle.resumed_calls.specs.Giving.{CanBeGiven}
-use Rattle.call_leaving.specs.Leaving.{leaving_as, request_of}
-use Rattle.call_leaving.specs.declared.leaving.Leaving.{Leaving}
-use Rattle.call_leaving.specs.declared.leaving.Leaving.TheVariants.{Requests}
-use Rattle.call_leaving.specs.declared.leaving.Wanted.{Wanted}
+use Rattle.kernel_state.specs.CallLeaving.{leaving_as, request_of}
+use Rattle.kernel_state.specs.declared.leaving.Leaving.{Leaving}
+use Rattle.kernel_state.specs.declared.leaving.Leaving.TheVariants.{Requests}
+use Rattle.kernel_state.specs.declared.leaving.Wanted.{Wanted}
 
 -- a call goes out so, whichever call of the kernel it is
 abbrev pub GoesOut : ℕ → Cont (List ℕ) → Leaving → Type 0

@@ -1,6 +1,6 @@
 //! What a resume gives a call.
 ghost use Rattle.std.specs.Prelude.{◌≡◌, ◌<◌, IfOk, IsSome, OnErr, Some};
-ghost use Rattle.call_leaving.specs.Leaving.{request_of};
+ghost use Rattle.kernel_state.specs.CallLeaving.{request_of};
 ghost use Rattle.kernel_model.specs.Argument.{pair_at};
 ghost use Rattle.kernel_model.specs.Given.{given_to, offered_buffer};
 ghost use Rattle.kernel_model.specs.Kernel.{PendingCall};
@@ -11,8 +11,8 @@ ghost use Rattle.rpc_msgs.specs.Request.{IsRequest};
 ghost use Rattle.resumed_calls.specs.Giving.{CanBeGiven, buffer_as, given_as};
 
 use base::NoMemory;
-use call_leaving::{Leaving, Wanted};
 use frame_pool::Pages;
+use kernel_state::{Leaving, Wanted};
 use ns_ram::{Lane, Reads, in_ram};
 use rpc_cont::{Cont, ResumeInput};
 use rpc_msgs::{MESSAGE_BYTES, RequestPlace, RpcBuffer, RpcReply, take_reply};

@@ -9,7 +9,7 @@ use ta_step::{Machine, TaMemory};
 use tee_storage::{Handles, Key, ObjectState};
 
 /// What a call asks the normal world for, and the bytes that go with it.
-#[derive(Debug, Drop)]
+#[derive(Drop)]
 pub struct Asked {
     pub rpc: Rpc,
     pub payload: Payload,

@@ -1,7 +1,7 @@
 use rpc_msgs::RpcReply;
 
 /// What a call is resumed with.
-#[derive(Debug, Drop)]
+#[derive(Drop)]
 pub enum ResumeInput {
     /// Nothing: it gave its buffer back, or was interrupted.
     Nothing,

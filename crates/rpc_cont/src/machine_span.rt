@@ -9,7 +9,7 @@ ghost use Rattle.ta_step.specs.State.{State};
 ghost use Rattle.ta_step.specs.SystemCalls.{is_range};
 ghost use Rattle.tee_storage.specs.ObjectCalls.{range_len};
 
-use ta_step::{Machine, ObjectCall, TaMemory};
+use ta_step::{Machine, ObjectCall, TaMemory, object_span};
 use tee_storage::Span;
 
 /// So many bytes of a machine from an address on, all of them in one range.
@@ -19,17 +19,6 @@ pub(crate) struct MachineSpan<M: TaMemory> {
     addr: u32,
     len: u32,
     ghost inside: { is_range (state_of M.bytes machine) addr len ≡ true },
-}
-
-/// Where the bytes stand that the call names, and how many they are.
-fn span_of(call: ObjectCall) -> (u32, u32)
-    ensures { (result.0, result.1) ≡ object_span call }
-{
-    match call {
-        ObjectCall::Create { id, len } | ObjectCall::Opened { id, len } => (id, len),
-        ObjectCall::Read { addr, len, .. } | ObjectCall::Write { addr, len, .. } => (addr, len),
-        ObjectCall::Seek { .. } | ObjectCall::Close { .. } | ObjectCall::Delete { .. } => (0, 0),
-    }
 }
 
 impl<M: TaMemory> MachineSpan<M> {
@@ -42,7 +31,7 @@ impl<M: TaMemory> MachineSpan<M> {
         ensures rest { let span = object_span call in
             ⟦<MachineSpan<M> as Span>⟧.rest result ≡ rest_of (state_of M.bytes machine) span.0 span.1 }
     {
-        let (addr, len) = span_of(call);
+        let (addr, len) = object_span(call);
         MachineSpan { machine, addr, len }
     }
 

@@ -1,5 +1,5 @@
 /// How far a call has come. This project's own.
-#[derive(Clone, Copy, Debug, PartialEq, Eq)]
+#[derive(Clone, Copy)]
 pub enum Phase {
     /// Its application runs.
     Runs,

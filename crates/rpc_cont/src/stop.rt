@@ -5,7 +5,7 @@ use crate::phase::Phase;
 use ta_params::CallResult;
 
 /// Why a call stopped.
-#[derive(Clone, Copy, Debug, PartialEq, Eq)]
+#[derive(Clone, Copy, PartialEq, Eq)]
 pub enum ContStop {
     /// All granted steps are used.
     Interrupted,

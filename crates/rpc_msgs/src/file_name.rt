@@ -12,7 +12,7 @@ pub const MAX_FILE_NAME: usize = 161;
 
 /// The name of a file in the storage of the normal world: at most 161 bytes, all of them ASCII. Contracts
 /// see the list of its bytes.
-#[derive(Clone, Debug, Drop, PartialEq, Eq)]
+#[derive(Clone, Debug, Drop)]
 pub struct FileName {
     bytes: ArrayVec<u8, MAX_FILE_NAME>,
 }

@@ -14,6 +14,7 @@
 //! Only `take_reply` takes memory, for its list of reads.
 #![tactic(auto)]
 
+pub mod commands;
 mod examples;
 mod fault;
 mod file_name;
@@ -31,7 +32,9 @@ pub use file_name::{FileName, MAX_FILE_NAME};
 pub use laws::{readings_are_replies, replies_are_read, requests_stay_in_their_places};
 pub use payload::{MAX_PAYLOAD, Payload};
 pub use reply::{read_reply, take_reply};
-pub use request::{ARGUMENT_BYTES, MESSAGE_BYTES, PAYLOAD_OFFSET, put_request, put_request_at};
+pub use request::{
+    ARGUMENT_BYTES, MESSAGE_BYTES, PAYLOAD_OFFSET, put_request, put_request_at, request_arg,
+};
 pub use request_place::RequestPlace;
 pub use rpc::{Rpc, RpcReply};
 pub use rpc_buffer::RpcBuffer;

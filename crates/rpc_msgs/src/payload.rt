@@ -7,7 +7,7 @@ use std::marker::Model;
 pub const MAX_PAYLOAD: usize = 3584;
 
 /// The bytes that go with a message: at most 3584. Contracts see the list of them.
-#[derive(Clone, Debug, Drop, PartialEq, Eq)]
+#[derive(Clone, Debug, Drop)]
 pub struct Payload {
     bytes: ArrayVec<u8, MAX_PAYLOAD>,
 }

@@ -6,6 +6,12 @@ ghost use Rattle.ns_ram.specs.Writes.{lane_after};
 ghost use Rattle.rpc_msgs.specs.Place.{HasPlaces, arg_at, buffer_at, writes_at};
 ghost use Rattle.rpc_msgs.specs.Request.{IsPayloadOf, IsRequest, argument, files, param, payload_in, payload_out, request_arg, request_writes, value_in, value_out};
 
+use crate::commands::{
+    OPTEE_RPC_CMD_FS, OPTEE_RPC_CMD_GET_TIME, OPTEE_RPC_CMD_NOTIFICATION, OPTEE_RPC_CMD_SUSPEND,
+    OPTEE_RPC_FS_CLOSE, OPTEE_RPC_FS_CREATE, OPTEE_RPC_FS_OPEN, OPTEE_RPC_FS_READ,
+    OPTEE_RPC_FS_REMOVE, OPTEE_RPC_FS_WRITE, OPTEE_RPC_NOTIFICATION_SEND,
+    OPTEE_RPC_NOTIFICATION_WAIT,
+};
 use crate::file_name::FileName;
 use crate::request_place::RequestPlace;
 use crate::rpc::Rpc;
@@ -21,30 +27,6 @@ pub const ARGUMENT_BYTES: u64 = 160;
 
 /// Where the payload stands in its buffer.
 pub const PAYLOAD_OFFSET: u64 = 512;
-
-const OPTEE_RPC_CMD_FS: u32 = 2;
-
-const OPTEE_RPC_CMD_GET_TIME: u32 = 3;
-
-const OPTEE_RPC_CMD_NOTIFICATION: u32 = 4;
-
-const OPTEE_RPC_CMD_SUSPEND: u32 = 5;
-
-const OPTEE_RPC_NOTIFICATION_WAIT: u64 = 0;
-
-const OPTEE_RPC_NOTIFICATION_SEND: u64 = 1;
-
-const OPTEE_RPC_FS_OPEN: u64 = 0;
-
-const OPTEE_RPC_FS_CREATE: u64 = 1;
-
-const OPTEE_RPC_FS_CLOSE: u64 = 2;
-
-const OPTEE_RPC_FS_READ: u64 = 3;
-
-const OPTEE_RPC_FS_WRITE: u64 = 4;
-
-const OPTEE_RPC_FS_REMOVE: u64 = 6;
 
 /// The result of a request that isn't answered.
 const NO_RESULT: u32 = 0xffff0000;
@@ -77,8 +59,9 @@ pub fn put_request_at(lane: &mut Lane, place: &RequestPlace, rpc: &Rpc, payload:
     put_request(lane, place.arg(), place.payload_place(), rpc, payload);
 }
 
-/// The argument of a request, whose payload, if it has one, stands in the buffer of this cookie at this address.
-fn request_arg(buffer: u64, cookie: u64, rpc: &Rpc) -> MsgArg
+/// The argument of a request, whose payload, if it has one, stands in the buffer of this cookie at this address, below 2^63.
+/// It has one to three parameters, and its result says that there is none yet.
+pub fn request_arg(buffer: u64, cookie: u64, rpc: &Rpc) -> MsgArg
     requires { buffer < 2 ^ 63 }
     ensures arg { result ≡ request_arg buffer cookie rpc.now }
     // The payload has a place in the message.

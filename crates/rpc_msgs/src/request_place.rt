@@ -5,7 +5,7 @@ use crate::rpc::Rpc;
 use crate::rpc_buffer::RpcBuffer;
 
 /// Where a request stands.
-#[derive(Clone, Copy, Debug, PartialEq, Eq)]
+#[derive(Clone, Copy)]
 pub enum RequestPlace {
     /// In a buffer: the argument at its start, and the payload behind it.
     InBuffer(RpcBuffer),

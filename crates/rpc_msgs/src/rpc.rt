@@ -7,7 +7,7 @@ use crate::payload::Payload;
 
 /// What a call asks the normal world for. The commands are OP-TEE's in name; their numbers and parameters are
 /// this project's own.
-#[derive(Clone, Debug, Drop, PartialEq, Eq)]
+#[derive(Clone, Debug, Drop)]
 pub enum Rpc {
     /// The time of day, in seconds and nanoseconds.
     Time,
@@ -48,7 +48,7 @@ impl Rpc {
 }
 
 /// What the normal world answered to a request. A field that the request doesn't read is 0, or empty.
-#[derive(Clone, Debug, Drop, PartialEq, Eq)]
+#[derive(Clone, Drop)]
 pub struct RpcReply {
     /// 0, or a code of the GlobalPlatform API.
     pub ret: u32,

@@ -4,7 +4,7 @@ ghost use Rattle.session_table.specs.Session.{is_of, is_opened_of, opened_with, 
 use ta_params::Login;
 
 /// A session of a client with an instance.
-#[derive(Clone, Copy, Debug, PartialEq, Eq)]
+#[derive(Clone, Copy)]
 pub struct Session {
     /// The client that opened it, by its number.
     pub client: u32,

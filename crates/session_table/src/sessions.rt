@@ -15,7 +15,7 @@ pub const MAX_SESSIONS: usize = 64;
 
 /// The sessions by their numbers, and the number that the next one gets. Numbers rise from 1, and none is
 /// given twice.
-#[derive(Debug, Drop)]
+#[derive(Drop)]
 pub struct Sessions {
     kept: NumberTable<Session, MAX_SESSIONS>,
     /// The last number that was given, 0 at the start.
@@ -34,7 +34,7 @@ impl Model for Sessions {
 }
 
 /// How many sessions an instance has.
-#[derive(Clone, Copy, Debug, PartialEq, Eq)]
+#[derive(Clone, Copy)]
 pub struct Users {
     /// Those that are opened or being opened.
     pub all: u32,

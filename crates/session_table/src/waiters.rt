@@ -9,7 +9,7 @@ use uuid::Uuid;
 pub const MAX_WAITERS: usize = 16;
 
 /// A call that waits for an instance.
-#[derive(Clone, Copy, Debug, Default, PartialEq, Eq)]
+#[derive(Clone, Copy, Default)]
 pub struct Waiter {
     /// The number of the instance.
     pub instance: u32,
@@ -21,7 +21,7 @@ pub struct Waiter {
 
 /// The calls that wait for an instance, each in a slot of its own, in the order in which they began to.
 /// No call takes memory.
-#[derive(Debug, Drop)]
+#[derive(Drop)]
 pub struct Waiters {
     waiters: ArrayVec<Waiter, MAX_WAITERS>,
 }

@@ -4,7 +4,7 @@ use std::alloc::Global;
 use trace_text::Item;
 
 /// Which half of an item is done under a turn: an `smc` has both.
-#[derive(Clone, Copy, PartialEq, Eq)]
+#[derive(Clone, Copy)]
 pub enum Half {
     Comes,
     Goes,

@@ -1,7 +1,7 @@
 use base::Sequence;
 
 /// A buffer that the normal world has registered.
-#[derive(Debug, Drop)]
+#[derive(Drop)]
 pub struct PageBuffer {
     /// The addresses of its pages, in the order of its bytes.
     pub pages: Sequence<u64>,

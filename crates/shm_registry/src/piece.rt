@@ -8,7 +8,7 @@ use ns_ram::PAGE_BYTES;
 use std::alloc::Global;
 
 /// A part of a buffer that lies in RAM in one.
-#[derive(Clone, Copy, Debug, PartialEq, Eq)]
+#[derive(Clone, Copy)]
 pub struct Piece {
     /// The address of the first byte.
     pub addr: u64,

@@ -1,5 +1,5 @@
 /// A registered buffer is in use by the call of a thread slot.
-#[derive(Clone, Copy, Debug, PartialEq, Eq)]
+#[derive(Clone, Copy)]
 pub struct Pin {
     /// The cookie of the buffer.
     pub cookie: u64,

@@ -30,7 +30,7 @@ pub const RPC_INTERRUPT: u32 = 0xffff_0004;
 pub const RPC_CMD: u32 = 0xffff_0005;
 
 /// What a call is answered. A thread is the number to resume with.
-#[derive(Clone, Copy, Debug, PartialEq, Eq)]
+#[derive(Clone, Copy)]
 pub enum Answer {
     /// The words of a0 to a3.
     Words(u32, u32, u32, u32),

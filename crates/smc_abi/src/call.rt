@@ -35,7 +35,7 @@ pub const CALL_WITH_RPC_ARG: u32 = 0x3200_0012;
 pub const CALL_WITH_REGD_ARG: u32 = 0x3200_0013;
 
 /// A call that is answered at once, from its registers and the number of threads.
-#[derive(Clone, Copy, Debug, PartialEq, Eq)]
+#[derive(Clone, Copy)]
 pub enum FastCall {
     CallsUid,
     CallsRevision,
@@ -49,7 +49,7 @@ pub enum FastCall {
 }
 
 /// What a call's registers ask for.
-#[derive(Clone, Copy, Debug, PartialEq, Eq)]
+#[derive(Clone, Copy)]
 pub enum Call {
     Fast(FastCall),
     /// A new yielding call, with a message argument in shared memory.

@@ -3,11 +3,11 @@ ghost use Rattle.std.specs.Prelude.{⊤, [], ◌∷◌, codes};
 use bitflags::{Flag, Flags, bitflag_items};
 
 /// What the normal world can do, `OPTEE_SMC_NSEC_CAP_*`.
-#[derive(Clone, Copy, PartialEq, Eq, Debug)]
+#[derive(Clone, Copy)]
 pub struct NormalCapabilities(pub u32);
 
 /// What the secure world can do, `OPTEE_SMC_SEC_CAP_*`.
-#[derive(Clone, Copy, PartialEq, Eq, Debug)]
+#[derive(Clone, Copy)]
 pub struct SecureCapabilities(pub u32);
 
 bitflag_items! {

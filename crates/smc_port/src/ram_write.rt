@@ -5,7 +5,7 @@ ghost use Rattle.ns_ram.specs.Writes.{IsWriteOfRam};
 use std::marker::Model;
 
 /// Bytes that go to an address of RAM.
-#[derive(Debug, Drop)]
+#[derive(Drop)]
 pub struct RamWrite {
     addr: u64,
     bytes: Vec<u8>,

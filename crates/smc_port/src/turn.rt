@@ -3,7 +3,7 @@ use base::Sequence;
 use smc_abi::Regs;
 
 /// What a port that answers by a list does at one SMC.
-#[derive(Debug, Drop)]
+#[derive(Drop)]
 pub struct Turn {
     /// The registers after it.
     pub answer: Regs,

@@ -64,7 +64,7 @@ pub fn waiting_call(
         (fresh_call entering.kind entering.area (Waits (kept_params (option_copied params.entry))))) }
     ensures fresh { IfOk result CanBegin }
 {
-    let params = copied_if_some(alloc, params)?;
+    let params = copied_if_some(params)?;
     let mut cont = Cont::waiting(key, entry_of(alloc, entering, params));
     cont.app = Some(ContApp::Dead { uuid });
     Ok(cont)

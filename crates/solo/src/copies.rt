@@ -1,53 +1,19 @@
-//! Copies of what an event brings, and of the image that a session's application runs.
+//! Copies of what an event brings.
 ghost use Rattle.std.specs.Prelude.{◌≡◌, IfOk};
 ghost use Rattle.std.specs.Option.{option_copied};
 
-use base::{NoMemory, Sequence};
+use base::NoMemory;
 use rpc_msgs::{FileName, Rpc};
-use std::alloc::Global;
-use ta_isa::Image;
-use ta_params::{Buf, CopiedParams, GpParam};
+use ta_params::CopiedParams;
 
-/// A parameter.
-fn copied_param(alloc: Global, param: &GpParam) -> Result<GpParam, NoMemory>
-    ensures { IfOk result (λ copy. copy ≡ param.now) }
-{
-    Ok(match param {
-        GpParam::Empty => GpParam::Empty,
-        GpParam::Value { way, a, b } => GpParam::Value {
-            way: *way,
-            a: *a,
-            b: *b,
-        },
-        GpParam::Memref { way, buf, size } => GpParam::Memref {
-            way: *way,
-            buf: Buf::of(buf.bytes().to_vec(alloc)?),
-            size: *size,
-        },
-    })
-}
-
-/// The four parameters of a call.
-fn copied_params(alloc: Global, params: &CopiedParams) -> Result<CopiedParams, NoMemory>
-    ensures { IfOk result (λ copy. copy ≡ params.now) }
-{
-    Ok(CopiedParams {
-        p0: copied_param(alloc, &params.p0)?,
-        p1: copied_param(alloc, &params.p1)?,
-        p2: copied_param(alloc, &params.p2)?,
-        p3: copied_param(alloc, &params.p3)?,
-    })
-}
-
-/// Those of a call that has any.
+/// The parameters of a call that has any.
 pub(crate) fn copied_if_some(
-    alloc: Global,
     params: Option<&CopiedParams>,
 ) -> Result<Option<CopiedParams>, NoMemory>
     ensures { IfOk result (λ copy. copy ≡ option_copied params.entry) }
 {
     match params {
-        Some(params) => Ok(Some(copied_params(alloc, params)?)),
+        Some(params) => Ok(Some(params.clone()?)),
         None => Ok(None),
     }
 }
@@ -86,16 +52,4 @@ pub(crate) fn copied_rpc(rpc: &Rpc) -> Rpc
         },
         Rpc::FsRemove(name) => Rpc::FsRemove(copied_name(name)),
     }
-}
-
-/// An image.
-pub(crate) fn copied_image(alloc: Global, image: &Image) -> Result<Image, NoMemory>
-    ensures { IfOk result (λ copy. copy ≡ image.now) }
-{
-    Ok(Image {
-        flags: image.flags,
-        pages: image.pages,
-        entries: image.entries,
-        code: Sequence::of(image.code.as_slice().to_vec(alloc)?),
-    })
 }

@@ -13,7 +13,6 @@ ghost use Rattle.own_model.specs.Solo.{made, unopened};
 ghost use Rattle.ta_isa.specs.Boots.{IsBoot};
 ghost use Rattle.solo.specs.Standing.{IsSolo, app_in, instance_of};
 
-use crate::copies::copied_image;
 use crate::kept_instance::KeptInstance;
 use crate::solo_session::SoloSession;
 use base::NoMemory;
@@ -33,7 +32,7 @@ const PAGE_BYTES: u32 = 4096;
 pub fn shared_app(alloc: Global, app: &App) -> Result<Application, NoMemory>
     ensures { IfOk result (λ shared. application_of shared ≡ OfImage app.now) }
 {
-    let image = Arc::new(alloc, copied_image(alloc, &app.image)?)?;
+    let image = Arc::new(alloc, app.image.clone()?)?;
     Ok(Application::OfImage(SharedApp {
         uuid: app.uuid,
         image,

@@ -1,7 +1,15 @@
 pub mod Answering
+pub mod Arguments
+pub mod Candidates
+pub mod Comparing
 pub mod Entries
+pub mod Finding
 pub mod Found
 pub mod Free
 pub mod Freed
+pub mod Helds
 pub mod Lengthened
+pub mod Readings
 pub mod Replying
+pub mod Values
+pub mod Written

@@ -1,6 +1,8 @@
 ghost use Rattle.supplicant.specs.Examples.{Examples};
+ghost use Rattle.supplicant.specs.RequestExamples.{RequestExamples};
 
 /// The definitions on small inputs.
 pub fn worked_examples()
-    ensures { Examples }
+    ensures files { Examples }
+    ensures requests { RequestExamples }
 {}

@@ -7,7 +7,7 @@ use std::alloc::Global;
 use std::marker::Model;
 
 /// The bytes of a file.
-#[derive(Debug, Drop)]
+#[derive(Drop)]
 pub(crate) struct File {
     bytes: Vec<u8>,
 }

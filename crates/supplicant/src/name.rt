@@ -9,7 +9,7 @@ use std::cmp::Ordering;
 use std::marker::Model;
 
 /// A file name as the key of a map, in the order of its bytes. Contracts see the list of them.
-#[derive(Debug, Drop)]
+#[derive(Drop)]
 pub(crate) struct Name {
     bytes: ArrayVec<u8, MAX_FILE_NAME>,
 }

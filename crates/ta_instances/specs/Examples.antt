@@ -1,6 +1,7 @@
 -- The definitions on small inputs.
 use Rattle.std.specs.Prelude.{◌≡◌, ℕ, true, false, List, [], ◌∷◌, Some, None, replicate}
 use Rattle.base.specs.NumberMap.{NumberMap, get, remove}
+use Rattle.tee_storage.specs.declared.handle.FileFormat.TheVariants.{Untagged}
 use Rattle.tee_storage.specs.declared.handle.Handle.{Handle}
 use Rattle.ta_instances.specs.declared.instance.Instance.{Instance}
 use Rattle.ta_instances.specs.Instance.{given_back, held_by, killed, made}
@@ -10,7 +11,7 @@ abbrev pub uuid : ℕ → List ℕ
 uuid octet = replicate 16 octet
 
 abbrev pub object : Handle
-object = record { name = 0x31 ∷ 0x2f ∷ 0x41 ∷ []; fd = 70; length = 10; position = 3; format = 1 }
+object = record { name = 0x31 ∷ 0x2f ∷ 0x41 ∷ []; fd = 70; length = 10; position = 3; format = Untagged }
 
 -- an instance with two bytes of memory and one open object
 abbrev pub busy : Instance

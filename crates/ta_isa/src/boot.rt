@@ -1,5 +1,8 @@
+ghost use Rattle.std.specs.Prelude.{◌≡◌};
+
 use crate::image::Image;
 use base::Sequence;
+use std::alloc::AllocError;
 use uuid::Uuid;
 
 /// A trusted application that is there from the start.
@@ -7,6 +10,17 @@ use uuid::Uuid;
 pub struct App {
     pub uuid: Uuid,
     pub image: Image,
+}
+
+impl Clone for App {
+    ghost is_clone = { λ app copy. copy ≡ app };
+
+    fn clone(&self) -> Result<App, AllocError> {
+        Ok(App {
+            uuid: self.uuid,
+            image: self.image.clone()?,
+        })
+    }
 }
 
 /// What a core is booted with.
@@ -22,4 +36,18 @@ pub struct Boot {
     pub apps: Sequence<App>,
     /// The key of the tags of object files.
     pub key: [u8; 32],
+}
+
+impl Clone for Boot {
+    ghost is_clone = { λ boot copy. copy ≡ boot };
+
+    fn clone(&self) -> Result<Boot, AllocError> {
+        Ok(Boot {
+            cpus: self.cpus,
+            threads: self.threads,
+            frames: self.frames,
+            apps: self.apps.clone()?,
+            key: self.key,
+        })
+    }
 }

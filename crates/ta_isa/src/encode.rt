@@ -8,7 +8,8 @@ use base::NoMemory;
 use byteorder::{ByteOrder, LittleEndian};
 use std::alloc::Global;
 
-fn put_word(out: &mut Vec<u8>, number: u32) -> Result<(), NoMemory>
+/// Appends a number as four bytes, the lowest first.
+pub fn put_word(out: &mut Vec<u8>, number: u32) -> Result<(), NoMemory>
     ensures { OnOk result (out.new.items ≡ out.old.items ++ word number) }
 {
     let mut bytes = [0; 4];

@@ -4,7 +4,7 @@ ghost use Rattle.ta_isa.specs.Spelling.{are_allowed};
 use bitflags::{Flag, Flags, bitflag_items};
 
 /// How instances of an application are shared, with the bits of OP-TEE's `user_ta_header.h`.
-#[derive(Clone, Copy, PartialEq, Eq, Debug)]
+#[derive(Clone, Copy)]
 pub struct InstanceFlags(u32);
 
 bitflag_items! {

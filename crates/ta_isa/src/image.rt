@@ -5,6 +5,7 @@ ghost use Rattle.ta_isa.specs.Reading.{front_instruction};
 use crate::row::row_of;
 use base::Sequence;
 use byteorder::{ByteOrder, LittleEndian};
+use std::alloc::AllocError;
 
 /// The first four bytes of an image, `OTTA`.
 pub const MAGIC: [u8; 4] = *b"OTTA";
@@ -74,4 +75,17 @@ pub struct Image {
     pub entries: [u32; 5],
     /// The instructions, 1 to 8192.
     pub code: Sequence<Instr>,
+}
+
+impl Clone for Image {
+    ghost is_clone = { λ image copy. copy ≡ image };
+
+    fn clone(&self) -> Result<Image, AllocError> {
+        Ok(Image {
+            flags: self.flags,
+            pages: self.pages,
+            entries: self.entries,
+            code: self.code.clone()?,
+        })
+    }
 }

@@ -15,7 +15,7 @@ mod row;
 pub use base::NoMemory;
 pub use boot::{App, Boot};
 pub use decode::decode_image;
-pub use encode::encode_image;
+pub use encode::{encode_image, put_word};
 pub use flags::{ALLOWED_FLAGS, InstanceFlags};
 pub use image::{Image, Instr, MAGIC, MAX_INSTRUCTIONS, MAX_PAGES};
 pub use image_fault::ImageFault;

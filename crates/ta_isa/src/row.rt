@@ -11,7 +11,7 @@ pub const REGISTERS: u8 = 16;
 pub const LAST_SYSTEM_CALL: u32 = 19;
 
 /// What one of the fields `d`, `a` and `b` holds.
-#[derive(Clone, Copy, Debug, PartialEq, Eq)]
+#[derive(Clone, Copy)]
 pub enum Operand {
     /// Nothing: the field is 0.
     Unused,
@@ -20,7 +20,7 @@ pub enum Operand {
 }
 
 /// What the field `imm` holds.
-#[derive(Clone, Copy, Debug, PartialEq, Eq)]
+#[derive(Clone, Copy)]
 pub enum Immediate {
     /// Nothing: the field is 0.
     Unused,
@@ -33,7 +33,7 @@ pub enum Immediate {
 }
 
 /// What the fields of an operation hold.
-#[derive(Clone, Copy, Debug, PartialEq, Eq)]
+#[derive(Clone, Copy)]
 pub struct Row {
     pub d: Operand,
     pub a: Operand,

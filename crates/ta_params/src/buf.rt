@@ -3,6 +3,7 @@ ghost use Rattle.std.specs.Borrow.{Lends, Array, sem, u8 as byte};
 ghost use Rattle.ta_params.specs.Buf.{written_over};
 ghost use Rattle.ta_params.specs.contracts.buf.Buf.{the_row};
 
+use std::alloc::AllocError;
 use std::marker::Model;
 
 /// The bytes of a memory parameter, copied out of shared memory. Contracts see the list of them.
@@ -41,5 +42,15 @@ impl Buf {
         ensures value { result.now ≡ self.old }
     {
         self.bytes.as_mut_slice()
+    }
+}
+
+impl Clone for Buf {
+    ghost is_clone = { λ buf copy. copy ≡ buf };
+
+    fn clone(&self) -> Result<Buf, AllocError> {
+        Ok(Buf {
+            bytes: self.bytes.clone()?,
+        })
     }
 }

@@ -3,7 +3,7 @@ ghost use Rattle.std.specs.Prelude.{◌≡◌};
 use crate::codes::{TEE_ORIGIN_TEE, TEE_ORIGIN_TRUSTED_APP};
 
 /// What a call of an application came to.
-#[derive(Clone, Copy, Debug, PartialEq, Eq)]
+#[derive(Clone, Copy, PartialEq, Eq)]
 pub struct CallResult {
     /// A result code, as `TEE_SUCCESS`, or a number of the application's own.
     pub result: u32,

@@ -3,6 +3,7 @@ ghost use Rattle.ta_params.specs.CopiedParams.{param_type, type_word};
 
 use crate::buf::Buf;
 use crate::codes::*;
+use std::alloc::AllocError;
 
 /// Which way a parameter goes, seen from the application.
 #[derive(Clone, Copy, Debug, PartialEq, Eq)]
@@ -51,13 +52,46 @@ impl GpParam {
     }
 }
 
+impl Clone for GpParam {
+    ghost is_clone = { λ param copy. copy ≡ param };
+
+    fn clone(&self) -> Result<GpParam, AllocError> {
+        Ok(match self {
+            GpParam::Empty => GpParam::Empty,
+            GpParam::Value { way, a, b } => GpParam::Value {
+                way: *way,
+                a: *a,
+                b: *b,
+            },
+            GpParam::Memref { way, buf, size } => GpParam::Memref {
+                way: *way,
+                buf: buf.clone()?,
+                size: *size,
+            },
+        })
+    }
+}
+
 /// The four parameters of a call, copied out of shared memory.
-#[derive(Debug, Drop)]
+#[derive(Drop)]
 pub struct CopiedParams {
     pub p0: GpParam,
     pub p1: GpParam,
     pub p2: GpParam,
     pub p3: GpParam,
+}
+
+impl Clone for CopiedParams {
+    ghost is_clone = { λ params copy. copy ≡ params };
+
+    fn clone(&self) -> Result<CopiedParams, AllocError> {
+        Ok(CopiedParams {
+            p0: self.p0.clone()?,
+            p1: self.p1.clone()?,
+            p2: self.p2.clone()?,
+            p3: self.p3.clone()?,
+        })
+    }
 }
 
 impl CopiedParams {

@@ -1,7 +1,7 @@
 ghost use Rattle.std.specs.Prelude.{◌≡◌, replicate};
 
 /// Who opened a session, as the application is told.
-#[derive(Clone, Copy, Debug, PartialEq, Eq)]
+#[derive(Clone, Copy, PartialEq, Eq)]
 pub struct Login {
     /// The client's UUID, its octets in the order of RFC 4122.
     pub client: [u8; 16],

@@ -3,7 +3,7 @@
 ///
 /// An id is `len` bytes at the address `id`. A handle is one that a create or an open gave, and the bytes
 /// read or written are `len` bytes at `addr`, all of them in the application's memory or its parameters.
-#[derive(Clone, Copy, Debug, PartialEq, Eq)]
+#[derive(Clone, Copy, Debug)]
 pub enum ObjectCall {
     Create { id: u32, len: u32 },
     Opened { id: u32, len: u32 },

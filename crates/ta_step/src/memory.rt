@@ -50,7 +50,7 @@ pub trait TaMemory {
 }
 
 /// A memory in one list of bytes. Contracts see that list.
-#[derive(Debug, Drop)]
+#[derive(Drop)]
 pub struct Plain {
     bytes: Vec<u8>,
 }

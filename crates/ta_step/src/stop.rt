@@ -3,7 +3,7 @@ use ta_params::ObjectCall;
 
 /// What an application asks the world outside for. The system calls with these numbers ask, and their answer
 /// is given in the first registers: the result in r0, and what is named beside it in the next ones.
-#[derive(Clone, Copy, Debug, PartialEq, Eq)]
+#[derive(Clone, Copy, Debug)]
 pub enum Request {
     /// The time of day, of 11: seconds and milliseconds.
     Time,
@@ -15,7 +15,7 @@ pub enum Request {
 }
 
 /// Why a machine stopped.
-#[derive(Clone, Copy, Debug, PartialEq, Eq)]
+#[derive(Clone, Copy, Debug)]
 pub enum Stop {
     /// The entry point returned, with these two numbers.
     Ended { result: u32, context: u32 },

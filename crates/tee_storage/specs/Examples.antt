@@ -1,6 +1,7 @@
 -- The definitions on small inputs.
 use Rattle.std.specs.Prelude.{◌≡◌, ℕ, [], ◌∷◌, Some, None, replicate}
 use Rattle.base.specs.NumberMap.{NumberMap, get, insert, remove}
+use Rattle.tee_storage.specs.declared.handle.FileFormat.TheVariants.{Untagged}
 use Rattle.tee_storage.specs.declared.handle.Handle.{Handle}
 use Rattle.tee_storage.specs.Handles.{lowest_free, numbered_from}
 use Rattle.tee_storage.specs.KnownTags.{KnownTags}
@@ -11,7 +12,7 @@ use Rattle.tee_storage.specs.TagExamples.{TagExamples}
 
 -- an object of ten bytes, read up to the third; its file is named `1/A`
 abbrev pub object : ℕ → Handle
-object fd = record { name = 0x31 ∷ 0x2f ∷ 0x41 ∷ []; fd = fd; length = 10; position = 3; format = 1 }
+object fd = record { name = 0x31 ∷ 0x2f ∷ 0x41 ∷ []; fd = fd; length = 10; position = 3; format = Untagged }
 
 abbrev pub two : NumberMap Handle
 two = (0, object 70) ∷ (2, object 72) ∷ []

@@ -5,6 +5,8 @@ use Rattle.std.specs.Option.{option_map}
 use Rattle.std.specs.Str.{bytes_eq}
 use Rattle.std.specs.Int.{w32, to_le_bytes, from_le_bytes}
 use Rattle.hex.specs.Hex.{encode_lower}
+use Rattle.tee_storage.specs.declared.handle.FileFormat.{FileFormat}
+use Rattle.tee_storage.specs.declared.handle.FileFormat.TheVariants.{Untagged, Tagged}
 use Rattle.tee_storage.specs.declared.object_file.Header.{Header}
 
 -- an id may have so many bytes
@@ -23,9 +25,15 @@ first_magic = 0x4f ∷ 0x54 ∷ 0x4f ∷ 0x31 ∷ []
 abbrev pub magic : List ℕ
 magic = 0x4f ∷ 0x54 ∷ 0x4f ∷ 0x32 ∷ []
 
+-- the number of a format
+abbrev pub format_number : FileFormat → ℕ
+format_number Untagged = 1
+format_number Tagged = 2
+
 -- the format of a file that begins with these four bytes
-abbrev pub format_of : List ℕ → Option ℕ
-format_of bytes = if bytes_eq bytes first_magic then Some 1 else if bytes_eq bytes magic then Some 2 else None
+abbrev pub format_of : List ℕ → Option FileFormat
+format_of bytes =
+    if bytes_eq bytes first_magic then Some Untagged else if bytes_eq bytes magic then Some Tagged else None
 
 -- what the file of an object of so many bytes begins with: eight bytes
 abbrev pub header : ℕ → List ℕ
@@ -36,7 +44,7 @@ abbrev pub header_of : List ℕ → Option Header
 header_of bytes =
     let len = from_le_bytes w32 (drop 4 bytes) in
     if nat_le len 32768
-    then option_map (λ (format : ℕ). record { format = format; length = len }) (format_of (take 4 bytes))
+    then option_map (λ (format : FileFormat). record { format = format; length = len }) (format_of (take 4 bytes))
     else None
 
 -- where an object's byte stands in its file

@@ -2,6 +2,7 @@
 use Rattle.std.specs.Prelude.{ℕ, ◌+◌, ◌-◌, ◌==◌, ◌&&◌, ◌||◌, not, nat_lt, min, max, List, [], ◌∷◌, length, take, Option, Some, None, if◌then◌else◌}
 use Rattle.base.specs.NumberMap.{get, insert, remove}
 use Rattle.rpc_msgs.specs.declared.rpc.Rpc.TheVariants.{FsClose, FsRead, FsWrite, FsRemove}
+use Rattle.tee_storage.specs.declared.handle.FileFormat.TheVariants.{Tagged}
 use Rattle.tee_storage.specs.declared.handle.Handle.{Handle}
 use Rattle.tee_storage.specs.declared.step.StorageStep.TheVariants.{Panic}
 use Rattle.base.specs.Bytes.{overwritten}
@@ -80,7 +81,7 @@ new_length object len = max object.length (object.position + len)
 -- the object after that: its file has a tag
 abbrev pub written_to : Handle → ℕ → Handle
 written_to object len =
-    record object { length = new_length object len; position = object.position + len; format = 2 }
+    record object { length = new_length object len; position = object.position + len; format = Tagged }
 
 abbrev pub written : ℕ → Handle → ℕ → Now → Program
 written handle object len now = ends_with 0 (with_object now handle (written_to object len))

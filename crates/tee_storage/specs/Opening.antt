@@ -3,6 +3,7 @@ use Rattle.std.specs.Prelude.{ℕ, List, [], ◌++◌, Option, Some, None, if◌
 use Rattle.base.specs.NumberMap.{insert}
 use Rattle.rpc_msgs.specs.declared.rpc.Rpc.TheVariants.{FsOpen, FsCreate, FsRead, FsWrite}
 use Rattle.rpc_msgs.specs.declared.rpc.RpcReply.{RpcReply}
+use Rattle.tee_storage.specs.declared.handle.FileFormat.TheVariants.{Tagged}
 use Rattle.tee_storage.specs.declared.handle.Handle.{Handle}
 use Rattle.tee_storage.specs.declared.object_file.Header.{Header}
 use Rattle.tee_storage.specs.declared.opening.FileCall.{FileCall}
@@ -36,7 +37,7 @@ abbrev pub first_bytes : List ℕ → List ℕ → List ℕ
 first_bytes key name = header 0 ++ first_tag key name
 
 abbrev pub empty_object : Header
-empty_object = record { format = 2; length = 0 }
+empty_object = record { format = Tagged; length = 0 }
 
 abbrev pub writing_first : List ℕ → List ℕ → ℕ → ℕ → Now → Program
 writing_first key name number fd now =

@@ -5,6 +5,7 @@ use Rattle.hmac.specs.Hmac.{hmac}
 use Rattle.rpc_msgs.specs.declared.rpc.Rpc.TheVariants.{FsOpen, FsCreate, FsRead, FsWrite}
 use Rattle.rpc_msgs.specs.Answer.{RpcAnswer, Replied, NoBuffer}
 use Rattle.ta_params.specs.declared.object_call.ObjectCall.TheVariants.{Create, Opened}
+use Rattle.tee_storage.specs.declared.handle.FileFormat.TheVariants.{Untagged, Tagged}
 use Rattle.tee_storage.specs.declared.handle.Handle.{Handle}
 use Rattle.tee_storage.specs.declared.step.StorageStep.{StorageStep}
 use Rattle.tee_storage.specs.declared.step.StorageStep.TheVariants.{Ask, Done}
@@ -21,11 +22,11 @@ abbrev pub file : List ℕ
 file = codes "11111111222233334444555555555555/ab"
 
 abbrev pub object : ℕ → ℕ → ℕ → Handle
-object fd len position = record { name = file; fd = fd; length = len; position = position; format = 1 }
+object fd len position = record { name = file; fd = fd; length = len; position = position; format = Untagged }
 
 -- the same with a tag
 abbrev pub tagged : ℕ → ℕ → ℕ → Handle
-tagged fd len position = record (object fd len position) { format = 2 }
+tagged fd len position = record (object fd len position) { format = Tagged }
 
 -- a key
 abbrev pub key : List ℕ

@@ -1,20 +1,27 @@
 -- The tag at the end of an object's file of format 2, by which changed data of a file that is read as one of format 2 are
 -- found out: an HMAC (RFC 2104) with SHA-256 under the key of the boot. An older file that is given back has a tag as well. This
 -- project's own.
-use Rattle.std.specs.Prelude.{ℕ, Bool, ◌==◌, ◌&&◌, List, [], ◌∷◌, ◌++◌, if◌then◌else◌}
+use Rattle.std.specs.Prelude.{ℕ, Bool, true, false, ◌&&◌, List, [], ◌∷◌, ◌++◌, if◌then◌else◌}
 use Rattle.std.specs.Int.{w32, to_le_bytes}
 use Rattle.std.specs.Str.{bytes_eq}
 use Rattle.hmac.specs.Hmac.{hmac}
 use Rattle.rpc_msgs.specs.declared.rpc.Rpc.TheVariants.{FsRead}
 use Rattle.rpc_msgs.specs.declared.rpc.RpcReply.{RpcReply}
+use Rattle.tee_storage.specs.declared.handle.FileFormat.{FileFormat}
+use Rattle.tee_storage.specs.declared.handle.FileFormat.TheVariants.{Untagged, Tagged}
 use Rattle.tee_storage.specs.declared.handle.Handle.{Handle}
 use Rattle.tee_storage.specs.ObjectFiles.{offset_of}
 use Rattle.tee_storage.specs.Program.{Now, Program, fails}
 use Rattle.tee_storage.specs.Replies.{asks, is_whole}
 
+-- files of format 2 end with a tag
+abbrev pub ends_with_tag : FileFormat → Bool
+ends_with_tag Untagged = false
+ends_with_tag Tagged = true
+
 -- the object's file has a tag
 abbrev pub is_tagged : Handle → Bool
-is_tagged object = object.format == 2
+is_tagged object = ends_with_tag object.format
 
 -- what stands before the data in what the tag is of: the file's name, a zero, and the length
 abbrev pub tag_front : List ℕ → ℕ → List ℕ

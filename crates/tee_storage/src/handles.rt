@@ -14,7 +14,7 @@ pub const MAX_HANDLES: usize = 8;
 
 /// The open objects of one instance, which contracts see as a finite map from the numbers 0 to 7 of their
 /// handles. No call takes memory.
-#[derive(Debug, Drop)]
+#[derive(Drop)]
 pub struct Handles {
     /// The object of each number, if there is one.
     objects: [Option<Handle>; MAX_HANDLES],

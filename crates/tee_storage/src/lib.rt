@@ -22,7 +22,7 @@ mod waits;
 mod writing;
 
 pub use examples::worked_examples;
-pub use handle::Handle;
+pub use handle::{FileFormat, Handle};
 pub use handles::{Handles, MAX_HANDLES};
 pub use hmac::hmac;
 pub use object_file::{MAX_ID, MAX_LENGTH};

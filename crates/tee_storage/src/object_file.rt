@@ -3,6 +3,7 @@ ghost use Rattle.std.specs.Prelude.{◌≡◌, ◌*◌, ◌+◌, ◌≤◌, ◌+
 ghost use Rattle.hex.specs.Hex.{encode_lower};
 ghost use Rattle.tee_storage.specs.ObjectFiles.{file_name as name_of, format_of as format_by, header as header_with, header_of as header_by, offset_of as offset_by};
 
+use crate::handle::FileFormat;
 use arrayvec::ArrayVec;
 use rpc_msgs::{FileName, MAX_FILE_NAME, Payload};
 use uuid::Uuid;
@@ -14,11 +15,6 @@ pub(crate) const HEADER_BYTES: u32 = 8;
 /// The most bytes of an object.
 pub const MAX_LENGTH: u32 = 32_768;
 
-/// The format of a file of the header and the data alone.
-pub(crate) const FIRST_FORMAT: u8 = 1;
-/// The format of one that ends with a tag, as all files that are written.
-pub(crate) const TAGGED_FORMAT: u8 = 2;
-
 /// The bytes that a file of format 1 begins with: OTO1.
 const FIRST_MAGIC: [u8; 4] = [0x4f, 0x54, 0x4f, 0x31];
 /// Those of a file of format 2: OTO2.
@@ -27,9 +23,9 @@ const MAGIC: [u8; 4] = [0x4f, 0x54, 0x4f, 0x32];
 const MAX_DIGITS: usize = 128;
 
 /// What the header of an object's file says.
-#[derive(Clone, Copy, Debug, Drop)]
+#[derive(Clone, Copy, Drop)]
 pub struct Header {
-    pub(crate) format: u8,
+    pub(crate) format: FileFormat,
     /// How many bytes the object has.
     pub(crate) length: u32,
 }
@@ -98,13 +94,13 @@ pub(crate) fn header_bytes(len: u32) -> [u8; HEADER_BYTES as usize]
 }
 
 /// The format of a file that begins with these bytes.
-fn format_of(magic: &[u8]) -> Option<u8>
+fn format_of(magic: &[u8]) -> Option<FileFormat>
     ensures { result ≡ format_by magic.now }
 {
     if magic == FIRST_MAGIC.as_slice() {
-        Some(FIRST_FORMAT)
+        Some(FileFormat::Untagged)
     } else if magic == MAGIC.as_slice() {
-        Some(TAGGED_FORMAT)
+        Some(FileFormat::Tagged)
     } else {
         None
     }

@@ -5,11 +5,10 @@ ghost use Rattle.tee_storage.specs.ObjectCalls.{panic_code};
 ghost use Rattle.tee_storage.specs.Program.{Now, now_at};
 ghost use Rattle.tee_storage.specs.States.{Taken, new_object as new_object_of, onward, left_at, IsReady};
 
-use crate::handle::Handle;
+use crate::handle::{FileFormat, Handle};
 use crate::handles::Handles;
 use crate::object_file::{
-    HEADER_BYTES, Header, MAX_ID, TAGGED_FORMAT, copy_of, file_name, header_bytes, header_of,
-    payload_of,
+    HEADER_BYTES, Header, MAX_ID, copy_of, file_name, header_bytes, header_of, payload_of,
 };
 use crate::replies::is_whole;
 use crate::span::{Span, bytes_of};
@@ -25,7 +24,7 @@ const FIRST_BYTES: usize = (HEADER_BYTES + TAG_BYTES) as usize;
 
 /// What the header of such a file says.
 const NO_DATA: Header = Header {
-    format: TAGGED_FORMAT,
+    format: FileFormat::Tagged,
     length: 0,
 };
 

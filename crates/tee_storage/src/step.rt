@@ -4,7 +4,7 @@ use rpc_msgs::{Payload, Rpc};
 pub const BAD_HANDLE: u32 = 5;
 
 /// What a call on an object comes to next.
-#[derive(Debug, Drop)]
+#[derive(Drop)]
 pub enum StorageStep {
     /// It asks the normal world for this, with these bytes.
     Ask { rpc: Rpc, payload: Payload },

@@ -3,8 +3,8 @@ ghost use Rattle.std.specs.Prelude.{◌≡◌};
 ghost use Rattle.hmac.specs.Hashing.{Holds};
 ghost use Rattle.tee_storage.specs.Tags.{brings as brings_tag, first_tag as first_tag_of, is_tagged as has_tag, tag_front, tag_offset};
 
-use crate::handle::Handle;
-use crate::object_file::{TAGGED_FORMAT, offset_of};
+use crate::handle::{FileFormat, Handle};
+use crate::object_file::offset_of;
 use crate::replies::is_whole;
 use hmac::HmacSha256;
 use rpc_msgs::{FileName, Rpc, RpcReply};
@@ -22,7 +22,10 @@ pub type Tag = [u8; TAG_BYTES as usize];
 pub(crate) fn is_tagged(object: &Handle) -> bool
     ensures { result ≡ has_tag object.now }
 {
-    object.format == TAGGED_FORMAT
+    match object.format {
+        FileFormat::Untagged => false,
+        FileFormat::Tagged => true,
+    }
 }
 
 /// What the tag of a file of this name with so many bytes is of, but for the bytes themselves.

@@ -10,8 +10,9 @@ ghost use Rattle.tee_storage.specs.Program.{Now, now_at};
 ghost use Rattle.tee_storage.specs.States.{HasTaken, IsLeft, Taken, TakesNothing, onward, reading_on, left_at, IsReady};
 ghost use Rattle.tee_storage.specs.Transfers.{IsDataRead, IsWrite, IsWritten};
 
+use crate::handle::FileFormat;
 use crate::handles::Handles;
-use crate::object_file::{HEADER_BYTES, MAX_LENGTH, TAGGED_FORMAT, header_bytes, offset_of};
+use crate::object_file::{HEADER_BYTES, MAX_LENGTH, header_bytes, offset_of};
 use crate::span::{Span, bytes_of};
 use crate::step::BAD_HANDLE;
 use crate::tags::{Key, TAG_BYTES, Tag, is_tagged, tag_hasher};
@@ -199,7 +200,7 @@ fn written(transfer: Transfer, handles: &mut Handles) -> Turn
     } = transfer;
     object.position += len;
     object.length = object.length.max(object.position);
-    object.format = TAGGED_FORMAT;
+    object.format = FileFormat::Tagged;
     handles.put(handle, object);
     Turn::ended(0)
 }

@@ -4,13 +4,13 @@ use Rattle.ns_ram.specs.Lane.{bytes_at}
 use Rattle.ns_ram.specs.Writes.{lane_after}
 use Rattle.rpc_msgs.specs.declared.rpc.Rpc.{Rpc}
 use Rattle.rpc_msgs.specs.declared.rpc.RpcReply.{RpcReply}
-use Rattle.rpc_requests.specs.declared.request.Request.{Request}
-use Rattle.rpc_requests.specs.Answering.{refusal_writes, reply_writes}
-use Rattle.rpc_requests.specs.Holding.{Holds}
+use Rattle.supplicant.specs.declared.request.Request.{Request}
+use Rattle.supplicant.specs.Answering.{refusal_writes, reply_writes}
+use Rattle.supplicant.specs.Holding.{Holds}
 use Rattle.supplicant.specs.Supplicant.{Storage, answered}
-use Rattle.teec_calls.specs.declared.answer.RpcKind.{RpcKind}
-use Rattle.teec_calls.specs.declared.answer.RpcKind.TheVariants.{Alloc, Free, Interrupt, Cmd}
-use Rattle.teec_calls.specs.Places.{message_at, message_cookie}
+use Rattle.teec.specs.declared.answer.RpcKind.{RpcKind}
+use Rattle.teec.specs.declared.answer.RpcKind.TheVariants.{Alloc, Free, Interrupt, Cmd}
+use Rattle.teec.specs.Places.{message_at, message_cookie}
 use Rattle.teec.specs.Runs.{AnswersMessage, AnswersRpc, Scene, after_request, scene_of}
 
 -- whatever a message holds, it was read

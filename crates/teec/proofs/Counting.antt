@@ -5,18 +5,18 @@ use Rattle.std.proofs.lemmas.List.Elements.{filter-append}
 use Rattle.std.proofs.lemmas.Bool.Decides.{nat_tests}
 use Rattle.smc_abi.specs.declared.regs.Regs.{Regs}
 use Rattle.smc_port.specs.Smc.{Smc}
-use Rattle.teec_calls.specs.declared.answer.RpcKind.{RpcKind}
-use Rattle.teec_calls.specs.declared.answer.RpcKind.TheVariants.{Alloc, Free, Interrupt, Cmd}
-use Rattle.teec_calls.specs.declared.answer.RpcReturn.{RpcReturn}
-use Rattle.teec_calls.specs.declared.answer.Said.{Said}
-use Rattle.teec_calls.specs.declared.answer.Said.TheVariants.{Finished, NoThread, Returned, Unknown}
+use Rattle.teec.specs.declared.answer.RpcKind.{RpcKind}
+use Rattle.teec.specs.declared.answer.RpcKind.TheVariants.{Alloc, Free, Interrupt, Cmd}
+use Rattle.teec.specs.declared.answer.RpcReturn.{RpcReturn}
+use Rattle.teec.specs.declared.answer.Said.{Said}
+use Rattle.teec.specs.declared.answer.Said.TheVariants.{Finished, NoThread, Returned, Unknown}
 use Rattle.teec.specs.declared.fault.TeecFault.{TeecFault}
 use Rattle.teec.specs.declared.fault.TeecFault.TheVariants.{Memory, Retried, Rounds, Spent, Strange}
 use Rattle.teec.specs.declared.limits.Limits.{Limits}
-use Rattle.teec_calls.specs.Answers.{call_with_arg, register, return_from_rpc, return_of, said}
+use Rattle.teec.specs.Answers.{call_with_arg, register, return_from_rpc, return_of, said}
 use Rattle.teec.specs.Calls.{Call}
 use Rattle.teec.specs.Causes.{EndsIn, answers_of, IsFinished, IsOutOfRounds, IsRetried, IsStrange, is_call, is_cancel, is_strange, refusals_in, returns_in, says_finished, says_no_thread, says_return}
-use Rattle.teec_calls.specs.Places.{argument_at, cancel_at}
+use Rattle.teec.specs.Places.{argument_at, cancel_at}
 use Rattle.teec.specs.Rounds.{Calls, Cancels, Ended, Failed, Resumes, Stage, after_answer, after_call, after_cancel, after_resume, before_answer, regs_at, stage_from}
 use Rattle.teec.specs.Runs.{Runs, Scene}
 

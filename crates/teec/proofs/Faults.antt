@@ -6,9 +6,9 @@ use Rattle.smc_port.specs.Smc.{Smc}
 use Rattle.teec.specs.declared.fault.TeecFault.{TeecFault}
 use Rattle.teec.specs.declared.fault.TeecFault.TheVariants.{Memory, Retried, Rounds, Spent, Strange}
 use Rattle.teec.specs.declared.limits.Limits.{Limits}
-use Rattle.teec_calls.specs.declared.answer.RpcKind.TheVariants.{Cmd}
+use Rattle.teec.specs.declared.answer.RpcKind.TheVariants.{Cmd}
 use Rattle.teec.specs.Calls.{Call}
-use Rattle.teec_calls.specs.Places.{message_cookie}
+use Rattle.teec.specs.Places.{message_cookie}
 use Rattle.teec.specs.Causes.{EndsIn, HasItsCause, is_strange, IsOutOfRounds, IsRetried, IsStrange, stage_of}
 use Rattle.teec.specs.Client.{HasRun, made_since}
 use Rattle.teec.specs.Rounds.{Calls, Cancels, Ended, Failed, Resumes, Stage, regs_at}

@@ -4,16 +4,16 @@ use Rattle.std.specs.Result.{IsErrAnd}
 use Rattle.smc_abi.specs.declared.regs.Regs.{Regs}
 use Rattle.smc_port.specs.Smc.{Makes, Smc}
 use Rattle.supplicant.specs.Supplicant.{Storage}
-use Rattle.teec_calls.specs.declared.answer.RpcReturn.{RpcReturn}
+use Rattle.teec.specs.declared.answer.RpcReturn.{RpcReturn}
 use Rattle.teec.specs.declared.fault.TeecFault.{TeecFault}
 use Rattle.teec.specs.declared.limits.Limits.{Limits}
-use Rattle.teec_calls.specs.Answers.{call_with_arg, said}
+use Rattle.teec.specs.Answers.{call_with_arg, said}
 use Rattle.msg_args.specs.declared.arg.MsgArg.{MsgArg}
 use Rattle.ns_ram.specs.Writes.{lane_after}
-use Rattle.teec_calls.specs.declared.answer.Said.{Said}
-use Rattle.teec_calls.specs.declared.answer.Said.TheVariants.{Finished, NoThread, Returned, Unknown}
-use Rattle.teec_calls.specs.Arguments.{cancel_argument}
-use Rattle.teec_calls.specs.Places.{cancel_at}
+use Rattle.teec.specs.declared.answer.Said.{Said}
+use Rattle.teec.specs.declared.answer.Said.TheVariants.{Finished, NoThread, Returned, Unknown}
+use Rattle.teec.specs.Arguments.{cancel_argument}
+use Rattle.teec.specs.Places.{cancel_at}
 use Rattle.teec.specs.declared.fault.TeecFault.TheVariants.{Memory, Rounds, Spent, Strange}
 use Rattle.teec.specs.Returns.{return_in}
 use Rattle.teec.specs.Calls.{Call, argument_write, cancel_writes}

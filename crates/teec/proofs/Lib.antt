@@ -4,6 +4,7 @@ pub mod Counting
 pub mod Faults
 pub mod Going
 pub mod Sending
+pub mod SentParams
 pub mod Stages
 pub mod Stopping
 pub mod Trying

@@ -13,16 +13,16 @@ use Rattle.ns_ram.specs.Writes.{lane_after}
 use Rattle.supplicant.specs.Supplicant.{Storage}
 use Rattle.ta_params.specs.declared.copied_params.GpParam.{GpParam}
 use Rattle.ta_params.specs.declared.copied_params.GpParam.TheVariants.{Empty, Value, Memref}
-use Rattle.teec_calls.proofs.Sending.{one_then}
+use Rattle.teec.proofs.SentParams.{one_then}
 use Rattle.teec.specs.declared.fault.TeecFault.{TeecFault}
 use Rattle.teec.specs.declared.fault.TeecFault.TheVariants.{Retried}
 use Rattle.teec.specs.declared.limits.Limits.{Limits}
-use Rattle.teec_calls.specs.declared.operation.Operation.{Operation}
-use Rattle.teec_calls.specs.Arguments.{close_argument, invoke_argument, name_of, nobody, open_argument}
+use Rattle.teec.specs.declared.operation.Operation.{Operation}
+use Rattle.teec.specs.Arguments.{close_argument, invoke_argument, name_of, nobody, open_argument}
 use Rattle.teec.specs.Calls.{Call, argument_write, call_of, close_call}
 use Rattle.teec.specs.Client.{Calling, HasRun, ends_client, limits_of}
-use Rattle.teec_calls.specs.Operation.{buffer_writes, memory_kind, param_sent, params_of, params_sent, plain, sent_from, value_kind}
-use Rattle.teec_calls.specs.Places.{argument_at, memory_at}
+use Rattle.teec.specs.Operation.{buffer_writes, memory_kind, param_sent, params_of, params_sent, plain, sent_from, value_kind}
+use Rattle.teec.specs.Places.{argument_at, memory_at}
 use Rattle.teec.specs.Rounds.{Calls}
 use Rattle.teec.specs.Runs.{IsPrepared, Scene, Stopped, moment, scene_of}
 

@@ -2,9 +2,9 @@
 use Rattle.std.proofs.Common.{◌≡◌, ℕ, suc, ◌<◌, cond, eqb, true, false, Some, None, Ok, Err, refl, ap, arith}
 use Rattle.std.proofs.lemmas.Bool.Decides.{nat_tests}
 use Rattle.smc_abi.specs.declared.regs.Regs.{Regs}
-use Rattle.teec_calls.specs.declared.answer.RpcReturn.{RpcReturn}
-use Rattle.teec_calls.specs.declared.answer.Said.{Said}
-use Rattle.teec_calls.specs.declared.answer.Said.TheVariants.{Finished, NoThread, Returned, Unknown}
+use Rattle.teec.specs.declared.answer.RpcReturn.{RpcReturn}
+use Rattle.teec.specs.declared.answer.Said.{Said}
+use Rattle.teec.specs.declared.answer.Said.TheVariants.{Finished, NoThread, Returned, Unknown}
 use Rattle.teec.specs.declared.fault.TeecFault.{TeecFault}
 use Rattle.teec.specs.declared.fault.TeecFault.TheVariants.{Retried, Rounds, Strange}
 use Rattle.teec.specs.declared.limits.Limits.{Limits}

@@ -2,14 +2,14 @@
 use Rattle.std.proofs.Common.{◌≡◌, ℕ, zero, suc, ◌+◌, ◌<◌, ◌≤◌, Bool, List, Some, refl, sym, ap, ◌∙◌, subst, arith, add-one}
 use Rattle.smc_abi.specs.declared.regs.Regs.{Regs}
 use Rattle.smc_port.specs.Smc.{Makes, Smc}
-use Rattle.teec_calls.specs.declared.answer.Said.{Said}
-use Rattle.teec_calls.specs.declared.answer.Said.TheVariants.{NoThread}
+use Rattle.teec.specs.declared.answer.Said.{Said}
+use Rattle.teec.specs.declared.answer.Said.TheVariants.{NoThread}
 use Rattle.teec.specs.declared.fault.TeecFault.{TeecFault}
 use Rattle.teec.specs.declared.fault.TeecFault.TheVariants.{Retried}
 use Rattle.teec.specs.declared.limits.Limits.{Limits}
-use Rattle.teec_calls.specs.Answers.{call_with_arg, said}
+use Rattle.teec.specs.Answers.{call_with_arg, said}
 use Rattle.teec.specs.Calls.{Call}
-use Rattle.teec_calls.specs.Places.{argument_at}
+use Rattle.teec.specs.Places.{argument_at}
 use Rattle.teec.specs.Rounds.{Calls, Failed, Stage, after_call, after_refusal, after_resume, regs_at}
 use Rattle.teec.specs.Runs.{IsStop, Prepares, Scene, Stopped, Went, moment}
 use Rattle.teec.proofs.Going.{stopped_at, stopped_then, went_one, went_then}

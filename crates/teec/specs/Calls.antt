@@ -3,10 +3,10 @@ use Rattle.std.specs.Prelude.{ℕ, List, [], ◌∷◌, ◌++◌}
 use Rattle.msg_args.specs.declared.arg.MsgArg.{MsgArg}
 use Rattle.msg_args.specs.Spelling.{spelling}
 use Rattle.ns_ram.specs.Writes.{Write}
-use Rattle.teec_calls.specs.declared.operation.Operation.{Operation}
-use Rattle.teec_calls.specs.Arguments.{cancel_argument, close_argument, invoke_argument, open_argument}
-use Rattle.teec_calls.specs.Operation.{buffer_writes}
-use Rattle.teec_calls.specs.Places.{argument_at, cancel_at}
+use Rattle.teec.specs.declared.operation.Operation.{Operation}
+use Rattle.teec.specs.Arguments.{cancel_argument, close_argument, invoke_argument, open_argument}
+use Rattle.teec.specs.Operation.{buffer_writes}
+use Rattle.teec.specs.Places.{argument_at, cancel_at}
 
 -- what is written before its first SMC, and the session that its cancellation names
 pub record Call : Type 0 where

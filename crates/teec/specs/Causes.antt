@@ -2,12 +2,12 @@
 use Rattle.std.specs.Prelude.{◌≡◌, ◌⊎◌, ◌↔◌, OnOk, IsErrOf, Result, ℕ, suc, ◌==◌, ◌&&◌, ◌||◌, Bool, true, false, not, List, [], ◌∷◌, ◌++◌, filter, length, map}
 use Rattle.smc_abi.specs.declared.regs.Regs.{Regs}
 use Rattle.smc_port.specs.Smc.{Smc}
-use Rattle.teec_calls.specs.declared.answer.Said.{Said}
-use Rattle.teec_calls.specs.declared.answer.Said.TheVariants.{Finished, NoThread, Returned}
+use Rattle.teec.specs.declared.answer.Said.{Said}
+use Rattle.teec.specs.declared.answer.Said.TheVariants.{Finished, NoThread, Returned}
 use Rattle.teec.specs.declared.fault.TeecFault.{TeecFault}
 use Rattle.teec.specs.declared.fault.TeecFault.TheVariants.{Memory, Retried, Rounds, Spent, Strange}
-use Rattle.teec_calls.specs.Answers.{register, said}
-use Rattle.teec_calls.specs.Places.{cancel_at}
+use Rattle.teec.specs.Answers.{register, said}
+use Rattle.teec.specs.Places.{cancel_at}
 use Rattle.teec.specs.declared.limits.Limits.{Limits}
 use Rattle.teec.specs.Rounds.{Stage, stage_after}
 use Rattle.teec.specs.Runs.{AwaitsReply, HasNext, NextSmc}

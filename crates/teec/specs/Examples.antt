@@ -2,20 +2,17 @@
 use Rattle.std.specs.Prelude.{◌≡◌, ℕ, true, false, [], ◌∷◌, Option, Some, None}
 use Rattle.smc_abi.specs.declared.regs.Regs.{Regs}
 use Rattle.smc_port.specs.Smc.{Smc}
-use Rattle.teec_calls.specs.declared.answer.RpcKind.TheVariants.{Interrupt}
-use Rattle.teec_calls.specs.declared.answer.RpcReturn.{RpcReturn}
-use Rattle.teec_calls.specs.Answers.{call_with_arg, return_from_rpc}
+use Rattle.teec.specs.declared.answer.RpcKind.TheVariants.{Interrupt}
+use Rattle.teec.specs.declared.answer.RpcReturn.{RpcReturn}
+use Rattle.teec.specs.Answers.{call_with_arg, return_from_rpc}
 use Rattle.teec.specs.declared.fault.TeecFault.TheVariants.{Retried, Rounds, Strange}
 use Rattle.teec.specs.declared.limits.Limits.{Limits}
 use Rattle.teec.specs.Bounds.{most_smcs}
+use Rattle.teec.specs.CallExamples.{answer_of}
 use Rattle.teec.specs.Causes.{is_strange, refusals_in, returns_in}
 use Rattle.teec.specs.Rounds.{Calls, Cancels, Ended, Failed, Resumes, stage_after}
 
 -- ---- answers
-
--- the first four registers, the cookie's upper and lower half in two of them
-abbrev pub answer_of : ℕ → ℕ → ℕ → ℕ → Regs
-answer_of a0 a1 a2 a3 = record { a = a0 ∷ a1 ∷ a2 ∷ a3 ∷ 0 ∷ 0 ∷ 0 ∷ 0 ∷ [] }
 
 abbrev pub ok : Regs
 ok = answer_of 0 0 0 0

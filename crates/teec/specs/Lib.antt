@@ -1,8 +1,14 @@
+pub mod Answers
+pub mod Arguments
 pub mod Bounds
+pub mod CallExamples
 pub mod Calls
 pub mod Causes
 pub mod Client
 pub mod Examples
+pub mod Operation
+pub mod Places
+pub mod Results
 pub mod Returns
 pub mod Rounds
 pub mod Runs

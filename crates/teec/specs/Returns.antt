@@ -1,10 +1,10 @@
 -- What an answer to a call that is under way comes to.
 use Rattle.std.specs.Prelude.{Option, Some, None, Result, Ok, Err}
 use Rattle.smc_abi.specs.declared.regs.Regs.{Regs}
-use Rattle.teec_calls.specs.declared.answer.RpcReturn.{RpcReturn}
-use Rattle.teec_calls.specs.declared.answer.Said.{Said}
-use Rattle.teec_calls.specs.declared.answer.Said.TheVariants.{Finished, NoThread, Returned, Unknown}
-use Rattle.teec_calls.specs.Answers.{said}
+use Rattle.teec.specs.declared.answer.RpcReturn.{RpcReturn}
+use Rattle.teec.specs.declared.answer.Said.{Said}
+use Rattle.teec.specs.declared.answer.Said.TheVariants.{Finished, NoThread, Returned, Unknown}
+use Rattle.teec.specs.Answers.{said}
 use Rattle.teec.specs.declared.fault.TeecFault.{TeecFault}
 use Rattle.teec.specs.declared.fault.TeecFault.TheVariants.{Strange}
 

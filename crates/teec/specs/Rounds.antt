@@ -2,14 +2,14 @@
 use Rattle.std.specs.Prelude.{ℕ, suc, ◌==◌, false, if◌then◌else◌, List, [], ◌∷◌, Option, Some, None}
 use Rattle.std.specs.Option.{option_map_or}
 use Rattle.smc_abi.specs.declared.regs.Regs.{Regs}
-use Rattle.teec_calls.specs.declared.answer.RpcReturn.{RpcReturn}
-use Rattle.teec_calls.specs.declared.answer.Said.{Said}
-use Rattle.teec_calls.specs.declared.answer.Said.TheVariants.{Finished, NoThread, Returned, Unknown}
+use Rattle.teec.specs.declared.answer.RpcReturn.{RpcReturn}
+use Rattle.teec.specs.declared.answer.Said.{Said}
+use Rattle.teec.specs.declared.answer.Said.TheVariants.{Finished, NoThread, Returned, Unknown}
 use Rattle.teec.specs.declared.fault.TeecFault.{TeecFault}
 use Rattle.teec.specs.declared.fault.TeecFault.TheVariants.{Retried, Rounds, Strange}
 use Rattle.teec.specs.declared.limits.Limits.{Limits}
-use Rattle.teec_calls.specs.Answers.{call_with_arg, return_from_rpc, said}
-use Rattle.teec_calls.specs.Places.{argument_at, cancel_at}
+use Rattle.teec.specs.Answers.{call_with_arg, return_from_rpc, said}
+use Rattle.teec.specs.Places.{argument_at, cancel_at}
 
 -- how far a call has come
 pub data Stage : Type 0 where

@@ -3,18 +3,18 @@ use Rattle.std.specs.Prelude.{◌≡◌, ◌≢◌, ◌⊎◌, ℕ, suc, zero, B
 use Rattle.ns_ram.specs.Lane.{bytes_at}
 use Rattle.ns_ram.specs.Writes.{Write, lane_after}
 use Rattle.rpc_msgs.specs.declared.rpc.Rpc.{Rpc}
-use Rattle.rpc_requests.specs.Answering.{refusal_writes, reply_writes}
-use Rattle.rpc_requests.specs.Holding.{Holds}
+use Rattle.supplicant.specs.Answering.{refusal_writes, reply_writes}
+use Rattle.supplicant.specs.Holding.{Holds}
 use Rattle.smc_abi.specs.declared.regs.Regs.{Regs}
 use Rattle.smc_port.specs.Smc.{Changes, Smc}
 use Rattle.supplicant.specs.Supplicant.{Storage, answered}
-use Rattle.teec_calls.specs.declared.answer.RpcKind.{RpcKind}
-use Rattle.teec_calls.specs.declared.answer.RpcKind.TheVariants.{Alloc, Free, Interrupt, Cmd}
+use Rattle.teec.specs.declared.answer.RpcKind.{RpcKind}
+use Rattle.teec.specs.declared.answer.RpcKind.TheVariants.{Alloc, Free, Interrupt, Cmd}
 use Rattle.teec.specs.declared.fault.TeecFault.{TeecFault}
 use Rattle.teec.specs.declared.fault.TeecFault.TheVariants.{Memory, Retried, Rounds, Spent, Strange}
 use Rattle.teec.specs.declared.limits.Limits.{Limits}
 use Rattle.teec.specs.Calls.{Call, cancel_writes}
-use Rattle.teec_calls.specs.Places.{message_at, message_cookie}
+use Rattle.teec.specs.Places.{message_at, message_cookie}
 use Rattle.teec.specs.Rounds.{Calls, Cancels, Ended, Failed, Resumes, Stage, after_answer, regs_at}
 
 -- RAM, and the storage of the supplicant, between two SMCs

@@ -5,23 +5,24 @@ ghost use Rattle.teec.specs.Bounds.{most_smcs};
 ghost use Rattle.teec.specs.Calls.{Call, call_of, close_call, invoke_call, open_call};
 ghost use Rattle.teec.specs.Causes.{HasItsCause};
 ghost use Rattle.teec.specs.Client.{HasRun, KeepsFault, ends_client, limits_of, made_since};
-ghost use Rattle.teec_calls.specs.Results.{opened_in, result_in};
-ghost use Rattle.teec_calls.specs.Operation.{IsSendable, Sends, operation_back};
+ghost use Rattle.teec.specs.Results.{opened_in, result_in};
+ghost use Rattle.teec.specs.Operation.{IsSendable, Sends, operation_back};
 ghost use Rattle.teec.specs.Runs.{IsPrepared, Scene, scene_of};
 
+use crate::argument::{close_argument, invoke_argument, open_argument};
 use crate::fault::TeecFault;
 use crate::limits::Limits;
 use crate::line::Line;
+use crate::operation::Operation;
+use crate::outcome::{Opened, opened_in, result_in};
+use crate::params::{put_buffers, take_outputs};
+use crate::places::ARGUMENT_AT;
 use msg_args::MsgArg;
 use smc_port::World;
 use std::alloc::Global;
 use std::marker::Model;
 use supplicant::Supplicant;
 use ta_params::CallResult;
-use teec_calls::{
-    ARGUMENT_AT, Opened, Operation, close_argument, invoke_argument, open_argument, opened_in,
-    put_buffers, result_in, take_outputs,
-};
 use uuid::Uuid;
 
 /// The parameters of an operation.

@@ -1,6 +1,8 @@
+ghost use Rattle.teec.specs.CallExamples.{CallExamples};
 ghost use Rattle.teec.specs.Examples.{Examples};
 
 /// The definitions on small inputs.
 pub fn worked_examples()
-    ensures { Examples }
+    ensures calls { CallExamples }
+    ensures runs { Examples }
 {}

@@ -6,18 +6,31 @@
 //! cause.
 //!
 //! `specs/Rounds.antt` says which SMC a call makes next, by the answers that came; `specs/Runs.antt` what the client writes
-//! to RAM before it; `specs/Causes.antt` why a call ended as it did. How parameters are sent, and what comes back, stands in
-//! `teec_calls`.
+//! to RAM before it; `specs/Causes.antt` why a call ended as it did.
+//!
+//! What a call is made of: `specs/Places.antt` says where things stand in RAM; `specs/Operation.antt` how parameters are sent
+//! and what comes back; `specs/Arguments.antt` which argument a call has; `specs/Answers.antt` which registers are given and
+//! what is answered; `specs/Results.antt` what a call came to.
 //!
 //! Only the supplicant takes memory.
 #![tactic(auto)]
 
+mod answer;
+mod argument;
 mod client;
 mod examples;
 mod fault;
 mod limits;
 mod line;
+mod operation;
+mod outcome;
+mod params;
+mod places;
+mod registers;
 
 pub use client::Client;
 pub use examples::worked_examples;
 pub use fault::TeecFault;
+pub use operation::Operation;
+pub use outcome::Opened;
+pub use smc_port::World;

@@ -1,5 +1,5 @@
 /// How long a call goes on, whatever is answered.
-#[derive(Clone, Copy, Debug, PartialEq, Eq)]
+#[derive(Clone, Copy)]
 pub(crate) struct Limits {
     /// How often it is made, where no thread is free.
     pub(crate) retries: u32,

@@ -5,27 +5,26 @@ ghost use Rattle.msg_args.specs.Attribute.{IsAllowed};
 ghost use Rattle.ns_ram.specs.Lane.{IsInRam};
 ghost use Rattle.ns_ram.specs.Writes.{lane_after};
 ghost use Rattle.smc_port.specs.Smc.{Makes};
-ghost use Rattle.teec_calls.specs.declared.answer.RpcReturn.{RpcReturn as AnyReturn};
+ghost use Rattle.teec.specs.declared.answer.RpcReturn.{RpcReturn as AnyReturn};
 ghost use Rattle.teec.specs.declared.limits.Limits.{Limits as AnyLimits};
-ghost use Rattle.teec_calls.specs.Answers.{said};
+ghost use Rattle.teec.specs.Answers.{said};
 ghost use Rattle.teec.specs.Returns.{return_in};
 ghost use Rattle.teec.specs.Calls.{Call, argument_write};
 ghost use Rattle.teec.specs.Client.{ends_client};
 ghost use Rattle.teec.specs.Rounds.{Calls, Cancels, Ended, Resumes, Stage, after_resume, after_return, before_answer, regs_at};
 ghost use Rattle.teec.specs.Runs.{AnswersMessage, AnswersRpc, IsPrepared, IsStop, Scene, Stopped, Went, moment, scene_of};
 
+use crate::answer::{RpcKind, RpcReturn, Said};
+use crate::argument::cancel_argument;
 use crate::fault::TeecFault;
 use crate::limits::Limits;
+use crate::places::{ARGUMENT_AT, CANCEL_AT, MESSAGE_AT, MESSAGE_COOKIE};
+use crate::registers::{call_with_arg, return_from_rpc};
 use msg_args::{MsgArg, write_arg};
-use rpc_requests::{put_refusal, put_reply, read_request};
 use smc_abi::Regs;
 use smc_port::World;
 use std::alloc::Global;
-use supplicant::Supplicant;
-use teec_calls::{
-    ARGUMENT_AT, CANCEL_AT, MESSAGE_AT, MESSAGE_COOKIE, RpcKind, RpcReturn, Said, call_with_arg,
-    cancel_argument, return_from_rpc,
-};
+use supplicant::{Supplicant, put_refusal, put_reply, read_request};
 
 /// A port, and what answers the requests that come over it.
 #[derive(Drop)]

@@ -1,7 +1,7 @@
 //! What comes back in an operation.
 
 ghost use Rattle.std.specs.Prelude.{IfOk};
-ghost use Rattle.teec_calls.specs.Operation.{IsSendable};
+ghost use Rattle.teec.specs.Operation.{IsSendable};
 
 use crate::turns::{BAD_ADDRESS, OK, first, write};
 use base::Sequence;
@@ -10,8 +10,7 @@ use smc_port::{ListedPort, Turn};
 use std::alloc::Global;
 use std::test::Fail;
 use ta_params::{Buf, CopiedParams, GpParam, Way};
-use teec::Client;
-use teec_calls::Operation;
+use teec::{Client, Operation};
 
 /// Writes the numbers 12 and 2^32 + 3 as those of the first parameter, 1 as the size of the second, and a byte of its memory.
 fn writing(alloc: Global, a0: u32) -> Result<Turn, Fail> {

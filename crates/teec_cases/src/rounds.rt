@@ -1,7 +1,7 @@
 //! What a call comes to, and how many SMCs it makes, by the answers of the port.
 
 ghost use Rattle.std.specs.Prelude.{◌≤◌};
-ghost use Rattle.teec_calls.specs.Operation.{IsSendable};
+ghost use Rattle.teec.specs.Operation.{IsSendable};
 
 use crate::turns::{BAD_ADDRESS, INTERRUPT, NO_THREAD, OK, answering, first};
 use ns_ram::Lane;
@@ -9,8 +9,7 @@ use smc_port::{ListedPort, Turn};
 use std::alloc::Global;
 use std::test::Fail;
 use ta_params::{CopiedParams, GpParam};
-use teec::{Client, TeecFault};
-use teec_calls::Operation;
+use teec::{Client, Operation, TeecFault};
 use uuid::Uuid;
 
 fn strange(a0: u32) -> Result<(), TeecFault> {

@@ -1,6 +1,6 @@
 //! The words of a line.
 
-ghost use Rattle.std.specs.Prelude.{◌≡◌, ℕ, ◌<◌, List, ◌∷◌, length, MatchOption};
+ghost use Rattle.std.specs.Prelude.{◌≡◌, ℕ, ◌<◌, List, ◌∷◌, drop, length, MatchOption};
 ghost use Rattle.std.specs.Option.{option_map, option_copied};
 ghost use Rattle.text_lines.specs.Lines.{Lacks, IsCutAt};
 ghost use Rattle.text_lines.specs.Words.{words_left, words_of, word_at, last_word, is_ended};
@@ -55,9 +55,10 @@ impl<'a> Words<'a> {
         Words { rest: Some(line) }
     }
 
-    /// Takes the next word.
+    /// Takes the next word. At `None` none was left, and none is.
     pub fn next_word(&mut self) -> Option<&'a [u8]>
-        ensures { word_at self.old ≡ option_map (λ word. (word.now, self.new)) result }
+        ensures word { word_at self.old ≡ option_map (λ word. (word.now, self.new)) result }
+        ensures left { self.new ≡ drop 1 self.old }
     {
         let line = self.rest?;
         match split_word(line) {
@@ -83,10 +84,12 @@ impl<'a> Words<'a> {
         }
     }
 
-    /// Takes the one word that is left.
+    /// Takes the one word that is left. At `None` there was none, or there were several, of which two are gone.
+    #[tactic(auto, using(crate::proofs::Taken::none_behind, crate::proofs::Taken::two_behind))]
     #[inline(always)]
     pub fn last_word(&mut self) -> Option<&'a [u8]>
-        ensures { last_word self.old ≡ option_map (λ word. word.now) result }
+        ensures word { last_word self.old ≡ option_map (λ word. word.now) result }
+        ensures left { self.new ≡ drop 2 self.old }
     {
         let word = self.next_word()?;
         match self.next_word() {

@@ -5,7 +5,7 @@ use crate::bad_resume::BadResume;
 use std::mem;
 
 /// What one slot holds.
-#[derive(Debug, Drop)]
+#[derive(Drop)]
 pub enum Slot<T> {
     /// No call.
     Free,

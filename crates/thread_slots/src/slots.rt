@@ -13,7 +13,7 @@ pub const MAX_SLOTS: u8 = 16;
 
 /// Slots for calls that are under way, which contracts see as the list of what each holds, by its number.
 /// `T` is what a suspended call goes on with. It is moved in and out, and never copied.
-#[derive(Debug, Drop)]
+#[derive(Drop)]
 pub struct Slots<T> {
     slots: Vec<Slot<T>>,
 }

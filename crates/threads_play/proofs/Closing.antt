@@ -13,11 +13,11 @@ use Rattle.kernel_state.specs.Meaning.{booted_of, events_of}
 use Rattle.kernel_state.specs.declared.kernel_core.Core.{Core}
 use Rattle.normal_cpus.specs.Sharing.{AreAllCpusOf, AreCpusOf, CpuPass, IsCpuOf, boot_of}
 use Rattle.normal_cpus.specs.declared.shared_core.SharedCore.{SharedCore}
-use Rattle.shared_play.specs.Ended.{texts_of}
+use Rattle.threads_play.specs.Ended.{texts_of}
 use Rattle.ta_isa.specs.declared.boot.Boot.{Boot}
 use Rattle.trace_text.specs.declared.item.Item.{Item}
 use Rattle.trace_text.specs.declared.trace.Trace.{Trace}
-use Rattle.cpu_player.specs.declared.ending.CpuEnd.{CpuEnd}
+use Rattle.threads_play.specs.declared.ending.CpuEnd.{CpuEnd}
 use Rattle.threads_play.proofs.Works.{maps_same}
 use Rattle.threads_play.specs.Laws.{AllPlayed, EndsArePlayed}
 use Rattle.threads_play.specs.Played.{IsOfTrace, TakeTurns, WasPlayed}

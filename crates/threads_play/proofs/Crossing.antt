@@ -16,7 +16,7 @@ use Rattle.std.proofs.Crossing as any
 use Rattle.std.proofs.vec.Vec.TheSendSync as vec
 use Rattle.trace_text.proofs.item.Item.TheSendSync as item
 use Rattle.trace_text.specs.contracts.item.Item as Item
-use Rattle.cpu_player.specs.contracts.ending.CpuEnd as CpuEnd
+use Rattle.threads_play.specs.contracts.ending.CpuEnd as CpuEnd
 use Rattle.threads_play.specs.contracts.threads.Lent as Lent
 
 pub pass_send : IsSend (Pass.the_row Core.the_row Event.the_row CoreBasis.the_row)

@@ -1,6 +1,17 @@
+mod Blocks
 mod Closing
+mod CpuEnds
 mod Crossing
+mod Gathering
+mod Merging
+mod Moves
+mod Others
 mod Pairs
+mod Parts
+mod Passes
 mod Refusing
+mod Staying
+mod Taking
 mod Texts
+mod TracesInTurn
 mod Works

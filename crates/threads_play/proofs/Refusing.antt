@@ -19,9 +19,9 @@ use Rattle.play_model.specs.Play.{filled}
 use Rattle.ta_isa.specs.declared.boot.Boot.{Boot}
 use Rattle.trace_text.specs.declared.item.Item.{Item}
 use Rattle.trace_text.specs.declared.trace.Trace.{Trace}
-use Rattle.cpu_player.specs.declared.ending.CpuEnd.{CpuEnd}
-use Rattle.shared_play.proofs.Merging.{apart}
-use Rattle.shared_play.specs.Ended.{HaveEnded, place_by, place_of, places_of}
+use Rattle.threads_play.specs.declared.ending.CpuEnd.{CpuEnd}
+use Rattle.threads_play.proofs.Merging.{apart}
+use Rattle.threads_play.specs.Ended.{HaveEnded, place_by, place_of, places_of}
 use Rattle.threads_play.specs.Work.{was_refused}
 
 -- ---- a part has no refused entry

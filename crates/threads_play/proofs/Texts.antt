@@ -3,8 +3,8 @@ use Rattle.std.proofs.Common.{◌≡◌, ◌<◌, ◌+◌, ℕ, List, [], ◌∷
 use Rattle.std.specs.List.{flat_map}
 use Rattle.std.proofs.lemmas.List.{append-nil, map_more}
 use Rattle.std.proofs.lemmas.List.Concat.{flat_map-append}
-use Rattle.cpu_player.specs.declared.ending.CpuEnd.{CpuEnd}
-use Rattle.shared_play.specs.Ended.{texts_of}
+use Rattle.threads_play.specs.declared.ending.CpuEnd.{CpuEnd}
+use Rattle.threads_play.specs.Ended.{texts_of}
 
 -- one more block
 pub next_block : (ends : List CpuEnd) (i : ℕ) (end d : CpuEnd) (before after : List ℕ) → i < length ends → end ≡ get_or ends i d

@@ -22,11 +22,11 @@ use Rattle.play_model.specs.Play.{filled}
 use Rattle.ta_isa.specs.declared.boot.Boot.{Boot}
 use Rattle.trace_text.specs.declared.item.Item.{Item}
 use Rattle.trace_text.specs.declared.trace.Trace.{Trace}
-use Rattle.cpu_player.specs.Ending.{EndsAs}
-use Rattle.cpu_player.specs.declared.ending.CpuEnd.{CpuEnd}
-use Rattle.shared_play.specs.Ended.{HasEndedOn, HaveEnded, places_of}
-use Rattle.shared_play.specs.Laws.{EndsGather, EndsMerge}
-use Rattle.shared_play.proofs.Merging.{apart}
+use Rattle.threads_play.specs.Ending.{EndsAs}
+use Rattle.threads_play.specs.declared.ending.CpuEnd.{CpuEnd}
+use Rattle.threads_play.specs.Ended.{HasEndedOn, HaveEnded, places_of}
+use Rattle.threads_play.specs.Laws.{EndsGather, EndsMerge}
+use Rattle.threads_play.proofs.Merging.{apart}
 use Rattle.threads_play.proofs.Refusing.{refused_says}
 use Rattle.threads_play.specs.Laws.{AllPlayed, EndsArePlayed}
 use Rattle.threads_play.specs.Played.{IsOfTrace}

@@ -11,7 +11,7 @@ use Rattle.play_model.specs.Play.{filled}
 use Rattle.ta_isa.specs.declared.boot.Boot.{Boot}
 use Rattle.trace_text.specs.declared.item.Item.{Item}
 use Rattle.trace_text.specs.declared.trace.Trace.{Trace}
-use Rattle.cpu_player.specs.InTurn.{AreInTurn}
+use Rattle.threads_play.specs.InTurn.{AreInTurn}
 
 -- each processor comes in and goes out by turns
 abbrev pub TakeTurns : List Item → Type 0

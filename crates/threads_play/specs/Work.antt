@@ -8,9 +8,9 @@ use Rattle.normal_cpus.specs.declared.shared_core.SharedCore.{SharedCore}
 use Rattle.ordered_play.specs.Act.{acts_for}
 use Rattle.ordered_play.specs.Merge.{share_of}
 use Rattle.trace_text.specs.declared.item.Item.{Item}
-use Rattle.cpu_player.specs.Ending.{EndsAs}
-use Rattle.cpu_player.specs.InTurn.{AreInTurn}
-use Rattle.cpu_player.specs.declared.ending.CpuEnd.{CpuEnd}
+use Rattle.threads_play.specs.Ending.{EndsAs}
+use Rattle.threads_play.specs.InTurn.{AreInTurn}
+use Rattle.threads_play.specs.declared.ending.CpuEnd.{CpuEnd}
 
 -- a pass of this core that has made no event, with RAM, whose processor comes in and goes out by turns
 pub record CanPlay (shared : SharedCore) (items : List Item) (job : CpuPass × List ℕ) : Type 0 where

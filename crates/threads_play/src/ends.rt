@@ -1,11 +1,11 @@
 //! What the threads give back.
 ghost use Rattle.std.specs.Prelude.{◌≡◌, map, IfOk};
 ghost use Rattle.std.specs.List.{flat_map, list_any};
-ghost use Rattle.cpu_player.specs.declared.ending.CpuEnd.{CpuEnd};
-ghost use Rattle.shared_play.specs.Ended.{texts_of};
+ghost use Rattle.threads_play.specs.declared.ending.CpuEnd.{CpuEnd};
+ghost use Rattle.threads_play.specs.Ended.{texts_of};
 ghost use Rattle.threads_play.specs.Work.{lacks_memory, was_refused};
 
-use cpu_player::CpuEnd;
+use crate::ending::CpuEnd;
 use kernel_state::EnterRefusal;
 use normal_cpus::CpuPass;
 use std::alloc::{AllocError, Global};

@@ -1,10 +1,11 @@
 //! Each processor has a thread of its own.
 ghost use Rattle.std.specs.Prelude.{◌≡◌, ◌<◌, ℕ, List, All, IfOk, length, slice_index_or};
 ghost use Rattle.normal_cpus.specs.Sharing.{CpuPass};
-ghost use Rattle.cpu_player.specs.declared.ending.CpuEnd.{CpuEnd};
+ghost use Rattle.threads_play.specs.declared.ending.CpuEnd.{CpuEnd};
 ghost use Rattle.threads_play.specs.Work.{CanPlay, HasPlayed};
 
-use cpu_player::{CpuEnd, play_cpu};
+use crate::cpu_playing::play_cpu;
+use crate::ending::CpuEnd;
 use normal_cpus::{CpuPass, SharedCore};
 use ns_ram::Lane;
 use ports::Pace;

@@ -5,4 +5,5 @@ pub use crate::body::{body_len, long_at, word_at};
 pub use crate::reading::front_fault;
 pub use crate::record_kind::RecordKind;
 pub use crate::taking::{take_boot, take_key, take_ta};
-pub use crate::writing::{put_apps, put_boot, put_counted, put_key, put_long, put_word};
+pub use crate::writing::{put_apps, put_boot, put_counted, put_key, put_long};
+pub use ta_isa::put_word;

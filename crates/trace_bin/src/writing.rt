@@ -11,7 +11,7 @@ use crate::reading::MAGIC;
 use base::NoMemory;
 use byteorder::{ByteOrder, LittleEndian};
 use std::alloc::Global;
-use ta_isa::{App, Boot, encode_image};
+use ta_isa::{App, Boot, encode_image, put_word};
 use trace_text::limits::KEY_BYTES;
 use trace_text::{Fill, Item, Reg, Trace};
 
@@ -20,15 +20,6 @@ fn put_short(out: &mut Vec<u8>, number: u16) -> Result<(), NoMemory>
 {
     let mut bytes = [0; 2];
     LittleEndian::write_u16(&mut bytes, number);
-    out.extend_from_slice(&bytes)?;
-    Ok(())
-}
-
-pub fn put_word(out: &mut Vec<u8>, number: u32) -> Result<(), NoMemory>
-    ensures { OnOk result (out.new.items ≡ out.old.items ++ little_bytes 4 number) }
-{
-    let mut bytes = [0; 4];
-    LittleEndian::write_u32(&mut bytes, number);
     out.extend_from_slice(&bytes)?;
     Ok(())
 }

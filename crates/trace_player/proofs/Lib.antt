@@ -2,3 +2,4 @@ pub mod Answers
 pub mod Played
 pub mod Moved
 pub mod Playable
+pub mod Booting

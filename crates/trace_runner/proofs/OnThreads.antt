@@ -18,19 +18,19 @@ use Rattle.trace_text.specs.Sound.{IsSound}
 use Rattle.trace_text.specs.declared.item.Item.{Item}
 use Rattle.trace_text.specs.declared.trace.Fill.{Fill}
 use Rattle.trace_text.specs.declared.trace.Trace.{Trace}
-use Rattle.trace_runner.specs.Content.{Spells}
-use Rattle.trace_runner.specs.Plays.{IsUnplayed}
-use Rattle.trace_runner.specs.Run.{reading}
+use Rattle.alone_runner.specs.Content.{Spells}
+use Rattle.alone_runner.specs.Plays.{IsUnplayed}
+use Rattle.alone_runner.specs.Run.{reading}
 use Rattle.word_parts.specs.Word.{CanBeRefused, IsBad, IsRefusedWhole}
 use Rattle.trace_player.specs.Starting.{trace_of, uuids_of}
 use Rattle.trace_runner.specs.Threads.{AnsweredOnThreads, AreBlocks, BlocksOf, CanBePlayedOnThreads, IsPlayedInOrder, IsPlayedOnThreads, IsServedByThreads, IsTrueInOrder, PrintsBlocks, RanOnThreads, ThreadStatuses, WritesPartOnThreads, status_where}
-use Rattle.trace_runner.specs.declared.content.Content.TheVariants as content
-use Rattle.trace_runner.specs.declared.command.Grammar.TheVariants.{Text}
+use Rattle.alone_runner.specs.declared.content.Content.TheVariants as content
+use Rattle.alone_runner.specs.declared.command.Grammar.TheVariants.{Text}
 use Rattle.word_parts.specs.declared.status.Status.{Status}
 use Rattle.word_parts.specs.declared.status.Status.TheVariants.{BadTrace, ReadFault, WriteFault, Memory, TooLong}
 use Rattle.word_parts.specs.declared.status.Status.TheVariants as status
-use Rattle.trace_runner.proofs.Legal.{exits_in, refused_in}
-use Rattle.trace_runner.proofs.Readings.{one_meaning}
+use Rattle.play_model.proofs.TrueToKernel.{exits_in, refused_in}
+use Rattle.alone_runner.proofs.Readings.{one_meaning}
 use Rattle.word_parts.specs.Answer.{Writes}
 use Rattle.word_parts.specs.Input.{IsAtEnd, IsTooLong, IsUnreadAs}
 use Rattle.word_parts.specs.Limits.{HasTooMany}

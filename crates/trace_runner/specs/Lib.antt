@@ -1,8 +1,1 @@
-pub mod Words
-pub mod Line
-pub mod Content
-pub mod Run
-pub mod Plays
 pub mod Threads
-pub mod Counts
-pub mod Digesting

@@ -13,12 +13,12 @@ use Rattle.ports.specs.Port.{Appends}
 use Rattle.ta_isa.specs.declared.boot.Boot.{Boot}
 use Rattle.trace_text.specs.declared.fault.BadKind.{BadKind}
 use Rattle.trace_text.specs.declared.trace.Trace.{Trace}
-use Rattle.trace_runner.specs.Content.{IsFirstFault, Spells}
-use Rattle.trace_runner.specs.Plays.{IsUnplayed}
-use Rattle.trace_runner.specs.Run.{reading}
+use Rattle.alone_runner.specs.Content.{IsFirstFault, Spells}
+use Rattle.alone_runner.specs.Plays.{IsUnplayed}
+use Rattle.alone_runner.specs.Run.{reading}
 use Rattle.trace_player.specs.Starting.{uuids_of}
-use Rattle.trace_runner.specs.declared.content.Content.TheVariants as content
-use Rattle.trace_runner.specs.declared.command.Grammar.TheVariants.{Text}
+use Rattle.alone_runner.specs.declared.content.Content.TheVariants as content
+use Rattle.alone_runner.specs.declared.command.Grammar.TheVariants.{Text}
 use Rattle.word_parts.specs.Answer.{IsUnread, Writes}
 use Rattle.word_parts.specs.Input.{IsTooLong}
 use Rattle.word_parts.specs.Limits.{HasTooMany}

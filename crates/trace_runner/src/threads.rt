@@ -10,14 +10,13 @@ ghost use Rattle.trace_runner.specs.Threads.{AnsweredOnThreads, IsPlayedInOrder,
 
 use base::NoMemory;
 use core_machine::{core_of, first_lanes};
-use cpu_player::sound_traces_are_in_turn;
 use native_tas::Natives;
 use ports::{Pace, Sink, Source};
 use std::alloc::Global;
 use std::sync::Wait;
 use std::thread::Threads;
 use ta_isa::Boot;
-use threads_play::play_on_threads;
+use threads_play::{play_on_threads, sound_traces_are_in_turn};
 use trace_text::{Fill, Item, Trace, read_trace};
 use word_parts::{Status, answer_fault, answer_line, has_too_many, read_whole};
 

@@ -1,7 +1,7 @@
 use base::Sequence;
 
 /// The value of a register of a call.
-#[derive(Clone, Copy, Debug, PartialEq, Eq)]
+#[derive(Clone, Copy, Debug)]
 pub enum Reg {
     /// This number.
     Num(u32),

@@ -27,7 +27,7 @@ pub const MAX_SHOWN: u32 = 4096;
 pub const KEY_BYTES: usize = 32;
 
 /// What a boot says but for its applications and its key.
-#[derive(Clone, Copy, Debug, Drop)]
+#[derive(Clone, Copy, Drop)]
 pub struct Size {
     pub cpus: u8,
     pub threads: u8,

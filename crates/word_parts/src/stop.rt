@@ -6,7 +6,7 @@ use kernel_state::EnterRefusal;
 use std::alloc::AllocError;
 
 /// Why a play stopped before its end.
-#[derive(Clone, Copy, Debug, PartialEq, Eq)]
+#[derive(Clone, Copy)]
 pub enum Stop {
     /// An entry was refused, since all entries would then have read more than 2^28 bytes.
     Full,

@@ -7,7 +7,7 @@ use base::NoMemory;
 use byteorder::{ByteOrder, LittleEndian};
 
 /// What a head says beside pad, ret and origin, which are 0.
-#[derive(Clone, Copy, Debug)]
+#[derive(Clone, Copy)]
 pub struct Head {
     pub cmd: u32,
     pub func: u32,

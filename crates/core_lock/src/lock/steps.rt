@@ -6,9 +6,10 @@ ghost use Rattle.atomic_table.specs.Table.{rest};
 ghost use Rattle.core_lock.specs.Rule.{IsRecord};
 
 use super::CoreLock;
-use crate::logged::Logged;
+use crate::held::Held;
 use crate::pass::LockSeat;
 use crate::rule::{Counts, Deals, Draws, Gathers, Looks, Serves};
+use base::Logged;
 use std::sync::Wait;
 use std::thread;
 
@@ -62,7 +63,7 @@ impl<T: Logged> CoreLock<T> {
     }
 
     // Takes the value out of the slot.
-    pub(crate) fn take(&self, seat: &mut LockSeat<T>) -> T
+    pub(crate) fn take(&self, seat: &mut LockSeat<T>) -> Held<T>
         requires own { seat.old.table_id ≡ self.now.table.shared.table_id }
         requires held { (x : T) × (seat.old.me.1 ≡ (0, Some x) ∷ []) }
         ensures same { IsSameSeat seat.old seat.new }
@@ -76,7 +77,7 @@ impl<T: Logged> CoreLock<T> {
     }
 
     // Puts the value into the slot.
-    pub(crate) fn put(&self, seat: &mut LockSeat<T>, value: T)
+    pub(crate) fn put(&self, seat: &mut LockSeat<T>, value: Held<T>)
         requires own { seat.old.table_id ≡ self.now.table.shared.table_id }
         requires empty { seat.old.me.1 ≡ (0, None) ∷ [] }
         ensures same { IsSameSeat seat.old seat.new }

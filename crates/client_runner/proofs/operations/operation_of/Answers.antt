@@ -1,7 +1,7 @@
 use Rattle.std.proofs.Common.{sym, subst}
 use Rattle.std.specs.Prelude.{length}
-use Rattle.teec_calls.specs.Operation.{IsSendable, Sends}
-use Rattle.teec_calls.specs.declared.operation.Operation.{Operation}
+use Rattle.teec.specs.Operation.{IsSendable, Sends}
+use Rattle.teec.specs.declared.operation.Operation.{Operation}
 use Rattle.client_runner.proofs.Sendable.{operation_is, sendable, sends}
 use Rattle.client_runner.proofs.operations.operation_of.Goals as goal
 

@@ -5,7 +5,8 @@ use Rattle.native_tas.specs.Table.{entries}
 use Rattle.trace_player.specs.Starting.{uuids_of}
 use Rattle.word_parts.proofs.Worded.{fault-answered}
 use Rattle.client_runner.specs.Client.{client_word}
-use Rattle.client_runner.proofs.Answering.{AreApart, can_be_played}
+use Rattle.client_runner.proofs.Answering.{can_be_played}
+use Rattle.trace_player.proofs.Booting.{AreApart}
 use Rattle.client_runner.proofs.word.answer.Goals as goal
 
 pub returns-in-Ok-clause-answered : goal.returns-in-Ok-clause-answered

@@ -2,7 +2,7 @@
 use Rattle.std.proofs.Common.{List, ℕ, Some, ap, map, string_bytes, subst, ◌∙◌}
 use Rattle.std.specs.Prelude.{◌++◌}
 use Rattle.native_tas.specs.Table.{drivers, entries}
-use Rattle.trace_runner.specs.Run.{usage_line}
+use Rattle.alone_runner.specs.Run.{usage_line}
 use Rattle.word_parts.specs.Answer.{Writes}
 use Rattle.word_parts.specs.declared.status.Status.TheVariants.{Usage}
 use Rattle.core_c.proofs.Runs.{Clauses, not_threads, of_clauses, of_threads}

@@ -1,6 +1,6 @@
 -- No words ask for nothing, so they are answered with the usage line.
 use Rattle.core_c.proofs.Runs.{no_words, quiet}
-use Rattle.trace_runner.specs.declared.command.Command.TheVariants.{Threads}
+use Rattle.alone_runner.specs.declared.command.Command.TheVariants.{Threads}
 use Rattle.core_c.proofs.calling.tell_usage.Goals as goal
 
 pub run_alone-requires : goal.run_alone-requires

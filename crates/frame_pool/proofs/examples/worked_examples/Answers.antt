@@ -9,7 +9,6 @@ three_zeros = refl
 
 pub returns : goal.returns
 returns c = record {
-  most_frames = refl;
   no_zeros = no_zeros;
   three_zeros = three_zeros;
   no_pages = refl;

@@ -12,19 +12,19 @@ use Rattle.instance_groups.proofs.group.read_group_log.Goals as goal
 
 pub new-requires-clause-limits : goal.new-requires-clause-limits
 new-requires-clause-limits g c =
-    subst IsWithinLimits (sym c.in_ok-copy_boot.ensures)
+    subst IsWithinLimits (sym c.in_ok-clone.ensures.cases)
     (within_limits c.args.boot.now (entries c.args.natives.now) c.requires.legal.boots)
 
 pub new-requires-clause-apart : goal.new-requires-clause-apart
 new-requires-clause-apart g c =
-    subst (λ (b : Boot). IsApart b (entries c.args.natives.now)) (sym c.in_ok-copy_boot.ensures)
+    subst (λ (b : Boot). IsApart b (entries c.args.natives.now)) (sym c.in_ok-clone.ensures.cases)
     (apart_booted c.args.boot.now (entries c.args.natives.now) c.requires.legal.boots)
 
 pub log_of-requires-clause-journal : goal.log_of-requires-clause-journal
 log_of-requires-clause-journal g c =
     let natives = entries c.args.natives.now in
     let same : booted_of c.in_ok-replay.replay.core ≡ booted c.args.boot.now natives =
-    c.in_ok-replay.ensures.booted ∙ ap (λ (b : Boot). booted b natives) c.in_ok-copy_boot.ensures in
+    c.in_ok-replay.ensures.booted ∙ ap (λ (b : Boot). booted b natives) c.in_ok-clone.ensures.cases in
     subst (λ (b : Booted). IsJournal b c.as_slice.result.now) (sym same)
     (subst (IsJournal (booted c.args.boot.now natives)) (sym c.as_slice.ensures) c.requires)
 

@@ -15,7 +15,7 @@ play_items-requires g c = (
 )
 
 pub write_journal-requires-clause-boot : goal.write_journal-requires-clause-boot
-write_journal-requires-clause-boot g c = subst IsBoot (sym c.in_ok-header.ensures) c.requires.boot.boots
+write_journal-requires-clause-boot g c = subst IsBoot (sym c.in_ok-header.ensures.cases) c.requires.boot.boots
 
 pub write_journal-requires-clause-journal : goal.write_journal-requires-clause-journal
 write_journal-requires-clause-journal g c =
@@ -23,7 +23,7 @@ write_journal-requires-clause-journal g c =
     let trace = trace_of c.args.boot c.args.fills.now c.args.items.now in
     let start = at-start _ _ _ _ c.in_ok-player.player c.requires c.in_ok-player.ensures.boots c.in_ok-player.ensures.stands in
     sound_journal natives trace c.play_items.new.player c.in_ok-status.status (c.in_ok-status.ensures natives trace start)
-    c.in_ok-header.header (ap Some (sym c.in_ok-header.ensures)) _ c.journal.ensures c.core_journals_are_sound.ensures
+    c.in_ok-header.header (ap Some (sym c.in_ok-header.ensures.cases)) _ c.journal.ensures c.core_journals_are_sound.ensures
 
 pub returns : goal.returns
 returns g c =
@@ -31,7 +31,7 @@ returns g c =
     let trace = trace_of c.args.boot c.args.fills.now c.args.items.now in
     let start = at-start _ _ _ _ c.in_ok-player.player c.requires c.in_ok-player.ensures.boots c.in_ok-player.ensures.stands in
     let end = c.in_ok-status.ensures natives trace start in
-    let has_boot = ap Some (sym c.in_ok-header.ensures) in
+    let has_boot = ap Some (sym c.in_ok-header.ensures.cases) in
     record {
       bytes = journal_is natives trace c.play_items.new.player c.in_ok-status.status end c.in_ok-header.header has_boot _ c.journal.ensures
           c.in_ok-bytes.bytes.items c.in_ok-bytes.ensures;

@@ -5,7 +5,8 @@ use Rattle.trace_player.specs.Starting.{uuids_of}
 use Rattle.trace_text.specs.Grammar.{IsFaultOf, Spells}
 use Rattle.word_parts.proofs.Worded.{fault-answered}
 use Rattle.journal_runner.specs.Recording.{recording}
-use Rattle.journal_runner.proofs.Booting.{AreApart, can_boot}
+use Rattle.journal_runner.proofs.Booting.{can_boot}
+use Rattle.trace_player.proofs.Booting.{AreApart}
 use Rattle.journal_runner.proofs.recording.answer.Goals as goal
 
 pub returns-in-Ok-clause-answered : goal.returns-in-Ok-clause-answered

@@ -2,7 +2,7 @@
 use Rattle.std.proofs.Common.{◌≡◌, ℕ, List, sym, subst, Option}
 use Rattle.std.proofs.Math.Logic.{∥∥₁_elim}
 use Rattle.std.specs.Prelude.{IsSome, IsSomeAnd}
-use Rattle.call_leaving.specs.Leaving.{leaving_as}
+use Rattle.kernel_state.specs.CallLeaving.{leaving_as}
 use Rattle.kernel_model.specs.Exit.{progress_in, writes_of}
 use Rattle.kernel_model.specs.Kernel.{PendingCall, Tables as AnyTables}
 use Rattle.kernel_model.specs.Leaving.{leaving_of}

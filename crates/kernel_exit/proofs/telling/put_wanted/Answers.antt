@@ -1,7 +1,7 @@
 -- To sleep and to wake have no bytes beside them.
 use Rattle.std.proofs.Common.{ap, sym, ◌∙◌}
-use Rattle.call_leaving.specs.Leaving.{request_of}
-use Rattle.call_leaving.specs.declared.leaving.Wanted.{Wanted as AnyWanted}
+use Rattle.kernel_state.specs.CallLeaving.{request_of}
+use Rattle.kernel_state.specs.declared.leaving.Wanted.{Wanted as AnyWanted}
 use Rattle.ns_ram.specs.Writes.{lane_after}
 use Rattle.rpc_msgs.specs.Place.{writes_at}
 use Rattle.kernel_exit.proofs.telling.put_wanted.Goals as goal

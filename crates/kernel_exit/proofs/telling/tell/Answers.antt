@@ -1,6 +1,6 @@
 use Rattle.std.proofs.Common.{ap, sym, ◌∙◌}
-use Rattle.call_leaving.specs.Leaving.{leaving_as}
-use Rattle.call_leaving.specs.declared.leaving.Leaving.{Leaving as AnyLeaving}
+use Rattle.kernel_state.specs.CallLeaving.{leaving_as}
+use Rattle.kernel_state.specs.declared.leaving.Leaving.{Leaving as AnyLeaving}
 use Rattle.kernel_model.specs.Exit.{writes_of}
 use Rattle.ns_ram.specs.Writes.{lane_after}
 use Rattle.kernel_exit.proofs.telling.tell.Goals as goal

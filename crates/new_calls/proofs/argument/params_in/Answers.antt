@@ -1,14 +1,13 @@
-use Rattle.std.proofs.Common.{◌≡◌, ◌++◌, ap, ◌∙◌, rules, arith}
-use Rattle.std.proofs.lemmas.Grind.{common_steps}
-use Rattle.new_calls.proofs.Params.{params_read, read_behind}
+use Rattle.std.proofs.Common.{ap, ◌∙◌}
+use Rattle.std.specs.Option.{option_map}
+use Rattle.std.specs.Result.{result_ok}
+use Rattle.std.specs.Simd.{first_chunks}
+use Rattle.arrayvec.specs.ArrayVec.{ArrayVec}
+use Rattle.msg_args.specs.declared.param.MsgParam.{MsgParam}
+use Rattle.new_calls.proofs.Params.{params_read}
 use Rattle.new_calls.proofs.argument.params_in.Goals as goal
 
-pub returns-in-Ok : goal.returns-in-Ok
-returns-in-Ok c =
-    let whole : c.as_slice.result.now ≡ c.counting_head.result ++ c.args.bytes.now = grind (arith, common_steps) in
-    ap params_read (c.in-Ok.ensures.exact) ∙ rw whole (read_behind c.counting_head.result c.args.bytes.now c.args.count (search rules) c.counting_head.ensures c.requires.few c.requires.whole)
-
-pub returns-in-Err : goal.returns-in-Err
-returns-in-Err c =
-    let whole : c.as_slice.result.now ≡ c.counting_head.result ++ c.args.bytes.now = grind (arith, common_steps) in
-    ap params_read (c.in-Err.ensures.exact) ∙ rw whole (read_behind c.counting_head.result c.args.bytes.now c.args.count (search rules) c.counting_head.ensures c.requires.few c.requires.whole)
+pub returns : goal.returns
+returns c =
+    ap (option_map (λ (params : ArrayVec MsgParam). params.items)) (c.ok.ensures.value ∙ ap result_ok c.read_params.ensures)
+    ∙ params_read (first_chunks 32 c.args.count c.args.bytes.now)

@@ -5,7 +5,8 @@ use Rattle.notify_text.specs.Grammar.{IsFaultOf, Spells}
 use Rattle.trace_player.specs.Starting.{uuids_of}
 use Rattle.word_parts.proofs.Worded.{fault-answered}
 use Rattle.notify_runner.specs.Run.{notifying}
-use Rattle.notify_runner.proofs.Running.{AreApart, can_be_booted}
+use Rattle.notify_runner.proofs.Running.{can_be_booted}
+use Rattle.trace_player.proofs.Booting.{AreApart}
 use Rattle.notify_runner.proofs.word.answer.Goals as goal
 
 pub returns-in-Ok-clause-answered : goal.returns-in-Ok-clause-answered

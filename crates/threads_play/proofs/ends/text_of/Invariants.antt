@@ -1,6 +1,6 @@
 use Rattle.std.proofs.Common.{◌≡◌, take}
 use Rattle.std.specs.List.{flat_map}
-use Rattle.shared_play.specs.Ended.{texts_of}
+use Rattle.threads_play.specs.Ended.{texts_of}
 use Rattle.threads_play.proofs.ends.text_of.Given as goal
 
 abbrev pub invariant-loop-end : goal.invariant-loop-end

@@ -8,8 +8,8 @@ use Rattle.kernel_model.specs.Application.{Booted}
 use Rattle.kernel_model.specs.Turns.{cpu_of}
 use Rattle.kernel_state.specs.Meaning.{booted_of, events_of}
 use Rattle.normal_cpus.specs.Sharing.{AreAllCpusOf, AreCpusOf, CpuPass}
-use Rattle.shared_play.specs.Ended.{texts_of}
-use Rattle.cpu_player.specs.declared.ending.CpuEnd.{CpuEnd}
+use Rattle.threads_play.specs.Ended.{texts_of}
+use Rattle.threads_play.specs.declared.ending.CpuEnd.{CpuEnd}
 use Rattle.threads_play.proofs.Closing.{all_played, can_play, closes_all, closes_own, passes_count, were_played}
 use Rattle.threads_play.specs.Work.{lacks_memory, was_refused}
 use Rattle.threads_play.proofs.playing.play_on_threads.Goals as goal

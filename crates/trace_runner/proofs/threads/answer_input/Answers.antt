@@ -3,8 +3,8 @@ use Rattle.std.proofs.Common.{List, ℕ, inl, inr, subst, ◌∙◌}
 use Rattle.native_tas.specs.Table.{entries}
 use Rattle.trace_text.specs.Grammar.{IsFaultOf, Spells}
 use Rattle.word_parts.proofs.Worded.{fault-refused}
-use Rattle.trace_runner.specs.Run.{reading}
-use Rattle.trace_runner.specs.declared.command.Grammar.TheVariants.{Text}
+use Rattle.alone_runner.specs.Run.{reading}
+use Rattle.alone_runner.specs.declared.command.Grammar.TheVariants.{Text}
 use Rattle.trace_player.specs.Starting.{uuids_of}
 use Rattle.trace_runner.proofs.threads.answer_input.Goals as goal
 

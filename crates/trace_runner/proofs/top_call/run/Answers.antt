@@ -1,5 +1,5 @@
-use Rattle.trace_runner.specs.declared.command.Command.TheVariants.{Threads, Record, Audit, Compare, Notify, Client}
-use Rattle.trace_runner.proofs.Readings.{no_other}
+use Rattle.alone_runner.specs.declared.command.Command.TheVariants.{Threads, Record, Audit, Compare, Notify, Client}
+use Rattle.alone_runner.proofs.Readings.{no_other}
 use Rattle.trace_runner.proofs.OnThreads.{threads-refused, threads-statuses, threads-whole}
 use Rattle.trace_runner.proofs.top_call.run.Goals as goal
 

@@ -1,9 +1,9 @@
 use Rattle.std.proofs.Common.{[], ◌∷◌, ◌++◌, length, ap, ◌∙◌}
 use Rattle.client_text.specs.declared.script.ScriptCall.TheVariants as script
 use Rattle.teec.specs.Calls.{open_call}
-use Rattle.teec_calls.specs.Operation.{operation_back}
-use Rattle.teec_calls.specs.declared.outcome.Opened.{Opened}
-use Rattle.teec_calls.specs.declared.operation.Operation.{Operation}
+use Rattle.teec.specs.Operation.{operation_back}
+use Rattle.teec.specs.declared.outcome.Opened.{Opened}
+use Rattle.teec.specs.declared.operation.Operation.{Operation}
 use Rattle.client_runner.proofs.Called.{can_stop_so, returns_so, stops_so}
 use Rattle.client_runner.proofs.player.ScriptPlayer.open.Goals as goal
 

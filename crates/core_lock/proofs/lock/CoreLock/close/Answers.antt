@@ -18,7 +18,7 @@ returns-clause-basis g c =
     let s = c.gather-seat.ensures in
     let e = ends g.T.Logged.entries g.T.Logged.maker g.T.Logged.basis _ _ _ _ _ _ s.outside s.numbers c.close_with-closed.ensures.values.2 in
     let found = some-injective _ _ (sym e.there ∙ c.in-Some.ensures.value) in
-    let one : e.value ≡ c.in-Some.value = cc found in
+    let one : e.value ≡ c.into_inner.result = cc found ∙ sym c.into_inner.ensures in
     ap g.T.Logged.basis (sym one) ∙ e.basis_is
 
 pub returns-clause-passes : goal.returns-clause-passes
@@ -26,7 +26,7 @@ returns-clause-passes g c =
     let s = c.gather-seat.ensures in
     let e = ends g.T.Logged.entries g.T.Logged.maker g.T.Logged.basis _ _ _ _ _ _ s.outside s.numbers c.close_with-closed.ensures.values.2 in
     let found = some-injective _ _ (sym e.there ∙ c.in-Some.ensures.value) in
-    let one : e.value ≡ c.in-Some.value = cc found in
+    let one : e.value ≡ c.into_inner.result = cc found ∙ sym c.into_inner.ensures in
     subst (λ x. All (IsIn g.T.Logged.maker (g.T.Logged.entries x)) c.args.passes.items) one
     (All-weaker (Tells g.T.Logged.maker c.gather-seat.result.me.0) (IsIn g.T.Logged.maker (g.T.Logged.entries e.value)) (λ p tells. tells _ e.records) c.args.passes.items s.tells)
 
@@ -35,5 +35,5 @@ returns-clause-makers g c =
     let s = c.gather-seat.ensures in
     let e = ends g.T.Logged.entries g.T.Logged.maker g.T.Logged.basis _ _ _ _ _ _ s.outside s.numbers c.close_with-closed.ensures.values.2 in
     let found = some-injective _ _ (sym e.there ∙ c.in-Some.ensures.value) in
-    let one : e.value ≡ c.in-Some.value = cc found in
+    let one : e.value ≡ c.into_inner.result = cc found ∙ sym c.into_inner.ensures in
     subst (λ x. All (λ y. g.T.Logged.maker y < count_of c.args.self) (g.T.Logged.entries x)) one e.makers

@@ -1,5 +1,5 @@
 use Rattle.std.proofs.Common.{◌≡◌, ℕ, suc, sym, ap, ◌∙◌, subst, add-one, arith}
-use Rattle.teec_calls.specs.Answers.{said}
+use Rattle.teec.specs.Answers.{said}
 use Rattle.teec.specs.Rounds.{after_resume, after_return}
 use Rattle.teec.specs.Runs.{Went, moment, scene_of}
 use Rattle.teec.proofs.Going.{passed_on, returned_so, returned_bound, returned_end, returned_next, returned_strange, stopped_then, went_then}

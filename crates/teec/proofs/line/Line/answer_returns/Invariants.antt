@@ -1,5 +1,5 @@
 use Rattle.std.proofs.Common.{◌≡◌}
-use Rattle.teec_calls.specs.Answers.{said}
+use Rattle.teec.specs.Answers.{said}
 use Rattle.teec.specs.Calls.{Call}
 use Rattle.teec.specs.Rounds.{after_resume}
 use Rattle.teec.specs.Runs.{Went, moment}

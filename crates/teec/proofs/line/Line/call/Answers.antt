@@ -1,6 +1,6 @@
 use Rattle.std.proofs.Common.{refl}
 use Rattle.std.proofs.lemmas.Result.{IfErr-weaker, on_ok_weaker}
-use Rattle.teec_calls.specs.Answers.{said}
+use Rattle.teec.specs.Answers.{said}
 use Rattle.teec.specs.Rounds.{Calls, Ended, after_resume}
 use Rattle.teec.specs.Runs.{moment, scene_of}
 use Rattle.teec.proofs.Going.{stopped_then, went_then}

@@ -1,7 +1,7 @@
 use Rattle.std.proofs.Common.{◌≡◌, ℕ, List, Some, inr, sym, ap, ap₂, ◌∙◌, subst}
 use Rattle.smc_abi.specs.declared.regs.Regs.{Regs}
 use Rattle.supplicant.specs.Supplicant.{Storage}
-use Rattle.teec_calls.specs.declared.answer.RpcKind.{RpcKind}
+use Rattle.teec.specs.declared.answer.RpcKind.{RpcKind}
 use Rattle.teec.specs.declared.fault.TeecFault.{TeecFault}
 use Rattle.teec.specs.Rounds.{Resumes, Stage, regs_at}
 use Rattle.teec.specs.Runs.{AnswersRpc, IsStop, Scene, moment, scene_of}

@@ -1,0 +1,87 @@
+-- Numbers among words, and which command words ask for.
+use Rattle.std.proofs.Common.{◌≡◌, ◌↔◌, ℕ, ◌^◌, ◌<◌, ◌≤◌, ◌==◌, Bool, false, List, [], ◌∷◌, length, get_or, refl, sym, ap, subst, ◌∙◌, arith}
+use Rattle.std.specs.Prelude.{IsTrue, codes}
+use Rattle.std.specs.Fmt.{decimal}
+use Rattle.std.specs.Str.{bytes_eq}
+use Rattle.std.proofs.lemmas.Bool.Decides.{nat_tests}
+use Rattle.std.proofs.lemmas.Fmt.{decimal_injective, length-decimal-le}
+use Rattle.std.proofs.lemmas.Slice.Eq.{bytes_eq-Decides}
+use Rattle.compare_model.specs.declared.subject.Subject.{Subject}
+use Rattle.compare_model.specs.declared.subject.Subject.TheVariants.{Session, Group}
+use Rattle.trace_text.specs.Forms.{is_uuid}
+use Rattle.alone_runner.specs.Words.{IsNumbered, Names, Say, SayNothing}
+use Rattle.alone_runner.specs.declared.command.Command.TheVariants.{Serve, Threads, Record, Audit, Compare, Notify, Client, Work}
+
+-- texts that differ are not one number's
+pub other_text : (text word : List ℕ) (one other : ℕ) → bytes_eq text word ≡ false → text ≡ decimal one → one ≡ other
+    → word ≡ decimal other → ⊥
+other_text text word one other differs is same said =
+    let both : text ≡ word = is ∙ ap decimal same ∙ sym said in
+    let equal = (bytes_eq-Decides text word).1 both in
+    absurd cc
+
+-- more calls than there may be
+pub too_many : (word seed count : List ℕ) (number : ℕ) → number < 2 ^ 64 → 2 ^ 16 < number → count ≡ decimal number
+    → SayNothing (word ∷ seed ∷ count ∷ [])
+too_many word seed count number below many is (Serve grammar) say = let e = say.words in absurd cc
+too_many word seed count number below many is Threads say = let e = say.words in absurd cc
+too_many word seed count number below many is Record say = let e = say.words in absurd cc
+too_many word seed count number below many is Audit say = let e = say.words in absurd cc
+too_many word seed count number below many is (Compare subject) say = let e = say.words.2 in absurd cc
+too_many word seed count number below many is Notify say = let e = say.words in absurd cc
+too_many word seed count number below many is Client say = let e = say.words in absurd cc
+too_many word seed count number below many is (Work s n) say =
+    let e = say.words in
+    let said : count ≡ decimal n = cc in
+    let few = say.within.1 in
+    let same = decimal_injective number n below (omega (arith, few)) (sym is ∙ said) in
+    absurd (omega (arith, same, few, many))
+
+-- a number of no session, where no UUID is named
+pub too_large : (word : List ℕ) (number : ℕ) → is_uuid word ≡ false → number < 2 ^ 64 → 2 ^ 32 ≤ number → word ≡ decimal number
+    → (subject : Subject) → IsNumbered subject → Names subject word → ⊥
+too_large word number none below large is (Session n) small named =
+    let same = decimal_injective number n below (omega (arith, small)) (sym is ∙ named) in
+    omega (arith, same, small, large)
+too_large word number none below large is (Group id) numbered named = let yes = named.0 in absurd cc
+
+-- neither a number nor a UUID
+pub nothing_named : (word : List ℕ) → is_uuid word ≡ false → ((number : ℕ) → number < 2 ^ 64 → word ≡ decimal number → ⊥)
+    → (subject : Subject) → IsNumbered subject → Names subject word → ⊥
+nothing_named word none no_number (Session n) small named = no_number n (omega (arith, small)) named
+nothing_named word none no_number (Group id) numbered named = let yes = named.0 in absurd cc
+
+-- two words of which the second names nothing, or the first is another
+pub nothing_compared : (word name : List ℕ)
+    → ((subject : Subject) → IsNumbered subject → Names subject name → word ≡ codes "compare" → ⊥) → SayNothing (word ∷ name ∷ [])
+nothing_compared word name nothing (Serve grammar) say = let e = say.words in absurd cc
+nothing_compared word name nothing Threads say = let e = say.words in absurd cc
+nothing_compared word name nothing Record say = let e = say.words in absurd cc
+nothing_compared word name nothing Audit say = let e = say.words in absurd cc
+nothing_compared word name nothing Notify say = let e = say.words in absurd cc
+nothing_compared word name nothing Client say = let e = say.words in absurd cc
+nothing_compared word name nothing (Compare subject) say =
+    let e = say.words.2 in
+    let first : word ≡ codes "compare" = cc in
+    let second : say.words.0 ≡ name = cc in
+    nothing subject say.within (subst (Names subject) second say.words.1) first
+nothing_compared word name nothing (Work s n) say = let e = say.words in absurd cc
+
+-- digits alone are no UUID
+pub no_uuid : (number : ℕ) (word : List ℕ) → number < 2 ^ 32 → word ≡ decimal number → is_uuid word ≡ false
+unfolding is_uuid
+no_uuid number word small is =
+    let short : length (decimal number) ≤ 10 = length-decimal-le 10 number (omega arith) (omega (arith, small)) (omega (arith, small)) in
+    let differs : (length word == 36) ≡ false = grind (arith, nat_tests, ap length is, short) in
+    rw differs refl
+
+-- a word that equals `threads` says it, and no other does
+pub is_threads : (word : List ℕ) (same : Bool) → same ≡ bytes_eq word (codes "threads")
+    → IsTrue same ↔ Say (word ∷ []) Threads
+is_threads word same is = (
+  λ yes. record {
+    within = tt;
+    words = ap (λ (w : List ℕ). w ∷ []) ((bytes_eq-Decides word (codes "threads")).0 (sym is ∙ yes));
+  },
+  λ said. is ∙ (bytes_eq-Decides word (codes "threads")).1 (ap (λ (ws : List (List ℕ)). get_or ws 0 []) said.words),
+)

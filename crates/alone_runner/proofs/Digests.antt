@@ -1,0 +1,138 @@
+-- Items played one after the other, whose lines go to a digest and aren't kept.
+use Rattle.std.proofs.Common.{◌≡◌, ℕ, ◌+◌, ◌<◌, ◌≤◌, List, [], ◌∷◌, ◌++◌, length, get_or, Option, Some, None, refl, sym, ap, subst, ◌∙◌}
+use Rattle.std.specs.Fmt.{decimal}
+use Rattle.std.specs.Prelude.{IsSome, IsSomeAnd, Ok, Err, codes}
+use Rattle.std.specs.Option.{option_and_then, option_map}
+use Rattle.std.proofs.lemmas.List.{append-nil, take_all}
+use Rattle.kernel_model.specs.Application.{Booted, Native, booted}
+use Rattle.hex.specs.Hex.{encode_lower}
+use Rattle.made_play.specs.Summary.{answer_counts, made_play, summary_line, summary_of, summary_of_play}
+use Rattle.made_play.proofs.Ends.{law as made_plays_end}
+use Rattle.play_model.specs.Play.{Play, after_item, after_items, first_play, played}
+use Rattle.base.specs.Zeros.{zeros}
+use Rattle.event_journal.specs.declared.event.Event.{Event}
+use Rattle.sha2.specs.Hashers.{Holds256}
+use Rattle.sha2.specs.Sha256.{sha256}
+use Rattle.sha2.specs.declared.Sha256.{Sha256}
+use Rattle.ta_isa.specs.declared.boot.Boot.{Boot}
+use Rattle.trace_text.specs.declared.item.Item.{Item}
+use Rattle.trace_text.specs.declared.trace.Trace.{Trace}
+use Rattle.workload.specs.Work.{made_boot, made_trace}
+use Rattle.trace_player.specs.Refused.{refused_in}
+use Rattle.alone_runner.specs.Counts.{AreCounts, counts_text, line_with}
+use Rattle.alone_runner.specs.Digesting.{IsDigested}
+use Rattle.trace_player.specs.Playing.{Follows, IsPlayedTo, history_of}
+use Rattle.trace_player.specs.Starting.{IsAtStart}
+use Rattle.alone_runner.specs.declared.digesting.Digested.{Digested}
+use Rattle.alone_runner.specs.declared.summary.AnswerCounts.{AnswerCounts}
+use Rattle.trace_player.specs.declared.player.Player.{Player}
+use Rattle.word_parts.specs.declared.stop.Stop.{Stop}
+use Rattle.word_parts.specs.declared.stop.Stop.TheVariants.{Full}
+use Rattle.trace_player.proofs.Playable.{Playing, playing-first, playing-more, playing-refused}
+
+-- the items so far were played, the hasher holds their text, and no line is held
+pub record Digesting (natives : List Native) (trace : Trace) (items : List Item) (at : ℕ) (player : Player)
+    (hasher : Sha256) (held : List ℕ) : Type 0 where
+  pub text : List ℕ
+  pub playing : Playing natives trace items at player text
+  pub holds : Holds256 hasher text
+  pub empty : held ≡ []
+
+pub digesting-first : (natives : List Native) (trace : Trace) (items : List Item) (player : Player) (hasher : Sha256)
+    (held : List ℕ) → IsAtStart natives trace items player → Holds256 hasher [] → held ≡ []
+    → Digesting natives trace items 0 player hasher held
+digesting-first natives trace items player hasher held start holds empty = record {
+  text = [];
+  playing = playing-first natives trace items player start;
+  holds = holds;
+  empty = empty;
+}
+
+pub digesting-more : (natives : List Native) (trace : Trace) (items : List Item) (at : ℕ) (i : Item)
+    (before after : Player) (hasher more : Sha256) (held line left : List ℕ) → at < length items
+    → i ≡ get_or items at i → Digesting natives trace items at before hasher held
+    → ((boot : Booted) (play : Play) → IsPlayedTo boot play before
+    → Follows boot play (after_item boot i play) (Ok tt) after held line)
+    → ((message : List ℕ) → Holds256 hasher message → Holds256 more (message ++ line)) → left ≡ []
+    → Digesting natives trace items (at + 1) after more left
+digesting-more natives trace items at i before after hasher more held line left lt is d follows updated empty = record {
+  text = d.text ++ line;
+  playing = playing-more natives trace items at i before after d.text [] line lt is
+      (subst (Playing natives trace items at before) (sym (append-nil d.text)) d.playing)
+      (λ boot play stands.
+      subst (λ (h : List ℕ). Follows boot play (after_item boot i play) (Ok tt) after h line) d.empty
+      (follows boot play stands));
+  holds = updated d.text d.holds;
+  empty = empty;
+}
+
+-- an entry was refused
+pub digesting-full : (natives : List Native) (trace : Trace) (items : List Item) (at : ℕ) (i : Item)
+    (before after : Player) (stop : Stop) (hasher : Sha256) (held line : List ℕ)
+    → at < length items → i ≡ get_or items at i
+    → Digesting natives trace items at before hasher held → stop ≡ Full
+    → ((boot : Booted) (play : Play) → IsPlayedTo boot play before
+    → Follows boot play (after_item boot i play) (Err stop) after held line)
+    → IsSome (refused_in natives trace)
+digesting-full natives trace items at i before after stop hasher held line lt is d full follows =
+    (playing-refused natives trace items at i before after d.text held line lt is d.playing
+    (λ boot play stands. subst (λ (s : Stop). Follows boot play (after_item boot i play) (Err s) after held line) full
+    (follows boot play stands))).0
+
+-- the last item was played
+pub digesting-ended : (natives : List Native) (trace : Trace) (items : List Item) (at : ℕ) (player : Player)
+    (hasher : Sha256) (held : List ℕ) (digested : Digested) → length items ≤ at
+    → Digesting natives trace items at player hasher held → AreCounts (history_of player) digested.counts
+    → ((message : List ℕ) → Holds256 hasher message → digested.digest ≡ sha256 message)
+    → IsDigested natives trace digested
+digesting-ended natives trace items at player hasher held digested whole d counts told =
+    let p = d.playing in
+    let w = p.written in
+    let on = booted p.boot natives in
+    let all : length trace.items ≤ at = subst (λ (l : List Item). length l ≤ at) p.same whole in
+    record {
+      boot = p.boot;
+      has_boot = p.is;
+      play = w.play;
+      is_play = sym (ap (λ (l : List Item). after_items on l (first_play (zeros 0x400000) on trace.fills))
+          (take_all at trace.items all)) ∙ w.taken;
+      counts = subst (λ (history : List Event). AreCounts history digested.counts) w.stands.machine.history counts;
+      digest = told d.text d.holds ∙ ap sha256 w.printed;
+    }
+
+-- ---- made traces
+
+-- their play refuses no entry
+never-refused : (o : Option Play) → IsSomeAnd o (λ play. play.refused ≡ None)
+    → IsSome (option_and_then (λ (play : Play). play.refused) o) → ⊥
+never-refused (Some play) none some = let is = none in absurd cc
+never-refused None none some = absurd none
+
+pub made-goes-on : (seed count : ℕ) (natives : List Native) (trace : Trace) → count ≤ 65536 → natives ≡ []
+    → trace ≡ made_trace seed count → IsSome (refused_in natives trace) → ⊥
+made-goes-on seed count natives trace few none made some =
+    let here = subst (λ (ns : List Native). IsSome (refused_in ns (made_trace seed count))) none
+    (subst (λ (t : Trace). IsSome (refused_in natives t)) made some) in
+    never-refused (made_play seed count) (made_plays_end.ends seed count few) here
+
+-- the counts of a history, as its summary has them
+counts-told : (history : List Event) (counts : AnswerCounts) → AreCounts history counts
+    → counts_text counts ≡ answer_counts history
+counts-told history counts are = rw (are.ok, are.limit, are.resume, are.rpc) refl
+
+pub made-summary : (seed count : ℕ) (natives : List Native) (trace : Trace) (digested : Digested) (line : List ℕ)
+    → natives ≡ [] → trace ≡ made_trace seed count → (d : IsDigested natives trace digested)
+    → line ≡ line_with seed count digested.counts digested.digest → summary_of seed count ≡ Some line
+made-summary seed count natives trace digested line none made d is =
+    let boots : Some made_boot ≡ Some d.boot = ap (λ (t : Trace). t.boot) (sym made) ∙ d.has_boot in
+    let boot : d.boot ≡ made_boot = cc in
+    let play : made_play seed count ≡ Some d.play =
+    subst (λ (b : Boot). played [] b (made_trace seed count) ≡ Some d.play) boot
+    (subst (λ (ns : List Native). played ns d.boot (made_trace seed count) ≡ Some d.play) none
+    (subst (λ (t : Trace). played natives d.boot t ≡ Some d.play) made d.is_play)) in
+    let whole : line ≡ summary_of_play seed count d.play =
+    is
+    ∙ ap (λ (counts : List ℕ). codes "work " ++ decimal seed ++ 32 ∷ decimal count ++ counts ++ codes " sha256 " ++ encode_lower digested.digest ++ 10 ∷ [])
+    (counts-told d.play.history digested.counts d.counts)
+    ∙ ap (λ (bytes : List ℕ). summary_line seed count d.play.history bytes) d.digest in
+    ap (option_map (summary_of_play seed count)) play ∙ ap (λ (l : List ℕ). Some l) (sym whole)

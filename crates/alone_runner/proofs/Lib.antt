@@ -1,0 +1,7 @@
+pub mod Apart
+pub mod Commands
+pub mod Readings
+pub mod Running
+pub mod Plays
+pub mod Gathered
+pub mod Digests

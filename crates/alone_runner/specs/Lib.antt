@@ -1,0 +1,7 @@
+pub mod Words
+pub mod Line
+pub mod Content
+pub mod Run
+pub mod Plays
+pub mod Counts
+pub mod Digesting

@@ -1,0 +1,83 @@
+//! Playing a trace of which no line is kept: each goes into a digest and the counts of answers.
+
+ghost use Rattle.std.specs.Prelude.{◌≡◌, ℕ, List, [], Err, IfOk, IsSome, Some};
+ghost use Rattle.kernel_model.specs.Application.{Native};
+ghost use Rattle.native_tas.specs.Table.{entries};
+ghost use Rattle.trace_text.specs.Sound.{IsSound};
+ghost use Rattle.trace_text.specs.declared.trace.Trace.{Trace};
+ghost use Rattle.trace_player.specs.Refused.{refused_in};
+ghost use Rattle.alone_runner.specs.Digesting.{IsDigested};
+ghost use Rattle.trace_player.specs.Starting.{IsAtStart, trace_of, uuids_of};
+
+use crate::summary::AnswerCounts;
+use core_machine::machines_stand;
+use native_tas::Natives;
+use sha2::{Digest, Sha256};
+use std::alloc::Global;
+use ta_isa::Boot;
+use trace_player::Player;
+use trace_text::{Fill, Item, Trace};
+use word_parts::Stop;
+
+/// What is known of a play at its end: how many answers were of each kind, and the SHA-256 of the lines that were printed.
+#[derive(Clone, Copy)]
+pub struct Digested {
+    pub counts: AnswerCounts,
+    pub digest: [u8; 32],
+}
+
+/// Plays the items of a trace on a player that stands before the first of them, up to a refused entry or want of memory,
+/// and gives the counts of all answers and the SHA-256 of the lines that they print.
+fn digest_items(alloc: Global, player: &mut Player, items: &[Item]) -> Result<Digested, Stop>
+    requires { (natives : List Native) × (trace : Trace) × IsAtStart natives trace items.now player.old }
+    ensures told { IfOk result (λ digested. (natives : List Native) (trace : Trace)
+        → IsAtStart natives trace items.now player.old → IsDigested natives trace digested) }
+    ensures full { result ≡ Err Stop.Full → (natives : List Native) (trace : Trace)
+        → IsAtStart natives trace items.now player.old → IsSome (refused_in natives trace) }
+    ensures failed { result ≡ Err Stop.Failed → ⊥ }
+{
+    machines_stand();
+    let mut lines = Vec::new(alloc);
+    let mut hasher = Sha256::new();
+    for item in items {
+        player.play_item(alloc, item, &mut lines)?;
+        hasher.update(lines.as_slice());
+        lines.clear();
+    }
+    Ok(Digested {
+        counts: AnswerCounts::of(player.history()),
+        digest: hasher.finalize(),
+    })
+}
+
+/// Plays the trace of this boot, with these fills and items.
+fn digest_booted(
+    alloc: Global,
+    natives: &Natives,
+    boot: Boot,
+    fills: &[Fill],
+    items: &[Item],
+) -> Result<Digested, Stop>
+    requires { IsSound (uuids_of (entries natives.now)) (trace_of boot fills.now items.now) }
+    ensures told { IfOk result (IsDigested (entries natives.now) (trace_of boot fills.now items.now)) }
+    ensures full { result ≡ Err Stop.Full → IsSome (refused_in (entries natives.now) (trace_of boot fills.now items.now)) }
+    ensures failed { result ≡ Err Stop.Failed → ⊥ }
+{
+    let Ok(mut player) = Player::booted(alloc, boot, natives, fills) else {
+        return Err(Stop::Memory);
+    };
+    digest_items(alloc, &mut player, items)
+}
+
+/// Plays a trace that has a boot, up to a refused entry or want of memory.
+pub fn digest_play(alloc: Global, natives: &Natives, trace: Trace) -> Result<Digested, Stop>
+    requires sound { IsSound (uuids_of (entries natives.now)) trace }
+    requires boots { IsSome trace.boot }
+    ensures told { IfOk result (IsDigested (entries natives.now) trace) }
+    ensures full { result ≡ Err Stop.Full → IsSome (refused_in (entries natives.now) trace) }
+    ensures failed { result ≡ Err Stop.Failed → ⊥ }
+{
+    let Trace { boot, fills, items } = trace;
+    let Some(boot) = boot else { unreachable!() };
+    digest_booted(alloc, natives, boot, fills.as_slice(), items.as_slice())
+}

@@ -1,0 +1,43 @@
+//! Playing items whose lines are gathered before they are put.
+
+ghost use Rattle.std.specs.Prelude.{◌≡◌, ◌≢◌, ◌≤◌, List, [], Err};
+ghost use Rattle.kernel_model.specs.Application.{Native};
+ghost use Rattle.ports.specs.Port.{Rose};
+ghost use Rattle.trace_text.specs.declared.trace.Trace.{Trace};
+ghost use Rattle.word_parts.specs.Gathering.{EndsAs, PutsLines, PutsOrKeeps};
+ghost use Rattle.alone_runner.specs.Run.{IsToldOf};
+ghost use Rattle.trace_player.specs.Starting.{IsAtStart};
+
+use core_machine::machines_stand;
+use ports::Sink;
+use std::alloc::Global;
+use trace_player::Player;
+use trace_text::Item;
+use word_parts::{Stop, end_at, put_if_many, put_lines};
+
+/// Plays the items of a trace on a player that stands before the first of them, and prints their lines, up to a refused
+/// entry, a fault of the sink or want of memory. Lines are gathered, and put when they take 64 KiB or more, behind the
+/// last item, and at a refused entry.
+pub fn play_items<K: Sink>(
+    alloc: Global,
+    player: &mut Player,
+    items: &[Item],
+    out: &mut K,
+) -> Result<(), Stop>
+    requires { (natives : List Native) × (trace : Trace) × IsAtStart natives trace items.now player.old }
+    ensures told { (natives : List Native) (trace : Trace) → IsAtStart natives trace items.now player.old
+        → IsToldOf natives trace result (K.held out.old) (K.held out.new) }
+    ensures failed { result ≡ Err Stop.Failed → Rose (K.faults out.old) (K.faults out.new) }
+    ensures count { K.faults out.old ≤ K.faults out.new }
+    ensures stays { result ≢ Err Stop.Failed → K.faults out.new ≡ K.faults out.old }
+{
+    machines_stand();
+    let mut lines = Vec::new(alloc);
+    for item in items {
+        if let Err(stop) = player.play_item(alloc, item, &mut lines) {
+            return Err(end_at(stop, lines.as_slice(), out));
+        }
+        put_if_many(&mut lines, out)?;
+    }
+    put_lines(lines.as_slice(), out)
+}

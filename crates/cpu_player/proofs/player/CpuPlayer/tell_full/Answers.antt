@@ -1,7 +1,0 @@
-use Rattle.std.proofs.Common.{refl}
-use Rattle.cpu_player.proofs.Ends.{full_told}
-use Rattle.cpu_player.proofs.player.CpuPlayer.tell_full.Goals as goal
-
-pub returns-in-Ok-clause-tells : goal.returns-in-Ok-clause-tells
-returns-in-Ok-clause-tells c boot items lane was =
-    full_told boot items lane c.args.copied c.args.more c.args.self.now _ refl c.in-Ok.ensures was

@@ -1,4 +1,0 @@
-pub mod Ending
-pub mod InTurn
-pub mod Laws
-pub mod Standing

@@ -1,8 +1,0 @@
-pub mod Arguments
-pub mod Candidates
-pub mod Comparing
-pub mod Finding
-pub mod Helds
-pub mod Readings
-pub mod Values
-pub mod Written

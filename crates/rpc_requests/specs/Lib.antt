@@ -1,4 +1,0 @@
-pub mod Answering
-pub mod Candidate
-pub mod Examples
-pub mod Holding

@@ -1,6 +1,0 @@
-ghost use Rattle.rpc_requests.specs.Examples.{Examples};
-
-/// The definitions on small inputs.
-pub fn worked_examples()
-    ensures { Examples }
-{}

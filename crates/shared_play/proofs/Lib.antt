@@ -1,3 +1,0 @@
-mod Gathering
-pub mod Merging
-mod Staying

@@ -1,5 +1,0 @@
-use Rattle.shared_play.proofs.Gathering.{ends_gather as law}
-use Rattle.shared_play.proofs.laws.ends_gather.Goals as goal
-
-pub returns : goal.returns
-returns c = law

@@ -1,5 +1,0 @@
-use Rattle.shared_play.proofs.Merging.{ends_merge as law}
-use Rattle.shared_play.proofs.laws.ends_merge.Goals as goal
-
-pub returns : goal.returns
-returns c = law

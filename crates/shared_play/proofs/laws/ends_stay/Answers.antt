@@ -1,5 +1,0 @@
-use Rattle.shared_play.proofs.Staying.{ends_stay as law}
-use Rattle.shared_play.proofs.laws.ends_stay.Goals as goal
-
-pub returns : goal.returns
-returns c = law
