@@ -54,7 +54,7 @@ class Client:
         self.world = machine.World()
         self.world.requests_made, self.world.is_cancelled = self.requests_made, self.is_cancelled
         self.sessions, self.names, self.last, self.smcs = {}, {}, 0, 0
-        self.returns, self.cancel_at, self.has_buffer = 0, None, False
+        self.returns, self.cancel_at, self.has_buffer, self.steps = 0, None, False, 0
 
     def requests_made(self, requests):
         """Each request is a return of the call to its client, and the first one is behind an ALLOC."""
@@ -79,7 +79,7 @@ class Client:
 
     def entered(self, entry, instance, registers=(), parameters=()):
         """Runs an entry point to its return: r0 and r1. A panic is a call's end."""
-        started, self.steps = machine.Machine(instance, entry, registers, parameters), self.steps
+        started = machine.Machine(instance, entry, registers, parameters)
         while True:
             if self.steps == GRANT:
                 self.steps = 0
@@ -130,7 +130,7 @@ class Client:
             if result == 0:
                 self.opened(name, session)
             else:
-                self.left(application, instance)
+                self.clear(application, instance)
         finally:
             self.forget_the_dead(instance)
         return result, APPLICATION
@@ -152,7 +152,6 @@ class Client:
             return shared, False
         self.free -= pages
         instance = machine.Instance(application.image, objects.Store(application.uuid, self.files, self.key), self.world)
-        instance.is_dead = False
         if application.flags & SINGLE:
             application.shared = instance
         return instance, True
@@ -166,8 +165,8 @@ class Client:
             self.remove(application, instance)
             raise Ended(result, APPLICATION)
 
-    def left(self, application, instance):
-        """Destroys an instance without sessions that isn't kept alive."""
+    def clear(self, application, instance):
+        """Destroys an instance that no session has any more, and that isn't kept alive."""
         is_kept = application.flags & SINGLE and application.flags & KEEP
         if not self.others(instance) and not is_kept:
             self.entered("destroy", instance)
@@ -208,7 +207,7 @@ class Client:
             del self.sessions[self.names[name]]
             self.forget_the_dead(instance)
         if instance and not instance.is_dead:
-            self.left(session.application, instance)
+            self.clear(session.application, instance)
         return 0, TEE
 
 

@@ -74,6 +74,7 @@ class Instance:
 
     def __init__(self, image, store, world):
         self.image, self.store, self.world = image, store, world
+        self.is_dead = False
         self.memory = bytearray(PAGE_BYTES * image.pages)
 
 

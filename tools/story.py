@@ -18,10 +18,13 @@ class Visit:
 
     def __init__(self, cpu, registers, lanes):
         self.cpu, self.registers = cpu, registers
-        self.entry = self.exit = self.answered = None
-        self.slot = self.call = None
         self.head = Head(lanes, cpu, registers)
-        self.asked = {}  # bytes of the processor's RAM that were shown behind the exit, by their addresses
+        self.ram = lanes.copy(cpu)  # what was written into the processor's RAM before the entry, by the addresses
+        self.asked = {}  # bytes of it that were shown behind the exit
+        self.entry = self.exit = self.answered = None  # places in the history, and the registers of the answer
+        self.line = None  # the line of the trace at which it goes out
+        self.slot = self.call = None  # where it is in a call
+        self.said = self.given = self.request_at = None  # what the entry and the exit say; where a request stands
 
     @property
     def function(self):
@@ -122,7 +125,6 @@ class Walk:
         last = self.last[cpu]
         registers = [last[int(word[1])] if word[0] == "=" else int(word, 16) for word in words]
         visit = self.inside[cpu] = Visit(cpu, registers, self.lanes)
-        visit.ram = self.lanes.copy(cpu)
         if visit.is_resume:
             self.lent[registers[4] << 32 | registers[5]] = registers[1] << 32 | registers[2]
         if self.places:
