@@ -1,3 +1,5 @@
+//! What a call goes out with, from the call as plain data: a resume asks it of a call that is suspended, and an exit of one
+//! that goes out.
 ghost use Rattle.std.specs.Prelude.{◌≡◌, ℕ, IsSome, Some};
 ghost use Rattle.std.specs.Option.{option_and_then};
 ghost use Rattle.kernel_model.specs.Kernel.{PendingCall};

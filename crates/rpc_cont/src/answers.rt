@@ -1,5 +1,5 @@
 //! The answers to what an application has asked for.
-ghost use Rattle.std.specs.Prelude.{◌≡◌, ◌≢◌, List, ℕ, Some, None, true, IsSome, IsSomeAnd, if◌then◌else◌};
+ghost use Rattle.std.specs.Prelude.{◌≡◌, ◌≢◌, List, ℕ, [], Some, None, true, IsSome, IsSomeAnd, IsTrue, if◌then◌else◌};
 ghost use Rattle.job_model.specs.Owner.{Owner};
 ghost use Rattle.job_model.specs.Job.{Job, with_cancel_seen};
 ghost use Rattle.job_model.specs.Steps.{advance_on_answer};
@@ -12,6 +12,7 @@ ghost use Rattle.ta_step.specs.Machine.{state_of};
 ghost use Rattle.ta_step.specs.State.{is_cancelled};
 ghost use Rattle.ta_step.specs.SystemCalls.{answered};
 ghost use Rattle.ta_step.specs.declared.stop.Request.{Request as AnyRequest};
+ghost use Rattle.tee_storage.specs.States.{reads_on};
 
 use crate::asks::told_time;
 use crate::cont::Cont;
@@ -19,7 +20,7 @@ use crate::machine_span::MachineSpan;
 use crate::phase::Phase;
 use crate::stop::ContStop;
 use job_model::EntryPoint;
-use rpc_msgs::RpcReply;
+use rpc_msgs::{Rpc, RpcReply};
 use ta_params::codes::*;
 use ta_step::{Machine, ObjectCall, Request, TaMemory};
 
@@ -124,6 +125,65 @@ impl<M: TaMemory + Drop> Cont<M> {
 
     /// The same as `reply`, to a call on an object.
     fn object_reply(&mut self, call: ObjectCall, reply: &RpcReply)
+        requires can { CanBeAnswered M.bytes self.old }
+        requires asked { IsSomeAnd self.old.machine (λ m. (state_of M.bytes m).asked ≡ Some (Request.Object call)) }
+        ensures answers { (job : Job) → IsWaiting M.bytes (call_owner self.old) self.old (job_of M.bytes self.old) job
+            → IsSomeAnd (advance_on_answer (Replied reply.now) job) (λ next. IsAnswered M.bytes self.new next) }
+        ensures size { memory_size M.bytes self.new ≡ memory_size M.bytes self.old }
+        ensures stays { self.new ≡ record (worked self.old self.new) { phase = self.new.phase } }
+    {
+        if self.reads_on(reply) {
+            self.read_on(call, reply);
+        } else {
+            self.object_answer(call, reply);
+        }
+    }
+
+    /// Whether the reply brings a piece of an object that it reads, and another piece follows.
+    fn reads_on(&self, reply: &RpcReply) -> bool
+        ensures { IsTrue result → IsSomeAnd self.now.object (λ state. reads_on state reply.now ≡ true) }
+    {
+        match &self.object {
+            Some(state) => state.reads_on(reply),
+            None => false,
+        }
+    }
+
+    /// The same as `object_reply`, to such a piece. The call stays in its place.
+    fn read_on(&mut self, call: ObjectCall, reply: &RpcReply)
+        requires can { CanBeAnswered M.bytes self.old }
+        requires asked { IsSomeAnd self.old.machine (λ m. (state_of M.bytes m).asked ≡ Some (Request.Object call)) }
+        requires reads { IsSomeAnd self.old.object (λ state. reads_on state reply.now ≡ true) }
+        ensures answers { (job : Job) → IsWaiting M.bytes (call_owner self.old) self.old (job_of M.bytes self.old) job
+            → IsSomeAnd (advance_on_answer (Replied reply.now) job) (λ next. IsAnswered M.bytes self.new next) }
+        ensures size { memory_size M.bytes self.new ≡ memory_size M.bytes self.old }
+        ensures stays { self.new ≡ record (worked self.old self.new) { phase = self.new.phase } }
+    {
+        let machine = self.machine.take().unwrap();
+        let mut span = MachineSpan::of(call, machine);
+        let Some(state) = &mut self.object else {
+            unreachable!();
+        };
+        let rpc = state.read_on(reply, &mut span);
+        self.machine = Some(span.into_machine());
+        self.ask_next(rpc);
+        self.phase = Phase::Asks;
+    }
+
+    /// Asks for this, without bytes, in place of what it has asked for.
+    fn ask_next(&mut self, rpc: Rpc)
+        requires { IsSome self.old.request }
+        ensures { self.new ≡ record self.old { request = Some (record { rpc = rpc; payload = [] }) } }
+    {
+        let Some(asked) = &mut self.request else {
+            unreachable!();
+        };
+        asked.rpc = rpc;
+        asked.payload.clear();
+    }
+
+    /// The same as `object_reply`, to any reply.
+    fn object_answer(&mut self, call: ObjectCall, reply: &RpcReply)
         requires can { CanBeAnswered M.bytes self.old }
         requires asked { IsSomeAnd self.old.machine (λ m. (state_of M.bytes m).asked ≡ Some (Request.Object call)) }
         ensures answers { (job : Job) → IsWaiting M.bytes (call_owner self.old) self.old (job_of M.bytes self.old) job

@@ -34,6 +34,13 @@ impl Payload {
         }
     }
 
+    /// Has no bytes.
+    pub fn clear(&mut self)
+        ensures { self.new ≡ [] }
+    {
+        self.bytes.clear();
+    }
+
     /// Has these bytes, where it had none.
     pub fn fill(&mut self, bytes: &[u8])
         requires none { self.old ≡ [] }

@@ -66,21 +66,25 @@ found : (b : Bool) → (b || (true || false)) ≡ true
 found true = refl
 found false = refl
 
-pub last_same : (all front : List Statement) (s : Statement) (last : ℕ) → IsLastIn all front last → last ≤ length front → false ≡ is_instruction_line all s → IsLastIn all (front ++ s ∷ []) last
-last_same all front s last so_far below bad line =
+-- no line is one of an instruction where there is none
+pub last-none : IsLastIn [] 0
+last-none line = ap (list_any is_instruction_line) (drop_all line [] (omega arith)) ∙ sym (le-ltb line 0 (omega arith))
+
+pub last_same : (front : List Statement) (s : Statement) (last : ℕ) → IsLastIn front last → last ≤ length front → false ≡ is_instruction_line s → IsLastIn (front ++ s ∷ []) last
+last_same front s last so_far below bad line =
     elim (front_or_end line (length front)) [
       | inl h ↦
-          rw (drop-append-le line front (s ∷ []) h, list_any-append (is_instruction_line all) (drop line front) (s ∷ []), so_far line, sym bad) (kept (ltb line last))
+          rw (drop-append-le line front (s ∷ []) h, list_any-append is_instruction_line (drop line front) (s ∷ []), so_far line, sym bad) (kept (ltb line last))
       | inr h ↦
           let past : drop line (front ++ s ∷ []) ≡ [] = drop_all line (front ++ s ∷ []) (omega (arith, h, length-append front (s ∷ []))) in
           rw past (sym (le-ltb line last (omega arith)))
     ]
 
-pub last_here : (all front : List Statement) (s : Statement) (last line' : ℕ) → IsLastIn all front last → line' ≡ length front + 1 → true ≡ is_instruction_line all s → IsLastIn all (front ++ s ∷ []) line'
-last_here all front s last line' so_far is good line =
+pub last_here : (front : List Statement) (s : Statement) (last line' : ℕ) → IsLastIn front last → line' ≡ length front + 1 → true ≡ is_instruction_line s → IsLastIn (front ++ s ∷ []) line'
+last_here front s last line' so_far is good line =
     elim (front_or_end line (length front)) [
       | inl h ↦
-          rw (drop-append-le line front (s ∷ []) h, list_any-append (is_instruction_line all) (drop line front) (s ∷ []), sym good) (found (list_any (is_instruction_line all) (drop line front)) ∙ sym (lt-ltb line line' (omega arith)))
+          rw (drop-append-le line front (s ∷ []) h, list_any-append is_instruction_line (drop line front) (s ∷ []), sym good) (found (list_any is_instruction_line (drop line front)) ∙ sym (lt-ltb line line' (omega arith)))
       | inr h ↦
           let past : drop line (front ++ s ∷ []) ≡ [] = drop_all line (front ++ s ∷ []) (omega (arith, h, length-append front (s ∷ []))) in
           rw past (sym (le-ltb line line' (omega arith)))
@@ -131,19 +135,19 @@ defines-more all i s after place old new st is so_far more q =
     more q ∙ ap (λ (o : Option Definition). option_or o (label_in q (at (i + 1) place) s)) (so_far q)
     ∙ sym (definition-more q (take i all) (take (i + 1) all) s (i + 1) place st.front line is)
 
-either_last : (all front : List Statement) (s : Statement) (last here next : ℕ) (b : Bool) → b ≡ is_instruction_line all s → next ≡ cond b here last → IsLastIn all front last → last ≤ length front → here ≡ length front + 1 → IsLastIn all (front ++ s ∷ []) next
-either_last all front s last here next true is e so_far below place = rw e (last_here all front s last here so_far place is)
-either_last all front s last here next false is e so_far below place = rw e (last_same all front s last so_far below is)
+either_last : (front : List Statement) (s : Statement) (last here next : ℕ) (b : Bool) → b ≡ is_instruction_line s → next ≡ cond b here last → IsLastIn front last → last ≤ length front → here ≡ length front + 1 → IsLastIn (front ++ s ∷ []) next
+either_last front s last here next true is e so_far below place = rw e (last_here front s last here so_far place is)
+either_last front s last here next false is e so_far below place = rw e (last_same front s last so_far below is)
 
-pub last-more : (all : List Statement) (i : ℕ) (s : Statement) (after : List Statement) (last next : ℕ) → Step all i s after → IsLastIn all (take i all) last → last ≤ i → next ≡ cond (is_instruction_line all s) (i + 1) last → IsLastIn all (take (i + 1) all) next
+pub last-more : (all : List Statement) (i : ℕ) (s : Statement) (after : List Statement) (last next : ℕ) → Step all i s after → IsLastIn (take i all) last → last ≤ i → next ≡ cond (is_instruction_line s) (i + 1) last → IsLastIn (take (i + 1) all) next
 last-more all i s after last next st so_far below e =
     let len : length (take i all) ≡ i = length-take-le i all (omega (arith, st.within)) in
-    let more = either_last all (take i all) s last (i + 1) next (is_instruction_line all s) refl e so_far (omega (arith, below, len)) (omega (arith, len)) in
-    subst (λ (front : List Statement). IsLastIn all front next) (sym st.front) more
+    let more = either_last (take i all) s last (i + 1) next (is_instruction_line s) refl e so_far (omega (arith, below, len)) (omega (arith, len)) in
+    subst (λ (front : List Statement). IsLastIn front next) (sym st.front) more
 
 either_below : (b : Bool) (i last next : ℕ) → last ≤ i → next ≡ cond b (i + 1) last → next ≤ i + 1
 either_below true i last next below e = omega (arith, e)
 either_below false i last next below e = omega (arith, e, below)
 
-pub below-more : (all : List Statement) (i : ℕ) (s : Statement) (last next : ℕ) → last ≤ i → next ≡ cond (is_instruction_line all s) (i + 1) last → next ≤ i + 1
-below-more all i s last next below e = either_below (is_instruction_line all s) i last next below e
+pub below-more : (i : ℕ) (s : Statement) (last next : ℕ) → last ≤ i → next ≡ cond (is_instruction_line s) (i + 1) last → next ≤ i + 1
+below-more i s last next below e = either_below (is_instruction_line s) i last next below e

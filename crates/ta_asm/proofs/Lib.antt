@@ -10,3 +10,4 @@ pub mod Told
 pub mod Written
 pub mod Spoken
 pub mod Output
+pub mod Limit

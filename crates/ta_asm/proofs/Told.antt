@@ -27,7 +27,7 @@ use Rattle.ta_asm.specs.declared.names.EntryPoint.TheVariants.{Create, Open, Inv
 use Rattle.ta_asm.specs.declared.statement.Statement.{Statement}
 use Rattle.ta_asm.specs.declared.statement.Statement.TheVariants.{Flags, Pages, Entry, Label, Code}
 use Rattle.ta_asm.specs.Canonical.{is_labelled, is_target, label_name, targets}
-use Rattle.ta_asm.specs.Grammar.{Program, StandsFor, added, defines, definition, definition_from, end_rules, first_broken, image_from, instructions, is_first_line, is_instruction_line, is_known, is_target_known, line_rules, no_program, number_of, place_of, program_of, takes_code, targeted}
+use Rattle.ta_asm.specs.Grammar.{Program, StandsFor, added, defines, definition, definition_from, end_rules, first_broken, has_header, image_from, instructions, is_first_line, is_instruction_line, is_known, is_target_known, line_rules, no_program, number_of, place_of, program_of, takes_code, targeted}
 use Rattle.ta_asm.specs.Lines.{statements_of}
 use Rattle.ta_asm.proofs.Definitions.{at}
 use Rattle.ta_asm.proofs.Meanings.{fault_from, stands-read}
@@ -190,12 +190,12 @@ target_back all instr immediate.SystemCall h = (refl, refl)
 
 known_code : (all : List Statement) (instr : Instr) (o : Option Row) → ((row : Row) → o ≡ Some row → (is_target_known all (target_by row.imm instr.imm) ≡ true) × (targeted all (record instr { imm = number_by row.imm instr.imm }) (target_by row.imm instr.imm) ≡ instr))
     → (rest : List Statement) (before : Program) (line : ℕ) → takes_code before ≡ true
-    → (list_any (is_instruction_line all) (told_by o instr ∷ rest) ≡ true) × (first_broken (line_rules all before line (told_by o instr)) ≡ None) × (added all before (told_by o instr) ≡ record before { code = before.code ++ instr ∷ [] })
+    → (list_any is_instruction_line (told_by o instr ∷ rest) ≡ true) × (first_broken (line_rules all before line (told_by o instr)) ≡ None) × (added all before (told_by o instr) ≡ record before { code = before.code ++ instr ∷ [] })
 unfolding line_rules
 known_code all instr None h rest before line room = (refl, kept_two (BadLine line) (UnknownLabel line) _ _ room refl, refl)
 known_code all instr (Some row) h rest before line room =
     let k = h row refl in (
-      or_left _ _ k.0,
+      refl,
       kept_two (BadLine line) (UnknownLabel line) _ _ room k.0,
       ap (λ (i : Instr). record before { code = before.code ++ i ∷ [] }) k.1,
     )
@@ -229,12 +229,12 @@ goes_on all before next line s rest after kept e g =
     let moved = subst (λ (p : Program). Goes all p (line + 1) rest after) (sym e) g in
     (ap (λ (o : Option AsmFault). option_or o (fault_from all (added all before s) (line + 1) rest)) kept ∙ moved.0, moved.1)
 
-label_kept : (all : List Statement) (before : Program) (line : ℕ) (name : List ℕ) (behind : List Statement) (place : ℕ) → takes_code before ≡ true → drop line all ≡ behind → list_any (is_instruction_line all) behind ≡ true → definition all name ≡ Some (at line place)
+pub label_kept : (all : List Statement) (before : Program) (line : ℕ) (name : List ℕ) (behind : List Statement) (place : ℕ) → has_header before ≡ true → drop line all ≡ behind → list_any is_instruction_line behind ≡ true → definition all name ≡ Some (at line place)
     → first_broken (line_rules all before line (Label name)) ≡ None
 unfolding line_rules
-label_kept all before line name behind place room left followed is =
+label_kept all before line name behind place complete left followed is =
     let first : is_first_line all name line ≡ true = ap (λ (o : Option Definition). option_map_or (λ d. eqb d.line line) o false) is ∙ eq-eqb line line refl in
-    kept_three (BadLine line) (BadLine line) (RepeatedLabel line) _ _ _ room (ap (list_any (is_instruction_line all)) left ∙ followed) first
+    kept_three (BadLine line) (BadLine line) (RepeatedLabel line) _ _ _ complete (ap (list_any is_instruction_line) left ∙ followed) first
 
 code_end : (image : Image) (place : ℕ) → drop place image.code ≡ [] → take place image.code ≡ image.code
 code_end image place e = take_all place image.code (at_end image.code [] place e refl)
@@ -253,7 +253,7 @@ step_known image place instr code inside small left row has =
     target_back (whole image) instr row.imm (λ is. placed image instr.imm small (inside place instr code row left has is) (target_labelled image place instr code row left has is))
 
 told_code : (image : Image) (place : ℕ) (instr : Instr) (code : List Instr) → TargetsInside image → length image.code ≤ 8192 → drop place image.code ≡ instr ∷ code → (rest : List Statement) (before : Program) (line : ℕ) → takes_code before ≡ true
-    → (list_any (is_instruction_line (whole image)) (told instr ∷ rest) ≡ true) × (first_broken (line_rules (whole image) before line (told instr)) ≡ None) × (added (whole image) before (told instr) ≡ record before { code = before.code ++ instr ∷ [] })
+    → (list_any is_instruction_line (told instr ∷ rest) ≡ true) × (first_broken (line_rules (whole image) before line (told instr)) ≡ None) × (added (whole image) before (told instr) ≡ record before { code = before.code ++ instr ∷ [] })
 unfolding told
 told_code image place instr code inside few left rest before line room =
     known_code (whole image) instr (row_of instr.op) (step_known image place instr code inside (omega (arith, few)) left) rest before line room
@@ -270,10 +270,10 @@ reads_by image place instr code line inside few some p true good later =
     let lines = step all (body image place (instr ∷ code)) line (Label (label_name place)) (told instr ∷ rest) p.lines shape in
     let lines2 = step all (told instr ∷ rest) (line + 1) (told instr) rest lines.behind refl in
     let room : takes_code before ≡ true = room_for image (take place image.code) (omega (arith, few, st.within, length-take-le place image.code (omega (arith, st.within)))) in
-    let code_line : (list_any (is_instruction_line all) (told instr ∷ rest) ≡ true) × (first_broken (line_rules all before (line + 1 + 1) (told instr)) ≡ None) × (added all before (told instr) ≡ record before { code = before.code ++ instr ∷ [] }) =
+    let code_line : (list_any is_instruction_line (told instr ∷ rest) ≡ true) × (first_broken (line_rules all before (line + 1 + 1) (told instr)) ≡ None) × (added all before (told instr) ≡ record before { code = before.code ++ instr ∷ [] }) =
     told_code image place instr code inside few p.left rest before (line + 1 + 1) room in
     let here : definition all (label_name place) ≡ Some (at (line + 1) place) = p.later place (omega arith) st.within ∙ defined_here image (line + 1) place (told instr ∷ rest) good in
-    let label_line = label_kept all before (line + 1) (label_name place) (told instr ∷ rest) place room lines.behind code_line.0 here in
+    let label_line = label_kept all before (line + 1) (label_name place) (told instr ∷ rest) place refl lines.behind code_line.0 here in
     let next : added all before (told instr) ≡ Held image (take (place + 1) image.code) = code_line.2 ∙ ap (Held image) (sym st.front) in
     let two : line + 1 + 1 ≡ line + 2 = omega arith in
     let q : Place image (place + 1) code (line + 1 + 1) = record {
@@ -293,7 +293,7 @@ reads_by image place instr code line inside few some p false none later =
     let st = step image.code (instr ∷ code) place instr code p.left refl in
     let lines = step all (body image place (instr ∷ code)) line (told instr) rest p.lines shape in
     let room : takes_code before ≡ true = room_for image (take place image.code) (omega (arith, few, st.within, length-take-le place image.code (omega (arith, st.within)))) in
-    let code_line : (list_any (is_instruction_line all) (told instr ∷ rest) ≡ true) × (first_broken (line_rules all before (line + 1) (told instr)) ≡ None) × (added all before (told instr) ≡ record before { code = before.code ++ instr ∷ [] }) =
+    let code_line : (list_any is_instruction_line (told instr ∷ rest) ≡ true) × (first_broken (line_rules all before (line + 1) (told instr)) ≡ None) × (added all before (told instr) ≡ record before { code = before.code ++ instr ∷ [] }) =
     told_code image place instr code inside few p.left rest before (line + 1) room in
     let next : added all before (told instr) ≡ Held image (take (place + 1) image.code) = code_line.2 ∙ ap (Held image) (sym st.front) in
     let q : Place image (place + 1) code (line + 1) = record {

@@ -16,7 +16,7 @@ use Rattle.ta_asm.specs.declared.labels.Definition.{Definition}
 use Rattle.ta_asm.specs.declared.names.EntryPoint.{EntryPoint}
 use Rattle.ta_asm.specs.declared.statement.Statement.{Statement}
 use Rattle.ta_asm.specs.declared.statement.Statement.TheVariants.{Nothing, Flags, Pages, Entry, Label, Code, Unread}
-use Rattle.ta_asm.specs.Grammar.{Program, added, defines, definition, definition_from, end_rules, fault_behind, first_broken, image_of, instructions, is_first_line, is_instruction_line, is_known, is_target_known, line_rules, no_program, number_of, place_of, program_of, takes_code, targeted}
+use Rattle.ta_asm.specs.Grammar.{Program, added, defines, definition, definition_from, end_rules, fault_behind, first_broken, has_header, image_of, instructions, is_first_line, is_instruction_line, is_known, is_target_known, line_rules, no_program, number_of, place_of, program_of, takes_code, targeted}
 use Rattle.ta_asm.proofs.Definitions.{at, count_of, count_of-append}
 use Rattle.ta_asm.proofs.Programs.{fault-at, fault-end, program-more, program-start}
 use Rattle.ta_asm.proofs.Steps.{Step, step}
@@ -77,31 +77,31 @@ found name line place (Code i t ∷ xs) d e = found_later name line place (Code 
 found name line place (Unread ∷ xs) d e = found_later name line place Unread xs d (found name (line + 1) (place + 0) xs d e)
 found name line place (Label l ∷ xs) d e = found_label name line place l xs d (defines name (Label l)) e (found name (line + 1) (place + 0) xs d)
 
-one_instruction : (all : List Statement) (s : Statement) (b : Bool) → is_instruction_line all s ≡ b → b ≡ true → 1 ≤ instructions s
-one_instruction all Nothing b e t = absurd cc
-one_instruction all (Flags n) b e t = absurd cc
-one_instruction all (Pages n) b e t = absurd cc
-one_instruction all (Entry p l) b e t = absurd cc
-one_instruction all (Label l) b e t = absurd cc
-one_instruction all (Code i target) b e t = omega arith
-one_instruction all Unread b e t = absurd cc
+one_instruction : (s : Statement) → is_instruction_line s ≡ true → 1 ≤ instructions s
+one_instruction Nothing e = absurd cc
+one_instruction (Flags n) e = absurd cc
+one_instruction (Pages n) e = absurd cc
+one_instruction (Entry p l) e = absurd cc
+one_instruction (Label l) e = absurd cc
+one_instruction (Code i target) e = omega arith
+one_instruction Unread e = absurd cc
 
-some_instruction : (all xs : List Statement) → list_any (is_instruction_line all) xs ≡ true → 1 ≤ count_of xs
-some_instruction all [] e = absurd cc
-some_instruction all (x ∷ xs) e =
-    elim (or_cases (is_instruction_line all x) (list_any (is_instruction_line all) xs) e) [
-      | inl h ↦ omega (arith, one_instruction all x (is_instruction_line all x) refl h)
-      | inr h ↦ omega (arith, some_instruction all xs h)
+some_instruction : (xs : List Statement) → list_any is_instruction_line xs ≡ true → 1 ≤ count_of xs
+some_instruction [] e = absurd cc
+some_instruction (x ∷ xs) e =
+    elim (or_cases (is_instruction_line x) (list_any is_instruction_line xs) e) [
+      | inl h ↦ omega (arith, one_instruction x h)
+      | inr h ↦ omega (arith, some_instruction xs h)
     ]
 
 -- no line has a fault, nor has the end
 abbrev Faultless : List Statement → Type 0
 Faultless all = (lines : ℕ) → fault_behind all lines ≡ None
 
-label_followed : (all : List Statement) (before : Program) (line : ℕ) (label : List ℕ) → first_broken (line_rules all before line (Label label)) ≡ None → list_any (is_instruction_line all) (drop line all) ≡ true
+label_followed : (all : List Statement) (before : Program) (line : ℕ) (label : List ℕ) → first_broken (line_rules all before line (Label label)) ≡ None → list_any is_instruction_line (drop line all) ≡ true
 unfolding line_rules
 label_followed all before line label e =
-    (three_kept (BadLine line) (BadLine line) (RepeatedLabel line) (takes_code before) (list_any (is_instruction_line all) (drop line all)) (is_first_line all label line) e).1
+    (three_kept (BadLine line) (BadLine line) (RepeatedLabel line) (has_header before) (list_any is_instruction_line (drop line all)) (is_first_line all label line) e).1
 
 pub place_below : (all : List Statement) (name : List ℕ) (d : Definition) → Faultless all → definition all name ≡ Some d → d.place < total_of all
 unfolding definition
@@ -111,8 +111,8 @@ place_below all name d clean e =
     step all (Label f.label ∷ f.behind) (length f.front) (Label f.label) f.behind (ap (drop (length f.front)) f.parts ∙ drop-append_seam f.front (Label f.label ∷ f.behind)) refl in
     let kept : first_broken (line_rules all (program_of all (take (length f.front) all)) (length f.front + 1) (Label f.label)) ≡ None =
     sym (fault-at all (length f.front) (Label f.label) f.behind (program_of all (take (length f.front) all)) st refl) ∙ clean (length f.front) in
-    let followed : list_any (is_instruction_line all) f.behind ≡ true = ap (list_any (is_instruction_line all)) (sym st.behind) ∙ label_followed all _ (length f.front + 1) f.label kept in
-    let some = some_instruction all f.behind followed in
+    let followed : list_any is_instruction_line f.behind ≡ true = ap (list_any is_instruction_line) (sym st.behind) ∙ label_followed all _ (length f.front + 1) f.label kept in
+    let some = some_instruction f.behind followed in
     omega (arith, f.place_is, some, ap count_of f.parts, count_of-append f.front (Label f.label ∷ f.behind))
 
 known_below : (all : List Statement) (name : List ℕ) (o : Option Definition) → Faultless all → definition all name ≡ o → is_some o ≡ true → option_map_or (λ d. d.place) o 0 < total_of all

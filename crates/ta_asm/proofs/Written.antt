@@ -30,7 +30,7 @@ is_plain b = not (eqb b 32) && (not (eqb b 10) && not (eqb b 58))
 abbrev pub are_plain : List ℕ → Bool
 are_plain word = list_all is_plain word
 
-no_byte : (p : ℕ → Bool) (c : ℕ) → ((b : ℕ) → p b ≡ true → eqb b c ≡ false) → (word : List ℕ) → list_all p word ≡ true → AllByRecursion (λ b. eqb b c ≡ false) word
+pub no_byte : (p : ℕ → Bool) (c : ℕ) → ((b : ℕ) → p b ≡ true → eqb b c ≡ false) → (word : List ℕ) → list_all p word ≡ true → AllByRecursion (λ b. eqb b c ≡ false) word
 no_byte p c h [] e = tt
 no_byte p c h (b ∷ word) e = let k = and_parts (p b) (list_all p word) e in (h b k.0, no_byte p c h word k.1)
 

@@ -1,11 +1,11 @@
 -- Examples of the definitions, worked out by hand.
-use Rattle.std.specs.Prelude.{◌≡◌, ℕ, List, [], ◌∷◌, ◌++◌, codes, true, false, None, Some}
+use Rattle.std.specs.Prelude.{◌≡◌, ℕ, List, [], ◌∷◌, ◌++◌, codes, replicate, true, false, None, Some}
 use Rattle.ta_isa.specs.declared.image.Image.{Image}
 use Rattle.ta_isa.specs.Examples.{instr}
 use Rattle.ta_asm.specs.declared.fault.AsmFault.TheVariants.{BadLine, UnknownLabel, RepeatedLabel}
 use Rattle.ta_asm.specs.declared.names.EntryPoint.TheVariants.{Open}
 use Rattle.ta_asm.specs.declared.statement.Statement.TheVariants.{Nothing, Entry, Label, Code, Unread}
-use Rattle.ta_asm.specs.Canonical.{canonical}
+use Rattle.ta_asm.specs.Canonical.{canonical, text_of}
 use Rattle.ta_asm.specs.Grammar.{IsFirstFault, StandsFor}
 use Rattle.ta_asm.specs.Lines.{statement_of}
 use Rattle.ta_asm.specs.Words.{is_name, number_at, register_at}
@@ -20,6 +20,10 @@ jumping = record { flags = 28; pages = 64; entries = 0 ∷ 0 ∷ 0 ∷ 0 ∷ 0 �
 
 abbrev pub header : List ℕ
 header = codes ".flags 0\n.pages 1\n.entry create A\n.entry open A\n.entry invoke A\n.entry close A\n.entry destroy A\n"
+
+-- so many instructions behind a label, and one more behind another
+abbrev pub many : ℕ → List ℕ
+many count = codes "A:\n" ++ (text_of (replicate count (codes "ret" ∷ [])) ++ codes "B:\nret\n")
 
 pub record Examples : Type 0 where
   pub zero : number_at (codes "0") ≡ Some 0
@@ -44,6 +48,9 @@ pub record Examples : Type 0 where
   pub no_code : IsFirstFault header (UnknownLabel 3)
   pub number : IsFirstFault (codes ".pages x") (BadLine 1)
   pub label_alone : IsFirstFault (header ++ codes "A:\nsys 20\n") (BadLine 8)
+  pub unknown_target : IsFirstFault (header ++ codes "A:\njump B\n") (UnknownLabel 9)
+  -- the count is a variable, so that the text isn't computed
+  pub label_at_the_limit : (count : ℕ) → count ≡ 8192 → IsFirstFault (header ++ many count) (BadLine 8202)
   pub repeated : IsFirstFault (header ++ codes "A:\nA:\nsys 0\n") (RepeatedLabel 9)
   pub cut : IsFirstFault (header ++ codes "A:\nsys 0\nret") (BadLine 10)
   pub canonical_text : canonical jumping ≡ codes ".flags 28\n.pages 64\n.entry create L0\n.entry open L0\n.entry invoke L0\n.entry close L0\n.entry destroy L0\nL0:\njump L1\nL1:\nret\n"

@@ -63,15 +63,15 @@ abbrev pub is_target_known : List Statement → Option (List ℕ) → Bool
 is_target_known all None = true
 is_target_known all (Some name) = is_known all name
 
--- the line is one of an instruction without a fault
-abbrev pub is_instruction_line : List Statement → Statement → Bool
-is_instruction_line all Nothing = false
-is_instruction_line all (Flags n) = false
-is_instruction_line all (Pages n) = false
-is_instruction_line all (Entry point label) = false
-is_instruction_line all (Label label) = false
-is_instruction_line all (Code instr target) = is_target_known all target
-is_instruction_line all Unread = false
+-- the line is one of an instruction by its form, whether or not its target is known and there is room for it
+abbrev pub is_instruction_line : Statement → Bool
+is_instruction_line Nothing = false
+is_instruction_line (Flags n) = false
+is_instruction_line (Pages n) = false
+is_instruction_line (Entry point label) = false
+is_instruction_line (Label label) = false
+is_instruction_line (Code instr target) = true
+is_instruction_line Unread = false
 
 -- ---- what lines add up to
 
@@ -127,9 +127,13 @@ abbrev pub first_broken : List (AsmFault × Bool) → Option AsmFault
 first_broken [] = None
 first_broken (rule ∷ rules) = if rule.1 then first_broken rules else Some rule.0
 
+-- the header is complete
+abbrev pub has_header : Program → Bool
+has_header before = before.parts == 7
+
 -- one more instruction may follow: the header is complete, and there is room
 abbrev pub takes_code : Program → Bool
-takes_code before = (before.parts == 7) && nat_lt (length before.code) 8192
+takes_code before = has_header before && nat_lt (length before.code) 8192
 
 -- the rules of a line, given what the lines before it add up to
 unfoldable pub line_rules : List Statement → Program → ℕ → Statement → List (AsmFault × Bool)
@@ -138,8 +142,8 @@ line_rules all before line (Flags n) = (BadLine line, before.parts == 0) ∷ (Ba
 line_rules all before line (Pages n) = (BadLine line, before.parts == 1) ∷ (BadLine line, nat_le 1 n && nat_le n 64) ∷ []
 line_rules all before line (Entry point label) = (BadLine line, before.parts == number_of point + 2) ∷ (UnknownLabel line, is_known all label) ∷ []
 line_rules all before line (Label label) =
-    (BadLine line, takes_code before)
-    ∷ (BadLine line, list_any (is_instruction_line all) (drop line all))
+    (BadLine line, has_header before)
+    ∷ (BadLine line, list_any is_instruction_line (drop line all))
     ∷ (RepeatedLabel line, is_first_line all label line)
     ∷ []
 line_rules all before line (Code instr target) = (BadLine line, takes_code before) ∷ (UnknownLabel line, is_target_known all target) ∷ []
@@ -147,7 +151,7 @@ line_rules all before line Unread = (BadLine line, false) ∷ []
 
 -- the rules of the end of a text: the header is complete, and there is an instruction
 unfoldable pub end_rules : Program → ℕ → List (AsmFault × Bool)
-end_rules before line = (BadLine line, before.parts == 7) ∷ (BadLine line, nat_lt 0 (length before.code)) ∷ []
+end_rules before line = (BadLine line, has_header before) ∷ (BadLine line, nat_lt 0 (length before.code)) ∷ []
 
 abbrev pub rules_of : List Statement → Program → ℕ → Option Statement → List (AsmFault × Bool)
 rules_of all before line None = end_rules before line

@@ -23,9 +23,9 @@ label_in name here statement = if defines name statement then Some here else Non
 abbrev pub Defines : BTreeMap (Bor (List ℕ)) Definition → List Statement → Type 0
 Defines map front = (name : List ℕ) → get_by (λ key. slice_cmp nat_cmp name key.now) map ≡ definition front name
 
--- of these lines, the last instruction without a fault is the one of this number, counted from 1; 0 where there is none
-abbrev pub IsLastIn : List Statement → List Statement → ℕ → Type 0
-IsLastIn all front last = (line : ℕ) → list_any (is_instruction_line all) (drop line front) ≡ nat_lt line last
+-- of these lines, the last one of an instruction is that of this number, counted from 1; 0 where there is none
+abbrev pub IsLastIn : List Statement → ℕ → Type 0
+IsLastIn front last = (line : ℕ) → list_any is_instruction_line (drop line front) ≡ nat_lt line last
 
 -- a line was taken: it keeps its rules, and leads from the program before it to the one after it; or it broke a rule;
 -- or memory ran out
@@ -33,9 +33,9 @@ abbrev pub IsTaken : Result Unit AsmFault → List (AsmFault × Bool) → Progra
 IsTaken (Ok u) rules wanted after = (first_broken rules ≡ None) × (after ≡ wanted)
 IsTaken (Err fault) rules wanted after = (first_broken rules ≡ Some fault) ⊎ (fault ≡ Memory)
 
--- the labels of these lines, and the last instruction
+-- the labels of these lines, and the last line of an instruction
 abbrev pub HasLabels : Labels → List Statement → Type 0
-HasLabels labels all = Defines labels.map all × IsLastIn all all labels.last
+HasLabels labels all = Defines labels.map all × IsLastIn all labels.last
 
 -- the instruction with the place of its target, where that is known
 abbrev pub IsTargeted : Option Instr → List Statement → Instr → Option (List ℕ) → Type 0

@@ -7,9 +7,9 @@ ghost use Rattle.std.specs.Cmp.Lexicographic.{slice_cmp};
 ghost use Rattle.std.specs.Ordering.{nat_cmp};
 ghost use Rattle.std.specs.Str.{bytes_eq};
 ghost use Rattle.ta_asm.specs.declared.statement.Statement.{Statement};
-ghost use Rattle.ta_asm.specs.Grammar.{definition, instructions, is_instruction_line, is_target_known};
+ghost use Rattle.ta_asm.specs.Grammar.{definition, instructions, is_instruction_line};
 ghost use Rattle.ta_asm.specs.Lines.{statements_of};
-ghost use Rattle.ta_asm.specs.Reading.{Defines, HasLabels, IsLastIn, label_in};
+ghost use Rattle.ta_asm.specs.Reading.{Defines, HasLabels, label_in};
 
 use crate::fault::AsmFault;
 use crate::name::Name;
@@ -64,32 +64,21 @@ fn note_line<'a>(
     }
 }
 
-/// The first line of each label of a text.
-fn defined<'a>(alloc: Global, text: &'a [u8]) -> Result<BTreeMap<&'a [u8], Definition>, AsmFault>
-    requires { length text.now + 1 < 2 ^ 32 }
-    ensures defined { IfOk result (λ map. Defines map (statements_of text.now)) }
-    ensures memory { IfErr result (λ fault. fault ≡ AsmFault.Memory) }
+/// The last line of an instruction, after one more line.
+fn last_after(last: u32, line: u32, statement: &Statement) -> u32
+    ensures { result ≡ (if is_instruction_line statement.now then line else last) }
 {
-    let mut statements = Statements::of(text);
-    let mut map = BTreeMap::new(alloc);
-    let mut lines = 0u32;
-    let mut place = 0u32;
-    while let Some(statement) = statements.next_statement() {
-        let here = Definition {
-            line: lines + 1,
-            place,
-        };
-        place = note_line(&mut map, here, statement)?;
-        lines += 1;
+    match statement {
+        Statement::Code(_, _) => line,
+        _ => last,
     }
-    Ok(map)
 }
 
 /// The labels of a text, and its last instruction.
 #[derive(Drop)]
 pub struct Labels<'a> {
     map: BTreeMap<&'a [u8], Definition>,
-    /// The last line that is one of an instruction without a fault, counted from 1; 0 where there is none.
+    /// The last line that is one of an instruction, counted from 1; 0 where there is none.
     last: u32,
 }
 
@@ -100,12 +89,21 @@ impl<'a> Labels<'a> {
         ensures known { IfOk result (λ labels. HasLabels labels (statements_of text.now)) }
         ensures memory { IfErr result (λ fault. fault ≡ AsmFault.Memory) }
     {
-        let mut labels = Labels {
-            map: defined(alloc, text)?,
-            last: 0,
-        };
-        labels.last = labels.last_line(text);
-        Ok(labels)
+        let mut statements = Statements::of(text);
+        let mut map = BTreeMap::new(alloc);
+        let mut last = 0u32;
+        let mut lines = 0u32;
+        let mut place = 0u32;
+        while let Some(statement) = statements.next_statement() {
+            let here = Definition {
+                line: lines + 1,
+                place,
+            };
+            last = last_after(last, here.line, &statement);
+            place = note_line(&mut map, here, statement)?;
+            lines += 1;
+        }
+        Ok(Labels { map, last })
     }
 
     /// The first line of a label.
@@ -115,55 +113,7 @@ impl<'a> Labels<'a> {
         self.map.get(&name.bytes()).copied()
     }
 
-    /// Whether the label of a target, if there is one, is known.
-    pub fn is_target_known(&self, target: &Option<Name<'a>>) -> bool
-        ensures { (all : List Statement) → Defines self.now.map all → result ≡ is_target_known all target.now }
-    {
-        match target {
-            None => true,
-            Some(name) => self.find(name).is_some(),
-        }
-    }
-
-    /// Whether a line is one of an instruction without a fault.
-    fn is_instruction_line(&self, statement: &Statement<'a>) -> bool
-        ensures { (all : List Statement) → Defines self.now.map all → result ≡ is_instruction_line all statement.now }
-    {
-        match statement {
-            Statement::Code(_, target) => self.is_target_known(target),
-            _ => false,
-        }
-    }
-
-    /// The last such line, after one more line.
-    fn last_after(&self, last: u32, line: u32, statement: Statement<'a>) -> u32
-        ensures { (all : List Statement) → Defines self.now.map all
-            → result ≡ (if is_instruction_line all statement.entry then line else last) }
-    {
-        if self.is_instruction_line(&statement) {
-            line
-        } else {
-            last
-        }
-    }
-
-    /// The last line that is one of an instruction without a fault.
-    fn last_line(&self, text: &'a [u8]) -> u32
-        requires short { length text.now + 1 < 2 ^ 32 }
-        requires known { Defines self.now.map (statements_of text.now) }
-        ensures { IsLastIn (statements_of text.now) (statements_of text.now) result }
-    {
-        let mut statements = Statements::of(text);
-        let mut lines = 0u32;
-        let mut last = 0u32;
-        while let Some(statement) = statements.next_statement() {
-            last = self.last_after(last, lines + 1, statement);
-            lines += 1;
-        }
-        last
-    }
-
-    /// Whether an instruction without a fault stands behind a line.
+    /// Whether an instruction stands behind a line.
     pub fn is_followed(&self, line: u32) -> bool
         ensures { result ≡ nat_lt line self.now.last }
     {

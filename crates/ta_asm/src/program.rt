@@ -5,7 +5,7 @@ ghost use Rattle.ta_isa.specs.Spelling.{are_allowed};
 ghost use Rattle.ta_asm.specs.declared.names.EntryPoint.{EntryPoint};
 ghost use Rattle.ta_asm.specs.declared.statement.Statement.{Statement};
 ghost use Rattle.ta_asm.specs.declared.statement.Statement.TheVariants as statement;
-ghost use Rattle.ta_asm.specs.Grammar.{Program, added, end_rules, line_rules, no_program, takes_code, targeted};
+ghost use Rattle.ta_asm.specs.Grammar.{Program, added, end_rules, has_header, line_rules, no_program, takes_code, targeted};
 ghost use Rattle.ta_asm.specs.Reading.{Defines, HasLabels, IsTaken, IsTargeted, Ends};
 
 use crate::fault::AsmFault;
@@ -64,11 +64,18 @@ impl Draft {
         }
     }
 
+    /// Whether the header is complete.
+    fn has_header(&self) -> bool
+        ensures { result ≡ has_header self.now }
+    {
+        self.parts == HEADER_LINES
+    }
+
     /// Whether one more instruction may follow.
     fn takes_code(&self) -> bool
         ensures { result ≡ takes_code self.now }
     {
-        self.parts == HEADER_LINES && self.code.len() < MAX_INSTRUCTIONS as usize
+        self.has_header() && self.code.len() < MAX_INSTRUCTIONS as usize
     }
 
     /// A line `.flags`.
@@ -131,7 +138,7 @@ impl Draft {
         ensures { (all : List Statement) → HasLabels labels.now all
             → IsTaken result (line_rules all self.now line (statement.Label label.entry)) self.now self.now }
     {
-        if !self.takes_code() || !labels.is_followed(line) {
+        if !self.has_header() || !labels.is_followed(line) {
             return Err(AsmFault::BadLine(line));
         }
         match labels.find(&label) {

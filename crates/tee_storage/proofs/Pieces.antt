@@ -1,7 +1,7 @@
 -- What a transfer of bytes goes on with.
 use Rattle.std.proofs.Common.{◌≡◌, ℕ, suc, ◌+◌, ◌-◌, ◌/◌, ◌<◌, min, true, false, nat_lt, List, [], ◌∷◌, ◌++◌, length, Some, refl, ap, sym, arith}
-use Rattle.std.specs.Prelude.{◌==◌}
-use Rattle.std.proofs.lemmas.Bool.{and_parts, eqb-true}
+use Rattle.std.specs.Prelude.{◌==◌, ◌&&◌}
+use Rattle.std.proofs.lemmas.Bool.{and_parts, eqb-true, ltb-true}
 use Rattle.base.specs.NumberMap.{get}
 use Rattle.rpc_msgs.specs.declared.rpc.RpcReply.{RpcReply}
 use Rattle.base.specs.Bytes.{overwritten}
@@ -14,7 +14,7 @@ use Rattle.tee_storage.specs.KeptData.{reading_data, storing_none}
 use Rattle.tee_storage.specs.OpenObjects.{reading, write, write_checked}
 use Rattle.tee_storage.specs.ObjectFiles.{cut, pieces, pieces_from}
 use Rattle.tee_storage.specs.Program.{Now}
-use Rattle.tee_storage.specs.Replies.{is_whole}
+use Rattle.tee_storage.specs.Replies.{brings_piece, is_whole}
 use Rattle.tee_storage.specs.States.{Taken, onward, reading_on, storing_by}
 use Rattle.tee_storage.specs.Transfers.{data_len, other_data, other_pieces, this_len}
 
@@ -29,6 +29,19 @@ pub data_on : (read : DataRead) (taken : Taken) (now : Now) (reply : RpcReply) �
     → onward (waiting.DataRead read) taken now reply
     ≡ reading_on read (other_data read) taken.key (taken.content ++ reply.bytes) (storing_by read.tagging read.transfer now read.start reply.bytes)
 data_on read taken now reply good whole = rw (good, whole) refl
+
+-- a piece is brought, and more bytes are to follow
+pub record IsBrought (reply : RpcReply) (len start total : ℕ) : Type 0 where
+  pub good : reply.ret ≡ 0
+  pub whole : is_whole reply len ≡ true
+  pub more : start + len < total
+
+pub brought : (reply : RpcReply) (len start total : ℕ) → (brings_piece reply len && nat_lt (start + len) total) ≡ true
+    → IsBrought reply len start total
+brought reply len start total reads =
+    let (piece, more) = and_parts (brings_piece reply len) (nat_lt (start + len) total) reads in
+    let (good, whole) = and_parts (reply.ret == 0) (is_whole reply len) piece in
+    record { good = eqb-true reply.ret 0 good; whole = whole; more = ltb-true (start + len) total more }
 
 -- it has as many bytes as were asked for
 pub whole_piece : (reply : RpcReply) (len : ℕ) → is_whole reply len ≡ true → length reply.bytes ≡ len

@@ -21,3 +21,7 @@ asks rpc payload now onward = Asks rpc payload now (λ reply. unless_failed repl
 -- the reply brings as many bytes as were asked for
 abbrev pub is_whole : RpcReply → ℕ → Bool
 is_whole reply len = (reply.size == len) && (length reply.bytes == len)
+
+-- and tells of no failure
+abbrev pub brings_piece : RpcReply → ℕ → Bool
+brings_piece reply len = (reply.ret == 0) && is_whole reply len

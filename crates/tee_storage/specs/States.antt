@@ -1,5 +1,5 @@
 -- What is left of a call, by the state that waits for the reply to its request.
-use Rattle.std.specs.Prelude.{◌≡◌, ℕ, ◌<◌, true, false, List, ◌++◌, length, Option, Some, None, Result, Ok, Err, if◌then◌else◌}
+use Rattle.std.specs.Prelude.{◌≡◌, ℕ, ◌+◌, ◌<◌, ◌&&◌, nat_lt, Bool, true, false, List, ◌++◌, length, Option, Some, None, Result, Ok, Err, if◌then◌else◌}
 use Rattle.base.specs.NumberMap.{NumberMap}
 use Rattle.hmac.specs.declared.hasher.HmacSha256.{HmacSha256}
 use Rattle.hmac.specs.Hashing.{Holds}
@@ -27,7 +27,7 @@ use Rattle.tee_storage.specs.ObjectFiles.{Piece, is_id_length, file_name, pieces
 use Rattle.tee_storage.specs.OpenObjects.{all_read, new_length, read_checked, reading, removing, storing_read, without, write_checked, writing, writing_header, written}
 use Rattle.tee_storage.specs.Opening.{empty_object, writing_first, opened, header_in, opened_as, reading_header}
 use Rattle.tee_storage.specs.Program.{Now, Program, Asks, Ends, ends_with, fails}
-use Rattle.tee_storage.specs.Replies.{is_whole, unless_failed}
+use Rattle.tee_storage.specs.Replies.{brings_piece, is_whole, unless_failed}
 use Rattle.tee_storage.specs.Tags.{if_brought, is_tagged, tag_front}
 use Rattle.tee_storage.specs.Transfers.{data_len, other_data, put_so_far, this_len, other_pieces, IsDataRead, IsRead, IsWrite, IsWritten}
 
@@ -88,6 +88,13 @@ onward (NewHeaderWritten t) taken now reply = unless_failed reply.ret now (writt
 onward (Closed handle) taken now reply = let gone = without now handle in unless_failed reply.ret gone (ends_with 0 gone)
 onward (ClosedToDelete handle name) taken now reply = removing name (without now handle)
 onward Removed taken now reply = unless_failed reply.ret now (ends_with 0 now)
+
+-- the reply brings a piece of what a call reads, and another one follows
+abbrev pub goes_on_reading : Waits → RpcReply → Bool
+goes_on_reading (PieceRead t) reply = brings_piece reply (this_len t) && nat_lt (t.done + this_len t) t.len
+goes_on_reading (waiting.DataRead read) reply =
+    brings_piece reply (data_len read) && nat_lt (read.start + data_len read) read.transfer.object.length
+goes_on_reading _ reply = false
 
 -- what is left of a call that is at this step
 abbrev pub left_in : Waits → Taken → StorageStep → Now → Program
@@ -185,6 +192,10 @@ IsReady Removed range = Unit {0}
 -- the state can go on with a reply, over this range
 abbrev pub CanGoOn : ObjectState → List ℕ → Type 0
 CanGoOn state range = IsReady state.waits range
+
+-- the reply brings a piece of an object that is read, and another piece follows
+abbrev pub reads_on : ObjectState → RpcReply → Bool
+reads_on state reply = goes_on_reading state.waits reply
 
 -- ---- what a state stands for
 

@@ -1,5 +1,5 @@
 //! To read all the data of an object, for the tag that it has and the one that it is to have.
-ghost use Rattle.std.specs.Prelude.{◌≡◌, None, IfSome, ℕ, ◌+◌, ◌-◌, ◌^◌, ◌<◌, ◌≤◌, ◌++◌, List, length, take, drop};
+ghost use Rattle.std.specs.Prelude.{◌≡◌, None, true, IfSome, ℕ, ◌+◌, ◌-◌, ◌^◌, ◌<◌, ◌≤◌, [], ◌++◌, List, length, take, drop};
 ghost use Rattle.base.specs.Bytes.{overwritten};
 ghost use Rattle.hmac.specs.Hashing.{Holds};
 ghost use Rattle.hmac.specs.Hmac.{hmac};
@@ -8,10 +8,10 @@ ghost use Rattle.base.specs.NumberMap.{NumberMap};
 ghost use Rattle.tee_storage.specs.declared.handle.Handle.{Handle};
 ghost use Rattle.tee_storage.specs.KeptData.{part_between};
 ghost use Rattle.tee_storage.specs.ObjectCalls.{panic_code};
-ghost use Rattle.tee_storage.specs.ObjectFiles.{Piece, pieces_from};
+ghost use Rattle.tee_storage.specs.ObjectFiles.{Piece, offset_of as offset_by, pieces_from};
 ghost use Rattle.tee_storage.specs.Program.{Now, Program, now_at};
 ghost use Rattle.tee_storage.specs.Replies.{unless_failed};
-ghost use Rattle.tee_storage.specs.States.{HasTaken, IsLeft, IsReady, Taken, TakesNothing, checked_by, left_at, onward, reading_on, storing_by};
+ghost use Rattle.tee_storage.specs.States.{HasTaken, Hashes, IsLeft, IsReady, Taken, TakesNothing, checked_by, left_at, goes_on_reading, onward, reading_on, storing_by};
 ghost use Rattle.tee_storage.specs.Tags.{if_brought};
 ghost use Rattle.tee_storage.specs.Transfers.{IsDataRead, IsWrite, data_len, put_so_far};
 
@@ -19,6 +19,7 @@ use crate::handles::Handles;
 use crate::object_file::offset_of;
 use crate::replies::is_whole;
 use crate::span::{Span, hash_range};
+use crate::step::StorageStep;
 use crate::tags::{Tag, brings, tag_request};
 use crate::turn::Turn;
 use crate::waits::{DataRead, Tagging, Transfer, Waits};
@@ -153,6 +154,17 @@ impl DataRead {
         }
     }
 
+    /// The request for the next piece.
+    fn request(&self) -> Rpc
+        ensures { result ≡ Rpc.FsRead self.now.transfer.object.fd (offset_by self.now.start) (data_len self.now) }
+    {
+        Rpc::FsRead {
+            fd: self.transfer.object.fd,
+            offset: offset_of(self.start),
+            len: self.piece_len(),
+        }
+    }
+
     /// Asks for the next piece of the data. Behind the last one the call goes on.
     pub(crate) fn next<M: Span>(self, span: &M) -> Turn
         requires { IsDataRead self (M.bytes span.now) }
@@ -165,13 +177,23 @@ impl DataRead {
         if self.start >= self.transfer.object.length {
             return self.go_on(span);
         }
-        let rpc = Rpc::FsRead {
-            fd: self.transfer.object.fd,
-            offset: offset_of(self.start),
-            len: self.piece_len(),
-        };
+        let rpc = self.request();
         Turn::asking(Waits::DataRead(self), rpc, Payload::new())
     }
+}
+
+/// A piece of the data is read in its place, and another one follows: the request for that.
+pub(crate) fn read_on<M: Span>(read: &mut DataRead, reply: &RpcReply, span: &mut M) -> Rpc
+    requires ready { IsDataRead read.old (M.bytes span.old) }
+    requires reads { goes_on_reading (Waits.DataRead read.old) reply.now ≡ true }
+    ensures left { (taken : Taken) (objects : NumberMap Handle) → Hashes (Waits.DataRead read.old) taken (M.bytes span.old)
+        → IsLeft (onward (Waits.DataRead read.old) taken (now_at (M.bytes span.old) objects) reply.now)
+        (record { waits = Waits.DataRead read.new; step = StorageStep.Ask result [] }) taken.key (now_at (M.bytes span.new) objects) }
+    ensures rest { M.rest span.new ≡ M.rest span.old }
+    ensures ready { IsDataRead read.new (M.bytes span.new) }
+{
+    read.take(reply.bytes.bytes(), span);
+    read.request()
 }
 
 /// A piece of the data is read.

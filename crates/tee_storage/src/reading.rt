@@ -1,19 +1,19 @@
 //! To read an object.
-ghost use Rattle.std.specs.Prelude.{◌≡◌, None, true, ℕ, ◌+◌, ◌^◌, ◌<◌, ◌≤◌, List, length};
-ghost use Rattle.tee_storage.specs.ObjectFiles.{pieces_from};
+ghost use Rattle.std.specs.Prelude.{◌≡◌, None, true, ℕ, ◌+◌, ◌^◌, ◌<◌, ◌≤◌, [], List, length};
+ghost use Rattle.tee_storage.specs.ObjectFiles.{offset_of, pieces_from};
 ghost use Rattle.tee_storage.specs.OpenObjects.{all_read as all_read_program, read as read_program, reading, reading_checked};
 ghost use Rattle.base.specs.NumberMap.{NumberMap};
 ghost use Rattle.tee_storage.specs.declared.handle.Handle.{Handle};
 ghost use Rattle.tee_storage.specs.Tags.{is_tagged};
 ghost use Rattle.tee_storage.specs.ObjectCalls.{panic_at, panic_code};
 ghost use Rattle.tee_storage.specs.Program.{now_at};
-ghost use Rattle.tee_storage.specs.States.{IsLeft, Taken, TakesNothing, onward, left_at, IsReady};
-ghost use Rattle.tee_storage.specs.Transfers.{IsRead};
+ghost use Rattle.tee_storage.specs.States.{Hashes, IsLeft, Taken, TakesNothing, goes_on_reading, onward, left_at, IsReady};
+ghost use Rattle.tee_storage.specs.Transfers.{IsRead, this_len};
 
 use crate::handles::Handles;
 use crate::replies::is_whole;
 use crate::span::Span;
-use crate::step::BAD_HANDLE;
+use crate::step::{BAD_HANDLE, StorageStep};
 use crate::tags::{Key, is_tagged as has_tag, tag_hasher};
 use crate::turn::Turn;
 use crate::waits::{DataRead, Tagging, Transfer, Waits};
@@ -95,6 +95,33 @@ pub(crate) fn piece_read<M: Span>(
     next_piece(transfer.after_piece(), handles)
 }
 
+/// A piece is read in its place, and another one follows: the request for that.
+pub(crate) fn read_on<M: Span>(transfer: &mut Transfer, reply: &RpcReply, span: &mut M) -> Rpc
+    requires ready { IsRead transfer.old (M.bytes span.old) }
+    requires reads { goes_on_reading (Waits.PieceRead transfer.old) reply.now ≡ true }
+    ensures left { (taken : Taken) (objects : NumberMap Handle) → Hashes (Waits.PieceRead transfer.old) taken (M.bytes span.old)
+        → IsLeft (onward (Waits.PieceRead transfer.old) taken (now_at (M.bytes span.old) objects) reply.now)
+        (record { waits = Waits.PieceRead transfer.new; step = StorageStep.Ask result [] }) taken.key (now_at (M.bytes span.new) objects) }
+    ensures rest { M.rest span.new ≡ M.rest span.old }
+    ensures ready { IsRead transfer.new (M.bytes span.new) }
+{
+    let len = transfer.piece_len();
+    span.write(transfer.done, reply.bytes.bytes());
+    transfer.done += len;
+    request(transfer)
+}
+
+/// The request for the next piece.
+fn request(transfer: &Transfer) -> Rpc
+    ensures { result ≡ Rpc.FsRead transfer.now.object.fd (offset_of (transfer.now.object.position + transfer.now.done)) (this_len transfer.now) }
+{
+    Rpc::FsRead {
+        fd: transfer.object.fd,
+        offset: transfer.offset(),
+        len: transfer.piece_len(),
+    }
+}
+
 /// Asks for the next piece, or ends where there is none: the position moves.
 fn next_piece(transfer: Transfer, handles: &mut Handles) -> Turn
     requires handle { transfer.handle < 8 }
@@ -109,11 +136,7 @@ fn next_piece(transfer: Transfer, handles: &mut Handles) -> Turn
     if transfer.done >= transfer.len {
         return all_read(transfer, handles);
     }
-    let rpc = Rpc::FsRead {
-        fd: transfer.object.fd,
-        offset: transfer.offset(),
-        len: transfer.piece_len(),
-    };
+    let rpc = request(&transfer);
     Turn::asking(Waits::PieceRead(transfer), rpc, Payload::new())
 }
 

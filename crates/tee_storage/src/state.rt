@@ -1,12 +1,12 @@
-ghost use Rattle.std.specs.Prelude.{◌≡◌, None, ℕ, [], ◌∷◌, ◌++◌, List, length, Some};
+ghost use Rattle.std.specs.Prelude.{◌≡◌, None, true, ℕ, [], ◌∷◌, ◌++◌, List, length, Some};
 ghost use Rattle.base.specs.NumberMap.{NumberMap};
 ghost use Rattle.rpc_msgs.specs.Answer.{RpcAnswer, Replied, NoBuffer};
-ghost use Rattle.rpc_msgs.specs.declared.rpc.Rpc.{Rpc};
+ghost use Rattle.rpc_msgs.specs.declared.rpc.Rpc.{Rpc as AnyRpc};
 ghost use Rattle.ta_params.specs.declared.object_call.ObjectCall.{ObjectCall};
 ghost use Rattle.tee_storage.specs.declared.handle.Handle.{Handle};
 ghost use Rattle.tee_storage.specs.ObjectCalls.{Serving, panic_code, panic_of, program_of, range_len, serving};
 ghost use Rattle.tee_storage.specs.Program.{now_at};
-ghost use Rattle.tee_storage.specs.States.{Hashes, IsLeft, Taken, CanGoOn, IsReady, StandsFor, left_at, onward};
+ghost use Rattle.tee_storage.specs.States.{Hashes, IsLeft, Taken, CanGoOn, IsReady, StandsFor, left_at, onward, reads_on};
 
 use crate::handles::Handles;
 use crate::opening::FileCall;
@@ -16,7 +16,7 @@ use crate::tags::Key;
 use crate::turn::Turn;
 use crate::waits::Waits;
 use crate::{closing, data_reading, opening, reading, writing};
-use rpc_msgs::RpcReply;
+use rpc_msgs::{Rpc, RpcReply};
 use std::mem;
 use ta_params::ObjectCall;
 use ta_params::codes::*;
@@ -65,7 +65,7 @@ impl ObjectState {
         ensures rest { M.rest span.new ≡ M.rest span.old }
         ensures ready { CanGoOn self.new (M.bytes span.new) }
         ensures stands { (call : ObjectCall) (uuid key range : List ℕ) (objects : NumberMap Handle) (answers : List RpcAnswer)
-            (rpc : Rpc) (payload : List ℕ)
+            (rpc : AnyRpc) (payload : List ℕ)
             → StandsFor self.old call uuid key range objects answers
             (record { step = StorageStep.Ask rpc payload; range = M.bytes span.old; objects = handles.old })
             → StandsFor self.new call uuid key range objects (answers ++ Replied reply.now ∷ [])
@@ -77,11 +77,43 @@ impl ObjectState {
         turn.step
     }
 
+    /// Whether the reply brings a piece of an object that is read, and another piece follows.
+    pub fn reads_on(&self, reply: &RpcReply) -> bool
+        ensures { result ≡ reads_on self.now reply.now }
+    {
+        match &self.waits {
+            Waits::PieceRead(transfer) => transfer.reads_on(reply),
+            Waits::DataRead(read) => read.reads_on(reply),
+            _ => false,
+        }
+    }
+
+    /// Goes on in its place with a reply that brings a piece of an object, behind which another one follows: the request for
+    /// that, which goes without bytes. It is what `answer` comes to. Takes no memory.
+    pub fn read_on<M: Span>(&mut self, reply: &RpcReply, span: &mut M) -> Rpc
+        requires can { CanGoOn self.old (M.bytes span.old) }
+        requires reads { reads_on self.old reply.now ≡ true }
+        ensures rest { M.rest span.new ≡ M.rest span.old }
+        ensures ready { CanGoOn self.new (M.bytes span.new) }
+        ensures stands { (call : ObjectCall) (uuid key range : List ℕ) (objects then : NumberMap Handle) (answers : List RpcAnswer)
+            (rpc : AnyRpc) (payload : List ℕ)
+            → StandsFor self.old call uuid key range objects answers
+            (record { step = StorageStep.Ask rpc payload; range = M.bytes span.old; objects = then })
+            → StandsFor self.new call uuid key range objects (answers ++ Replied reply.now ∷ [])
+            (record { step = StorageStep.Ask result []; range = M.bytes span.new; objects = then }) }
+    {
+        match &mut self.waits {
+            Waits::PieceRead(transfer) => reading::read_on(transfer, reply, span),
+            Waits::DataRead(read) => data_reading::read_on(read, reply, span),
+            _ => unreachable!(),
+        }
+    }
+
     /// Ends the call, since there is no buffer for what it asks: its result. Takes no memory.
     pub fn no_buffer(self) -> u32
         ensures code { result ≡ 0xffff000c }
         ensures serves { (call : ObjectCall) (uuid key range now : List ℕ) (objects then : NumberMap Handle)
-            (answers : List RpcAnswer) (rpc : Rpc) (payload : List ℕ)
+            (answers : List RpcAnswer) (rpc : AnyRpc) (payload : List ℕ)
             → StandsFor self call uuid key range objects answers
             (record { step = StorageStep.Ask rpc payload; range = now; objects = then })
             → serving call uuid key range objects (answers ++ NoBuffer ∷ [])

@@ -1,13 +1,15 @@
-ghost use Rattle.std.specs.Prelude.{◌≡◌, ◌+◌, ◌≤◌};
+ghost use Rattle.std.specs.Prelude.{◌≡◌, ◌+◌, ◌≤◌, ◌&&◌, nat_lt};
 ghost use Rattle.tee_storage.specs.ObjectFiles.{offset_of};
 ghost use Rattle.tee_storage.specs.OpenObjects.{new_length};
+ghost use Rattle.tee_storage.specs.Replies.{brings_piece as brings};
 ghost use Rattle.tee_storage.specs.Transfers.{data_len, this_len};
 
 use crate::handle::Handle;
 use crate::object_file::HEADER_BYTES;
+use crate::replies::brings_piece;
 use crate::tags::{Key, Tag};
 use hmac::HmacSha256;
-use rpc_msgs::{FileName, MAX_PAYLOAD};
+use rpc_msgs::{FileName, MAX_PAYLOAD, RpcReply};
 
 /// An object that is being created or opened, and the number that its handle is to have.
 #[derive(Drop)]
@@ -31,10 +33,18 @@ pub struct Transfer {
 impl Transfer {
     /// How many bytes the piece has that was asked for, or is to be.
     pub(crate) fn piece_len(&self) -> u32
-        requires { self.now.done ≤ self.now.len }
         ensures { result ≡ this_len self.now }
     {
-        (self.len - self.done).min(MAX_PAYLOAD as u32)
+        self.len.saturating_sub(self.done).min(MAX_PAYLOAD as u32)
+    }
+
+    /// Whether the reply brings that piece, and another one follows.
+    pub(crate) fn reads_on(&self, reply: &RpcReply) -> bool
+        ensures { result ≡ (brings reply.now (this_len self.now) && nat_lt (self.now.done + this_len self.now) self.now.len) }
+    {
+        let (done, total) = (self.done, self.len);
+        let len = self.piece_len();
+        brings_piece(reply, len) && done + len < total
     }
 
     /// The rest of it, behind that piece.
@@ -86,10 +96,20 @@ pub struct DataRead {
 impl DataRead {
     /// How many bytes the piece has that was asked for, or is to be.
     pub(crate) fn piece_len(&self) -> u32
-        requires { self.now.start ≤ self.now.transfer.object.length }
         ensures { result ≡ data_len self.now }
     {
-        (self.transfer.object.length - self.start).min(MAX_PAYLOAD as u32)
+        let left = self.transfer.object.length.saturating_sub(self.start);
+        left.min(MAX_PAYLOAD as u32)
+    }
+
+    /// Whether the reply brings that piece, and another one follows.
+    pub(crate) fn reads_on(&self, reply: &RpcReply) -> bool
+        ensures { result ≡ (brings reply.now (data_len self.now)
+            && nat_lt (self.now.start + data_len self.now) self.now.transfer.object.length) }
+    {
+        let (start, total) = (self.start, self.transfer.object.length);
+        let len = self.piece_len();
+        brings_piece(reply, len) && start + len < total
     }
 }
 

@@ -11,7 +11,7 @@ returns-clause-left c = λ taken range.
     let t = c.args.transfer in
     let left : t.done < t.len = omega (arith, c.if-transfer.false) in
     ap (λ (pieces : List Piece). reading t.handle t.object t.len pieces (now_at range c.args.handles.now)) (piece_first t.done t.len left)
-    ∙ rw (c.asking.ensures, c.offset.ensures, c.piece_len.ensures, c.new.ensures) refl
+    ∙ rw (c.asking.ensures, c.request-rpc.ensures, c.new.ensures) refl
 
 pub returns-then-transfer-clause-hashes : goal.returns-then-transfer-clause-hashes
 returns-then-transfer-clause-hashes c = takes_nothing c.all_read.result.waits c.all_read.ensures.ready

@@ -13,6 +13,6 @@ returns-clause-left g c = λ taken objects has.
     record {
       content = taken.content;
       is = ap (λ (pieces : List Piece). reading_on read pieces taken.key taken.content now) (piece_first read.start read.transfer.object.length left)
-          ∙ rw (c.asking.ensures, c.offset_of.ensures, c.piece_len.ensures, c.new.ensures) refl;
+          ∙ rw (c.asking.ensures, c.request-rpc.ensures, c.new.ensures) refl;
       hashes = rw c.asking.ensures has;
     }

@@ -15,7 +15,7 @@ use Rattle.tee_storage.specs.declared.step.StorageStep.TheVariants as storage
 use Rattle.rpc_cont.proofs.Asking.{holds_as, holds_there, object-served, came-over, moved}
 use Rattle.rpc_cont.proofs.Answered.{waiting, come-object, goes_or_asks, in_phase, one_more, ran-answered, stored-asks, stored-there}
 use Rattle.rpc_cont.proofs.Spans.{store-same_but}
-use Rattle.rpc_cont.proofs.cont.Cont.object_reply.Goals as goal
+use Rattle.rpc_cont.proofs.cont.Cont.object_answer.Goals as goal
 
 pub go_on-stop-requires : goal.go_on-stop-requires
 go_on-stop-requires g c =
