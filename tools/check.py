@@ -9,6 +9,8 @@ Status: 0 where all agree, 1 where something doesn't, 2 at other words.
 usage: check.py [program=FILE]
 """
 
+import importlib
+import io
 import pathlib
 import re
 import subprocess
@@ -50,9 +52,24 @@ class Comparison:
 
 
 def tool(name, *words, text=""):
-    """The status and what is printed of a tool that is run as a program."""
-    command = [sys.executable, FOLDER / name, *words]
-    done = subprocess.run(command, input=text, capture_output=True, text=True, check=False)
+    """The status and what is printed of a tool, whose main is run as a program runs it."""
+    module = importlib.import_module(name.removesuffix(".py"))
+    streams = sys.stdin, sys.stdout, sys.stderr
+    sys.stdin = io.TextIOWrapper(io.BytesIO(text.encode("latin-1")), encoding="latin-1")
+    printed, said = (io.TextIOWrapper(io.BytesIO(), encoding="latin-1", write_through=True) for _ in range(2))
+    sys.stdout, sys.stderr = printed, said
+    try:
+        run(module.main, module.__doc__, [str(word) for word in words])
+    except SystemExit as ended:
+        status = ended.code or 0
+    finally:
+        sys.stdin, sys.stdout, sys.stderr = streams
+    return status, *(stream.buffer.getvalue().decode("latin-1") for stream in (printed, said))
+
+
+def tool_alone(name, *words):
+    """The same of a tool that is run as a program of its own."""
+    done = subprocess.run([FOLDER / name, *words], input="", capture_output=True, text=True, check=False)
     return done.returncode, done.stdout, done.stderr
 
 
@@ -369,8 +386,8 @@ def check_links(comparison):
 def check_words(comparison):
     """Other words end with the usage line and 2."""
     for name, rows in expected.BAD_WORDS.items():
-        for words in rows:
-            status, printed, said = tool(name, *words.split())
+        for number, words in enumerate(rows):
+            status, printed, said = (tool if number else tool_alone)(name, *words.split())
             usage = said.splitlines()[-1:] and said.splitlines()[-1].startswith(f"usage: {name}")
             comparison.same(f"{name} {words}", (status, printed, usage), (2, "", True))
 
