@@ -178,8 +178,7 @@ impl<M: TaMemory + Drop> Cont<M> {
         let Some(asked) = &mut self.request else {
             unreachable!();
         };
-        asked.rpc = rpc;
-        asked.payload.clear();
+        asked.turn_to(rpc);
     }
 
     /// The same as `object_reply`, to any reply.

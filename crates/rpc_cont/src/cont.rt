@@ -15,6 +15,18 @@ pub struct Asked {
     pub payload: Payload,
 }
 
+impl Asked {
+    ghost use Rattle.std.specs.Prelude.{◌≡◌, []};
+
+    /// Becomes this request, without bytes.
+    pub(crate) fn turn_to(&mut self, rpc: Rpc)
+        ensures { self.new ≡ record { rpc = rpc; payload = [] } }
+    {
+        self.rpc = rpc;
+        self.payload.clear();
+    }
+}
+
 /// A call as plain data, over its instance's memory.
 #[derive(Drop)]
 pub struct Cont<M: TaMemory> {
