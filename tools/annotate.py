@@ -3,26 +3,39 @@
 
 TRACE is a trace as text, OUTPUT what `run` has printed for it; `-` is standard input. Answers are named by the call, and
 bytes that are shown by the field of the argument or message in which they lie, with results and origins by name.
-`bad trace` stands under the line that has the fault, with what it usually is. FOLDER has several traces, and OUTPUT is then
-what `rt try --cases FOLDER -- run` has printed.
+`bad trace` stands under the line that has the fault, with what it usually is. Likewise TRACE is one with signals, and OUTPUT
+what `notify` has printed; or a client's script, and what `client` has printed. Of what `threads` has printed each processor's
+lines stand below its block's first. FOLDER has several traces, and OUTPUT is then what `rt try --cases FOLDER -- run` has
+printed. JOURNAL is the bytes of one journal or of several, whose records are told one by one.
+The bytes of long lines `ta` and `mem` are shortened.
 
-Status: 0 where nothing is left over, 1 where the output isn't that of the trace, or is cut off; 2 at other words.
-usage: annotate.py TRACE OUTPUT | FOLDER OUTPUT
+Status: 0 where nothing is left over, 1 where the output isn't that of the trace, or is cut off, or the bytes are no journal;
+2 at other words.
+usage: annotate.py TRACE OUTPUT | FOLDER OUTPUT | JOURNAL
 """
 
+import re
 import sys
 
+import journal
 import plays
-from words import BadWords, run
+from words import BadWords, run, text_of
 
 INDENT = "    "
+LONG = re.compile("((?:ta|mem) [^ ]+) ([0-9a-fA-F]{64,})")
+
+
+def shortened(line):
+    """A line, of a `ta` or a `mem` with many bytes the first ones and how many there are."""
+    long = LONG.fullmatch(line)
+    return f"{long[1]} {long[2][:16]}.. ({len(long[2]) // 2} bytes)" if long else line
 
 
 def annotated(entries):
     """The text of a trace and its output."""
     lines = []
     for entry in entries:
-        lines.append(entry.text)
+        lines.append(shortened(entry.text))
         if entry.printed:
             lines.append(f"{INDENT}{entry.printed}")
         if entry.note:
@@ -31,10 +44,11 @@ def annotated(entries):
 
 
 def main(words):
-    if len(words) != 2:
+    if len(words) not in (1, 2):
         raise BadWords()
     try:
-        print(annotated(plays.of_files(*words)), end="")
+        entries = plays.of_files(*words) if len(words) == 2 else journal.told(text_of(words[0]).encode("latin-1"))
+        print(annotated(entries), end="")
     except plays.Mismatch as mismatch:
         print(f"annotate.py: {mismatch}", file=sys.stderr)
         return 1

@@ -1,12 +1,16 @@
 #!/usr/bin/env python3
 """Runs the tools over all shipped examples and cases, and compares what they give with what is wanted.
 
-That are the shipped files, expected.py, and, for the tables that the tools share, those of docs/formats.md. It prints each
-thing that doesn't agree, and at the end how many were compared.
-Status: 0 where all agree, 1 where something doesn't, 2 at words.
-usage: check.py
+That are the shipped files, expected.py, and, for the tables that the tools share, those of docs/formats.md. The commands that
+pages of docs/ show are run, and what they print is compared. The program answers by the shipped cases alone there (known.py), so
+that each run of a page is one of the gate; FILE is run instead, where it is given. It prints each thing that doesn't agree, and
+at the end how many were compared.
+Status: 0 where all agree, 1 where something doesn't, 2 at other words.
+usage: check.py [program=FILE]
 """
 
+import importlib
+import io
 import pathlib
 import re
 import subprocess
@@ -16,13 +20,19 @@ import tempfile
 import annotate
 import answers
 import arg
+import client
+import client_test
 import documented
 import expected
 import formats
 import image
+import journal
 import lift
+import pages
 import plays
+import program
 import shipped
+import story
 from words import BadWords, run
 
 FOLDER = shipped.ROOT / "tools"
@@ -42,9 +52,24 @@ class Comparison:
 
 
 def tool(name, *words, text=""):
-    """The status and what is printed of a tool that is run as a program."""
-    command = [sys.executable, FOLDER / name, *words]
-    done = subprocess.run(command, input=text, capture_output=True, text=True, check=False)
+    """The status and what is printed of a tool, whose main is run as a program runs it."""
+    module = importlib.import_module(name.removesuffix(".py"))
+    streams = sys.stdin, sys.stdout, sys.stderr
+    sys.stdin = io.TextIOWrapper(io.BytesIO(text.encode("latin-1")), encoding="latin-1")
+    printed, said = (io.TextIOWrapper(io.BytesIO(), encoding="latin-1", write_through=True) for _ in range(2))
+    sys.stdout, sys.stderr = printed, said
+    try:
+        run(module.main, module.__doc__, [str(word) for word in words])
+    except SystemExit as ended:
+        status = ended.code or 0
+    finally:
+        sys.stdin, sys.stdout, sys.stderr = streams
+    return status, *(stream.buffer.getvalue().decode("latin-1") for stream in (printed, said))
+
+
+def tool_alone(name, *words):
+    """The same of a tool that is run as a program of its own."""
+    done = subprocess.run([FOLDER / name, *words], input="", capture_output=True, text=True, check=False)
     return done.returncode, done.stdout, done.stderr
 
 
@@ -133,11 +158,78 @@ def check_outputs(comparison):
         comparison.same(f"annotate.py at {play.name}", printed, play.output)
         text = annotate.annotated(entries)
         kept = "".join(line for line in text.splitlines(keepends=True) if not line.startswith(annotate.INDENT))
-        comparison.same(f"the trace in annotate.py at {play.name}", kept.rstrip("\n"), play.trace.rstrip("\n"))
+        trace = "".join(f"{annotate.shortened(line)}\n" for line in play.trace.splitlines())
+        comparison.same(f"the trace in annotate.py at {play.name}", kept.rstrip("\n"), trace.rstrip("\n"))
         rets = sum(line.startswith("ret ") for line in play.output.splitlines())
         comparison.same(f"answers.py at {play.name}", answers.counted(entries).splitlines()[0], f"answers {rets}")
         for output in other_outputs(play):
             comparison.same(f"annotate.py at {play.name} and {output[:80]!r}..", laid_out(play.trace, output), None)
+
+
+def check_other_words(comparison):
+    """Outputs of `client`, `notify` and `threads` under their inputs, and another one found; journals by their records."""
+    for word in ("client", "notify", "threads"):
+        for play in shipped.worked_cases(word):
+            if play.status == 7 and not play.output:
+                continue
+            entries = laid_out(play.trace, play.output)
+            is_cut_off = play.status == 7 and word != "threads"
+            comparison.same(f"annotate.py at {play.name} fits", entries is None, is_cut_off)
+            found = [entry for entry in entries or () if entry.printed or entry.text.startswith("cpu ")]
+            printed = "".join(f"{entry.printed or entry.text}\n" for entry in found)
+            comparison.same(f"annotate.py at {play.name}", printed, play.output if entries else "")
+            for output in other_outputs(play) if play.status == 0 else []:
+                comparison.same(f"annotate.py at {play.name} and {output[:80]!r}..", laid_out(play.trace, output), None)
+    for name in ("session", "session_in_steps"):
+        told = journal.told((shipped.EXAMPLES / f"{name}.journal").read_bytes())
+        left = [entry.text.partition("leave ")[2] for entry in told if " leave " in entry.text]
+        rets = shipped.read(shipped.EXAMPLES / f"{name}.out").splitlines()
+        comparison.same(f"exits of {name}.journal", left, [line[4:] for line in rets if line.startswith("ret ")])
+        given = tool("annotate.py", shipped.EXAMPLES / f"{name}.journal")
+        comparison.same(f"annotate.py {name}.journal", given[:2], (0, annotate.annotated(told)))
+    for play in shipped.worked_cases("record"):
+        data = play.output.encode("latin-1")
+        if data.startswith(journal.MAGIC):
+            header = [line for line in items(play.trace) if line.split(" ")[0] in ("boot", "ta", "key")]
+            told = [entry.text for entry in journal.told(data) if entry.text.split(" ")[0] in ("boot", "ta", "key")]
+            is_told = all(line.lower() in told or line == f"key {64 * '0'}" for line in header)
+            comparison.same(f"the header of the journal of {play.name}", is_told, True)
+            for cut in (1, len(data) // 2, len(data) - 1):
+                comparison.same(f"the journal of {play.name} cut at {cut}", is_journal(data[:cut]), False)
+
+
+def is_journal(data):
+    try:
+        return journal.told(data) is not None
+    except plays.Mismatch:
+        return False
+
+
+def check_pictures(comparison):
+    """The pictures of docs/, and that slots are taken as each answer that asks for something tells them."""
+    pictures = shipped.ROOT / "docs/pictures"
+    shown = [(shipped.EXAMPLES / "wait_and_wake", "wait_and_wake.svg"), (pictures / "two_processors", "two_processors.svg")]
+    for path, picture in shown:
+        given = tool("chart.py", path.with_suffix(".trace"), path.with_suffix(".out"))
+        comparison.same(f"chart.py {path.name}", given, (0, shipped.read(pictures / picture), ""))
+    for play in [*shipped.examples(), *threads_plays(pictures)]:
+        told = story.Story(story.visits_of(play.trace, play.output))
+        for visit in told.visits:
+            if visit.answer in formats.RPCS.values():
+                comparison.same(f"the slot at {visit.exit} of {play.name}", visit.slot, visit.answered[3])
+        rets = sum(line.startswith("ret ") for line in play.output.splitlines())
+        comparison.same(f"visits of {play.name}", len(told.visits), rets)
+        comparison.same(f"places of {play.name}", sorted(places_of(told)), list(range(2 * rets)))
+
+
+def threads_plays(pictures):
+    path = pictures / "two_processors"
+    yield shipped.Play(path.name, shipped.read(path.with_suffix(".trace")), shipped.read(path.with_suffix(".out")), 0)
+    yield from (play for play in shipped.worked_cases("threads") if play.status == 0)
+
+
+def places_of(told):
+    return [place for visit in told.visits for place in (visit.entry, visit.exit)]
 
 
 def laid_out(trace, output):
@@ -205,6 +297,50 @@ def following(lines, line):
     return [behind for before, behind in zip(lines, lines[1:]) if before == line]
 
 
+def check_machine(comparison):
+    """The machine's table, read a second time: what clients' calls come to, and steps of shipped applications."""
+    for play in shipped.worked_cases("client"):
+        is_served = play.status == 0 or play.output
+        if is_served and not play.output.startswith("bad trace"):
+            comparison.same(f"client.py at {play.name}", client.play(play.trace), play.output)
+    for words, (status, wanted) in expected.STEPS.items():
+        name, *entries = words.split(" ")
+        given = tool("step.py", shipped.EXAMPLES / f"applications/{name}.hex", *entries)
+        comparison.same(f"step.py {words}", (given[0], last_lines(given[1], wanted)), (status, wanted))
+    comparison.same("step.py at no image", tool("step.py", "-", "open", text="4f")[:2], (1, NO_IMAGE))
+
+
+def last_lines(text, wanted):
+    """As many of the last lines as are wanted."""
+    return "".join(text.splitlines(keepends=True)[-wanted.count("\n") :])
+
+
+NO_IMAGE = "BadHeader(0): 1 bytes are fewer than 36\n"
+
+
+def check_clients(comparison):
+    """Scripts as tests: the shipped ones, and each of their lines changed, left out, or of another status."""
+    known = f"program={FOLDER / 'known.py'}"
+    for path in sorted(shipped.EXAMPLES.glob("*.client")):
+        script, output = shipped.read(path), shipped.read(path.with_suffix(".out"))
+        calls = client_test.calls_of(script)
+        comparison.same(f"lines wanted by {path.name}", [call.wanted for call in calls], output.splitlines())
+        count = len(calls)
+        given = tool("client_test.py", known, path)
+        comparison.same(f"client_test.py {path.name}", given[:2], (0, f"{path}: ok, {count} calls, {count} compared\n"))
+        for line in output.splitlines(keepends=True):
+            for other in (output.replace(line, line.replace("0000", "0001", 1), 1), output.replace(line, "", 1)):
+                said = client_test.differing(calls, program.Done(other, 0))
+                comparison.same(f"client_test.py at another line {line}", said != [], True)
+        said = client_test.differing(calls, program.Done(output, 7))
+        comparison.same("client_test.py at status 7", said, ["  the program ended with status 7"])
+    for script, (output, status, wanted) in expected.CLIENT_TESTS.items():
+        said = client_test.differing(client_test.calls_of(script), program.Done(output, status))
+        comparison.same(f"client_test.py at {script}", said, wanted)
+    given = tool("client_test.py", known, "-", text="boot 1 2 1\n#= open s 00000000 00000004\n")
+    comparison.same("client_test.py at a line behind no call", given[0], 1)
+
+
 def check_scripts(comparison):
     """Each script makes the items of its example."""
     for path in sorted(shipped.SCRIPTS.glob("*.script")):
@@ -220,11 +356,38 @@ def items(trace):
     return [line for line in trace.splitlines() if line and line[0] != "#"]
 
 
+def check_pages(comparison, file=None):
+    """The commands of the tutorials, and those of other pages that show some."""
+    runner = pathlib.Path(file).resolve() if file else FOLDER / "known.py"
+    for path in sorted((shipped.ROOT / "docs").glob("*.md")):
+        for shown, given in pages.run_page(path, runner):
+            what = f"{path.name} line {shown.line}: {shown.command}"
+            comparison.same(what, given if not pages.is_shown(given, shown.printed) else shown.printed, shown.printed)
+    shown = [["a"], ["..", "b"], ["a", ".."], ["a", "..", "b"], [".."]]
+    comparison.same("lines that are left out", [pages.is_shown(["a", "b"], lines) for lines in shown], [False] + [True] * 4)
+
+
+def check_links(comparison):
+    """Links between pages lead to files and headings that there are; the cases and examples that formats.md names are shipped."""
+    texts = {path: shipped.read(path) for path in documented.PAGES}
+    headings = {path: documented.anchors(text) for path, text in texts.items()}
+    for path, text in texts.items():
+        for target, anchor in documented.links(text):
+            to = (path.parent / target).resolve() if target else path
+            comparison.same(f"{path.name}: the link to {target}", to.exists(), True)
+            if anchor:
+                comparison.same(f"{path.name}: the link to {target}#{anchor}", anchor in headings.get(to, []), True)
+    names = set(shipped.case_names()) | set(shipped.core_names())
+    files = {path.stem for path in shipped.EXAMPLES.iterdir()}
+    for kind, name in documented.shown_by(texts[shipped.ROOT / "docs/formats.md"]):
+        comparison.same(f"formats.md names the {kind} {name}", name in (names if kind == "case" else files), True)
+
+
 def check_words(comparison):
     """Other words end with the usage line and 2."""
     for name, rows in expected.BAD_WORDS.items():
-        for words in rows:
-            status, printed, said = tool(name, *words.split())
+        for number, words in enumerate(rows):
+            status, printed, said = (tool if number else tool_alone)(name, *words.split())
             usage = said.splitlines()[-1:] and said.splitlines()[-1].startswith(f"usage: {name}")
             comparison.same(f"{name} {words}", (status, printed, usage), (2, "", True))
 
@@ -244,18 +407,28 @@ CHECKS = [
     check_images,
     check_faults,
     check_outputs,
+    check_other_words,
+    check_pictures,
     check_examples,
+    check_machine,
+    check_clients,
     check_scripts,
+    check_links,
     check_words,
 ]
 
 
 def main(words):
+    words = list(words)
+    file = program.taken_from(words)
     if words:
         raise BadWords()
+    if file:
+        program.Program(file)
     comparison = Comparison()
     for check in CHECKS:
         check(comparison)
+    check_pages(comparison, file)
     print(f"{comparison.compared} compared, {comparison.differing} differ")
     return 1 if comparison.differing else 0
 

@@ -1,6 +1,32 @@
-"""The tables of docs/formats.md, read from its text, for check.py to compare formats.py with. It isn't run by itself."""
+"""The tables of docs/formats.md, read from its text, for check.py to compare formats.py with; and what pages name and link to.
+It isn't run by itself."""
 
 import re
+
+import shipped
+
+PAGES = [
+    path.resolve()
+    for pattern in ("README.md", "docs/*.md", "tools/README.md", "bench/README.md", "examples/README.md")
+    for path in sorted(shipped.ROOT.glob(pattern))
+]
+
+
+def links(text):
+    """The links of a page to others of the repository, each with its anchor."""
+    return re.findall(r"\]\(([^():#]*)#?([^()]*)\)", text)
+
+
+def anchors(text):
+    """The anchors of a page's headings."""
+    found = re.findall("^#+ (.*)$", text, flags=re.MULTILINE)
+    return [re.sub("[^a-z0-9 _-]", "", heading.lower()).replace(" ", "-") for heading in found]
+
+
+def shown_by(text):
+    """What a page names in brackets behind its rules: (`case` or `example`, name)."""
+    for kind, names in re.findall("\\b(case|example)s? ((?:`[a-z0-9_-]+`(?:,\\s+|\\s+and\\s+)?)+)", text):
+        yield from ((kind, name) for name in re.findall("`([a-z0-9_-]+)`", names))
 
 
 def section(text, heading):
@@ -28,10 +54,12 @@ def tables(text):
     _, image_rows = section(text, "Image")
     _, machine_rows = section(text, "Machine")
     trace, trace_rows = section(text, "Text trace")
+    _, signal_rows = section(text, "Trace with signals")
     results = between(codes, "SUCCESS 0; with the upper half FFFF: ", ". Origins")
     upper, whole = results.split("; ")
     return {
         "FUNCTIONS": {int(a0, 16): name for a0, name, *_ in register_rows if re.fullmatch("[0-9A-F]{8}", a0)},
+        "NOTIFY_FUNCTIONS": dict(call for row in signal_rows for call in named_call(row[0])),
         "CODES": by_number(between(registers, "Return codes: ", " are never answered")),
         "RPCS": {int(row[1], 16): row[0].upper() for row in register_rows if row[1].startswith("FFFF")},
         "CAPABILITIES": re.findall("([A-Za-z][A-Za-z ]+?) (?:bit )?[0-9]", between(registers, "secure world: ", ";")),
@@ -47,6 +75,12 @@ def tables(text):
         "FAULTS": [row[0].strip("`") for row in trace_rows if re.fullmatch("`[a-z]+`", row[0])]
         + re.findall("the fault is `([a-z]+)`", trace),
     }
+
+
+def named_call(cell):
+    """A call by its number and its name, `ENABLE_ASYNC_NOTIF, b2000010`."""
+    call = re.fullmatch("([A-Z_]+), ([0-9a-f]{8})", cell)
+    return [(int(call[2], 16), call[1])] if call else []
 
 
 def kinds(text):

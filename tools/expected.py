@@ -35,6 +35,7 @@ ARGUMENTS = {
         "unregister 31",
     ],
     "session": [f"open {FIRST}", "invoke 1 0 value_inout 5 7"],
+    "session_in_steps": [f"open {FIRST}", "invoke 1 0 value_inout 5 7"],
     "session_with_a_memref": [f"open {FIRST}", "invoke 1 4 tmem_out 40002000 4"],
     "single_instance": [f"open {FIRST}", f"open {SECOND}", f"open {THIRD}"]
     + [f"invoke {session} 0" for session in (2, 3, 4, 5, 6)]
@@ -49,6 +50,7 @@ ARGUMENTS = {
     ],
     "thread_limit": [f"open {FIRST}"],
     "time_and_wait": [f"open {FIRST}", "invoke 1 0xfa value_out value_out"],
+    "two_rams": [f"open {FIRST}", "invoke 1 0 value_inout 5 7"],
     "wait_and_resume": [f"open {FIRST}", "invoke 1 0xfa"],
     "wait_and_wake": [f"open {FIRST}", "invoke 1 250"],
 }
@@ -320,6 +322,58 @@ COUNTS = {
     + ["1 SUCCESS of TRUSTED_APP"],
 }
 
+# What step.py prints of shipped applications, or the last lines of it: the steps of an invoke that one_step_at_a_time shows to
+# be six; a panic for want of a parameter, and one of the application's own; copied bytes; a count that is kept; cancelled waits.
+STEPS = {
+    "add invoke 0 vio:5:7": (
+        0,
+        """invoke begins with 00000000 00000003 00000000
+    1    1  const r0 0
+    2    2  sys 3                     value (0 3 0)  r0 00000005  r1 00000007
+    3    3  add r1 r0 r1              r1 0000000c
+    4    4  const r0 0                r0 00000000
+    5    5  sys 4                     set value (0 c 0)  value 0 0000000c 00000000
+    6    6  sys 0                     return (0 c 0)
+invoke returns 00000000 0000000c in 6 steps v:0000000c:00000000
+""",
+    ),
+    "add invoke 0": (1, "invoke panics with 00000005 at 2: no such parameter, or an object handle that isn't open\n"),
+    "panic open invoke 1 close": (1, "invoke panics with 00000001 at 3: by its own system call\n"),
+    "copy invoke 0 mi:6162 mo:4": (0, "invoke returns 00000000 00000002 in 31 steps m:2:6162\n"),
+    "copy invoke 0 mi:6162 mo:1": (0, "invoke returns ffff0010 00000002 in 14 steps m:2:\n"),
+    "counter invoke 0 vo invoke 0 vo": (0, "invoke returns 00000000 00000002 in 39 steps v:00000002:00000000\n"),
+    "wait_unmasked invoke fa cancelled": (0, "invoke returns ffff0002 00000000 in 5 steps\n"),
+    "wait invoke fa cancelled": (0, "invoke returns 00000000 00000000 in 2 steps\n"),
+    "mark invoke 0 invoke 0 r2=1": (0, "invoke returns 00000005 00000000 in 5 steps\n"),
+}
+
+# What client_test.py says of a script, by what the program has printed for it and its status.
+CLIENT_TESTS = {
+    f"open s {FIRST}\n#= open s SUCCESS TRUSTED_APP\nclose s\n#= close s SUCCESS TEE\n": (
+        "open s ffff0008 00000003\nclose s ffff0006 00000003\n",
+        0,
+        [
+            f"  open s {FIRST}",
+            "    wanted open s SUCCESS TRUSTED_APP",
+            "    came   open s ITEM_NOT_FOUND TEE",
+            "  close s",
+            "    wanted close s SUCCESS TEE",
+            "    came   close s BAD_PARAMETERS TEE",
+        ],
+    ),
+    f"open s {FIRST}\nclose s\n#= close s SUCCESS TEE\n": (
+        "open s 00000000 00000004\n",
+        7,
+        [
+            "  close s",
+            "    wanted close s SUCCESS TEE",
+            "    came   nothing",
+            "  the program ended with status 7",
+        ],
+    ),
+    f"open s {FIRST}\n#= open s 00000000 00000004\n": ("bad trace 1 place\n", 3, ["  bad trace 1 place"]),
+}
+
 # Words that each tool has to refuse, and scripts that lift.py has to refuse at their second line.
 BAD_WORDS = {
     "arg.py": [
@@ -349,8 +403,14 @@ BAD_WORDS = {
     "image.py": ["x", "comments x"],
     "lift.py": ["", "a b", "no_such_file"],
     "check.py": ["x"],
+    "chart.py": ["", "a b c", "program=no_such_file a", "no_such_file no_such_file"],
+    "client_test.py": ["", "program=no_such_file examples"],
+    "known.py": [""],
+    "step.py": ["", "-", "- opens", "- invoke", "- invoke x", "- close vo", "- invoke 0 vi:1", "- open mi:", "- open r16=0"],
 }
 BAD_SCRIPTS = [
+    "name",
+    "name WITHOUT_WORDS",
     "smc 0 1 GET_THREADS",
     "smc 0 1 CALL_WITH_ARG x=1",
     "smc 0 1 CALL_WITH_ARG argument=x",

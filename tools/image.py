@@ -92,14 +92,19 @@ def canonical(image, comments=False):
     for number, instruction in enumerate(image.code):
         if number in targets | set(image.entries):
             lines.append(f"L{number}:")
-        name, registers, operand = formats.OPERATIONS[instruction.op]
-        if comments and operand == "system call":
+        if comments and formats.OPERATIONS[instruction.op][2] == "system call":
             lines.append(f"# {formats.SYSTEM_CALLS[instruction.imm]}")
-        operands = [f"r{getattr(instruction, field)}" for field in registers]
-        if operand:
-            operands.append(f"L{instruction.imm}" if operand == "target" else str(instruction.imm))
-        lines.append(" ".join([name, *operands]))
+        lines.append(instruction_text(instruction))
     return "".join(f"{line}\n" for line in lines)
+
+
+def instruction_text(instruction):
+    """The line of an instruction; a target has its number behind L."""
+    name, registers, operand = formats.OPERATIONS[instruction.op]
+    operands = [f"r{getattr(instruction, field)}" for field in registers]
+    if operand:
+        operands.append(f"L{instruction.imm}" if operand == "target" else str(instruction.imm))
+    return " ".join([name, *operands])
 
 
 def main(words):

@@ -11,7 +11,7 @@ Lines of a script, of which the first three name something and leave nothing in 
     write CPU ADDRESS text TEXT the bytes of a text
 Operands: argument or buffer, an address (a1 and a2); cookie (a4 and a5); thread (a3); client (a7); a1 to a7. Values are
 hexadecimal, and `last` is what the register was in the processor's last answer. A register that isn't named is 0.
-All other lines are those of a trace. Comments and empty lines are copied, but for those that begin with ##.
+All other lines are those of a trace, or of a client's script. Comments and empty lines are copied, but for those that begin with ##.
 
 Status: 0, 1 where a line of the script isn't of its form, 2 at other words.
 usage: lift.py SCRIPT
@@ -49,7 +49,7 @@ class Script:
             return []
         if not line or line.startswith("#"):
             return [line]
-        item, *words = self.named(line).split()
+        item, *words = self.named(line).split() or [""]
         if item not in FORMS:
             return [" ".join([item, *words])]
         try:
@@ -68,6 +68,8 @@ class Script:
         return self.names[name]
 
     def name(self, name, *words):
+        if not words:
+            raise BadWords(f"the name {name} stands for no words")
         self.names[name] = " ".join(words)
         return []
 

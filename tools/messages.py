@@ -107,6 +107,16 @@ def payload_note(payload):
     return f"payload: {len(payload)} bytes"
 
 
+def output_note(word):
+    """An output of a client's call, `v:A:B` or `m:SIZE:HEX`, in words."""
+    form, *fields = word.split(":")
+    if form == "v":
+        return "value {}, {}".format(*(plain(int(field, 16)) for field in fields))
+    data = bytes.fromhex(fields[1])
+    is_text = data and all(0x20 <= byte < 0x7F for byte in data)
+    return f"{fields[0]} bytes" + (f": {data.decode()}" if is_text else "")
+
+
 def plain(value):
     """A number in decimal, or, where that has more than five digits, in hexadecimal behind 0x."""
     return str(value) if value < 100_000 else f"{value:#x}"

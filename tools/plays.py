@@ -13,6 +13,11 @@ from words import text_of
 Entry = collections.namedtuple("Entry", "number text printed note answer result", defaults=[None, None, None, None])
 
 
+HEADER = ("boot", "ta", "mem", "key")
+CLIENT_CALLS = ("open", "invoke", "close")  # the calls of a client's script
+RET = r"ret {}((?: [0-9a-f]{{8}}){{8}})"
+
+
 class Mismatch(Exception):
     """Output that isn't that of the trace."""
 
@@ -34,16 +39,64 @@ def of_files(trace, output):
 
 def lay_out(trace, output):
     """An Entry for each line of the trace; between them they use up the output, or it is a Mismatch."""
-    lines = enumerate(trace.removesuffix("\n").split("\n") if trace else [], 1)
+    lines = list(enumerate(trace.removesuffix("\n").split("\n") if trace else [], 1))
     bad = re.fullmatch(r"bad trace (\d+) (\w+)\n", output)
     if bad:
         return list(with_fault(lines, int(bad[1]), output[:-1], bad[2]))
-    printed = collections.deque(output.splitlines())
-    play = Play()
+    if output.startswith("cpu "):
+        return in_blocks(lines, output)
+    return laid(Play(), lines, collections.deque(output.splitlines()))
+
+
+def laid(play, lines, printed):
+    """The entries of lines, which use up what was printed."""
     entries = [play.entry(number, text, printed) for number, text in lines]
     if printed:
         raise Mismatch(f"behind the last line of the trace is left: {printed[0]}")
     return entries
+
+
+def in_blocks(lines, output):
+    """What `threads` has printed: the header, and then each processor's lines with its block."""
+    header, own = parted(lines)
+    entries = laid(Play(), header, collections.deque())
+    blocks = re.split("^cpu ", output, flags=re.MULTILINE)[1:]
+    cpus = next((text.split(" ")[1] for _, text in header if text.startswith("boot ")), "0")
+    if [block.partition("\n")[0] for block in blocks] != [str(cpu) for cpu in range(int(cpus))]:
+        raise Mismatch("the output isn't a block for each processor")
+    for block in blocks:
+        cpu, *printed = block.splitlines()
+        full = printed.pop() if printed and printed[-1].startswith("full ") else None
+        play = Play(" at ([0-9]+) ([0-9]+)")
+        laid(play, header, collections.deque())
+        entries.append(Entry(0, f"cpu {cpu}"))
+        entries += laid(play, own.get(cpu, []), collections.deque(printed)) if not full else cut_off(play, own[cpu], printed)
+        if full:
+            entries.append(Entry(0, "", full, "the next entry would have read too much: the processor does nothing more"))
+    return entries
+
+
+def cut_off(play, lines, printed):
+    """The entries of the lines that had printed something before a processor's entry was refused."""
+    printed, entries = collections.deque(printed), []
+    for number, text in lines:
+        if not printed:
+            break
+        entries.append(play.entry(number, text, printed))
+    return entries
+
+
+def parted(lines):
+    """The header's lines, and those of each processor with the comments above them."""
+    header, own, waiting = [], collections.defaultdict(list), []
+    for number, text in lines:
+        words = text.split(" ")
+        waiting.append((number, text))
+        if text.startswith("#") or not text:
+            continue
+        (header if words[0] in HEADER else own[words[1]]).extend(waiting)
+        waiting = []
+    return header, own
 
 
 def with_fault(lines, place, output, kind):
@@ -71,14 +124,22 @@ class Lanes:
 
     def half(self, cpu, address):
         """A number of four bytes."""
-        places = range(address, address + 4)
-        return int.from_bytes([self.written[cpu].get(at, self.filled.get(at, 0)) for at in places], "little")
+        return int.from_bytes(self.bytes_at(cpu, address, 4), "little")
+
+    def bytes_at(self, cpu, address, length):
+        """Bytes of a processor's RAM."""
+        return bytes(self.written[cpu].get(at, self.filled.get(at, 0)) for at in range(address, address + length))
+
+    def copy(self, cpu):
+        """What lines of the trace have written into a processor's RAM, by the addresses."""
+        return dict(self.written[cpu])
 
 
 class Play:
     """What is known of a run up to a line: each processor's last answer, function and RAM, and the arguments there."""
 
-    def __init__(self):
+    def __init__(self, places=""):
+        self.behind_ret = places  # the form of the places in the history that `threads` prints
         self.last_answer = collections.defaultdict(lambda: [0] * 8)
         self.function = {}
         self.lanes = Lanes()
@@ -89,6 +150,8 @@ class Play:
         """The entry of a line, which takes what it printed from the output."""
         words = text.split(" ")
         item, operands = words[0], words[1:]
+        if item in CLIENT_CALLS:
+            return Entry(number, text, *client_call(number, words, printed))
         if text.startswith("#") or formats.LINES.get(item) != len(words):
             return Entry(number, text)
         try:
@@ -103,9 +166,9 @@ class Play:
         if item in ("smc", "enter"):
             self.enter(operands[0], operands[2:])
         if item in ("smc", "leave"):
-            line = take(printed, number, f"ret {re.escape(operands[0])}((?: [0-9a-f]{{8}}){{8}})")
+            line = take(printed, number, RET.format(re.escape(operands[0])) + self.behind_ret)
             name, note = self.answer(operands[0], [int(register, 16) for register in line[1].split()])
-            return line[0], note, name
+            return line[0], note + (f"; places {line[2]} and {line[3]}" if self.behind_ret else ""), name
         if item == "show":
             address, length = int(operands[1], 16), int(operands[2])
             line = take(printed, number, f"mem {re.escape(operands[0])} {address:08x} ([0-9a-f]{{{2 * length}}})")
@@ -141,6 +204,8 @@ class Play:
         if a0 in formats.RPCS and function in formats.YIELDING_FUNCTIONS:
             return self.rpc(formats.RPCS[a0], a1, a2, a3)
         name = formats.CODES.get(a0, f"{a0:08x}")
+        if formats.NOTIFY_FUNCTIONS.get(self.function[cpu]) == "GET_ASYNC_NOTIF_VALUE" and a0 == 0:
+            return name, name + said_of_value(a1, a2)
         return name, name + said_beside(function, a0, a1, a3)
 
     def rpc(self, name, a1, a2, thread):
@@ -151,6 +216,23 @@ class Play:
             return name, f"ALLOC of {a1} bytes, thread {thread}"
         cookie = f", cookie {a1 << 32 | a2:#x}" if name in ("FREE", "CMD") else ""
         return name, f"{name}{cookie}, thread {thread}"
+
+
+def said_of_value(value, bits):
+    """What GET_ASYNC_NOTIF_VALUE says: a value, whether it is one, and whether more are pending."""
+    if not bits & 1:
+        return ", no value pends"
+    return f", value {value}" + (", and more are pending" if bits & 2 else "")
+
+
+def client_call(number, words, printed):
+    """What a call of a client's script has printed, and what that says, as further fields of an Entry."""
+    head = " ".join(re.escape(word) for word in words[:2])
+    line = take(printed, number, f"{head} ([0-9a-f]{{8}}) ([0-9a-f]{{8}})((?: [vm]:[0-9a-f:]*)*)")
+    result, origin = (int(line[field], 16) for field in (1, 2))
+    result, origin = messages.result_name(result), messages.origin_name(origin)
+    outputs = [messages.output_note(word) for word in line[3].split()]
+    return line[0], "; ".join([f"{result} of {origin}", *outputs]), None, (result, origin)
 
 
 def said_beside(function, a0, a1, a3):

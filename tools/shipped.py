@@ -19,9 +19,9 @@ def examples():
     return [Play(path.stem, read(path), read(path.with_suffix(".out")), 0) for path in paths]
 
 
-def worked_cases():
-    """The cases of `cases` whose word is `run` and in which no call fails, in the form that docs/formats.md gives; not those
-    that are made of one before."""
+def worked_cases(wanted="run"):
+    """The cases of `cases` whose words are these and in which no call fails, in the form that docs/formats.md gives; not
+    those that are made of one before."""
     case = {}
     for line in read(CRATES / "cases/stdin").splitlines(keepends=True):
         word, _, rest = line.rstrip("\n").partition(" ")
@@ -29,13 +29,26 @@ def worked_cases():
             case = {"name": rest, "words": "", "input": [], "output": [], "fails": word != "case"}
         elif word in ("words", "take", "put"):
             case["fails" if word != "words" else "words"] = rest
+        elif word in ("cut", "change", "swap"):
+            case["fails"] = True
         elif word in ("input", "output"):
             into = case[word]
         elif word == "status":
-            if case["words"] == "run" and not case["fails"]:
+            if case["words"] == wanted and not case["fails"]:
                 yield Play(case["name"], "".join(case["input"]), "".join(case["output"]), int(rest))
         else:
             into.append(bytes_of(line, word, rest))
+
+
+def case_names():
+    """The names of all worked cases."""
+    lines = (line.split(" ") for line in read(CRATES / "cases/stdin").splitlines())
+    return [words[1] for words in lines if words[0] in ("case", "again", "by_threads", "by_audit") and len(words) == 2]
+
+
+def core_names():
+    """The names of the traces of core_cases."""
+    return sections(read(CRATES / "core_cases/stdin"))
 
 
 def bytes_of(line, word, rest):

@@ -54,12 +54,13 @@ def text_of(name):
         raise BadWords(f"{name}: {error.strerror}") from error
 
 
-def run(main, doc):
-    """Ends with the status of a tool's main, or, at words that it doesn't serve, with the usage line of doc, and 2."""
+def run(main, doc, words=None):
+    """Ends with the status of a tool's main over the words of its call, or, at words that it doesn't serve, with the usage line of
+    doc, and 2."""
     signal.signal(signal.SIGPIPE, signal.SIG_DFL)
     sys.stdout.reconfigure(encoding="latin-1")
     try:
-        sys.exit(main(sys.argv[1:]))
+        sys.exit(main(sys.argv[1:] if words is None else words))
     except BadWords as error:
         usage = next(line for line in doc.splitlines() if line.startswith("usage: "))
         print(f"{error}\n{usage}" if str(error) else usage, file=sys.stderr)

@@ -1,0 +1,223 @@
+#!/usr/bin/env python3
+"""Draws a play as a picture, SVG on standard output.
+
+TRACE is a trace as text, OUTPUT what `run` or `threads` has printed for it; `-` is standard input. Time goes to the right, in
+bands one below the other. Above are the processors: a box is a processor inside, with its call at the entry and, below it, its
+answer at the exit; the small numbers are the places of both in the core's one history. Below are the slots: a bar is a call,
+dark while a processor works on it and light while it is suspended; it is striped while it sleeps until its instance is free.
+Requests and results have names where the trace shows their bytes.
+
+Without OUTPUT the program plays the trace, and lines `show` are put behind its calls, so that each request and result has its
+name. The program is what `rt run` has built in crates/optee_run, or FILE.
+Status: 0, 1 where the output isn't that of the trace; 2 at other words.
+usage: chart.py [program=FILE] TRACE [OUTPUT]
+"""
+
+import collections
+import html
+import sys
+
+import formats
+import plays
+import program
+import story
+from words import BadWords, run, text_of
+
+LEFT, INSIDE, OUTSIDE, BAND = 76, 96, 16, 980
+LANE, SLOT, TITLE, GAP = 74, 22, 16, 22
+COLORS = {
+    "inside": "#3b6ea5",
+    "suspended": "#c9d9ea",
+    "wait": "#e8b04a",
+    "box": "#eef3f8",
+    "line": "#7a8794",
+    "text": "#1d2733",
+}
+PATTERN = f"""<defs><pattern id="waits" width="6" height="6" patternUnits="userSpaceOnUse" patternTransform="rotate(45)">
+<rect width="6" height="6" fill="{COLORS['suspended']}"/><rect width="3" height="6" fill="{COLORS['wait']}"/>
+</pattern></defs>"""
+
+HALO = ' stroke="#ffffff" stroke-width="3" stroke-linejoin="round" paint-order="stroke"'
+
+# Places first to last of the history, and the x of each.
+Band = collections.namedtuple("Band", "first last xs")
+
+
+def bands_of(told):
+    """The bands in which the places are drawn. One ends behind an exit, where no processor is inside, if that comes soon."""
+    is_entry = {visit.entry: True for visit in told.visits} | {visit.exit: False for visit in told.visits}
+    bands, first, xs, inside = [], 0, {}, 0
+    for place in range(told.length):
+        before = xs.get(place - 1)
+        xs[place] = LEFT + OUTSIDE if before is None else before + (INSIDE if is_entry[place - 1] else OUTSIDE)
+        inside += 1 if is_entry[place] else -1
+        is_full = xs[place] + OUTSIDE + INSIDE > (BAND if inside == 0 else 3 * BAND // 2)
+        if place == told.length - 1 or not is_entry[place] and is_full:
+            bands.append(Band(first, place, xs))
+            first, xs = place + 1, {}
+    return bands
+
+
+def text(x, y, words, size=10, color="text", anchor="start", more=""):
+    where = f'x="{x}" y="{y}" font-size="{size}" fill="{COLORS[color]}" text-anchor="{anchor}"{more}'
+    return f"<text {where}>{html.escape(words)}</text>"
+
+
+def box(x, y, width, height, fill, stroke="line"):
+    return f'<rect x="{x}" y="{y}" width="{width}" height="{height}" rx="2" fill="{fill}" stroke="{COLORS[stroke]}"/>'
+
+
+def lines_of(words, most=15):
+    """Words in lines that fit into a box, broken at blanks and behind `_`."""
+    lines = [""]
+    for part in words.replace(" ", " \0").replace("_", "_\0").split("\0"):
+        if len(lines[-1]) + len(part.rstrip()) > most and lines[-1]:
+            lines.append("")
+        lines[-1] += part
+    return [line.rstrip() for line in lines if line.strip()]
+
+
+def clipped(band, first, last):
+    """The x of the part of an interval that lies in a band, or None; past the band it is open."""
+    if last < band.first or first > band.last:
+        return None
+    return band.xs.get(first, LEFT), band.xs.get(last, max(band.xs.values()) + OUTSIDE)
+
+
+def lane(band, y, cpu, told):
+    """A processor's lane: its name, and a box for each time that it is inside."""
+    right = max(band.xs.values()) + OUTSIDE
+    drawn = [text(4, y + 26, f"processor {cpu}", 11), f'<path d="M{LEFT} {y + 38}H{right}" stroke="{COLORS["line"]}"/>']
+    for visit in told.visits:
+        part = clipped(band, visit.entry, visit.exit)
+        if visit.cpu == cpu and part:
+            drawn += visit_box(band, y, visit, *part)
+    return drawn
+
+
+def visit_box(band, y, visit, x, end):
+    """A box with what the entry says; the answer below, and the places above both sides."""
+    name, detail = visit.said
+    drawn = [box(x, y + 10, end - x, 28, COLORS["box"])]
+    for row, line in enumerate((lines_of(name) + lines_of(detail))[:2]):
+        drawn.append(text(x + 3, y + 21 + 12 * row, line))
+    for row, line in enumerate(lines_of(visit.given)[:2]):
+        drawn.append(text(end - 2, y + 50 + 11 * row, line, 10, "inside", "end"))
+    sides = [(visit.entry, x, "start"), (visit.exit, end, "end")]
+    return drawn + [text(at, y + 8, str(place), 8, "line", side) for place, at, side in sides if place in band.xs]
+
+
+def slot_row(band, y, slot, told):
+    """A slot's row: a bar for each call that holds it."""
+    drawn = [text(4, y + 14, f"slot {slot}", 11)]
+    for call in told.calls:
+        part = clipped(band, call.first, told.length if call.last is None else call.last)
+        if call.slot == slot and part:
+            drawn += call_bar(band, y, call, told, *part)
+    return drawn
+
+
+def call_bar(band, y, call, told, x, end):
+    """A call: light where it is suspended, dark where a processor works on it, striped where it sleeps."""
+    drawn = [box(x, y + 2, end - x, SLOT - 6, COLORS["suspended"])]
+    names = [(x + 4, " ".join(call.text).strip(), True)]
+    for first, last in sleeps_of(call, told):
+        part = clipped(band, first, last)
+        if part:
+            drawn.append(box(part[0], y + 2, part[1] - part[0], SLOT - 6, "url(#waits)"))
+            names.append((part[0] + 4, f"for the instance of {call.text[1]}", part[1] - part[0] > 160))
+    for visit in call.visits:
+        part = clipped(band, visit.entry, visit.exit)
+        if part:
+            drawn.append(box(part[0], y + 2, part[1] - part[0], SLOT - 6, COLORS["inside"]))
+    return drawn + [text(at, y + 13, words, more=HALO) for at, words, fits in names if fits]
+
+
+def sleeps_of(call, told):
+    """The intervals from an exit that asks to sleep to the next entry of the call."""
+    for before, after in zip(call.visits, call.visits[1:] + [None]):
+        if before.given.startswith("CMD Sleep"):
+            yield before.exit, after.entry if after else told.length
+
+
+def legend(y):
+    """What the bars' colours say."""
+    drawn, x = [], LEFT
+    for fill, words in [
+        (COLORS["inside"], "a processor works on the call"),
+        (COLORS["suspended"], "suspended"),
+        ("url(#waits)", "sleeps until its instance is free"),
+    ]:
+        drawn += [box(x, y, 18, 10, fill), text(x + 24, y + 9, words)]
+        x += 40 + 6 * len(words)
+    return drawn
+
+
+def chart(told):
+    """The picture of a story."""
+    cpus = sorted({visit.cpu for visit in told.visits}, key=int)
+    slots = range(max((call.slot for call in told.calls), default=-1) + 1)
+    drawn, y, width = [], TITLE, LEFT
+    for band in bands_of(told):
+        for cpu in cpus:
+            drawn += lane(band, y, cpu, told)
+            y += LANE
+        for slot in slots:
+            drawn += slot_row(band, y, slot, told)
+            y += SLOT
+        width, y = max(width, max(band.xs.values()) + OUTSIDE), y + GAP
+    drawn += legend(y)
+    size = f'width="{max(width, 640)}" height="{y + 24}"'
+    head = f'<svg xmlns="http://www.w3.org/2000/svg" {size} font-family="Helvetica, Arial, sans-serif">'
+    return "\n".join([head, PATTERN, '<rect width="100%" height="100%" fill="#ffffff"/>', *drawn, "</svg>", ""])
+
+
+def with_shows(trace, output):
+    """The trace with lines `show` behind its calls: of a request where its buffer lies, and of a result in its argument."""
+    told = story.Story(story.visits_of(trace, output))
+    at_exit = {visit.line: shows_behind(visit, told) for visit in told.visits}
+    lines = []
+    for number, line in enumerate(trace.splitlines()):
+        lines += [line, *at_exit.get(number, [])]
+    return "".join(f"{line}\n" for line in lines)
+
+
+def shows_behind(visit, told):
+    """The lines that show what an exit has written."""
+    if visit.answer == "CMD":
+        return [f"show {visit.cpu} {visit.request_at:x} 64"]
+    if visit.answer == "OK" and visit.call:
+        return [f"show {visit.cpu} {visit.call.visits[0].head.address:x} 32"]
+    return []
+
+
+def played(trace, runner):
+    """A trace and its output, with lines `show` of its requests and results."""
+    output = runner.run(["run"], trace).output
+    plays.lay_out(trace, output)
+    shown = with_shows(trace, output)
+    return shown, runner.run(["run"], shown).output
+
+
+def main(words):
+    words = list(words)
+    file = program.taken_from(words)
+    if len(words) not in (1, 2):
+        raise BadWords()
+    trace = text_of(words[0])
+    try:
+        if len(words) == 1:
+            trace, output = played(trace, program.Program(file))
+        else:
+            output = text_of(words[1])
+        if not output.startswith("cpu "):
+            plays.lay_out(trace, output)
+        print(chart(story.Story(story.visits_of(trace, output))), end="")
+    except (plays.Mismatch, ValueError, IndexError, KeyError) as mismatch:
+        print(f"chart.py: {mismatch}", file=sys.stderr)
+        return 1
+    return 0
+
+
+if __name__ == "__main__":
+    run(main, __doc__)

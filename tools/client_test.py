@@ -1,0 +1,120 @@
+#!/usr/bin/env python3
+"""Runs scripts of a client as tests: each call's line is compared with the one that is wanted.
+
+SCRIPT is a script for the word `client`, or one from which lift.py makes such a script, so that an image may be named by its
+file. FOLDER has several, whose names end with `.client`. A comment line `#= LINE`, behind a call, says what the call has to
+print; result and origin may be names of docs/formats.md:
+    invoke s 0 vio:5:7
+    #= invoke s SUCCESS TRUSTED_APP v:0000000c:00000000
+A call without such a line may print anything. The program is what `rt run` has built in crates/optee_run, or FILE.
+
+It prints a line for each script, with the number of its calls and of those that were compared; below it each call that
+printed something else, with the names of results and origins.
+Status: 0 where all is as wanted; 1 where a line differs or is missing, a script isn't of its form, or the program ends with
+another status than 0; 2 at other words.
+usage: client_test.py [program=FILE] SCRIPT|FOLDER..
+"""
+
+import collections
+import pathlib
+import sys
+
+import formats
+import lift
+import program
+from words import BadWords, run, text_of
+
+MARK, CALLS = "#=", ("open", "invoke", "close")
+RESULTS = {name: result for result, name in formats.RESULTS.items()}
+ORIGINS = {name: origin for origin, name in formats.ORIGINS.items()}
+
+# A call of a script, and the line that is wanted of it, or None.
+Call = collections.namedtuple("Call", "text wanted")
+
+
+def calls_of(script):
+    """The calls of a script, each with the line that is wanted of it."""
+    calls = []
+    for line in script.splitlines():
+        if line.split(" ")[0] in CALLS:
+            calls.append(Call(line, None))
+        elif line.startswith(MARK):
+            if not calls or calls[-1].wanted is not None:
+                raise lift.Fault(f"`{line}` stands behind no call")
+            calls[-1] = calls[-1]._replace(wanted=in_digits(line[len(MARK) :].strip()))
+    return calls
+
+
+def in_digits(line):
+    """A line with its result and origin as digits, where they are names."""
+    words = line.split(" ")
+    for place, table in ((2, RESULTS), (3, ORIGINS)):
+        if len(words) > place and words[place] in table:
+            words[place] = f"{table[words[place]]:08x}"
+    return " ".join(words)
+
+
+def by_name(line):
+    """A line with the names of its result and origin."""
+    words = line.split(" ")
+    for place, table in ((2, formats.RESULTS), (3, formats.ORIGINS)):
+        if len(words) > place:
+            words[place] = table.get(number_of(words[place]), words[place])
+    return " ".join(words)
+
+
+def number_of(digits):
+    return int(digits, 16) if len(digits) == 8 and set(digits) <= set("0123456789abcdef") else None
+
+
+def differing(calls, done):
+    """The lines that say what differs: calls in their order, and how the program ended."""
+    printed, said = done.output.splitlines(), []
+    if done.status == 3:
+        return [f"  {done.output.strip()}"]
+    for number, call in enumerate(calls):
+        line = printed[number] if number < len(printed) else None
+        if call.wanted is not None and call.wanted != line:
+            came = by_name(line) if line is not None else "nothing"
+            said += [f"  {call.text}", f"    wanted {by_name(call.wanted)}", f"    came   {came}"]
+    if done.status != 0:
+        said.append(f"  the program ended with status {done.status}")
+    return said
+
+
+def tested(path, runner):
+    """The lines on one script, and whether all is as wanted."""
+    try:
+        script = lift.lifted(text_of(path), pathlib.Path(path).parent)
+        calls = calls_of(script)
+    except lift.Fault as fault:
+        return [f"{path}: {fault}"], False
+    said = differing(calls, runner.run(["client"], script))
+    compared = sum(call.wanted is not None for call in calls)
+    verdict = "differs" if said else "ok"
+    return [f"{path}: {verdict}, {len(calls)} calls, {compared} compared", *said], not said
+
+
+def scripts_of(names):
+    """The scripts that the words name, those of a folder in the order of their names."""
+    for name in names:
+        folder = pathlib.Path(name)
+        yield from sorted(folder.glob("*.client")) if folder.is_dir() else [name]
+
+
+def main(words):
+    words = list(words)
+    file = program.taken_from(words)
+    if not words:
+        raise BadWords()
+    runner = program.Program(file)
+    is_good = True
+    for path in scripts_of(words):
+        lines, is_as_wanted = tested(path, runner)
+        is_good = is_good and is_as_wanted
+        print("\n".join(lines))
+    return 0 if is_good else 1
+
+
+if __name__ == "__main__":
+    run(main, __doc__)

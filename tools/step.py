@@ -1,0 +1,167 @@
+#!/usr/bin/env python3
+"""Runs entry points of an application step by step, and prints what each step changes.
+
+IMAGE is a file of an image's hexadecimal digits, as `asm` prints them. Behind it stand the entry points that are run on one
+instance, one after the other, each with its words:
+    create, close, destroy
+    open [PARAMETER]..
+    invoke FUNCTION [PARAMETER]..   the function in hexadecimal digits, as in a client's script
+    rN=HEX                          behind any of them: register N begins with this, whatever else it would
+    cancelled                       behind any of them: the cancellation flag is set
+A parameter is a word of a client's script: none, vi:A:B, vo, vio:A:B, mi:HEX, mo:LEN, mio:HEX. What an open returns in r1
+is the context, which invoke and close get in r2. The memory begins as zeros, and objects are kept in files in memory, of which
+there are none at first; a time is the number of those before, and a wait is over at once.
+
+Each line has the number of the step, the place of its instruction, the instruction, and then what it changes: registers,
+memory as [ADDRESS] BYTES, and the name of a system call with r0 to r2 as they were. Behind an entry point stand its result
+and its outputs, or the panic's code and place.
+
+Status: 0 where all have returned, 1 at a panic, a bad image, or an entry point that takes over 10,000 steps; 2 at other words.
+usage: step.py IMAGE ENTRY [WORD].. [ENTRY [WORD]..]..
+"""
+
+import collections
+import re
+import sys
+
+import formats
+import image
+import machine
+import objects
+from words import BadWords, hexadecimal, octets, run, text_of
+
+MOST_STEPS = 10_000
+APPLICATION = "00000000-0000-0000-0000-000000000000"
+PARAMETER = "none|v[io]o?:[0-9a-fA-F]{1,8}:[0-9a-fA-F]{1,8}|vo|mi?o?:([0-9a-fA-F]{2})+|mo:[1-9][0-9]{0,4}"
+
+# An entry point that is to be run: its name, its first registers, those that are set, its parameters, and the flag.
+Run = collections.namedtuple("Run", "entry registers changed parameters is_cancelled")
+
+
+def runs_of(words):
+    """The entry points that the words name."""
+    words, found = collections.deque(words), []
+    while words:
+        entry = words.popleft()
+        if entry not in formats.ENTRIES:
+            raise BadWords(f"{entry} is no entry point")
+        function = [hexadecimal(words.popleft(), 32)] if entry == "invoke" and words else []
+        if entry == "invoke" and not function:
+            raise BadWords("invoke has no function")
+        changed, parameters, flags = operands_of(words, 4 if entry in ("open", "invoke") else 0)
+        word = sum(parameter.type << 4 * k for k, parameter in enumerate(parameters))
+        registers = function + [word] if entry in ("open", "invoke") else []
+        found.append(Run(entry, registers, changed, parameters, bool(flags)))
+    if not found:
+        raise BadWords("an entry point is wanted")
+    return found
+
+
+def operands_of(words, most):
+    """Takes the words of one entry point: registers, parameters, of which there are as many at most, and the flag."""
+    changed, parameters, flags = {}, [], []
+    while words and words[0] not in formats.ENTRIES:
+        word = words.popleft()
+        register = re.fullmatch("r([0-9]|1[0-5])=([0-9a-fA-F]{1,8})", word)
+        if register:
+            changed[int(register[1])] = int(register[2], 16)
+        elif word == "cancelled":
+            flags.append(word)
+        elif re.fullmatch(PARAMETER, word) and machine.parameter_of(word) and len(parameters) < most:
+            parameters.append(machine.parameter_of(word))
+        else:
+            raise BadWords(f"{word} isn't served here")
+    return changed, parameters, flags
+
+
+def begun(run_, instance, context):
+    """The machine of an entry point at its beginning."""
+    registers = [*run_.registers, 0, 0, 0][:3]
+    if run_.entry in ("invoke", "close"):
+        registers[2] = context
+    instance.world.is_cancelled = lambda: run_.is_cancelled
+    started = machine.Machine(instance, run_.entry, registers, run_.parameters)
+    for number, value in run_.changed.items():
+        started.registers[number] = value
+    return started
+
+
+def traced(started):
+    """Steps up to the stop: the lines, and how it stopped, or None where it takes too many."""
+    lines, stop = [], None
+    for number in range(1, MOST_STEPS + 1):
+        before, place = values_of(started), started.place
+        stop = started.step()
+        if place < len(started.code):
+            changes = changes_of(started, before, started.code[place])
+            text = image.instruction_text(started.code[place])
+            lines.append(f"{number:5} {place:4}  {text:<26}{changes}".rstrip())
+        if stop:
+            return lines, stop
+    return lines, None
+
+
+def changes_of(started, before, instruction):
+    """What a step has changed, and which system call it was."""
+    said = []
+    if formats.OPERATIONS[instruction.op][0] == "sys":
+        registers = " ".join(f"{before[f'r{number}']}".lstrip("0") or "0" for number in range(3))
+        said.append(f"{formats.SYSTEM_CALLS[instruction.imm]} ({registers})")
+    said += [f"[{address:08x}] {shortened(data.hex())}" for address, data in started.stored]
+    said += [f"{name} {value}" for name, value in values_of(started).items() if before[name] != value]
+    return "  ".join(said)
+
+
+def values_of(started):
+    """Registers, and the numbers and sizes of parameters, each by its name."""
+    registers = {f"r{number}": f"{value:08x}" for number, value in enumerate(started.registers)}
+    numbers = {f"value {k}": "{:08x} {:08x}".format(*parameter.numbers) for k, parameter in enumerate(started.parameters)}
+    return registers | numbers | {f"size {k}": str(parameter.size) for k, parameter in enumerate(started.parameters)}
+
+
+def shortened(digits):
+    return digits if len(digits) <= 64 else f"{digits[:64]}.. ({len(digits) // 2} bytes)"
+
+
+def ended(run_, place, lines, stop):
+    """The line behind an entry point, which has stopped at a place."""
+    if stop is None:
+        return f"{run_.entry} has not ended after {MOST_STEPS} steps"
+    steps = len(lines)
+    if stop.name == "panic":
+        return f"{run_.entry} panics with {stop.first:08x} at {place}: {stop.second}"
+    outputs = "".join(f" {parameter.printed()}" for parameter in run_.parameters if parameter.is_output)
+    return f"{run_.entry} returns {stop.first:08x} {stop.second:08x} in {steps} steps{outputs}"
+
+
+def session_steps(digits, words):
+    """All that is printed, and whether all entry points have returned."""
+    instance = machine.Instance(image.decode(digits), objects.Store(APPLICATION, {}), machine.World())
+    context, printed = 0, []
+    for run_ in runs_of(words):
+        started = begun(run_, instance, context)
+        first = " ".join(f"{register:08x}" for register in started.registers[:3])
+        lines, stop = traced(started)
+        printed += [f"{run_.entry} begins with {first}", *lines, ended(run_, started.place, lines, stop)]
+        if stop is None or stop.name == "panic":
+            return printed, False
+        if run_.entry == "open":
+            context = stop.second
+    return printed, True
+
+
+def main(words):
+    if len(words) < 2:
+        raise BadWords()
+    digits = octets("".join(text_of(words[0]).split()))
+    refused = image.refusal(digits)
+    if refused:
+        print(f"{refused[0]}: {refused[1]}")
+        return 1
+    printed, is_good = session_steps(digits, words[1:])
+    print("\n".join(printed))
+    return 0 if is_good else 1
+
+
+if __name__ == "__main__":
+    run(main, __doc__)

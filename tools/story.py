@@ -1,0 +1,244 @@
+"""What happened in a play, as chart.py draws it: visits of processors, calls and their slots. It isn't run by itself."""
+
+import collections
+import re
+
+import formats
+import messages
+import plays
+
+NEW_CALLS = (formats.CALL_WITH_ARG, formats.CALL_WITH_RPC_ARG, formats.CALL_WITH_REGD_ARG)
+REFUSED = ("ETHREAD_LIMIT", "EBADADDR", "EBADCMD")
+VERBS = {name: name.split("_")[0].lower() for name in formats.COMMANDS.values()}
+P_AT, RET_AT = formats.HEAD_BYTES + 8, 4 * formats.HEAD.index("ret")
+
+
+class Visit:
+    """A processor between an entry and its exit: places in the history, registers, and what is said of both."""
+
+    def __init__(self, cpu, registers, lanes):
+        self.cpu, self.registers = cpu, registers
+        self.head = Head(lanes, cpu, registers)
+        self.ram = lanes.copy(cpu)  # what was written into the processor's RAM before the entry, by the addresses
+        self.asked = {}  # bytes of it that were shown behind the exit
+        self.entry = self.exit = self.answered = None  # places in the history, and the registers of the answer
+        self.line = None  # the line of the trace at which it goes out
+        self.slot = self.call = None  # where it is in a call
+        self.said = self.given = self.request_at = None  # what the entry and the exit say; where a request stands
+
+    @property
+    def function(self):
+        return self.registers[0]
+
+    @property
+    def is_new_call(self):
+        return self.function in NEW_CALLS
+
+    @property
+    def is_resume(self):
+        return self.function == formats.RETURN_FROM_RPC
+
+    @property
+    def answer(self):
+        """The name of the answer."""
+        a0 = self.answered[0]
+        if a0 in formats.RPCS and (self.is_new_call or self.is_resume):
+            return formats.RPCS[a0]
+        return formats.CODES.get(a0, "OK") if self.function in formats.FUNCTIONS else "UNKNOWN_FUNCTION"
+
+
+class Head:
+    """The head of the argument that a call brings, as far as the trace has written it, and the bytes behind."""
+
+    def __init__(self, lanes, cpu, registers):
+        self.address = registers[1] << 32 | registers[2]
+        bytes_at = lanes.bytes_at(cpu, self.address, messages.ARGUMENT_BYTES)
+        fields = [int.from_bytes(bytes_at[4 * i : 4 * i + 4], "little") for i in range(8)]
+        self.fields = dict(zip(formats.HEAD, fields))
+        self.application = bytes_at[formats.HEAD_BYTES + 8 :][:16].hex()[:8]
+
+    def text(self):
+        """The call that it asks for, in a few words: what, and of which session."""
+        verb = VERBS.get(formats.COMMANDS.get(self.fields["cmd"], ""), "command")
+        if verb == "open":
+            return verb, self.application
+        if verb in ("invoke", "close", "cancel"):
+            return verb, f"session {self.fields['session']}"
+        return verb, ""
+
+
+class Call:
+    """A call: its slot from its entry to the exit that answers OK, and what it asked for at each exit."""
+
+    def __init__(self, slot, text, first):
+        self.slot, self.text, self.first, self.last = slot, text, first, None
+        self.visits = []
+
+
+def visits_of(trace, output):
+    """The visits of a play, in the order of their entries; of `run` or of `threads`."""
+    if output.startswith("cpu "):
+        return sorted(threads_visits(trace, output), key=lambda visit: visit.entry)
+    walk = Walk(iter(range(2**32)))
+    walk.play(trace, collections.deque(output.splitlines()))
+    return walk.visits
+
+
+def threads_visits(trace, output):
+    """Those of a play by threads: each processor's lines of the trace, with its block."""
+    visits = []
+    for block in re.split("^cpu ", output, flags=re.MULTILINE)[1:]:
+        cpu, *lines = block.splitlines()
+        own = [line for line in trace.splitlines() if line.split(" ")[0] in ("mem", "boot") or line.split(" ")[1:2] == [cpu]]
+        walk = Walk(None)
+        walk.play("\n".join(own), collections.deque(line for line in lines if not line.startswith("full ")))
+        visits += walk.visits
+    return visits
+
+
+class Walk:
+    """Goes through a trace and what it has printed."""
+
+    def __init__(self, places):
+        self.places, self.lanes, self.visits = places, plays.Lanes(), []
+        self.last, self.inside, self.latest = collections.defaultdict(lambda: [0] * 8), {}, {}
+        self.lent = {}  # addresses of buffers by their cookies
+
+    def play(self, trace, printed):
+        for number, line in enumerate(trace.splitlines()):
+            words = line.split(" ")
+            if line.startswith("#") or formats.LINES.get(words[0]) != len(words):
+                continue
+            item, operands = words[0], words[1:]
+            if item in ("mem", "write"):
+                (self.lanes.fill if item == "mem" else self.lanes.write)(*operands)
+            if item in ("smc", "enter"):
+                self.enter(operands[0], operands[2:])
+            if item in ("smc", "leave"):
+                if not printed:
+                    return
+                self.leave(operands[0], printed.popleft(), number)
+            if item == "show":
+                self.show(operands[0], printed.popleft())
+
+    def enter(self, cpu, words):
+        last = self.last[cpu]
+        registers = [last[int(word[1])] if word[0] == "=" else int(word, 16) for word in words]
+        visit = self.inside[cpu] = Visit(cpu, registers, self.lanes)
+        if visit.is_resume:
+            self.lent[registers[4] << 32 | registers[5]] = registers[1] << 32 | registers[2]
+        if self.places:
+            visit.entry = next(self.places)
+        self.visits.append(visit)
+
+    def leave(self, cpu, line, number):
+        """The exit at a line of the trace, by what it has printed; of `threads` with its places behind it."""
+        fields = line.split(" ")
+        visit = self.latest[cpu] = self.inside.pop(cpu)
+        visit.line = number
+        a0, a1, a2, *_ = visit.answered = self.last[cpu] = [int(word, 16) for word in fields[2:10]]
+        buffer = self.lent.get(a1 << 32 | a2)
+        if formats.RPCS.get(a0) == "CMD" and buffer:
+            self.lanes.write(cpu, f"{buffer + RET_AT:x}", "0000ffff")  # each request has this as its ret
+        if self.places:
+            visit.exit = next(self.places)
+        else:
+            visit.entry, visit.exit = int(fields[11]), int(fields[12])
+
+    def show(self, cpu, line):
+        _, _, address, digits = line.split(" ")
+        self.lanes.write(cpu, address, digits)
+        if cpu in self.latest and cpu not in self.inside:
+            self.latest[cpu].asked |= enumerate(bytes.fromhex(digits), int(address, 16))
+
+
+class Story:
+    """A play's visits, with the slots that calls take, and what each visit asks and is answered, in words."""
+
+    def __init__(self, visits):
+        self.visits = [visit for visit in visits if visit.answered]
+        self.calls, self.held, self.buffers, self.pending = [], {}, {}, {}
+        events = [(visit.entry, self.entered, visit) for visit in self.visits]
+        events += [(visit.exit, self.left, visit) for visit in self.visits]
+        self.length = max((place for place, *_ in events), default=-1) + 1
+        for _, happens, visit in sorted(events, key=lambda event: event[0]):
+            happens(visit)
+
+    def entered(self, visit):
+        """A new call takes the lowest free slot, and a resume goes on with the call of its slot."""
+        visit.said = self.entry_text(visit)
+        if visit.is_new_call and visit.answer not in REFUSED:
+            slot = next(number for number in range(2**32) if number not in self.held)
+            call = self.held[slot] = Call(slot, visit.head.text(), visit.entry)
+            self.calls.append(call)
+        elif visit.is_resume and visit.answer != "ERESUME":
+            slot = visit.registers[3]
+            call = self.held.get(slot)
+        else:
+            return
+        visit.slot, visit.call = slot, call
+        if call:
+            call.visits.append(visit)
+
+    def entry_text(self, visit):
+        """What an entry says: its function, and of a call or a return some more."""
+        if visit.is_new_call:
+            return visit.head.text()
+        if visit.is_resume:
+            return "return", self.reply_text(visit)
+        return formats.FUNCTIONS.get(visit.function, f"{visit.function:08x}"), ""
+
+    def reply_text(self, visit):
+        """What the normal world answers to what was asked of it."""
+        slot = visit.registers[3]
+        asked = self.pending.get(slot)
+        if asked == "ALLOC":
+            address = self.buffers[slot] = visit.registers[1] << 32 | visit.registers[2]
+            return f"lends {address:x}" if address else "lends none"
+        if asked == "CMD Time" or str(asked).startswith("CMD Fs"):
+            address = self.buffers.get(slot, 0) + RET_AT
+            ret = [visit.ram.get(at) for at in range(address, address + 4)]
+            return messages.result_name(int.from_bytes(ret, "little")) if None not in ret else ""
+        return ""
+
+    def left(self, visit):
+        """What an exit says: the answer, a request by its name, a result where it was shown."""
+        visit.given = self.exit_text(visit)
+        if visit.slot is None:
+            return
+        self.pending[visit.slot] = visit.given
+        if visit.answer == "OK" and visit.call:
+            visit.call.last = visit.exit
+            del self.held[visit.slot]
+            self.buffers.pop(visit.slot, None)
+
+    def exit_text(self, visit):
+        if visit.answer == "CMD":
+            return f"CMD {self.request_name(visit)}".rstrip()
+        if visit.answer == "OK" and visit.call:
+            result = number_in(visit.asked, visit.call.visits[0].head.address + RET_AT, 4)
+            return "OK" if result is None else f"OK {messages.result_name(result)}"
+        return visit.answer
+
+    def request_name(self, visit):
+        """The name of a request, as far as it was shown: the buffer's, or of a call with an area that of its area."""
+        address = visit.request_at = self.request_address(visit)
+        command, p = number_in(visit.asked, address, 4), number_in(visit.asked, address + P_AT, 8)
+        name = formats.REQUESTS.get((command, None)) or formats.REQUESTS.get((command, p))
+        key = number_in(visit.asked, address + P_AT + 8, 8)
+        if name in ("Sleep", "Wake") and key is not None:
+            return f"{name} {key}"
+        return name or formats.RPC_COMMANDS.get(command, "")
+
+    def request_address(self, visit):
+        """Where a request stands: in the lent buffer, or, where its cookie is 0, in the call's area."""
+        head = visit.call.visits[0].head if visit.call else visit.head
+        if visit.answered[1:3] == [0, 0]:
+            return head.address + formats.HEAD_BYTES + formats.PARAMETER_BYTES * head.fields["num_params"]
+        return self.buffers.get(visit.slot, 0)
+
+
+def number_in(known, address, size):
+    """A number whose bytes are all known, or None."""
+    data = [known.get(at) for at in range(address, address + size)]
+    return None if None in data else int.from_bytes(data, "little")
