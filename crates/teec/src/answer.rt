@@ -7,7 +7,7 @@ use smc_abi::{ETHREAD_LIMIT, OK, RPC_ALLOC, RPC_CMD, RPC_FREE, RPC_INTERRUPT, Re
 
 /// What a core asks for in an RPC return.
 #[derive(Clone, Copy)]
-pub(crate) enum RpcKind {
+pub enum RpcKind {
     /// A buffer for its requests.
     Alloc,
     /// To take the buffer back.
@@ -20,14 +20,14 @@ pub(crate) enum RpcKind {
 
 /// An RPC return, and the thread by which it is answered.
 #[derive(Clone, Copy)]
-pub(crate) struct RpcReturn {
-    pub(crate) kind: RpcKind,
-    pub(crate) thread: u32,
+pub struct RpcReturn {
+    pub kind: RpcKind,
+    pub thread: u32,
 }
 
 /// What an answer says.
 #[derive(Clone, Copy)]
-pub(crate) enum Said {
+pub enum Said {
     /// The call has ended.
     Finished,
     /// No thread is free.

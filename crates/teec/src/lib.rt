@@ -28,6 +28,7 @@ mod params;
 mod places;
 mod registers;
 
+pub use answer::{RpcKind, RpcReturn, Said};
 pub use client::Client;
 pub use examples::worked_examples;
 pub use fault::TeecFault;
