@@ -13,6 +13,10 @@ def read(path):
     return path.read_bytes().decode("latin-1")
 
 
+# The bytes that an input may have.
+LONGEST = 1 << 24
+
+
 def examples():
     """The traces of examples/, each with its output."""
     paths = sorted(EXAMPLES.glob("*.trace"))
@@ -21,7 +25,7 @@ def examples():
 
 def worked_cases(wanted="run"):
     """The cases of `cases` whose words are these and in which no call fails, in the form that docs/formats.md gives; not
-    those that are made of one before."""
+    those that are made of one before, nor those with more bytes than an input may have."""
     case = {}
     for line in read(CRATES / "cases/stdin").splitlines(keepends=True):
         word, _, rest = line.rstrip("\n").partition(" ")
@@ -36,7 +40,12 @@ def worked_cases(wanted="run"):
         elif word == "status":
             if case["words"] == wanted and not case["fails"]:
                 yield Play(case["name"], "".join(case["input"]), "".join(case["output"]), int(rest))
-        else:
+        elif word == "repeat":
+            at, count = map(int, rest.split())
+            part = "".join(into)[at:]
+            case["fails"] |= len(part) * count > LONGEST
+            into.append("" if case["fails"] else part * (count - 1))
+        elif line[0] != "#":
             into.append(bytes_of(line, word, rest))
 
 
@@ -53,6 +62,8 @@ def core_names():
 
 def bytes_of(line, word, rest):
     """What a line of bytes of a worked case stands for."""
+    if word == "zeros":
+        return "\0" * int(rest)
     if word == "lines":
         count, _, text = rest.partition(" ")
         return f"{text}\n" * int(count)
