@@ -207,12 +207,10 @@ impl Case {
 
     /// The bytes of the part that was begun from this place on stand there so many times in all.
     pub fn repeat(&mut self, alloc: Global, at: u32, count: u32) -> Result<(), AllocError> {
-        let part = match self.part {
-            Part::Input => self.input.as_slice(),
-            Part::Output => self.output.as_slice(),
+        let bytes = match self.part {
+            Part::Input => copied_from(alloc, self.input.as_slice(), at)?,
+            Part::Output => copied_from(alloc, self.output.as_slice(), at)?,
         };
-        let at = (at as usize).min(part.len());
-        let bytes = Vec::from_slice(alloc, &part[at..])?;
         for _ in 1..count {
             self.push_bytes(bytes.as_slice())?;
         }
@@ -386,4 +384,10 @@ impl Case {
         }
         None
     }
+}
+
+/// A copy of the bytes from a place on, which are none behind their end.
+fn copied_from(alloc: Global, bytes: &[u8], at: u32) -> Result<Vec<u8>, AllocError> {
+    let first = (at as usize).min(bytes.len());
+    Vec::from_slice(alloc, &bytes[first..])
 }
