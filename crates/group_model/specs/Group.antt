@@ -409,7 +409,8 @@ abbrev pub goes_on : Waiting → Begun → Group
 goes_on w begun =
     with_call (without_waiter begun.group w.number) w.number (record w.call { phase = Runs begun.job })
 
--- another call holds its instance: it waits on, unless it has come back without a buffer that it needs for that
+-- another call holds its instance: it waits on, unless it has come back without a buffer that it needs for that, as none does
+-- with an area
 abbrev pub waits_on : Group → Waiting → Group
 waits_on g w = if is_no_buffer w.input then gives_up g w out_of_memory else with_call g w.number w.call
 

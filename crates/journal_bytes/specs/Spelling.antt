@@ -1,4 +1,4 @@
--- The one spelling of a boot and its events that is written.
+-- The spelling of a boot and its events that is written.
 use Rattle.std.specs.Prelude.{ℕ, ◌+◌, List, [], ◌∷◌, ◌++◌, length, All, if◌then◌else◌}
 use Rattle.std.specs.List.{flat_map}
 use Rattle.std.specs.Str.{bytes_eq}

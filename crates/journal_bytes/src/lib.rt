@@ -1,6 +1,6 @@
 //! The bytes of a journal: a magic, what the core was booted with, its events, and an end.
 //!
-//! [`write_journal`] writes the one spelling of a boot and its events, and [`read_journal`] reads all of them, whatever stands
+//! [`write_journal`] writes one spelling of a boot and its events, and [`read_journal`] reads all of them, whatever stands
 //! behind the end. The form is this project's own; `docs/formats.md` states it.
 #![tactic(auto)]
 

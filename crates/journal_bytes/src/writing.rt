@@ -88,7 +88,7 @@ fn put_events(out: &mut Vec<u8>, events: &[Event]) -> Result<(), NoMemory>
     Ok(())
 }
 
-/// The one spelling of a boot and its events: the boot, its applications, its key where that isn't of zeros, and the events, each
+/// What is written of a boot and its events: the boot, its applications, its key where that isn't of zeros, and the events, each
 /// in their order, and an end.
 ///
 /// It spells them, whatever stands behind it ([`crate::written_is_read`]): so [`crate::read_journal`] gives them back where these are

@@ -117,7 +117,7 @@ abbrev pub is_without_buffer : Given → Bool
 is_without_buffer NoBuffer = true
 is_without_buffer _ = false
 
--- another call holds its instance: it sleeps on, where it has a buffer to ask for that
+-- another call holds its instance: it sleeps on, where it has a buffer or an area to ask for that
 abbrev pub sleeps_on : Resumed → CopiedParams → Progress
 sleeps_on r params = if is_without_buffer r.given then ends_with r out_of_memory else goes_on r (Waits params)
 

@@ -83,7 +83,7 @@ pub fn memory_is_kept()
     ensures { Always (λ boot kernel. AreInMemory boot (call_at kernel.slots) kernel.tables) }
 {}
 
-/// Where a call writes lies in RAM: its argument, the places of its parameters, and its buffer.
+/// Where a call writes lies in RAM: its argument, the places of its parameters, its area, and its buffer.
 pub fn calls_have_their_places()
     ensures { Always (λ boot kernel. HaveTheirPlaces (call_at kernel.slots)) }
 {}

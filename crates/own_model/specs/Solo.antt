@@ -248,7 +248,7 @@ goes_on app z w at =
     begins app (without_waiter z w.number) w.number w.call
     (record { session = at.0; instance = at.1; params = w.params; seen = w.call.seen; key = z.key })
 
--- another call holds the instance: it waits on, where it has got a buffer for that or has one
+-- another call holds the instance: it waits on, where it has got a buffer for that, or has one or an area
 abbrev pub waits_on : Solo → Waiting → Solo
 waits_on z w =
     if is_no_buffer w.input then gives_up z w.number w.call out_of_memory else with_call z w.number w.call

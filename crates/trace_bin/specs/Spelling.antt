@@ -1,4 +1,4 @@
--- The one spelling of a trace that is written: its boot, its applications, its fills and its items, each in their order.
+-- The spelling of a trace that is written: its boot, its applications, its fills and its items, each in their order.
 use Rattle.std.specs.Prelude.{◌≡◌, ℕ, ◌<◌, ◌^◌, List, [], ◌∷◌, ◌++◌, length, Option, None, Some, All, IsSomeAnd, if◌then◌else◌}
 use Rattle.std.specs.List.{flat_map}
 use Rattle.std.specs.Str.{bytes_eq}

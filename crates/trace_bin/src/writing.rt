@@ -173,7 +173,7 @@ fn put_items(out: &mut Vec<u8>, items: &[Item]) -> Result<(), NoMemory>
     Ok(())
 }
 
-/// The one spelling of a trace that some bytes spell, and that has a boot: the boot, its applications, the fills and then the
+/// What is written of a trace that some bytes spell, and that has a boot: the boot, its applications, the fills and then the
 /// items, each in their order.
 pub fn write_binary(alloc: Global, trace: &Trace) -> Result<Vec<u8>, NoMemory>
     requires within_limits { IsSound [] trace.now }
