@@ -19,7 +19,7 @@ abbrev pub coming : ℕ → Regs → ℕ → Coming
 coming cpu regs steps = record { cpu = cpu; regs = regs; steps = steps }
 
 -- it has come in: its entry is the last event that the pass has seen, and this is its work. What it has read, with all that was read
--- before, is at most 2^28 bytes (`few` of `makes`), so a refusal for more comes exactly above
+-- before, is at most 2^28 bytes (`few` of `makes`), so an entry with more is refused: by Full, or by Memory where that is wanted first
 pub record HasCome (boot : Booted) (old new : CpuPass) (coming : Coming) (lane : List ℕ) (work : Work) : Type 0 where
   -- what it has read
   pub reads : List Read

@@ -1,4 +1,5 @@
-//! The numbers of the commands and functions, by the names of OP-TEE's `optee_rpc_cmd.h`; the numbers are this project's own.
+//! The numbers of the commands, which are those of OP-TEE's `optee_rpc_cmd.h`, and of their functions; those of files are this
+//! project's own.
 
 /// The command for a function of the file system, whose number is p of the first parameter.
 pub const OPTEE_RPC_CMD_FS: u32 = 2;

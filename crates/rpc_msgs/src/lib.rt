@@ -8,8 +8,9 @@
 //! size above what was asked for gives no bytes. What a reply means is no concern of this crate.
 //!
 //! `specs/Request.antt` has what is written of each request, `specs/Reply.antt` what is read of the reply to it,
-//! `specs/Answer.antt` which replies there are, and `specs/Place.antt` where a request stands. The commands go by the
-//! names of OP-TEE's `optee_rpc_cmd.h`; their numbers and parameters are this project's own.
+//! `specs/Answer.antt` which replies there are, and `specs/Place.antt` where a request stands. Names and numbers of the
+//! commands, and the parameters of the time, notifications and a suspension, are those of OP-TEE's `optee_rpc_cmd.h`;
+//! the functions of files and their parameters are this project's own.
 //!
 //! Only `take_reply` takes memory, for its list of reads.
 #![tactic(auto)]

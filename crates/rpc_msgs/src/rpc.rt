@@ -5,8 +5,8 @@ ghost use Rattle.rpc_msgs.specs.Request.{has_payload};
 use crate::file_name::FileName;
 use crate::payload::Payload;
 
-/// What a call asks the normal world for. The commands are OP-TEE's in name; their numbers and parameters are
-/// this project's own.
+/// What a call asks the normal world for. The commands are those of OP-TEE's `optee_rpc_cmd.h`; the functions of files
+/// and their parameters are this project's own.
 #[derive(Clone, Debug, Drop)]
 pub enum Rpc {
     /// The time of day, in seconds and nanoseconds.
