@@ -1,4 +1,6 @@
-ghost use Rattle.std.specs.Prelude.{◌≡◌, ◌<◌, ◌^◌, [], ◌∷◌, ◌++◌, OnOk};
+#![tactic(auto, using(crate::proofs::Fronts::all_kept, crate::proofs::Fronts::more_kept, crate::proofs::Fronts::kept_on))]
+
+ghost use Rattle.std.specs.Prelude.{◌≡◌, ◌<◌, ◌^◌, [], ◌∷◌, ◌++◌, length, take, OnOk};
 ghost use Rattle.std.specs.Fmt.{decimal};
 ghost use Rattle.std.specs.List.{flat_map};
 ghost use Rattle.hex.specs.Hex.{encode_lower};
@@ -11,7 +13,8 @@ use std::alloc::{AllocError, Global};
 
 /// Appends a word and the number behind it, in decimal.
 pub fn push_numbered(text: &mut Vec<u8>, word: &[u8], number: u64) -> Result<(), AllocError>
-    ensures { OnOk result (text.new.items ≡ text.old.items ++ word.now ++ decimal number) }
+    ensures told { OnOk result (text.new.items ≡ text.old.items ++ word.now ++ decimal number) }
+    ensures kept { take (length text.old.items) text.new.items ≡ text.old.items }
 {
     let mut buffer = Buffer::new();
     text.extend_from_slice(word)?;
@@ -20,7 +23,8 @@ pub fn push_numbered(text: &mut Vec<u8>, word: &[u8], number: u64) -> Result<(),
 
 /// Appends eight registers, each a space and eight lower-case hexadecimal digits.
 pub fn push_registers(text: &mut Vec<u8>, regs: &Regs) -> Result<(), AllocError>
-    ensures { OnOk result (text.new.items ≡ text.old.items ++ flat_map register_text regs.now.a) }
+    ensures told { OnOk result (text.new.items ≡ text.old.items ++ flat_map register_text regs.now.a) }
+    ensures kept { take (length text.old.items) text.new.items ≡ text.old.items }
 {
     let [a0, a1, a2, a3, a4, a5, a6, a7] = regs.a;
     let texts = [
@@ -38,7 +42,8 @@ pub fn push_registers(text: &mut Vec<u8>, regs: &Regs) -> Result<(), AllocError>
 
 /// Appends bytes in lower-case hexadecimal digits, which end the line.
 pub fn push_hex(alloc: Global, text: &mut Vec<u8>, bytes: &[u8]) -> Result<(), AllocError>
-    ensures { OnOk result (text.new.items ≡ text.old.items ++ encode_lower bytes.now ++ 10 ∷ []) }
+    ensures told { OnOk result (text.new.items ≡ text.old.items ++ encode_lower bytes.now ++ 10 ∷ []) }
+    ensures kept { take (length text.old.items) text.new.items ≡ text.old.items }
 {
     text.extend_from_slice(hex::encode(alloc, bytes)?.as_bytes())?;
     text.push(b'\n')?;
@@ -47,7 +52,8 @@ pub fn push_hex(alloc: Global, text: &mut Vec<u8>, bytes: &[u8]) -> Result<(), A
 
 /// Appends the line of an exit: the processor and the eight registers that it has then.
 pub fn push_ret(text: &mut Vec<u8>, cpu: u8, regs: &Regs) -> Result<(), AllocError>
-    ensures { OnOk result (text.new.items ≡ text.old.items ++ ret_line cpu regs.now.a) }
+    ensures told { OnOk result (text.new.items ≡ text.old.items ++ ret_line cpu regs.now.a) }
+    ensures kept { take (length text.old.items) text.new.items ≡ text.old.items }
 {
     push_numbered(text, b"ret ", u64::from(cpu))?;
     push_registers(text, regs)?;
@@ -63,7 +69,8 @@ fn push_bytes_at(
     bytes: &[u8],
 ) -> Result<(), AllocError>
     requires { addr < 2 ^ 32 }
-    ensures { OnOk result (text.new.items ≡ text.old.items ++ register_text addr ++ 32 ∷ encode_lower bytes.now ++ 10 ∷ []) }
+    ensures told { OnOk result (text.new.items ≡ text.old.items ++ register_text addr ++ 32 ∷ encode_lower bytes.now ++ 10 ∷ []) }
+    ensures kept { take (length text.old.items) text.new.items ≡ text.old.items }
 {
     text.extend_from_slice(&register_text(addr as u32))?;
     text.push(b' ')?;
@@ -79,7 +86,8 @@ pub fn push_mem(
     bytes: &[u8],
 ) -> Result<(), AllocError>
     requires { addr < 2 ^ 32 }
-    ensures { OnOk result (text.new.items ≡ text.old.items ++ mem_line cpu addr bytes.now) }
+    ensures told { OnOk result (text.new.items ≡ text.old.items ++ mem_line cpu addr bytes.now) }
+    ensures kept { take (length text.old.items) text.new.items ≡ text.old.items }
 {
     push_numbered(text, b"mem ", u64::from(cpu))?;
     push_bytes_at(alloc, text, addr, bytes)

@@ -56,5 +56,5 @@ returns-clause-leaves g c = λ boot told stands.
       wrote = c.write_result.ensures boot;
       desk = c.answer-told.ensures.desk;
       answers = ap (λ (place : ℕ). slice_set c.args.self.now.answers place c.answer-told.result.regs) c.from.ensures;
-      line = c.in_ok-push_ret.ensures;
+      line = c.in_ok-push_ret.ensures.told;
     })

@@ -13,4 +13,4 @@ returns-clause-shows c boot items lane acts was =
     (λ printed. shown boot items lane acts old _ c.args.addr c.args.len c.at-bytes.result.now refl
     (subst (λ (n : ℕ). c.push_mem.new.text.items ≡ old.block.items ++ mem_line n c.args.addr c.at-bytes.result.now) c.cpu-cpu.ensures printed)
     (c.at-bytes.ensures.bytes ∙ ap (bytes_at old.lane c.args.addr) c.from.ensures) was)
-    c.push_mem.ensures
+    c.push_mem.ensures.told

@@ -9,4 +9,4 @@ returns-clause-shows c = λ boot play stands.
     shown boot play c.args.cpu c.args.addr c.args.len c.show-bytes.result.now c.args.self.now _ _
     (c.show-bytes.ensures.bytes boot play stands.machine
     ∙ ap (bytes_at (lane_of play c.args.cpu) c.args.addr) c.from.ensures) stands
-    c.in_ok-push_mem.ensures
+    c.in_ok-push_mem.ensures.told
