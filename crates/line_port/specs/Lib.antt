@@ -1,0 +1,9 @@
+pub mod Edge
+pub mod Examples
+pub mod Finish
+pub mod Gathering
+pub mod History
+pub mod Kept
+pub mod Laws
+pub mod Pending
+pub mod SayingOut

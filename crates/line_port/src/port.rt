@@ -1,0 +1,89 @@
+ghost use Rattle.std.specs.Prelude.{◌≡◌, ℕ, ◌≤◌, List, [], ◌∷◌, Option, length, take};
+ghost use Rattle.line_port.specs.Finish.{finish_of_heard, finish_of_said};
+ghost use Rattle.line_port.specs.History.{Adds, Event, Says, heard_events};
+ghost use Rattle.line_port.specs.declared.finish.Finish.{Finish};
+
+use crate::finish::Finish;
+
+/// What a call of `hear` came to.
+#[derive(Clone, Copy, Debug, PartialEq, Eq)]
+pub enum Heard {
+    /// A line, which a line feed ended.
+    Line,
+    /// A line of more than [`LONGEST_LINE`](crate::LONGEST_LINE) bytes. It was read to its end, and let go of.
+    Long,
+    /// The input ended within a line.
+    Cut,
+    /// The input is over.
+    End,
+    /// Reading failed. A part of a line may be lost.
+    Failed,
+    /// Want of memory. A part of a line may be lost.
+    Memory,
+}
+
+impl Heard {
+    /// How the port has come to its end by this, where it has.
+    pub fn finish(self) -> Option<Finish>
+        ensures { result ≡ finish_of_heard self }
+    {
+        match self {
+            Heard::Line | Heard::Long | Heard::Cut => None,
+            Heard::End => Some(Finish::Over),
+            Heard::Failed => Some(Finish::ReadFault),
+            Heard::Memory => Some(Finish::Memory),
+        }
+    }
+}
+
+/// What a call of `say` came to.
+#[derive(Clone, Copy, Debug, PartialEq, Eq)]
+pub enum Said {
+    /// All the bytes were said.
+    Done,
+    /// Writing failed. A part from their front was said.
+    Failed,
+    /// Want of memory. Nothing was said.
+    Memory,
+}
+
+impl Said {
+    /// How the port has come to its end by this, where it has.
+    pub fn finish(self) -> Option<Finish>
+        ensures { result ≡ finish_of_said self }
+    {
+        match self {
+            Said::Done => None,
+            Said::Failed => Some(Finish::WriteFault),
+            Said::Memory => Some(Finish::Memory),
+        }
+    }
+}
+
+/// Where lines come from, and where what is said to them goes. Behind a call that brings it to its end no more are made, so
+/// that what is left of a line is never heard as one.
+pub trait Port {
+    /// What was heard and what was said, in its order, where the port tells it.
+    ghost history: { Self → Option (List Event) };
+
+    /// How it has come to its end, where it has.
+    ghost finish: { Self → Option Finish };
+
+    /// Hears the next line, without the line feed that ends it. What `line` holds before is let go of; where no line was
+    /// heard, what it holds then is left open. Which line comes is the other side's choice, by all that was said so far.
+    fn hear(&mut self, line: &mut Vec<u8>) -> Heard
+        requires { finish self.old ≡ None }
+        ensures heard { Adds (history self.old) (history self.new) (heard_events result line.new.items) }
+        ensures within { result ≡ Heard.Line → length line.new.items ≤ 8388736 }
+        ensures finishes { finish self.new ≡ finish_of_heard result };
+
+    /// Says the bytes, so that the other side has them all before anything more is heard.
+    fn say(&mut self, bytes: &[u8]) -> Said
+        requires { finish self.old ≡ None }
+        ensures done { result ≡ Said.Done →
+            Adds (history self.old) (history self.new) (Says bytes.now ∷ []) }
+        ensures failed { result ≡ Said.Failed →
+            (n : ℕ) × Adds (history self.old) (history self.new) (Says (take n bytes.now) ∷ []) }
+        ensures memory { result ≡ Said.Memory → Adds (history self.old) (history self.new) [] }
+        ensures finishes { finish self.new ≡ finish_of_said result };
+}
