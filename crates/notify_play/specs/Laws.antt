@@ -30,7 +30,7 @@ pub record IsNotifyPlay (boot : Booted) (drivers : Drivers) (told : NotifyPlay) 
   pub returns : ReturnsIn boot told.play.history
   pub no_call : ToldIn boot told.play.history 3 FindsNoCall
   pub no_slot : ToldIn boot told.play.history 1 FindsNoSlot
-  -- sessions that share no instance were answered as alone
+  -- sessions that share no instance were answered as alone, each that was ever kept among them
   pub alone : AloneIn boot told.play.history
   -- a bottom half that comes next calls exactly the drivers that were signalled, while the desk was enabled, since the last
   -- bottom half or stop, each with the number of these signals, at most 2^32 - 1 (its desk's calls: `StepsCallDesk`)

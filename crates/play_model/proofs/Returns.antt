@@ -21,8 +21,10 @@ use Rattle.kernel_model.proofs.Suspended.{resumes_continue}
 use Rattle.kernel_model.specs.Laws.{FindsNoCall, FindsNoSlot, visited}
 use Rattle.ns_ram.specs.declared.read.Read.{Read}
 use Rattle.own_model.proofs.FixedAnswers as fixed
+use Rattle.own_model.proofs.KeptSessions.{kept_sessions_known}
 use Rattle.own_model.proofs.OtherResumes.{visitor_there}
 use Rattle.own_model.proofs.WholeHistories.{answered_as_alone}
+use Rattle.own_model.specs.Own.{own_app}
 use Rattle.smc_abi.specs.Call.{call_of}
 use Rattle.smc_abi.specs.declared.call.Call.TheVariants.{Resume}
 use Rattle.play_model.specs.Laws.{AloneIn, Returned, ReturnsIn, ToldIn, entered}
@@ -108,5 +110,11 @@ no_call_in boot history legal before between behind cpu steps regs told reads ke
 -- ---- sessions
 
 pub alone_in : (boot : Booted) (history : List Event) → IsLegal boot history → AloneIn boot history
-alone_in boot history legal session app of none =
-    answered_as_alone boot history session app (record { legal = legal; of_app = of; shares_none = none })
+alone_in boot history legal = record {
+  answered = λ session app of none.
+      answered_as_alone boot history session app (record { legal = legal; of_app = of; shares_none = none });
+  known = λ before behind kernel session app cut there kept.
+      subst (λ (h : List Event). own_app boot h session ≡ Some app) (sym cut)
+      (kept_sessions_known.stays boot before behind session app (subst (IsLegal boot) cut legal)
+      (kept_sessions_known.known boot before kernel session app there kept));
+}

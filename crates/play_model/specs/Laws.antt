@@ -17,7 +17,7 @@ use Rattle.kernel_model.specs.Laws.{FindsNoCall, FindsNoSlot, IsFixed, IsOfOther
 use Rattle.kernel_model.specs.Resume.{call_resumed_by}
 use Rattle.ns_ram.specs.Reads.{HoldsReads}
 use Rattle.ns_ram.specs.declared.read.Read.{Read}
-use Rattle.own_model.specs.Isolation.{steps_in}
+use Rattle.own_model.specs.Isolation.{IsKeptFor, steps_in}
 use Rattle.own_model.specs.Own.{own_app, own_events, own_replies}
 use Rattle.own_model.specs.Solo.{solo_replies}
 use Rattle.smc_abi.specs.Answer.{registers_of}
@@ -74,11 +74,15 @@ ToldIn boot history a0 Finds =
 
 -- ---- sessions
 
--- each session of an application whose sessions share no instance was answered as its own machine answers to its events
-abbrev pub AloneIn : Booted → List Event → Type 0
-AloneIn boot history =
-    (session : ℕ) (app : Application) → own_app boot history session ≡ Some app → is_single app ≡ false →
-    solo_replies (steps_in history) app boot.key (own_events boot history session) ≡ Some (own_replies boot history session)
+-- sessions of applications whose sessions share no instance
+pub record AloneIn (boot : Booted) (history : List Event) : Type 0 where
+  -- each was answered as its own machine answers to its events
+  pub answered : (session : ℕ) (app : Application) → own_app boot history session ≡ Some app → is_single app ≡ false →
+      solo_replies (steps_in history) app boot.key (own_events boot history session) ≡ Some (own_replies boot history session)
+  -- that is said of each which the kernel keeps at any place of the history: from there on its application is known
+  pub known : (before behind : List Event) (kernel : Kernel) (session : ℕ) (app : Application) →
+      history ≡ before ++ behind → kernel_after boot before ≡ Some kernel → IsKeptFor boot kernel session app →
+      own_app boot history session ≡ Some app
 
 -- ---- plays
 
@@ -99,7 +103,7 @@ pub record IsPlay (boot : Booted) (items : List Item) (play : Play) : Type 0 whe
   pub no_call : ToldIn boot play.history 3 FindsNoCall
   -- ETHREAD_LIMIT, which is 1, comes exactly where a new call finds no slot free
   pub no_slot : ToldIn boot play.history 1 FindsNoSlot
-  -- sessions that share no instance were answered as alone
+  -- sessions that share no instance were answered as alone, each that was ever kept among them
   pub alone : AloneIn boot play.history
 
 -- each play of a trace is one, whatever RAM holds at first

@@ -82,7 +82,7 @@ pub record IsTrueToKernel (natives : List Native) (boot : Boot) (trace : Trace) 
   -- ETHREAD_LIMIT, which is 1, comes exactly where a new call finds no slot free
   pub thread_limit : ToldIn (booted boot natives) play.history 1 FindsNoSlot
   -- a session of an application whose sessions share no instance was answered as its own machine answers to its own
-  -- events alone
+  -- events alone; that is said of each such session that was kept at any place of the history
   pub alone : AloneIn (booted boot natives) play.history
   -- an entry is refused only where all entries would then have read more than 2^28 bytes
   pub refused_entry : (more : ℕ) → play.refused ≡ Some more → 2 ^ 28 < copied_bytes play.history + more

@@ -7,7 +7,7 @@ ghost use Rattle.play_model.specs.TrueToKernel.{PlaysAreTrue};
 /// The history of each play is legal and holds the items of each processor in their order. In it a return from RPC
 /// resumes exactly the call that is suspended in its slot for its client, or answers ERESUME and changes nothing;
 /// ETHREAD_LIMIT comes exactly where a new call finds no slot free; and each session whose application shares no
-/// instance was answered as its own machine answers to its events.
+/// instance was answered as its own machine answers to its events, of which each that was ever kept is one.
 pub fn traces_are_played()
     ensures { TracesArePlayed }
 {}

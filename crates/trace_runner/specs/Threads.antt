@@ -51,7 +51,7 @@ pub record IsTrueInOrder (natives : List Native) (boot : Boot) (trace : Trace) (
     -- ETHREAD_LIMIT, which is 1, comes exactly where a new call finds no slot free
     pub thread_limit : ToldIn (booted boot natives) play.history 1 FindsNoSlot
     -- a session of an application whose sessions share no instance was answered as its own machine answers to its own
-    -- events alone
+    -- events alone; that is said of each such session that was kept at any place of the history
     pub alone : AloneIn (booted boot natives) play.history
 
 -- the text is the blocks of a trace that has this boot, in the order in which the entries and exits of its play came, refused
