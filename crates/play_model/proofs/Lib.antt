@@ -1,4 +1,5 @@
 pub mod Returns
+pub mod LastAnswers
 pub mod Adds
 pub mod Entries
 pub mod LinesStay
