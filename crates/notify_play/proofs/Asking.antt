@@ -238,7 +238,7 @@ first_taken boot drivers first steps before next is e =
     ∙ ap (λ (o : Option NotifyPlay). taken_where boot drivers first steps before None o) e
 
 -- where an entry was refused, nothing comes behind it
-refused_stays : (boot : Booted) (drivers : Drivers) (steps : List Step) (before after : NotifyPlay) (more : ℕ)
+pub refused_stays : (boot : Booted) (drivers : Drivers) (steps : List Step) (before after : NotifyPlay) (more : ℕ)
     → before.play.refused ≡ Some more → after_steps boot drivers steps before ≡ Some after → before ≡ after
 refused_stays boot drivers [] before after more is e = cc
 refused_stays boot drivers (first ∷ steps) before after more is e =

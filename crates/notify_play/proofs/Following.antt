@@ -11,15 +11,15 @@ use Rattle.kernel_model.specs.Exit.{Exited, exit}
 use Rattle.kernel_model.specs.History.{IsLegal, after_event, after_events, kernel_after}
 use Rattle.kernel_model.specs.Kernel.{Kernel, Visit, first_kernel}
 use Rattle.kernel_model.proofs.Parts.{option_map_some}
-use Rattle.kernel_model.proofs.Past.{after_events-append, exits_follow}
+use Rattle.kernel_model.proofs.Past.{after_events-append}
 use Rattle.notif.proofs.Reaching.{signals_reach_drivers}
 use Rattle.notify_text.specs.Steps.{Signals, Step, Takes}
 use Rattle.ns_ram.specs.Writes.{Write}
 use Rattle.play_model.specs.Line.{Ret}
 use Rattle.play_model.specs.Play.{Play, enters, first_play, leaves, leaves_with, with_event, with_line, with_writes}
-use Rattle.play_model.specs.TrueToKernel.{ExitsIn}
 use Rattle.play_model.proofs.Entries.{CameIn, Entered, WasRefused, entered}
 use Rattle.play_model.proofs.Returns.{alone_in, no_call_in, no_slot_in, returns_in}
+use Rattle.play_model.proofs.TrueToKernel.{exits_in, refused_in}
 use Rattle.trace_text.specs.declared.item.Item.{Item}
 use Rattle.trace_text.specs.declared.item.Item.TheVariants as item
 use Rattle.trace_text.specs.declared.item.Reg.{Reg}
@@ -30,12 +30,12 @@ use Rattle.notify_play.specs.NotifyPlay.{first_notify_play, goes_out, goes_out_w
 use Rattle.notify_play.specs.NotifyPlay.{with_play}
 
 -- the play's kernel is the one that its history comes to
-abbrev Follows : Booted → Play → Type 0
+abbrev pub Follows : Booted → Play → Type 0
 Follows boot play = kernel_after boot play.history ≡ Some play.kernel
 
 -- ---- entries and exits
 
-event_follows : (boot : Booted) (event : Event) (before after : Play) → with_event boot event before ≡ Some after
+pub event_follows : (boot : Booted) (event : Event) (before after : Play) → with_event boot event before ≡ Some after
     → Follows boot before → Follows boot after
 event_follows boot event before after e there =
     let came = option_map_some
@@ -129,10 +129,6 @@ steps_kept boot drivers (first ∷ steps) before after e there =
 
 -- ---- the law
 
-exits_in : (boot : Booted) (history : List Event) → IsLegal boot history → ExitsIn boot history
-exits_in boot history legal before behind cpu regs cut =
-    exits_follow boot before behind cpu regs (subst (IsLegal boot) cut legal)
-
 pub steps_are_played : StepsArePlayed
 steps_are_played ram natives drivers boot fills steps told boots e =
     let on = booted boot natives in
@@ -144,6 +140,7 @@ steps_are_played ram natives drivers boot fills steps told boots e =
       exits = exits_in on told.play.history legal;
       returns = returns_in on told.play.history legal;
       no_call = no_call_in on told.play.history legal;
+      change_nothing = refused_in on told.play.history legal;
       no_slot = no_slot_in on told.play.history legal;
       alone = alone_in on told.play.history legal;
       bottom_half = signals_reach_drivers drivers told.calls;

@@ -1,7 +1,7 @@
 -- Plays of written scripts with signals, and what they print; and what exits ask of a desk. RAM is shorter here: none of the
 -- scripts looks behind its first bytes.
-use Rattle.std.specs.Prelude.{◌≡◌, ℕ, List, [], ◌∷◌, ◌++◌, Option, Some, codes, replicate, true}
-use Rattle.std.specs.List.{fold}
+use Rattle.std.specs.Prelude.{◌≡◌, ℕ, List, [], ◌∷◌, ◌++◌, Option, Some, codes, map, replicate, true}
+use Rattle.std.specs.List.{flat_map, fold}
 use Rattle.std.specs.Option.{option_and_then, option_map}
 use Rattle.event_journal.specs.declared.event.Event.{Event}
 use Rattle.event_journal.specs.declared.event.Event.TheVariants.{Entry, Exit}
@@ -10,20 +10,26 @@ use Rattle.kernel_model.specs.Worked.{answer, half, head}
 use Rattle.native_tas.specs.declared.driver_relation.DriverRelation.TheVariants.{Echo, Fixed}
 use Rattle.native_tas.specs.declared.relation.Relation.TheVariants.{Digest}
 use Rattle.notif.specs.Desk.{DeskState}
-use Rattle.notif.specs.History.{BottomHalf, Enable, Next, Signal, Stop}
+use Rattle.notif.specs.History.{BottomHalf, DeskCall, Enable, Next, Signal, Stop}
 use Rattle.notify_text.specs.Rules.{after_line, no_lines, told_in}
-use Rattle.notify_text.specs.Steps.{Signals}
+use Rattle.notify_text.specs.Steps.{Signals, Takes}
 use Rattle.notify_text.specs.declared.notify_trace.NotifyTrace.{NotifyTrace}
 use Rattle.ns_ram.specs.Examples.{read_of}
 use Rattle.play_model.specs.Examples.{lines}
+use Rattle.play_model.specs.Order.{Comes, Leaves}
 use Rattle.play_model.specs.Play.{played_over}
 use Rattle.play_model.specs.Text.{text_of_play}
+use Rattle.smc_abi.specs.declared.regs.Regs.{Regs}
 use Rattle.ta_isa.specs.declared.boot.Boot.{Boot}
 use Rattle.trace_text.specs.Limits.{no_front, trace_in}
 use Rattle.trace_text.specs.Rules as trace
+use Rattle.trace_text.specs.declared.item.Item.TheVariants as item
+use Rattle.trace_text.specs.declared.item.Reg.{Reg}
+use Rattle.trace_text.specs.declared.item.Reg.TheVariants.{Num}
 use Rattle.notify_play.specs.Asked.{asked, signalled}
 use Rattle.notify_play.specs.Duty.{Duty, Enables, Nothing, Offers, RunsBottomHalf, Stops, TellsValue, duty_of, last_entry}
 use Rattle.notify_play.specs.NotifyPlay.{Drivers, NotifyPlay, notify_played_over}
+use Rattle.notify_play.specs.Order.{Lead, Moment, Moves, Signalled, at_first, told_then, turns_of}
 use Rattle.notify_play.specs.Parts.{enabled_twice, enabled_twice_output, more_pending, more_pending_output}
 use Rattle.notify_play.specs.Parts.{nothing_signalled, nothing_signalled_output, one_by_one, one_by_one_output}
 use Rattle.notify_play.specs.Parts.{out_of_frames, out_of_frames_output, resumed, resumed_output}
@@ -122,6 +128,18 @@ came_for id cmd =
 abbrev pub asked_for : ℕ → ℕ → ℕ → Duty
 asked_for id cmd a0 = duty_of (last_entry (came_for id cmd ∷ []) 0) a0
 
+-- registers that name this function
+abbrev pub registers_for : ℕ → List Reg
+registers_for id = map (λ n. Num n) (calls_for id)
+
+-- the kernel's answer to a function that it doesn't know
+abbrev pub unknown_said : Regs
+unknown_said = record { a = answer 0xffffffff }
+
+-- behind the entry of a call for it, where the desk was called so
+abbrev pub inside_for : ℕ → List DeskCall → Moment
+inside_for id calls = record { history = came_for id 0 ∷ []; told = came_for id 0 ∷ []; calls = calls }
+
 pub record Examples : Type 0 where
   -- what exits ask of the desk
   pub asks_for_value : asked_for 0xb2000011 0 0xffffffff ≡ TellsValue
@@ -149,6 +167,22 @@ pub record Examples : Type 0 where
       ≡ 0 ∷ 0x74 ∷ 0x3f ∷ 4 ∷ replicate 4 0
   pub not_available : told_regs (desk_with []) (calls_for 0xb2000009) (7 ∷ 0x54 ∷ 0 ∷ 0 ∷ replicate 4 0) Offers
       ≡ 7 ∷ 0x74 ∷ 0 ∷ 0 ∷ replicate 4 0
+  -- what is told behind a signal: a value where the exit asks for one, and else the kernel's answer
+  pub told_a_value : told_then echo (inside_for 0xb2000011 (Signal 5 ∷ Enable ∷ [])) 0 unknown_said
+      ≡ record { a = 0 ∷ 5 ∷ 1 ∷ 0 ∷ 4 ∷ 5 ∷ 6 ∷ 7 ∷ [] }
+  pub told_as_ever : told_then echo (inside_for 0xb200000f (Signal 5 ∷ Enable ∷ [])) 0 unknown_said ≡ unknown_said
+  -- a step that enters and leaves, and one that signals
+  pub three_turns : flat_map turns_of (Takes (item.Smc 0 9 []) ∷ Signals 5 ∷ [])
+      ≡ Moves (Comes 0 9 []) ∷ Moves (Leaves 0) ∷ Signalled 5 ∷ []
+  -- an entry, a signal and an exit lead from where the desk was enabled to where it was asked for a value
+  pub signalled_between : Lead echo (record at_first { calls = Enable ∷ [] })
+      (Moves (Comes 0 1 (registers_for 0xb2000011)) ∷ Signalled 5 ∷ Moves (Leaves 0) ∷ [])
+      (came_for 0xb2000011 0 ∷ Exit 0 unknown_said ∷ [])
+      (record {
+        history = came_for 0xb2000011 0 ∷ Exit 0 unknown_said ∷ [];
+        told = came_for 0xb2000011 0 ∷ Exit 0 (record { a = 0 ∷ 5 ∷ 1 ∷ 0 ∷ 4 ∷ 5 ∷ 6 ∷ 7 ∷ [] }) ∷ [];
+        calls = Next ∷ Signal 5 ∷ Enable ∷ [];
+      })
   -- a bottom half of a driver that answers 3
   pub result_written : told_writes ((1, Fixed 3) ∷ [])
       (record { enabled = true; pending = []; counts = record { value = 1; count = 2 } ∷ [] })

@@ -11,12 +11,13 @@ use Rattle.notif.specs.History.{DeskCall, owed_calls}
 use Rattle.notify_text.specs.Steps.{Step}
 use Rattle.play_model.specs.Laws.{AloneIn, ReturnsIn, ToldIn}
 use Rattle.play_model.specs.Play.{first_play, leaves}
-use Rattle.play_model.specs.TrueToKernel.{ExitsIn}
+use Rattle.play_model.specs.TrueToKernel.{ExitsIn, RefusedIn}
 use Rattle.ta_isa.specs.declared.boot.Boot.{Boot}
 use Rattle.trace_text.specs.declared.trace.Fill.{Fill}
 use Rattle.notify_play.specs.Asked.{asked, others_among, signalled, signals_among, taken}
 use Rattle.notify_play.specs.Duty.{Nothing}
 use Rattle.notify_play.specs.NotifyPlay.{Drivers, NotifyPlay, after_steps, desk_of, duty_at, first_notify_play, goes_out}
+use Rattle.notify_play.specs.Order.{HoldsSteps}
 
 -- what holds of a play with signals, whatever was signalled
 pub record IsNotifyPlay (boot : Booted) (drivers : Drivers) (told : NotifyPlay) : Type 0 where
@@ -26,9 +27,11 @@ pub record IsNotifyPlay (boot : Booted) (drivers : Drivers) (told : NotifyPlay) 
   -- and keeps the kernel's own answers: each exit in it has the registers that the kernel gives after the events before
   pub exits : ExitsIn boot told.play.history
   -- a return from RPC resumes the call that is suspended in its slot for its client, or is answered ERESUME, which is 3,
-  -- exactly where there is none; ETHREAD_LIMIT, which is 1, comes exactly where a new call finds no slot free
+  -- exactly where there is none, and changes nothing but the history then; ETHREAD_LIMIT, which is 1, comes exactly where a new
+  -- call finds no slot free
   pub returns : ReturnsIn boot told.play.history
   pub no_call : ToldIn boot told.play.history 3 FindsNoCall
+  pub change_nothing : RefusedIn boot told.play.history
   pub no_slot : ToldIn boot told.play.history 1 FindsNoSlot
   -- sessions that share no instance were answered as alone, each that was ever kept among them
   pub alone : AloneIn boot told.play.history
@@ -45,6 +48,16 @@ StepsArePlayed =
     (let on = booted boot natives in
     after_steps on drivers steps (first_notify_play on (first_play ram on fills)) ≡ Some told →
     IsNotifyPlay on drivers told)
+
+-- and holds its steps in their order: its history has the entries and exits that they let happen, with each signal at its place, and its
+-- returns are what was told at its exits
+abbrev pub StepsHoldInOrder : Type 0
+StepsHoldInOrder =
+    (ram : List ℕ) (natives : List Native) (drivers : Drivers) (boot : Boot) (fills : List Fill) (steps : List Step)
+    (told : NotifyPlay) → IsBooted (booted boot natives) →
+    (let on = booted boot natives in
+    after_steps on drivers steps (first_notify_play on (first_play ram on fills)) ≡ Some told →
+    HoldsSteps drivers steps told)
 
 -- of two plays, of which one comes of the other, where these values were signalled between them, the last one first
 pub record CallsBetween (values : List ℕ) (before after : NotifyPlay) : Type 0 where

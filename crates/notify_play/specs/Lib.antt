@@ -3,6 +3,7 @@ pub mod NotifyPlay
 pub mod Told
 pub mod Text
 pub mod Asked
+pub mod Order
 pub mod Laws
 pub mod Parts
 pub mod Examples

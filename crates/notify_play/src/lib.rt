@@ -2,9 +2,12 @@
 //!
 //! The crate is one of definitions, over the play of a trace. `specs/` reads in the order of its modules: `Duty` has what an
 //! exit asks of the desk, `Told` what a processor is then told and what is written, `NotifyPlay` the play, `Text` the bytes
-//! that a trace prints, `Asked` what the desk is asked by steps and by exits, and `Laws` what holds of each play.
+//! that a trace prints, `Asked` what the desk is asked by steps and by exits, `Order` which histories hold what steps let happen and
+//! what is told then, and `Laws` what holds of each play.
 #![tactic(auto)]
 
 mod laws;
 
-pub use laws::{other_exits_stay, steps_are_played, steps_call_desk, worked_examples};
+pub use laws::{
+    other_exits_stay, steps_are_played, steps_call_desk, steps_hold_in_order, worked_examples,
+};

@@ -8,6 +8,7 @@ use Rattle.base.specs.Zeros.{zeros}
 use Rattle.kernel_model.specs.Application.{Booted, IsBooted, Native, booted}
 use Rattle.notify_play.proofs.Asking.{steps_call_desk}
 use Rattle.notify_play.proofs.Following.{steps_are_played}
+use Rattle.notify_play.proofs.Ordered.{steps_hold_in_order}
 use Rattle.notify_play.specs.NotifyPlay.{Drivers, NotifyPlay, after_step, after_steps, notify_played, unless_refused}
 use Rattle.notify_play.specs.Text.{notify_text_by, notify_text_of, notify_text_of_play}
 use Rattle.notify_text.proofs.Meanings.{every_text}
@@ -87,6 +88,7 @@ holds_behind natives drivers boot told steps now boots e =
     record {
       is_play = e;
       holds = steps_are_played (zeros 0x400000) natives drivers boot told.trace.fills steps now boots e;
+      in_order = steps_hold_in_order (zeros 0x400000) natives drivers boot told.trace.fills steps now boots e;
       calls = desk.0;
       all_taken = desk.1;
     }

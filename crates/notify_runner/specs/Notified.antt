@@ -5,6 +5,7 @@ use Rattle.kernel_model.specs.Application.{Booted, Native, booted}
 use Rattle.notify_play.specs.Asked.{signalled, taken}
 use Rattle.notify_play.specs.Laws.{CallsBetween, IsNotifyPlay}
 use Rattle.notify_play.specs.NotifyPlay.{Drivers, NotifyPlay, after_steps, first_notify_play, notify_played}
+use Rattle.notify_play.specs.Order.{HoldsSteps}
 use Rattle.notify_play.specs.Text.{notify_text_of_play}
 use Rattle.notify_text.specs.Grammar.{Spells}
 use Rattle.notify_text.specs.Steps.{Step, steps_of}
@@ -31,10 +32,13 @@ pub record HoldsBehind (on : Booted) (drivers : Drivers) (start : NotifyPlay) (s
   where
     -- it is what they make of the start
     pub is_play : after_steps on drivers steps start ≡ Some now
-    -- its history is legal, with the kernel's own answers, so that what holds of legal histories holds of its sessions; and a
+    -- its history is legal, with the kernel's own answers, so that what holds of legal histories holds of its calls and sessions; and a
     -- bottom half that comes next calls exactly the drivers that were signalled, while the desk was enabled, since the last
     -- bottom half or stop, each with the number of these signals, at most 2^32 - 1
     pub holds : IsNotifyPlay on drivers now
+    -- its history is the entries and exits that the steps let happen, in their order, with each signal at its place: all of them, or
+    -- those before a refused entry. Each printed return is the kernel's exit, or what the desk makes of it; each exit once, in order
+    pub in_order : HoldsSteps drivers steps now
     -- these signals are those of the steps that were taken, and the desk's other calls are what the exits of the history asked
     pub calls : CallsBetween (signalled (taken on drivers steps start)) start now
     -- all steps were taken, unless an entry was refused
