@@ -96,7 +96,11 @@ module _ (boot : Booted) (history : List Event) (session : ℕ) (told : Regs) (r
       let still = kept_sessions_known.stays boot history (Exit 0 told ∷ []) session app legal of_app in
       record {
         of_app = still;
+        earlier = history;
+        went = told;
+        last_exit = refl;
         before = own_replies boot history session;
+        had = refl;
         told = result;
         outputs = outputs_with result params;
         replies = replies_after;

@@ -133,6 +133,77 @@ call_grows boot cancel_after call (suc room) (Resumes returns rpc) at came e =
     stage_grows boot (return_from_rpc rpc) asked _ came
     (λ play on. call_grows boot cancel_after call room (next_stage cancel_after stage (answer_of play)) (standing_after play asked.storage) came on) e
 
+-- ---- its first SMC
+
+-- one whose entry isn't refused adds an event, at least
+smc_adds : (boot : Booted) (regs : Regs) (asked : Standing) (between play : Play)
+    → Entered boot (visit_with regs) (play_of asked) between → unless_refused (leaves boot 0) between ≡ Some play
+    → play.refused ≡ None → (event : Event) × Extends (asked.history ++ event ∷ []) play.history
+smc_adds boot regs asked between play (CameIn reads few came) e going =
+    let event = entry_event (visit_with regs) reads in
+    let made = event_made boot event (play_of asked) between came in
+    let gone : leaves boot 0 between ≡ Some play =
+    sym (ap (λ (o : Option ℕ). option_map_or (λ more. Some between) o (leaves boot 0 between)) made.1) ∙ e in
+    (event, subst (λ (h : List Event). Extends h play.history) made.0 (went_on boot between play gone))
+smc_adds boot regs asked between play (WasRefused reads much same) e going =
+    let stays : Some between ≡ Some play =
+    sym (ap (λ (p : Play). option_map_or (λ more. Some between) p.refused (leaves boot 0 between)) (sym same)) ∙ e in
+    let full = ap (λ (p : Play). p.refused) same ∙ ap (λ (p : Play). p.refused) (some_is between play stays) ∙ going in
+    absurd cc
+
+no_return : (more left : ℕ) (history : List Event) (after : Standing) → Some (Stopped more history) ≡ Some (Returned left after) → ⊥
+no_return more left history after e = cc
+
+-- so a call that returns has a history in which an event, at least, stands behind those before it
+pub call_adds : (boot : Booted) (cancel_after : Option ℕ) (call : Call) (room left : ℕ) (at after : Standing)
+    → call_from boot cancel_after call room (Calls 0) at ≡ Some (Returned left after)
+    → (event : Event) × Extends (at.history ++ event ∷ []) after.history
+call_adds boot cancel_after call zero left at after e = absurd (no_return 0 left at.history after e)
+call_adds boot cancel_after call (suc room) left at after e =
+    let asked = prepared call (Calls 0) at in
+    let regs = call_with_arg argument_at in
+    let onward = λ (play : Play).
+    call_from boot cancel_after call room (next_stage cancel_after (Calls 0) (answer_of play)) (standing_after play asked.storage) in
+    option_and_then_some (unless_full onward) (after_smc boot regs asked) (Returned left after) e
+    (λ (play : Play) there on. by_refusal asked onward play play.refused refl there on
+    (λ (goes : onward play ≡ Some (Returned left after)).
+    call_grows boot cancel_after call room (next_stage cancel_after (Calls 0) (answer_of play)) (standing_after play asked.storage)
+    (Returned left after) goes))
+  where
+    by_refusal : (asked : Standing) (onward : Play → Option Came) (play : Play) (refused : Option ℕ) → play.refused ≡ refused
+        → after_smc boot (call_with_arg argument_at) asked ≡ Some play
+        → option_map_or (λ bytes. Some (Stopped bytes play.history)) refused (onward play) ≡ Some (Returned left after)
+        → (onward play ≡ Some (Returned left after) → Extends play.history after.history)
+        → (event : Event) × Extends (asked.history ++ event ∷ []) after.history
+    by_refusal asked onward play (Some bytes) is there on grows = absurd (no_return bytes left play.history after on)
+    by_refusal asked onward play None is there on grows =
+        option_and_then_some (unless_refused (leaves boot 0)) (enters boot (play_of asked) (visit_with (call_with_arg argument_at))) play
+        there
+        (λ (between : Play) came goes.
+        let added = smc_adds boot (call_with_arg argument_at) asked between play
+        (entered boot (visit_with (call_with_arg argument_at)) (play_of asked) between came) goes is in
+        (added.0, extends_on (asked.history ++ added.0 ∷ []) play.history after.history added.1 (grows on)))
+
+-- where just one stands behind another front, the first is in that front
+never_empty : (front : List Event) (event : Event) (more : List Event) → front ++ event ∷ more ≡ [] → ⊥
+never_empty [] event more e = cc
+never_empty (first ∷ front) event more e = cc
+
+pub before_last : (front : List Event) (event : Event) (more earlier : List Event) (last : Event)
+    → front ++ event ∷ more ≡ earlier ++ last ∷ [] → Extends front earlier
+before_last [] event more earlier last e = record { more = earlier; is = refl }
+before_last (first ∷ front) event more [] last e =
+    let tail : front ++ event ∷ more ≡ [] = cc in
+    absurd (never_empty front event more tail)
+before_last (first ∷ front) event more (other ∷ earlier) last e =
+    let head : other ≡ first = cc in
+    let tail : front ++ event ∷ more ≡ earlier ++ last ∷ [] = cc in
+    let rest = before_last front event more earlier last tail in
+    record {
+      more = rest.more;
+      is = ap (λ (o : Event). o ∷ earlier) head ∙ ap (λ (h : List Event). first ∷ h) rest.is;
+    }
+
 -- ---- calls
 
 calls_by : (client : Client) (call : ScriptCall) (onward : Client → Option ClientPlay) (play : ClientPlay) (came : Came)

@@ -3,6 +3,7 @@ pub mod Entering
 pub mod Following
 pub mod Going
 pub mod Growing
+pub mod RepliesStay
 pub mod Made
 pub mod Messages
 pub mod NewCalls

@@ -1,6 +1,6 @@
 -- One SMC that a core has served is that of a client's call on the core.
 use Rattle.std.proofs.Common.{◌≡◌, ℕ, ◌+◌, ◌≤◌, ◌^◌, Bool, List, [], ◌∷◌, ◌++◌, Option, Some, None, refl, sym, ap, subst, ◌∙◌}
-use Rattle.std.specs.Prelude.{IsSome, ◌==◌, if◌then◌else◌, replicate}
+use Rattle.std.specs.Prelude.{IsSome, if◌then◌else◌}
 use Rattle.std.specs.Option.{option_and_then, option_map}
 use Rattle.std.proofs.lemmas.Bool.{le-ltb}
 use Rattle.event_journal.specs.Journal.{copied_bytes}
@@ -11,8 +11,9 @@ use Rattle.kernel_model.specs.Kernel.{Kernel}
 use Rattle.ns_ram.specs.Reads.{total_bytes}
 use Rattle.ns_ram.specs.Writes.{Write, lane_after}
 use Rattle.play_model.specs.Line.{Ret}
-use Rattle.play_model.specs.Play.{Play, enters, lane_of, last_answer, leaves, told_last, unless_refused, with_event, with_line, with_writes}
+use Rattle.play_model.specs.Play.{Play, enters, lane_of, last_answer, leaves, unless_refused, with_event, with_line, with_writes}
 use Rattle.play_model.proofs.EventsCome.{entries_are_read, exits_come}
+use Rattle.play_model.proofs.LastAnswers.{last_answer-exit}
 use Rattle.smc_abi.specs.declared.regs.Regs.{Regs}
 use Rattle.smc_port.specs.Smc.{Changes, Smc}
 use Rattle.client_play.specs.Served.{IsServed, events_of}
@@ -20,14 +21,8 @@ use Rattle.client_play.specs.Standing.{Standing, after_smc, answer_of, play_of, 
 
 -- ---- the last answer
 
-told_append : (cpu : ℕ) (regs : List ℕ) (events more : List Event)
-    → told_last cpu regs (events ++ more) ≡ told_last cpu (told_last cpu regs events) more
-told_append cpu regs [] more = refl
-told_append cpu regs (Entry came given steps reads ∷ events) more = told_append cpu regs events more
-told_append cpu regs (Exit went told ∷ events) more = told_append cpu (if went == cpu then told.a else regs) events more
-
 pub told_exit : (history : List Event) (told : Regs) → last_answer (history ++ Exit 0 told ∷ []) 0 ≡ told.a
-told_exit history told = told_append 0 (replicate 8 0) history (Exit 0 told ∷ [])
+told_exit history told = last_answer-exit history 0 told 0
 
 -- ---- one SMC
 

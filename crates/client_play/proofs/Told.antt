@@ -3,7 +3,7 @@
 use Rattle.std.proofs.Common.{◌≡◌, ℕ, zero, suc, ◌+◌, ◌≤◌, ◌<◌, false, List, [], ◌∷◌, ◌++◌, length, take, Option, Some, None, refl, ap, subst, sym, ◌∙◌, arith}
 use Rattle.std.specs.Prelude.{All, is_some, slice_get, slice_index_or, slice_set, ◌^◌, ◌==◌}
 use Rattle.std.specs.Option.{option_and_then, option_map_or}
-use Rattle.std.proofs.lemmas.List.{length-append}
+use Rattle.std.proofs.lemmas.List.{append_assoc, length-append}
 use Rattle.std.proofs.lemmas.List.Elements.{All-nil, All-push}
 use Rattle.std.proofs.lemmas.Option.{option_and_then_some}
 use Rattle.base.specs.Zeros.{zeros}
@@ -28,9 +28,10 @@ use Rattle.kernel_model.proofs.SoundNumbers.{numbered}
 use Rattle.msg_args.specs.Layout.{origin_at, ret_at}
 use Rattle.ns_ram.specs.Writes.{lane_after}
 use Rattle.ns_ram.proofs.WriteList.{lane_after-append}
-use Rattle.own_model.specs.Own.{Notes, call_noted, event_in, event_of, no_notes, noted, numbered as with_number, own_app}
+use Rattle.own_model.specs.Own.{Notes, call_noted, event_in, event_of, no_notes, noted, numbered as with_number, own_app, own_replies}
 use Rattle.own_model.specs.Tied.{call_in}
 use Rattle.own_model.specs.declared.own_event.OwnEvent.{OwnEvent}
+use Rattle.own_model.specs.declared.own_reply.OwnReply.{OwnReply}
 use Rattle.own_model.proofs.KeptSessions.{kept_sessions_known, noted-append}
 use Rattle.own_model.proofs.NewEntries.{new_call_noted}
 use Rattle.own_model.proofs.NotedCalls.{noted_is}
@@ -61,10 +62,11 @@ use Rattle.client_play.specs.Printed.{CallLine}
 use Rattle.client_play.specs.Standing.{Came, Fails, Returned, Standing, Stopped, after_smc, answer_of, call_from, most_returns, next_stage, prepared, standing_after, steps_granted, tries, unless_full, visit_with}
 use Rattle.client_play.proofs.Ending.{EndsCall, in_words, result_told, told_alone}
 use Rattle.client_play.proofs.Entering.{HasSession, IsOfClient, IsOurs, close_taken, invoke_taken, open_taken}
-use Rattle.client_play.proofs.Growing.{Extends, call_grows, calls_grow, extends_on, front_of, smc_grows}
+use Rattle.client_play.proofs.Growing.{Extends, before_last, call_adds, call_grows, calls_grow, extends_on, front_of, smc_grows}
 use Rattle.client_play.proofs.NewCalls.{IsSettled, Lasting, OnLane, TakesSlot, lasting}
 use Rattle.client_play.proofs.NoFaults.{Comes, Full, Made, Stands, Took, call_turns, cancel_turns, first_out, in_first, inside, smc_comes, whole_after}
 use Rattle.client_play.proofs.OwnNumbers.{call_numbered, session_given}
+use Rattle.client_play.proofs.RepliesStay.{replies_stay}
 use Rattle.client_play.proofs.ScriptsPlayed.{Holds, IsMade, IsWellDone, asked_stands, call_comes, calls_are_made, cancel_comes, first_stands, resume_comes}
 use Rattle.client_play.proofs.Turns.{Asked, GoesOut, Over, Turned, first_lowest, kept_in}
 
@@ -542,8 +544,28 @@ line_told : (boot : Booted) → IsBooted boot → (n : ℕ) (client : Client) (c
     (whole : List Event) → Stands boot Free n client.standing → call_made boot client call ≡ Some (Returned left after)
     → Extends after.history whole → TellsAlone boot whole (line_of client call after)
 line_told boot boots n client call left after whole stands e rest session app in_call =
-    subst (λ (h : List Event). IsToldAlone boot h session app (result_in after.ram)) (sym (front_of after.history whole rest))
-    (call_told boot boots n client call left after whole stands e rest session app in_call)
+    let line = line_of client call after in
+    let old = client.standing.history in
+    let grown = call_grows boot (cancelled_after call) (call_of client.sessions call) client.room (Calls 0) client.standing
+    (Returned left after) e in
+    let front = front_of old whole (extends_on old after.history whole grown rest) in
+    let HasBegun : List Event → Type 0 = λ h.
+    (told : IsToldAlone boot h session app line.result)
+    × (since : List OwnReply)
+    × (told.before ≡ own_replies boot (take line.from whole) session ++ since) in
+    let told = call_told boot boots n client call left after whole stands e rest session app in_call in
+    let added = call_adds boot (cancelled_after call) (call_of client.sessions call) client.room left client.standing after e in
+    let inside = before_last old added.0 added.1.more told.earlier (Exit 0 told.went)
+    (sym (append_assoc old (added.0 ∷ []) added.1.more) ∙ sym added.1.is ∙ told.last_exit) in
+    let replies = replies_stay boot old inside.more session client.standing.kernel stands.comes in
+    let has : HasBegun after.history = (
+      told,
+      replies.0,
+      sym told.had ∙ ap (λ (h : List Event). own_replies boot h session) inside.is ∙ replies.1
+          ∙ ap (λ (h : List Event). own_replies boot h session ++ replies.0) (sym front),
+    ) in
+    let there = subst HasBegun (sym (front_of after.history whole rest)) has in
+    record { told = there.0; since = there.1; began = there.2 }
 
 -- ---- scripts
 

@@ -5,6 +5,7 @@ use Rattle.client_text.specs.declared.script.Script.{Script}
 use Rattle.client_text.specs.declared.script.ScriptCall.{ScriptCall}
 use Rattle.client_text.specs.declared.script.ScriptCall.TheVariants.{Close, Invoke, Open}
 use Rattle.event_journal.specs.declared.event.Event.{Event}
+use Rattle.event_journal.specs.declared.event.Event.TheVariants.{Exit}
 use Rattle.kernel_model.specs.Application.{Application, Booted, IsBooted, Native, booted}
 use Rattle.kernel_model.specs.History.{kernel_after}
 use Rattle.kernel_model.specs.Instances.{is_single}
@@ -17,6 +18,7 @@ use Rattle.own_model.specs.declared.own_reply.OwnReply.{OwnReply}
 use Rattle.own_model.specs.declared.own_reply.OwnReply.TheVariants as reply
 use Rattle.play_model.specs.Play.{Play}
 use Rattle.play_model.specs.TrueToKernel.{IsTrueToKernel}
+use Rattle.smc_abi.specs.declared.regs.Regs.{Regs}
 use Rattle.ta_isa.specs.declared.boot.Boot.{Boot}
 use Rattle.ta_params.specs.declared.call_result.CallResult.{CallResult}
 use Rattle.ta_params.specs.declared.copied_params.CopiedParams.{CopiedParams}
@@ -94,11 +96,16 @@ IsCallIn boot history line session app (Close name) = (session ≡ line.session)
 abbrev pub in_word : ℕ → ℕ
 in_word number = number % 2 ^ 32
 
--- the session's last reply is that a call has ended with this result, and its own machine replies the same
+-- the session's last reply comes with the last event, an exit of the client's processor: that a call has ended with this result. Its own
+-- machine replies the same
 pub record IsToldAlone (boot : Booted) (history : List Event) (session : ℕ) (app : Application) (result : CallResult) : Type 0
   where
     pub of_app : own_app boot history session ≡ Some app
+    pub earlier : List Event
+    pub went : Regs
+    pub last_exit : history ≡ earlier ++ Exit 0 went ∷ []
     pub before : List OwnReply
+    pub had : own_replies boot earlier session ≡ before
     pub told : CallResult
     pub outputs : CopiedParams
     pub replies : own_replies boot history session ≡ before ++ reply.Ended told.result told.origin outputs ∷ []
@@ -106,14 +113,20 @@ pub record IsToldAlone (boot : Booted) (history : List Event) (session : ℕ) (a
         ≡ Some (own_replies boot history session)
     pub printed : result ≡ record { result = in_word told.result; origin = in_word told.origin }
 
--- so it is behind the last event of the line's call, whichever session the call is one of
+-- so it is behind the last event of the line's call, and the reply is one of this very call
+pub record IsToldInCall (boot : Booted) (history : List Event) (line : CallLine) (session : ℕ) (app : Application) : Type 0 where
+  pub told : IsToldAlone boot (take line.to history) session app line.result
+  -- it is none of those that the session had before the call's first event: they stand before it
+  pub since : List OwnReply
+  pub began : told.before ≡ own_replies boot (take line.from history) session ++ since
+
+-- whichever session the call is one of
 abbrev pub TellsAlone : Booted → List Event → CallLine → Type 0
 TellsAlone boot history line = (session : ℕ) (app : Application) →
-    IsCallIn boot history line session app line.call →
-    IsToldAlone boot (take line.to history) session app line.result
+    IsCallIn boot history line session app line.call → IsToldInCall boot history line session app
 
--- each printed result of a session whose application's sessions share no instance is that of its `Ended` reply, which is its own
--- machine's: others make no difference to it
+-- each printed result of a session whose application's sessions share no instance is that of the `Ended` reply to this call, which is
+-- its own machine's: others make no difference to it
 abbrev pub ResultsAreToldAlone : Type 0
 ResultsAreToldAlone = (natives : List Native) (uuids : List (List ℕ)) (boot : Boot) (script : Script) (play : ClientPlay) →
     IsBooted (booted boot natives) → IsSoundScript uuids script → script.boot ≡ Some boot →

@@ -47,8 +47,8 @@ pub fn scripts_have_plays()
     ensures { ScriptsHavePlays }
 {}
 
-/// Each printed result of a session whose application's sessions share no instance is that of the session's `Ended` reply, which
-/// the session's own machine gives to its events alone.
+/// Each printed result of a session whose application's sessions share no instance is that of the session's `Ended` reply to this
+/// very call, at the call's last exit, which the session's own machine gives to its events alone.
 pub fn results_are_told_alone()
     ensures { ResultsAreToldAlone }
 {}
