@@ -101,7 +101,8 @@ pub fn notify<S: Source, K: Sink>(
         ((Rose (S.faults input.old) (S.faults input.new) → ⊥) × (Rose (K.faults out.old) (K.faults out.new) → ⊥))) }
 
     // ---- The play whose text was written: its history is legal and keeps the kernel's own answers, so that what holds of
-    // legal histories holds of it, whatever is signalled; and at each place a bottom half calls exactly the drivers that were
+    // legal histories holds of it, whatever is signalled; it holds the steps in their order, and each printed return is its exit
+    // at that place, or what the desk makes of it; and at each place a bottom half calls exactly the drivers that were
     // signalled, while the desk was enabled, since the last bottom half or stop, each with the number of these signals, at most
     // 2^32 - 1.
     ensures notifies { IfSome (S.left input.old) (λ bytes.
