@@ -15,14 +15,14 @@ use Rattle.event_journal.specs.Event.{copied_by}
 use Rattle.trace_text.specs.declared.fault.BadKind.TheVariants as bad
 use Rattle.trace_text.specs.Limits.{no_key}
 use Rattle.trace_bin.specs.Grammar.{front_fault}
-use Rattle.trace_bin.specs.Spelling.{app_record, boot_record, HasKey, key_records}
+use Rattle.trace_bin.specs.Spelling.{app_record, boot_record, HasKey, IsIdentified, key_records}
 use Rattle.trace_bin.proofs.Whole.{follow_in_turn, FollowInTurn, loaded, with_apps, zero_key}
 use Rattle.journal_bytes.specs.Record.{end_tag}
 use Rattle.journal_bytes.specs.Recording.{nothing, Told}
 use Rattle.journal_bytes.specs.Rules.{behind_record}
-use Rattle.journal_bytes.specs.Grammar.{Leads, magic, magic_fault}
+use Rattle.journal_bytes.specs.Grammar.{Leads, magic, magic_fault, Spells}
 use Rattle.journal_bytes.specs.Sound.{HasRegs, IsSoundJournal}
-use Rattle.journal_bytes.specs.Spelling.{event_record, key_count, spelling, WrittenIsRead}
+use Rattle.journal_bytes.specs.Spelling.{event_record, key_count, spelling, SpellsBack, whole_with, WrittenIsRead}
 use Rattle.journal_bytes.proofs.Again.{app_told, booted, boot_told, CanBeTold, event_told, IsTold, key_told}
 
 -- a record in front of others
@@ -130,3 +130,11 @@ written_is_read natives boot events behind sound whole ids journal regs =
       used_is = sym (length-append (spelling boot events) behind);
       records_is = omega arith;
     }
+
+-- with nothing behind it
+pub spelled_back : (boot : Boot) (events : List Event) (bytes : List ℕ) → bytes ≡ spelling boot events → HasKey boot → All IsIdentified boot.apps → IsSoundJournal boot.cpus events → All HasRegs events → SpellsBack boot events bytes
+spelled_back boot events bytes is key ids journal regs = record {
+  spelled = λ natives sound.
+      subst (λ (b : List ℕ). Spells natives b (whole_with boot events)) (append-nil (spelling boot events) ∙ sym is)
+      (written_is_read natives boot events [] sound key ids journal regs);
+}

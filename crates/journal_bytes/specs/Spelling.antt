@@ -12,7 +12,7 @@ use Rattle.trace_text.specs.Limits.{no_key}
 use Rattle.trace_text.specs.Sound.{IsSoundBoot}
 use Rattle.trace_bin.specs.Spelling.{app_record, boot_record, counted, HasKey, IsIdentified, key_records}
 use Rattle.journal_bytes.specs.Record.{end_tag}
-use Rattle.journal_bytes.specs.Grammar.{magic, Spells}
+use Rattle.journal_bytes.specs.Grammar.{magic, Spells, Whole}
 use Rattle.journal_bytes.specs.Sound.{HasRegs, IsSoundJournal}
 
 abbrev pub regs_bytes : Regs → List ℕ
@@ -33,14 +33,22 @@ spelling boot events = magic ++ boot_record boot ++ flat_map app_record boot.app
 abbrev pub key_count : List ℕ → ℕ
 key_count key = if bytes_eq key no_key then 0 else 1
 
+-- the journal of a boot and its events, as what is written of them spells it
+abbrev pub whole_with : Boot → List Event → Whole
+whole_with boot events = record {
+  boot = boot;
+  events = events;
+  used = length (spelling boot events);
+  records = length boot.apps + key_count boot.key + length events + 2;
+}
+
 -- what is written of a boot and events within their limits is read as them, whatever stands behind it, beside built-in
 -- applications that have none of the boot's UUIDs
 abbrev pub WrittenIsRead : Type 0
 WrittenIsRead =
     (natives : List (List ℕ)) (boot : Boot) (events : List Event) (behind : List ℕ) → IsSoundBoot natives boot → HasKey boot → All IsIdentified boot.apps → IsSoundJournal boot.cpus events → All HasRegs events
-    → Spells natives (spelling boot events ++ behind) (record {
-      boot = boot;
-      events = events;
-      used = length (spelling boot events);
-      records = length boot.apps + key_count boot.key + length events + 2;
-    })
+    → Spells natives (spelling boot events ++ behind) (whole_with boot events)
+
+-- the bytes spell the boot and its events, beside built-in applications that have none of the boot's UUIDs
+pub record SpellsBack (boot : Boot) (events : List Event) (bytes : List ℕ) : Type 0 where
+  pub spelled : (natives : List (List ℕ)) → IsSoundBoot natives boot → Spells natives bytes (whole_with boot events)

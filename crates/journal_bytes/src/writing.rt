@@ -6,14 +6,16 @@ ghost use Rattle.byteorder.specs.Endian.{little_bytes};
 ghost use Rattle.event_journal.specs.Event.{copied_by};
 ghost use Rattle.event_journal.specs.Journal.{copied_bytes};
 ghost use Rattle.ta_isa.specs.Boots.{IsBoot};
-ghost use Rattle.journal_bytes.specs.Sound.{AreSoundReads, IsSoundJournal, IsSoundRead};
-ghost use Rattle.journal_bytes.specs.Spelling.{event_record, read_bytes, spelling};
+ghost use Rattle.trace_bin.specs.Spelling.{IsIdentified};
+ghost use Rattle.journal_bytes.specs.Sound.{AreRegs, AreSoundReads, HasRegs, IsSoundJournal, IsSoundRead};
+ghost use Rattle.journal_bytes.specs.Spelling.{SpellsBack, event_record, read_bytes, regs_bytes, spelling};
 
 use base::NoMemory;
-use event_journal::{Event, Journal, Read};
+use event_journal::{Event, Journal, Read, Regs};
 use std::alloc::Global;
-use ta_isa::Boot;
+use ta_isa::{App, Boot};
 use trace_bin::records::{put_apps, put_boot, put_counted, put_key, put_long, put_word};
+use trace_text::limits::KEY_BYTES;
 
 /// The first four bytes of a journal, `OTTJ`.
 pub const MAGIC: [u8; 4] = *b"OTTJ";
@@ -22,12 +24,21 @@ pub const MAGIC: [u8; 4] = *b"OTTJ";
 pub const END: u8 = 0x7f;
 
 fn put_words(out: &mut Vec<u8>, words: &[u32]) -> Result<(), NoMemory>
-    ensures { OnOk result (out.new.items ≡ out.old.items ++ flat_map (little_bytes 4) words.now) }
+    ensures put { OnOk result (out.new.items ≡ out.old.items ++ flat_map (little_bytes 4) words.now) }
+    ensures fit { OnOk result (All (λ word. word < 2 ^ 32) words.now) }
 {
     for word in words {
         put_word(out, *word)?;
     }
     Ok(())
+}
+
+/// The registers, eight of 32 bits.
+fn put_regs(out: &mut Vec<u8>, regs: &Regs) -> Result<(), NoMemory>
+    ensures put { OnOk result (out.new.items ≡ out.old.items ++ regs_bytes regs.now) }
+    ensures regs { OnOk result (AreRegs regs.now) }
+{
+    put_words(out, &regs.a)
 }
 
 #[tactic(auto, unfolding(crate::specs::Spelling::read_bytes))]
@@ -54,7 +65,8 @@ fn put_reads(out: &mut Vec<u8>, reads: &[Read]) -> Result<(), NoMemory>
 fn put_event(out: &mut Vec<u8>, event: &Event) -> Result<(), NoMemory>
     requires each { AreSoundReads event.now }
     requires few { copied_by event.now ≤ 2 ^ 28 }
-    ensures { OnOk result (out.new.items ≡ out.old.items ++ event_record event.now) }
+    ensures put { OnOk result (out.new.items ≡ out.old.items ++ event_record event.now) }
+    ensures regs { OnOk result (HasRegs event.now) }
 {
     match event {
         Event::Entry {
@@ -64,14 +76,14 @@ fn put_event(out: &mut Vec<u8>, event: &Event) -> Result<(), NoMemory>
             reads,
         } => {
             out.extend_from_slice(&[0x20, *cpu])?;
-            put_words(out, &regs.a)?;
+            put_regs(out, regs)?;
             put_word(out, *steps)?;
             put_word(out, reads.len() as u32)?;
             put_reads(out, reads.as_slice())
         }
         Event::Exit { cpu, regs } => {
             out.extend_from_slice(&[0x21, *cpu])?;
-            put_words(out, &regs.a)
+            put_regs(out, regs)
         }
     }
 }
@@ -80,12 +92,32 @@ fn put_event(out: &mut Vec<u8>, event: &Event) -> Result<(), NoMemory>
 fn put_events(out: &mut Vec<u8>, events: &[Event]) -> Result<(), NoMemory>
     requires each { All AreSoundReads events.now }
     requires few { copied_bytes events.now ≤ 2 ^ 28 }
-    ensures { OnOk result (out.new.items ≡ out.old.items ++ flat_map event_record events.now) }
+    ensures put { OnOk result (out.new.items ≡ out.old.items ++ flat_map event_record events.now) }
+    ensures regs { OnOk result (All HasRegs events.now) }
 {
     for event in events {
         put_event(out, event)?;
     }
     Ok(())
+}
+
+/// What the type of a UUID says.
+fn has_sixteen_bytes(uuid: &[u8; 16])
+    ensures { length uuid.now ≡ 16 }
+{}
+
+/// What the type of a key says.
+fn has_key(key: &[u8; KEY_BYTES])
+    ensures { length key.now ≡ 32 }
+{}
+
+/// The UUID of each application has its sixteen bytes. This walk tells only that, and writes nothing.
+fn are_identified(apps: &[App])
+    ensures { All IsIdentified apps.now }
+{
+    for app in apps {
+        has_sixteen_bytes(app.uuid.as_bytes());
+    }
 }
 
 /// What is written of a boot and its events: the boot, its applications, its key where that isn't of zeros, and the events, each
@@ -96,13 +128,18 @@ fn put_events(out: &mut Vec<u8>, events: &[Event]) -> Result<(), NoMemory>
 pub fn write_journal(alloc: Global, boot: &Boot, journal: &Journal) -> Result<Vec<u8>, NoMemory>
     requires boot { IsBoot boot.now }
     requires journal { IsSoundJournal boot.now.cpus journal.now.events }
-    ensures { IfOk result (λ bytes. bytes.items ≡ spelling boot.now journal.now.events) }
+    ensures bytes { IfOk result (λ bytes. bytes.items ≡ spelling boot.now journal.now.events) }
+    // They spell the boot and the events: its key, the UUIDs and their registers have the sizes that are read.
+    ensures spelled { IfOk result (λ bytes. SpellsBack boot.now journal.now.events bytes.items) }
 {
     let events = journal.as_slice();
+    let apps = boot.apps.as_slice();
+    are_identified(apps);
+    has_key(&boot.key);
     let mut out = Vec::new(alloc);
     out.extend_from_slice(&MAGIC)?;
     put_boot(&mut out, boot)?;
-    put_apps(alloc, &mut out, boot.apps.as_slice())?;
+    put_apps(alloc, &mut out, apps)?;
     put_key(&mut out, &boot.key)?;
     put_events(&mut out, events)?;
     out.push(END)?;

@@ -34,6 +34,6 @@ returns g c =
     let has_boot = ap Some (sym c.in_ok-header.ensures.cases) in
     record {
       bytes = journal_is natives trace c.play_items.new.player c.in_ok-status.status end c.in_ok-header.header has_boot _ c.journal.ensures
-          c.in_ok-bytes.bytes.items c.in_ok-bytes.ensures;
+          c.in_ok-bytes.bytes.items c.in_ok-bytes.ensures.bytes;
       status = status_is natives trace c.play_items.new.player c.in_ok-status.status end c.in_ok-header.header has_boot _ c.journal.ensures;
     }
