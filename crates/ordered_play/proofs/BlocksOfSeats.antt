@@ -39,7 +39,7 @@ all_pass test (seat ∷ seats) each =
     ap (λ (b : Bool). b && list_all test seats) (each 0 seat refl)
     ∙ all_pass test seats (λ k other there. each (suc k) other there)
 
-one_passes : (test : Seat → Bool) (seats : List Seat) (k : ℕ) (seat : Seat) → slice_get seats k ≡ Some seat
+pub one_passes : (test : Seat → Bool) (seats : List Seat) (k : ℕ) (seat : Seat) → slice_get seats k ≡ Some seat
     → test seat ≡ true → list_any test seats ≡ true
 one_passes test [] k seat there passes = absurd cc
 one_passes test (first ∷ seats) zero seat there passes =

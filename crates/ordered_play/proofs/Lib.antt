@@ -13,3 +13,8 @@ pub mod Growing
 pub mod PartsOfPlay
 pub mod BlocksOfSeats
 pub mod BlocksMerged
+pub mod Places
+pub mod PlacesOfPlays
+pub mod OrderOfPlay
+pub mod RowsOfBlocks
+pub mod NamedOrder

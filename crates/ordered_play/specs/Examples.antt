@@ -18,6 +18,7 @@ use Rattle.ordered_play.specs.Merge.{order_with}
 use Rattle.ordered_play.specs.Ordered.{OrderedPlay, after_turn, after_turns, first_ordered, played_in_over, refused_seat}
 use Rattle.ordered_play.specs.Ordered.{with_seat}
 use Rattle.ordered_play.specs.Part.{IsPart, Share, Standing}
+use Rattle.ordered_play.specs.Places.{places_of, printed_places, smcs_of}
 use Rattle.ordered_play.specs.Seat.{Seat, Shown, Told}
 
 -- ---- scripts
@@ -178,6 +179,10 @@ pub record Examples : Type 0 where
   pub part : IsHalfPart asks_and_shows half_standing
   -- one that has another entry next has none
   pub no_part : (standing : Standing) → IsHalfPart (smc 1 2 uid ∷ []) standing → ⊥
+  -- the places of its events, of which the last isn't printed yet, and the SMCs of both processors
+  pub places : places_of 1 half_way.history ≡ 1 ∷ 2 ∷ 4 ∷ []
+  pub printed : printed_places half_standing.seat.lines ≡ 1 ∷ 2 ∷ []
+  pub smcs : smcs_of half_way.history ≡ 3
   -- refused entries in the order of a history: before the event at their place, behind all events, and two at one place
   pub refused_before : order_with (at_places (Some 1) None) 2 0 (asks_in 1 ∷ told_out 1 ∷ []) ≡ 1 ∷ 0 ∷ 1 ∷ []
   pub refused_behind : order_with (at_places (Some 2) None) 2 0 (asks_in 1 ∷ told_out 1 ∷ []) ≡ 1 ∷ 1 ∷ 0 ∷ []

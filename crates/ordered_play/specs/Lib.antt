@@ -5,4 +5,5 @@ pub mod Blocks
 pub mod Part
 pub mod Merge
 pub mod Laws
+pub mod Places
 pub mod Examples

@@ -1,5 +1,6 @@
 //! What holds of the definitions themselves.
 ghost use Rattle.ordered_play.specs.Examples.{Examples};
+ghost use Rattle.ordered_play.specs.Places.{BlocksNameTheOrder, PartsPrintTheirPlaces, PlacesAreEachOnce};
 ghost use Rattle.ordered_play.specs.Laws.{BlocksAreOfSeats, BlocksMerge, PartsAreUnique, PartsGrow, PartsMerge, PartsStay, PlaysHaveParts, RefusalsMerge};
 
 /// A processor has at most one part of a history: over the same RAM the same items end in the same standing.
@@ -47,6 +48,24 @@ pub fn blocks_are_of_seats()
 /// entry, the blocks of the trace in that history's order are theirs, one behind the other.
 pub fn blocks_merge()
     ensures { BlocksMerge }
+{}
+
+/// A processor's part of a legal history prints the places of its events there, in their order; where it has come in last and hasn't
+/// gone out, all but that of this entry.
+pub fn parts_print_their_places()
+    ensures { PartsPrintTheirPlaces }
+{}
+
+/// A play that has ended, of a trace whose processors come in and go out by turns, has printed the places 0 to 2m - 1 for the m SMCs
+/// that have come in, each once, by the processor whose event stands there.
+pub fn places_are_each_once()
+    ensures { PlacesAreEachOnce }
+{}
+
+/// Of a trace whose processors come in and go out by turns, an order in which no entry is refused has blocks that no other order has,
+/// where these are fewer than 2^64 bytes.
+pub fn blocks_name_the_order()
+    ensures { BlocksNameTheOrder }
 {}
 
 /// Plays of two processors in several orders, with what they print, and parts of their histories.
