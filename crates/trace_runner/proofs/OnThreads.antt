@@ -1,5 +1,5 @@
 -- From the play of a trace on threads to what the top call says.
-use Rattle.std.proofs.Common.{◌≡◌, ℕ, ◌^◌, ◌≤◌, ◌⊎◌, inl, inr, Bool, true, false, List, [], ◌++◌, length, Option, Some, None, refl, sym, ap, subst, ◌∙◌, arith}
+use Rattle.std.proofs.Common.{◌≡◌, ℕ, ◌^◌, ◌≤◌, ◌⊎◌, inl, inr, Bool, true, false, List, [], ◌∷◌, ◌++◌, length, Option, Some, None, refl, sym, ap, subst, ◌∙◌, arith}
 use Rattle.std.specs.Prelude.{◌↔◌, IfNone, IfSome, IsTrue, replicate}
 use Rattle.std.proofs.lemmas.List.{append-nil, length-replicate}
 use Rattle.base.specs.Zeros.{zeros}
@@ -8,12 +8,17 @@ use Rattle.kernel_model.specs.Application.{Booted, IsBooted, Native, booted}
 use Rattle.ordered_play.specs.Blocks.{blocks_in}
 use Rattle.ordered_play.specs.Merge.{order_with}
 use Rattle.ordered_play.specs.Ordered.{OrderedPlay, played_in}
+use Rattle.ordered_play.specs.Act.{Act, Comes, Leaves, Writes, Shows, acts_for}
+use Rattle.ordered_play.specs.Places.{ComeAndGo, ComesAndGoes}
+use Rattle.ordered_play.proofs.NamedOrder.{blocks_name_the_order, has_blocks}
 use Rattle.ordered_play.proofs.PartsOfPlay.{plays_have_parts}
+use Rattle.ordered_play.proofs.PlacesOfPlays.{places_are_each_once}
 use Rattle.play_model.specs.Play.{filled}
 use Rattle.play_model.proofs.Returns.{alone_in, no_call_in, no_slot_in, returns_in}
 use Rattle.ports.specs.Port.{Appends, Moves, Rose}
 use Rattle.ta_isa.specs.declared.boot.Boot.{Boot}
-use Rattle.threads_play.specs.Played.{IsOfTrace, WasPlayed}
+use Rattle.threads_play.specs.InTurn.{AreInTurn}
+use Rattle.threads_play.specs.Played.{IsOfTrace, TakeTurns, WasPlayed}
 use Rattle.trace_text.specs.Sound.{IsSound}
 use Rattle.trace_text.specs.declared.item.Item.{Item}
 use Rattle.trace_text.specs.declared.trace.Fill.{Fill}
@@ -39,12 +44,29 @@ use Rattle.word_parts.proofs.Answering.{is-short, writes-named, writes-part}
 
 -- ---- a play
 
-true-in-order : (natives : List Native) (boot : Boot) (trace : Trace) (order : List ℕ) (play : OrderedPlay)
-    → IsBooted (booted boot natives) → played_in natives boot trace order ≡ Some play
+-- what a processor does by turns
+comes-and-goes : (inside : Bool) (acts : List Act) → AreInTurn inside acts → ComesAndGoes inside acts
+comes-and-goes inside [] turns = turns
+comes-and-goes inside (Comes steps regs ∷ acts) turns = (turns.0, comes-and-goes true acts turns.2)
+comes-and-goes inside (Leaves ∷ acts) turns = (turns.0, comes-and-goes false acts turns.1)
+comes-and-goes inside (Writes addr bytes ∷ acts) turns = comes-and-goes inside acts turns.1
+comes-and-goes inside (Shows addr len ∷ acts) turns = comes-and-goes inside acts turns.1
+
+come-and-go : (natives : List Native) (boot : Boot) (items : List Item) → IsBooted (booted boot natives) → TakeTurns items
+    → ComeAndGo boot.cpus items
+come-and-go natives boot items boots turns = λ cpu below.
+    let few = boots.is_boot.few_processors in
+    let same : boot.cpus ≡ boots.boot.cpus = ap (λ (b : Booted). b.cpus) boots.same in
+    comes-and-goes false (acts_for cpu items) (turns cpu (omega (arith, below, few, same)))
+
+true-in-order : (natives : List Native) (boot : Boot) (trace : Trace) (order text : List ℕ) (play : OrderedPlay)
+    → IsBooted (booted boot natives) → trace.boot ≡ Some boot → TakeTurns trace.items
+    → played_in natives boot trace order ≡ Some play → blocks_in natives trace order ≡ Some text
     → IsTrueInOrder natives boot trace order play
-true-in-order natives boot trace order play boots is =
+true-in-order natives boot trace order text play boots has turns is blocks =
     let on = booted boot natives in
     let of = plays_have_parts on (zeros 0x400000) trace order play boots is in
+    let by_turns = come-and-go natives boot trace.items boots turns in
     record {
       is_play = is;
       of_parts = of;
@@ -54,22 +76,29 @@ true-in-order natives boot trace order play boots is =
       change_nothing = refused_in on play.history of.legal;
       thread_limit = no_slot_in on play.history of.legal;
       alone = alone_in on play.history of.legal;
+      places = places_are_each_once on (zeros 0x400000) trace play of by_turns
+          (has_blocks natives boot trace order text play has is blocks).ended;
+      named = λ none other same few own others.
+          blocks_name_the_order natives boot trace order other same play boots has by_turns is none few own others;
     }
 
 -- what the threads have played is true to the written kernel
 pub played-in-order : (natives : List Native) (boot : Boot) (trace : Trace) (history : List Event) (text : List ℕ)
-    (refused : Bool) → IsBooted (booted boot natives) → WasPlayed natives boot trace history text refused
-    → IsPlayedInOrder natives boot trace text refused
-played-in-order natives boot trace history text refused boots was = record {
-  play = was.play;
-  places = was.places;
-  is_true = true-in-order natives boot trace (order_with was.places boot.cpus 0 was.play.history) was.play boots
-      (subst (λ (h : List Event). played_in natives boot trace (order_with was.places boot.cpus 0 h) ≡ Some was.play)
-      (sym was.is_history) was.is_play);
-  blocks = subst (λ (h : List Event). blocks_in natives trace (order_with was.places boot.cpus 0 h) ≡ Some text)
-      (sym was.is_history) was.blocks;
-  one_refused = was.one_refused;
-}
+    (refused : Bool) → IsBooted (booted boot natives) → trace.boot ≡ Some boot → TakeTurns trace.items
+    → WasPlayed natives boot trace history text refused → IsPlayedInOrder natives boot trace text refused
+played-in-order natives boot trace history text refused boots has turns was =
+    let blocks = subst (λ (h : List Event). blocks_in natives trace (order_with was.places boot.cpus 0 h) ≡ Some text)
+    (sym was.is_history) was.blocks in
+    record {
+      play = was.play;
+      places = was.places;
+      is_true = true-in-order natives boot trace (order_with was.places boot.cpus 0 was.play.history) text was.play boots has
+          turns
+          (subst (λ (h : List Event). played_in natives boot trace (order_with was.places boot.cpus 0 h) ≡ Some was.play)
+          (sym was.is_history) was.is_play) blocks;
+      blocks = blocks;
+      one_refused = was.one_refused;
+    }
 
 -- ---- what the threads are given
 

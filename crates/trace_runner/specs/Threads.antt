@@ -1,12 +1,13 @@
 -- The word `threads`: each processor of a trace plays its items in a thread of its own. What is written then, and when each
 -- status comes.
-use Rattle.std.specs.Prelude.{◌≡◌, ℕ, ◌^◌, ◌≤◌, ◌⊎◌, Bool, true, false, List, [], length, Option, Some, None}
+use Rattle.std.specs.Prelude.{◌≡◌, ℕ, ◌^◌, ◌<◌, ◌≤◌, ◌⊎◌, Bool, true, false, List, [], length, Option, Some, None}
 use Rattle.base.specs.Zeros.{zeros}
 use Rattle.kernel_model.specs.Application.{Native, booted}
 use Rattle.kernel_model.specs.Laws.{FindsNoCall, FindsNoSlot}
 use Rattle.ordered_play.specs.Blocks.{blocks_in, has_refused}
 use Rattle.ordered_play.specs.Merge.{IsOfParts, order_with}
 use Rattle.ordered_play.specs.Ordered.{OrderedPlay, played_in}
+use Rattle.ordered_play.specs.Places.{PlacesCountUp}
 use Rattle.play_model.specs.Laws.{AloneIn, ReturnsIn, ToldIn}
 use Rattle.play_model.specs.TrueToKernel.{ExitsIn, RefusedIn}
 use Rattle.ports.specs.Port.{Appends}
@@ -53,6 +54,11 @@ pub record IsTrueInOrder (natives : List Native) (boot : Boot) (trace : Trace) (
     -- a session of an application whose sessions share no instance was answered as its own machine answers to its own
     -- events alone; that is said of each such session that was kept at any place of the history
     pub alone : AloneIn (booted boot natives) play.history
+    -- for the m SMCs of its history the places 0 to 2m - 1 are printed, each once, by the processor whose entry or exit stands there
+    pub places : PlacesCountUp (booted boot natives) play
+    -- and so they name this order: where it refuses no entry, its blocks, of fewer than 2^64 bytes, are those of no other order
+    pub named : has_refused play ≡ false → (other text : List ℕ) → length text < 2 ^ 64 →
+        blocks_in natives trace order ≡ Some text → blocks_in natives trace other ≡ Some text → order ≡ other
 
 -- the text is the blocks of a trace that has this boot, in the order in which the entries and exits of its play came, refused
 -- entries among them; this says whether there was a refused one

@@ -1,4 +1,5 @@
 -- The items, the lanes and the core are those of the trace, and what the threads have played of it is true to the kernel.
+use Rattle.std.proofs.Common.{refl}
 use Rattle.base.specs.Zeros.{zeros}
 use Rattle.kernel_state.specs.Meaning.{booted_of, events_of}
 use Rattle.native_tas.specs.Table.{entries}
@@ -23,7 +24,8 @@ returns g c =
     let boot = c.args.boot in
     let trace = trace_of boot c.args.fills.now c.args.items.now in
     played-in-order natives boot trace (events_of c.in_ok-play.play.core) c.in_ok-play.play.text.items c.in_ok-play.play.refused
-    c.in_ok-core.ensures.boots
+    c.in_ok-core.ensures.boots refl
+    (λ cpu below. c.sound_traces_are_in_turn.ensures (uuids_of natives) trace cpu below c.requires)
     (c.in_ok-play.ensures.played natives boot trace
     (of-trace natives boot c.args.fills.now c.args.items.now (booted_of c.in_ok-core.core) c.in_ok-lanes.lanes.items
     c.in_ok-core.ensures.booted c.in_ok-lanes.ensures))
