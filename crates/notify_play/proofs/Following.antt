@@ -1,12 +1,14 @@
 -- Plays of steps: what the desk changes leaves the kernel and its history alone.
-use Rattle.std.proofs.Common.{◌≡◌, ℕ, List, [], ◌∷◌, ◌++◌, Option, Some, None, refl, ap, subst, sym, ◌∙◌}
-use Rattle.std.specs.Prelude.{IsSome}
+use Rattle.std.proofs.Common.{◌≡◌, ℕ, Bool, true, false, List, [], ◌∷◌, ◌++◌, Option, Some, None, refl, ap, subst, sym, ◌∙◌}
+use Rattle.std.specs.Prelude.{IsSome, ◌==◌, if◌then◌else◌}
 use Rattle.std.specs.Option.{option_and_then, option_map, option_map_or}
+use Rattle.std.proofs.lemmas.Bool.Decides.{Decides-eqb}
 use Rattle.std.proofs.lemmas.List.{append-nil}
 use Rattle.std.proofs.lemmas.Option.{option_and_then_some}
 use Rattle.event_journal.specs.declared.event.Event.{Event}
 use Rattle.event_journal.specs.declared.event.Event.TheVariants.{Entry, Exit}
 use Rattle.kernel_model.specs.Application.{Booted, booted}
+use Rattle.kernel_model.specs.Argument.{reg}
 use Rattle.kernel_model.specs.Exit.{Exited, exit}
 use Rattle.kernel_model.specs.History.{IsLegal, after_event, after_events, kernel_after}
 use Rattle.kernel_model.specs.Kernel.{Kernel, Visit, first_kernel}
@@ -20,11 +22,14 @@ use Rattle.play_model.specs.Play.{Play, enters, first_play, leaves, leaves_with,
 use Rattle.play_model.proofs.Entries.{CameIn, Entered, WasRefused, entered}
 use Rattle.play_model.proofs.Returns.{alone_in, no_call_in, no_slot_in, returns_in}
 use Rattle.play_model.proofs.TrueToKernel.{exits_in, refused_in}
+use Rattle.smc_abi.specs.Call.{call_of}
+use Rattle.smc_abi.specs.declared.call.Call.{Call}
+use Rattle.smc_abi.specs.declared.call.Call.TheVariants.{Resume, Unknown}
 use Rattle.trace_text.specs.declared.item.Item.{Item}
 use Rattle.trace_text.specs.declared.item.Item.TheVariants as item
 use Rattle.trace_text.specs.declared.item.Reg.{Reg}
-use Rattle.notify_play.specs.Duty.{Duty, Nothing}
-use Rattle.notify_play.specs.Laws.{OtherExitsStay, StepsArePlayed}
+use Rattle.notify_play.specs.Duty.{Duty, Enables, Nothing, TellsValue, duty_of_call}
+use Rattle.notify_play.specs.Laws.{OtherExitsStay, ResumesAskNothing, StepsArePlayed}
 use Rattle.notify_play.specs.NotifyPlay.{Drivers, NotifyPlay, after_item, after_step, after_steps, comes_in, duty_at}
 use Rattle.notify_play.specs.NotifyPlay.{first_notify_play, goes_out, goes_out_with, tells, unless_refused, visit_with}
 use Rattle.notify_play.specs.NotifyPlay.{with_play}
@@ -173,6 +178,28 @@ module _ (boot : Booted) (drivers : Drivers) (before : NotifyPlay) (cpu : ℕ) (
       ∙ ap (λ (duty : Duty). come_to duty gone) nothing
       ∙ as_ever gone
       ∙ sym (ap (λ (o : Option Exited). option_and_then (leaves_with boot before.play cpu) o) there)
+
+-- a function id that stands for another call isn't that of a return from RPC
+not_resumes : (id other : ℕ) → call_of id ≡ Resume → call_of other ≡ Unknown → (id == other) ≡ true → ⊥
+not_resumes id other resumes unknown same =
+    let both : Unknown ≡ Resume =
+    sym unknown ∙ subst (λ (n : ℕ). call_of n ≡ Resume) ((Decides-eqb id other).0 same) resumes in
+    absurd cc
+
+pub resumes_ask_nothing : ResumesAskNothing
+resumes_ask_nothing came a0 resumes = by_first (reg came.regs 0 == 0xb2000010) refl
+  where
+    by_second : (test : Bool) → (reg came.regs 0 == 0xb2000011) ≡ test
+        → (if test then TellsValue else duty_of_call (call_of (reg came.regs 0)) came.reads a0) ≡ Nothing
+    by_second true is = absurd (not_resumes (reg came.regs 0) 0xb2000011 resumes refl is)
+    by_second false is = ap (λ (call : Call). duty_of_call call came.reads a0) resumes
+
+    by_first : (test : Bool) → (reg came.regs 0 == 0xb2000010) ≡ test
+        → (if test then Enables
+        else (if reg came.regs 0 == 0xb2000011 then TellsValue
+        else duty_of_call (call_of (reg came.regs 0)) came.reads a0)) ≡ Nothing
+    by_first true is = absurd (not_resumes (reg came.regs 0) 0xb2000010 resumes refl is)
+    by_first false is = by_second (reg came.regs 0 == 0xb2000011) refl
 
 pub other_exits_stay : OtherExitsStay
 other_exits_stay boot drivers before cpu exited there nothing =

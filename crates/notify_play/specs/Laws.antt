@@ -3,6 +3,7 @@ use Rattle.std.specs.Prelude.{◌≡◌, ℕ, List, ◌++◌, None, Some}
 use Rattle.std.specs.Option.{option_map}
 use Rattle.event_journal.specs.declared.event.Event.{Event}
 use Rattle.kernel_model.specs.Application.{Booted, IsBooted, Native, booted}
+use Rattle.kernel_model.specs.Argument.{reg}
 use Rattle.kernel_model.specs.Exit.{Exited, exit}
 use Rattle.kernel_model.specs.History.{IsLegal, kernel_after}
 use Rattle.kernel_model.specs.Laws.{FindsNoCall, FindsNoSlot}
@@ -12,10 +13,12 @@ use Rattle.notify_text.specs.Steps.{Step}
 use Rattle.play_model.specs.Laws.{AloneIn, ReturnsIn, ToldIn}
 use Rattle.play_model.specs.Play.{first_play, leaves}
 use Rattle.play_model.specs.TrueToKernel.{ExitsIn, RefusedIn}
+use Rattle.smc_abi.specs.Call.{call_of}
+use Rattle.smc_abi.specs.declared.call.Call.TheVariants.{Resume}
 use Rattle.ta_isa.specs.declared.boot.Boot.{Boot}
 use Rattle.trace_text.specs.declared.trace.Fill.{Fill}
 use Rattle.notify_play.specs.Asked.{asked, others_among, signalled, signals_among, taken}
-use Rattle.notify_play.specs.Duty.{Nothing}
+use Rattle.notify_play.specs.Duty.{CameIn, Nothing, duty_of}
 use Rattle.notify_play.specs.NotifyPlay.{Drivers, NotifyPlay, after_steps, desk_of, duty_at, first_notify_play, goes_out}
 use Rattle.notify_play.specs.Order.{HoldsSteps}
 
@@ -77,6 +80,10 @@ StepsCallDesk = (boot : Booted) (drivers : Drivers) (steps : List Step) (before 
     after_steps boot drivers steps before ≡ Some after →
     CallsBetween (signalled (taken boot drivers steps before)) before after
     × (after.play.refused ≡ None → taken boot drivers steps before ≡ steps)
+
+-- the exit of a return from RPC asks nothing of the desk
+abbrev pub ResumesAskNothing : Type 0
+ResumesAskNothing = (came : CameIn) (a0 : ℕ) → call_of (reg came.regs 0) ≡ Resume → duty_of came a0 ≡ Nothing
 
 -- an exit that asks nothing of the desk comes to the kernel, the RAM and the lines to which it comes without signals
 abbrev pub OtherExitsStay : Type 0

@@ -1,11 +1,13 @@
 //! What holds of the definitions themselves.
 ghost use Rattle.notify_play.specs.Examples.{Examples};
-ghost use Rattle.notify_play.specs.Laws.{OtherExitsStay, StepsArePlayed, StepsCallDesk, StepsHoldInOrder};
+ghost use Rattle.notify_play.specs.Laws.{OtherExitsStay, ResumesAskNothing, StepsArePlayed, StepsCallDesk};
+ghost use Rattle.notify_play.specs.Laws.{StepsHoldInOrder};
 
 /// Whatever was signalled, the history of each play is legal and keeps the kernel's own answers, from which follows
-/// what holds of each legal history, isolation among it, and that a resume which finds no call changes nothing else. A bottom half that comes next calls exactly the drivers that were
-/// signalled, while the desk was enabled, since the last bottom half or stop, each with the number of these signals, at
-/// most 2^32 - 1; that the desk's signals are the trace's, [`steps_call_desk`] says.
+/// what holds of each legal history, isolation among it, and that a resume which finds no call changes nothing else. A bottom
+/// half that comes next calls exactly the drivers that were signalled, while the desk was enabled, since the last bottom half
+/// or stop, each with the number of these signals, at most 2^32 - 1; that the desk's signals are the trace's,
+/// [`steps_call_desk`] says.
 pub fn steps_are_played()
     ensures { StepsArePlayed }
 {}
@@ -21,6 +23,12 @@ pub fn steps_hold_in_order()
 /// of the history ask of it, in theirs. All steps are taken, unless an entry is refused: none behind that is.
 pub fn steps_call_desk()
     ensures { StepsCallDesk }
+{}
+
+/// The exit of a return from RPC asks nothing of the desk, so that one which finds no call changes nothing of a play but its
+/// history, its lines and what its processor was told last.
+pub fn resumes_ask_nothing()
+    ensures { ResumesAskNothing }
 {}
 
 /// An exit that asks nothing of the desk comes to the kernel, the RAM and the lines to which it comes without signals.
