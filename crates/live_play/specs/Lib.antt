@@ -1,0 +1,5 @@
+pub mod Answer
+pub mod Conversation
+pub mod Returns
+pub mod Laws
+pub mod Examples
