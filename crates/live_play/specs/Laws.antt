@@ -8,20 +8,33 @@ use Rattle.notify_play.specs.Laws.{IsNotifyPlay}
 use Rattle.notify_play.specs.NotifyPlay.{Drivers, NotifyPlay}
 use Rattle.notify_play.specs.Text.{notify_text_of}
 use Rattle.notify_text.specs.Grammar.{Leads, Spells, is_no_signal}
-use Rattle.notify_text.specs.Rules.{NotifyFront, no_lines, told_in}
+use Rattle.notify_text.specs.Rules.{NotifyFront, after_line, no_lines, told_in}
 use Rattle.play_model.specs.Line.{Line, text_of_line}
 use Rattle.play_model.specs.Play.{played_over}
 use Rattle.play_model.specs.Text.{text_of}
 use Rattle.ta_isa.specs.declared.boot.Boot.{Boot}
 use Rattle.trace_text.specs.Grammar as trace
 use Rattle.trace_text.specs.Limits.{end_fault, trace_in}
-use Rattle.live_play.specs.Answer.{Answer, Setting, is_done, play_at, setting, uuids_in}
+use Rattle.trace_text.specs.declared.fault.BadKind.{BadKind}
+use Rattle.live_play.specs.Answer.{Answer, Bad, Full, Setting, after_heard, answer, copied_at, fault_at, is_done, play_at, refused_at, setting, uuids_in, without_lines}
 use Rattle.live_play.specs.Conversation.{after_all, answers}
 use Rattle.live_play.specs.Returns.{AsksNothing, IsReturnOf, exits_in, returns_in}
 
 -- the lines of all answers, in their order
 abbrev pub printed_in : List Answer → List Line
 printed_in given = flat_map (λ (a : Answer). a.lines) given
+
+-- ---- bad lines and refusals
+
+-- a line that breaks a rule is answered by the first one that it breaks; one whose entry is refused, by how many bytes were read
+-- before it; and neither counts
+pub record RefusalsChangeNothing : Type 0 where
+  pub bad : (on : Setting) (before : NotifyFront) (line : List ℕ) (kind : BadKind) → fault_at on before line ≡ Some kind →
+      (answer on before (heard.Line line) ≡ without_lines (Bad kind)) × (after_heard on before (heard.Line line) ≡ before)
+  pub full : (on : Setting) (before : NotifyFront) (line : List ℕ) (more : ℕ) → fault_at on before line ≡ None →
+      refused_at on (after_line before line) ≡ Some more →
+      (answer on before (heard.Line line) ≡ without_lines (Full (copied_at on before)))
+      × (after_heard on before (heard.Line line) ≡ before)
 
 -- ---- each return is the kernel's
 

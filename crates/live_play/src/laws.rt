@@ -1,6 +1,11 @@
 //! What holds of the definitions themselves.
 ghost use Rattle.live_play.specs.Examples.{Examples};
-ghost use Rattle.live_play.specs.Laws.{GoodConversationsAreTraces, TurnsAreTold, UnaskedConversationsAreRuns};
+ghost use Rattle.live_play.specs.Laws.{GoodConversationsAreTraces, RefusalsChangeNothing, TurnsAreTold, UnaskedConversationsAreRuns};
+
+/// A line that breaks a rule, and one whose entry would have all entries read too much, are answered so, and change nothing.
+pub fn refusals_change_nothing()
+    ensures { RefusalsChangeNothing }
+{}
 
 /// Behind each turn of each conversation, all returns that were said are the kernel's in one legal history, with all that is
 /// said of the plays of a trace with signals.

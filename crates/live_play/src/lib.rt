@@ -9,7 +9,8 @@ mod laws;
 mod status;
 
 pub use laws::{
-    good_conversations_are_traces, turns_are_told, unasked_conversations_are_runs, worked_examples,
+    good_conversations_are_traces, refusals_change_nothing, turns_are_told,
+    unasked_conversations_are_runs, worked_examples,
 };
 pub use line_port::Finish;
 pub use status::status_of;
