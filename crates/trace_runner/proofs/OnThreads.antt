@@ -8,7 +8,7 @@ use Rattle.kernel_model.specs.Application.{Booted, IsBooted, Native, booted}
 use Rattle.ordered_play.specs.Blocks.{blocks_in}
 use Rattle.ordered_play.specs.Merge.{order_with}
 use Rattle.ordered_play.specs.Ordered.{OrderedPlay, played_in}
-use Rattle.ordered_play.specs.Act.{Act, Comes, Leaves, Writes, Shows, acts_for}
+use Rattle.ordered_play.specs.Act.{Act, Comes, Leaves, Writes as Puts, Shows, acts_for}
 use Rattle.ordered_play.specs.Places.{ComeAndGo, ComesAndGoes}
 use Rattle.ordered_play.proofs.NamedOrder.{blocks_name_the_order, has_blocks}
 use Rattle.ordered_play.proofs.PartsOfPlay.{plays_have_parts}
@@ -49,7 +49,7 @@ comes-and-goes : (inside : Bool) (acts : List Act) → AreInTurn inside acts →
 comes-and-goes inside [] turns = turns
 comes-and-goes inside (Comes steps regs ∷ acts) turns = (turns.0, comes-and-goes true acts turns.2)
 comes-and-goes inside (Leaves ∷ acts) turns = (turns.0, comes-and-goes false acts turns.1)
-comes-and-goes inside (Writes addr bytes ∷ acts) turns = comes-and-goes inside acts turns.1
+comes-and-goes inside (Puts addr bytes ∷ acts) turns = comes-and-goes inside acts turns.1
 comes-and-goes inside (Shows addr len ∷ acts) turns = comes-and-goes inside acts turns.1
 
 come-and-go : (natives : List Native) (boot : Boot) (items : List Item) → IsBooted (booted boot natives) → TakeTurns items
