@@ -5,3 +5,5 @@ pub mod Wrote
 pub mod Signals
 pub mod Moved
 pub mod Left
+pub mod Coming
+pub mod Stepping

@@ -130,13 +130,22 @@ came-in boot drivers told cpu steps regs visitor before after same at stands ans
 
 -- it was refused
 pub stayed-out : (boot : Booted) (drivers : Drivers) (told : NotifyPlay) (cpu steps : ℕ) (regs : List Reg)
-    (visitor : Visitor) (machine : Machine) (player : NotifyPlayer) (refused : EnterRefusal)
+    (visitor : Visitor) (before after : NotifyPlayer) (refused : EnterRefusal)
     → state.visit_of (coming_of visitor) ≡ visit_with told cpu steps regs
-    → EntersAt boot told.play visitor machine (Err refused)
-    → ComesIn boot drivers told (comes_in boot cpu steps regs told) (Err (stop_of refused)) player
-stayed-out boot drivers told cpu steps regs visitor machine player (refusal.Full copied more) same at =
-    (more, ap (option_map (with_play told)) (ap (enters boot told.play) (sym same) ∙ at.0.ends))
-stayed-out boot drivers told cpu steps regs visitor machine player refusal.Memory same at = tt
+    → EntersAt boot told.play visitor after.machine (Err refused) → IsPlayedTo boot drivers told before
+    → after.answers ≡ before.answers → after.desk ≡ before.desk
+    → ComesIn boot drivers told (comes_in boot cpu steps regs told) (Err (stop_of refused)) after
+stayed-out boot drivers told cpu steps regs visitor before after (refusal.Full copied more) same at stands answers desk = (
+  more,
+  ap (option_map (with_play told)) (ap (enters boot told.play) (sym same) ∙ at.0.ends),
+  record {
+    machine = at.1;
+    count = stands.count;
+    answers = subst (AreTold told.answers) (sym answers) stands.answers;
+    desk = desk ∙ stands.desk;
+  },
+)
+stayed-out boot drivers told cpu steps regs visitor before after refusal.Memory same at stands answers desk = tt
 
 pub never-failed : (refused : EnterRefusal) → stop_of refused ≡ Failed → ⊥
 never-failed (refusal.Full copied more) e = absurd cc
@@ -364,7 +373,7 @@ pub came-follows : (boot : Booted) (drivers : Drivers) (told : NotifyPlay) (afte
     → ComesIn boot drivers told after result player → Follows boot drivers told after result player text text
 came-follows boot drivers told after (Ok done) player text came =
     (came.0, came.1, came.2, nothing-printed told.play came.0.play text came.3)
-came-follows boot drivers told after (Err Full) player text came = (came.0, came.1, refl)
+came-follows boot drivers told after (Err Full) player text came = (came.0, came.1, refl, came.2)
 came-follows boot drivers told after (Err Failed) player text came = absurd came
 came-follows boot drivers told after (Err Memory) player text came = tt
 
@@ -408,7 +417,7 @@ pub smc-stopped : (boot : Booted) (drivers : Drivers) (told : NotifyPlay) (cpu s
     → ComesIn boot drivers told (comes_in boot cpu steps regs told) (Err stop) player
     → Follows boot drivers told (after_item boot drivers (item.Smc cpu steps regs) told) (Err stop) player text text
 smc-stopped boot drivers told cpu steps regs Full player text came =
-    (came.0, ap (option_and_then (unless_refused (goes_out boot drivers cpu))) came.1, refl)
+    (came.0, ap (option_and_then (unless_refused (goes_out boot drivers cpu))) came.1, refl, came.2)
 smc-stopped boot drivers told cpu steps regs Failed player text came = absurd came
 smc-stopped boot drivers told cpu steps regs Memory player text came = tt
 

@@ -72,11 +72,12 @@ Prints before after old new =
 abbrev pub refused_at : ℕ → NotifyPlay → NotifyPlay
 refused_at more told = record told { play = record told.play { refused = Some more } }
 
--- an entry that a play comes to so, where it can come
+-- an entry that a play comes to so, where it can come; at a refused one the player is where it was
 abbrev pub ComesIn : Booted → Drivers → NotifyPlay → Option NotifyPlay → Result (Unit {0}) Stop → NotifyPlayer → Type 0
 ComesIn boot drivers told after (Ok done) player =
     (next : NotifyPlay) × (after ≡ Some next) × IsPlayedTo boot drivers next player × (next.play.lines ≡ told.play.lines)
-ComesIn boot drivers told after (Err Full) player = (more : ℕ) × (after ≡ Some (refused_at more told))
+ComesIn boot drivers told after (Err Full) player =
+    (more : ℕ) × (after ≡ Some (refused_at more told)) × IsPlayedTo boot drivers told player
 ComesIn boot drivers told after (Err Failed) player = ⊥
 ComesIn boot drivers told after (Err Memory) player = Unit {0}
 
@@ -89,12 +90,12 @@ GoesOut boot drivers told after (Err Full) player old new = ⊥
 GoesOut boot drivers told after (Err Failed) player old new = ⊥
 GoesOut boot drivers told after (Err Memory) player old new = Unit {0}
 
--- something that a play comes to so, where it can come; a refused entry prints nothing
+-- something that a play comes to so, where it can come; a refused entry prints nothing, and the player is where it was
 abbrev pub Follows : Booted → Drivers → NotifyPlay → Option NotifyPlay → Result (Unit {0}) Stop → NotifyPlayer → List ℕ
     → List ℕ → Type 0
 Follows boot drivers told after (Ok done) player old new =
     (next : NotifyPlay) × (after ≡ Some next) × IsPlayedTo boot drivers next player × Prints told.play next.play old new
 Follows boot drivers told after (Err Full) player old new =
-    (more : ℕ) × (after ≡ Some (refused_at more told)) × (new ≡ old)
+    (more : ℕ) × (after ≡ Some (refused_at more told)) × (new ≡ old) × IsPlayedTo boot drivers told player
 Follows boot drivers told after (Err Failed) player old new = ⊥
 Follows boot drivers told after (Err Memory) player old new = Unit {0}

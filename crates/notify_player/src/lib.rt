@@ -5,6 +5,7 @@
 //! argument of a bottom half or a stop; later items find both. The definitions are those of `notify_play`.
 #![tactic(auto)]
 
+mod beginning;
 mod entered;
 mod player;
 mod writing;

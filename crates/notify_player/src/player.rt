@@ -73,6 +73,13 @@ impl NotifyPlayer {
         rest
     }
 
+    /// The core with its processors.
+    pub fn machine(&self) -> &Machine
+        ensures { result.now ≡ self.now.machine }
+    {
+        &self.machine
+    }
+
     /// All entries and exits so far.
     fn history(&self) -> &[Event]
         ensures { result.now ≡ events_of self.now.machine.core }
@@ -168,7 +175,7 @@ impl NotifyPlayer {
     }
 
     /// Plays an item, and appends what it prints to the lines. The natives are those of the desk's `new`. Where an entry is refused,
-    /// nothing is printed; at want of memory a part of a line may stand behind the lines.
+    /// nothing is printed, and the player is as it was; at want of memory a part of a line may stand behind the lines.
     pub fn play_item(
         &mut self,
         alloc: Global,

@@ -12,8 +12,9 @@ returns-in_err-enter-clause-comes c = λ boot ds told stands.
     let within = subst (λ n. c.args.cpu < n) (ap (λ on. on.cpus) stands.machine.booted ∙ sym stands.count) c.requires.lane in
     let visit = same-visit told c.args.self.now.answers visitor _ c.args.regs.now stands.answers within
     c.answer_to.ensures c.registers-regs.ensures in
-    rw (failed.1, failed.2) (stayed-out boot ds told c.args.cpu c.args.steps c.args.regs.now visitor c.enter.new.self _
-    c.in_err-enter.field-0.0 visit (c.in_err-enter.ensures boot told.play stands.machine))
+    rw (failed.1, failed.2) (stayed-out boot ds told c.args.cpu c.args.steps c.args.regs.now visitor c.args.self.now
+    (record c.args.self.now { machine = c.enter.new.self }) c.in_err-enter.field-0.0 visit
+    (c.in_err-enter.ensures boot told.play stands.machine) stands refl refl)
 
 pub returns-in_err-enter-clause-never_fails : goal.returns-in_err-enter-clause-never_fails
 returns-in_err-enter-clause-never_fails c = λ e.
