@@ -1,5 +1,4 @@
 pub mod Stepped
-pub mod Coming
 pub mod Printed
 pub mod Playable
 pub mod Gathered

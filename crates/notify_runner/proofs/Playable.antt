@@ -1,5 +1,5 @@
 -- From a sound trace with signals to a player that can play its steps, and from its play to what was told.
-use Rattle.std.proofs.Common.{◌≡◌, ℕ, suc, ◌+◌, ◌<◌, ◌≤◌, Bool, List, [], ◌∷◌, ◌++◌, length, drop, get_or, Option, Some, None, refl, sym, ap, subst, ◌∙◌, add-one, append_assoc, arith}
+use Rattle.std.proofs.Common.{◌≡◌, ℕ, suc, ◌+◌, ◌<◌, Bool, List, [], ◌∷◌, ◌++◌, length, drop, get_or, Option, Some, None, refl, sym, ap, subst, ◌∙◌, add-one, append_assoc, arith}
 use Rattle.std.proofs.Common.{drop-cons}
 use Rattle.std.specs.Prelude.{IsSome, IsTrue, Ok, Err}
 use Rattle.std.specs.List.{AllByRecursion, flat_map}
@@ -10,8 +10,6 @@ use Rattle.std.proofs.lemmas.List.Elements.{recursion_from_All}
 use Rattle.base.specs.Zeros.{zeros}
 use Rattle.base.proofs.ZeroLemmas.{length-zeros}
 use Rattle.core_machine.specs.Laws.{MachinesStand}
-use Rattle.core_machine.specs.Standing.{IsAt}
-use Rattle.core_machine.specs.declared.machine.Machine.{Machine}
 use Rattle.kernel_model.specs.Application.{Booted, IsBooted, Native, booted}
 use Rattle.kernel_model.proofs.Parts.{some_of}
 use Rattle.notif.specs.Desk.{DeskState, IsDeskOf}
@@ -25,7 +23,7 @@ use Rattle.notify_text.specs.Sound.{IsSoundSignal, IsSoundTold}
 use Rattle.notify_text.specs.Steps.{Step, Takes, steps_from}
 use Rattle.notify_text.specs.declared.notify_trace.NotifyTrace.{NotifyTrace}
 use Rattle.notify_text.specs.declared.notify_trace.Signal.{Signal}
-use Rattle.play_model.specs.Coming.{IsReadyFor, IsWhole}
+use Rattle.play_model.specs.Coming.{IsWhole}
 use Rattle.play_model.specs.Line.{Line, text_of_line}
 use Rattle.play_model.specs.Play.{Play, first_play}
 use Rattle.play_model.proofs.Coming.{Stands, few_cpus, first_stands}
@@ -33,15 +31,15 @@ use Rattle.ta_isa.specs.declared.boot.Boot.{Boot}
 use Rattle.trace_text.specs.Limits.{cpus_of, moved, outside}
 use Rattle.trace_text.specs.Sound.{ComeInTurn, IsSoundItem, can_come}
 use Rattle.trace_text.specs.declared.item.Item.{Item}
-use Rattle.trace_text.specs.declared.item.Item.TheVariants as item
 use Rattle.trace_text.specs.declared.trace.Fill.{Fill}
 use Rattle.word_parts.specs.declared.stop.Stop.TheVariants.{Full}
 use Rattle.trace_player.specs.Starting.{uuids_of}
 use Rattle.notify_runner.specs.Run.{refused_by, refused_in}
 use Rattle.notify_runner.specs.Starting.{IsAtStart}
-use Rattle.notify_runner.proofs.Coming.{item_comes, items_stand, ready}
+use Rattle.notify_player.proofs.Coming.{can_take, item_comes, items_stand, ready}
+use Rattle.notify_player.proofs.Stepping.{ended-steps, item-step, signalled-play, signalled-steps, taken_by}
 use Rattle.notify_runner.proofs.Printed.{steps_add}
-use Rattle.notify_runner.proofs.Stepped.{AreBehind, are-behind, behind-next, ended-steps, item-step, signalled-play, signalled-steps, signals-front, sound-behind, steps-first, taken_by}
+use Rattle.notify_runner.proofs.Stepped.{AreBehind, are-behind, behind-next, signals-front, sound-behind, steps-first}
 
 -- ---- what a play told
 
@@ -57,35 +55,6 @@ refused-played : (natives : List Native) (drivers : Drivers) (told : NotifyTrace
     → refused_in natives drivers told ≡ play.play.refused
 refused-played natives drivers told boot play is e =
     ap (refused_by natives drivers told) is ∙ ap (option_and_then (λ (p : NotifyPlay). p.play.refused)) e
-
--- ---- what can be taken
-
--- a machine can take an item whose processor is ready for it
-can-take : (boot : Booted) (play : Play) (machine : Machine) (i : Item) → MachinesStand → boot.cpus ≤ 8
-    → IsAt boot play machine → IsReadyFor play.kernel i → IsSoundItem boot.cpus i → CanBeTaken machine i
-can-take boot play machine (item.Smc cpu steps regs) stand few at ready sound = record {
-  few = let there = sound.processor in omega (arith, there, few);
-  lane = subst (λ (on : Booted). cpu < on.cpus) (sym at.booted) sound.processor;
-  comes = λ given. stand.can_come boot play machine (record { cpu = cpu; regs = given; steps = steps }) at
-      ready sound.some_step sound.few_steps;
-  sound = sound.registers;
-}
-can-take boot play machine (item.Enter cpu steps regs) stand few at ready sound = record {
-  few = let there = sound.processor in omega (arith, there, few);
-  lane = subst (λ (on : Booted). cpu < on.cpus) (sym at.booted) sound.processor;
-  comes = λ given. stand.can_come boot play machine (record { cpu = cpu; regs = given; steps = steps }) at
-      ready sound.some_step sound.few_steps;
-  sound = sound.registers;
-}
-can-take boot play machine (item.Leave cpu) stand few at ready sound = record {
-  few = omega (arith, sound, few);
-  lane = subst (λ (on : Booted). cpu < on.cpus) (sym at.booted) sound;
-  leaves = stand.can_leave boot play machine cpu ready.regs ready.steps ready.errand at ready.inside;
-}
-can-take boot play machine (item.Write cpu addr bytes) stand few at ready sound =
-    (subst (λ (on : Booted). cpu < on.cpus) (sym at.booted) sound.0, sound.1)
-can-take boot play machine (item.Show cpu addr len) stand few at ready sound =
-    (subst (λ (on : Booted). cpu < on.cpus) (sym at.booted) sound.0, sound.1)
 
 zeros-whole : IsWhole (zeros 0x400000)
 zeros-whole = let size = length-zeros 0x400000 in omega (arith, size)
@@ -285,7 +254,7 @@ pub taking-takes : (natives : List Native) (drivers : Drivers) (told : NotifyTra
 taking-takes natives drivers told items at i signals player text stand t =
     let on = booted t.boot natives in
     let few = few_cpus on t.boots in
-    can-take on t.now.play player.machine i stand few t.stands.machine
+    can_take on t.now.play player.machine i stand few t.stands.machine
     (ready on drivers t.boots few i t.inside t.now t.within t.sound t.can) t.sound
 
 pub taking-desk : (natives : List Native) (drivers : Drivers) (told : NotifyTrace) (items : List Item) (at : ℕ) (i : Item)

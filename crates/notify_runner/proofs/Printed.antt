@@ -19,7 +19,7 @@ use Rattle.play_model.proofs.LinesStay.{event_prints}
 use Rattle.trace_text.specs.declared.item.Item.{Item}
 use Rattle.trace_text.specs.declared.item.Item.TheVariants as item
 use Rattle.trace_text.specs.declared.item.Reg.{Reg}
-use Rattle.notify_runner.proofs.Coming.{gone_same, unless_none, unless_some, went_out}
+use Rattle.notify_player.proofs.Coming.{gone_same, unless_none, unless_some, went_out}
 
 -- the lines that were there stay at the front
 abbrev pub Adds : NotifyPlay → NotifyPlay → Type 0

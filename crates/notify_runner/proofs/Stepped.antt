@@ -1,14 +1,11 @@
 -- The steps of a trace, item by item: the signals in front of one, that item, and the rest.
-use Rattle.std.proofs.Common.{◌≡◌, ℕ, zero, suc, ◌+◌, ◌<◌, ◌≤◌, Bool, true, false, List, [], ◌∷◌, ◌++◌, get_or, length, map, Option, Some, None, refl, ap, subst, sym, ◌∙◌, arith}
+use Rattle.std.proofs.Common.{◌≡◌, ℕ, zero, suc, ◌+◌, ◌<◌, ◌≤◌, Bool, true, false, List, [], ◌∷◌, ◌++◌, get_or, length, map, refl, ap, subst, sym, ◌∙◌, arith}
 use Rattle.std.specs.Prelude.{◌==◌, filter, if◌then◌else◌}
 use Rattle.std.specs.List.{AllByRecursion}
-use Rattle.std.specs.Option.{option_and_then, option_map_or}
 use Rattle.std.proofs.lemmas.Bool.Decides.{Decides-eqb}
-use Rattle.kernel_model.specs.Application.{Booted}
 use Rattle.kernel_model.proofs.SoundSlots.{by_number}
-use Rattle.notif.specs.History as desk
-use Rattle.notify_play.specs.NotifyPlay.{Drivers, NotifyPlay, after_item, after_step, after_steps}
-use Rattle.notify_player.specs.Signalling.{behind_at, front_at, signalled_by}
+use Rattle.notify_player.specs.Signalling.{behind_at, front_at}
+use Rattle.notify_player.proofs.Stepping.{taken_by}
 use Rattle.notify_player.proofs.Signals.{behind-elsewhere, behind-there, front-elsewhere, front-there}
 use Rattle.notify_text.specs.Sound.{AreInOrder, IsSoundSignal}
 use Rattle.notify_text.specs.Steps.{Signals, Step, Takes, signals_at, steps_from}
@@ -19,10 +16,6 @@ use Rattle.trace_text.specs.declared.item.Item.{Item}
 abbrev pub AreBehind : ℕ → List Signal → Type 0
 AreBehind at [] = Unit {0}
 AreBehind at (signal ∷ signals) = (at ≤ signal.at) × AreBehind signal.at signals
-
--- the steps of these signals
-abbrev pub taken_by : List Signal → List Step
-taken_by signals = map (λ (s : Signal). Signals s.value) signals
 
 -- ---- signals at one place
 
@@ -141,41 +134,3 @@ sound-behind items at (signal ∷ signals) sound =
     (sound-behind items at signals sound.1))
     (λ apart.
     subst (AllByRecursion (IsSoundSignal items)) (sym (behind-elsewhere at signal signals apart)) sound)
-
--- ---- what signals make of a play
-
--- an entry that was refused ends the play, so a play that goes on takes them all
-pub signalled-steps : (boot : Booted) (drivers : Drivers) (signals : List Signal) (rest : List Step) (told : NotifyPlay)
-    → told.play.refused ≡ None
-    → after_steps boot drivers (taken_by signals ++ rest) told
-    ≡ after_steps boot drivers rest (signalled_by signals told)
-signalled-steps boot drivers [] rest told going = refl
-signalled-steps boot drivers (signal ∷ signals) rest told going =
-    let next : NotifyPlay = record told { calls = desk.Signal signal.value ∷ told.calls } in
-    ap (λ (o : Option ℕ). option_and_then (λ (n : NotifyPlay). after_steps boot drivers
-    (taken_by signals ++ rest) n) (option_map_or (λ more. Some told) o (Some next))) going
-    ∙ signalled-steps boot drivers signals rest next going
-
--- one item
-pub item-step : (boot : Booted) (drivers : Drivers) (item : Item) (rest : List Step) (told : NotifyPlay)
-    → told.play.refused ≡ None
-    → after_steps boot drivers (Takes item ∷ rest) told
-    ≡ option_and_then (λ (n : NotifyPlay). after_steps boot drivers rest n) (after_item boot drivers item told)
-item-step boot drivers item rest told going =
-    ap (λ (o : Option ℕ). option_and_then (λ (n : NotifyPlay). after_steps boot drivers rest n)
-    (option_map_or (λ more. Some told) o (after_item boot drivers item told))) going
-
--- signals print nothing
-pub signalled-play : (signals : List Signal) (told : NotifyPlay) → (signalled_by signals told).play ≡ told.play
-signalled-play [] told = refl
-signalled-play (signal ∷ signals) told =
-    signalled-play signals (record told { calls = desk.Signal signal.value ∷ told.calls })
-
--- behind a refused entry nothing comes
-pub ended-steps : (boot : Booted) (drivers : Drivers) (steps : List Step) (told : NotifyPlay) (more : ℕ)
-    → told.play.refused ≡ Some more → after_steps boot drivers steps told ≡ Some told
-ended-steps boot drivers [] told more is = refl
-ended-steps boot drivers (step ∷ steps) told more is =
-    ap (λ (o : Option ℕ). option_and_then (λ (n : NotifyPlay). after_steps boot drivers steps n)
-    (option_map_or (λ more. Some told) o (after_step boot drivers step told))) is
-    ∙ ended-steps boot drivers steps told more is

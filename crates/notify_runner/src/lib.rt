@@ -5,7 +5,6 @@
 //! text was written, and `Starting`, where a player stands before the first step.
 #![tactic(auto)]
 
-mod beginning;
 mod steps;
 mod word;
 

@@ -12,9 +12,9 @@ ghost use Rattle.word_parts.specs.Word.{Answered, IsServedBy};
 ghost use Rattle.notify_runner.specs.Notified.{Notifies};
 ghost use Rattle.notify_runner.specs.Run.{IsToldOf, notifying};
 
-use crate::beginning::first_player;
 use crate::steps::play_steps;
 use native_tas::Natives;
+use notify_player::NotifyPlayer;
 use notify_text::{NotifyTrace, Trace, read_notify_trace};
 use ports::{Sink, Source};
 use std::alloc::Global;
@@ -38,7 +38,7 @@ fn play<K: Sink>(
     let Some(boot) = boot else {
         return Ok(());
     };
-    let Ok(mut player) = first_player(alloc, boot, natives, fills.as_slice()) else {
+    let Ok(mut player) = NotifyPlayer::booted(alloc, boot, natives, fills.as_slice()) else {
         return Err(Stop::Memory);
     };
     play_steps(
