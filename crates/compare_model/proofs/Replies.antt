@@ -9,11 +9,11 @@ use Rattle.compare_model.specs.Laws.{JournalsAreAnsweredAlone, SameGivesSameRepl
 use Rattle.compare_model.specs.declared.compared.Compared.TheVariants.{Illegal, Absent, Other, Events, Same}
 use Rattle.compare_model.specs.declared.subject.Subject.{Subject}
 use Rattle.compare_model.specs.declared.subject.Subject.TheVariants.{Session, Group}
-use Rattle.group_law.proofs.InOrder.{stays_in_order}
-use Rattle.group_law.proofs.MoreSteps.{more_steps_agree}
-use Rattle.group_law.proofs.TiedEvents.{events_along}
-use Rattle.group_law.proofs.WholeHistories.{answered_as_a_group, same_replies as same_group_replies}
-use Rattle.group_law.specs.Isolation.{IsGroupOf}
+use Rattle.group_model.proofs.InOrder.{stays_in_order}
+use Rattle.group_model.proofs.MoreSteps.{more_steps_agree}
+use Rattle.group_model.proofs.TiedEvents.{events_along}
+use Rattle.group_model.proofs.WholeHistories.{answered_as_a_group, same_replies as same_group_replies}
+use Rattle.group_model.specs.Isolation.{IsGroupOf}
 use Rattle.group_model.specs.Group.{group_machine_replies}
 use Rattle.group_model.specs.Read.{group_events, group_replies}
 use Rattle.group_model.specs.declared.group_event.GroupEvent.{GroupEvent}

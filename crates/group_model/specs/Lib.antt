@@ -1,3 +1,11 @@
 pub mod Group
 pub mod Read
+pub mod Line
+pub mod Tied
+pub mod InOrder
+pub mod Machine
+pub mod Laws
+pub mod Exits
+pub mod Resumes
+pub mod Isolation
 pub mod Examples

@@ -1,5 +1,0 @@
-use Rattle.group_law.proofs.InOrder.{stays_in_order as law}
-use Rattle.group_law.proofs.machine.machines_stay_in_order.Goals as goal
-
-pub returns : goal.returns
-returns c = law

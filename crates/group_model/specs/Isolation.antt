@@ -1,0 +1,43 @@
+-- Isolation of groups: whatever else happens, the sessions of a single-instance application are answered as the machine of
+-- their group, which has the group's events alone. This project's own.
+use Rattle.std.specs.Prelude.{◌≡◌, ℕ, true, List, Some, take}
+use Rattle.event_journal.specs.declared.event.Event.{Event}
+use Rattle.kernel_model.specs.Application.{Application, Booted, uuid_of}
+use Rattle.kernel_model.specs.History.{IsLegal}
+use Rattle.kernel_model.specs.Instances.{app_of, is_single}
+use Rattle.own_model.specs.Isolation.{steps_in}
+use Rattle.group_model.specs.Group.{group_machine_replies}
+use Rattle.group_model.specs.Read.{Logged, group_events, group_replies, noted}
+use Rattle.group_model.specs.Laws.{events_in, replies_in}
+
+-- a legal history of a boot that has this application, whose sessions share one instance
+pub record IsGroupOf (boot : Booted) (history : List Event) (app : Application) : Type 0 where
+  pub legal : IsLegal boot history
+  pub has : app_of boot (uuid_of app) ≡ Some app
+  pub shares : is_single app ≡ true
+
+-- its sessions are answered as their machine answers to their events
+abbrev pub AnsweredAsAGroup : Type 0
+AnsweredAsAGroup = (boot : Booted) (history : List Event) (app : Application) → IsGroupOf boot history app →
+    group_machine_replies (steps_in history) app boot.key (group_events boot history app)
+    ≡ Some (group_replies boot history app)
+
+-- so in two worlds: after any two legal histories, of any two boots that have the same key, the group of one application
+-- to which the same has happened was answered the same
+abbrev pub SameGroupEventsSameReplies : Type 0
+SameGroupEventsSameReplies = (boot another : Booted) (history other : List Event) (app : Application) →
+    boot.key ≡ another.key → IsGroupOf boot history app → IsGroupOf another other app →
+    group_events boot history app ≡ group_events another other app →
+    group_replies boot history app ≡ group_replies another other app
+
+-- the first entries of what is noted of a group: its events with their replies
+abbrev pub first_entries : Booted → List Event → Application → ℕ → List Logged
+first_entries boot history app count = take count (noted boot history app).log
+
+-- and wherever the same has happened to it, not only in the end: it was answered the same so far
+abbrev pub SameGroupBeginningsSameReplies : Type 0
+SameGroupBeginningsSameReplies =
+    (boot another : Booted) (history other : List Event) (count : ℕ) (app : Application) →
+    boot.key ≡ another.key → IsGroupOf boot history app → IsGroupOf another other app →
+    events_in (first_entries boot history app count) ≡ events_in (first_entries another other app count) →
+    replies_in (first_entries boot history app count) ≡ replies_in (first_entries another other app count)

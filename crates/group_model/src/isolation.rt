@@ -1,0 +1,21 @@
+//! Isolation of groups: what the sessions of a single-instance application are answered depends on what happens to them
+//! alone.
+ghost use Rattle.group_model.specs.Isolation.{AnsweredAsAGroup, SameGroupBeginningsSameReplies, SameGroupEventsSameReplies};
+
+/// After each legal history the sessions of a single-instance application were answered as the machine of their group
+/// answers to the group's events.
+pub fn groups_are_answered_as_alone()
+    ensures { AnsweredAsAGroup }
+{}
+
+/// So two groups of one application to which the same has happened were answered the same, whatever else happened, in
+/// whichever two boots that have one key.
+pub fn same_group_events_get_same_replies()
+    ensures { SameGroupEventsSameReplies }
+{}
+
+/// And wherever the same has happened to two such groups, not only in the end: as far as their first events are the same,
+/// so are the replies to these.
+pub fn same_group_beginnings_get_same_replies()
+    ensures { SameGroupBeginningsSameReplies }
+{}
