@@ -13,16 +13,9 @@ use Rattle.kernel_state.specs.Entering.{bytes_read}
 use Rattle.ns_ram.specs.Reader.{over_lane}
 use Rattle.ns_ram.specs.Reads.{total_bytes}
 use Rattle.ns_ram.specs.declared.read.Read.{Read}
-use Rattle.play_model.specs.Play.{Play, enters, enters_with, entry_event, lane_of, leaves, reads_of, told_last, unless_refused, with_event}
+use Rattle.play_model.specs.Play.{Play, enters, enters_with, entry_event, lane_of, leaves, reads_of, unless_refused, with_event}
 use Rattle.smc_abi.specs.declared.regs.Regs.{Regs}
 use Rattle.core_port.specs.CorePort.{CoreView, IsRefusedIn, NoRoomIsThePlays, StandsAt, bytes_wanted, is_full, smcs_made, visit_with}
-
--- the last answer is that of the last events
-pub told_on : (cpu : ℕ) (regs : List ℕ) (events more : List Event)
-    → told_last cpu regs (events ++ more) ≡ told_last cpu (told_last cpu regs events) more
-told_on cpu regs [] more = refl
-told_on cpu regs (Entry came given steps reads ∷ events) more = told_on cpu regs events more
-told_on cpu regs (Exit went told ∷ events) more = told_on cpu (if went == cpu then told.a else regs) events more
 
 -- the processor sees this RAM
 pub sees : (play : Play) (ram : List ℕ) → slice_get play.lanes 0 ≡ Some ram → lane_of play 0 ≡ ram

@@ -32,13 +32,14 @@ use Rattle.ns_ram.specs.declared.read.Read.{Read}
 use Rattle.ns_ram.proofs.ReaderLaws.{over_lane-reading}
 use Rattle.play_model.specs.Line.{Ret}
 use Rattle.play_model.specs.Play.{Play, enters, leaves, unless_refused}
+use Rattle.play_model.proofs.LastAnswers.{told_last-append}
 use Rattle.smc_abi.specs.declared.regs.Regs.{Regs}
 use Rattle.smc_port.specs.Smc.{Makes, Smc}
 use Rattle.core_port.specs.CorePort.{Answers, ComesTo, CoreView, StandsAt, after_smc, bytes_wanted, has_room, is_full, visit_with}
 use Rattle.core_port.specs.Serving.{GoesThrough, IsOutside, IsPort, coming_with, smcs_of}
 use Rattle.core_port.specs.Smcs.{history_of, smcs_in, writes_behind}
 use Rattle.core_port.proofs.InRam.{exit_in_ram}
-use Rattle.core_port.proofs.OfPlay.{sees, told_on}
+use Rattle.core_port.proofs.OfPlay.{sees}
 use Rattle.core_port.proofs.Told.{history_behind, smcs_behind}
 
 abbrev pub view_of : Core → List ℕ → CoreView
@@ -153,7 +154,7 @@ module _ (old new : Core) (lane now : List ℕ) (regs answer : Regs) (so : GoesT
       after = after;
       stands = stands;
       printed = ap (λ (a : List ℕ). play.lines ++ Ret 0 a ∷ []) (sym so.left.answer);
-      last = told_on 0 (replicate 8 0) (play.history ++ Entry 0 regs 10000 so.entered.reads ∷ []) (Exit 0 (record { a = so.left.exited.regs }) ∷ [])
+      last = told_last-append 0 (replicate 8 0) (play.history ++ Entry 0 regs 10000 so.entered.reads ∷ []) (Exit 0 (record { a = so.left.exited.regs }) ∷ [])
           ∙ sym so.left.answer;
     }
 

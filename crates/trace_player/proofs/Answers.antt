@@ -1,36 +1,21 @@
 -- The last answers of the processors, as a history goes on.
 use Rattle.std.proofs.Common.{◌≡◌, ℕ, ◌<◌, Bool, true, false, List, [], ◌∷◌, ◌++◌, Some, refl, sym, ap, subst, ◌∙◌}
-use Rattle.std.specs.Prelude.{◌==◌, if◌then◌else◌, replicate, slice_get, slice_set}
+use Rattle.std.specs.Prelude.{◌==◌, if◌then◌else◌, slice_get, slice_set}
 use Rattle.std.proofs.lemmas.Bool.Decides.{Decides-eqb}
 use Rattle.event_journal.specs.declared.event.Event.{Event}
 use Rattle.event_journal.specs.declared.event.Event.TheVariants.{Entry, Exit}
 use Rattle.kernel_model.proofs.Parts.{set_found, set_other}
 use Rattle.ns_ram.specs.declared.read.Read.{Read}
-use Rattle.play_model.specs.Play.{last_answer, told_last}
+use Rattle.play_model.specs.Play.{last_answer}
+use Rattle.play_model.proofs.LastAnswers.{last_answer-entry, last_answer-exit}
 use Rattle.smc_abi.specs.declared.regs.Regs.{Regs}
 use Rattle.trace_player.specs.Playing.{AreLast}
-
--- what was told among events, and then among others behind them
-told-append : (cpu : ℕ) (regs : List ℕ) (events more : List Event)
-    → told_last cpu regs (events ++ more) ≡ told_last cpu (told_last cpu regs events) more
-told-append cpu regs [] more = refl
-told-append cpu regs (Entry came given steps reads ∷ events) more = told-append cpu regs events more
-told-append cpu regs (Exit went told ∷ events) more = told-append cpu (if went == cpu then told.a else regs) events more
-
-pub answer-entry : (history : List Event) (came : ℕ) (given : Regs) (steps : ℕ) (reads : List Read) (cpu : ℕ)
-    → last_answer (history ++ Entry came given steps reads ∷ []) cpu ≡ last_answer history cpu
-answer-entry history came given steps reads cpu =
-    told-append cpu (replicate 8 0) history (Entry came given steps reads ∷ [])
-
-pub answer-exit : (history : List Event) (went : ℕ) (told : Regs) (cpu : ℕ)
-    → last_answer (history ++ Exit went told ∷ []) cpu ≡ (if went == cpu then told.a else last_answer history cpu)
-answer-exit history went told cpu = told-append cpu (replicate 8 0) history (Exit went told ∷ [])
 
 -- an entry tells nothing
 pub last-entry : (history : List Event) (came : ℕ) (given : Regs) (steps : ℕ) (reads : List Read)
     (answers : List Regs) → AreLast history answers → AreLast (history ++ Entry came given steps reads ∷ []) answers
 last-entry history came given steps reads answers last cpu few =
-    last cpu few ∙ ap (λ (a : List ℕ). Some (record { a = a })) (sym (answer-entry history came given steps reads cpu))
+    last cpu few ∙ ap (λ (a : List ℕ). Some (record { a = a })) (sym (last_answer-entry history came given steps reads cpu))
 
 -- an exit tells its own processor
 told-there : (history : List Event) (went : ℕ) (told : Regs) (answers : List Regs) (cpu : ℕ) (same : Bool)
@@ -50,4 +35,4 @@ pub last-exit : (history : List Event) (went : ℕ) (told : Regs) (answers : Lis
     → AreLast (history ++ Exit went told ∷ []) (slice_set answers went told)
 last-exit history went told answers last cpu few =
     told-there history went told answers cpu (went == cpu) last few refl
-    ∙ ap (λ (a : List ℕ). Some (record { a = a })) (sym (answer-exit history went told cpu))
+    ∙ ap (λ (a : List ℕ). Some (record { a = a })) (sym (last_answer-exit history went told cpu))
