@@ -37,3 +37,4 @@ pub mod Ready
 pub mod TiedEvents
 pub mod RepliesTold
 pub mod WholeHistories
+pub mod KeptSessions

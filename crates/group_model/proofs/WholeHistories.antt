@@ -106,7 +106,7 @@ runs_on most app before between after g then items logged replies rest = record 
 }
 
 -- what is noted of it goes on behind its first event
-goes_from : (boot : Booted) (app : Application) (kernel next : Kernel) (notes : Notes) (happened : Event)
+pub goes_from : (boot : Booted) (app : Application) (kernel next : Kernel) (notes : Notes) (happened : Event)
     (events : List Event) → after_event boot kernel happened ≡ Some next
     → noted_from boot app kernel notes (happened ∷ events)
     ≡ noted_from boot app next (event_noted boot app kernel next notes happened) events

@@ -1,10 +1,13 @@
 -- Isolation of groups: whatever else happens, the sessions of a single-instance application are answered as the machine of
 -- their group, which has the group's events alone. This project's own.
-use Rattle.std.specs.Prelude.{◌≡◌, ℕ, true, List, Some, take}
+use Rattle.std.specs.Prelude.{◌≡◌, ℕ, true, List, Some, IsSome, take}
+use Rattle.base.specs.NumberMap.{get}
 use Rattle.event_journal.specs.declared.event.Event.{Event}
+use Rattle.session_table.specs.declared.session.Session.{Session}
 use Rattle.kernel_model.specs.Application.{Application, Booted, uuid_of}
-use Rattle.kernel_model.specs.History.{IsLegal}
+use Rattle.kernel_model.specs.History.{IsLegal, kernel_after}
 use Rattle.kernel_model.specs.Instances.{app_of, is_single}
+use Rattle.kernel_model.specs.Kernel.{Instance, Kernel}
 use Rattle.own_model.specs.Isolation.{steps_in}
 use Rattle.group_model.specs.Group.{group_machine_replies}
 use Rattle.group_model.specs.Read.{Logged, group_events, group_replies, noted}
@@ -21,6 +24,21 @@ abbrev pub AnsweredAsAGroup : Type 0
 AnsweredAsAGroup = (boot : Booted) (history : List Event) (app : Application) → IsGroupOf boot history app →
     group_machine_replies (steps_in history) app boot.key (group_events boot history app)
     ≡ Some (group_replies boot history app)
+
+-- the kernel keeps the session, on an instance of this application, whose sessions share one
+pub record IsKeptTogether (boot : Booted) (kernel : Kernel) (session : ℕ) (app : Application) : Type 0 where
+  pub kept : Session
+  pub there : get kernel.tables.sessions session ≡ Some kept
+  pub instance : Instance
+  pub has : get kernel.tables.instances kept.instance ≡ Some instance
+  pub of_app : app_of boot instance.uuid ≡ Some app
+  pub shares : is_single app ≡ true
+
+-- after each history that the kernel can have, each such session is one of the group's: it has its number there
+abbrev pub KeptSessionsAreOfTheGroup : Type 0
+KeptSessionsAreOfTheGroup = (boot : Booted) (history : List Event) (kernel : Kernel) (session : ℕ) (app : Application) →
+    kernel_after boot history ≡ Some kernel → IsKeptTogether boot kernel session app →
+    IsSome (get (noted boot history app).sessions session)
 
 -- so in two worlds: after any two legal histories, of any two boots that have the same key, the group of one application
 -- to which the same has happened was answered the same

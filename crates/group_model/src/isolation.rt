@@ -1,11 +1,17 @@
 //! Isolation of groups: what the sessions of a single-instance application are answered depends on what happens to them
 //! alone.
-ghost use Rattle.group_model.specs.Isolation.{AnsweredAsAGroup, SameGroupBeginningsSameReplies, SameGroupEventsSameReplies};
+ghost use Rattle.group_model.specs.Isolation.{AnsweredAsAGroup, KeptSessionsAreOfTheGroup, SameGroupBeginningsSameReplies, SameGroupEventsSameReplies};
 
 /// After each legal history the sessions of a single-instance application were answered as the machine of their group
 /// answers to the group's events.
 pub fn groups_are_answered_as_alone()
     ensures { AnsweredAsAGroup }
+{}
+
+/// The events of the group are those of all of its sessions: each session that the kernel keeps on an instance of the
+/// application is one of them.
+pub fn kept_sessions_are_of_the_group()
+    ensures { KeptSessionsAreOfTheGroup }
 {}
 
 /// So two groups of one application to which the same has happened were answered the same, whatever else happened, in

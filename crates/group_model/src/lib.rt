@@ -21,8 +21,8 @@ pub use exits::{interrupts_keep_groups, own_exits_keep_groups};
 pub use group_event::GroupEvent;
 pub use group_reply::GroupReply;
 pub use isolation::{
-    groups_are_answered_as_alone, same_group_beginnings_get_same_replies,
-    same_group_events_get_same_replies,
+    groups_are_answered_as_alone, kept_sessions_are_of_the_group,
+    same_group_beginnings_get_same_replies, same_group_events_get_same_replies,
 };
 pub use laws::{
     boots_are_tied, calls_of_others_keep_groups, exits_of_others_keep_groups,

@@ -20,7 +20,7 @@ use Rattle.ns_ram.specs.Writes.{Write}
 use Rattle.play_model.specs.Line.{Ret}
 use Rattle.play_model.specs.Play.{Play, enters, first_play, leaves, leaves_with, with_event, with_line, with_writes}
 use Rattle.play_model.proofs.Entries.{CameIn, Entered, WasRefused, entered}
-use Rattle.play_model.proofs.Returns.{alone_in, no_call_in, no_slot_in, returns_in}
+use Rattle.play_model.proofs.Returns.{alone_in, no_call_in, no_slot_in, returns_in, together_in}
 use Rattle.play_model.proofs.TrueToKernel.{exits_in, refused_in}
 use Rattle.smc_abi.specs.Call.{call_of}
 use Rattle.smc_abi.specs.declared.call.Call.{Call}
@@ -148,6 +148,7 @@ steps_are_played ram natives drivers boot fills steps told boots e =
       change_nothing = refused_in on told.play.history legal;
       no_slot = no_slot_in on told.play.history legal;
       alone = alone_in on told.play.history legal;
+      together = together_in on told.play.history legal;
       bottom_half = signals_reach_drivers drivers told.calls;
     }
 

@@ -10,7 +10,7 @@ use Rattle.kernel_model.specs.Laws.{FindsNoCall, FindsNoSlot}
 use Rattle.notif.specs.Desk.{driver_calls}
 use Rattle.notif.specs.History.{DeskCall, owed_calls}
 use Rattle.notify_text.specs.Steps.{Step}
-use Rattle.play_model.specs.Laws.{AloneIn, ReturnsIn, ToldIn}
+use Rattle.play_model.specs.Laws.{AloneIn, ReturnsIn, TogetherIn, ToldIn}
 use Rattle.play_model.specs.Play.{first_play, leaves}
 use Rattle.play_model.specs.TrueToKernel.{ExitsIn, RefusedIn}
 use Rattle.smc_abi.specs.Call.{call_of}
@@ -36,8 +36,10 @@ pub record IsNotifyPlay (boot : Booted) (drivers : Drivers) (told : NotifyPlay) 
   pub no_call : ToldIn boot told.play.history 3 FindsNoCall
   pub change_nothing : RefusedIn boot told.play.history
   pub no_slot : ToldIn boot told.play.history 1 FindsNoSlot
-  -- sessions that share no instance were answered as alone, each that was ever kept among them
+  -- sessions that share no instance were answered as alone, each that was ever kept among them; those that share one, as their
+  -- group alone
   pub alone : AloneIn boot told.play.history
+  pub together : TogetherIn boot told.play.history
   -- a bottom half that comes next calls exactly the drivers that were signalled, while the desk was enabled, since the last
   -- bottom half or stop, each with the number of these signals, at most 2^32 - 1 (its desk's calls: `StepsCallDesk`)
   pub bottom_half : driver_calls (desk_of drivers told) ≡ owed_calls drivers told.calls

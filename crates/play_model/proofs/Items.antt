@@ -23,7 +23,7 @@ use Rattle.play_model.proofs.Adds.{Adds, Ended, GoesOn, Onward, adds_more, adds_
 use Rattle.play_model.proofs.Entries.{CameIn, Entered, IsWithin, WasRefused, came_adds, came_within, entered}
 use Rattle.play_model.proofs.Entries.{event_made, left, left_adds, left_going, left_within, refused_within, within_same}
 use Rattle.play_model.proofs.ExitsTold.{items_told}
-use Rattle.play_model.proofs.Returns.{alone_in, no_call_in, no_slot_in, returns_in}
+use Rattle.play_model.proofs.Returns.{alone_in, no_call_in, no_slot_in, returns_in, together_in}
 
 -- ---- one item
 
@@ -217,4 +217,5 @@ traces_are_played ram natives boot trace play boots e =
       no_call = no_call_in on play.history legal;
       no_slot = no_slot_in on play.history legal;
       alone = alone_in on play.history legal;
+      together = together_in on play.history legal;
     }

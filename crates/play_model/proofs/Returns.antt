@@ -23,11 +23,15 @@ use Rattle.ns_ram.specs.declared.read.Read.{Read}
 use Rattle.own_model.proofs.FixedAnswers as fixed
 use Rattle.own_model.proofs.KeptSessions.{kept_sessions_known}
 use Rattle.own_model.proofs.OtherResumes.{visitor_there}
+use Rattle.group_model.proofs.InOrder.{stays_in_order}
+use Rattle.group_model.proofs.KeptSessions.{kept_of_group}
+use Rattle.group_model.proofs.TiedEvents.{events_along}
+use Rattle.group_model.proofs.WholeHistories.{answered_as_a_group}
 use Rattle.own_model.proofs.WholeHistories.{answered_as_alone}
 use Rattle.own_model.specs.Own.{own_app}
 use Rattle.smc_abi.specs.Call.{call_of}
 use Rattle.smc_abi.specs.declared.call.Call.TheVariants.{Resume}
-use Rattle.play_model.specs.Laws.{AloneIn, Returned, ReturnsIn, ToldIn, entered}
+use Rattle.play_model.specs.Laws.{AloneIn, Returned, ReturnsIn, TogetherIn, ToldIn, entered}
 
 -- the kernel after the first events of a legal history
 pub kernel_before : (boot : Booted) (before behind : List Event) → IsLegal boot (before ++ behind)
@@ -117,4 +121,11 @@ alone_in boot history legal = record {
       subst (λ (h : List Event). own_app boot h session ≡ Some app) (sym cut)
       (kept_sessions_known.stays boot before behind session app (subst (IsLegal boot) cut legal)
       (kept_sessions_known.known boot before kernel session app there kept));
+}
+
+pub together_in : (boot : Booted) (history : List Event) → IsLegal boot history → TogetherIn boot history
+together_in boot history legal = record {
+  answered = λ app has shares.
+      answered_as_a_group events_along stays_in_order boot history app (record { legal = legal; has = has; shares = shares });
+  known = λ before behind kernel session app cut there kept. kept_of_group boot before kernel session app there kept;
 }

@@ -120,5 +120,6 @@ plays_are_true natives boot trace play boots e =
       change_nothing = refused_in on play.history p.legal;
       thread_limit = p.no_slot;
       alone = p.alone;
+      together = p.together;
       refused_entry = p.too_many;
     }

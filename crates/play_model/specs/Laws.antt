@@ -1,17 +1,21 @@
 -- What holds of each play of a trace.
-use Rattle.std.specs.Prelude.{◌≡◌, ◌↔◌, ℕ, ◌+◌, ◌^◌, ◌<◌, ◌≤◌, false, List, [], ◌∷◌, ◌++◌, length, Option, Some, None}
+use Rattle.std.specs.Prelude.{◌≡◌, ◌↔◌, ℕ, ◌+◌, ◌^◌, ◌<◌, ◌≤◌, true, false, List, [], ◌∷◌, ◌++◌, length, Option, Some, None}
 use Rattle.std.specs.Prelude.{IsSome}
 use Rattle.std.specs.List.{AllByRecursion}
 use Rattle.std.specs.Option.{option_and_then}
+use Rattle.base.specs.NumberMap.{get}
 use Rattle.event_journal.specs.Journal.{copied_bytes}
 use Rattle.event_journal.specs.declared.event.Event.{Event}
 use Rattle.event_journal.specs.declared.event.Event.TheVariants.{Exit}
-use Rattle.kernel_model.specs.Application.{Application, Booted, IsBooted, Native, booted}
+use Rattle.group_model.specs.Isolation.{IsKeptTogether}
+use Rattle.group_model.specs.Group.{group_machine_replies}
+use Rattle.group_model.specs.Read.{group_events, group_replies, noted}
+use Rattle.kernel_model.specs.Application.{Application, Booted, IsBooted, Native, booted, uuid_of}
 use Rattle.kernel_model.specs.Argument.{reg, thread_in}
 use Rattle.kernel_model.specs.Codes.{eresume}
 use Rattle.kernel_model.specs.Exit.{Exited, exit}
 use Rattle.kernel_model.specs.History.{IsLegal, Resumes, ResumesCall, after_event, kernel_after}
-use Rattle.kernel_model.specs.Instances.{is_single}
+use Rattle.kernel_model.specs.Instances.{app_of, is_single}
 use Rattle.kernel_model.specs.Kernel.{Fixed, Kernel, PendingCall, Visit, with_visitor, without_visitor}
 use Rattle.kernel_model.specs.Laws.{FindsNoCall, FindsNoSlot, IsFixed, IsOfOther, visited}
 use Rattle.kernel_model.specs.Resume.{call_resumed_by}
@@ -84,6 +88,16 @@ pub record AloneIn (boot : Booted) (history : List Event) : Type 0 where
       history ≡ before ++ behind → kernel_after boot before ≡ Some kernel → IsKeptFor boot kernel session app →
       own_app boot history session ≡ Some app
 
+-- sessions of applications whose sessions share an instance
+pub record TogetherIn (boot : Booted) (history : List Event) : Type 0 where
+  -- those of one application, a group, were answered as the group's own machine answers to its events
+  pub answered : (app : Application) → app_of boot (uuid_of app) ≡ Some app → is_single app ≡ true →
+      group_machine_replies (steps_in history) app boot.key (group_events boot history app) ≡ Some (group_replies boot history app)
+  -- that is said of each which the kernel keeps at any place of the history: it has its number in the group there
+  pub known : (before behind : List Event) (kernel : Kernel) (session : ℕ) (app : Application) →
+      history ≡ before ++ behind → kernel_after boot before ≡ Some kernel → IsKeptTogether boot kernel session app →
+      IsSome (get (noted boot before app).sessions session)
+
 -- ---- plays
 
 -- what holds of the play of these items
@@ -103,8 +117,10 @@ pub record IsPlay (boot : Booted) (items : List Item) (play : Play) : Type 0 whe
   pub no_call : ToldIn boot play.history 3 FindsNoCall
   -- ETHREAD_LIMIT, which is 1, comes exactly where a new call finds no slot free
   pub no_slot : ToldIn boot play.history 1 FindsNoSlot
-  -- sessions that share no instance were answered as alone, each that was ever kept among them
+  -- sessions that share no instance were answered as alone, each that was ever kept among them; those that share one, as their
+  -- group alone
   pub alone : AloneIn boot play.history
+  pub together : TogetherIn boot play.history
 
 -- each play of a trace is one, whatever RAM holds at first
 abbrev pub TracesArePlayed : Type 0

@@ -17,7 +17,7 @@ use Rattle.smc_abi.specs.Answer.{registers_of}
 use Rattle.smc_abi.specs.declared.regs.Regs.{Regs}
 use Rattle.ta_isa.specs.declared.boot.Boot.{Boot}
 use Rattle.trace_text.specs.declared.trace.Trace.{Trace}
-use Rattle.play_model.specs.Laws.{AloneIn, ReturnsIn, ToldIn, entered}
+use Rattle.play_model.specs.Laws.{AloneIn, ReturnsIn, TogetherIn, ToldIn, entered}
 use Rattle.play_model.specs.Order.{HoldsInOrder, TellsExits}
 use Rattle.play_model.specs.Play.{Play, played}
 
@@ -84,6 +84,9 @@ pub record IsTrueToKernel (natives : List Native) (boot : Boot) (trace : Trace) 
   -- a session of an application whose sessions share no instance was answered as its own machine answers to its own
   -- events alone; that is said of each such session that was kept at any place of the history
   pub alone : AloneIn (booted boot natives) play.history
+  -- the sessions of an application that share an instance, a group, were answered as the group's machine answers to what happens to
+  -- the group alone; each such session that was kept at any place of the history is one of its group
+  pub together : TogetherIn (booted boot natives) play.history
   -- an entry is refused only where all entries would then have read more than 2^28 bytes
   pub refused_entry : (more : ℕ) → play.refused ≡ Some more → 2 ^ 28 < copied_bytes play.history + more
 

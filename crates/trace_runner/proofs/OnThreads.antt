@@ -14,7 +14,7 @@ use Rattle.ordered_play.proofs.NamedOrder.{blocks_name_the_order, has_blocks}
 use Rattle.ordered_play.proofs.PartsOfPlay.{plays_have_parts}
 use Rattle.ordered_play.proofs.PlacesOfPlays.{places_are_each_once}
 use Rattle.play_model.specs.Play.{filled}
-use Rattle.play_model.proofs.Returns.{alone_in, no_call_in, no_slot_in, returns_in}
+use Rattle.play_model.proofs.Returns.{alone_in, no_call_in, no_slot_in, returns_in, together_in}
 use Rattle.ports.specs.Port.{Appends, Moves, Rose}
 use Rattle.ta_isa.specs.declared.boot.Boot.{Boot}
 use Rattle.threads_play.specs.InTurn.{AreInTurn}
@@ -76,6 +76,7 @@ true-in-order natives boot trace order text play boots has turns is blocks =
       change_nothing = refused_in on play.history of.legal;
       thread_limit = no_slot_in on play.history of.legal;
       alone = alone_in on play.history of.legal;
+      together = together_in on play.history of.legal;
       places = places_are_each_once on (zeros 0x400000) trace play of by_turns
           (has_blocks natives boot trace order text play has is blocks).ended;
       named = λ none other same few own others.

@@ -8,7 +8,7 @@ use Rattle.ordered_play.specs.Blocks.{blocks_in, has_refused}
 use Rattle.ordered_play.specs.Merge.{IsOfParts, order_with}
 use Rattle.ordered_play.specs.Ordered.{OrderedPlay, played_in}
 use Rattle.ordered_play.specs.Places.{PlacesCountUp}
-use Rattle.play_model.specs.Laws.{AloneIn, ReturnsIn, ToldIn}
+use Rattle.play_model.specs.Laws.{AloneIn, ReturnsIn, TogetherIn, ToldIn}
 use Rattle.play_model.specs.TrueToKernel.{ExitsIn, RefusedIn}
 use Rattle.ports.specs.Port.{Appends}
 use Rattle.ta_isa.specs.declared.boot.Boot.{Boot}
@@ -54,6 +54,9 @@ pub record IsTrueInOrder (natives : List Native) (boot : Boot) (trace : Trace) (
     -- a session of an application whose sessions share no instance was answered as its own machine answers to its own
     -- events alone; that is said of each such session that was kept at any place of the history
     pub alone : AloneIn (booted boot natives) play.history
+    -- the sessions of an application that share an instance, a group, were answered as the group's machine answers to what happens
+    -- to the group alone; each such session that was kept at any place of the history is one of its group
+    pub together : TogetherIn (booted boot natives) play.history
     -- for the m SMCs of its history the places 0 to 2m - 1 are printed, each once, by the processor whose entry or exit stands there
     pub places : PlacesCountUp (booted boot natives) play
     -- and so they name this order: where it refuses no entry, its blocks, of fewer than 2^64 bytes, are those of no other order
