@@ -63,11 +63,11 @@ kept_of_group boot history kernel session app there kept = by (get (noted boot h
     -- its instance is the group's, so the session is no other's
     by : (found : Option ℕ) → get (noted boot history app).sessions session ≡ found
         → IsSome (get (noted boot history app).sessions session)
-    by (Some number) is = subst IsSome (sym is) refl
+    by (Some number) is = subst (IsSome {T = ℕ}) (sym is) refl
     by None none =
         let gone = tied.1.tied.sessions.others session kept.kept kept.there none in
         let of = All-get (λ (one : ℕ × Instance). IsOfGroup app tied.1.instances one.0 one.1.uuid) kernel.tables.instances
         kept.kept.instance kept.instance tied.1.tied.instances.of_app kept.has in
         let its = of.0 (sym (app_named boot kept.instance.uuid app kept.of_app)) in
-        let no : IsSome None = subst IsSome gone its in
+        let no : IsSome {T = ℕ} None = subst (IsSome {T = ℕ}) gone its in
         absurd cc

@@ -285,7 +285,7 @@ entry_first session most solo e notes processor few = by_errand processor
 -- ---- a call that goes out
 
 -- what a call of the machine had done by the time that the kernel's has
-alike_room : (kept : Option ℕ) (now then most : ℕ) (phase own : CallPhase) → PhasesAlike kept now then phase own → now ≤ most → most < 2 ^ 127
+pub alike_room : (kept : Option ℕ) (now then most : ℕ) (phase own : CallPhase) → PhasesAlike kept now then phase own → now ≤ most → most < 2 ^ 127
     → HasRoomIn most then own
 alike_room kept now then most (Runs job) (Runs from) alike le few = enough now then most le alike.more few
   where
@@ -298,7 +298,7 @@ alike_room kept now then most phase (Asks from asked bytes) alike le few = tt
 alike_room kept now then most phase (Waits copied) alike le few = tt
 alike_room kept now then most phase (Ends answer left shown wakes) alike le few = tt
 
-steps_in_slot : (events most : ℕ) (held : ThreadSlot) (call : PendingCall) → call_in held ≡ Some call → HasStepsAfter events held
+pub steps_in_slot : (events most : ℕ) (held : ThreadSlot) (call : PendingCall) → call_in held ≡ Some call → HasStepsAfter events held
     → 1000000 * events ≤ most → call.steps ≤ most
 steps_in_slot events most Free call is has le = absurd cc
 steps_in_slot events most (Active cpu worked) call is has le =

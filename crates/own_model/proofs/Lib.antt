@@ -38,3 +38,4 @@ pub mod TiedEvents
 pub mod RepliesTold
 pub mod WholeHistories
 pub mod KeptSessions
+pub mod Shown

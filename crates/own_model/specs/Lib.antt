@@ -1,5 +1,6 @@
 pub mod Parameters
 pub mod Own
+pub mod Shown
 pub mod Solo
 pub mod InOrder
 pub mod Tied

@@ -1,6 +1,7 @@
 //! Isolation: what a session is answered depends on its own events alone.
 ghost use Rattle.own_model.specs.Isolation.{AnsweredAsAlone, KeptSessionsAreKnown, SameBeginningsSameReplies};
 ghost use Rattle.own_model.specs.Isolation.{SameEventsSameReplies};
+ghost use Rattle.own_model.specs.Shown.{ExitsShowReplies};
 
 /// After each legal history a session of an application whose sessions share no instance was answered as its machine
 /// answers to its events.
@@ -24,4 +25,11 @@ pub fn same_beginnings_get_same_replies()
 /// so that the law is about that session; and it stays known, whatever comes then.
 pub fn kept_sessions_are_known()
     ensures { KeptSessionsAreKnown }
+{}
+
+/// What the normal world is shown of a call that goes out with a reply, its registers and what is written for it, is a function
+/// of that reply and of the call's places (`shown`): its slot, its area and buffer, the slot of the call that it wakes, its argument,
+/// the places of its parameters, and the number of the session that it opens.
+pub fn exits_show_replies()
+    ensures { ExitsShowReplies }
 {}

@@ -12,8 +12,8 @@ mod own_event;
 mod own_reply;
 
 pub use isolation::{
-    kept_sessions_are_known, same_beginnings_get_same_replies, same_events_get_same_replies,
-    sessions_are_answered_as_alone,
+    exits_show_replies, kept_sessions_are_known, same_beginnings_get_same_replies,
+    same_events_get_same_replies, sessions_are_answered_as_alone,
 };
 pub use laws::{
     calls_of_others_keep_sessions, exits_of_others_keep_sessions, fixed_answers_keep_sessions,
