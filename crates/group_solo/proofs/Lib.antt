@@ -22,3 +22,4 @@ pub mod Numbering
 pub mod Stepped
 pub mod Back
 pub mod Numbered
+pub mod Feeding

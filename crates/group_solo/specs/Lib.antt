@@ -7,3 +7,4 @@ pub mod Coming
 pub mod GoingOut
 pub mod Beginning
 pub mod Stepping
+pub mod Feeding
