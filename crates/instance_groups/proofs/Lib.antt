@@ -5,6 +5,8 @@ pub mod Decided
 pub mod Entries
 pub mod Exits
 pub mod FewCalls
+pub mod FedEvents
+pub mod FedAlong
 pub mod Further
 pub mod GoneOut
 pub mod HasCome

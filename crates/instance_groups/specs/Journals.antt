@@ -1,5 +1,5 @@
 -- What is read off a journal of one group: nothing, where the boot has no application of the UUID.
-use Rattle.std.specs.Prelude.{◌≡◌, ℕ, List, [], Option, filter_map, map}
+use Rattle.std.specs.Prelude.{◌≡◌, ℕ, true, List, [], Option, Some, filter_map, map}
 use Rattle.std.specs.Option.{option_map, option_map_or}
 use Rattle.event_journal.specs.declared.event.Event.{Event}
 use Rattle.group_model.specs.Read.{Logged, group_events, group_replies, noted}
@@ -7,8 +7,13 @@ use Rattle.group_model.specs.declared.group_event.GroupEvent.{GroupEvent}
 use Rattle.group_model.specs.declared.group_reply.GroupReply.{GroupReply}
 use Rattle.instance_groups.specs.declared.group_log.GroupLog.{GroupLog}
 use Rattle.kernel_model.specs.Application.{Application, Booted}
-use Rattle.kernel_model.specs.Instances.{app_of}
+use Rattle.kernel_model.specs.Instances.{app_of, is_single}
 use Rattle.kernel_state.specs.Setup.{application_of}
+
+-- the application that the boot has under the UUID, whose sessions share an instance
+pub record IsSharedApp (boot : Booted) (uuid : List ℕ) (app : Application) : Type 0 where
+  pub of_uuid : app_of boot uuid ≡ Some app
+  pub shares : is_single app ≡ true
 
 abbrev pub group_events_of : Booted → List Event → List ℕ → List GroupEvent
 group_events_of boot history uuid = option_map_or (group_events boot history) (app_of boot uuid) []

@@ -1,10 +1,13 @@
 //! What happened to the sessions of an application, and what they were answered.
-ghost use Rattle.std.specs.Prelude.{◌≡◌, ◌++◌, IfOk};
+ghost use Rattle.std.specs.Prelude.{◌≡◌, ◌++◌, IfOk, Some};
 ghost use Rattle.std.specs.Option.{option_to_list};
-ghost use Rattle.instance_groups.specs.Journals.{IsLogOf, events_in, group_events_of, group_replies_of, replies_in};
+ghost use Rattle.group_model.specs.Group.{group_machine_replies, nobody_there};
+ghost use Rattle.group_solo.specs.Feeding.{CanBeFed};
+ghost use Rattle.instance_groups.specs.Journals.{IsLogOf, IsSharedApp, events_in, group_events_of, group_replies_of, replies_in};
 ghost use Rattle.isolation.specs.Journals.{IsJournal};
-ghost use Rattle.kernel_model.specs.Application.{booted};
+ghost use Rattle.kernel_model.specs.Application.{Application, booted};
 ghost use Rattle.native_tas.specs.Table.{entries};
+ghost use Rattle.own_model.specs.Isolation.{steps_in};
 
 use crate::group_log::{GroupLog, Logged};
 use crate::replay::log_of;
@@ -92,7 +95,8 @@ fn replies_in(alloc: Global, log: Vec<Logged>) -> Result<Vec<GroupReply>, NoMemo
 
 /// What has happened to the sessions of the application of this UUID, by the journal of a core of this boot that is legal, whose
 /// entries have read at most 2^28 bytes in all, and each of them the same byte wherever its reads share an address. Nothing
-/// where the boot has no application of this UUID. `NoMemory` where memory is wanting.
+/// where the boot has no application of this UUID. `NoMemory` where memory is wanting. The machine of a group whose sessions share
+/// an instance can be fed with them, one after the other.
 pub fn group_events(
     alloc: Global,
     boot: &Boot,
@@ -101,14 +105,19 @@ pub fn group_events(
     uuid: Uuid,
 ) -> Result<Vec<GroupEvent>, NoMemory>
     requires { IsJournal (booted boot.now (entries natives.now)) journal.now.events }
-    ensures { IfOk result (λ events. events.items
+    ensures events { IfOk result (λ events. events.items
         ≡ group_events_of (booted boot.now (entries natives.now)) journal.now.events uuid) }
+    ensures feeds { (app : Application) → IsSharedApp (booted boot.now (entries natives.now)) uuid app
+        → IfOk result (λ events. CanBeFed (steps_in journal.now.events) app (nobody_there boot.now.key) events.items) }
 {
+    // for the proof: no slice has 2^64 elements, so that the steps of all entries fit 128 bits
+    let _events = journal.as_slice();
     let log = read_group_log(alloc, boot, natives, journal, uuid)?;
     events_in(alloc, log.entries)
 }
 
-/// What they were answered, by the same.
+/// What they were answered, by the same. Sessions that share an instance were answered as the machine of their group answers to its
+/// events.
 pub fn group_replies(
     alloc: Global,
     boot: &Boot,
@@ -117,8 +126,11 @@ pub fn group_replies(
     uuid: Uuid,
 ) -> Result<Vec<GroupReply>, NoMemory>
     requires { IsJournal (booted boot.now (entries natives.now)) journal.now.events }
-    ensures { IfOk result (λ replies. replies.items
+    ensures replies { IfOk result (λ replies. replies.items
         ≡ group_replies_of (booted boot.now (entries natives.now)) journal.now.events uuid) }
+    ensures alone { (app : Application) → IsSharedApp (booted boot.now (entries natives.now)) uuid app
+        → IfOk result (λ replies. group_machine_replies (steps_in journal.now.events) app boot.now.key
+        (group_events_of (booted boot.now (entries natives.now)) journal.now.events uuid) ≡ Some replies.items) }
 {
     let log = read_group_log(alloc, boot, natives, journal, uuid)?;
     replies_in(alloc, log.entries)

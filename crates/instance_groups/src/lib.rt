@@ -1,7 +1,8 @@
 //! What happened to the sessions of an application, and what they were answered, read off the journal of a core.
 //!
 //! The journal is done again as `isolation` does it again for one session. What an entry and an exit are for the group is
-//! read off that core, as the definitions of `group_model` read it off the kernel, and noted.
+//! read off that core, as the definitions of `group_model` read it off the kernel, and noted. The machine of the group, as code, can
+//! be fed with the events.
 //!
 //! `group_log` has what is read off, `notes` what is noted, `arriving` what is seen of an entry and `coming` what is noted of
 //! one, `going` what is noted of a call that goes out, `replay` the core on which the journal is done again, and `group` what is
@@ -20,3 +21,4 @@ pub use base::NoMemory;
 pub use group::{group_events, group_replies, read_group_log};
 pub use group_log::{GroupLog, Logged};
 pub use group_model::{GroupEvent, GroupReply};
+pub use group_solo::GroupSolo;
