@@ -1,0 +1,6 @@
+pub mod Heading
+pub mod Walking
+pub mod Answering
+pub mod Playing
+pub mod Staging
+pub mod Taking

@@ -1,0 +1,295 @@
+-- A stage behind one line more.
+use Rattle.std.proofs.Common.{◌≡◌, ℕ, ◌≤◌, ◌⊎◌, inl, inr, true, List, [], ◌∷◌, ◌++◌, length, Option, Some, None, refl, sym, ap, subst, ◌∙◌, arith}
+use Rattle.std.specs.Prelude.{All, IfNone, IfOk, IfSome, OnOk, Result, Ok, Err, is_some}
+use Rattle.std.specs.List.{AllByRecursion}
+use Rattle.std.proofs.lemmas.List.{length-append}
+use Rattle.std.proofs.lemmas.List.Elements.{All-from_recursion, recursion_from_All}
+use Rattle.base.specs.Zeros.{zeros}
+use Rattle.base.specs.declared.no_memory.NoMemory.{NoMemory}
+use Rattle.kernel_model.specs.Application.{IsBooted, Native, booted}
+use Rattle.kernel_model.proofs.Parts.{some_of}
+use Rattle.live_play.specs.Answer.{Setting, answer_between, play_at, refused_at, setting, uuids_in}
+use Rattle.live_play.proofs.Effects.{IsHeader}
+use Rattle.live_play.proofs.Talking.{no_steps, printed_by, quiet, refused_by, start, with_boot}
+use Rattle.live_player.specs.Header.{IsHeaderOf, boot_in}
+use Rattle.live_player.specs.Standing.{CanBegin, IsOpen, IsPlayedBehind, StageAt}
+use Rattle.live_player.specs.Taking.{Answers, IsNext, IsPlaced, PlaysOn, StagePlays, counted, played}
+use Rattle.live_player.specs.declared.header.Header.{Header}
+use Rattle.live_player.specs.declared.stage.Stage.{Stage}
+use Rattle.live_player.specs.declared.stage.Stage.TheVariants as stage
+use Rattle.live_player.specs.declared.taken.Taken.{Taken}
+use Rattle.live_player.specs.declared.taken.Taken.TheVariants as taken
+use Rattle.live_player.proofs.Answering.{answers-nothing}
+use Rattle.live_player.proofs.Playing.{signal_done, signal_played}
+use Rattle.live_text.specs.Scene.{HasItsBoot, IsEmpty}
+use Rattle.live_text.specs.Statement.{with_statement}
+use Rattle.live_text.specs.declared.statement.Statement.{Statement}
+use Rattle.live_text.specs.declared.statement.Statement.TheVariants as says
+use Rattle.notif.specs.History as desk
+use Rattle.notify_play.specs.NotifyPlay.{Drivers, after_steps, first_notify_play}
+use Rattle.notify_player.specs.Playing.{IsPlayedTo}
+use Rattle.notify_player.specs.declared.player.NotifyPlayer.{NotifyPlayer}
+use Rattle.notify_text.specs.Rules.{NotifyFront}
+use Rattle.notify_text.specs.Sound.{IsSoundSignal}
+use Rattle.notify_text.specs.Steps.{Step}
+use Rattle.notify_text.specs.declared.notify_trace.Signal.{Signal}
+use Rattle.play_model.specs.Play.{first_play}
+use Rattle.ta_isa.specs.declared.boot.App.{App}
+use Rattle.ta_isa.specs.declared.boot.Boot.{Boot}
+use Rattle.trace_text.specs.Sound.{IsSoundBoot}
+use Rattle.trace_text.specs.declared.item.Item.{Item}
+use Rattle.trace_text.specs.declared.limits.Size.{Size}
+use Rattle.trace_text.specs.declared.trace.Fill.{Fill}
+
+-- ---- lines of a header alone
+
+not_empty : {A : Type 0} (xs : List A) (x : A) → xs ++ x ∷ [] ≡ [] → ⊥
+not_empty xs x e =
+    let none : length (xs ++ x ∷ []) ≡ 0 = ap (λ l. length l) e in omega (arith, none, length-append xs (x ∷ []))
+
+pub closed_item : (lines : NotifyFront) (i : Item) → IsOpen (with_statement lines (says.Item i)) → ⊥
+closed_item lines i is_open = not_empty lines.trace.items i is_open.items
+
+pub closed_signal : (lines : NotifyFront) (value : ℕ) → IsOpen (with_statement lines (says.Signal value)) → ⊥
+closed_signal lines value is_open = not_empty lines.signals _ is_open.signals
+
+-- without items and signals they are a header
+header_of : (lines : NotifyFront) → IsOpen lines → IsHeader lines
+header_of lines is_open = record { items = is_open.items; signals = is_open.signals }
+
+pub begun : (on : Setting) (boot : Boot) (lines : NotifyFront) → lines.trace.boot ≡ Some boot → IsOpen lines
+    → play_at on lines ≡ Some (start on boot lines)
+begun on boot lines there is_open =
+    with_boot on boot lines there
+    ∙ ap (λ (steps : List Step). after_steps (booted boot on.natives) on.drivers steps (start on boot lines))
+    (no_steps lines (header_of lines is_open))
+
+-- one line of a header more prints nothing
+pub heads : (on : Setting) (before after : NotifyFront) (text : List ℕ) → IsOpen before → IsOpen after
+    → Answers (answer_between on before after) taken.Done text text
+heads on before after text was is_open =
+    let earlier = quiet on before (header_of before was) in
+    let later = quiet on after (header_of after is_open) in
+    answers-nothing on before after text later.going (later.printed ∙ sym earlier.printed)
+
+-- ---- a core is booted
+
+pub boot_there : (natives : List Native) (drivers : Drivers) (lines : NotifyFront) (header : Header)
+    → CanBegin (setting natives drivers) lines header → (boot : Boot) × (boot_in header ≡ Some boot) × (lines.trace.boot ≡ Some boot)
+boot_there natives drivers lines header can =
+    let there = some_of lines.trace.boot can.boots in
+    (there.0, can.header_is.boot ∙ there.1, there.1)
+
+first_behind : (natives : List Native) (drivers : Drivers) (lines : NotifyFront) (header : Header) (boot : Boot)
+    (fills : List Fill) (player : NotifyPlayer) → CanBegin (setting natives drivers) lines header → boot_in header ≡ Some boot
+    → fills ≡ header.fills.items → IsBooted (booted boot natives)
+    → IsPlayedTo (booted boot natives) drivers (first_notify_play (booted boot natives)
+    (first_play (zeros 0x400000) (booted boot natives) fills)) player
+    → IsPlayedBehind (setting natives drivers) lines player
+first_behind natives drivers lines header boot fills player can is filled boots stands =
+    let there : lines.trace.boot ≡ Some boot = sym can.header_is.boot ∙ is in
+    record {
+      boot = boot;
+      there = there;
+      boots = boots;
+      told = start (setting natives drivers) boot lines;
+      play = begun (setting natives drivers) boot lines there can.open_there;
+      stands =
+          subst (λ (fs : List Fill). IsPlayedTo (booted boot natives) drivers (first_notify_play (booted boot natives)
+          (first_play (zeros 0x400000) (booted boot natives) fs)) player)
+          (filled ∙ can.header_is.fills) stands;
+    }
+
+-- what it is booted with is within the limits
+pub boot_sound : (on : Setting) (lines : NotifyFront) (header : Header) (boot : Boot) → CanBegin on lines header
+    → boot_in header ≡ Some boot → IsSoundBoot (uuids_in on) boot
+boot_sound on lines header boot can is =
+    let P : Option Boot → Type 0 = λ o. IfSome o (IsSoundBoot (uuids_in on)) in
+    subst P (sym can.header_is.boot ∙ is) can.within.sound.boot
+
+-- where memory was there for it
+pub first_ok : (natives : List Native) (drivers : Drivers) (lines : NotifyFront) (header : Header) (boot : Boot)
+    (fills : List Fill) (result : Result NotifyPlayer NoMemory) → CanBegin (setting natives drivers) lines header
+    → boot_in header ≡ Some boot → fills ≡ header.fills.items → IfOk result (λ player. IsBooted (booted boot natives))
+    → IfOk result (λ player. IsPlayedTo (booted boot natives) drivers (first_notify_play (booted boot natives)
+    (first_play (zeros 0x400000) (booted boot natives) fills)) player)
+    → IfOk result (IsPlayedBehind (setting natives drivers) lines)
+first_ok natives drivers lines header boot fills (Ok player) can is filled boots stands =
+    first_behind natives drivers lines header boot fills player can is filled boots stands
+first_ok natives drivers lines header boot fills (Err e) can is filled boots stands = tt
+
+-- behind an item or a signal there is a boot
+boot_by : (lines : NotifyFront) (boot : Option Boot) → lines.trace.boot ≡ boot → HasItsBoot lines → (IsOpen lines → ⊥)
+    → is_some lines.trace.boot ≡ true
+boot_by lines None there has closed =
+    let P : Option Boot → Type 0 = λ o. IfNone o (IsEmpty lines) in
+    let empty : IsEmpty lines = subst P there has in
+    absurd (closed (record { items = empty.items; signals = empty.signals }))
+boot_by lines (Some boot) there has closed = ap is_some there
+
+pub can_begin : (on : Setting) (lines : NotifyFront) (said : Statement) (header : Header)
+    → IsHeaderOf header lines → IsOpen lines → IsNext on lines said → (IsOpen (with_statement lines said) → ⊥)
+    → (with_statement lines said).trace.boot ≡ lines.trace.boot → CanBegin on lines header
+can_begin on lines said header is is_open next closed same = record {
+  header_is = is;
+  open_there = is_open;
+  within = next.within;
+  boots =
+      subst (λ (o : Option Boot). is_some o ≡ true) same
+      (boot_by (with_statement lines said) (with_statement lines said).trace.boot refl next.next.sound.no_boot closed);
+}
+
+-- ---- a stage
+
+-- a core that has played an item, or refused its entry
+core_item : (on : Setting) (lines : NotifyFront) (i : Item) (how : Taken) (player : NotifyPlayer) → (IsOpen lines → ⊥)
+    → IsPlayedBehind on (counted how lines (with_statement lines (says.Item i))) player
+    → StageAt on (counted how lines (with_statement lines (says.Item i))) (stage.Core player)
+core_item on lines i taken.Done player closed p = (p, closed_item lines i)
+core_item on lines i (taken.Full copied) player closed p = (p, closed)
+
+pub core_plays : (on : Setting) (lines : NotifyFront) (i : Item) (result : Result Taken NoMemory) (player : NotifyPlayer)
+    (old new : List ℕ) → (IsOpen lines → ⊥) → IfOk result (λ how. PlaysOn on lines (says.Item i) how player old new)
+    → IfOk result (λ how. StagePlays on lines (says.Item i) how (stage.Core player) old new)
+core_plays on lines i (Ok how) player old new closed p =
+    record { answers = p.answers; stands = core_item on lines i how player closed p.stands }
+core_plays on lines i (Err e) player old new closed p = tt
+
+-- one that was booted for it
+pub begun_plays : (on : Setting) (lines : NotifyFront) (i : Item) (player : NotifyPlayer) (old new : List ℕ)
+    → PlaysOn on lines (says.Item i) taken.Done player old new
+    → StagePlays on lines (says.Item i) taken.Done (stage.Core player) old new
+begun_plays on lines i player old new p = record { answers = p.answers; stands = (p.stands, closed_item lines i) }
+
+-- and was let go of, since the entry was refused
+pub refused_plays : (on : Setting) (lines : NotifyFront) (i : Item) (copied : ℕ) (player : NotifyPlayer) (now : Stage)
+    (old new : List ℕ) → PlaysOn on lines (says.Item i) (taken.Full copied) player old new → StageAt on lines now
+    → StagePlays on lines (says.Item i) (taken.Full copied) now old new
+refused_plays on lines i copied player now old new p at = record { answers = p.answers; stands = at }
+
+-- a core that was signalled
+pub core_signal : (natives : List Native) (drivers : Drivers) (lines : NotifyFront) (value : ℕ) (before after : NotifyPlayer)
+    (text : List ℕ) → (p : IsPlayedBehind (setting natives drivers) lines before)
+    → IsPlayedTo (booted p.boot natives) drivers (record p.told { calls = desk.Signal value ∷ p.told.calls }) after
+    → StagePlays (setting natives drivers) lines (says.Signal value) taken.Done (stage.Core after) text text
+core_signal natives drivers lines value before after text p stands =
+    let is = signal_played natives drivers lines value before p in
+    record {
+      answers =
+          answers-nothing (setting natives drivers) lines (with_statement lines (says.Signal value)) text
+          (ap refused_by is ∙ stands.machine.goes_on) (ap printed_by is ∙ sym (ap printed_by p.play));
+      stands = (signal_done natives drivers lines value before after p stands, closed_signal lines value);
+    }
+
+-- its value is one that the hardware signals
+last_signal : (most : ℕ) (signals : List Signal) (signal : Signal) → AllByRecursion (IsSoundSignal most) (signals ++ signal ∷ [])
+    → IsSoundSignal most signal
+last_signal most [] signal all = all.0
+last_signal most (first ∷ signals) signal all = last_signal most signals signal all.1
+
+pub signal_sound : (on : Setting) (lines : NotifyFront) (value : ℕ) → IsNext on lines (says.Signal value)
+    → IsSoundSignal (length lines.trace.items) (record { at = length lines.trace.items; value = value })
+signal_sound on lines value next =
+    let count : ℕ = length lines.trace.items in
+    let signal : Signal = record { at = count; value = value } in
+    last_signal count lines.signals signal
+    (recursion_from_All (IsSoundSignal count) (lines.signals ++ signal ∷ []) next.next.signals)
+
+-- alone, before the first item
+pub one_sound : (value : ℕ) → 1 ≤ value → value ≤ 63 → All (IsSoundSignal 0) (record { at = 0; value = value } ∷ [])
+one_sound value least most =
+    All-from_recursion (IsSoundSignal 0) (record { at = 0; value = value } ∷ [])
+    (record { some = least; few = most; there = omega arith }, tt)
+
+-- ---- what waits in the header
+
+stage_going : (on : Setting) (lines : NotifyFront) (now : Stage) → StageAt on lines now → refused_at on lines ≡ None
+stage_going on lines (stage.Header header) at = (quiet on lines (header_of lines at.1)).going
+stage_going on lines (stage.Core player) at = ap refused_by at.0.play ∙ at.0.stands.machine.goes_on
+
+-- neither an item nor a signal is said
+abbrev pub Waits : Statement → Type 0
+Waits said = (said ≡ says.Blank)
+    ⊎ (((size : Size) × (said ≡ says.Boot size))
+    ⊎ (((app : App) × (said ≡ says.App app))
+    ⊎ (((fill : Fill) × (said ≡ says.Fill fill)) ⊎ ((key : List ℕ) × (said ≡ says.Key key)))))
+
+abbrev IsWaiting : Statement → Type 0
+IsWaiting says.Blank = Unit {0}
+IsWaiting (says.Boot size) = Unit {0}
+IsWaiting (says.App app) = Unit {0}
+IsWaiting (says.Fill fill) = Unit {0}
+IsWaiting (says.Key key) = Unit {0}
+IsWaiting (says.Item i) = ⊥
+IsWaiting (says.Signal value) = ⊥
+
+waiting : (said : Statement) → Waits said → IsWaiting said
+waiting said (inl is) = subst IsWaiting (sym is) tt
+waiting said (inr (inl (size, is))) = subst IsWaiting (sym is) tt
+waiting said (inr (inr (inl (app, is)))) = subst IsWaiting (sym is) tt
+waiting said (inr (inr (inr (inl (fill, is))))) = subst IsWaiting (sym is) tt
+waiting said (inr (inr (inr (inr (key, is))))) = subst IsWaiting (sym is) tt
+
+waits_by : (on : Setting) (lines : NotifyFront) (said : Statement) (now : Stage) (text : List ℕ) → IsWaiting said
+    → IsPlaced lines said → StageAt on lines now → StagePlays on lines said taken.Done now text text
+waits_by on lines says.Blank now text waiting placed at =
+    record { answers = answers-nothing on lines lines text (stage_going on lines now at) refl; stands = at }
+waits_by on lines (says.Boot size) now text waiting placed at = record {
+  answers = heads on lines (with_statement lines (says.Boot size)) text placed
+      (record { items = placed.items; signals = placed.signals });
+  stands = at;
+}
+waits_by on lines (says.App app) now text waiting placed at = record {
+  answers = heads on lines (with_statement lines (says.App app)) text placed
+      (record { items = placed.items; signals = placed.signals });
+  stands = at;
+}
+waits_by on lines (says.Fill fill) now text waiting placed at = record {
+  answers = heads on lines (with_statement lines (says.Fill fill)) text placed
+      (record { items = placed.items; signals = placed.signals });
+  stands = at;
+}
+waits_by on lines (says.Key key) now text waiting placed at = record {
+  answers = heads on lines (with_statement lines (says.Key key)) text placed
+      (record { items = placed.items; signals = placed.signals });
+  stands = at;
+}
+waits_by on lines (says.Item i) now text waiting placed at = absurd waiting
+waits_by on lines (says.Signal value) now text waiting placed at = absurd waiting
+
+pub waits : (on : Setting) (lines : NotifyFront) (said : Statement) (now : Stage) (text : List ℕ) → Waits said
+    → IsPlaced lines said → StageAt on lines now → StagePlays on lines said taken.Done now text text
+waits on lines said now text which placed at = waits_by on lines said now text (waiting said which) placed at
+
+-- it is added there
+on_ok : {A E P Q : Type 0} (result : Result A E) → (P → Q) → OnOk result P → OnOk result Q
+on_ok (Ok x) then p = then p
+on_ok (Err e) then p = tt
+
+pub header_added : (on : Setting) (lines : NotifyFront) (said : Statement) (old new : Header)
+    (result : Result (Unit {0}) NoMemory)
+    → ((before : NotifyFront) → IsHeaderOf old before → OnOk result (IsHeaderOf new (with_statement before said)))
+    → StageAt on (played lines said) (stage.Header old)
+    → OnOk result (StageAt on (with_statement lines said) (stage.Header new))
+header_added on lines says.Blank old new result adds at = on_ok result (λ is. (is, at.1)) (adds lines at.0)
+header_added on lines (says.Boot size) old new result adds at =
+    on_ok result (λ is. (is, record { items = at.1.items; signals = at.1.signals })) (adds lines at.0)
+header_added on lines (says.App app) old new result adds at =
+    on_ok result (λ is. (is, record { items = at.1.items; signals = at.1.signals })) (adds lines at.0)
+header_added on lines (says.Fill fill) old new result adds at =
+    on_ok result (λ is. (is, record { items = at.1.items; signals = at.1.signals })) (adds lines at.0)
+header_added on lines (says.Key key) old new result adds at =
+    on_ok result (λ is. (is, record { items = at.1.items; signals = at.1.signals })) (adds lines at.0)
+header_added on lines (says.Item i) old new result adds at = absurd (closed_item lines i at.1)
+header_added on lines (says.Signal value) old new result adds at = absurd (closed_signal lines value at.1)
+
+-- a core has played it before
+pub core_added : (on : Setting) (lines : NotifyFront) (said : Statement) (player : NotifyPlayer) → IsPlaced lines said
+    → StageAt on (played lines said) (stage.Core player) → StageAt on (with_statement lines said) (stage.Core player)
+core_added on lines says.Blank player placed at = at
+core_added on lines (says.Boot size) player placed at = absurd (at.1 placed)
+core_added on lines (says.App app) player placed at = absurd (at.1 placed)
+core_added on lines (says.Fill fill) player placed at = absurd (at.1 placed)
+core_added on lines (says.Key key) player placed at = absurd (at.1 placed)
+core_added on lines (says.Item i) player placed at = at
+core_added on lines (says.Signal value) player placed at = at

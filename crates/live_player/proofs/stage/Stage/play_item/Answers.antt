@@ -1,0 +1,56 @@
+use Rattle.std.proofs.Common.{refl}
+use Rattle.live_play.specs.Answer.{Setting, setting}
+use Rattle.live_player.proofs.Staging.{begun_plays, can_begin, closed_item, core_plays, refused_plays}
+use Rattle.live_text.specs.declared.statement.Statement.TheVariants as says
+use Rattle.native_tas.specs.Table.{drivers, entries}
+use Rattle.live_player.proofs.stage.Stage.play_item.Goals as goal
+
+pub play_on-requires : goal.play_on-requires
+play_on-requires g c = (c.requires.0, c.requires.1, (rw c.in-Core.is at c.requires.2).0)
+
+pub returns-in-Core : goal.returns-in-Core
+returns-in-Core g c = λ lines next stands.
+    let on : Setting = setting (entries c.args.natives.now) (drivers c.args.natives.now) in
+    let there = rw c.in-Core.is at stands in
+    core_plays on lines c.args.item.now c.play_on.result c.play_on.new.player c.args.text.now.items
+    c.play_on.new.text.items there.1 (c.play_on.ensures lines next there.0)
+
+pub first_player-requires : goal.first_player-requires
+first_player-requires g c =
+    let on : Setting = setting (entries c.args.natives.now) (drivers c.args.natives.now) in
+    let there = rw c.in-Header.is at c.requires.2 in (
+      c.requires.0,
+      can_begin on c.requires.0 (says.Item c.args.item.now) c.in-Header.header there.0 there.1 c.requires.1
+          (closed_item c.requires.0 c.args.item.now) refl,
+    )
+
+pub play_on-requires-in-Header : goal.play_on-requires-in-Header
+play_on-requires-in-Header g c =
+    let on : Setting = setting (entries c.args.natives.now) (drivers c.args.natives.now) in
+    let there = rw c.in-Header.is at c.requires.2 in (
+      c.requires.0,
+      c.requires.1,
+      c.in_ok-player-in-Header.ensures c.requires.0
+          (can_begin on c.requires.0 (says.Item c.args.item.now) c.in-Header.header there.0 there.1 c.requires.1
+          (closed_item c.requires.0 c.args.item.now) refl),
+    )
+
+pub returns-in-Done : goal.returns-in-Done
+returns-in-Done g c = λ lines next stands.
+    let on : Setting = setting (entries c.args.natives.now) (drivers c.args.natives.now) in
+    let there = rw c.in-Header.is at stands in
+    let can = can_begin on lines (says.Item c.args.item.now) c.in-Header.header there.0 there.1 next
+    (closed_item lines c.args.item.now) refl in
+    rw c.in-Done.is (begun_plays on lines c.args.item.now c.play_on-in-Header.new.player c.args.text.now.items
+    c.play_on-in-Header.new.text.items
+    (rw c.in-Done.is at (c.in_ok-taken-in-Header.ensures lines next (c.in_ok-player-in-Header.ensures lines can))))
+
+pub returns-in-Full : goal.returns-in-Full
+returns-in-Full g c = λ lines next stands.
+    let on : Setting = setting (entries c.args.natives.now) (drivers c.args.natives.now) in
+    let there = rw c.in-Header.is at stands in
+    let can = can_begin on lines (says.Item c.args.item.now) c.in-Header.header there.0 there.1 next
+    (closed_item lines c.args.item.now) refl in
+    rw c.in-Full.is (refused_plays on lines c.args.item.now _ c.play_on-in-Header.new.player _ c.args.text.now.items
+    c.play_on-in-Header.new.text.items
+    (rw c.in-Full.is at (c.in_ok-taken-in-Header.ensures lines next (c.in_ok-player-in-Header.ensures lines can))) there)

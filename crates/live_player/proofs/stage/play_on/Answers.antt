@@ -1,0 +1,36 @@
+use Rattle.std.proofs.Common.{subst}
+use Rattle.std.specs.Prelude.{Err}
+use Rattle.kernel_model.specs.Application.{booted}
+use Rattle.native_tas.specs.Table.{drivers, entries}
+use Rattle.notify_play.specs.NotifyPlay.{after_item}
+use Rattle.notify_player.specs.Playing.{Follows}
+use Rattle.word_parts.specs.declared.stop.Stop.{Stop}
+use Rattle.live_player.proofs.Playing.{desk_is, item_can, item_done, item_full}
+use Rattle.live_player.proofs.stage.play_on.Goals as goal
+
+pub play_item-requires-clause-can : goal.play_item-requires-clause-can
+play_item-requires-clause-can g c =
+    item_can (entries c.args.natives.now) (drivers c.args.natives.now) c.requires.0 c.args.item.now c.args.player.now
+    c.machines_stand.ensures c.requires.1 c.requires.2
+
+pub play_item-requires-clause-desk : goal.play_item-requires-clause-desk
+play_item-requires-clause-desk g c =
+    desk_is (entries c.args.natives.now) (drivers c.args.natives.now) c.requires.0 c.args.player.now
+    c.desks_keep_their_drivers.ensures c.requires.2
+
+pub returns-in-Ok : goal.returns-in-Ok
+returns-in-Ok g c = λ lines next p.
+    item_done (entries c.args.natives.now) (drivers c.args.natives.now) lines c.args.item.now c.args.player.now
+    c.play_item.new.self c.args.text.now.items c.play_item.new.lines.items next p
+    (c.in-Ok.ensures.follows (booted p.boot (entries c.args.natives.now)) p.told p.stands)
+
+pub returns-in-Err-Full : goal.returns-in-Err-Full
+returns-in-Err-Full g c = λ lines next p.
+    let natives = entries c.args.natives.now in
+    let ds = drivers c.args.natives.now in
+    item_full natives ds lines c.args.item.now c.args.player.now c.play_item.new.self c.copied.result
+    c.args.text.now.items c.play_item.new.lines.items next p
+    (subst (λ (stop : Stop). Follows (booted p.boot natives) ds p.told (after_item (booted p.boot natives) ds c.args.item.now p.told)
+    (Err stop) c.play_item.new.self c.args.text.now.items c.play_item.new.lines.items) c.in-Err-Full.field-0-is
+    (c.in-Err-Full.ensures.follows (booted p.boot natives) p.told p.stands))
+    (cc)

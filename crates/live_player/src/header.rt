@@ -1,0 +1,87 @@
+//! What the lines of the header say.
+
+ghost use Rattle.std.specs.Prelude.{◌≡◌, IfOk, OnOk};
+ghost use Rattle.live_play.specs.Answer.{setting};
+ghost use Rattle.live_player.specs.Header.{IsHeaderOf, boot_in};
+ghost use Rattle.live_player.specs.Standing.{CanBegin, IsPlayedBehind};
+ghost use Rattle.live_text.specs.Statement.{with_statement};
+ghost use Rattle.native_tas.specs.Table.{drivers, entries};
+ghost use Rattle.notify_text.specs.Rules.{NotifyFront, no_lines};
+
+use base::NoMemory;
+use live_text::Statement;
+use native_tas::Natives;
+use notify_player::NotifyPlayer;
+use std::alloc::{AllocError, Global};
+use ta_isa::{App, Boot};
+use trace_text::Fill;
+use trace_text::limits::{KEY_BYTES, Size, boot_of};
+
+/// A boot, and bytes that stand in every lane at the start.
+#[derive(Drop)]
+pub(crate) struct Header {
+    size: Option<Size>,
+    apps: Vec<App>,
+    key: Option<[u8; KEY_BYTES]>,
+    fills: Vec<Fill>,
+}
+
+impl Header {
+    /// Nothing yet. Takes no memory.
+    pub(crate) fn new(alloc: Global) -> Header
+        ensures { IsHeaderOf result no_lines }
+    {
+        Header {
+            size: None,
+            apps: Vec::new(alloc),
+            key: None,
+            fills: Vec::new(alloc),
+        }
+    }
+
+    /// Adds what a line says. An item and a signal add nothing here.
+    pub(crate) fn add(&mut self, said: Statement) -> Result<(), NoMemory>
+        ensures { (lines : NotifyFront) → IsHeaderOf self.old lines →
+            OnOk result (IsHeaderOf self.new (with_statement lines said)) }
+    {
+        match said {
+            Statement::Boot(size) => {
+                self.size = Some(size);
+                self.apps.clear();
+                self.key = None;
+                Ok(())
+            }
+            Statement::App(app) => Ok(self.apps.push(app)?),
+            Statement::Fill(fill) => Ok(self.fills.push(fill)?),
+            Statement::Key(key) => {
+                self.key = Some(key);
+                Ok(())
+            }
+            Statement::Blank | Statement::Item(_) | Statement::Signal(_) => Ok(()),
+        }
+    }
+
+    /// A copy of the boot, where there is one.
+    fn boot(&self, alloc: Global) -> Result<Option<Boot>, AllocError>
+        ensures { IfOk result (λ boot. boot ≡ boot_in self.now) }
+    {
+        Ok(boot_of(self.size, self.apps.as_slice().to_vec(alloc)?, self.key))
+    }
+
+    /// A player on a core of the boot, before the first step. The header stays, since its lines count on where the first
+    /// entry is refused.
+    pub(crate) fn first_player(
+        &self,
+        alloc: Global,
+        natives: &Natives,
+    ) -> Result<NotifyPlayer, NoMemory>
+        requires { (lines : NotifyFront) × CanBegin (setting (entries natives.now) (drivers natives.now)) lines self.now }
+        ensures { (lines : NotifyFront) → CanBegin (setting (entries natives.now) (drivers natives.now)) lines self.now →
+            IfOk result (IsPlayedBehind (setting (entries natives.now) (drivers natives.now)) lines) }
+    {
+        let Some(boot) = self.boot(alloc)? else {
+            unreachable!()
+        };
+        NotifyPlayer::booted(alloc, boot, natives, self.fills.as_slice())
+    }
+}

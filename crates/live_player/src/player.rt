@@ -1,0 +1,90 @@
+ghost use Rattle.std.specs.Prelude.{List, IfOk};
+ghost use Rattle.kernel_model.specs.Application.{Native};
+ghost use Rattle.live_play.specs.Answer.{setting};
+ghost use Rattle.live_player.specs.Standing.{HasCome, StandsAt};
+ghost use Rattle.live_player.specs.Taking.{IsNext, Judges, TakesOn};
+ghost use Rattle.live_text.specs.Statement.{HasFewCpus};
+ghost use Rattle.native_tas.specs.Table.{drivers, entries};
+ghost use Rattle.notify_play.specs.NotifyPlay.{Drivers};
+ghost use Rattle.notify_text.specs.Rules.{NotifyFront, no_lines};
+
+use crate::header::Header;
+use crate::stage::Stage;
+use crate::taken::Taken;
+use base::NoMemory;
+use live_text::{Scene, Statement, lines_stay_sound, read_line};
+use native_tas::Natives;
+use std::alloc::Global;
+use trace_text::LineFault;
+
+/// A core in a conversation, behind the lines that count so far. It is booted at the first line behind the header.
+#[derive(Drop)]
+pub struct LivePlayer {
+    /// What the rules of the next line look at.
+    scene: Scene,
+    stage: Stage,
+}
+
+impl LivePlayer {
+    /// No line was taken yet. Takes no memory.
+    pub fn new(alloc: Global) -> LivePlayer
+        ensures { (natives : List Native) (ds : Drivers) → StandsAt (setting natives ds) no_lines result }
+    {
+        lines_stay_sound();
+        LivePlayer {
+            scene: Scene::new(alloc),
+            stage: Stage::Header(Header::new(alloc)),
+        }
+    }
+
+    /// Takes what a line says that keeps its rules.
+    fn take(
+        &mut self,
+        alloc: Global,
+        natives: &Natives,
+        said: Statement,
+        text: &mut Vec<u8>,
+    ) -> Result<Taken, NoMemory>
+        requires few { HasFewCpus said }
+        requires next { (lines : NotifyFront)
+            × IsNext (setting (entries natives.now) (drivers natives.now)) lines said
+            × HasCome (setting (entries natives.now) (drivers natives.now)) lines self.old }
+        ensures { (lines : NotifyFront)
+            → IsNext (setting (entries natives.now) (drivers natives.now)) lines said
+            → HasCome (setting (entries natives.now) (drivers natives.now)) lines self.old
+            → IfOk result (λ taken. TakesOn (setting (entries natives.now) (drivers natives.now)) lines said taken
+            self.new text.old.items text.new.items) }
+    {
+        match self.stage.play(alloc, natives, &said, text)? {
+            Taken::Done => {
+                self.scene.take(&said)?;
+                self.stage.add(said)?;
+                Ok(Taken::Done)
+            }
+            Taken::Full(copied) => Ok(Taken::Full(copied)),
+        }
+    }
+
+    /// Takes a line, which is given without its line feed, and appends the lines of its answer to the text, but for the one
+    /// that ends it. A line that breaks a rule changes nothing. The natives are the same for all lines. At want of memory a
+    /// part of a line may stand behind the text, and the player is done with.
+    pub fn take_line(
+        &mut self,
+        alloc: Global,
+        natives: &Natives,
+        line: &[u8],
+        text: &mut Vec<u8>,
+    ) -> Result<Taken, LineFault>
+        requires { (lines : NotifyFront) × StandsAt (setting (entries natives.now) (drivers natives.now)) lines self.old }
+        ensures { (lines : NotifyFront) → StandsAt (setting (entries natives.now) (drivers natives.now)) lines self.old
+            → Judges (setting (entries natives.now) (drivers natives.now)) lines line.now result
+            self.new text.old.items text.new.items }
+    {
+        lines_stay_sound();
+        let said = read_line(alloc, natives.uuids().as_slice(), &self.scene, line)?;
+        match self.take(alloc, natives, said, text) {
+            Ok(taken) => Ok(taken),
+            Err(NoMemory) => Err(LineFault::NoRoom),
+        }
+    }
+}
