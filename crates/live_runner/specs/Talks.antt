@@ -1,0 +1,25 @@
+-- What a conversation over a port comes to.
+use Rattle.std.specs.Prelude.{◌≡◌, ℕ, List, [], ◌∷◌, ◌++◌, Option, Some, IfSome}
+use Rattle.line_port.specs.History.{Event, Hears, Input, Says}
+use Rattle.line_port.specs.declared.finish.Finish.{Finish}
+use Rattle.live_play.specs.Answer.{Setting, play_at}
+use Rattle.live_play.specs.Conversation.{IsConversation, after_all}
+use Rattle.live_play.specs.Laws.{IsHeld}
+use Rattle.notify_play.specs.NotifyPlay.{NotifyPlay}
+use Rattle.notify_text.specs.Rules.{no_lines}
+use Rattle.ta_isa.specs.declared.boot.Boot.{Boot}
+
+-- where a boot counts behind this, the lines that count have a play, whose history is legal and has the kernel's own answers;
+-- and each return that was said is one of its
+abbrev pub AreHeld : Setting → List Input → Type 0
+AreHeld on inputs =
+    IfSome (after_all on no_lines inputs).trace.boot (λ (boot : Boot).
+    (told : NotifyPlay) × (play_at on (after_all on no_lines inputs) ≡ Some told) × IsHeld on inputs boot told)
+
+-- the history grew by a conversation; so it is behind each of its turns, and behind the last line where a part of its answer was
+-- said
+pub record Talks (on : Setting) (old new : Option (List Event)) (finish : Finish) : Type 0 where
+  pub talk : IsConversation on old new finish
+  pub held : (front behind : List Input) → talk.inputs ≡ front ++ behind → AreHeld on front
+  pub half_said : (input : Input) (part : List ℕ) → talk.rest ≡ Hears input ∷ Says part ∷ []
+      → AreHeld on (talk.inputs ++ input ∷ [])

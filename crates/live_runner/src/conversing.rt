@@ -1,0 +1,66 @@
+//! A conversation to its end.
+
+ghost use Rattle.std.specs.Prelude.{◌≡◌, None};
+ghost use Rattle.live_play.specs.Answer.{setting};
+ghost use Rattle.live_player.specs.Standing.{StandsAt};
+ghost use Rattle.live_runner.specs.Talks.{Talks};
+ghost use Rattle.live_runner.specs.Turns.{EndsAs, IsEndOf, Turns};
+ghost use Rattle.native_tas.specs.Table.{drivers, entries};
+ghost use Rattle.notify_text.specs.Rules.{NotifyFront};
+
+use crate::talk::Talk;
+use line_port::{Finish, Port};
+use live_play::turns_are_told;
+use native_tas::Natives;
+use std::alloc::Global;
+
+/// One turn: a line is heard, and its answer said.
+fn take_turn<P: Port>(
+    alloc: Global,
+    natives: &Natives,
+    talk: &mut Talk,
+    port: &mut P,
+) -> Result<(), Finish>
+    requires open_there { P.finish port.old ≡ None }
+    requires stands { (lines : NotifyFront) × StandsAt (setting (entries natives.now) (drivers natives.now)) lines talk.old.player }
+    ensures turn { (lines : NotifyFront) → StandsAt (setting (entries natives.now) (drivers natives.now)) lines talk.old.player
+        → Turns (setting (entries natives.now) (drivers natives.now)) lines (P.history port.old) (P.history port.new) result
+        talk.new.player }
+    ensures ends { EndsAs result (P.finish port.new) }
+{
+    let heard = port.hear(&mut talk.line);
+    if let Some(finish) = heard.finish() {
+        return Err(finish);
+    }
+    let Ok(()) = talk.answer(alloc, natives, heard) else {
+        return Err(Finish::Memory);
+    };
+    let said = port.say(talk.answer.as_slice());
+    match said.finish() {
+        None => Ok(()),
+        Some(end) => Err(end),
+    }
+}
+
+/// Holds a conversation with a core to its end, beside the applications and the drivers that are built in: each line is
+/// answered before the next one is heard. Want of memory may come at any time; what was heard last has then had no answer. As
+/// many turns as there are numbers of 64 bits count as want of memory too.
+pub fn live<P: Port>(alloc: Global, natives: &Natives, port: &mut P) -> Finish
+    requires { P.finish port.old ≡ None }
+
+    // ---- The history grew by a conversation from the first line on; and behind each of its turns, as behind an answer that was
+    // said in part, all returns are those of one play, whose history is legal, with the kernel's own answers.
+    ensures talks { Talks (setting (entries natives.now) (drivers natives.now)) (P.history port.old) (P.history port.new) result }
+
+    // ---- The port has come to this end; but want of memory may come before its end.
+    ensures ends { IsEndOf result (P.finish port.new) }
+{
+    turns_are_told();
+    let mut talk = Talk::new(alloc);
+    for _ in 0..u64::MAX {
+        if let Err(finish) = take_turn(alloc, natives, &mut talk, port) {
+            return finish;
+        }
+    }
+    Finish::Memory
+}
