@@ -1,0 +1,264 @@
+#!/usr/bin/env python3
+"""Holds a conversation with a core, by docs/conversation.md: a prompt, and a module for benches.
+
+It starts the program, sends it each line of standard input, and reads its answer, before it takes the next line. A line `> LINE` is
+what was sent, and each line `< LINE` behind it is one of the answer. At a terminal the lines before can be had back and changed.
+Words, in any order:
+    script      a line is one of a script for lift.py, in which arguments, images and calls have names; files lie in the folder that
+                live.py is called in
+    serve       a call that asks for something is answered and resumed until it has ended: buffers are lent, files are kept in
+                memory, waits are over at once
+    notes       a line `  = TEXT` says what an answer says, as annotate.py does
+The program is what `rt run` has built in crates/optee_live, or FILE.
+
+Status: that of the program, which is 0 where its input is over; 2 at other words.
+usage: live.py [program=FILE] [script] [serve] [notes]
+"""
+
+import collections
+import os
+import pathlib
+import signal
+import subprocess
+import sys
+
+import formats
+import lift
+import plays
+import program
+from supplicant import Supplicant
+from words import BadWords, run
+
+MOST_SHOWN, MOST_STEPS = 4096, 1_000_000
+
+# The lines of an answer, and the one that ends it.
+Answer = collections.namedtuple("Answer", "lines ending")
+
+
+class Refused(Exception):
+    """A line that was answered by `bad KIND` or `full COPIED`."""
+
+    def __init__(self, line, ending):
+        super().__init__(f"{line:.80}: {ending}")
+        self.line, self.ending = line, ending
+
+
+class Over(Exception):
+    """The program has ended, with this status."""
+
+    def __init__(self, status):
+        super().__init__(f"the program has ended with status {status}")
+        self.status = status
+
+
+class Conversation:
+    """A conversation with a core of its own. `heard`, where it is given, is called with each line and its answer."""
+
+    def __init__(self, file=None, heard=None):
+        self.heard = heard
+        path = program.found("optee_live", file)
+        self.process = subprocess.Popen([path], stdin=subprocess.PIPE, stdout=subprocess.PIPE)
+
+    def __enter__(self):
+        return self
+
+    def __exit__(self, *error):
+        self.close()
+
+    def close(self):
+        """Ends the input. The status of the program."""
+        try:
+            self.process.stdin.close()
+        except BrokenPipeError:
+            pass
+        self.process.stdout.close()
+        return self.process.wait()
+
+    def send(self, line):
+        """Sends a line, and reads its answer."""
+        if "\n" in line:
+            raise ValueError("one line at a time")
+        try:
+            self.process.stdin.write(line.encode("latin-1") + b"\n")
+            self.process.stdin.flush()
+        except BrokenPipeError:
+            raise Over(self.process.wait()) from None
+        answer = self.answer()
+        if self.heard:
+            self.heard(line, answer)
+        return answer
+
+    def answer(self):
+        """Reads an answer to the line that ends it."""
+        lines = []
+        while True:
+            line = self.process.stdout.readline().decode("latin-1")
+            if not line.endswith("\n"):
+                raise Over(self.process.wait())
+            line = line[:-1]
+            if line.split(" ")[0] in ("ok", "bad", "full"):
+                return Answer(lines, line)
+            lines.append(line)
+
+    def ask(self, line):
+        """Sends a line that is to be taken: the lines of its answer."""
+        lines, ending = self.send(line)
+        if ending != "ok":
+            raise Refused(line, ending)
+        return lines
+
+    def smc(self, cpu, registers, steps=MOST_STEPS):
+        """A processor enters with up to eight registers, and exits: those of the answer."""
+        padded = [*registers, *[0] * (8 - len(registers))]
+        return registers_of(self.ask(f"smc {cpu} {steps} " + " ".join(f"{register:x}" for register in padded)))
+
+    def read(self, cpu, address, length):
+        """Bytes of a processor's RAM."""
+        data = b""
+        while len(data) < length:
+            count = min(length - len(data), MOST_SHOWN)
+            line = self.ask(f"show {cpu} {address + len(data):x} {count}")[0]
+            data += bytes.fromhex(line.split(" ")[3])
+        return data
+
+    def write(self, cpu, address, data):
+        """A processor writes bytes into its RAM."""
+        self.ask(f"write {cpu} {address:x} {data.hex()}")
+
+
+class Driver:
+    """Calls that are made to their end, with a supplicant that serves them."""
+
+    def __init__(self, talk, supplicant=None):
+        self.talk, self.supplicant = talk, supplicant or Supplicant(talk)
+
+    def call(self, cpu, registers, steps=MOST_STEPS):
+        """A processor calls, and returns until the call has ended: the registers of its last answer. A call that sleeps is resumed
+        at once, so the one that it waits for must not be left suspended."""
+        answered = self.talk.smc(cpu, registers, steps)
+        self.supplicant.begins(cpu, registers)
+        while served := self.supplicant.serves(cpu, answered):
+            answered = self.talk.smc(cpu, served[0], steps)
+        return answered
+
+
+def registers_of(lines):
+    """The registers of a line `ret`."""
+    return [int(register, 16) for register in lines[-1].split(" ")[2:]]
+
+
+class Prompt:
+    """Takes lines as a reader types them, and prints what comes of them."""
+
+    def __init__(self, file, options):
+        self.options = options
+        self.talk = Conversation(file, self.heard)
+        self.play, self.number = plays.Play(), 0
+        self.script, self.supplicant = lift.Script(pathlib.Path()), Supplicant(self.talk)
+        self.typed = None
+
+    def heard(self, line, answer):
+        """Prints a line and its answer. One that stands on the terminal isn't printed again."""
+        if line != self.typed:
+            print(f"> {line}")
+        self.typed = None
+        for part in (*answer.lines, answer.ending):
+            print(f"< {part}")
+        note = self.note(line, answer)
+        if note and "notes" in self.options:
+            print(f"  = {note}")
+        sys.stdout.flush()
+
+    def note(self, line, answer):
+        """What an answer says."""
+        word, _, rest = answer.ending.partition(" ")
+        if word == "bad":
+            return f"{rest}: {FAULTS.get(rest) or formats.FAULTS.get(rest, 'no known kind')}"
+        if word == "full":
+            return f"the entry would have read too much: {rest} bytes are read so far"
+        self.number += 1
+        return self.play.entry(self.number, line, collections.deque(answer.lines)).note
+
+    def take(self, text):
+        """Sends what a line of the reader stands for."""
+        lines = self.script.lift(text) if "script" in self.options else [text]
+        for line in lines:
+            words = line.split(" ")
+            if "serve" in self.options and words[0] in ("smc", "enter", "leave"):
+                self.serve(line, words)
+            else:
+                self.talk.send(line)
+
+    def serve(self, line, words):
+        """Sends a line of a call, and serves the call until it has ended."""
+        registers = self.registers(words) if words[0] != "leave" else None
+        lines, ending = self.talk.send(line)
+        if ending != "ok":
+            return
+        cpu = int(words[1])
+        if registers:
+            self.supplicant.begins(cpu, registers)
+        answered = registers_of(lines) if lines else None
+        while answered and (served := self.supplicant.serves(cpu, answered)):
+            answered = self.talk.smc(cpu, served[0])
+
+    def registers(self, words):
+        """The registers of an entry, or None where the line isn't of its form."""
+        try:
+            return [self.register(words, at) for at in range(8)]
+        except (ValueError, IndexError):
+            return None
+
+    def register(self, words, at):
+        word = words[3 + at]
+        return self.play.last_answer[words[1]][int(word[1:])] if word[0] == "=" else int(word, 16)
+
+    def typed_lines(self):
+        """The lines of the reader, up to their end."""
+        sys.stdin.reconfigure(encoding="latin-1")
+        if not sys.stdin.isatty():
+            yield from (line.removesuffix("\n") for line in sys.stdin)
+            return
+        import readline  # noqa: F401  (the lines before can be had back)
+
+        while True:
+            try:
+                self.typed = input("> ")
+            except (EOFError, KeyboardInterrupt):
+                print()
+                return
+            yield self.typed
+
+    def hold(self):
+        """Holds the conversation to its end. The status."""
+        try:
+            for text in self.typed_lines():
+                try:
+                    self.take(text)
+                except (BadWords, Refused) as error:
+                    print(f"  {error}")
+        except Over as over:
+            return over.status
+        except BrokenPipeError:  # nobody reads what is printed
+            os.dup2(os.open(os.devnull, os.O_WRONLY), sys.stdout.fileno())
+        return self.talk.close()
+
+
+FAULTS = {
+    "long": "the line has more than 8,388,736 bytes",
+    "cut": "the input ends within the line",
+}
+OPTIONS = ("script", "serve", "notes")
+
+
+def main(words):
+    words = list(words)
+    file = program.taken_from(words)
+    if len(set(words)) != len(words) or not set(words) <= set(OPTIONS):
+        raise BadWords()
+    signal.signal(signal.SIGPIPE, signal.SIG_IGN)  # a program that has ended is told by its status
+    return Prompt(file, words).hold()
+
+
+if __name__ == "__main__":
+    run(main, __doc__)

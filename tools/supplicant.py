@@ -1,0 +1,184 @@
+"""What the normal world does for calls that ask it for something, by docs/formats.md ("A resume", "Messages to the normal world"): over
+any RAM that can be read and written by `read(cpu, address, length)` and `write(cpu, address, data)`. It isn't run by itself."""
+
+import collections
+import struct
+
+import arg
+import formats
+
+MOST_FILE_BYTES = 1 << 20
+MOST_PARAMETERS = 3  # of a request
+MESSAGE_BYTES = formats.HEAD_BYTES + MOST_PARAMETERS * formats.PARAMETER_BYTES
+
+# A buffer that a call was lent, and the place of its requests' arguments.
+Lent = collections.namedtuple("Lent", "buffer cookie place")
+
+# A request: its name in docs/formats.md, the p, q and s of each parameter, and the bytes of its payload.
+Request = collections.namedtuple("Request", "name parameters payload")
+
+
+class Refused(Exception):
+    """A result of a file, by its name."""
+
+
+class Files:
+    """Files in memory, by their names, each open one under the lowest free descriptor."""
+
+    def __init__(self):
+        self.data, self.names = {}, {}
+
+    def file(self, descriptor):
+        if descriptor not in self.names:
+            raise Refused("BAD_PARAMETERS")
+        if self.names[descriptor] not in self.data:
+            raise Refused("ITEM_NOT_FOUND")
+        return self.data[self.names[descriptor]]
+
+    def open(self, name):
+        if name not in self.data:
+            raise Refused("ITEM_NOT_FOUND")
+        descriptor = next(number for number in range(len(self.names) + 1) if number not in self.names)
+        self.names[descriptor] = name
+        return descriptor
+
+    def create(self, name):
+        if name in self.data:
+            raise Refused("ACCESS_CONFLICT")
+        self.data[name] = bytearray()
+        return self.open(name)
+
+    def close(self, descriptor):
+        if self.names.pop(descriptor, None) is None:
+            raise Refused("BAD_PARAMETERS")
+
+    def read(self, descriptor, offset, length):
+        return bytes(self.file(descriptor)[offset : offset + length])
+
+    def write(self, descriptor, offset, data):
+        file = self.file(descriptor)
+        if offset + len(data) > MOST_FILE_BYTES:
+            raise Refused("BAD_PARAMETERS")
+        file.extend(bytes(max(0, offset - len(file))))
+        file[offset : offset + len(data)] = data
+
+    def remove(self, name):
+        if self.data.pop(name, None) is None:
+            raise Refused("ITEM_NOT_FOUND")
+
+
+class Supplicant:
+    """Lends buffers, keeps files, and tells the time. A buffer lies at `buffer` and 4096 bytes further for each thread, under a cookie
+    that is `cookie` and one more for each thread."""
+
+    def __init__(self, ram, buffer=0x40010000, cookie=1):
+        self.ram, self.buffer, self.cookie = ram, buffer, cookie
+        self.files, self.lent, self.begun = Files(), {}, {}
+        self.seconds = 0
+
+    def time(self):
+        """Seconds and nanoseconds. Here so many seconds as there were such requests before: equal conversations have equal bytes."""
+        self.seconds += 1
+        return self.seconds - 1, 0
+
+    def wait(self, milliseconds):
+        """A call waits so long. Here it doesn't."""
+
+    def begins(self, cpu, registers, area=None):
+        """An entry with these registers is let in. The requests of a new call stand in its area, where it has one, whose address has
+        to be given where a cookie names the argument."""
+        if registers[0] != formats.RETURN_FROM_RPC:
+            has_area = registers[0] == formats.CALL_WITH_RPC_ARG
+            self.begun[cpu] = area, registers[1] << 32 | registers[2] if has_area else None
+
+    def serves(self, cpu, answered):
+        """Answers what a call asks for in the registers of its answer: the registers to return with, and the request's name, or
+        None where it has ended."""
+        if answered[0] not in formats.RPCS:
+            return None
+        thread, client = answered[3], answered[7]
+        if cpu in self.begun or thread not in self.lent:
+            self.lent[thread] = self.lent_to(cpu, thread)
+        lent, name = self.lent[thread], formats.RPCS[answered[0]]
+        returns = [formats.RETURN_FROM_RPC, 0, 0, thread, 0, 0, 0, client]
+        if name == "ALLOC":
+            returns[1:3], returns[4:6] = halves(lent.buffer), halves(lent.cookie)
+        if name == "CMD":
+            name = self.answers(cpu, lent)
+        return returns, name
+
+    def lent_to(self, cpu, thread):
+        """The buffer of a thread, whose requests stand in the area of the call that its processor has begun, or else in the buffer."""
+        buffer = self.buffer + formats.BUFFER_BYTES * thread
+        area, argument = self.begun.pop(cpu, (None, None))
+        if argument is not None:
+            count = int.from_bytes(self.ram.read(cpu, argument + formats.COUNT_AT, 4), "little")
+            area = argument + formats.HEAD_BYTES + formats.PARAMETER_BYTES * count
+        return Lent(buffer, self.cookie + thread, area or buffer)
+
+    def answers(self, cpu, lent):
+        """Reads a request, and writes its reply. The name of the request."""
+        request = self.request(cpu, lent)
+        try:
+            words = getattr(self, f"reply_{request.name.lower()}")(request)
+        except Refused as refused:
+            words = ["ret", str(refused)]
+        for offset, piece in arg.reply(words):
+            self.ram.write(cpu, (lent.buffer if offset == formats.PAYLOAD_AT else lent.place) + offset, piece)
+        return request.name
+
+    def request(self, cpu, lent):
+        """The request that stands where the call's requests do."""
+        data = self.ram.read(cpu, lent.place, MESSAGE_BYTES)
+        command, count = struct.unpack_from("<I24xI", data)
+        places = [formats.HEAD_BYTES + formats.PARAMETER_BYTES * index for index in range(min(count, MOST_PARAMETERS))]
+        parameters = [struct.unpack_from("<4Q", data, place) for place in places]
+        values = [parameter[1:] for parameter in parameters]
+        kind = values[0][0] if values else None
+        name = formats.REQUESTS.get((command, None)) or formats.REQUESTS.get((command, kind), "Other")
+        length = next((q for attribute, _, q, _ in parameters if formats.KINDS.get(attribute) == "tmem_in"), 0)
+        return Request(name, values, self.ram.read(cpu, lent.buffer + formats.PAYLOAD_AT, length) if length else b"")
+
+    def reply_other(self, request):
+        return ["ret", "NOT_SUPPORTED"]
+
+    def reply_time(self, request):
+        return ["time", *map(str, self.time())]
+
+    def reply_sleep(self, request):
+        return ["ret", "SUCCESS"]
+
+    def reply_wake(self, request):
+        return ["ret", "SUCCESS"]
+
+    def reply_suspend(self, request):
+        self.wait(request.parameters[0][0])
+        return ["ret", "SUCCESS"]
+
+    def reply_fsopen(self, request):
+        return ["descriptor", str(self.files.open(request.payload))]
+
+    def reply_fscreate(self, request):
+        return ["descriptor", str(self.files.create(request.payload))]
+
+    def reply_fsclose(self, request):
+        self.files.close(request.parameters[0][1])
+        return ["ret", "SUCCESS"]
+
+    def reply_fsread(self, request):
+        (_, descriptor, offset), (_, length, _) = request.parameters[:2]
+        return ["bytes", self.files.read(descriptor, offset, length).hex() or "-"]
+
+    def reply_fswrite(self, request):
+        _, descriptor, offset = request.parameters[0]
+        self.files.write(descriptor, offset, request.payload)
+        return ["ret", "SUCCESS"]
+
+    def reply_fsremove(self, request):
+        self.files.remove(request.payload)
+        return ["ret", "SUCCESS"]
+
+
+def halves(number):
+    """A number of 64 bits in two registers, the upper half first."""
+    return number >> 32, number & 0xFFFFFFFF
