@@ -2,11 +2,11 @@
 """Runs the tools over all shipped examples and cases, and compares what they give with what is wanted.
 
 That are the shipped files, expected.py, and, for the tables that the tools share, those of docs/formats.md. The commands that
-pages of docs/ show are run, and what they print is compared. The program answers by the shipped cases alone there (known.py), so
-that each run of a page is one of the gate; FILE is run instead, where it is given. It prints each thing that doesn't agree, and
-at the end how many were compared.
+pages of docs/ show are run, and what they print is compared. The programs answer by the shipped cases alone there (known.py, and
+known_live.py for conversations), so that each run of a page is one of the gate; FILE is run instead, where it is given. It prints each
+thing that doesn't agree, and at the end how many were compared.
 Status: 0 where all agree, 1 where something doesn't, 2 at other words.
-usage: check.py [program=FILE]
+usage: check.py [program=FILE] [live=FILE]
 """
 
 import importlib
@@ -22,6 +22,7 @@ import answers
 import arg
 import client
 import client_test
+import conversations
 import documented
 import expected
 import formats
@@ -33,6 +34,7 @@ import plays
 import program
 import shipped
 import story
+import supplicant
 from words import BadWords, run
 
 FOLDER = shipped.ROOT / "tools"
@@ -356,11 +358,36 @@ def items(trace):
     return [line for line in trace.splitlines() if line and line[0] != "#"]
 
 
-def check_pages(comparison, file=None):
+def check_conversations(comparison):
+    """Answers of conversations are lines as others print them; files of a supplicant; a prompt's lines that aren't of their form."""
+    for case in conversations.cases():
+        lines = [line for line, answer in case.turns if answer[-1] == "ok"]
+        printed = [line for _, answer in case.turns for line in answer[:-1]]
+        entries = laid_out("".join(f"{line}\n" for line in lines), "".join(f"{line}\n" for line in printed))
+        told = [entry.printed for entry in entries or () if entry.printed]
+        comparison.same(f"annotate.py at the conversation {case.name}", told, printed)
+    files = supplicant.Files()
+    for words, wanted in expected.FILES:
+        comparison.same(f"supplicant.py: {words}", file_call(files, *words), wanted)
+    for line, wanted in expected.PROMPTED.items():
+        given = tool("live.py", f"program={FOLDER / 'known_live.py'}", "script", text=f"boot 1 1 1\n{line}\n")
+        comparison.same(f"live.py at {line}", given[:2], (0, f"> boot 1 1 1\n< ok\n{wanted}"))
+
+
+def file_call(files, name, *operands):
+    """What a call on files gives, or the result with which it is refused."""
+    try:
+        return getattr(files, name)(*operands)
+    except supplicant.Refused as refused:
+        return str(refused)
+
+
+def check_pages(comparison, file=None, live=None):
     """The commands of the tutorials, and those of other pages that show some."""
     runner = pathlib.Path(file).resolve() if file else FOLDER / "known.py"
+    talker = pathlib.Path(live).resolve() if live else FOLDER / "known_live.py"
     for path in sorted((shipped.ROOT / "docs").glob("*.md")):
-        for shown, given in pages.run_page(path, runner):
+        for shown, given in pages.run_page(path, runner, talker):
             what = f"{path.name} line {shown.line}: {shown.command}"
             comparison.same(what, given if not pages.is_shown(given, shown.printed) else shown.printed, shown.printed)
     shown = [["a"], ["..", "b"], ["a", ".."], ["a", "..", "b"], [".."]]
@@ -413,6 +440,7 @@ CHECKS = [
     check_machine,
     check_clients,
     check_scripts,
+    check_conversations,
     check_links,
     check_words,
 ]
@@ -420,15 +448,18 @@ CHECKS = [
 
 def main(words):
     words = list(words)
-    file = program.taken_from(words)
+    file, live = program.taken_from(words), program.taken_from(words, "live")
     if words:
         raise BadWords()
-    if file:
-        program.Program(file)
+    for name, named in (("optee_run", file), ("optee_live", live)):
+        if named:
+            program.found(name, named)
     comparison = Comparison()
     for check in CHECKS:
         check(comparison)
-    check_pages(comparison, file)
+    check_pages(comparison, file, live)
+    if not live:
+        print("no live=FILE: conversations are answered by the shipped cases alone")
     print(f"{comparison.compared} compared, {comparison.differing} differ")
     return 1 if comparison.differing else 0
 

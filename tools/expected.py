@@ -406,7 +406,42 @@ BAD_WORDS = {
     "chart.py": ["", "a b c", "program=no_such_file a", "no_such_file no_such_file"],
     "client_test.py": ["", "program=no_such_file examples"],
     "known.py": [""],
+    "known_live.py": ["x"],
+    "live.py": ["x", "serve serve", "program=no_such_file"],
+    "live_test.py": ["x", "program=no_such_file"],
     "step.py": ["", "-", "- opens", "- invoke", "- invoke x", "- close vo", "- invoke 0 vi:1", "- open mi:", "- open r16=0"],
+}
+# Calls on a supplicant's files, one after the other, and what each gives.
+FILES = [
+    (("open", b"a"), "ITEM_NOT_FOUND"),
+    (("remove", b"a"), "ITEM_NOT_FOUND"),
+    (("create", b"a"), 0),
+    (("create", b"a"), "ACCESS_CONFLICT"),
+    (("open", b"a"), 1),
+    (("read", 0, 0, 8), b""),
+    (("write", 0, 2, b"xy"), None),
+    (("read", 1, 0, 8), b"\0\0xy"),
+    (("read", 1, 3, 1), b"y"),
+    (("read", 1, 9, 1), b""),
+    (("write", 1, 2**20 - 1, b"z"), None),
+    (("write", 1, 2**20, b"z"), "BAD_PARAMETERS"),
+    (("close", 2), "BAD_PARAMETERS"),
+    (("close", 0), None),
+    (("close", 0), "BAD_PARAMETERS"),
+    (("create", b"b"), 0),
+    (("remove", b"a"), None),
+    (("read", 1, 0, 1), "ITEM_NOT_FOUND"),
+    (("write", 1, 2**20, b"z"), "ITEM_NOT_FOUND"),
+    (("read", 7, 0, 1), "BAD_PARAMETERS"),
+    (("close", 1), None),
+    (("open", b"b"), 1),
+]
+# Lines of a prompt that takes scripts, and what it prints of each.
+PROMPTED = {
+    "name N": "  the name N stands for no words\n",
+    "smc 0 1 CALLS": "  CALLS is no function\n",
+    "smc 0 1 CALLS_UID": "> smc 0 1 bf00ff01 0 0 0 0 0 0 0\n"
+    "< ret 0 384fb3e0 e7f811e3 af630002 a5d5c51b 00000000 00000000 00000000 00000000\n< ok\n",
 }
 BAD_SCRIPTS = [
     "name",

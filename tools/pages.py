@@ -1,8 +1,9 @@
 """Commands that pages of docs/ show, with what they print, run as a shell runs them. It isn't run by itself.
 
 In an indented block of a page a line that begins with `$ ` is a command, and below it stands what it prints on standard output,
-all of it, but that a line `..` stands for some lines that are left out. A command with `<<END` goes on to a line `END`. The
-commands of a page run one after the other at the top of the repository, where T is a folder of their own and RUN the program.
+all of it, but that a line `..` stands for some lines that are left out. A command with `<<END` or `<<'END'` goes on to a line `END`. The
+commands of a page run one after the other at the top of the repository, where T is a folder of their own, RUN the program and LIVE that of
+a conversation.
 """
 
 import collections
@@ -16,17 +17,21 @@ import tempfile
 import shipped
 
 INDENT, PROMPT, LEFT_OUT = "    ", "$ ", ".."
+TEXTS = ("<<END", "<<'END'")
 
 # A command of a page, at a line, and the lines that it prints.
 Shown = collections.namedtuple("Shown", "line command printed")
 
 
 def shown_in(text):
-    """The commands of a page."""
-    lines = [(number, line) for number, line in enumerate(text.splitlines(), 1)]
-    for is_block, group in itertools.groupby(lines, lambda line: line[1].startswith(INDENT)):
+    """The commands of a page. An empty line between two indented ones is of their block."""
+    lines = list(enumerate(text.splitlines(), 1))
+    written = [line.startswith(INDENT) for _, line in lines if line]
+    before = list(itertools.accumulate(bool(line) for _, line in lines))
+    is_of_block = [all(written[max(0, count - 1) : count + (not line)]) for count, (_, line) in zip(before, lines)]
+    for is_block, group in itertools.groupby(zip(is_of_block, lines), lambda part: part[0]):
         if is_block:
-            yield from shown_in_block(collections.deque((number, line[len(INDENT) :]) for number, line in group))
+            yield from shown_in_block(collections.deque((number, line[len(INDENT) :]) for _, (number, line) in group))
 
 
 def shown_in_block(lines):
@@ -35,15 +40,18 @@ def shown_in_block(lines):
         if not line.startswith(PROMPT):
             continue
         command = [line[len(PROMPT) :]]
-        while "<<END" in command[0] and command[-1] != "END":
+        has_text = any(mark in command[0] for mark in TEXTS)
+        while has_text and command[-1] != "END":
             command.append(lines.popleft()[1])
         printed = []
         while lines and not lines[0][1].startswith(PROMPT):
             printed.append(lines.popleft()[1])
+        while printed and not printed[-1]:
+            printed.pop()
         yield Shown(number, "\n".join(command), printed)
 
 
-def run_page(path, program):
+def run_page(path, program, live):
     """The commands of a page, each with the lines that it has printed."""
     found = list(shown_in(shipped.read(path)))
     with tempfile.TemporaryDirectory() as folder:
@@ -53,7 +61,7 @@ def run_page(path, program):
         for number, shown in enumerate(found):
             output = pathlib.Path(folder, str(number))
             script += ["earlier $status", "{", shown.command, f"}} > {output}", "status=$?"]
-        settings = os.environ | {"T": str(own), "RUN": str(program)}
+        settings = os.environ | {"T": str(own), "RUN": str(program), "LIVE": str(live)}
         text = "\n".join(script)
         subprocess.run(["bash"], input=text, cwd=shipped.ROOT, env=settings, capture_output=True, text=True, check=False)
         outputs = [pathlib.Path(folder, str(number)) for number in range(len(found))]
