@@ -1,0 +1,281 @@
+#!/usr/bin/env python3
+"""Tries the program of a conversation over pipes and other streams, as its users have them. No part of the gate.
+
+The conversations are those that `live_cases` holds. They are given whole, and line by line; a line in pieces, several at once, and many
+more than are read; streams that are closed, full or slow, or no streams of that kind; and, where there is a C compiler, each request
+for memory is refused in turn. The program is what `rt run` has built in crates/optee_live, or FILE. It prints each thing that isn't as
+docs/conversation.md has it, and at the end how many were compared.
+Status: 0 where all is as wanted, 1 where something isn't, 2 at other words.
+usage: live_test.py [program=FILE]
+"""
+
+import fcntl
+import os
+import pathlib
+import select
+import signal
+import subprocess
+import sys
+import tempfile
+import threading
+import time
+
+import conversations
+import live
+import program
+import shipped
+from check import Comparison
+from embed import compiler
+from words import BadWords, run
+
+PATIENCE = 60  # seconds
+MOMENT = 0.2
+USAGE = b"usage: optee_live\n"
+BOOT, TAKEN = b"boot 1 1 1\n", b"ok\n"
+LONG = 4000  # bytes of a line of which a pipe holds few
+REFUSED = ["page", "session-by-its-number", "two-waiting-calls-and-a-wake", "create-object-with-a-tag", "signals"]
+
+
+class Tests:
+    """The program, and what was compared."""
+
+    def __init__(self, path, comparison):
+        self.path, self.same = path, comparison.same
+        self.cases = {case.name: case for case in conversations.cases()}
+
+    def ends(self, what, wanted, **streams):
+        """Runs the program on streams to its end, and compares its status with that which is wanted, and what it said."""
+        done = subprocess.run([self.path], stdout=streams.pop("stdout", subprocess.PIPE), timeout=PATIENCE, check=False, **streams)
+        self.same(what, (done.returncode, done.stdout), wanted)
+
+    def start(self):
+        return subprocess.Popen([self.path], stdin=subprocess.PIPE, stdout=subprocess.PIPE)
+
+
+def lines_of(case):
+    """All that a side writes."""
+    cut = case.cut[0] if case.cut else ""
+    return ("".join(f"{line}\n" for line, _ in case.turns) + cut).encode("latin-1")
+
+
+def answers_of(case):
+    """What is answered to each line."""
+    answers = [answer for _, answer in case.turns] + ([case.cut[1]] if case.cut else [])
+    return ["".join(f"{line}\n" for line in answer).encode("latin-1") for answer in answers]
+
+
+def try_whole_inputs(tests):
+    """Each conversation, all of it written at once."""
+    for case in tests.cases.values():
+        tests.ends(f"{case.name}, at once", (0, b"".join(answers_of(case))), input=lines_of(case))
+
+
+def try_turns(tests):
+    """Each conversation, each line written when the last is answered; each answer comes by one write, before any further line."""
+    for case in tests.cases.values():
+        with tests.start() as process:
+            for (line, _), wanted in zip(case.turns, answers_of(case)):
+                process.stdin.write(line.encode("latin-1") + b"\n")
+                process.stdin.flush()
+                given = os.read(process.stdout.fileno(), len(wanted) + 1)
+                if given != wanted:
+                    tests.same(f"{case.name}: {line:.60}", given, wanted)
+            cut = case.cut[0].encode("latin-1") if case.cut else b""
+            rest = process.communicate(cut, timeout=PATIENCE)[0]
+        wanted = answers_of(case)[-1] if case.cut else b""
+        tests.same(f"{case.name}, line by line", (process.returncode, rest), (0, wanted))
+
+
+def try_pieces(tests):
+    """A line in pieces isn't answered before its line feed; what stands behind it in one write is a line of its own."""
+    with tests.start() as process:
+        for piece in (BOOT[:3], BOOT[3:7], BOOT[7:-1]):
+            write(process, piece)
+            tests.same(f"nothing is answered to {piece}", is_answered(process), False)
+        write(process, b"\n# a comment\nlea")
+        tests.same("two lines at once", read_to(process, 2 * len(TAKEN)), 2 * TAKEN)
+        write(process, b"ve 0\n")
+        tests.same("the third", read_to(process, 11), b"bad inside\n")
+        process.stdin.close()
+        tests.same("the end", (process.stdout.read(), process.wait(PATIENCE)), (b"", 0))
+
+
+def try_slow_sides(tests):
+    """A side that writes, and one that reads, byte by byte."""
+    case = tests.cases["page"]
+    wanted = b"".join(answers_of(case))
+    with tests.start() as process:
+        for byte in lines_of(case):
+            write(process, bytes([byte]))
+            time.sleep(MOMENT / 100)
+        process.stdin.close()
+        given = b""
+        while part := os.read(process.stdout.fileno(), 1):
+            given += part
+            time.sleep(MOMENT / 100)
+        tests.same("a slow side", (given, process.wait(PATIENCE)), (wanted, 0))
+
+
+def try_lines_ahead(tests):
+    """A side that reads nothing can't write on for ever: both stop. Once it reads, each line has its answer, in order."""
+    line, answer = b"show 0 40000000 %d\n" % LONG, b"mem 0 40000000 " + 2 * LONG * b"0" + b"\nok\n"
+    with tests.start() as process:
+        write(process, BOOT)
+        os.set_blocking(process.stdin.fileno(), False)
+        ahead = lines_until_full(process.stdin.fileno(), line)
+        tests.same("both sides wait", 0 < len(ahead) < 2 * room_of(process), True)
+        os.set_blocking(process.stdin.fileno(), True)
+        rest = line[len(ahead) % len(line) :] if len(ahead) % len(line) else b""
+        count = (len(ahead) + len(rest)) // len(line)
+        threading.Thread(target=finish, args=(process, rest)).start()
+        given = process.stdout.read()
+        tests.same("lines ahead", (given == TAKEN + count * answer, process.wait(PATIENCE)), (True, 0))
+
+
+def finish(process, rest):
+    write(process, rest)
+    process.stdin.close()
+
+
+def lines_until_full(stream, line):
+    """What of lines, one after the other, a stream takes until it takes nothing for a moment."""
+    written = b""
+    while select.select([], [stream], [], 5 * MOMENT)[1]:
+        at = len(written) % len(line)
+        written += line[at : at + os.write(stream, line[at:])]
+    return written
+
+
+def room_of(process):
+    """How many bytes both pipes hold."""
+    streams = process.stdin, process.stdout
+    return sum(fcntl.fcntl(stream.fileno(), fcntl.F_GETPIPE_SZ) for stream in streams)
+
+
+def try_other_streams(tests):
+    """Streams that are closed or full, or that can't be read or written."""
+    with open(os.devnull, "rb") as nothing, open("/dev/full", "wb") as full, open(os.devnull, "wb") as unread:
+        tests.ends("an input that is over", (0, b""), stdin=nothing)
+        tests.ends("an input that can't be read", (4, b""), stdin=unread)
+        tests.ends("no input", (4, b""), preexec_fn=lambda: os.close(0))
+        tests.ends("a full output", (5, None), input=BOOT, stdout=full)
+        tests.ends("a full output, and nothing to say", (0, None), stdin=nothing, stdout=full)
+        tests.ends("no output", (5, None), input=BOOT, stdout=None, preexec_fn=lambda: os.close(1))
+    folder = os.open(shipped.ROOT, os.O_RDONLY)
+    tests.ends("an input that is a folder", (4, b""), stdin=folder)
+    os.close(folder)
+    with tests.start() as process:
+        process.stdout.close()
+        write(process, BOOT)
+        tests.same("an output that nobody reads", process.wait(PATIENCE), 5)
+    with tests.start() as process:
+        write(process, BOOT + b"enter 0 1 bf00ff01 0 0 0 0 0 0 0\n")
+        read_to(process, 2 * len(TAKEN))
+        process.stdin.close()
+        tests.same("an end with a processor inside", (process.stdout.read(), process.wait(PATIENCE)), (b"", 0))
+
+
+def try_words(tests):
+    for words in (["a"], [""], ["a", "b"]):
+        done = subprocess.run([tests.path, *words], input=BOOT, capture_output=True, timeout=PATIENCE, check=False)
+        tests.same(f"the words {words}", (done.returncode, done.stdout), (2, USAGE))
+
+
+def try_module(tests):
+    """What tools/live.py says of a refused line, and of a program that has ended."""
+    with live.Conversation(tests.path) as talk:
+        tests.same("send", talk.send("boot 1 1 1"), live.Answer([], "ok"))
+        tests.same("ask", refusal(talk.ask, "boot 1 1 1"), "bad place")
+        talk.write(0, 0x40000FFF, bytes(range(200)) * 50)
+        tests.same("read", talk.read(0, 0x40000FFF, 10_000), bytes(range(200)) * 50)
+        tests.same("smc", talk.smc(0, [0xBF00FF03]), [2, 0, 0, 0, 0, 0, 0, 0])
+        talk.process.kill()
+        tests.same("a program that has ended", refusal(talk.ask, "# a"), -9)
+
+
+def refusal(ask, line):
+    """How a line was refused, or the status with which the program has ended."""
+    try:
+        return ask(line)
+    except live.Refused as refused:
+        return refused.ending
+    except live.Over as over:
+        return over.status
+
+
+def try_memory(tests):
+    """Each request for memory refused: the program ends with 6, and has said whole answers from the front."""
+    cc = compiler()
+    if cc is None:
+        print("no C compiler: no request for memory was refused")
+        return
+    with tempfile.TemporaryDirectory() as folder:
+        library = pathlib.Path(folder, "refuse_allocation.so")
+        source = shipped.ROOT / "bench/refuse_allocation.c"
+        subprocess.run([cc, "-O2", "-shared", "-fPIC", "-o", library, source], check=True)
+        for name in REFUSED:
+            refuse_each(tests, tests.cases[name], library)
+
+
+def refuse_each(tests, case, library):
+    answers = answers_of(case)
+    fronts = [b"".join(answers[:count]) for count in range(len(answers) + 1)]
+    number, is_refused = 0, True
+    while is_refused:
+        number += 1
+        settings = os.environ | {"LD_PRELOAD": str(library), "REFUSE": str(number)}
+        run_once = {"input": lines_of(case), "capture_output": True, "timeout": PATIENCE, "env": settings, "check": False}
+        done = subprocess.run([tests.path], **run_once)
+        is_refused = b"refused\n" in done.stderr
+        wanted = (6, True) if is_refused else (0, True)
+        said = done.stdout in fronts if is_refused else done.stdout == fronts[-1]
+        tests.same(f"{case.name}, memory request {number}", (done.returncode, said), wanted)
+    print(f"{case.name}: {number - 1} requests for memory, each refused once")
+
+
+def write(process, data):
+    process.stdin.write(data)
+    process.stdin.flush()
+
+
+def is_answered(process):
+    return bool(select.select([process.stdout], [], [], MOMENT)[0])
+
+
+def read_to(process, count):
+    """So many bytes of what is said."""
+    given = b""
+    while len(given) < count and (part := os.read(process.stdout.fileno(), count - len(given))):
+        given += part
+    return given
+
+
+TESTS = [
+    try_whole_inputs,
+    try_turns,
+    try_pieces,
+    try_slow_sides,
+    try_lines_ahead,
+    try_other_streams,
+    try_words,
+    try_module,
+    try_memory,
+]
+
+
+def main(words):
+    words = list(words)
+    file = program.taken_from(words)
+    if words:
+        raise BadWords()
+    signal.signal(signal.SIGPIPE, signal.SIG_IGN)
+    comparison = Comparison()
+    tests = Tests(program.found("optee_live", file), comparison)
+    for test in TESTS:
+        test(tests)
+    print(f"{comparison.compared} compared, {comparison.differing} differ")
+    return 1 if comparison.differing else 0
+
+
+if __name__ == "__main__":
+    run(main, __doc__)
