@@ -9,6 +9,7 @@ Status: 0 where all is as wanted, 1 where something isn't, 2 at other words.
 usage: live_test.py [program=FILE]
 """
 
+import contextlib
 import fcntl
 import os
 import pathlib
@@ -28,11 +29,12 @@ from check import Comparison
 from embed import compiler
 from words import BadWords, run
 
-PATIENCE = 60  # seconds
+PATIENCE = 20  # seconds
 MOMENT = 0.2
 USAGE = b"usage: optee_live\n"
 BOOT, TAKEN = b"boot 1 1 1\n", b"ok\n"
-LONG = 4000  # bytes of a line of which a pipe holds few
+LONG = 4000  # bytes that are shown at once
+MOST_ANSWERED = 3 * 4096  # bytes of an answer
 REFUSED = ["page", "session-by-its-number", "two-waiting-calls-and-a-wake", "create-object-with-a-tag", "signals"]
 
 
@@ -48,8 +50,15 @@ class Tests:
         done = subprocess.run([self.path], stdout=streams.pop("stdout", subprocess.PIPE), timeout=PATIENCE, check=False, **streams)
         self.same(what, (done.returncode, done.stdout), wanted)
 
+    @contextlib.contextmanager
     def start(self):
-        return subprocess.Popen([self.path], stdin=subprocess.PIPE, stdout=subprocess.PIPE)
+        """The program on two pipes; at last it is ended, whatever it does."""
+        process = subprocess.Popen([self.path], stdin=subprocess.PIPE, stdout=subprocess.PIPE)
+        try:
+            yield process
+        finally:
+            process.kill()
+            process.wait()
 
 
 def lines_of(case):
@@ -74,16 +83,19 @@ def try_turns(tests):
     """Each conversation, each line written when the last is answered; each answer comes by one write, before any further line."""
     for case in tests.cases.values():
         with tests.start() as process:
-            for (line, _), wanted in zip(case.turns, answers_of(case)):
-                process.stdin.write(line.encode("latin-1") + b"\n")
-                process.stdin.flush()
-                given = os.read(process.stdout.fileno(), len(wanted) + 1)
-                if given != wanted:
-                    tests.same(f"{case.name}: {line:.60}", given, wanted)
+            given = [turn(process, line) for line, _ in case.turns]
             cut = case.cut[0].encode("latin-1") if case.cut else b""
             rest = process.communicate(cut, timeout=PATIENCE)[0]
-        wanted = answers_of(case)[-1] if case.cut else b""
-        tests.same(f"{case.name}, line by line", (process.returncode, rest), (0, wanted))
+        given += [rest] if case.cut else []
+        tests.same(f"{case.name}, line by line", (process.returncode, given), (0, answers_of(case)))
+
+
+def turn(process, line):
+    """Writes a line, and reads what is said by one write, or ends where nothing is said."""
+    write(process, line.encode("latin-1") + b"\n")
+    if not is_answered(process, PATIENCE):
+        raise TimeoutError(f"nothing is answered to {line:.60}")
+    return os.read(process.stdout.fileno(), 2 * MOST_ANSWERED)
 
 
 def try_pieces(tests):
@@ -110,7 +122,7 @@ def try_slow_sides(tests):
             time.sleep(MOMENT / 100)
         process.stdin.close()
         given = b""
-        while part := os.read(process.stdout.fileno(), 1):
+        while is_answered(process, PATIENCE) and (part := os.read(process.stdout.fileno(), 1)):
             given += part
             time.sleep(MOMENT / 100)
         tests.same("a slow side", (given, process.wait(PATIENCE)), (wanted, 0))
@@ -127,9 +139,9 @@ def try_lines_ahead(tests):
         os.set_blocking(process.stdin.fileno(), True)
         rest = line[len(ahead) % len(line) :] if len(ahead) % len(line) else b""
         count = (len(ahead) + len(rest)) // len(line)
-        threading.Thread(target=finish, args=(process, rest)).start()
-        given = process.stdout.read()
-        tests.same("lines ahead", (given == TAKEN + count * answer, process.wait(PATIENCE)), (True, 0))
+        threading.Thread(target=finish, args=(process, rest), daemon=True).start()
+        wanted = TAKEN + count * answer
+        tests.same("lines ahead", (read_to(process, len(wanted) + 1) == wanted, process.wait(PATIENCE)), (True, 0))
 
 
 def finish(process, rest):
@@ -230,6 +242,8 @@ def refuse_each(tests, case, library):
         wanted = (6, True) if is_refused else (0, True)
         said = done.stdout in fronts if is_refused else done.stdout == fronts[-1]
         tests.same(f"{case.name}, memory request {number}", (done.returncode, said), wanted)
+        if (done.returncode, said) != wanted:
+            return
     print(f"{case.name}: {number - 1} requests for memory, each refused once")
 
 
@@ -238,14 +252,17 @@ def write(process, data):
     process.stdin.flush()
 
 
-def is_answered(process):
-    return bool(select.select([process.stdout], [], [], MOMENT)[0])
+def is_answered(process, seconds=MOMENT):
+    return bool(select.select([process.stdout], [], [], seconds)[0])
 
 
 def read_to(process, count):
-    """So many bytes of what is said."""
+    """So many bytes of what is said, or what there is where no more is said."""
     given = b""
-    while len(given) < count and (part := os.read(process.stdout.fileno(), count - len(given))):
+    while len(given) < count and is_answered(process, PATIENCE):
+        part = os.read(process.stdout.fileno(), count - len(given))
+        if not part:
+            break
         given += part
     return given
 
@@ -272,7 +289,10 @@ def main(words):
     comparison = Comparison()
     tests = Tests(program.found("optee_live", file), comparison)
     for test in TESTS:
-        test(tests)
+        try:
+            test(tests)
+        except (OSError, subprocess.TimeoutExpired, live.Over, live.Refused) as error:
+            comparison.same(test.__name__, repr(error), None)
     print(f"{comparison.compared} compared, {comparison.differing} differ")
     return 1 if comparison.differing else 0
 
