@@ -1,5 +1,5 @@
 #!/usr/bin/env python3
-"""Builds the library of crates/core_c, and the programs of embed/ with a C compiler, and compares what these print.
+"""Builds the library of crates/core_c and, with a C compiler, the programs of embed/ that use it, and compares what these print.
 
 It needs a C compiler: the one that CC names, or else cc, gcc or clang. Where there is none it says so, and does nothing
 else. What is built lies in a folder of its own, and goes away.

@@ -1,0 +1,99 @@
+/* A core of a TEE kernel that is kept in a process beside yours, the program `optee_live`: it answers each call before the
+ * next one is made. docs/conversation.md has what it is told and answers, docs/formats.md what registers and messages mean,
+ * docs/embedding.md how this is built. */
+#ifndef LIVE_H
+#define LIVE_H
+
+#include <stddef.h>
+#include <stdint.h>
+#include <sys/types.h>
+
+#ifdef __cplusplus
+extern "C" {
+#endif
+
+/* A conversation with a core of its own. */
+struct live;
+
+/* How a call was answered. */
+enum live_end {
+    /* It was taken. */
+    LIVE_OK,
+    /* It breaks a rule, and has changed nothing: `kind` has the word for it. */
+    LIVE_BAD,
+    /* Its entry would bring the bytes that all entries have read above 2^28, and did not come in: `copied` has how many they
+     * have read. */
+    LIVE_FULL,
+    /* The program has ended, or has said something that is no answer. All calls but live_close are answered so from then on. */
+    LIVE_OVER
+};
+
+struct live_answer {
+    enum live_end end;
+    /* Of live_smc and live_leave, at LIVE_OK: a0 to a7. */
+    uint32_t a[8];
+    /* At LIVE_BAD: `range`, `cpu`, `inside` and others, by docs/formats.md, and `long`. */
+    char kind[16];
+    /* At LIVE_FULL. */
+    uint64_t copied;
+};
+
+/* An application: its UUID in the hyphenated form, and its image in hexadecimal digits, as the word `asm` prints it. Each is
+ * taken up to its first line feed. */
+struct live_application {
+    const char *uuid, *image;
+};
+
+/* What a core is booted with. */
+struct live_core {
+    unsigned cpus, threads, frames; /* 1 to 8 processors, 1 to 16 threads, 1 to 1024 pages for applications */
+    const struct live_application *applications;
+    size_t application_count; /* at most 16 */
+    const uint8_t *key;       /* 32 bytes, or null for zeros */
+};
+
+/* Starts the program of this path. Null where that fails, with the cause in errno. */
+struct live *live_open(const char *program);
+
+/* Boots the core, once and before all other calls: first its sizes, then its applications one by one, then its key. Where one
+ * of these isn't taken, those before it are, and nothing behind it is said. */
+struct live_answer live_boot(struct live *live, const struct live_core *core);
+
+/* A processor enters with these registers, and is granted 1 to 1,000,000 steps. It stays inside. */
+struct live_answer live_enter(struct live *live, unsigned cpu, uint32_t steps, const uint32_t a[8]);
+
+/* A processor that is inside exits. */
+struct live_answer live_leave(struct live *live, unsigned cpu);
+
+/* A processor enters and exits. */
+struct live_answer live_smc(struct live *live, unsigned cpu, uint32_t steps, const uint32_t a[8]);
+
+/* Reads bytes of a processor's RAM: 4 MiB from 40000000 (hexadecimal) on, for each its own. `bytes` is complete at LIVE_OK
+ * alone. */
+struct live_answer live_read(struct live *live, unsigned cpu, uint64_t address, void *bytes, size_t length);
+
+/* Writes bytes into a processor's RAM: all of them, or none. */
+struct live_answer live_write(struct live *live, unsigned cpu, uint64_t address, const void *bytes, size_t length);
+
+/* The hardware signals this value, 1 to 63. */
+struct live_answer live_signal(struct live *live, unsigned value);
+
+/* The process of the program, for who ends one that doesn't answer: the call that waits is then answered by LIVE_OVER. */
+pid_t live_process(const struct live *live);
+
+/* Ends the conversation, waits for the program, and frees what was taken. Its status, 0 where all was well; the negative number
+ * of the signal that has ended it; or LIVE_UNKNOWN where the process doesn't learn it. */
+int live_close(struct live *live);
+enum { LIVE_UNKNOWN = 255 };
+
+/* The caller keeps to this, and nothing tests it:
+ *   - no pointer is null but where it is said, and each points to as much as is said; a text ends with a zero;
+ *   - one thread at a time makes calls of a conversation; those of several conversations are independent;
+ *   - descriptors 0, 1 and 2 are open when a conversation is, and nobody else waits for its process.
+ * A call waits until the program has answered. SIGPIPE isn't raised by it. */
+
+#ifdef __cplusplus
+}
+#endif
+
+#endif

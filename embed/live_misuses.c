@@ -1,0 +1,275 @@
+/* What a bench can do wrong in a conversation, and how a program can fail it: each is printed with how it is answered.
+ *
+ * usage: live_misuses PROGRAM FOLDER, that of the conversation, and the folder of the applications' images */
+#define _GNU_SOURCE
+#include "live.h"
+
+#include <errno.h>
+#include <fcntl.h>
+#include <inttypes.h>
+#include <signal.h>
+#include <stdio.h>
+#include <stdlib.h>
+#include <string.h>
+#include <sys/stat.h>
+#include <sys/wait.h>
+#include <unistd.h>
+
+enum { RAM = 0x40000000, RAM_BYTES = 4 << 20 };
+enum { OPEN_SESSION = 0, INVOKE_COMMAND = 1, MEMORY_IN = 9, MOST_BYTES = 65536 };
+
+static const char *path;
+static const uint32_t threads[8] = {0xb200000f}; /* how many threads there are */
+static const uint32_t call[8] = {0x32000004, 0, RAM}; /* with an argument at the beginning of RAM */
+
+static void tell(const char *what, struct live_answer answer) {
+    printf("%s: ", what);
+    switch (answer.end) {
+    case LIVE_OK:
+        printf("ok\n");
+        break;
+    case LIVE_BAD:
+        printf("bad %s\n", answer.kind);
+        break;
+    case LIVE_FULL:
+        printf("full %" PRIu64 "\n", answer.copied);
+        break;
+    case LIVE_OVER:
+        printf("over\n");
+    }
+}
+
+/* Asks for the number of threads. */
+static void ask(const char *what, struct live *live, unsigned cpu) {
+    struct live_answer answer = live_smc(live, cpu, 1, threads);
+    tell(what, answer);
+    if (answer.end == LIVE_OK) printf("  a0 %" PRIx32 ", a1 %" PRIx32 "\n", answer.a[0], answer.a[1]);
+}
+
+static void told_status(struct live *live) {
+    printf("  status %d\n", live_close(live));
+}
+
+static struct live *open_or_exit(const char *program) {
+    struct live *live = live_open(program);
+    if (live == NULL) perror(program), exit(1);
+    return live;
+}
+
+/* A conversation with a core of two processors and three threads. */
+static struct live *opened(void) {
+    struct live *live = open_or_exit(path);
+    tell("a boot", live_boot(live, &(struct live_core){2, 3, 4, NULL, 0, NULL}));
+    return live;
+}
+
+/* ---- What can't be started. */
+
+static void try_no_program(void) {
+    printf("a file that isn't there: %s\n", live_open("no_such_file") == NULL && errno == ENOENT ? "none" : "some");
+    printf("a folder: %s\n", live_open("/") == NULL && errno == EACCES ? "none" : "some");
+}
+
+/* ---- Calls that break rules: the conversation goes on. */
+
+static void try_boot(const char *what, struct live_core core) {
+    struct live *live = open_or_exit(path);
+    tell(what, live_boot(live, &core));
+    told_status(live);
+}
+
+static void try_boots(const char *image) {
+    static const char uuid[] = "11111111-1111-1111-1111-111111111111";
+    struct live_application applications[17], twice[] = {{uuid, image}, {uuid, image}};
+    char uuids[17][37];
+    uint8_t key[32] = {1};
+    for (int i = 0; i < 17; i++) {
+        snprintf(uuids[i], sizeof uuids[i], "%08x-1111-1111-1111-111111111111", i);
+        applications[i] = (struct live_application){uuids[i], image};
+    }
+    try_boot("nine processors", (struct live_core){.cpus = 9, .threads = 1, .frames = 1});
+    try_boot("no thread", (struct live_core){.cpus = 1, .threads = 0, .frames = 1});
+    try_boot("a UUID that is none", (struct live_core){1, 1, 1, &(struct live_application){"1111", image}, 1, NULL});
+    try_boot("an image that is none", (struct live_core){1, 1, 1, &(struct live_application){uuid, "00"}, 1, NULL});
+    try_boot("one application twice", (struct live_core){1, 1, 1, twice, 2, NULL});
+    try_boot("sixteen applications and a key", (struct live_core){1, 1, 1, applications, 16, key});
+    try_boot("seventeen applications", (struct live_core){1, 1, 1, applications, 17, key});
+}
+
+static void try_lines(void) {
+    struct live *live = open_or_exit(path);
+    ask("a call before the boot", live, 0);
+    tell("a boot", live_boot(live, &(struct live_core){2, 3, 4, NULL, 0, NULL}));
+    tell("a second boot", live_boot(live, &(struct live_core){1, 1, 1, NULL, 0, NULL}));
+    ask("a processor that there isn't", live, 2);
+    tell("no steps", live_smc(live, 0, 0, threads));
+    tell("too many steps", live_smc(live, 0, 1000001, threads));
+    tell("a leave of a processor that isn't inside", live_leave(live, 0));
+    tell("an enter", live_enter(live, 0, 1, threads));
+    tell("an enter of a processor that is inside", live_enter(live, 0, 1, threads));
+    ask("a call of the other processor", live, 1);
+    tell("a leave", live_leave(live, 0));
+    tell("no signal", live_signal(live, 0));
+    tell("the highest signal", live_signal(live, 63));
+    tell("a signal that there isn't", live_signal(live, 64));
+    tell("an enter", live_enter(live, 1, 1, threads));
+    told_status(live);
+}
+
+static void try_ram(void) {
+    static uint8_t bytes[RAM_BYTES + 108], read[RAM_BYTES + 1];
+    struct live *live = opened();
+    for (size_t i = 0; i < RAM_BYTES; i++) bytes[i] = (uint8_t)(i * 7 >> 3);
+    tell("a write of all RAM", live_write(live, 1, RAM, bytes, RAM_BYTES));
+    tell("a read of all RAM", live_read(live, 1, RAM, read, RAM_BYTES));
+    printf("  %s\n", memcmp(bytes, read, RAM_BYTES) == 0 ? "the same" : "something else");
+    tell("a read of the other processor's", live_read(live, 0, RAM, read, RAM_BYTES));
+    printf("  %s\n", memcmp(bytes + RAM_BYTES, read, 100) == 0 ? "zeros" : "something else");
+    tell("a read before RAM", live_read(live, 1, RAM - 1, read, 2));
+    tell("a read that leaves RAM", live_read(live, 1, RAM, read, RAM_BYTES + 1));
+    tell("a write that leaves RAM", live_write(live, 1, RAM, bytes + 8, RAM_BYTES + 1));
+    tell("a line that is too long", live_write(live, 1, RAM, bytes + 8, RAM_BYTES + 100));
+    tell("no bytes", live_write(live, 1, 0, bytes, 0));
+    tell("a read of all RAM", live_read(live, 1, RAM, read, RAM_BYTES));
+    printf("  %s\n", memcmp(bytes, read, RAM_BYTES) == 0 ? "as it was" : "something else");
+    told_status(live);
+}
+
+static void put(uint8_t *at, int bytes, uint64_t number) {
+    for (int i = 0; i < bytes; i++) at[i] = (uint8_t)(number >> 8 * i);
+}
+
+/* Entries that read as much as one can: 32 + 128 bytes of an argument, and four times 65,536 of memory. */
+static void try_full(const char *image) {
+    struct live_application application = {"11111111-1111-1111-1111-111111111111", image};
+    struct live *live = open_or_exit(path);
+    uint8_t opens[96] = {0}, invokes[160] = {[0] = INVOKE_COMMAND, [8] = 1, [28] = 4};
+    uint64_t half = 0x1111111111111111u;
+    unsigned taken = 0;
+    put(opens + 28, 4, 2), put(opens + 32, 8, 0x101), put(opens + 40, 8, half), put(opens + 48, 8, half), put(opens + 64, 8, 0x101);
+    for (int i = 0; i < 4; i++) {
+        uint8_t *parameter = invokes + 32 + 32 * i;
+        put(parameter, 8, MEMORY_IN), put(parameter + 8, 8, RAM + MOST_BYTES), put(parameter + 16, 8, MOST_BYTES);
+    }
+    tell("a boot", live_boot(live, &(struct live_core){1, 1, 1, &application, 1, NULL}));
+    tell("an argument", live_write(live, 0, RAM, opens, sizeof opens));
+    tell("an open", live_smc(live, 0, 1000, call));
+    tell("an argument", live_write(live, 0, RAM, invokes, sizeof invokes));
+    struct live_answer answer;
+    while ((answer = live_smc(live, 0, 1000, call)).end == LIVE_OK) taken++;
+    printf("%u invokes\n", taken);
+    tell("one more", answer);
+    tell("one by an enter", live_enter(live, 0, 1000, call));
+    tell("which isn't inside", live_leave(live, 0));
+    ask("a call that reads nothing", live, 0);
+    told_status(live);
+}
+
+/* ---- Programs that fail. */
+
+/* Sends a signal to a process behind so many milliseconds, from another process. */
+static pid_t send_later(pid_t to, int signal, unsigned milliseconds) {
+    pid_t sender = fork();
+    if (sender != 0) return sender;
+    usleep(1000 * milliseconds);
+    kill(to, signal);
+    _exit(0);
+}
+
+static void try_killed(void) {
+    struct live *live = opened();
+    tell("an enter", live_enter(live, 0, 1, threads));
+    kill(live_process(live), SIGKILL);
+    tell("a leave, the program having been killed", live_leave(live, 0));
+    ask("another call", live, 1);
+    uint8_t byte;
+    tell("a read", live_read(live, 1, RAM, &byte, 1));
+    told_status(live);
+
+    live = opened();
+    kill(live_process(live), SIGSTOP);
+    pid_t sender = send_later(live_process(live), SIGKILL, 100);
+    ask("a call, the program being killed meanwhile", live, 1);
+    waitpid(sender, NULL, 0);
+    told_status(live);
+}
+
+static void try_stopped(void) {
+    struct live *live = opened();
+    kill(live_process(live), SIGSTOP);
+    pid_t sender = send_later(live_process(live), SIGCONT, 200);
+    ask("a call, the program standing still meanwhile", live, 0);
+    waitpid(sender, NULL, 0);
+    told_status(live);
+}
+
+/* A program that is a script of the shell, in which LIVE is the program of the conversation: a boot, and two calls. */
+static void try_script(const char *what, const char *commands) {
+    char name[] = "/tmp/live_misuses.XXXXXX";
+    int file = mkostemp(name, O_CLOEXEC);
+    if (file < 0 || dprintf(file, "#!/bin/sh\n%s\n", commands) < 0 || fchmod(file, 0700) || close(file)) perror(name), exit(1);
+    printf("%s\n", what);
+    struct live *live = open_or_exit(name);
+    tell("  a boot", live_boot(live, &(struct live_core){2, 3, 4, NULL, 0, NULL}));
+    ask("  a call", live, 0);
+    ask("  another", live, 0);
+    told_status(live);
+    unlink(name);
+}
+
+/* The boot is answered, and the next line is read. */
+#define BOOTED "read -r line; echo ok; read -r line; "
+#define REGISTER " 00000000"
+#define REGISTERS REGISTER REGISTER REGISTER REGISTER REGISTER REGISTER REGISTER REGISTER
+
+static void try_scripts(void) {
+    try_script("byte by byte", "\"$LIVE\" | dd bs=1 status=none");
+    try_script("an end at once", "exit 3");
+    try_script("an end behind the first answer", "read -r line; echo ok; exit 4");
+    try_script("an end within the second answer", BOOTED "printf 'ret 0" REGISTER " 0000'");
+    try_script("an end within the line that ends it", BOOTED "printf 'ret 0" REGISTERS "\nok'");
+    try_script("killed within it", BOOTED "printf 'ret 0" REGISTER " 0000'; kill -9 $$");
+    try_script("what is said is given back", "exec cat");
+    try_script("a line without end", "head -c 20000 /dev/zero; read -r line");
+    try_script("registers of another processor", BOOTED "printf 'ret 1" REGISTERS "\nok\n'; read -r line");
+    try_script("a register less", BOOTED "printf 'ret 0" REGISTER "\nok\n'; read -r line");
+    try_script("a register of nine digits", BOOTED "printf 'ret 0" REGISTERS "0\nok\n'; read -r line");
+    try_script("registers before bad", BOOTED "printf 'ret 0" REGISTERS "\nbad range\n'; read -r line");
+    try_script("no registers before ok", BOOTED "echo ok; read -r line");
+    try_script("a line that begins as ok does", "read -r line; echo okay; read -r line");
+    try_script("an answer more", "read -r line; printf 'ok\nok\n'; read -r line");
+}
+
+/* ---- Two conversations. */
+
+static void try_two(void) {
+    struct live *one = opened(), *other = opened();
+    tell("an enter of the one", live_enter(one, 0, 1, threads));
+    ask("a call of the other", other, 0);
+    told_status(one);
+    ask("a call of the other", other, 0);
+    told_status(other);
+}
+
+int main(int count, char **words) {
+    static char image[4096];
+    char name[4096];
+    if (count != 3) return 2;
+    path = words[1];
+    setenv("LIVE", path, 1);
+    snprintf(name, sizeof name, "%s/counter.hex", words[2]);
+    FILE *source = fopen(name, "r");
+    if (source == NULL || fgets(image, sizeof image, source) == NULL) return perror(name), 1;
+    fclose(source);
+    setvbuf(stdout, NULL, _IOLBF, 0);
+    try_no_program();
+    try_boots(image);
+    try_lines();
+    try_ram();
+    try_full(image);
+    try_killed();
+    try_stopped();
+    try_scripts();
+    try_two();
+    return 0;
+}
