@@ -33,7 +33,8 @@ use Rattle.ta_params.specs.declared.call_result.CallResult.{CallResult}
 use Rattle.ta_params.specs.declared.copied_params.CopiedParams.{CopiedParams}
 use Rattle.teec.specs.Places.{argument_at}
 use Rattle.teec.specs.Results.{result_in}
-use Rattle.client_play.specs.PlayLaws.{IsToldAlone, in_word}
+use Rattle.client_play.specs.Outputs.{TellsOutputs, in_word}
+use Rattle.client_play.specs.PlayLaws.{IsToldAlone}
 
 -- ---- what is noted
 
@@ -86,9 +87,11 @@ module _ (boot : Booted) (history : List Event) (session : ℕ) (told : Regs) (r
       ap replies_in log_after
       ∙ filter_map-append (λ (logged : Logged). logged.1) notes.log (entry_told ∷ [])
 
+  -- where its client finds these parameters
   pub told_alone : (app : Application) → IsBooted boot → own_app boot history session ≡ Some app → is_single app ≡ false
-      → IsToldAlone boot (history ++ Exit 0 told ∷ []) session app (in_words result)
-  told_alone app boots of_app alone =
+      → (back : CopiedParams) → (result.origin ≡ 4 → TellsOutputs back (outputs_with result params))
+      → IsToldAlone boot (history ++ Exit 0 told ∷ []) session app (record { result = in_words result; params = back })
+  told_alone app boots of_app alone back outputs_told =
       let legal : IsLegal boot (history ++ Exit 0 told ∷ []) = record {
         boots = boots;
         follows = ap is_some (one_more boot history end.kernel end.next (Exit 0 told) end.there end.goes);
@@ -107,6 +110,7 @@ module _ (boot : Booted) (history : List Event) (session : ℕ) (told : Regs) (r
         alone = answered_as_alone boot (history ++ Exit 0 told ∷ []) session app
             (record { legal = legal; of_app = still; shares_none = alone });
         printed = refl;
+        printed_outputs = outputs_told;
       }
 
 -- ---- what RAM has of the result
@@ -119,7 +123,7 @@ bytes_of_word number =
     let d : byte_at 3 number ≡ byte_at 3 (in_word number) = omega arith in
     λ i. a i ∷ b i ∷ c i ∷ d i ∷ []
 
-word_told : (number : ℕ) → from_le_bytes w32 (to_le_bytes w32 number) ≡ in_word number
+pub word_told : (number : ℕ) → from_le_bytes w32 (to_le_bytes w32 number) ≡ in_word number
 word_told number =
     let fits : in_word number < 2 ^ 32 = omega arith in
     ap (from_le_bytes w32) (bytes_of_word number) ∙ from_le_bytes-to_le_bytes_4 (in_word number) fits

@@ -34,9 +34,10 @@ use Rattle.supplicant.specs.Supplicant.{Storage}
 use Rattle.teec.specs.Answers.{said}
 use Rattle.teec.specs.declared.answer.Said.TheVariants.{Finished}
 use Rattle.client_play.specs.Standing.{Standing, after_smc, answer_of, play_of, standing_after, steps_granted, visit_with}
-use Rattle.client_play.proofs.NewCalls.{IsSettled, Lasting, OnLane, TakesSlot, lasting}
+use Rattle.client_play.proofs.Bringing.{Follows}
+use Rattle.client_play.proofs.NewCalls.{IsSettled, Lasting, OnLane, TakesSlot}
 use Rattle.client_play.proofs.Smcs.{told_exit}
-use Rattle.client_play.proofs.Turns.{CameWith, GoesOut, Turned, entry_decides, first_taken, goes_out_of, kept_in, same_progress, second_taken, slots_with, turns}
+use Rattle.client_play.proofs.Turns.{CameWith, GoesOut, Turned, entry_decides, exit_follows, first_taken, goes_out_of, same_progress, second_taken, slots_with, turns}
 
 -- ---- what stands between two SMCs
 
@@ -180,15 +181,15 @@ module _ (boot : Booted) (asked : Standing) (regs : Regs) (was : ThreadSlot) (n 
       × Stands boot held n (standing_after after storage)
   call_turns client =
       let o = first_out in
-      let same = kept_in made.between.kernel.tables made.taken.call steps_granted made.taken.call.phase o.progress o.comes in
+      let follows = exit_follows made.between.kernel.tables made.taken.call steps_granted o.progress o.comes in
       let held = slot_left o.progress.call (leaving_of 0 o.progress.call) in
       let left_slots : after.kernel.slots ≡ slots_with held n =
       ap (λ (k : Kernel). k.slots) o.kernel ∙ ap (λ (all : List ThreadSlot). slice_set all 0 held) slots_then in (
         held,
         subst (Turned made.taken.call (leaving_of 0 o.progress.call) held)
             (sym (answer_is boot asked regs 0 P after stands.outside stands.whole made in_first))
-            (turns made.taken.call o.progress.call regs.a (leaving_of 0 o.progress.call) same
-            (ap (λ (l : Lasting). l.client) same ∙ client)),
+            (turns made.taken.call o.progress.call regs.a (leaving_of 0 o.progress.call) follows
+            (ap (λ (l : Lasting). l.client) follows.same ∙ client)),
         stands_again boot asked regs 0 P after stands.outside stands.whole made in_first held n storage left_slots,
       )
 
@@ -211,7 +212,7 @@ settled_leaves tables call progress settled e =
 pub cancel_turns : (boot : Booted) (asked : Standing) (regs : Regs) (call : PendingCall) (n : ℕ) (after : Play) (storage : Storage)
     → Stands boot (Suspended 0 call) n asked
     → Made boot asked regs 1 (λ taken. IsSettled taken.call) after
-    → (now : PendingCall) × (lasting now ≡ lasting call) × (said (answer_of after) ≡ Finished)
+    → (now : PendingCall) × Follows call now × (said (answer_of after) ≡ Finished)
     × Stands boot (Suspended 0 now) n (standing_after after storage)
 cancel_turns boot asked regs call n after storage stands made =
     let P = λ (taken : Taken). IsSettled taken.call in

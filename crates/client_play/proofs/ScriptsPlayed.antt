@@ -56,7 +56,8 @@ use Rattle.client_play.specs.Played.{Client, after_call, call_made, calls_made, 
 use Rattle.client_play.specs.Making.{prepared_at}
 use Rattle.client_play.specs.Standing as standing
 use Rattle.client_play.specs.Standing.{Came, Fails, Standing, Stopped, after_smc, answer_of, call_from, most_returns, next_stage, prepared, standing_after, tries, unless_full}
-use Rattle.client_play.proofs.NewCalls.{IsSettled, IsWellMade, Lasting, OnLane, TakesSlot, lasting, takes_for_client, takes_settled}
+use Rattle.client_play.proofs.Bringing.{Follows}
+use Rattle.client_play.proofs.NewCalls.{IsSettled, IsWellMade, Lasting, OnLane, TakesSlot, takes_for_client, takes_settled}
 use Rattle.client_play.proofs.NoFaults.{Comes, Full, Stands, Took, call_turns, cancel_turns, smc_comes, whole_after}
 use Rattle.client_play.proofs.OfTraces.{some_cpu}
 use Rattle.client_play.proofs.Turns.{Asked, Over, Turned, first_lowest, resumes_call, second_lowest, slots_with}
@@ -183,11 +184,11 @@ pub record Holds (boot : Booted) (n : ℕ) (rpc : RpcReturn) (at : Standing) : T
 
 -- as an SMC has left it there
 holds_call : (boot : Booted) (n : ℕ) (was pending : PendingCall) (kind : RpcKind) (held : ThreadSlot) (at : Standing) → was.client ≡ 0
-    → lasting pending ≡ lasting was → held ≡ Suspended 0 pending → Stands boot held n at
+    → Follows was pending → held ≡ Suspended 0 pending → Stands boot held n at
     → Holds boot n (record { kind = kind; thread = 0 }) at
-holds_call boot n was pending kind held at client same there stands = record {
+holds_call boot n was pending kind held at client follows there stands = record {
   pending = pending;
-  client = ap (λ (l : Lasting). l.client) same ∙ client;
+  client = ap (λ (l : Lasting). l.client) follows.same ∙ client;
   stands = subst (λ (h : ThreadSlot). Stands boot h n at) there stands;
   thread = refl;
 }
@@ -322,14 +323,14 @@ module _ (boot : Booted) (boots : IsBooted boot) (n : ℕ) (cancel_after : Optio
   pub resume_comes : (returns : ℕ) (rpc : RpcReturn) (at : Standing) (holds : Holds boot n rpc at)
       → (let asked = prepared call (Resumes returns rpc) at in
       (after : Play) × (after_smc boot (return_from_rpc rpc) asked ≡ Some after)
-      × Comes boot asked (return_from_rpc rpc) 0 (λ taken. lasting taken.call ≡ lasting holds.pending) after)
+      × Comes boot asked (return_from_rpc rpc) 0 (λ taken. Follows holds.pending taken.call) after)
   resume_comes returns rpc at holds =
       let asked = prepared call (Resumes returns rpc) at in
       let ready = asked_stands (Suspended 0 holds.pending) (Resumes returns rpc) at holds.stands in
       let on = resumes_call boot asked.kernel asked.ram rpc.kind holds.pending (Free ∷ replicate n Free) holds.stands.slots in
-      smc_comes boot asked (return_from_rpc rpc) 0 (λ taken. lasting taken.call ≡ lasting holds.pending) boots ready.comes ready.outside
+      smc_comes boot asked (return_from_rpc rpc) 0 (λ taken. Follows holds.pending taken.call) boots ready.comes ready.outside
       ready.whole
-      (subst (λ (t : ℕ). OnLane asked.ram (TakesSlot 0 (λ taken. lasting taken.call ≡ lasting holds.pending))
+      (subst (λ (t : ℕ). OnLane asked.ram (TakesSlot 0 (λ taken. Follows holds.pending taken.call))
       (decision_of boot asked.kernel (return_of rpc.kind t).a (smc.call_of (reg (return_of rpc.kind t).a 0)))) (sym holds.thread) on)
 
   pub cancel_comes : (returns : ℕ) (rpc : RpcReturn) (at : Standing) → Holds boot n rpc at
@@ -380,7 +381,7 @@ module _ (boot : Booted) (boots : IsBooted boot) (n : ℕ) (cancel_after : Optio
 
   by_resume : (returns room : ℕ) (rpc : RpcReturn) (at : Standing) (after : Play) (inside : InCall boot n returns (suc room) rpc at)
       → GoesWell room → (let asked = prepared call (Resumes returns rpc) at in after_smc boot (return_from_rpc rpc) asked ≡ Some after
-      → Comes boot asked (return_from_rpc rpc) 0 (λ taken. lasting taken.call ≡ lasting inside.holds.pending) after
+      → Comes boot asked (return_from_rpc rpc) 0 (λ taken. Follows inside.holds.pending taken.call) after
       → Well (suc room) (option_and_then (unless_full (onward_from room (Resumes returns rpc) asked)) (after_smc boot (return_from_rpc rpc) asked)))
   by_resume returns room rpc at after inside rest e (Full more is) =
       stopped_well (suc room) more (return_from_rpc rpc) (prepared call (Resumes returns rpc) at) after
@@ -388,8 +389,8 @@ module _ (boot : Booted) (boots : IsBooted boot) (n : ℕ) (cancel_after : Optio
   by_resume returns room rpc at after inside rest e (Took going went) =
       let asked = prepared call (Resumes returns rpc) at in
       let held = Suspended 0 inside.holds.pending in
-      let client = ap (λ (l : Lasting). l.client) went.holds ∙ inside.holds.client in
-      let turned = call_turns boot asked (return_from_rpc rpc) held n (λ taken. lasting taken.call ≡ lasting inside.holds.pending) after
+      let client = ap (λ (l : Lasting). l.client) went.holds.same ∙ inside.holds.client in
+      let turned = call_turns boot asked (return_from_rpc rpc) held n (λ taken. Follows inside.holds.pending taken.call) after
       asked.storage (asked_stands held (Resumes returns rpc) at inside.holds.stands) went client in
       went_well room (return_from_rpc rpc) asked after (onward_from room (Resumes returns rpc) asked) e going
       (rest (next_stage cancel_after (Resumes returns rpc) (answer_of after)) (standing_after after asked.storage)
@@ -410,7 +411,7 @@ module _ (boot : Booted) (boots : IsBooted boot) (n : ℕ) (cancel_after : Optio
       let few = inside.few in
       let holds : Holds boot n rpc (standing_after after asked.storage) = record {
         pending = turned.0;
-        client = ap (λ (l : Lasting). l.client) turned.1 ∙ inside.holds.client;
+        client = ap (λ (l : Lasting). l.client) turned.1.same ∙ inside.holds.client;
         stands = turned.3;
         thread = inside.holds.thread;
       } in

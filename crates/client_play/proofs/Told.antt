@@ -1,22 +1,24 @@
--- Each printed result of a session whose application's sessions share no instance is told by the session's own machine: its call is in
--- the first slot from its first entry to the exit that ends it.
+-- Each printed result of a session whose application's sessions share no instance, and the outputs behind it, are told by the session's
+-- own machine: its call is in the first slot from its first entry to the exit that ends it, with the places where its client looks.
 use Rattle.std.proofs.Common.{◌≡◌, ℕ, zero, suc, ◌+◌, ◌≤◌, ◌<◌, false, List, [], ◌∷◌, ◌++◌, length, take, Option, Some, None, refl, ap, subst, sym, ◌∙◌, arith}
 use Rattle.std.specs.Prelude.{All, is_some, slice_get, slice_index_or, slice_set, ◌^◌, ◌==◌}
 use Rattle.std.specs.Option.{option_and_then, option_map_or}
 use Rattle.std.proofs.lemmas.List.{append_assoc, length-append}
-use Rattle.std.proofs.lemmas.List.Elements.{All-nil, All-push}
+use Rattle.std.proofs.lemmas.List.Elements.{All-head, All-nil, All-push, All-tail}
 use Rattle.std.proofs.lemmas.Option.{option_and_then_some}
 use Rattle.base.specs.Zeros.{zeros}
 use Rattle.base.proofs.MapLemmas.{All-get}
+use Rattle.client_text.specs.Sound.{IsSoundCall, IsSoundNamed}
 use Rattle.client_text.specs.declared.script.ScriptCall.{ScriptCall}
 use Rattle.client_text.specs.declared.script.ScriptCall.TheVariants.{Close, Invoke, Open}
+use Rattle.client_text.specs.declared.script.ScriptParam.{ScriptParam}
 use Rattle.event_journal.specs.declared.event.Event.{Event}
 use Rattle.event_journal.specs.declared.event.Event.TheVariants.{Exit}
 use Rattle.kernel_model.specs.Application.{Application, Booted, IsBooted, booted}
 use Rattle.kernel_model.specs.Argument.{reg}
 use Rattle.kernel_model.specs.Decision.{Taken}
 use Rattle.kernel_model.specs.Entry.{decision_of}
-use Rattle.kernel_model.specs.Exit.{output_writes, progress_held, session_writes, word32, writes_of}
+use Rattle.kernel_model.specs.Exit.{output_writes, progress_held, result_writes, session_writes, word32, writes_of}
 use Rattle.kernel_model.specs.Exit as exit
 use Rattle.kernel_model.specs.History.{kernel_after}
 use Rattle.kernel_model.specs.Instances.{app_of, is_single}
@@ -28,6 +30,7 @@ use Rattle.kernel_model.proofs.SoundNumbers.{numbered}
 use Rattle.msg_args.specs.Layout.{origin_at, ret_at}
 use Rattle.ns_ram.specs.Writes.{lane_after}
 use Rattle.ns_ram.proofs.WriteList.{lane_after-append}
+use Rattle.own_model.specs.Parameters.{outputs_with}
 use Rattle.own_model.specs.Own.{Notes, call_noted, event_in, event_of, no_notes, noted, numbered as with_number, own_app, own_replies}
 use Rattle.own_model.specs.Tied.{call_in}
 use Rattle.own_model.specs.declared.own_event.OwnEvent.{OwnEvent}
@@ -56,19 +59,23 @@ use Rattle.teec.specs.declared.answer.Said.{Said}
 use Rattle.teec.specs.declared.answer.Said.TheVariants.{Finished}
 use Rattle.teec.specs.declared.answer.Said.TheVariants as says
 use Rattle.client_play.specs.Calls.{call_of, cancelled_after, operation_of, session_of}
-use Rattle.client_play.specs.PlayLaws.{IsCallIn, IsInSession, IsToldAlone, OpensSession, ResultsAreToldAlone, TellsAlone}
+use Rattle.client_play.specs.Outputs.{TellsOutputs}
+use Rattle.client_play.specs.PlayLaws.{IsCallIn, IsInSession, IsToldAlone, OpensSession, ResultsAreToldAlone, TellsAlone, end_of}
 use Rattle.client_play.specs.Played.{Client, ClientPlay, after_call, call_made, calls_made, ended, first_client, first_standing, goes_on, line_of}
 use Rattle.client_play.specs.Printed.{CallLine}
 use Rattle.client_play.specs.Standing.{Came, Fails, Returned, Standing, Stopped, after_smc, answer_of, call_from, most_returns, next_stage, prepared, standing_after, steps_granted, tries, unless_full, visit_with}
+use Rattle.client_play.proofs.Bringing.{Brings, Follows}
 use Rattle.client_play.proofs.Ending.{EndsCall, in_words, result_told, told_alone}
 use Rattle.client_play.proofs.Entering.{HasSession, IsOfClient, IsOurs, close_taken, invoke_taken, open_taken}
 use Rattle.client_play.proofs.Growing.{Extends, before_last, call_adds, call_grows, calls_grow, extends_on, front_of, smc_grows}
 use Rattle.client_play.proofs.NewCalls.{IsSettled, Lasting, OnLane, TakesSlot, lasting}
 use Rattle.client_play.proofs.NoFaults.{Comes, Full, Made, Stands, Took, call_turns, cancel_turns, first_out, in_first, inside, smc_comes, whole_after}
+use Rattle.client_play.proofs.OutputsWritten.{Sending, back_in, brought, finished_brings, written_told}
 use Rattle.client_play.proofs.OwnNumbers.{call_numbered, session_given}
 use Rattle.client_play.proofs.RepliesStay.{replies_stay}
 use Rattle.client_play.proofs.ScriptsPlayed.{Holds, IsMade, IsWellDone, asked_stands, call_comes, calls_are_made, cancel_comes, first_stands, resume_comes}
-use Rattle.client_play.proofs.Turns.{Asked, GoesOut, Over, Turned, first_lowest, kept_in}
+use Rattle.client_play.proofs.Sendable.{sendable, sends}
+use Rattle.client_play.proofs.Turns.{Asked, GoesOut, Over, Turned, exit_follows, first_lowest}
 
 -- ---- an application that is known stays so
 
@@ -84,19 +91,20 @@ known_on boot boots session app front whole kernel extends there known =
 
 -- ---- the exit of the first slot's call
 
-module _ (boot : Booted) (boots : IsBooted boot) (n : ℕ) (session : ℕ) (app : Application) (alone : is_single app ≡ false) where
+module _ (boot : Booted) (boots : IsBooted boot) (n : ℕ) (session : ℕ) (app : Application) (alone : is_single app ≡ false) (sending : Sending) where
   -- a call of client 0 in the session, whose argument stands in front
   abbrev ours : Lasting
   ours = record { client = 0; session = session; arg = argument_at }
 
-  -- the call has ended, with a result that the session's machine tells
+  -- the call has ended, with a result and outputs that the session's machine tells
   abbrev EndsTold : Standing → Type 0
-  EndsTold at = IsToldAlone boot at.history session app (result_in at.ram)
+  EndsTold at = IsToldAlone boot at.history session app (record { result = result_in at.ram; params = back_in sending at.ram })
 
   -- it is in the first slot, suspended behind this RPC return
   record IsInside (rpc : RpcReturn) (at : Standing) : Type 0 where
     holds : Holds boot n rpc at
     same : lasting holds.pending ≡ ours
+    brings : Brings (brought sending) holds.pending
     known : own_app boot at.history session ≡ Some app
 
   data Went (answer : Regs) (at : Standing) : Type 0 where
@@ -106,7 +114,7 @@ module _ (boot : Booted) (boots : IsBooted boot) (n : ℕ) (session : ℕ) (app 
 
   module _ (regs : Regs) (asked : Standing) (was : ThreadSlot) (P : Taken → Type 0) (after : Play) (storage : Storage)
       (stands : Stands boot was n asked) (made : Made boot asked regs 0 P after) (same : lasting made.taken.call ≡ ours)
-      (known : own_app boot made.between.history session ≡ Some app) where
+      (brings : Brings (brought sending) made.taken.call) (known : own_app boot made.between.history session ≡ Some app) where
     abbrev o : GoesOut boot made.between after 0 made.taken.call regs
     o = first_out boot asked regs was n P after storage stands made
 
@@ -116,8 +124,11 @@ module _ (boot : Booted) (boots : IsBooted boot) (n : ℕ) (session : ℕ) (app 
     there : slice_get made.between.kernel.slots 0 ≡ Some (Active 0 made.taken.call)
     there = in_first boot asked regs was n P after storage stands made
 
+    follows : Follows made.taken.call o.progress.call
+    follows = exit_follows made.between.kernel.tables made.taken.call steps_granted o.progress o.comes
+
     lasts : lasting o.progress.call ≡ ours
-    lasts = kept_in made.between.kernel.tables made.taken.call steps_granted made.taken.call.phase o.progress o.comes ∙ same
+    lasts = follows.same ∙ same
 
     ends_call : (result : CallResult) (params : CopiedParams) → leaving_of 0 o.progress.call ≡ Finishes result params
         → EndsCall boot made.between.history session told result params
@@ -141,27 +152,44 @@ module _ (boot : Booted) (boots : IsBooted boot) (n : ℕ) (session : ℕ) (app 
           leaves = leaves;
         }
 
-    -- what RAM has of its result
+    -- RAM then
+    ram_is : (result : CallResult) (params : CopiedParams) → leaving_of 0 o.progress.call ≡ Finishes result params
+        → (standing_after after storage).ram ≡ lane_after asked.ram (result_writes o.progress.call result params)
+    ram_is result params leaves =
+        ap (λ (lanes : List (List ℕ)). slice_index_or lanes 0 []) (o.lanes
+        ∙ ap (λ (lanes : List (List ℕ)). slice_set lanes 0
+        (lane_after (slice_index_or lanes 0 []) (writes_of o.progress.call (leaving_of 0 o.progress.call)))) made.lanes)
+        ∙ ap (λ (leaving : Leaving). lane_after asked.ram (writes_of o.progress.call leaving)) leaves
+
+    -- what it has of its result
     result_is : (result : CallResult) (params : CopiedParams) → leaving_of 0 o.progress.call ≡ Finishes result params
         → result_in (standing_after after storage).ram ≡ in_words result
     result_is result params leaves =
         let before = output_writes o.progress.call result params ++ session_writes o.progress.call o.progress.call.kind result in
         let words = λ (arg : ℕ). word32 (ret_at arg) result.result ∷ word32 (origin_at arg) result.origin ∷ [] in
         let whole = whole_after asked.ram before stands.whole in
-        ap (λ (lanes : List (List ℕ)). result_in (slice_index_or lanes 0 [])) (o.lanes
-        ∙ ap (λ (lanes : List (List ℕ)). slice_set lanes 0
-        (lane_after (slice_index_or lanes 0 []) (writes_of o.progress.call (leaving_of 0 o.progress.call)))) made.lanes)
-        ∙ ap (λ (leaving : Leaving). result_in (lane_after asked.ram (writes_of o.progress.call leaving))) leaves
+        ap result_in (ram_is result params leaves)
         ∙ ap result_in (lane_after-append asked.ram before (words o.progress.call.arg))
         ∙ ap (λ (arg : ℕ). result_in (lane_after (lane_after asked.ram before) (words arg))) (ap (λ (l : Lasting). l.arg) lasts)
         ∙ result_told (lane_after asked.ram before) whole result
 
+    -- and of its outputs
+    outputs_are : (result : CallResult) (params : CopiedParams) → leaving_of 0 o.progress.call ≡ Finishes result params
+        → result.origin ≡ 4 → TellsOutputs (back_in sending (standing_after after storage).ram) (outputs_with result params)
+    outputs_are result params leaves origin =
+        subst (λ (ram : List ℕ). TellsOutputs (back_in sending ram) (outputs_with result params)) (sym (ram_is result params leaves))
+        (written_told sending asked.ram o.progress.call result params stands.whole (ap (λ (l : Lasting). l.arg) lasts)
+        (finished_brings (brought sending) 0 o.progress.call result params leaves (follows.brings (brought sending) brings) origin) origin)
+
     ends_told : (result : CallResult) (params : CopiedParams) → leaving_of 0 o.progress.call ≡ Finishes result params
         → EndsTold (standing_after after storage)
     ends_told result params leaves =
-        subst (λ (found : CallResult). IsToldAlone boot after.history session app found) (sym (result_is result params leaves))
-        (subst (λ (h : List Event). IsToldAlone boot h session app (in_words result)) (sym o.history)
-        (told_alone boot made.between.history session told result params (ends_call result params leaves) app boots known alone))
+        let back = back_in sending (standing_after after storage).ram in
+        subst (λ (found : CallResult). IsToldAlone boot after.history session app (record { result = found; params = back }))
+        (sym (result_is result params leaves))
+        (subst (λ (h : List Event). IsToldAlone boot h session app (record { result = in_words result; params = back })) (sym o.history)
+        (told_alone boot made.between.history session told result params (ends_call result params leaves) app boots known alone back
+        (outputs_are result params leaves)))
 
     turned_so : (held : ThreadSlot) → Turned made.taken.call (leaving_of 0 o.progress.call) held (answer_of after)
         → Stands boot held n (standing_after after storage) → Went (answer_of after) (standing_after after storage)
@@ -170,11 +198,12 @@ module _ (boot : Booted) (boots : IsBooted boot) (n : ℕ) (session : ℕ) (app 
         IsAsked kind ret (record {
           holds = record {
             pending = pending;
-            client = ap (λ (l : Lasting). l.client) (kept ∙ same);
+            client = ap (λ (l : Lasting). l.client) (kept.same ∙ same);
             stands = subst (λ (h : ThreadSlot). Stands boot h n (standing_after after storage)) suspended still;
             thread = refl;
           };
-          same = kept ∙ same;
+          same = kept.same ∙ same;
+          brings = kept.brings (brought sending) brings;
           known = known_on boot boots session app made.between.history after.history after.kernel
               (record { more = Exit 0 told ∷ []; is = o.history }) still.comes known;
         })
@@ -204,12 +233,12 @@ not_full boot regs asked play onward more left after is full e =
     ∙ ap (λ (o : Option ℕ). option_map_or (λ bytes. Some (Stopped bytes play.history)) o (onward play)) full) ∙ e in cc
 
 module _ (boot : Booted) (boots : IsBooted boot) (n : ℕ) (cancel_after : Option ℕ) (call : Call) (made : IsMade call)
-    (session : ℕ) (app : Application) (alone : is_single app ≡ false) where
+    (session : ℕ) (app : Application) (alone : is_single app ≡ false) (sending : Sending) where
   abbrev Ends : Standing → Type 0
-  Ends at = EndsTold boot boots n session app alone at
+  Ends at = EndsTold boot boots n session app alone sending at
 
   abbrev Inside : RpcReturn → Standing → Type 0
-  Inside rpc at = IsInside boot boots n session app alone rpc at
+  Inside rpc at = IsInside boot boots n session app alone sending rpc at
 
   abbrev Fits : Stage → Standing → Type 0
   Fits (Calls refused) at = ⊥
@@ -235,13 +264,13 @@ module _ (boot : Booted) (boots : IsBooted boot) (n : ℕ) (cancel_after : Optio
   resumed_so returns answer s =
       after_resume (record { retries = tries; rounds = most_returns; cancel_after = cancel_after }) returns answer s
 
-  after_first : (answer : Regs) (at : Standing) → Went boot boots n session app alone answer at
+  after_first : (answer : Regs) (at : Standing) → Went boot boots n session app alone sending answer at
       → Fits (next_stage cancel_after (Calls 0) answer) at
   after_first answer at (HasEnded fin ends) = subst (λ (s : Said). Fits (called_so answer s) at) (sym fin) ends
   after_first answer at (IsAsked kind ret within) =
       subst (λ (s : Said). Fits (called_so answer s) at) (sym ret) (fits_return 0 (record { kind = kind; thread = 0 }) at within)
 
-  after_another : (returns : ℕ) (rpc : RpcReturn) (answer : Regs) (at : Standing) → Went boot boots n session app alone answer at
+  after_another : (returns : ℕ) (rpc : RpcReturn) (answer : Regs) (at : Standing) → Went boot boots n session app alone sending answer at
       → Fits (next_stage cancel_after (Resumes returns rpc) answer) at
   after_another returns rpc answer at (HasEnded fin ends) =
       subst (λ (s : Said). Fits (resumed_so returns answer s) at) (sym fin) ends
@@ -250,7 +279,7 @@ module _ (boot : Booted) (boots : IsBooted boot) (n : ℕ) (cancel_after : Optio
       (fits_return returns (record { kind = kind; thread = 0 }) at within)
 
   -- its client
-  client_is : (pending : PendingCall) → lasting pending ≡ ours boot boots n session app alone → pending.client ≡ 0
+  client_is : (pending : PendingCall) → lasting pending ≡ ours boot boots n session app alone sending → pending.client ≡ 0
   client_is pending same = ap (λ (l : Lasting). l.client) same
 
   -- whatever stage fits, with less room
@@ -265,7 +294,7 @@ module _ (boot : Booted) (boots : IsBooted boot) (n : ℕ) (cancel_after : Optio
   by_resume : (returns room : ℕ) (rpc : RpcReturn) (at : Standing) (within : Inside rpc at) (play : Play) (left : ℕ) (after : Standing)
       → Tells room
       → (let asked = prepared call (Resumes returns rpc) at in after_smc boot (return_from_rpc rpc) asked ≡ Some play
-      → Comes boot asked (return_from_rpc rpc) 0 (λ taken. lasting taken.call ≡ lasting within.holds.pending) play
+      → Comes boot asked (return_from_rpc rpc) 0 (λ taken. Follows within.holds.pending taken.call) play
       → option_and_then (unless_full (onward_from room (Resumes returns rpc) asked)) (after_smc boot (return_from_rpc rpc) asked)
       ≡ Some (Returned left after) → Ends after)
   by_resume returns room rpc at within play left after rest is (Full more full) e =
@@ -277,8 +306,9 @@ module _ (boot : Booted) (boots : IsBooted boot) (n : ℕ) (cancel_after : Optio
       let stands = asked_stands boot boots n cancel_after call made held (Resumes returns rpc) at within.holds.stands in
       let known = known_on boot boots session app at.history made_so.between.history made_so.between.kernel
       (record { more = entry_event (visit_with (return_from_rpc rpc)) made_so.reads ∷ []; is = made_so.history }) made_so.comes within.known in
-      let gone = went boot boots n session app alone (return_from_rpc rpc) asked held
-      (λ taken. lasting taken.call ≡ lasting within.holds.pending) play asked.storage stands made_so (made_so.holds ∙ within.same) known in
+      let gone = went boot boots n session app alone sending (return_from_rpc rpc) asked held
+      (λ taken. Follows within.holds.pending taken.call) play asked.storage stands made_so (made_so.holds.same ∙ within.same)
+      (made_so.holds.brings (brought sending) within.brings) known in
       rest (next_stage cancel_after (Resumes returns rpc) (answer_of play)) (standing_after play asked.storage)
       (after_another returns rpc (answer_of play) (standing_after play asked.storage) gone) left after
       (onward_is boot (return_from_rpc rpc) asked play (onward_from room (Resumes returns rpc) asked) (Returned left after) is going e)
@@ -301,11 +331,12 @@ module _ (boot : Booted) (boots : IsBooted boot) (n : ℕ) (cancel_after : Optio
       let fits : Inside rpc later = record {
         holds = record {
           pending = turned.0;
-          client = client_is turned.0 (turned.1 ∙ within.same);
+          client = client_is turned.0 (turned.1.same ∙ within.same);
           stands = turned.3;
           thread = within.holds.thread;
         };
-        same = turned.1 ∙ within.same;
+        same = turned.1.same ∙ within.same;
+        brings = turned.1.brings (brought sending) within.brings;
         known = known_on boot boots session app at.history play.history play.kernel
             (smc_grows boot (call_with_arg cancel_at) asked play is) turned.3.comes within.known;
       } in
@@ -344,7 +375,8 @@ module _ (boot : Booted) (boots : IsBooted boot) (n : ℕ) (cancel_after : Optio
   abbrev BeginsSo : Standing → Standing → (Taken → Type 0) → Type 0
   BeginsSo at after P = (play : Play) (begun : Made boot (prepared call (Calls 0) at) (call_with_arg argument_at) 0 P play)
       → Extends begun.between.history after.history
-      → (lasting begun.taken.call ≡ ours boot boots n session app alone) × (own_app boot begun.between.history session ≡ Some app)
+      → (lasting begun.taken.call ≡ ours boot boots n session app alone sending) × Brings (brought sending) begun.taken.call
+      × (own_app boot begun.between.history session ≡ Some app)
 
   by_first : (room : ℕ) (at : Standing) (P : Taken → Type 0) (left : ℕ) (after : Standing) → Stands boot Free n at → BeginsSo at after P
       → (play : Play) → (let asked = prepared call (Calls 0) at in after_smc boot (call_with_arg argument_at) asked ≡ Some play
@@ -364,7 +396,8 @@ module _ (boot : Booted) (boots : IsBooted boot) (n : ℕ) (cancel_after : Optio
       call_grows boot cancel_after call room (next_stage cancel_after (Calls 0) (answer_of play)) (standing_after play asked.storage)
       (Returned left after) on in
       let so = begins play begun (extends_on begun.between.history play.history after.history gone grown) in
-      let first = went boot boots n session app alone (call_with_arg argument_at) asked Free P play asked.storage ready begun so.0 so.1 in
+      let first = went boot boots n session app alone sending (call_with_arg argument_at) asked Free P play asked.storage ready begun so.0 so.1
+      so.2 in
       told_from room (next_stage cancel_after (Calls 0) (answer_of play)) (standing_after play asked.storage)
       (after_first (answer_of play) (standing_after play asked.storage) first) left after on
 
@@ -387,173 +420,209 @@ kernel_is boot one other kernel found same there is =
     let both : Some kernel ≡ Some found = sym there ∙ ap (kernel_after boot) same ∙ is in cc
 
 module _ (boot : Booted) (boots : IsBooted boot) (n : ℕ) (at after : Standing) (whole : List Event) (stands : Stands boot Free n at)
-    (grown : Extends at.history after.history) (rest : Extends after.history whole) (session : ℕ) (app : Application) where
-  front : take (length at.history) whole ≡ at.history
-  front = front_of at.history whole (extends_on at.history after.history whole grown rest)
+    (grown : Extends at.history after.history) (rest : Extends after.history whole) (session : ℕ) (app : Application) (sending : Sending)
+  where
+    front : take (length at.history) whole ≡ at.history
+    front = front_of at.history whole (extends_on at.history after.history whole grown rest)
 
-  module _ (in_session : IsInSession boot whole (length at.history) session app) where
-    same_kernel : in_session.kernel ≡ at.kernel
-    same_kernel = kernel_is boot _ at.history in_session.kernel at.kernel front in_session.begins stands.comes
+    module _ (in_session : IsInSession boot whole (length at.history) session app) where
+      same_kernel : in_session.kernel ≡ at.kernel
+      same_kernel = kernel_is boot _ at.history in_session.kernel at.kernel front in_session.begins stands.comes
 
-    has_session : HasSession at.kernel session
-    has_session =
-        let numbers = numbered boot (take (length at.history) whole) in_session.kernel in_session.begins in
-        let number : IsNumberedSession in_session.kernel.tables (session, in_session.kept.kept) =
-        All-get (IsNumberedSession in_session.kernel.tables) in_session.kernel.tables.sessions session in_session.kept.kept numbers.sessions
-        in_session.kept.there in
-        let given : session < in_session.kernel.tables.next_session = number.0.1 in
-        let few : in_session.kernel.tables.next_session ≤ 4294967296 = numbers.few in
-        let fits : session < 2 ^ 32 = omega (arith, given, few) in
-        subst (λ (k : Kernel). lowest_free k.slots ≡ Some 0 → HasSession k session) same_kernel (λ lowest. record {
-          lowest = lowest;
-          fits = fits;
-          kept = in_session.kept.kept;
-          opened = in_session.opened;
-          instance = in_session.kept.instance;
-          has = in_session.kept.has;
-        }) (ap lowest_free stands.slots ∙ first_lowest n)
+      has_session : HasSession at.kernel session
+      has_session =
+          let numbers = numbered boot (take (length at.history) whole) in_session.kernel in_session.begins in
+          let number : IsNumberedSession in_session.kernel.tables (session, in_session.kept.kept) =
+          All-get (IsNumberedSession in_session.kernel.tables) in_session.kernel.tables.sessions session in_session.kept.kept numbers.sessions
+          in_session.kept.there in
+          let given : session < in_session.kernel.tables.next_session = number.0.1 in
+          let few : in_session.kernel.tables.next_session ≤ 4294967296 = numbers.few in
+          let fits : session < 2 ^ 32 = omega (arith, given, few) in
+          subst (λ (k : Kernel). lowest_free k.slots ≡ Some 0 → HasSession k session) same_kernel (λ lowest. record {
+            lowest = lowest;
+            fits = fits;
+            kept = in_session.kept.kept;
+            opened = in_session.opened;
+            instance = in_session.kept.instance;
+            has = in_session.kept.has;
+          }) (ap lowest_free stands.slots ∙ first_lowest n)
 
-    app_known : own_app boot at.history session ≡ Some app
-    app_known =
-        subst (λ (h : List Event). own_app boot h session ≡ Some app) front
-        (kept_sessions_known.known boot (take (length at.history) whole) in_session.kernel session app in_session.begins in_session.kept)
+      app_known : own_app boot at.history session ≡ Some app
+      app_known =
+          subst (λ (h : List Event). own_app boot h session ≡ Some app) front
+          (kept_sessions_known.known boot (take (length at.history) whole) in_session.kernel session app in_session.begins in_session.kept)
 
-    session_told : (cancel_after : Option ℕ) (call : Call) (made : IsMade call) (room left : ℕ)
-        → OnLane (prepared call (Calls 0) at).ram (TakesSlot 0 (IsOurs session))
-        (decision_of boot at.kernel (call_with_arg argument_at).a (smc.call_of (reg (call_with_arg argument_at).a 0)))
-        → call_from boot cancel_after call room (Calls 0) at ≡ Some (Returned left after)
-        → IsToldAlone boot after.history session app (result_in after.ram)
-    session_told cancel_after call made room left taken e =
-        first_told boot boots n cancel_after call made session app in_session.kept.shares_none room at (IsOurs session) left after stands taken
-        (λ play begun extends. (
-          begun.holds,
-          known_on boot boots session app at.history begun.between.history begun.between.kernel
-              (record { more = entry_event (visit_with (call_with_arg argument_at)) begun.reads ∷ []; is = begun.history }) begun.comes
-              app_known,
-        )) e
+      session_told : (cancel_after : Option ℕ) (call : Call) (made : IsMade call) (room left : ℕ)
+          → OnLane (prepared call (Calls 0) at).ram (TakesSlot 0 (IsOurs (brought sending) session))
+          (decision_of boot at.kernel (call_with_arg argument_at).a (smc.call_of (reg (call_with_arg argument_at).a 0)))
+          → call_from boot cancel_after call room (Calls 0) at ≡ Some (Returned left after)
+          → IsToldAlone boot after.history session app (record { result = result_in after.ram; params = back_in sending after.ram })
+      session_told cancel_after call made room left taken e =
+          first_told boot boots n cancel_after call made session app in_session.kept.shares_none sending room at
+          (IsOurs (brought sending) session) left after stands taken
+          (λ play begun extends. (
+            begun.holds.0,
+            begun.holds.1,
+            known_on boot boots session app at.history begun.between.history begun.between.kernel
+                (record { more = entry_event (visit_with (call_with_arg argument_at)) begun.reads ∷ []; is = begun.history }) begun.comes
+                app_known,
+          )) e
 
-  -- ---- an open
+    -- ---- an open
 
-  module _ (opens : OpensSession boot whole (length at.history) session app) where
-    -- the number isn't given before
-    not_given : own_app boot at.history session ≡ Some app → ⊥
-    not_given known =
-        let same = kernel_is boot _ at.history opens.kernel at.kernel front opens.begins stands.comes in
-        let lt = session_given boot at.history at.kernel session app stands.comes known opens.shares_none in
-        let next : session ≡ at.kernel.tables.next_session = opens.next ∙ ap (λ (k : Kernel). k.tables.next_session) same in
-        omega (arith, lt, next)
+    module _ (opens : OpensSession boot whole (length at.history) session app) where
+      -- the number isn't given before
+      not_given : own_app boot at.history session ≡ Some app → ⊥
+      not_given known =
+          let same = kernel_is boot _ at.history opens.kernel at.kernel front opens.begins stands.comes in
+          let lt = session_given boot at.history at.kernel session app stands.comes known opens.shares_none in
+          let next : session ≡ at.kernel.tables.next_session = opens.next ∙ ap (λ (k : Kernel). k.tables.next_session) same in
+          omega (arith, lt, next)
 
-    module _ (call : Call) (play : Play) (begun : Made boot (prepared call (Calls 0) at) (call_with_arg argument_at) 0 IsOfClient play)
-        (ready : Stands boot Free n (prepared call (Calls 0) at)) (extends : Extends begun.between.history after.history) where
-      abbrev entry : Event
-      entry = entry_event (visit_with (call_with_arg argument_at)) begun.reads
+      module _ (call : Call) (play : Play)
+          (begun : Made boot (prepared call (Calls 0) at) (call_with_arg argument_at) 0 (IsOfClient (brought sending)) play)
+          (ready : Stands boot Free n (prepared call (Calls 0) at)) (extends : Extends begun.between.history after.history) where
+        abbrev entry : Event
+        entry = entry_event (visit_with (call_with_arg argument_at)) begun.reads
 
-      -- the application is known behind the entry
-      known_then : own_app boot begun.between.history session ≡ Some app
-      known_then =
-          let long : length begun.between.history ≡ length at.history + 1 =
-          ap length begun.history ∙ length-append at.history (entry ∷ []) in
-          subst (λ (h : List Event). own_app boot h session ≡ Some app)
-          (ap (λ (count : ℕ). take count whole) (sym long)
-          ∙ front_of begun.between.history whole (extends_on begun.between.history after.history whole extends rest))
-          opens.of_app
+        -- the application is known behind the entry
+        known_then : own_app boot begun.between.history session ≡ Some app
+        known_then =
+            let long : length begun.between.history ≡ length at.history + 1 =
+            ap length begun.history ∙ length-append at.history (entry ∷ []) in
+            subst (λ (h : List Event). own_app boot h session ≡ Some app)
+            (ap (λ (count : ℕ). take count whole) (sym long)
+            ∙ front_of begun.between.history whole (extends_on begun.between.history after.history whole extends rest))
+            opens.of_app
 
-      notes_then : noted boot begun.between.history session
-          ≡ call_noted session (noted boot at.history session) 0 begun.taken.call
-      notes_then =
-          ap (λ (h : List Event). noted boot h session) begun.history
-          ∙ noted-append boot session (first_kernel boot) at.kernel no_notes at.history (entry ∷ []) stands.comes
-          ∙ goes_from boot session at.kernel begun.between.kernel (noted boot at.history session) entry [] begun.entered
-          ∙ new_call_noted session at.kernel begun.between.kernel 0 steps_granted 0 (call_with_arg argument_at) begun.reads begun.taken.call
-          (noted boot at.history session)
-          (inside boot (prepared call (Calls 0) at) (call_with_arg argument_at) 0 IsOfClient play ready.outside ready.whole begun there)
-          (ap (λ (slots : List ThreadSlot). slice_get slots 0) stands.slots) there
-        where
-          there : slice_get begun.between.kernel.slots 0 ≡ Some (Active 0 begun.taken.call)
-          there = in_first boot (prepared call (Calls 0) at) (call_with_arg argument_at) Free n IsOfClient play at.storage ready begun
+        notes_then : noted boot begun.between.history session
+            ≡ call_noted session (noted boot at.history session) 0 begun.taken.call
+        notes_then =
+            ap (λ (h : List Event). noted boot h session) begun.history
+            ∙ noted-append boot session (first_kernel boot) at.kernel no_notes at.history (entry ∷ []) stands.comes
+            ∙ goes_from boot session at.kernel begun.between.kernel (noted boot at.history session) entry [] begun.entered
+            ∙ new_call_noted session at.kernel begun.between.kernel 0 steps_granted 0 (call_with_arg argument_at) begun.reads begun.taken.call
+            (noted boot at.history session)
+            (inside boot (prepared call (Calls 0) at) (call_with_arg argument_at) 0 (IsOfClient (brought sending)) play ready.outside ready.whole
+            begun there)
+            (ap (λ (slots : List ThreadSlot). slice_get slots 0) stands.slots) there
+          where
+            there : slice_get begun.between.kernel.slots 0 ≡ Some (Active 0 begun.taken.call)
+            there = in_first boot (prepared call (Calls 0) at) (call_with_arg argument_at) Free n (IsOfClient (brought sending)) play at.storage ready
+                begun
 
-      by_event : (found : Option OwnEvent) → event_of session begun.taken.call ≡ found → begun.taken.call.session ≡ session
-      by_event (Some came) is =
-          (noted_is begun.taken.call.session session
-          (event_in (is_some begun.taken.call.area) begun.taken.call.settled begun.taken.call.kind begun.taken.call.phase) came is).0
-      by_event None none =
-          absurd (not_given (
-          ap (λ (notes : Notes). option_and_then (app_of boot) notes.uuid) (sym (notes_then
-          ∙ ap (λ (o : Option OwnEvent). option_map_or (with_number (noted boot at.history session) 0 begun.taken.call) o
-          (noted boot at.history session)) none))
-          ∙ known_then))
+        by_event : (found : Option OwnEvent) → event_of session begun.taken.call ≡ found → begun.taken.call.session ≡ session
+        by_event (Some came) is =
+            (noted_is begun.taken.call.session session
+            (event_in (is_some begun.taken.call.area) begun.taken.call.settled begun.taken.call.kind begun.taken.call.phase) came is).0
+        by_event None none =
+            absurd (not_given (
+            ap (λ (notes : Notes). option_and_then (app_of boot) notes.uuid) (sym (notes_then
+            ∙ ap (λ (o : Option OwnEvent). option_map_or (with_number (noted boot at.history session) 0 begun.taken.call) o
+            (noted boot at.history session)) none))
+            ∙ known_then))
 
-      begins_open : (lasting begun.taken.call ≡ record { client = 0; session = session; arg = argument_at })
-          × (own_app boot begun.between.history session ≡ Some app)
-      begins_open = (
-        (λ i. record {
-          client = begun.holds.0 i;
-          session = by_event (event_of session begun.taken.call) refl i;
-          arg = begun.holds.1 i;
-        }),
-        known_then,
-      )
+        begins_open : (lasting begun.taken.call ≡ record { client = 0; session = session; arg = argument_at })
+            × Brings (brought sending) begun.taken.call × (own_app boot begun.between.history session ≡ Some app)
+        begins_open = (
+          (λ i. record {
+            client = begun.holds.0 i;
+            session = by_event (event_of session begun.taken.call) refl i;
+            arg = begun.holds.1 i;
+          }),
+          begun.holds.2,
+          known_then,
+        )
 
-    open_told : (cancel_after : Option ℕ) (call : Call) (made : IsMade call) (room left : ℕ)
-        → OnLane (prepared call (Calls 0) at).ram (TakesSlot 0 IsOfClient)
-        (decision_of boot at.kernel (call_with_arg argument_at).a (smc.call_of (reg (call_with_arg argument_at).a 0)))
-        → call_from boot cancel_after call room (Calls 0) at ≡ Some (Returned left after)
-        → IsToldAlone boot after.history session app (result_in after.ram)
-    open_told cancel_after call made room left taken e =
-        first_told boot boots n cancel_after call made session app opens.shares_none room at IsOfClient left after stands taken
-        (λ play begun extends. begins_open call play begun (asked_stands boot boots n cancel_after call made Free (Calls 0) at stands) extends) e
+      open_told : (cancel_after : Option ℕ) (call : Call) (made : IsMade call) (room left : ℕ)
+          → OnLane (prepared call (Calls 0) at).ram (TakesSlot 0 (IsOfClient (brought sending)))
+          (decision_of boot at.kernel (call_with_arg argument_at).a (smc.call_of (reg (call_with_arg argument_at).a 0)))
+          → call_from boot cancel_after call room (Calls 0) at ≡ Some (Returned left after)
+          → IsToldAlone boot after.history session app (record { result = result_in after.ram; params = back_in sending after.ram })
+      open_told cancel_after call made room left taken e =
+          first_told boot boots n cancel_after call made session app opens.shares_none sending room at (IsOfClient (brought sending)) left after
+          stands taken
+          (λ play begun extends. begins_open call play begun (asked_stands boot boots n cancel_after call made Free (Calls 0) at stands) extends) e
 
 -- ---- a call of the script
 
+-- the operation of one with such parameters
+abbrev sending_of : (before : ℕ) → before ≤ 2 → (name : List ℕ) (params : List ScriptParam) (cancel_after : Option ℕ)
+    → IsSoundNamed name params → Sending
+sending_of before few name params cancel_after named = record {
+  before = before;
+  op = operation_of params cancel_after;
+  sent = length params;
+  few = few;
+  sendable = sendable params cancel_after named.lengths;
+  sends = sends params cancel_after named.few;
+}
+
+-- that of a close has none
+abbrev nothing_sent : Sending
+nothing_sent = record {
+  before = 0;
+  op = operation_of [] None;
+  sent = 0;
+  few = omega arith;
+  sendable = (tt, (tt, (tt, (tt, tt))));
+  sends = sends [] None (omega arith);
+}
+
 call_told : (boot : Booted) → IsBooted boot → (n : ℕ) (client : Client) (call : ScriptCall) (left : ℕ) (after : Standing)
-    (whole : List Event) → Stands boot Free n client.standing → call_made boot client call ≡ Some (Returned left after)
+    (whole : List Event) → Stands boot Free n client.standing → IsSoundCall call → call_made boot client call ≡ Some (Returned left after)
     → Extends after.history whole → (session : ℕ) (app : Application)
     → IsCallIn boot whole (line_of client call after) session app call
-    → IsToldAlone boot after.history session app (result_in after.ram)
-call_told boot boots n client (Open name uuid params) left after whole stands e rest session app opens =
+    → IsToldAlone boot after.history session app (end_of (line_of client call after))
+call_told boot boots n client (Open name uuid params) left after whole stands sound e rest session app opens =
+    let op = operation_of params None in
+    let sending = sending_of 2 (omega arith) name params None sound.0 in
     let grown = call_grows boot None (call_of client.sessions (Open name uuid params)) client.room (Calls 0) client.standing
     (Returned left after) e in
-    open_told boot boots n client.standing after whole stands grown rest session app opens None
+    open_told boot boots n client.standing after whole stands grown rest session app sending opens None
     (call_of client.sessions (Open name uuid params)) (calls_are_made client.sessions (Open name uuid params)) client.room left
-    (open_taken boot client.standing.kernel client.standing.ram uuid (operation_of params None) (length params)
-    (ap lowest_free stands.slots ∙ first_lowest n)) e
-call_told boot boots n client (Invoke name func cancel_after params) left after whole stands e rest session app (named, in_session) =
+    (open_taken boot client.standing.kernel client.standing.ram uuid op (length params)
+    (ap lowest_free stands.slots ∙ first_lowest n) stands.whole (sendable params None sound.0.lengths) (sends params None sound.0.few)) e
+call_told boot boots n client (Invoke name func cancel_after params) left after whole stands sound e rest session app (named, in_session) =
     let its = session_of client.sessions name in
     let call = Invoke name func cancel_after params in
+    let sending = sending_of 0 (omega arith) name params cancel_after sound.0 in
     let grown = call_grows boot cancel_after (call_of client.sessions call) client.room (Calls 0) client.standing (Returned left after) e in
     let in_its : IsInSession boot whole (length client.standing.history) its app =
     subst (λ n. IsInSession boot whole (length client.standing.history) n app) named in_session in
-    subst (λ n. IsToldAlone boot after.history n app (result_in after.ram)) (sym named)
-    (session_told boot boots n client.standing after whole stands grown rest its app in_its cancel_after (call_of client.sessions call)
+    subst (λ n. IsToldAlone boot after.history n app (end_of (line_of client call after))) (sym named)
+    (session_told boot boots n client.standing after whole stands grown rest its app sending in_its cancel_after (call_of client.sessions call)
     (calls_are_made client.sessions call) client.room left
     (invoke_taken boot client.standing.kernel client.standing.ram its func (operation_of params cancel_after) (length params)
-    (has_session boot boots n client.standing after whole stands grown rest its app in_its)) e)
-call_told boot boots n client (Close name) left after whole stands e rest session app (named, in_session) =
+    (has_session boot boots n client.standing after whole stands grown rest its app sending in_its) stands.whole
+    (sendable params cancel_after sound.0.lengths) (sends params cancel_after sound.0.few)) e)
+call_told boot boots n client (Close name) left after whole stands sound e rest session app (named, in_session) =
     let its = session_of client.sessions name in
-    let grown = call_grows boot None (call_of client.sessions (Close name)) client.room (Calls 0) client.standing (Returned left after) e in
+    let call = Close name in
+    let grown = call_grows boot None (call_of client.sessions call) client.room (Calls 0) client.standing (Returned left after) e in
     let in_its : IsInSession boot whole (length client.standing.history) its app =
     subst (λ n. IsInSession boot whole (length client.standing.history) n app) named in_session in
-    subst (λ n. IsToldAlone boot after.history n app (result_in after.ram)) (sym named)
-    (session_told boot boots n client.standing after whole stands grown rest its app in_its None (call_of client.sessions (Close name))
-    (calls_are_made client.sessions (Close name)) client.room left
+    subst (λ n. IsToldAlone boot after.history n app (end_of (line_of client call after))) (sym named)
+    (session_told boot boots n client.standing after whole stands grown rest its app nothing_sent in_its None (call_of client.sessions call)
+    (calls_are_made client.sessions call) client.room left
     (close_taken boot client.standing.kernel client.standing.ram its
-    (has_session boot boots n client.standing after whole stands grown rest its app in_its)) e)
+    (has_session boot boots n client.standing after whole stands grown rest its app nothing_sent in_its)) e)
 
 -- its line
 line_told : (boot : Booted) → IsBooted boot → (n : ℕ) (client : Client) (call : ScriptCall) (left : ℕ) (after : Standing)
-    (whole : List Event) → Stands boot Free n client.standing → call_made boot client call ≡ Some (Returned left after)
+    (whole : List Event) → Stands boot Free n client.standing → IsSoundCall call → call_made boot client call ≡ Some (Returned left after)
     → Extends after.history whole → TellsAlone boot whole (line_of client call after)
-line_told boot boots n client call left after whole stands e rest session app in_call =
+line_told boot boots n client call left after whole stands sound e rest session app in_call =
     let line = line_of client call after in
     let old = client.standing.history in
     let grown = call_grows boot (cancelled_after call) (call_of client.sessions call) client.room (Calls 0) client.standing
     (Returned left after) e in
     let front = front_of old whole (extends_on old after.history whole grown rest) in
     let HasBegun : List Event → Type 0 = λ h.
-    (told : IsToldAlone boot h session app line.result)
+    (told : IsToldAlone boot h session app (end_of line))
     × (since : List OwnReply)
     × (told.before ≡ own_replies boot (take line.from whole) session ++ since) in
-    let told = call_told boot boots n client call left after whole stands e rest session app in_call in
+    let told = call_told boot boots n client call left after whole stands sound e rest session app in_call in
     let added = call_adds boot (cancelled_after call) (call_of client.sessions call) client.room left client.standing after e in
     let inside = before_last old added.0 added.1.more told.earlier (Exit 0 told.went)
     (sym (append_assoc old (added.0 ∷ []) added.1.more) ∙ sym added.1.is ∙ told.last_exit) in
@@ -586,36 +655,37 @@ module _ (boot : Booted) (boots : IsBooted boot) (n : ℕ) (play : ClientPlay) w
 
   lines_by : (calls : List ScriptCall) (client : Client) (call : ScriptCall) (came : Came)
       → ((next : Client) → Goes (λ next. calls_made boot calls next) next)
-      → Stands boot Free n client.standing → client.room ≤ 32768 → call_made boot client call ≡ Some came
+      → IsSoundCall call → Stands boot Free n client.standing → client.room ≤ 32768 → call_made boot client call ≡ Some came
       → IsWellDone boot n client.room came → goes_on (λ next. calls_made boot calls next) client call came ≡ Some play → AllTell client
       → All (TellsAlone boot play.history) play.lines
-  lines_by calls client call (Returned left after) rest stands few there well on all =
+  lines_by calls client call (Returned left after) rest sound stands few there well on all =
       let next = after_call client call left after in
       rest next well.0 (few_left left client.room well.1 few) on
       (All-push (TellsAlone boot play.history) client.lines (line_of client call after) all
-      (line_told boot boots n client call left after play.history stands there (calls_grow boot calls next play on)))
-  lines_by calls client call (Stopped bytes history) rest stands few there well on all =
+      (line_told boot boots n client call left after play.history stands sound there (calls_grow boot calls next play on)))
+  lines_by calls client call (Stopped bytes history) rest sound stands few there well on all =
       let stopped : ClientPlay = record { history = history; lines = client.lines; stopped = Some bytes } in
       let same : stopped ≡ play = cc in
       subst (λ (lines : List CallLine). All (TellsAlone boot play.history) lines) (ap (λ (p : ClientPlay). p.lines) same) all
-  lines_by calls client call (Fails fault) rest stands few there well on all = absurd cc
+  lines_by calls client call (Fails fault) rest sound stands few there well on all = absurd cc
 
-  lines_tell : (calls : List ScriptCall) (client : Client) → Goes (λ next. calls_made boot calls next) client
-  lines_tell [] client stands few e all =
+  lines_tell : (calls : List ScriptCall) → All IsSoundCall calls → (client : Client) → Goes (λ next. calls_made boot calls next) client
+  lines_tell [] sound client stands few e all =
       let done : ClientPlay = ended client in
       let same : done ≡ play = cc in
       subst (λ (lines : List CallLine). All (TellsAlone boot play.history) lines) (ap (λ (p : ClientPlay). p.lines) same) all
-  lines_tell (call ∷ calls) client stands few e all =
+  lines_tell (call ∷ calls) sound client stands few e all =
       let comes = call_comes boot boots n (cancelled_after call) (call_of client.sessions call) (calls_are_made client.sessions call)
       client.room few (Calls 0) client.standing stands in
       option_and_then_some (goes_on (λ next. calls_made boot calls next) client call) (call_made boot client call) play e
       (λ (came : Came) there on.
-      lines_by calls client call came (λ next. lines_tell calls next) stands few there
+      lines_by calls client call came (λ next. lines_tell calls (All-tail IsSoundCall call calls sound) next)
+      (All-head IsSoundCall call calls sound) stands few there
       (subst (IsWellDone boot n client.room) (same_came comes.0 came (sym comes.1 ∙ there)) comes.2) on all)
 
 pub results_are_told_alone : ResultsAreToldAlone
 results_are_told_alone natives uuids boot script play boots sound is e =
     let on = booted boot natives in
     let first = first_stands natives uuids boot script boots sound is in
-    lines_tell on boots first.0 play script.calls (first_client (first_standing (zeros 0x400000) on script)) first.1 (omega arith) e
+    lines_tell on boots first.0 play script.calls sound.calls (first_client (first_standing (zeros 0x400000) on script)) first.1 (omega arith) e
     (All-nil (TellsAlone on play.history))

@@ -48,6 +48,7 @@ use Rattle.teec.specs.declared.answer.RpcKind.{RpcKind}
 use Rattle.teec.specs.declared.answer.RpcKind.TheVariants as rpc
 use Rattle.teec.specs.declared.answer.Said.TheVariants.{Finished, Returned}
 use Rattle.client_play.specs.Standing.{Standing, play_of, steps_granted, visit_with}
+use Rattle.client_play.proofs.Bringing.{Follows, cancelled_follows, exit_brings, followed_by_itself, resumed_brings}
 use Rattle.client_play.proofs.NewCalls.{OnLane, TakesSlot, lasting, made_on}
 
 -- ---- what stays of a call
@@ -103,6 +104,13 @@ kept_resumed boot tables slot call given =
     let r = resumed_call boot tables slot call given in
     kept_onward r r.call.phase ∙ kept_given given (sees call) ∙ kept_seen call
 
+resumed_follows : (boot : Booted) (tables : Tables) (slot : ℕ) (call : PendingCall) (given : Given)
+    → Follows call (onward_of (resumed_call boot tables slot call given)).call
+resumed_follows boot tables slot call given = record {
+  same = kept_resumed boot tables slot call given;
+  brings = λ b. resumed_brings b boot tables slot call given;
+}
+
 -- what a grant of steps makes of it
 kept_granted : (tables : Tables) (call : PendingCall) (granted : ℕ) (grant : Grant) → lasting (after_grant tables call granted grant).call ≡ lasting call
 kept_granted tables call granted (Left job) = refl
@@ -113,7 +121,7 @@ kept_granted tables call granted (Stopped used (steps.Asks wanted payload job)) 
 pub same_progress : (one other : Progress) → Some one ≡ Some other → one ≡ other
 same_progress one other e = cc
 
-pub kept_in : (tables : Tables) (call : PendingCall) (granted : ℕ) (phase : CallPhase) (progress : Progress)
+kept_in : (tables : Tables) (call : PendingCall) (granted : ℕ) (phase : CallPhase) (progress : Progress)
     → progress_in tables call granted phase ≡ Some progress → lasting progress.call ≡ lasting call
 kept_in tables call granted (Runs job) progress e =
     let came = option_map_some (after_grant tables call granted) (grant_of granted job) progress e in
@@ -122,6 +130,14 @@ kept_in tables call granted (Asks job wanted payload) progress e = ap (λ (p : P
 kept_in tables call granted (Waits params) progress e = ap (λ (p : Progress). lasting p.call) (sym (same_progress _ progress e))
 kept_in tables call granted (Ends result params true wakes) progress e = ap (λ (p : Progress). lasting p.call) (sym (same_progress _ progress e))
 kept_in tables call granted (Ends result params false wakes) progress e = ap (λ (p : Progress). lasting p.call) (sym (same_progress _ progress e))
+
+-- and an exit
+pub exit_follows : (tables : Tables) (call : PendingCall) (granted : ℕ) (progress : Progress) → progress_of tables call granted ≡ Some progress
+    → Follows call progress.call
+exit_follows tables call granted progress e = record {
+  same = kept_in tables call granted call.phase progress e;
+  brings = λ b. exit_brings b tables call granted call.phase progress e refl;
+}
 
 -- ---- a resume
 
@@ -136,21 +152,21 @@ resumes_on lane Q slot onward (want_words addr most test next) all = λ got. res
 -- the call that is suspended in slot 0 for client 0 is resumed there
 pub resumes_call : (boot : Booted) (kernel : Kernel) (lane : List ℕ) (rpc_kind : RpcKind) (call : PendingCall) (others : List ThreadSlot)
     → kernel.slots ≡ Suspended 0 call ∷ others
-    → OnLane lane (TakesSlot 0 (λ taken. lasting taken.call ≡ lasting call))
+    → OnLane lane (TakesSlot 0 (λ taken. Follows call taken.call))
     (decision_of boot kernel (return_of rpc_kind 0).a (call_of (reg (return_of rpc_kind 0).a 0)))
 resumes_call boot kernel lane rpc_kind call others held = by_kind rpc_kind
   where
     -- with these registers
     resumed : (regs : List ℕ) → thread_in regs ≡ 0 → call_resumed_by kernel.slots regs ≡ Some call
-        → OnLane lane (TakesSlot 0 (λ taken. lasting taken.call ≡ lasting call)) (resume boot kernel regs)
+        → OnLane lane (TakesSlot 0 (λ taken. Follows call taken.call)) (resume boot kernel regs)
     resumed regs thread found =
-        subst (λ (o : Option PendingCall). OnLane lane (TakesSlot 0 (λ taken. lasting taken.call ≡ lasting call))
+        subst (λ (o : Option PendingCall). OnLane lane (TakesSlot 0 (λ taken. Follows call taken.call))
         (option_map_or (takes_call boot kernel.tables regs) o (done (Answers eresume)))) (sym found)
-        (resumes_on lane (TakesSlot 0 (λ taken. lasting taken.call ≡ lasting call)) (thread_in regs)
+        (resumes_on lane (TakesSlot 0 (λ taken. Follows call taken.call)) (thread_in regs)
         (λ given. onward_of (resumed_call boot kernel.tables (thread_in regs) call given)) (given_to regs (thread_in regs) call)
-        (λ given. (thread, kept_resumed boot kernel.tables (thread_in regs) call given)))
+        (λ given. (thread, resumed_follows boot kernel.tables (thread_in regs) call given)))
 
-    by_kind : (k : RpcKind) → OnLane lane (TakesSlot 0 (λ taken. lasting taken.call ≡ lasting call))
+    by_kind : (k : RpcKind) → OnLane lane (TakesSlot 0 (λ taken. Follows call taken.call))
         (decision_of boot kernel (return_of k 0).a (call_of (reg (return_of k 0).a 0)))
     by_kind rpc.Alloc = resumed (return_of rpc.Alloc 0).a refl (ap (λ (slots : List ThreadSlot). call_resumed_by slots (return_of rpc.Alloc 0).a) held)
     by_kind rpc.Free = resumed (return_of rpc.Free 0).a refl (ap (λ (slots : List ThreadSlot). call_resumed_by slots (return_of rpc.Free 0).a) held)
@@ -282,19 +298,20 @@ goes_out_of boot between after slot call regs inside there e =
 pub data Turned (was : PendingCall) (leaving : Leaving) (held : ThreadSlot) (answer : Regs) : Type 0 where
   Over : (result : CallResult) (params : CopiedParams) → leaving ≡ Finishes result params → held ≡ Free → said answer ≡ Finished
       → Turned was leaving held answer
-  Asked : (call : PendingCall) → held ≡ Suspended 0 call → lasting call ≡ lasting was → (k : RpcKind)
+  Asked : (call : PendingCall) → held ≡ Suspended 0 call → Follows was call → (k : RpcKind)
       → said answer ≡ Returned (record { kind = k; thread = 0 }) → Turned was leaving held answer
 
 for_client : (call : PendingCall) → call.client ≡ 0 → Suspended call.client call ≡ Suspended 0 call
 for_client call client = ap (λ (n : ℕ). Suspended n call) client
 
-pub turns : (was call : PendingCall) (caller : List ℕ) (leaving : Leaving) → lasting call ≡ lasting was → call.client ≡ 0
+pub turns : (was call : PendingCall) (caller : List ℕ) (leaving : Leaving) → Follows was call → call.client ≡ 0
     → Turned was leaving (slot_left call leaving) (record { a = registers_of (answer_of 0 leaving) caller })
 turns was call caller Interrupted same client = Asked call (for_client call client) same rpc.Interrupt refl
 turns was call caller WantsBuffer same client = Asked call (for_client call client) same rpc.Alloc refl
 turns was call caller (Requests place request) same client = Asked call (for_client call client) same (rpc.Cmd _) refl
 turns was call caller (FreesBuffer buffer) same client =
-    Asked (record call { buffer = None }) (for_client (record call { buffer = None }) client) same rpc.Free refl
+    Asked (record call { buffer = None }) (for_client (record call { buffer = None }) client)
+    (record { same = same.same; brings = same.brings }) rpc.Free refl
 turns was call caller (Finishes result params) same client = Over result params refl refl refl
 
 -- ---- slots
@@ -322,12 +339,12 @@ first_taken n held (Some cancel) call = ap (λ (slots : List ThreadSlot). Active
 
 -- where the second is taken, the call in the first may be cancelled
 pub second_taken : (n : ℕ) (cancels : Option Cancel) (call other : PendingCall)
-    → (now : PendingCall) × (lasting now ≡ lasting other)
+    → (now : PendingCall) × Follows other now
     × (slice_set (cancelled_slots (slots_with (Suspended 0 other) n) cancels) 1 (Active 0 call)
     ≡ Suspended 0 now ∷ Active 0 call ∷ replicate n Free)
-second_taken n None call other = (other, refl, refl)
+second_taken n None call other = (other, followed_by_itself other, refl)
 second_taken n (Some cancel) call other = (
   cancelled_call cancel other,
-  refl,
+  cancelled_follows cancel other,
   ap (λ (slots : List ThreadSlot). Suspended 0 (cancelled_call cancel other) ∷ Active 0 call ∷ slots) (all_free n cancel),
 )

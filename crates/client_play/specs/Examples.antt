@@ -9,6 +9,7 @@ use Rattle.client_text.specs.declared.script.ScriptParam.TheVariants.{ValueInout
 use Rattle.job_model.specs.Point.{no_params}
 use Rattle.kernel_model.specs.Worked.{add, app_with, boot, boot_with, uuid, wait_unmasked}
 use Rattle.own_model.specs.Own.{own_app, own_replies}
+use Rattle.own_model.specs.Parameters.{output_of}
 use Rattle.own_model.specs.declared.own_reply.OwnReply.{OwnReply}
 use Rattle.own_model.specs.declared.own_reply.OwnReply.TheVariants.{Ended}
 use Rattle.rpc_msgs.specs.declared.rpc.Rpc.{Rpc}
@@ -16,9 +17,11 @@ use Rattle.rpc_msgs.specs.declared.rpc.Rpc.TheVariants.{Time, FsCreate, FsWrite}
 use Rattle.rpc_msgs.specs.Request.{request_arg}
 use Rattle.msg_args.specs.Spelling.{spelling}
 use Rattle.ta_isa.specs.declared.image.Image.{Image}
-use Rattle.ta_params.specs.declared.copied_params.GpParam.TheVariants.{Value, Memref}
+use Rattle.ta_params.specs.declared.copied_params.GpParam.{GpParam}
+use Rattle.ta_params.specs.declared.copied_params.GpParam.TheVariants.{Empty, Value, Memref}
 use Rattle.ta_params.specs.declared.copied_params.Way.TheVariants.{In, Out, Inout}
 use Rattle.client_play.specs.Message.{request_in}
+use Rattle.client_play.specs.Outputs.{output_in_words}
 use Rattle.client_play.specs.Played.{ClientPlay, played_over, text_of_play, text_of}
 use Rattle.client_play.specs.Printed.{CallLine, param_text}
 
@@ -48,6 +51,10 @@ sum = Invoke s 0 None (ValueInout 5 7 ∷ []) ∷ Close s ∷ []
 abbrev pub places_in : ClientPlay → List (ℕ × ℕ)
 places_in play = map (λ (line : CallLine). (line.from, line.to)) play.lines
 
+-- what they have of the first parameter
+abbrev pub first_outputs_in : ClientPlay → List GpParam
+first_outputs_in play = map (λ (line : CallLine). output_of line.params.p0) play.lines
+
 -- the first session is one of the application by its first event
 abbrev pub is_opened_in : ClientPlay → Bool
 is_opened_in play = is_some (own_app (boot 1 2 1 add) (take 1 play.history) 1)
@@ -72,6 +79,8 @@ pub record Examples : Type 0 where
   pub opens : option_map is_opened_in (plays 256 add sum) ≡ Some true
   pub replies : option_map replies_in (plays 256 add sum)
       ≡ Some (Ended 0 4 no_params ∷ Ended 0 4 (record no_params { p0 = Value Inout 12 0 }) ∷ Ended 0 3 no_params ∷ [])
+  -- and what the lines have of the first parameter, which is what the replies tell
+  pub outputs : option_map first_outputs_in (plays 256 add sum) ≡ Some (Empty ∷ Value Inout 12 0 ∷ Empty ∷ [])
   -- a session that was closed, and a name that was not opened
   pub closed : prints 256 add (Close s ∷ Invoke s 0 None (ValueInout 5 7 ∷ []) ∷ [])
       ≡ lines (codes "open s 00000000 00000004" ∷ codes "close s 00000000 00000003" ∷ codes "invoke s ffff0006 00000003" ∷ [])
@@ -90,3 +99,9 @@ pub record Examples : Type 0 where
   pub input : param_text (Value In 10 0xff) ≡ []
   pub memory : param_text (Memref Inout (1 ∷ 2 ∷ 3 ∷ []) 2) ≡ codes " m:2:0102"
   pub too_large : param_text (Memref Out (1 ∷ 2 ∷ 3 ∷ []) 4) ≡ codes " m:4:"
+  -- what is told of them
+  pub told_input : output_of (Value In 10 0xff) ≡ Empty
+  pub told_memory : output_of (Memref Inout (1 ∷ 2 ∷ 3 ∷ []) 2) ≡ Memref Inout (1 ∷ 2 ∷ []) 2
+  pub told_larger : output_of (Memref Out (1 ∷ 2 ∷ 3 ∷ []) 4) ≡ Memref Out [] 4
+  pub value_in_words : output_in_words (Value Out 0x10000000c 0xff) ≡ Value Out 12 0xff
+  pub memory_in_words : output_in_words (Memref Out [] 0x100000004) ≡ Memref Out [] 4

@@ -3,6 +3,7 @@ pub mod Examples
 pub mod Laws
 pub mod Making
 pub mod Message
+pub mod Outputs
 pub mod PlayLaws
 pub mod Played
 pub mod Printed

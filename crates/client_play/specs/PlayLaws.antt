@@ -1,5 +1,5 @@
 -- What holds of the plays of scripts.
-use Rattle.std.specs.Prelude.{◌≡◌, ℕ, ◌+◌, ◌%◌, ◌^◌, List, [], ◌∷◌, ◌++◌, take, false, Some, All, IsSome}
+use Rattle.std.specs.Prelude.{◌≡◌, ℕ, ◌+◌, List, [], ◌∷◌, ◌++◌, take, false, Some, All, IsSome}
 use Rattle.client_text.specs.Sound.{IsSoundScript}
 use Rattle.client_text.specs.declared.script.Script.{Script}
 use Rattle.client_text.specs.declared.script.ScriptCall.{ScriptCall}
@@ -25,6 +25,7 @@ use Rattle.ta_params.specs.declared.copied_params.CopiedParams.{CopiedParams}
 use Rattle.trace_text.specs.declared.item.Item.{Item}
 use Rattle.trace_text.specs.declared.item.Item.TheVariants as item
 use Rattle.trace_text.specs.declared.trace.Trace.{Trace}
+use Rattle.client_play.specs.Outputs.{TellsOutputs, in_word}
 use Rattle.client_play.specs.Played.{ClientPlay, played}
 use Rattle.client_play.specs.Printed.{CallLine}
 use Rattle.client_play.specs.Standing.{steps_granted}
@@ -92,13 +93,17 @@ IsCallIn boot history line session app (Invoke name func cancel_after params) =
     (session ≡ line.session) × IsInSession boot history line.from session app
 IsCallIn boot history line session app (Close name) = (session ≡ line.session) × IsInSession boot history line.from session app
 
--- a number in 32 bits, as RAM tells it
-abbrev pub in_word : ℕ → ℕ
-in_word number = number % 2 ^ 32
+-- what a line has of the end of its call: the result, and the parameters as they came back
+pub record CallEnd : Type 0 where
+  pub result : CallResult
+  pub params : CopiedParams
 
--- the session's last reply comes with the last event, an exit of the client's processor: that a call has ended with this result. Its own
--- machine replies the same
-pub record IsToldAlone (boot : Booted) (history : List Event) (session : ℕ) (app : Application) (result : CallResult) : Type 0
+abbrev pub end_of : CallLine → CallEnd
+end_of line = record { result = line.result; params = line.params }
+
+-- the session's last reply comes with the last event, an exit of the client's processor: that a call has ended with this result and these
+-- outputs. Its own machine replies the same
+pub record IsToldAlone (boot : Booted) (history : List Event) (session : ℕ) (app : Application) (end : CallEnd) : Type 0
   where
     pub of_app : own_app boot history session ≡ Some app
     pub earlier : List Event
@@ -111,11 +116,13 @@ pub record IsToldAlone (boot : Booted) (history : List Event) (session : ℕ) (a
     pub replies : own_replies boot history session ≡ before ++ reply.Ended told.result told.origin outputs ∷ []
     pub alone : solo_replies (steps_in history) app boot.key (own_events boot history session)
         ≡ Some (own_replies boot history session)
-    pub printed : result ≡ record { result = in_word told.result; origin = in_word told.origin }
+    pub printed : end.result ≡ record { result = in_word told.result; origin = in_word told.origin }
+    -- where the application returned the result, the outputs
+    pub printed_outputs : told.origin ≡ 4 → TellsOutputs end.params outputs
 
 -- so it is behind the last event of the line's call, and the reply is one of this very call
 pub record IsToldInCall (boot : Booted) (history : List Event) (line : CallLine) (session : ℕ) (app : Application) : Type 0 where
-  pub told : IsToldAlone boot (take line.to history) session app line.result
+  pub told : IsToldAlone boot (take line.to history) session app (end_of line)
   -- it is none of those that the session had before the call's first event: they stand before it
   pub since : List OwnReply
   pub began : told.before ≡ own_replies boot (take line.from history) session ++ since
@@ -125,8 +132,8 @@ abbrev pub TellsAlone : Booted → List Event → CallLine → Type 0
 TellsAlone boot history line = (session : ℕ) (app : Application) →
     IsCallIn boot history line session app line.call → IsToldInCall boot history line session app
 
--- each printed result of a session whose application's sessions share no instance is that of the `Ended` reply to this call, which is
--- its own machine's: others make no difference to it
+-- each printed result of a session whose application's sessions share no instance is that of the `Ended` reply to this call, and so are
+-- the printed outputs. The reply is its own machine's: others make no difference to it
 abbrev pub ResultsAreToldAlone : Type 0
 ResultsAreToldAlone = (natives : List Native) (uuids : List (List ℕ)) (boot : Boot) (script : Script) (play : ClientPlay) →
     IsBooted (booted boot natives) → IsSoundScript uuids script → script.boot ≡ Some boot →

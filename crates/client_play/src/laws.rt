@@ -2,6 +2,7 @@
 
 ghost use Rattle.client_play.specs.Examples.{Examples};
 ghost use Rattle.client_play.specs.Laws.{CallsAreMadeAlike, PreparesAlike};
+ghost use Rattle.client_play.specs.Outputs.{OutputsArePrinted};
 ghost use Rattle.client_play.specs.PlayLaws.{PlaysAreOfTraces, ResultsAreToldAlone, ScriptsHavePlays};
 ghost use Rattle.client_play.specs.Served.{RunsAreCalls, RunsFail, RunsStop, SmcsAreServed};
 
@@ -48,9 +49,15 @@ pub fn scripts_have_plays()
 {}
 
 /// Each printed result of a session whose application's sessions share no instance is that of the session's `Ended` reply to this
-/// very call, at the call's last exit, which the session's own machine gives to its events alone.
+/// very call, at the call's last exit, which the session's own machine gives to its events alone; and where the application returned
+/// the result, what the line has of the call's parameters tells the outputs of that reply.
 pub fn results_are_told_alone()
     ensures { ResultsAreToldAlone }
+{}
+
+/// What tells the outputs of a reply is printed as these are: each value, and of memory the size with as many bytes.
+pub fn outputs_are_printed()
+    ensures { OutputsArePrinted }
 {}
 
 /// Plays of small scripts, worked out by hand.

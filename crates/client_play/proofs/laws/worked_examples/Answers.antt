@@ -11,6 +11,7 @@ returns c = record {
   places = refl;
   opens = refl;
   replies = refl;
+  outputs = refl;
   closed = refl;
   cancelled = refl;
   nothing = refl;
@@ -22,4 +23,9 @@ returns c = record {
   input = refl;
   memory = refl;
   too_large = refl;
+  told_input = refl;
+  told_memory = refl;
+  told_larger = refl;
+  value_in_words = refl;
+  memory_in_words = refl;
 }
