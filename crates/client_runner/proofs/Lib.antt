@@ -3,5 +3,5 @@ pub mod Called
 pub mod Gathered
 pub mod Names
 pub mod PortServed
-pub mod Sendable
 pub mod Started
+pub mod WithParams

@@ -2,7 +2,8 @@ use Rattle.std.proofs.Common.{sym, subst}
 use Rattle.std.specs.Prelude.{length}
 use Rattle.teec.specs.Operation.{IsSendable, Sends}
 use Rattle.teec.specs.declared.operation.Operation.{Operation}
-use Rattle.client_runner.proofs.Sendable.{operation_is, sendable, sends}
+use Rattle.client_play.proofs.Sendable.{sendable, sends}
+use Rattle.client_runner.proofs.WithParams.{operation_is}
 use Rattle.client_runner.proofs.operations.operation_of.Goals as goal
 
 pub returns-clause-sendable : goal.returns-clause-sendable
