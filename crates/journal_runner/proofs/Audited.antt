@@ -1,15 +1,21 @@
--- From a journal that was read to what is answered; and that bytes have one meaning.
-use Rattle.std.proofs.Common.{◌≡◌, ℕ, inl, inr, List, Option, sym, ap, subst, ◌∙◌}
+-- From a journal that was read to what is answered; what was kept; and that bytes have one meaning.
+use Rattle.std.proofs.Common.{◌≡◌, ℕ, inl, inr, List, Option, Some, None, refl, sym, ap, subst, ◌∙◌}
+use Rattle.std.specs.Prelude.{◌⊎◌, IfSome}
 use Rattle.audit_model.proofs.Prefixes.{one_verdict}
 use Rattle.audit_model.specs.declared.verdict.Verdict.{Verdict}
 use Rattle.journal_bytes.specs.Grammar.{Whole}
 use Rattle.kernel_model.specs.Application.{Native, booted}
 use Rattle.trace_player.specs.Starting.{uuids_of}
-use Rattle.word_parts.specs.Word.{Answered, HasOneMeaning}
+use Rattle.word_parts.specs.Input.{IsTooLong}
+use Rattle.word_parts.specs.Keeping.{Keeps}
+use Rattle.word_parts.specs.Word.{Answered, HasOneMeaning, IsRefusedWhole, IsServedWhole}
 use Rattle.word_parts.specs.declared.status.Status.{Status}
+use Rattle.word_parts.specs.declared.status.Status.TheVariants.{Memory}
+use Rattle.word_parts.specs.declared.status.Status.TheVariants as status
 use Rattle.journal_runner.specs.Auditing.{Audited, IsVerdictOn, SpellsAudited, auditing}
-use Rattle.journal_runner.specs.Audits.{IsAnsweredFor}
+use Rattle.journal_runner.specs.Audits.{Audits, IsAnsweredFor}
 use Rattle.journal_runner.specs.Reading.{SpellsAlone}
+use Rattle.journal_runner.proofs.Ending.{ok_or_memory}
 use Rattle.journal_runner.proofs.Meanings.{not_both_alone, same_alone}
 
 -- ---- answering
@@ -27,6 +33,48 @@ answered_alone natives input whole result old new alone (inr told) =
       known = tt;
       served = inr (λ never. never, inr told.2);
     }))
+
+-- ---- what was kept
+
+-- a journal that the input spells alone is answered with the verdict on it, or there is want of memory: else the input would spell
+-- nothing, and so have a fault, which it hasn't
+module _ (natives : List Native) (input : List ℕ) (left : Option (List ℕ)) (result : Status) (old new : Option (List ℕ))
+    (no_fault : Type 0) (kept : Keeps (auditing natives) input left result old new no_fault)
+  where
+    of_refused : (whole : Whole) → SpellsAlone (uuids_of natives) input whole → (result ≡ Memory → ⊥)
+        → IsRefusedWhole (auditing natives) input result old new ⊎ (result ≡ Memory) → ⊥
+    of_refused whole alone fits (inl refused) =
+        let bad = refused.1.1 in not_both_alone (uuids_of natives) input whole bad.0 bad.1 alone bad.2
+    of_refused whole alone fits (inr memory) = fits memory
+
+    of_served : (audited : Audited) → (result ≡ status.Ok → ⊥) → (result ≡ Memory → ⊥)
+        → IsServedWhole (auditing natives) audited result old new ⊎ (result ≡ Memory) → ⊥
+    of_served audited not_ok fits (inl served) = not_ok served.0
+    of_served audited not_ok fits (inr memory) = fits memory
+
+    nothing_else : (whole : Whole) → SpellsAlone (uuids_of natives) input whole → (IsTooLong input → ⊥) → no_fault
+        → (result ≡ status.Ok → ⊥) → (result ≡ Memory → ⊥) → ⊥
+    nothing_else whole alone short none not_ok fits =
+        let nothing = λ (audited : Audited) (spelled : SpellsAudited natives input audited).
+        of_served audited not_ok fits
+        (kept.complete audited (record { short = short; spelled = spelled; few = λ never. never; goes_on = refl }) none) in
+        of_refused whole alone fits (kept.refuses (record { short = short; spells_nothing = nothing }) none)
+
+    kept_complete : (whole : Whole) → SpellsAlone (uuids_of natives) input whole → (IsTooLong input → ⊥) → no_fault
+        → (result ≡ status.Ok) ⊎ (result ≡ Memory)
+    kept_complete whole alone short none = ok_or_memory result (nothing_else whole alone short none)
+
+-- over an input that the source tells
+pub kept_audits : (natives : List Native) (told left : Option (List ℕ)) (result : Status) (old new : Option (List ℕ))
+    (no_fault : Type 0) → IfSome told (λ input. Keeps (auditing natives) input left result old new no_fault)
+    → IfSome told (λ input. Audits natives input result old new no_fault)
+kept_audits natives (Some input) left result old new no_fault kept = record {
+  ok = λ ok.
+      let served = (kept.statuses.ok ok).1 in
+      record { audited = served.0; spelled = served.1.spelled; line = served.2 };
+  complete = kept_complete natives input left result old new no_fault kept;
+}
+kept_audits natives None left result old new no_fault kept = tt
 
 -- ---- one meaning
 

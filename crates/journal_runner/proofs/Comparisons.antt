@@ -18,6 +18,7 @@ use Rattle.word_parts.specs.declared.status.Status.TheVariants as status
 use Rattle.journal_runner.specs.Compares.{Compares, IsAnsweredForPair}
 use Rattle.journal_runner.specs.Comparing.{Comparison, SpellsCompared, comparing, pair_of}
 use Rattle.journal_runner.specs.Reading.{SpellsPair}
+use Rattle.journal_runner.proofs.Ending.{ok_or_memory}
 use Rattle.journal_runner.proofs.Meanings.{not_both_pair, same_first, same_second}
 
 -- ---- answering
@@ -63,28 +64,9 @@ module _ (natives : List Native) (subject : Subject) (input : List ℕ) (left : 
         (kept.complete comparison (record { short = short; spelled = spelled; few = λ never. never; goes_on = refl }) none) in
         of_refused one two pair fits (kept.refuses (record { short = short; spells_nothing = nothing }) none)
 
-pub kept_complete : (natives : List Native) (subject : Subject) (input : List ℕ) (left : Option (List ℕ)) (result : Status)
-    (old new : Option (List ℕ)) (no_fault : Type 0)
-    → Keeps (comparing natives subject) input left result old new no_fault
-    → (one two : Whole) → SpellsPair (uuids_of natives) input one two → (IsTooLong input → ⊥) → no_fault
-    → (result ≡ status.Ok) ⊎ (result ≡ Memory)
-kept_complete natives subject input left status.Ok old new no_fault kept one two pair short none = inl refl
-kept_complete natives subject input left status.Memory old new no_fault kept one two pair short none = inr refl
-kept_complete natives subject input left status.Usage old new no_fault kept one two pair short none =
-    absurd (nothing_else natives subject input left status.Usage old new no_fault kept one two pair short none (λ e. absurd cc)
-    (λ e. absurd cc))
-kept_complete natives subject input left status.BadTrace old new no_fault kept one two pair short none =
-    absurd (nothing_else natives subject input left status.BadTrace old new no_fault kept one two pair short none (λ e. absurd cc)
-    (λ e. absurd cc))
-kept_complete natives subject input left status.ReadFault old new no_fault kept one two pair short none =
-    absurd (nothing_else natives subject input left status.ReadFault old new no_fault kept one two pair short none (λ e. absurd cc)
-    (λ e. absurd cc))
-kept_complete natives subject input left status.WriteFault old new no_fault kept one two pair short none =
-    absurd (nothing_else natives subject input left status.WriteFault old new no_fault kept one two pair short none (λ e. absurd cc)
-    (λ e. absurd cc))
-kept_complete natives subject input left status.TooLong old new no_fault kept one two pair short none =
-    absurd (nothing_else natives subject input left status.TooLong old new no_fault kept one two pair short none (λ e. absurd cc)
-    (λ e. absurd cc))
+    kept_complete : (one two : Whole) → SpellsPair (uuids_of natives) input one two → (IsTooLong input → ⊥) → no_fault
+        → (result ≡ status.Ok) ⊎ (result ≡ Memory)
+    kept_complete one two pair short none = ok_or_memory result (nothing_else one two pair short none)
 
 -- over an input that the source tells
 pub kept_compares : (natives : List Native) (subject : Subject) (told left : Option (List ℕ)) (result : Status)

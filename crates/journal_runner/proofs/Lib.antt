@@ -6,3 +6,7 @@ pub mod Counted
 pub mod Journaled
 pub mod Recordings
 pub mod Silent
+pub mod Ending
+pub mod Equalities
+pub mod Shown
+pub mod HaveAnswers

@@ -17,14 +17,16 @@ use Rattle.trace_text.specs.declared.trace.Trace.{Trace}
 use Rattle.word_parts.specs.Answer.{status_of_play}
 use Rattle.word_parts.specs.Keeping.{Keeps}
 use Rattle.word_parts.specs.Line.{bad_trace_line}
-use Rattle.word_parts.specs.Word.{HasOneMeaning, IsServedBy, Ran}
+use Rattle.word_parts.specs.Limits.{HasTooMany}
+use Rattle.word_parts.specs.Word.{Answered, HasOneMeaning, IsServedBy, Ran}
 use Rattle.word_parts.specs.declared.status.Status.{Status}
 use Rattle.word_parts.specs.declared.status.Status.TheVariants.{BadTrace, ReadFault, WriteFault, Memory, TooLong}
 use Rattle.word_parts.specs.declared.status.Status.TheVariants as status
 use Rattle.word_parts.proofs.Answering.{writes-named}
 use Rattle.word_parts.proofs.Worded.{some-and}
 use Rattle.journal_runner.specs.Known.{CanBoot, CanBootWith}
-use Rattle.journal_runner.specs.Recording.{journal_for, journal_of, journal_with, recording}
+use Rattle.journal_runner.specs.Recorded.{IsSpelledIfPlayed}
+use Rattle.journal_runner.specs.Recording.{HasSpelledJournal, IsRecordable, journal_for, journal_of, journal_with, recording}
 use Rattle.journal_runner.specs.Records.{IsRecorded, IsRecordedWith, IsUnrecorded, Records, WasRecorded}
 
 -- a text spells one trace, or it has a fault, and not both
@@ -37,29 +39,52 @@ one_meaning natives input = record {
 -- ---- a trace
 
 recorded_play : (natives : List Native) (boot : Boot) (trace : Trace) (result : Status) (bytes : List ℕ) (old new : Option (List ℕ))
-    (o : Option Play) → played natives boot trace ≡ o → IsBooted (booted boot natives)
+    (o : Option Play) → trace.boot ≡ Some boot → HasSpelledJournal natives trace → played natives boot trace ≡ o → IsBooted (booted boot natives)
     → option_map (journal_of boot) o ≡ Some bytes → result ≡ status_of_play (option_and_then (λ (p : Play). p.refused) o)
     → Appends old new bytes → IsRecorded natives boot trace result old new
-recorded_play natives boot trace result bytes old new None e boots is same put = absurd cc
-recorded_play natives boot trace result bytes old new (Some play) e boots is same put =
+recorded_play natives boot trace result bytes old new None has spelled e boots is same put = absurd cc
+recorded_play natives boot trace result bytes old new (Some play) has spelled e boots is same put =
     let bytes_are : bytes ≡ journal_of boot play = cc in
+    let faultless = plays_are_faultless (zeros 0x400000) natives boot trace play boots e in
     record {
       play = play;
       is_true = plays_are_true natives boot trace play boots e;
-      steady = (plays_are_faultless (zeros 0x400000) natives boot trace play boots e).faultless.steady;
+      steady = faultless.faultless.steady;
       bytes = subst (Appends old new) bytes_are put;
+      audited = record { alone = spelled.alone boot play has e; is_verdict = faultless.verdict };
       status = same;
     }
 
 -- by the boot of the trace
 recorded_with : (natives : List Native) (trace : Trace) (result : Status) (bytes : List ℕ) (old new : Option (List ℕ))
-    (boot : Option Boot) → CanBootWith natives trace boot → journal_with natives trace boot ≡ Some bytes
+    (boot : Option Boot) → trace.boot ≡ boot → HasSpelledJournal natives trace → CanBootWith natives trace boot
+    → journal_with natives trace boot ≡ Some bytes
     → result ≡ status_of_play (refused_by natives trace boot) → Appends old new bytes
     → IsRecordedWith natives trace result old new boot
-recorded_with natives trace result bytes old new None none is same put =
+recorded_with natives trace result bytes old new None has spelled none is same put =
     let bytes_are : bytes ≡ [] = cc in (none, same, subst (Appends old new) bytes_are put)
-recorded_with natives trace result bytes old new (Some boot) boots is same put =
-    recorded_play natives boot trace result bytes old new (played natives boot trace) refl boots is same put
+recorded_with natives trace result bytes old new (Some boot) has spelled boots is same put =
+    recorded_play natives boot trace result bytes old new (played natives boot trace) has spelled refl boots is same put
+
+-- ---- what is answered
+
+-- what is known of a trace that was played
+spelled_unless : (natives : List Native) (trace : Trace) → HasTooMany trace.items ⊎ HasSpelledJournal natives trace
+    → (HasTooMany trace.items → ⊥) → HasSpelledJournal natives trace
+spelled_unless natives trace (inl many) few = absurd (few many)
+spelled_unless natives trace (inr spelled) few = spelled
+
+-- what is written for a trace is what the word answers
+pub answered_for : (natives : List Native) (input : List ℕ) (trace : Trace) (result : Status) (old new : Option (List ℕ))
+    → Spells (uuids_of natives) input trace → CanBoot natives trace → IsServedBy (recording natives) trace result old new
+    → IsSpelledIfPlayed natives trace result old new → Answered (recording natives) input result old new
+answered_for natives input trace result old new spelled boots served (inl want) = inl want
+answered_for natives input trace result old new spelled boots served (inr journal) = inr (inr (record {
+  content = trace;
+  spelled = spelled;
+  known = record { boots = boots; spelled = spelled_unless natives trace journal };
+  served = served;
+}))
 
 -- ---- an input
 
@@ -76,18 +101,19 @@ WasDone natives input result old new =
     ((result ≡ TooLong) × IsUnrecorded natives input) ⊎ WasRecorded natives input result old new
 
 served_done : (natives : List Native) (input : List ℕ) (trace : Trace) (result : Status) (old new : Option (List ℕ))
-    → IsWhole result → Spells (uuids_of natives) input trace → CanBoot natives trace
+    → IsWhole result → Spells (uuids_of natives) input trace → IsRecordable natives trace
     → IsServedBy (recording natives) trace result old new → WasDone natives input result old new
-served_done natives input trace result old new whole spelled can (inl many) = inl (many.1, inr (trace, spelled, many.0))
-served_done natives input trace result old new whole spelled can (inr (few, inl want)) = absurd (whole.no_want want.0)
-served_done natives input trace result old new whole spelled can (inr (few, inr records)) =
+served_done natives input trace result old new whole spelled known (inl many) = inl (many.1, inr (trace, spelled, many.0))
+served_done natives input trace result old new whole spelled known (inr (few, inl want)) = absurd (whole.no_want want.0)
+served_done natives input trace result old new whole spelled known (inr (few, inr records)) =
     let bytes = some-and _ (journal_for natives trace) records in
     let put = writes-named _ bytes.0 result old new bytes.2 whole.no_write whole.no_want in
     inr (record {
       trace = trace;
       spelled = spelled;
       few = few;
-      recorded = recorded_with natives trace result bytes.0 old new trace.boot can bytes.1 put.0 put.1;
+      recorded = recorded_with natives trace result bytes.0 old new trace.boot refl (known.spelled few) known.boots bytes.1 put.0
+          put.1;
     })
 
 ran_done : (natives : List Native) (input : List ℕ) (left : Option (List ℕ)) (result : Status) (old new : Option (List ℕ))

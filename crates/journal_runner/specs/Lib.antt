@@ -7,4 +7,5 @@ pub mod Auditing
 pub mod Audits
 pub mod Comparing
 pub mod Compares
+pub mod Laws
 pub mod Examples

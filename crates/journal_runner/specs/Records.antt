@@ -1,6 +1,8 @@
 -- What was played where `record` ends with 0, or with TooLong by a refused entry.
 use Rattle.std.specs.Prelude.{◌≡◌, ◌⊎◌, ℕ, List, [], Option, None, Some}
 use Rattle.audit_model.specs.Verdicts.{IsSteady}
+use Rattle.audit_model.specs.declared.verdict.Verdict.TheVariants.{Legal}
+use Rattle.journal_bytes.specs.Spelling.{whole_with}
 use Rattle.kernel_model.specs.Application.{Native}
 use Rattle.play_model.specs.Play.{Play}
 use Rattle.play_model.specs.TrueToKernel.{IsTrueToKernel}
@@ -15,17 +17,19 @@ use Rattle.word_parts.specs.Limits.{HasTooMany}
 use Rattle.word_parts.specs.declared.status.Status.{Status}
 use Rattle.word_parts.specs.declared.status.Status.TheVariants.{TooLong}
 use Rattle.word_parts.specs.declared.status.Status.TheVariants as status
+use Rattle.journal_runner.specs.Auditing.{SpellsAudited}
 use Rattle.journal_runner.specs.Recording.{journal_of}
 
 -- of a trace that has this boot: just the bytes of the boot and of the history of its play were written, and the status is 0, or
--- TooLong where the play refuses an entry. That play is true to the written kernel: its history is legal; and it is steady, so
--- that what was written has the verdict Legal
+-- TooLong where the play refuses an entry. That play is true to the written kernel: its history is legal; and it is steady. So
+-- what was written spells, for `audit`, that boot and these events with the verdict Legal
 pub record IsRecorded (natives : List Native) (boot : Boot) (trace : Trace) (result : Status) (old new : Option (List ℕ)) : Type 0
   where
     pub play : Play
     pub is_true : IsTrueToKernel natives boot trace play
     pub steady : IsSteady play.history
     pub bytes : Appends old new (journal_of boot play)
+    pub audited : SpellsAudited natives (journal_of boot play) (record { whole = whole_with boot play.history; verdict = Legal })
     pub status : result ≡ status_of_play play.refused
 
 -- of one without a boot, which has no items: nothing was written, and the status is 0

@@ -8,7 +8,7 @@ ghost use Rattle.word_parts.specs.Input.{TakesAtMost};
 ghost use Rattle.word_parts.specs.Keeping.{Keeps};
 ghost use Rattle.word_parts.specs.Word.{Answered};
 ghost use Rattle.journal_runner.specs.Auditing.{IsVerdictOn, auditing, verdict_line, verdict_words};
-ghost use Rattle.journal_runner.specs.Audits.{IsAnsweredFor};
+ghost use Rattle.journal_runner.specs.Audits.{Audits, IsAnsweredFor};
 ghost use Rattle.journal_runner.specs.Reading.{KeepsLimits};
 
 use crate::reading::read_alone;
@@ -103,6 +103,11 @@ pub fn audit<S: Source, K: Sink>(
     // ---- All that the word keeps to: the input, each status, and when an input is served or refused whole.
     ensures keeps { IfSome (S.left input.old) (λ bytes.
         Keeps (auditing (entries natives.now)) bytes (S.left input.new) result (K.held out.old) (K.held out.new)
+        ((Rose (S.faults input.old) (S.faults input.new) → ⊥) × (Rose (K.faults out.old) (K.faults out.new) → ⊥))) }
+
+    // ---- What was written: the verdict on the journal. And any journal is answered so, or there is want of memory.
+    ensures audits { IfSome (S.left input.old) (λ bytes.
+        Audits (entries natives.now) bytes result (K.held out.old) (K.held out.new)
         ((Rose (S.faults input.old) (S.faults input.new) → ⊥) × (Rose (K.faults out.old) (K.faults out.new) → ⊥))) }
 
     // ---- Faults of the ports.

@@ -9,6 +9,7 @@
 mod auditing;
 mod comparing;
 mod examples;
+mod laws;
 mod playing;
 mod reading;
 mod recording;
@@ -17,4 +18,5 @@ pub use auditing::audit;
 pub use compare_model::Subject;
 pub use comparing::compare;
 pub use examples::worked_examples;
+pub use laws::{journals_have_answers, recorded_is_audited_legal};
 pub use recording::record;

@@ -7,6 +7,7 @@ ghost use Rattle.trace_text.specs.Sound.{IsSound};
 ghost use Rattle.word_parts.specs.Input.{TakesAtMost};
 ghost use Rattle.word_parts.specs.Keeping.{Keeps};
 ghost use Rattle.word_parts.specs.Word.{Answered, IsDone, IsServedBy};
+ghost use Rattle.journal_runner.specs.Recorded.{IsSpelledIfPlayed};
 ghost use Rattle.journal_runner.specs.Recording.{recording};
 ghost use Rattle.journal_runner.specs.Records.{Records};
 
@@ -29,6 +30,7 @@ fn record_booted<K: Sink>(
 ) -> Status
     requires { IsSound (uuids_of (entries natives.now)) (trace_of boot fills.now items.now) }
     ensures done { IsDone (recording (entries natives.now)) (trace_of boot fills.now items.now) result (K.held out.old) (K.held out.new) }
+    ensures spelled { IsSpelledIfPlayed (entries natives.now) (trace_of boot fills.now items.now) result (K.held out.old) (K.held out.new) }
     ensures words { result ≡ Status.Usage → ⊥ }
     ensures write_fault { result ≡ Status.WriteFault → Rose (K.faults out.old) (K.faults out.new) }
     ensures count { K.faults out.old ≤ K.faults out.new }
@@ -44,6 +46,7 @@ fn record_booted<K: Sink>(
 fn record_trace<K: Sink>(alloc: Global, natives: &Natives, trace: Trace, out: &mut K) -> Status
     requires { IsSound (uuids_of (entries natives.now)) trace }
     ensures served { IsServedBy (recording (entries natives.now)) trace result (K.held out.old) (K.held out.new) }
+    ensures spelled { IsSpelledIfPlayed (entries natives.now) trace result (K.held out.old) (K.held out.new) }
     ensures words { result ≡ Status.Usage → ⊥ }
     ensures write_fault { result ≡ Status.WriteFault → Rose (K.faults out.old) (K.faults out.new) }
     ensures count { K.faults out.old ≤ K.faults out.new }
@@ -97,7 +100,7 @@ pub fn record<S: Source, K: Sink>(
         Keeps (recording (entries natives.now)) bytes (S.left input.new) result (K.held out.old) (K.held out.new)
         ((Rose (S.faults input.old) (S.faults input.new) → ⊥) × (Rose (K.faults out.old) (K.faults out.new) → ⊥))) }
 
-    // ---- The play whose journal was written, which is true to the written kernel.
+    // ---- The play whose journal was written, which is true to the written kernel; what was written is audited as legal.
     ensures records { IfSome (S.left input.old) (λ bytes.
         Records (entries natives.now) bytes result (K.held out.old) (K.held out.new)) }
 

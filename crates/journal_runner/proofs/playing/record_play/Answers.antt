@@ -2,9 +2,10 @@
 use Rattle.std.proofs.Common.{Some, sym, ap, subst}
 use Rattle.native_tas.specs.Table.{entries}
 use Rattle.ta_isa.specs.Boots.{IsBoot}
-use Rattle.trace_player.specs.Starting.{trace_of}
+use Rattle.trace_player.specs.Starting.{trace_of, uuids_of}
 use Rattle.trace_player.proofs.Playable.{at-start}
-use Rattle.journal_runner.proofs.Journaled.{journal_is, sound_journal, status_is}
+use Rattle.trace_text.specs.Sound.{IsSoundBoot}
+use Rattle.journal_runner.proofs.Journaled.{journal_is, sound_journal, spelled_is, status_is}
 use Rattle.journal_runner.proofs.playing.record_play.Goals as goal
 
 pub play_items-requires : goal.play_items-requires
@@ -35,5 +36,8 @@ returns g c =
     record {
       bytes = journal_is natives trace c.play_items.new.player c.in_ok-status.status end c.in_ok-header.header has_boot _ c.journal.ensures
           c.in_ok-bytes.bytes.items c.in_ok-bytes.ensures.bytes;
+      spelled = spelled_is natives trace c.play_items.new.player c.in_ok-status.status end c.in_ok-header.header has_boot _ c.journal.ensures
+          c.in_ok-bytes.bytes.items c.in_ok-bytes.ensures.bytes c.in_ok-bytes.ensures.spelled
+          (subst (IsSoundBoot (uuids_of natives)) (sym c.in_ok-header.ensures.cases) c.requires.boot);
       status = status_is natives trace c.play_items.new.player c.in_ok-status.status end c.in_ok-header.header has_boot _ c.journal.ensures;
     }

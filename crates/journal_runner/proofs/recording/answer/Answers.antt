@@ -1,11 +1,12 @@
 -- A trace that was read is what its bytes spell, and a core can be booted with its boot.
-use Rattle.std.proofs.Common.{List, ℕ, inr, subst, sym, ◌∙◌}
+use Rattle.std.proofs.Common.{List, ℕ, subst, sym, ◌∙◌}
 use Rattle.native_tas.specs.Table.{entries}
 use Rattle.trace_player.specs.Starting.{uuids_of}
 use Rattle.trace_text.specs.Grammar.{IsFaultOf, Spells}
 use Rattle.word_parts.proofs.Worded.{fault-answered}
 use Rattle.journal_runner.specs.Recording.{recording}
 use Rattle.journal_runner.proofs.Booting.{can_boot}
+use Rattle.journal_runner.proofs.Recordings.{answered_for}
 use Rattle.trace_player.proofs.Booting.{AreApart}
 use Rattle.journal_runner.proofs.recording.answer.Goals as goal
 
@@ -14,15 +15,12 @@ returns-in-Ok-clause-answered g c =
     let trace = c.in-Ok.trace in
     let natives = entries c.args.natives.now in
     let uuids = c.as_slice-2.ensures.value ∙ c.uuids.ensures.order in
-    inr (inr (record {
-      content = trace;
-      spelled =
-          subst (λ (bytes : List ℕ). Spells (uuids_of natives) bytes trace) c.as_slice.ensures.value
-          (subst (λ (us : List (List ℕ)). Spells us c.as_slice.result.now trace) uuids c.in-Ok.ensures.found);
-      known = can_boot natives c.as_slice-2.result.now trace uuids c.as_slice-2.ensures.fits
-          (subst AreApart (sym c.as_slice-2.ensures.value) c.uuids.ensures.apart) c.in-Ok.ensures.sound;
-      served = c.record_trace.ensures.served;
-    }))
+    answered_for natives c.args.input.items trace _ _ _
+    (subst (λ (bytes : List ℕ). Spells (uuids_of natives) bytes trace) c.as_slice.ensures.value
+    (subst (λ (us : List (List ℕ)). Spells us c.as_slice.result.now trace) uuids c.in-Ok.ensures.found))
+    (can_boot natives c.as_slice-2.result.now trace uuids c.as_slice-2.ensures.fits
+    (subst AreApart (sym c.as_slice-2.ensures.value) c.uuids.ensures.apart) c.in-Ok.ensures.sound)
+    c.record_trace.ensures.served c.record_trace.ensures.spelled
 
 pub returns-in-Err-clause-answered : goal.returns-in-Err-clause-answered
 returns-in-Err-clause-answered g c =

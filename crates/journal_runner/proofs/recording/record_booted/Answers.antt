@@ -14,6 +14,9 @@ returns-in-Ok-clause-done g c =
     (subst (λ (line : List ℕ). Writes recorded.status line c.answer_line.result (g.K.Sink.held c.args.out.now)
     (g.K.Sink.held c.answer_line.new.out)) c.as_slice.ensures.value c.answer_line.ensures.line)
 
+pub returns-in-Ok-clause-spelled : goal.returns-in-Ok-clause-spelled
+returns-in-Ok-clause-spelled g c = inr (inr c.in-Ok.ensures.spelled)
+
 pub returns-in-Ok-clause-words : goal.returns-in-Ok-clause-words
 returns-in-Ok-clause-words g c =
     play_not_usage (refused_in (entries c.args.natives.now) (trace_of c.args.boot c.args.fills.now c.args.items.now))
