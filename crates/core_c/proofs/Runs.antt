@@ -6,6 +6,7 @@ use Rattle.client_runner.specs.Scripts.{PlaysScripts}
 use Rattle.compare_model.specs.declared.subject.Subject.{Subject}
 use Rattle.ports.specs.Port.{Appends, Rose}
 use Rattle.journal_runner.specs.Auditing.{auditing}
+use Rattle.journal_runner.specs.Audits.{Audits}
 use Rattle.journal_runner.specs.Compares.{Compares}
 use Rattle.journal_runner.specs.Comparing.{comparing}
 use Rattle.journal_runner.specs.Recording.{recording}
@@ -44,7 +45,9 @@ pub record Clauses (natives : List Native) (drivers : Drivers) (texts : List (Li
       → Plays grammar natives input result old new
   pub records : Say texts Record
       → Keeps (recording natives) input left result old new ((Rose 0 0 → ⊥) × (Rose 0 0 → ⊥)) × Records natives input result old new
-  pub audits : Say texts Audit → Keeps (auditing natives) input left result old new ((Rose 0 0 → ⊥) × (Rose 0 0 → ⊥))
+  pub audits : Say texts Audit
+      → Keeps (auditing natives) input left result old new ((Rose 0 0 → ⊥) × (Rose 0 0 → ⊥))
+      × Audits natives input result old new ((Rose 0 0 → ⊥) × (Rose 0 0 → ⊥))
   pub compares : (subject : Subject) → Say texts (Compare subject)
       → Keeps (comparing natives subject) input left result old new ((Rose 0 0 → ⊥) × (Rose 0 0 → ⊥))
       × Compares natives subject input result old new ((Rose 0 0 → ⊥) × (Rose 0 0 → ⊥))
@@ -69,6 +72,13 @@ keeps_quiet word input left result old new k = record {
   statuses = k.statuses;
   complete = λ content can no. k.complete content can (quiet, quiet);
   refuses = λ can no. k.refuses can (quiet, quiet);
+}
+
+audits_quiet : (natives : List Native) (input : List ℕ) (result : Status) (old new : Option (List ℕ))
+    → Audits natives input result old new ((Rose 0 0 → ⊥) × (Rose 0 0 → ⊥)) → Audits natives input result old new (Unit {0})
+audits_quiet natives input result old new a = record {
+  ok = a.ok;
+  complete = λ whole alone short no. a.complete whole alone short (quiet, quiet);
 }
 
 compares_quiet : (natives : List Native) (subject : Subject) (input : List ℕ) (result : Status) (old new : Option (List ℕ))
@@ -98,7 +108,8 @@ of_clauses natives drivers texts input left result output c = record {
   };
   audits = λ said. record {
     left = left;
-    keeps = keeps_quiet (auditing natives) input left result (Some []) (Some output) (c.audits said);
+    keeps = keeps_quiet (auditing natives) input left result (Some []) (Some output) (c.audits said).0;
+    audits = audits_quiet natives input result (Some []) (Some output) (c.audits said).1;
   };
   compares = λ subject said. record {
     left = left;
@@ -192,7 +203,11 @@ unrun_so natives drivers texts input = record {
     keeps = unread (recording natives) input;
     records = record { ok = λ e. absurd cc; too_long = λ e. absurd cc };
   };
-  audits = λ said. record { left = None; keeps = unread (auditing natives) input };
+  audits = λ said. record {
+    left = None;
+    keeps = unread (auditing natives) input;
+    audits = record { ok = λ e. absurd cc; complete = λ whole alone short no. inr refl };
+  };
   compares = λ subject said. record {
     left = None;
     keeps = unread (comparing natives subject) input;

@@ -6,6 +6,7 @@ use Rattle.compare_model.specs.declared.subject.Subject.{Subject}
 use Rattle.native_tas.specs.declared.driver_relation.DriverRelation.{DriverRelation}
 use Rattle.native_tas.specs.declared.relation.Relation.{Relation}
 use Rattle.journal_runner.specs.Auditing.{auditing}
+use Rattle.journal_runner.specs.Audits.{Audits}
 use Rattle.journal_runner.specs.Compares.{Compares}
 use Rattle.journal_runner.specs.Comparing.{comparing}
 use Rattle.journal_runner.specs.Recording.{recording}
@@ -55,6 +56,7 @@ pub record HasRecorded (natives : List Native) (input : List ℕ) (result : Stat
 pub record HasAudited (natives : List Native) (input : List ℕ) (result : Status) (output : List ℕ) : Type 0 where
   pub left : Option (List ℕ)
   pub keeps : Keeps (auditing natives) input left result (Some []) (Some output) (Unit {0})
+  pub audits : Audits natives input result (Some []) (Some output) (Unit {0})
 
 -- and two journals of which it is written what they show of a session, or of the sessions that share an application's instance
 pub record HasCompared (natives : List Native) (subject : Subject) (input : List ℕ) (result : Status) (output : List ℕ) : Type 0

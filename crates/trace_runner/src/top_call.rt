@@ -10,6 +10,7 @@ ghost use Rattle.notify_runner.specs.Run.{notifying};
 ghost use Rattle.ports.specs.Port.{Appends, Rose};
 ghost use Rattle.trace_text.specs.declared.trace.Trace.{Trace};
 ghost use Rattle.journal_runner.specs.Auditing.{auditing};
+ghost use Rattle.journal_runner.specs.Audits.{Audits};
 ghost use Rattle.journal_runner.specs.Compares.{Compares};
 ghost use Rattle.journal_runner.specs.Comparing.{comparing};
 ghost use Rattle.journal_runner.specs.Recording.{recording};
@@ -110,9 +111,11 @@ pub fn run<R: Threads + Wait + Sync, S: Source, K: Sink, G: Pace + Sync>(
         ((Rose (S.faults input.old) (S.faults input.new) → ⊥) × (Rose (K.faults out.old) (K.faults out.new) → ⊥))
         × Records (entries natives.now) bytes result (K.held out.old) (K.held out.new)) }
 
-    // ---- The verdict on a journal.
+    // ---- The verdict on a journal. Any journal is answered so, or there is want of memory.
     ensures audits { Asks words.now command.Audit → IfSome (S.left input.old) (λ bytes.
         Keeps (auditing (entries natives.now)) bytes (S.left input.new) result (K.held out.old) (K.held out.new)
+        ((Rose (S.faults input.old) (S.faults input.new) → ⊥) × (Rose (K.faults out.old) (K.faults out.new) → ⊥))
+        × Audits (entries natives.now) bytes result (K.held out.old) (K.held out.new)
         ((Rose (S.faults input.old) (S.faults input.new) → ⊥) × (Rose (K.faults out.old) (K.faults out.new) → ⊥))) }
 
     // ---- What two journals show of a session, or of the sessions that share an application's instance: where that is the same,

@@ -123,7 +123,8 @@ returns-in-Some-Audit-clause-records g c = λ asks.
     (subst (Asks c.args.words.now) c.in-Some-Audit.field-0-is c.in-Some-Audit.ensures.asked) asks
 
 pub returns-in-Some-Audit-clause-audits : goal.returns-in-Some-Audit-clause-audits
-returns-in-Some-Audit-clause-audits g c = λ asks. c.audit.ensures.keeps
+returns-in-Some-Audit-clause-audits g c = λ asks.
+    both-some (g.S.Source.left c.args.input.now) _ _ c.audit.ensures.keeps c.audit.ensures.audits
 
 pub returns-in-Some-Audit-clause-notifies : goal.returns-in-Some-Audit-clause-notifies
 returns-in-Some-Audit-clause-notifies g c = λ asks.
