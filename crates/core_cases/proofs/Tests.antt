@@ -1,8 +1,8 @@
 -- What the tests of a boot and of a core's journal say.
-use Rattle.std.proofs.Common.{◌≡◌, ◌≤◌, ◌^◌, false, List, [], ◌∷◌, Option, Some, None, length, get_or, refl, sym, subst}
-use Rattle.std.specs.Prelude.{IfSome}
+use Rattle.std.proofs.Common.{◌≡◌, ◌≤◌, ◌^◌, true, false, drop, List, [], ◌∷◌, Option, Some, None, length, get_or, refl, sym, subst}
+use Rattle.std.specs.Prelude.{IfSome, ◌==◌}
 use Rattle.std.specs.List.{AllByRecursion}
-use Rattle.core_cases.specs.Feeding.{HasOneApp, IsJournalOf}
+use Rattle.core_cases.specs.Feeding.{HasOneApp, HasSharedApp, IsJournalOf}
 use Rattle.event_journal.specs.Journal.{copied_bytes}
 use Rattle.event_journal.specs.declared.event.Event.{Event}
 use Rattle.isolation.specs.Journals.{IsJournal}
@@ -23,6 +23,19 @@ pub one_app : (boot : Boot) (none : App) → length boot.apps ≡ 1 → is_singl
     → HasOneApp boot
 one_app boot none one alone =
     record { app = get_or boot.apps 0 none; only = only_one boot.apps none one; shares_none = alone }
+
+first_one : (apps : List App) (none : App) → (length apps == 0) ≡ false → apps ≡ get_or apps 0 none ∷ drop 1 apps
+first_one [] none e = absurd cc
+first_one (app ∷ others) none e = refl
+
+pub shared_app : (boot : Boot) (none : App) → (length boot.apps == 0) ≡ false → is_single (OfImage (get_or boot.apps 0 none)) ≡ true
+    → HasSharedApp boot
+shared_app boot none some shares = record {
+  app = get_or boot.apps 0 none;
+  others = drop 1 boot.apps;
+  first = first_one boot.apps none some;
+  shares = shares;
+}
 
 some_boot : (found : Option Boot) (boot : Boot) → found ≡ Some boot → IfSome found IsBoot → IsBoot boot
 some_boot None boot e is = absurd cc

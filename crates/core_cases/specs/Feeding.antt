@@ -1,5 +1,5 @@
 -- The boots, journals and sessions of the cases.
-use Rattle.std.specs.Prelude.{◌≡◌, false, List, [], ◌∷◌}
+use Rattle.std.specs.Prelude.{◌≡◌, true, false, List, [], ◌∷◌}
 use Rattle.event_journal.specs.declared.event.Event.{Event}
 use Rattle.isolation.specs.Journals.{IsJournal}
 use Rattle.kernel_model.specs.Application.{Native, OfImage, booted}
@@ -15,6 +15,13 @@ pub record HasOneApp (boot : Boot) : Type 0 where
   pub app : App
   pub only : boot.apps ≡ app ∷ []
   pub shares_none : is_single (OfImage app) ≡ false
+
+-- the boot has a first application, whose sessions share an instance
+pub record HasSharedApp (boot : Boot) : Type 0 where
+  pub app : App
+  pub others : List App
+  pub first : boot.apps ≡ app ∷ others
+  pub shares : is_single (OfImage app) ≡ true
 
 -- the first event is an open
 abbrev pub BeginWithOpen : List OwnEvent → Type 0

@@ -39,15 +39,17 @@ fn replies_alone(
     feed(alloc, &mut machine, events.as_slice())
 }
 
-/// Tells a reply, and what was answered in its place.
-fn tell_reply(
-    alloc: Global,
-    reply: &OwnReply,
-    answered: &OwnReply,
-    told: &mut String,
-) -> Result<()> {
-    let reply = line_of(alloc, reply)?;
-    let answered = line_of(alloc, answered)?;
+/// The lines of some replies.
+fn lines_of(alloc: Global, replies: &[OwnReply]) -> Result<Vec<String>> {
+    let mut lines = Vec::new(alloc);
+    for reply in replies {
+        lines.push(line_of(alloc, reply)?)?;
+    }
+    Ok(lines)
+}
+
+/// Tells a reply by its line, and that of what was answered in its place.
+fn tell_reply(reply: &str, answered: &str, told: &mut String) -> Result<()> {
     if reply == answered {
         writeln!(told, "  {reply}")?;
     } else {
@@ -56,11 +58,10 @@ fn tell_reply(
     Ok(())
 }
 
-/// Tells the replies of a machine, and what was answered otherwise.
-fn tell_replies(
-    alloc: Global,
-    replies: &[OwnReply],
-    answered: &[OwnReply],
+/// Tells the replies of a machine by their lines, and what was answered otherwise.
+pub(crate) fn tell_replies(
+    replies: &[String],
+    answered: &[String],
     told: &mut String,
 ) -> Result<()> {
     if replies.len() != answered.len() {
@@ -72,7 +73,7 @@ fn tell_replies(
         )?;
     }
     for (reply, answered) in replies.iter().zip(answered) {
-        tell_reply(alloc, reply, answered, told)?;
+        tell_reply(reply.as_str(), answered.as_str(), told)?;
     }
     Ok(())
 }
@@ -91,7 +92,9 @@ fn tell_session(
     writeln!(told, "session {session}")?;
     let replies = replies_alone(alloc, boot, natives, journal, session, told)?;
     let answered = own_replies(alloc, boot, natives, journal, session)?;
-    tell_replies(alloc, replies.as_slice(), answered.as_slice(), told)
+    let replies = lines_of(alloc, replies.as_slice())?;
+    let answered = lines_of(alloc, answered.as_slice())?;
+    tell_replies(replies.as_slice(), answered.as_slice(), told)
 }
 
 /// Tells that of each of these sessions.

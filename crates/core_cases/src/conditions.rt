@@ -1,6 +1,6 @@
-//! Whether a session is of the only application of a boot.
+//! Which applications a boot has, and whether a session is of the only one.
 ghost use Rattle.std.specs.Prelude.{◌≡◌, IsTrue};
-ghost use Rattle.core_cases.specs.Feeding.{AreOfOnlyApp, BeginWithOpen, HasOneApp};
+ghost use Rattle.core_cases.specs.Feeding.{AreOfOnlyApp, BeginWithOpen, HasOneApp, HasSharedApp};
 ghost use Rattle.kernel_model.specs.Application.{OfImage};
 ghost use Rattle.kernel_model.specs.Instances.{is_single};
 
@@ -21,6 +21,15 @@ fn has_one_app(boot: &Boot) -> bool
 {
     let apps = boot.apps.as_slice();
     apps.len() == 1 && !is_single(&apps[0])
+}
+
+/// Whether a boot has a first application, whose sessions share an instance.
+#[tactic(auto, using(crate::proofs::Tests::shared_app))]
+pub(crate) fn has_shared_app(boot: &Boot) -> bool
+    ensures { IsTrue result → HasSharedApp boot.now }
+{
+    let apps = boot.apps.as_slice();
+    !apps.is_empty() && is_single(&apps[0])
 }
 
 /// Whether the first of some events is an open.

@@ -15,6 +15,10 @@
 //!   machines of these sessions are fed with the sessions' own events. For each a line `session SESSION` is told, a line of
 //!   its own events, and then a line for each reply of its machine; where the session was answered otherwise, that stands
 //!   behind it.
+//! - `groups`, and a trace of whose boot the first application has sessions that share an instance: it is played, and the machine
+//!   of their group is fed with what has happened to the group. A line of these events is told, and then a line for each reply
+//!   of the machine, with the number of the session that it has opened; where the group was answered otherwise, that stands
+//!   behind it.
 //! - `compared`, with the number of a session or the UUID of an application behind the name, and two journals in hexadecimal
 //!   digits: what they show of the session, or of the sessions of the application.
 #![tactic(auto)]
@@ -31,17 +35,20 @@ mod pair;
 mod script;
 mod serving;
 
-// Sessions and their own machines
+// Sessions and groups, and their own machines
 mod comparing;
 mod comparisons;
 mod conditions;
 mod events;
 mod feeding;
+mod group_feeding;
+mod groups;
 mod playing;
 mod replies;
 
 use crate::comparing::sessions_told;
 use crate::comparisons::comparison_told;
+use crate::groups::group_told;
 use crate::lists::play_text;
 use crate::serving::orders_told;
 use anyhow::{Context, Result, bail};
@@ -63,6 +70,7 @@ fn told(
         "lists" => play_text(alloc, natives, text.as_bytes()),
         "orders" => orders_told(rt, alloc, natives, text),
         "sessions" => sessions_told(alloc, name, text.as_bytes()),
+        "groups" => group_told(alloc, text.as_bytes()),
         "compared" => comparison_told(alloc, natives, name, text),
         _ => bail!("no kind of case: {kind}"),
     }
