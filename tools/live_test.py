@@ -2,9 +2,9 @@
 """Tries the program of a conversation over pipes and other streams, as its users have them. No part of the gate.
 
 The conversations are those that `live_cases` holds. They are given whole, and line by line; a line in pieces, several at once, and many
-more than are read; streams that are closed, full or slow, or no streams of that kind; and, where there is a C compiler, each request
-for memory is refused in turn. The program is what `rt run` has built in crates/optee_live, or FILE. It prints each thing that isn't as
-docs/conversation.md has it, and at the end how many were compared.
+more than are read; streams that are closed, full or slow, or no streams of that kind; a normal world that does what it likes; and,
+where there is a C compiler, each request for memory is refused in turn. The program is what `rt run` has built in crates/optee_live, or
+FILE. It prints each thing that isn't as docs/conversation.md has it, and at the end how many were compared.
 Status: 0 where all is as wanted, 1 where something isn't, 2 at other words.
 usage: live_test.py [program=FILE]
 """
@@ -205,6 +205,25 @@ def try_module(tests):
         tests.same("a program that has ended", refusal(talk.ask, "# a"), -9)
 
 
+def try_fuzzer(tests):
+    """examples/live_fuzzer.py finds no wrong answer, but of programs that answer as if a resume had found its call, or a call a thread."""
+    for seed in range(3):
+        tests.same(f"the fuzzer by seed {seed}", fuzzed(tests.path, seed).returncode, 0)
+    with tempfile.TemporaryDirectory() as folder:
+        for refusal in ("00000003", "00000001"):
+            wrong = pathlib.Path(folder, refusal)
+            wrong.write_text(f"#!/bin/sh\n'{tests.path}' | sed -u 's/^ret 0 {refusal}/ret 0 00000000/'\n")
+            wrong.chmod(0o700)
+            tests.same(f"the fuzzer where {refusal} is no answer", fuzzed(wrong, 0).returncode, 1)
+
+
+def fuzzed(path, seed):
+    """What the fuzzer says of 2,000 turns."""
+    words = [sys.executable, "-B", shipped.ROOT / "examples/live_fuzzer.py", path, str(seed), "2000"]
+    environment = {**os.environ, "PYTHONPATH": str(shipped.ROOT / "tools")}
+    return subprocess.run(words, env=environment, capture_output=True, timeout=PATIENCE, check=False)
+
+
 def refusal(ask, line):
     """How a line was refused, or the status with which the program has ended."""
     try:
@@ -276,6 +295,7 @@ TESTS = [
     try_other_streams,
     try_words,
     try_module,
+    try_fuzzer,
     try_memory,
 ]
 
