@@ -10,6 +10,7 @@ use Rattle.line_port.specs.History.{Input}
 use Rattle.line_port.specs.History as heard
 use Rattle.notify_play.specs.NotifyPlay.{NotifyPlay, after_step, after_steps, first_notify_play, notify_played_over, unless_refused}
 use Rattle.notify_play.proofs.Following.{steps_are_played}
+use Rattle.notify_play.proofs.Ordered.{steps_hold_in_order}
 use Rattle.notify_text.specs.Rules.{NotifyFront, after_line, no_lines, told_in}
 use Rattle.notify_text.specs.Steps.{Signals, Step, Takes, steps_from, steps_of}
 use Rattle.notify_text.specs.declared.notify_trace.Signal.{Signal}
@@ -288,6 +289,8 @@ turns_are_told on inputs boot told there boots e =
     let P : List Line → Type 0 = λ lines. AllZip (IsReturnOf on.drivers) (exits_in told.play.history) (returns_in lines) in
     record {
       holds = steps_are_played on.ram on.natives on.drivers boot last.trace.fills (steps_of (told_in last)) told boots
+          (sym (with_boot on boot last there) ∙ e);
+      in_order = steps_hold_in_order on.ram on.natives on.drivers boot last.trace.fills (steps_of (told_in last)) told boots
           (sym (with_boot on boot last there) ∙ e);
       going = sym (ap refused_by e) ∙ all.stage.going;
       printed = printed;

@@ -6,9 +6,11 @@ use Rattle.line_port.specs.History.{Input}
 use Rattle.line_port.specs.History as heard
 use Rattle.notify_play.specs.Laws.{IsNotifyPlay}
 use Rattle.notify_play.specs.NotifyPlay.{Drivers, NotifyPlay}
+use Rattle.notify_play.specs.Order.{HoldsSteps}
 use Rattle.notify_play.specs.Text.{notify_text_of}
 use Rattle.notify_text.specs.Grammar.{Leads, Spells, is_no_signal}
 use Rattle.notify_text.specs.Rules.{NotifyFront, after_line, no_lines, told_in}
+use Rattle.notify_text.specs.Steps.{steps_of}
 use Rattle.play_model.specs.Line.{Line, text_of_line}
 use Rattle.play_model.specs.Play.{played_over}
 use Rattle.play_model.specs.Text.{text_of}
@@ -43,6 +45,9 @@ pub record IsHeld (on : Setting) (inputs : List Input) (boot : Boot) (told : Not
   -- it is the play of one history, legal from the boot, with the kernel's own answers, and with all that is said of the
   -- plays of a trace with signals
   pub holds : IsNotifyPlay (booted boot on.natives) on.drivers told
+  -- it holds the items and the signals of these lines in their order, each signal at its place; each return that it has printed is
+  -- its exit as the processor was told it there
+  pub in_order : HoldsSteps on.drivers (steps_of (told_in (after_all on no_lines inputs))) told
   -- no entry in it was refused
   pub going : told.play.refused ≡ None
   -- what it has printed is what the answers have said

@@ -2,7 +2,7 @@
 //! `docs/conversation.md` has its lines.
 #![tactic(auto)]
 
-ghost use Rattle.std.specs.Prelude.{◌≡◌, [], ◌∷◌, ◌++◌, codes};
+ghost use Rattle.std.specs.Prelude.{◌≡◌, ◌⊎◌, [], ◌∷◌, ◌++◌, codes};
 ghost use Rattle.ports.specs.Port.{Appends, Rose};
 
 use line_port::StdPort;
@@ -33,6 +33,7 @@ fn has_words(rt: &(impl Env + AllocGlobal)) -> Result<bool, AllocError> {
 
 /// Writes the usage line.
 fn refuse<S: Sink>(out: &mut S) -> u8
+    ensures statuses { (result ≡ 2) ⊎ ((result ≡ 5) ⊎ (result ≡ 6)) }
     ensures usage { result ≡ 2 →
         Appends (S.held out.old) (S.held out.new) (codes "usage: optee_live" ++ 10 ∷ []) }
     ensures fault { result ≡ 5 → Rose (S.faults out.old) (S.faults out.new) }
