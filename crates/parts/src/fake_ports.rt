@@ -1,9 +1,10 @@
-//! What the ports of standard input and output do over readers and writers that are short, interrupted or fail.
+//! What the ports of standard input and output, and of a conversation, do over readers and writers that are short, interrupted or fail.
 
-ghost use Rattle.std.specs.Prelude.{◌≤◌, IfOk};
+ghost use Rattle.std.specs.Prelude.{◌≡◌, ◌≤◌, None, IfOk};
 
 use crate::number;
 use anyhow::{Context, Error, Result};
+use line_port::{Heard, Port, StdPort};
 use ports::{Put, Sink, Source, StdSink, StdSource, Taken};
 use std::alloc::Global;
 use std::io::{ErrorKind, Read, Write};
@@ -179,4 +180,58 @@ pub(crate) fn sink_told(alloc: Global, row: &str) -> Result<String> {
         flushed: 0,
     };
     put_told(alloc, text, &mut writer)
+}
+
+/// A port of a conversation over a reader that takes these steps and has this text.
+fn port_over<'a>(
+    alloc: Global,
+    steps: &'a [Step],
+    text: &'a [u8],
+) -> Result<StdPort<FakeReader<'a>, FakeWriter<'a>>>
+    ensures { IfOk result (λ port. port.finish ≡ None) }
+{
+    let reader = FakeReader {
+        steps: Steps::of(steps).context("reading a step")?,
+        text,
+    };
+    let writer = FakeWriter {
+        steps: Steps::of(steps).context("reading a step")?,
+        held: Vec::new(alloc),
+        flushed: 0,
+    };
+    Ok(StdPort::new(alloc, reader, writer)?)
+}
+
+/// Tells what was heard, with the line where it is one.
+fn tell_heard(alloc: Global, told: &mut String, heard: Heard, line: &[u8]) -> Result<()> {
+    if heard != Heard::Line {
+        return write!(told, "{heard:?}, ").context("telling what was heard");
+    }
+    let line = String::from_utf8_lossy(alloc, line)?;
+    write!(told, "{heard:?} {:?}, ", line.as_str()).context("telling a line")
+}
+
+/// What a port over a fake reader hears first, and next, unless it has ended by then, as `hears TEXT STEP ..` has it; a stroke in the
+/// text stands for a line feed.
+pub(crate) fn heard_told(alloc: Global, row: &str) -> Result<String> {
+    let words: Vec<&str> = row.split(' ').collect(alloc)?;
+    let [text, steps @ ..] = words.as_slice() else {
+        return Err(Error::msg("hearing has a word and its steps"));
+    };
+    let steps = steps_of(alloc, steps)?;
+    let text: Vec<u8> = text
+        .bytes()
+        .map(|byte| if byte == b'/' { b'\n' } else { byte })
+        .collect(alloc)?;
+    let mut port = port_over(alloc, steps.as_slice(), text.as_slice())?;
+    let mut line = Vec::new(alloc);
+    let mut told = String::new(alloc);
+    let first = port.hear(&mut line);
+    tell_heard(alloc, &mut told, first, line.as_slice())?;
+    if first.finish().is_some() {
+        return Ok(told);
+    }
+    let next = port.hear(&mut line);
+    tell_heard(alloc, &mut told, next, line.as_slice())?;
+    Ok(told)
 }

@@ -19,6 +19,7 @@
 //! | `outputs A0` | what comes back in an operation whose invoke is answered this |
 //! | `source ROOMS TEXT STEP ..` | what a source over a fake reader answers at each call, with so much room |
 //! | `sink TEXT STEP ..` | what a sink over a fake writer answers, and what the writer has then |
+//! | `hears TEXT STEP ..` | what a port of a conversation over a fake reader hears first and next; a stroke stands for a line feed |
 //! | `hmac KEY MESSAGE` | the HMAC of a message, and that by pieces of one byte, all in hexadecimal digits; none are a dash |
 //! | `pages LIST COUNT ADDRESS DIGITS` | the pages of a list, where these bytes stand at an address of RAM |
 //! | `copy ADDRESS SIZE DIGITS` | what is copied of a buffer at that address, where these bytes stand, and how many reads that takes |
@@ -100,6 +101,7 @@ fn told_of_calls<R: Threads + Wait + Sync>(
         "outputs" => client_outputs::told(alloc, row),
         "source" => fake_ports::source_told(alloc, row),
         "sink" => fake_ports::sink_told(alloc, row),
+        "hears" => fake_ports::heard_told(alloc, row),
         _ => told_of_part(rt, alloc, kind, row),
     }
 }
