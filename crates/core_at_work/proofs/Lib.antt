@@ -1,0 +1,7 @@
+pub mod Apart
+pub mod Fills
+pub mod InsidesMoved
+pub mod Stand
+pub mod Kept
+pub mod PanicTold
+pub mod Worked

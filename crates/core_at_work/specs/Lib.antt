@@ -1,0 +1,5 @@
+pub mod Booting
+pub mod Insides
+pub mod Outgoing
+pub mod Panics
+pub mod Working

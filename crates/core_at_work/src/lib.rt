@@ -1,0 +1,22 @@
+//! A core at work: beside the core, what each processor that is inside goes out with.
+//!
+//! A processor comes in and goes out by its number. Its granted steps need neither the core nor RAM, so they are done as it comes
+//! in, and what they came to is kept until it goes out. The RAM that it sees is lent to each call, since those who hold a core keep
+//! RAM in different ways: one for each processor, or one for all that is written anew before each entry. Contracts say what the
+//! core's own entry and exit are; that just the processors that are inside have something to go out with, each its own, is a fact
+//! of the type.
+//!
+//! `booting` boots a core and fills its RAM, `core_at_work` and `working` have the core, and `went_out` says what a processor
+//! goes out with.
+#![tactic(auto)]
+
+mod booting;
+mod core_at_work;
+mod went_out;
+mod working;
+
+pub use base::NoMemory;
+pub use booting::{core_of, first_lane, first_lanes};
+pub use core_at_work::CoreAtWork;
+pub use went_out::WentOut;
+pub use working::MOST_STEPS;
