@@ -36,7 +36,8 @@ use Rattle.play_model.proofs.LastAnswers.{told_last-append}
 use Rattle.smc_abi.specs.declared.regs.Regs.{Regs}
 use Rattle.smc_port.specs.Smc.{Makes, Smc}
 use Rattle.core_port.specs.CorePort.{Answers, ComesTo, CoreView, StandsAt, after_smc, bytes_wanted, has_room, is_full, visit_with}
-use Rattle.core_port.specs.Serving.{GoesThrough, IsOutside, IsPort, coming_with, smcs_of}
+use Rattle.core_at_work.specs.Insides.{IsOutside}
+use Rattle.core_port.specs.Serving.{GoesThrough, IsPort, coming_with, smcs_of}
 use Rattle.core_port.specs.Smcs.{history_of, smcs_in, writes_behind}
 use Rattle.core_port.proofs.InRam.{exit_in_ram}
 use Rattle.core_port.proofs.OfPlay.{sees}
@@ -193,7 +194,7 @@ module _ (old new : Core) (lane now : List ℕ) (regs answer : Regs) (so : GoesT
     changes = record { read = so.entered.from_lane; inside = in_ram whole still; written = so.left.writes };
   }
 
-  outside : IsOutside new
+  outside : IsOutside new 0
   outside =
       option_and_then_some (exit_of (some_kernel so.between).0 0) (slice_get (some_kernel so.between).0.processors 0) so.left.exited is_exit
       (λ (was : Processor) there onward.

@@ -1,10 +1,10 @@
 -- One entry and one exit of processor 0 of a core, and what is true of each port's core.
-use Rattle.std.specs.Prelude.{◌≡◌, ◌≤◌, ℕ, List, length, Some, Result, Ok, Err, IsSomeAnd, slice_get}
+use Rattle.std.specs.Prelude.{◌≡◌, ◌≤◌, ℕ, List, length, Result, Ok, Err}
+use Rattle.core_at_work.specs.Insides.{IsOutside}
 use Rattle.kernel_model.specs.Application.{Booted}
-use Rattle.kernel_model.specs.Kernel.{Kernel, Outside}
 use Rattle.kernel_state.specs.Entering.{Coming, HasEntered, IsAsBefore, IsTooMuch}
 use Rattle.kernel_state.specs.Leaving.{HasLeft}
-use Rattle.kernel_state.specs.Meaning.{booted_of, events_of, kernel_of}
+use Rattle.kernel_state.specs.Meaning.{booted_of, events_of}
 use Rattle.kernel_state.specs.declared.enter_refusal.EnterRefusal.{EnterRefusal}
 use Rattle.kernel_state.specs.declared.enter_refusal.EnterRefusal.TheVariants.{Full, Memory}
 use Rattle.kernel_state.specs.declared.kernel_core.Core.{Core}
@@ -16,10 +16,6 @@ use Rattle.core_port.specs.Smcs.{history_of, smcs_in}
 
 abbrev pub coming_with : Regs → Coming
 coming_with regs = record { cpu = 0; regs = regs; steps = 10000 }
-
--- processor 0 is outside
-abbrev pub IsOutside : Core → Type 0
-IsOutside core = IsSomeAnd (kernel_of core) (λ (kernel : Kernel). slice_get kernel.processors 0 ≡ Some Outside)
 
 -- it has come in with these registers, done its granted steps, and gone out with this answer
 pub record GoesThrough (old new : Core) (lane now : List ℕ) (regs answer : Regs) : Type 0 where
@@ -46,7 +42,7 @@ smcs_of core = smcs_in (booted_of core) (events_of core)
 -- many were made
 pub record IsPort (boot : Booted) (core : Core) (lane : List ℕ) (made : ℕ) : Type 0 where
   pub boots : booted_of core ≡ boot
-  pub outside : IsOutside core
+  pub outside : IsOutside core 0
   pub whole : length lane ≡ 0x400000
   pub just_these : events_of core ≡ history_of (smcs_of core)
   pub counted : length (smcs_of core) ≡ made

@@ -13,9 +13,9 @@ ghost use Rattle.trace_text.specs.Sound.{IsSoundBoot, IsSoundFill};
 use crate::of_boot::OfBoot;
 use crate::serving::{serve, whole};
 use base::NoMemory;
-use core_machine::{core_of, first_lane};
+use core_at_work::{CoreAtWork, first_lane};
 use event_journal::Event;
-use kernel_state::{Core, EnterRefusal};
+use kernel_state::EnterRefusal;
 use native_tas::Natives;
 use ns_ram::Lane;
 use smc_abi::Regs;
@@ -32,7 +32,7 @@ const MOST_SMCS: u32 = 32_768;
 #[derive(Drop)]
 pub struct CorePort<B: OfBoot> {
     alloc: Global,
-    core: Core,
+    at_work: CoreAtWork,
     lane: Lane,
     /// How many SMCs were made.
     made: u32,
@@ -46,9 +46,9 @@ impl<B: OfBoot> Model for CorePort<B> {
 
     ghost Value = { CoreView };
 
-    ghost view = { λ port. record { boot = booted_of port.core; history = events_of port.core; ram = port.lane } };
+    ghost view = { λ port. record { boot = booted_of port.at_work.core; history = events_of port.at_work.core; ram = port.lane } };
 
-    ghost invariant = { λ port. IsPort B.booted port.core port.lane port.made };
+    ghost invariant = { λ port. IsPort B.booted port.at_work.core port.lane port.made };
 }
 
 impl<B: OfBoot> CorePort<B> {
@@ -71,10 +71,10 @@ impl<B: OfBoot> CorePort<B> {
     {
         let lane = first_lane(alloc, fills)?;
         whole(&lane);
-        let core = core_of(alloc, boot, natives)?;
+        let at_work = CoreAtWork::booted(alloc, boot, natives)?;
         Ok(CorePort {
             alloc,
-            core,
+            at_work,
             lane,
             made: 0,
             of: PhantomData,
@@ -89,7 +89,7 @@ impl<B: OfBoot> CorePort<B> {
         ensures kernels { IsKernels self.now }
         ensures few { copied_bytes self.now.history ≤ 2 ^ 28 }
     {
-        self.core.journal().as_slice()
+        self.at_work.core.journal().as_slice()
     }
 }
 
@@ -117,7 +117,7 @@ impl<B: OfBoot> SmcPort for CorePort<B> {
         if self.made == MOST_SMCS {
             return Err(PortRefusal::Spent);
         }
-        match serve(self.alloc, &mut self.core, &mut self.lane, regs) {
+        match serve(self.alloc, &mut self.at_work, &mut self.lane, regs) {
             Ok(answer) => {
                 self.made += 1;
                 Ok(answer)

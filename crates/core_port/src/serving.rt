@@ -1,10 +1,11 @@
 //! One SMC of a core's processor 0.
 ghost use Rattle.std.specs.Prelude.{◌≡◌, length, OnOk};
-ghost use Rattle.core_port.specs.Serving.{IsOutside, Serves};
+ghost use Rattle.core_at_work.specs.Insides.{IsOutside};
+ghost use Rattle.core_port.specs.Serving.{Serves};
 
-use kernel_entry::{Visitor, enter};
-use kernel_exit::leave;
-use kernel_state::{Core, EnterRefusal};
+use core_at_work::CoreAtWork;
+use kernel_entry::Visitor;
+use kernel_state::EnterRefusal;
 use ns_ram::Lane;
 use smc_abi::Regs;
 use std::alloc::Global;
@@ -18,12 +19,12 @@ const STEPS: u32 = 10_000;
 /// Lets the processor in with these registers and out again. Where it is refused, the core and RAM are as they were.
 pub(crate) fn serve(
     alloc: Global,
-    core: &mut Core,
+    at_work: &mut CoreAtWork,
     lane: &mut Lane,
     regs: Regs,
 ) -> Result<Regs, EnterRefusal>
-    requires { IsOutside core.old }
-    ensures serves { Serves core.old core.new lane.old lane.new regs result }
+    requires { IsOutside at_work.old.core 0 }
+    ensures serves { Serves at_work.old.core at_work.new.core lane.old lane.new regs result }
     ensures whole { OnOk result (length lane.new ≡ 0x400000) }
 {
     let visitor = Visitor {
@@ -31,10 +32,10 @@ pub(crate) fn serve(
         regs,
         steps: STEPS,
     };
-    let work = enter(alloc, core, visitor, lane)?;
-    let answer = leave(core, work.run(), lane);
+    at_work.enter(alloc, visitor, lane)?;
+    let out = at_work.leave(CPU, lane);
     whole(lane);
-    Ok(answer)
+    Ok(out.regs)
 }
 
 /// That a lane has all bytes of RAM.

@@ -1,0 +1,14 @@
+-- A sound boot is one of which a core can be made.
+use Rattle.std.specs.Prelude.{map}
+use Rattle.core_at_work.proofs.Apart.{none_repeated, within_limits}
+use Rattle.kernel_model.specs.Application.{Native}
+use Rattle.native_tas.specs.Table.{entries}
+use Rattle.core_port.proofs.core_port.CorePort.booted.Goals as goal
+
+pub booted-requires-clause-limits : goal.booted-requires-clause-limits
+booted-requires-clause-limits g c =
+    within_limits (map (λ (native : Native). native.0) (entries c.args.natives.now)) c.args.boot c.requires.boot
+
+pub booted-requires-clause-apart : goal.booted-requires-clause-apart
+booted-requires-clause-apart g c =
+    none_repeated (map (λ (native : Native). native.0) (entries c.args.natives.now)) c.args.boot c.requires.boot
