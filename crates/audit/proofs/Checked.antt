@@ -9,7 +9,7 @@ use Rattle.event_journal.specs.Event.{copied_by}
 use Rattle.event_journal.specs.Journal.{copied_bytes}
 use Rattle.event_journal.specs.declared.event.Event.{Event}
 use Rattle.journal_replay.proofs.Next.{replays_are_faultless}
-use Rattle.journal_replay.specs.Replaying.{CanBeNext, Does, HasDone, IsReady, boot_of, done_by}
+use Rattle.journal_replay.specs.Replaying.{CanBeNext, Does, HasDone, boot_of, done_by}
 use Rattle.journal_replay.specs.declared.replay.Replay.{Replay}
 use Rattle.kernel_model.specs.Application.{Booted}
 
@@ -17,7 +17,6 @@ use Rattle.kernel_model.specs.Application.{Booted}
 pub record HasDoneFirst (boot : Booted) (events : List Event) (count : ℕ) (replay : Replay) : Type 0 where
   pub booted : boot_of replay ≡ boot
   pub done : done_by replay ≡ take count events
-  pub ready : IsReady replay
 
 module _ (boot : Booted) (events : List Event) (count : ℕ) (replay : Replay) (has : HasDoneFirst boot events count replay) where
   first_faultless : IsFaultless boot (take count events)
@@ -58,7 +57,7 @@ module _ (boot : Booted) (events : List Event) (count : ℕ) (replay : Replay) (
 
     -- where it was done too
     pub done_next : (new : Replay) → HasDone replay new event → HasDoneFirst boot events (count + 1) new
-    done_next new more = record { booted = more.boot ∙ has.booted; done = more.events ∙ done_more; ready = more.ready }
+    done_next new more = record { booted = more.boot ∙ has.booted; done = more.events ∙ done_more }
 
 -- ---- by the answer
 

@@ -2,15 +2,14 @@
 use Rattle.std.proofs.Common.{◌≡◌, ℕ, List, [], ◌∷◌, ◌++◌, Option, Some, None, refl, ap, sym, subst, ◌∙◌}
 use Rattle.std.proofs.Math.Logic.{∥∥₁_elim, ∥∥₁_map, ∥∥₁_prop}
 use Rattle.std.proofs.lemmas.Option.{some_pair_parts}
-use Rattle.std.specs.Prelude.{IsSomeAnd, replicate, slice_get, slice_set}
-use Rattle.core_machine.proofs.Wholes.{whole_with_work}
-use Rattle.core_machine.specs.Whole.{IsWhole}
+use Rattle.std.specs.Prelude.{IfOk, IsSomeAnd, Result, Ok, Err, slice_get}
+use Rattle.base.specs.declared.no_memory.NoMemory.{NoMemory}
 use Rattle.event_journal.specs.declared.event.Event.{Event}
 use Rattle.event_journal.specs.declared.event.Event.TheVariants.{Entry}
 use Rattle.group_model.specs.Read as group
 use Rattle.instance_groups.specs.Arriving.{IsArrival, IsArrivalBy, IsArrivalIn, Watch, watch}
 use Rattle.instance_groups.specs.Noted.{AreNoted}
-use Rattle.instance_groups.specs.Replaying.{HasArrived, HasArrivedIn, HasNoted}
+use Rattle.instance_groups.specs.Replaying.{HasArrived, HasArrivedIn, HasNoted, IsEntryNoted}
 use Rattle.instance_groups.specs.declared.arriving.Arrival.{Arrival}
 use Rattle.instance_groups.specs.declared.notes.Notes.{Notes}
 use Rattle.instance_groups.proofs.Further.{noted_more}
@@ -127,15 +126,15 @@ module _ (old : Core) (visitor : Visitor) (lane : List ℕ) (reads : List Read) 
 -- ---- and that it is noted
 
 module _ (boot : Booted) (history : List Event) (old new : Replay) (visitor : Visitor) (lane : List ℕ) (reads : List Read)
-    (work : Work) (came : Arrival) (place : ℕ) (put : Option Work) (before after : Notes)
+    (work : Work) (came : Arrival) (before after : Notes)
     (noted : HasNoted boot history old before)
     (can : CanBeNext boot history (Entry visitor.cpu visitor.regs visitor.steps reads))
-    (held : HoldsReads lane reads) (has : HasEntered old.core new.core (coming_of visitor) lane work) where
+    (held : HoldsReads lane reads) (has : HasEntered old.at_work.core new.at_work.core (coming_of visitor) lane work) where
   abbrev event : Event
   event = Entry visitor.cpu visitor.regs visitor.steps reads
 
   abbrev known : Kernel
-  known = (some_kernel old.core).0
+  known = (some_kernel old.at_work.core).0
 
   abbrev app : Application
   app = application_of before.app
@@ -143,53 +142,57 @@ module _ (boot : Booted) (history : List Event) (old new : Replay) (visitor : Vi
   abbrev on : Follows boot history known event
   on = follows boot history known event (kernel_done boot history old noted.done) can.follows
 
-  gives_so : after_event (booted_of old.core) known event ≡ Some on.next
+  gives_so : after_event (booted_of old.at_work.core) known event ≡ Some on.next
   gives_so = ap (λ (b : Booted). after_event b known event) noted.done.booted ∙ on.gives
 
-  done_again : place ≡ visitor.cpu → put ≡ Some work → new.works.items ≡ slice_set old.works.items place put
-      → HasDone boot (history ++ event ∷ []) new
-  done_again same is works = record {
+  done_again : HasDone boot (history ++ event ∷ []) new
+  done_again = record {
     booted = has.boot ∙ noted.done.booted;
     events = has.events
         ∙ ap (λ (es : List Event). es ++ Entry visitor.cpu visitor.regs visitor.steps has.reads ∷ []) noted.done.events
         ∙ ap (λ (rs : List Read). history ++ Entry visitor.cpu visitor.regs visitor.steps rs ∷ [])
-        (same_reads old.core visitor lane reads known on.next (some_kernel old.core).1 gives_so held new.core work has);
-    works = subst (λ (all : List (Option Work)). ∥ IsWhole new.core (replicate boot.cpus []) all ∥₁) (sym works)
-        (whole_with_work old.core new.core (coming_of visitor) lane work (replicate boot.cpus []) old.works.items place put
-        noted.done.works has same is);
+        (same_reads old.at_work.core visitor lane reads known on.next (some_kernel old.at_work.core).1 gives_so held new.at_work.core work has);
   }
 
   -- what the code makes of the entry
   abbrev NotesEntry : Type 0
-  NotesEntry = (b : Booted) (k next : Kernel) (rs : List Read) → HasArrived new.core.parts (watch b app k) next visitor rs came work
+  NotesEntry = (b : Booted) (k next : Kernel) (rs : List Read) → HasArrived new.at_work.core.parts (watch b app k) next visitor rs came work
       → (notes : group.Notes) → AreNoted before notes
       → AreNoted after (group.event_noted b app k next notes (Entry visitor.cpu visitor.regs visitor.steps rs))
 
   noted_so : after.app ≡ before.app
-      → group.event_noted (booted_of old.core) app known on.next (group.noted boot history app) event
+      → group.event_noted (booted_of old.at_work.core) app known on.next (group.noted boot history app) event
       ≡ group.noted boot (history ++ event ∷ []) (application_of after.app)
   noted_so same =
       ap (λ (b : Booted). group.event_noted b app known on.next (group.noted boot history app) event) noted.done.booted
       ∙ sym (noted_more boot app history known on.next event (kernel_done boot history old noted.done) on.gives)
       ∙ ap (λ (a : CodeApp). group.noted boot (history ++ event ∷ []) (application_of a)) (sym same)
 
-  noted_again : ((k : Kernel) → StandsFor old.core.parts k → IsArrival (watch (booted_of old.core) app k) visitor.regs.a lane came)
+  noted_again : ((k : Kernel) → StandsFor old.at_work.core.parts k → IsArrival (watch (booted_of old.at_work.core) app k) visitor.regs.a lane came)
       → NotesEntry → after.app ≡ before.app → ∥ AreNoted after (group.noted boot (history ++ event ∷ []) (application_of after.app)) ∥₁
   noted_again arrives comes same_app =
-      ∥∥₁_elim old.core.replay ∥∥₁_prop (λ (so : Replays old.core.parts).
-      let both : Some so.kernel ≡ Some known = sym so.comes_to ∙ (some_kernel old.core).1 in
+      ∥∥₁_elim old.at_work.core.replay ∥∥₁_prop (λ (so : Replays old.at_work.core.parts).
+      let both : Some so.kernel ≡ Some known = sym so.comes_to ∙ (some_kernel old.at_work.core).1 in
       let same : so.kernel ≡ known = cc in
-      let is = arrives known (subst (StandsFor old.core.parts) same so.stands) in
-      ∥∥₁_elim (has_arrived old.core visitor lane reads known on.next (some_kernel old.core).1 gives_so held new.core work has
-      app came is) ∥∥₁_prop (λ (arrived : HasArrived new.core.parts (watch (booted_of old.core) app known) on.next visitor reads came work).
+      let is = arrives known (subst (StandsFor old.at_work.core.parts) same so.stands) in
+      ∥∥₁_elim (has_arrived old.at_work.core visitor lane reads known on.next (some_kernel old.at_work.core).1 gives_so held new.at_work.core work has
+      app came is) ∥∥₁_prop (λ (arrived : HasArrived new.at_work.core.parts (watch (booted_of old.at_work.core) app known) on.next visitor reads came work).
       ∥∥₁_map noted.noted (λ (are : AreNoted before (group.noted boot history app)).
       subst (λ (n : group.Notes). AreNoted after n) (noted_so same_app)
-      (comes (booted_of old.core) known on.next reads arrived (group.noted boot history app) are))))
+      (comes (booted_of old.at_work.core) known on.next reads arrived (group.noted boot history app) are))))
 
-  pub comes_again : place ≡ visitor.cpu → put ≡ Some work → new.works.items ≡ slice_set old.works.items place put
-      → ((k : Kernel) → StandsFor old.core.parts k → IsArrival (watch (booted_of old.core) app k) visitor.regs.a lane came)
+  so_noted : ((k : Kernel) → StandsFor old.at_work.core.parts k → IsArrival (watch (booted_of old.at_work.core) app k) visitor.regs.a lane came)
       → NotesEntry → after.app ≡ before.app → HasNoted boot (history ++ event ∷ []) new after
-  comes_again same is works arrives comes same_app = record {
-    done = done_again same is works;
+  so_noted arrives comes same_app = record {
+    done = done_again;
     noted = noted_again arrives comes same_app;
   }
+
+  -- where that took no memory that there isn't
+  pub comes_again : (result : Result (Unit {0}) NoMemory)
+      → ((k : Kernel) → StandsFor old.at_work.core.parts k → IsArrival (watch (booted_of old.at_work.core) app k) visitor.regs.a lane came)
+      → ((b : Booted) (k next : Kernel) (rs : List Read) → HasArrived new.at_work.core.parts (watch b app k) next visitor rs came work
+      → IsEntryNoted b before after k next visitor rs result) → after.app ≡ before.app
+      → IfOk result (λ _. HasNoted boot (history ++ event ∷ []) new after)
+  comes_again (Err error) arrives comes same_app = tt
+  comes_again (Ok _) arrives comes same_app = so_noted arrives comes same_app

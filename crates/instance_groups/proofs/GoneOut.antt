@@ -136,8 +136,10 @@ module _ (old new : Core) (ran : Ran) (lane now : List ℕ) (told : Regs) (has :
   abbrev HasNumber : Notes → Option ℕ → Type 0
   HasNumber code number = (notes : group.Notes) → AreNoted code notes → number ≡ get notes.numbering.in_slots slot
 
-  pub exit_of_other : (code : Notes) → HasNumber code None → IsExitNoted old new code code ran lane now
+  pub exit_of_other : (code : Notes) → HasNumber code None → IsExitNoted old new code code ran.cpu lane now
   exit_of_other code number = record {
+    ran = ran;
+    its_own = refl;
     told = told;
     has_left = has;
     noted = λ boot kernel next notes before after are.
@@ -148,9 +150,11 @@ module _ (old new : Core) (ran : Ran) (lane now : List ℕ) (told : Regs) (has :
       → left_at (slice_get new.parts.slots slot) ≡ Some cont
       → ((notes : group.Notes) (call : PendingCall) → AreNoted code notes → IsLeft slot call cont
       → IfOk result (λ _. AreNoted later (group.exit_noted notes slot call number)))
-      → IfOk result (λ _. IsExitNoted old new code later ran lane now)
+      → IfOk result (λ _. IsExitNoted old new code later ran.cpu lane now)
   exit_waiting code later (Err error) number cont has_number left is = tt
   exit_waiting code later (Ok done) number cont has_number left is = record {
+    ran = ran;
+    its_own = refl;
     told = told;
     has_left = has;
     noted = λ boot kernel next notes before after are.
@@ -164,9 +168,11 @@ module _ (old new : Core) (ran : Ran) (lane now : List ℕ) (told : Regs) (has :
       → opened ≡ opened_by ran.call reply
       → ((notes : group.Notes) (call : PendingCall) → AreNoted code notes → HasFinishedAs slot call reply opened
       → IfOk result (λ _. AreNoted later (group.exit_noted notes slot call number)))
-      → IfOk result (λ _. IsExitNoted old new code later ran lane now)
+      → IfOk result (λ _. IsExitNoted old new code later ran.cpu lane now)
   exit_ended code later (Err error) number reply opened has_number left tells opens is = tt
   exit_ended code later (Ok done) number reply opened has_number left tells opens is = record {
+    ran = ran;
+    its_own = refl;
     told = told;
     has_left = has;
     noted = λ boot kernel next notes before after are.
@@ -184,8 +190,10 @@ module _ (old new : Core) (ran : Ran) (lane now : List ℕ) (told : Regs) (has :
 
 pub exit_answered : (old new : Core) (ran : Ran) (lane now : List ℕ) (told : Regs) (answer : Answer) (code : Notes)
     → HasLeft old new ran lane now told → errand_at (slice_get old.parts.processors.items ran.cpu) ≡ Some (Fixed answer)
-    → IsExitNoted old new code code ran lane now
+    → IsExitNoted old new code code ran.cpu lane now
 exit_answered old new ran lane now told answer code has for = record {
+  ran = ran;
+  its_own = refl;
   told = told;
   has_left = has;
   noted = λ boot kernel next notes before after are.

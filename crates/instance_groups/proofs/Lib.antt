@@ -13,5 +13,6 @@ pub mod HasCome
 pub mod Logs
 pub mod NotesKept
 pub mod Plans
+pub mod RunOn
 pub mod Sessions
 pub mod WentOut

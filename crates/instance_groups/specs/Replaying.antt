@@ -71,9 +71,11 @@ IsEntryNoted boot old new kernel next visitor reads result = (before : group.Not
 -- ---- an exit
 
 -- a processor has gone out with what it carried, and that is noted
-pub record IsExitNoted (old new : Core) (before after : Notes) (ran : Ran) (lane now : List ℕ) : Type 0 where
+pub record IsExitNoted (old new : Core) (before after : Notes) (cpu : ℕ) (lane now : List ℕ) : Type 0 where
+  pub ran : Ran
+  pub its_own : ran.cpu ≡ cpu
   pub told : Regs
   pub has_left : HasLeft old new ran lane now told
   pub noted : (boot : Booted) (kernel next : model.Kernel) (notes : group.Notes) → kernel_of old ≡ Some kernel →
       kernel_of new ≡ Some next → AreNoted before notes →
-      AreNoted after (group.event_noted boot (application_of before.app) kernel next notes (Exit ran.cpu told))
+      AreNoted after (group.event_noted boot (application_of before.app) kernel next notes (Exit cpu told))

@@ -6,8 +6,10 @@ ghost use Rattle.instance_groups.specs.Replaying.{HasArrived, HasArrivedIn, IsEn
 ghost use Rattle.kernel_entry.specs.declared.visitor.Visitor.{Visitor as AnyVisitor};
 ghost use Rattle.kernel_model.specs.Application.{Booted};
 ghost use Rattle.kernel_model.specs.Kernel.{Kernel};
-ghost use Rattle.kernel_state.specs.Entering.{HasWork};
+ghost use Rattle.kernel_state.specs.Leaving.{CanLeave};
 ghost use Rattle.kernel_state.specs.Setup.{application_of};
+ghost use Rattle.kernel_state.specs.Work.{IsRanOf};
+ghost use Rattle.kernel_state.specs.declared.work.Work.{Work as AnyWork};
 ghost use Rattle.ns_ram.specs.declared.read.Read.{Read as AnyRead};
 
 use crate::arriving::{Arrival, NewCall, Resumed};
@@ -15,7 +17,7 @@ use crate::notes::Notes;
 use base::NoMemory;
 use isolation::errand_of;
 use kernel_entry::Visitor;
-use kernel_state::{Carried, Core, Errand, Work};
+use kernel_state::{Carried, Core, Errand, Ran};
 
 /// The kernel's session of the call that a processor carries.
 fn session_of(call: &Carried) -> u32
@@ -28,21 +30,21 @@ fn session_of(call: &Carried) -> u32
 }
 
 /// Notes a new call that has come into a slot.
-fn has_come_new(notes: &mut Notes, slot: u8, call: NewCall, work: &Work) -> Result<(), NoMemory>
+fn has_come_new(notes: &mut Notes, slot: u8, call: NewCall, ran: &Ran) -> Result<(), NoMemory>
     requires slot { slot < 16 }
     requires few { HasNumbersLeft notes.old }
-    ensures noted { (boot : Booted) (kernel next : Kernel) (visitor : AnyVisitor) (reads : List AnyRead)
-        → HasArrivedIn (watch boot (application_of notes.old.app) kernel) next visitor reads (Arrival.New call) work.now slot
+    ensures noted { (boot : Booted) (kernel next : Kernel) (visitor : AnyVisitor) (reads : List AnyRead) (work : AnyWork) → IsRanOf work ran.now
+        → HasArrivedIn (watch boot (application_of notes.old.app) kernel) next visitor reads (Arrival.New call) work slot
         → IsEntryNoted boot notes.old notes.new kernel next visitor reads result }
     ensures app { notes.new.app ≡ notes.old.app }
 {
-    notes.comes_in(slot, session_of(&work.call), call)
+    notes.comes_in(slot, session_of(&ran.call), call)
 }
 
 /// Notes a call that has come back into its slot.
-fn has_come_back(notes: &mut Notes, slot: u8, came: Resumed, work: &Work) -> Result<(), NoMemory>
-    ensures noted { (boot : Booted) (kernel next : Kernel) (visitor : AnyVisitor) (reads : List AnyRead)
-        → HasArrivedIn (watch boot (application_of notes.old.app) kernel) next visitor reads (Arrival.Back came) work.now slot
+fn has_come_back(notes: &mut Notes, slot: u8, came: Resumed) -> Result<(), NoMemory>
+    ensures noted { (boot : Booted) (kernel next : Kernel) (visitor : AnyVisitor) (reads : List AnyRead) (work : AnyWork)
+        → HasArrivedIn (watch boot (application_of notes.old.app) kernel) next visitor reads (Arrival.Back came) work slot
         → IsEntryNoted boot notes.old notes.new kernel next visitor reads result }
     ensures app { notes.new.app ≡ notes.old.app }
 {
@@ -53,40 +55,40 @@ fn has_come_back(notes: &mut Notes, slot: u8, came: Resumed, work: &Work) -> Res
 }
 
 /// Notes what has come into a slot.
-fn has_come_for(notes: &mut Notes, slot: u8, arrival: Arrival, work: &Work) -> Result<(), NoMemory>
+fn has_come_for(notes: &mut Notes, slot: u8, arrival: Arrival, ran: &Ran) -> Result<(), NoMemory>
     requires slot { slot < 16 }
     requires few { HasNumbersLeft notes.old }
-    ensures noted { (boot : Booted) (kernel next : Kernel) (visitor : AnyVisitor) (reads : List AnyRead)
-        → HasArrivedIn (watch boot (application_of notes.old.app) kernel) next visitor reads arrival work.now slot
+    ensures noted { (boot : Booted) (kernel next : Kernel) (visitor : AnyVisitor) (reads : List AnyRead) (work : AnyWork) → IsRanOf work ran.now
+        → HasArrivedIn (watch boot (application_of notes.old.app) kernel) next visitor reads arrival work slot
         → IsEntryNoted boot notes.old notes.new kernel next visitor reads result }
     ensures app { notes.new.app ≡ notes.old.app }
 {
     match arrival {
-        Arrival::New(call) => has_come_new(notes, slot, call, work),
-        Arrival::Back(came) => has_come_back(notes, slot, came, work),
+        Arrival::New(call) => has_come_new(notes, slot, call, ran),
+        Arrival::Back(came) => has_come_back(notes, slot, came),
         Arrival::Nothing => Ok(()),
     }
 }
 
-/// Notes that a processor has come in.
+/// Notes that a processor has come in, which goes out with this.
 pub(crate) fn has_come(
     notes: &mut Notes,
     core: &Core,
     visitor: Visitor,
     arrival: Arrival,
-    work: &Work,
+    ran: &Ran,
 ) -> Result<(), NoMemory>
     requires cpu { visitor.cpu < 8 }
-    requires work { HasWork core.now work.now }
-    requires own { work.now.cpu ≡ visitor.cpu }
+    requires can { CanLeave core.now ran.now }
+    requires own { ran.now.cpu ≡ visitor.cpu }
     requires few { HasNumbersLeft notes.old }
-    ensures noted { (boot : Booted) (kernel next : Kernel) (reads : List AnyRead)
-        → HasArrived core.now.parts (watch boot (application_of notes.old.app) kernel) next visitor reads arrival work.now
+    ensures noted { (boot : Booted) (kernel next : Kernel) (reads : List AnyRead) (work : AnyWork) → IsRanOf work ran.now
+        → HasArrived core.now.parts (watch boot (application_of notes.old.app) kernel) next visitor reads arrival work
         → IsEntryNoted boot notes.old notes.new kernel next visitor reads result }
     ensures app { notes.new.app ≡ notes.old.app }
 {
     match errand_of(core.parts.processors.as_slice(), visitor.cpu) {
-        Some(Errand::InSlot(slot)) => has_come_for(notes, slot, arrival, work),
+        Some(Errand::InSlot(slot)) => has_come_for(notes, slot, arrival, ran),
         Some(Errand::Fixed(_)) => Ok(()),
         None => unreachable!(),
     }

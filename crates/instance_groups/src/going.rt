@@ -1,18 +1,18 @@
 //! What is noted of a processor that goes out.
 ghost use Rattle.std.specs.Prelude.{◌≡◌, ◌<◌, IfOk, Some, slice_get};
 ghost use Rattle.std.specs.Option.{option_and_then};
+ghost use Rattle.core_at_work.specs.Insides.{IsInside};
 ghost use Rattle.instance_groups.specs.Noted.{has_succeeded, opened_by, opened_so};
 ghost use Rattle.instance_groups.specs.Replaying.{IsExitNoted};
 ghost use Rattle.isolation.specs.Replaying.{errand_at};
-ghost use Rattle.kernel_state.specs.Leaving.{CanLeave};
 
 use crate::arriving::is_open;
 use crate::notes::Notes;
 use base::NoMemory;
+use core_at_work::CoreAtWork;
 use isolation::{errand_of, left_in, told_at_end};
 use job_model::CallKind;
-use kernel_exit::leave;
-use kernel_state::{Carried, Core, Errand, Ran};
+use kernel_state::{Carried, Errand};
 use ns_ram::Lane;
 use own_model::OwnReply;
 use std::alloc::Global;
@@ -54,48 +54,49 @@ fn opened_by(call: &Carried, told: &Option<OwnReply>) -> Option<u32>
 /// A processor goes out from the call of a slot.
 fn goes_out_of(
     alloc: Global,
-    core: &mut Core,
+    at_work: &mut CoreAtWork,
     slot: u8,
-    ran: Ran,
+    cpu: u8,
     lane: &mut Lane,
     notes: &mut Notes,
 ) -> Result<(), NoMemory>
     requires slot { slot < 16 }
-    requires can { CanLeave core.old ran }
-    requires errand { errand_at (slice_get core.old.parts.processors.items ran.cpu) ≡ Some (Errand.InSlot slot) }
-    ensures noted { IfOk result (λ _. IsExitNoted core.old core.new notes.old notes.new ran lane.old lane.new) }
+    requires inside { IsInside at_work.old.core cpu }
+    requires errand { errand_at (slice_get at_work.old.core.parts.processors.items cpu) ≡ Some (Errand.InSlot slot) }
+    ensures noted { IfOk result (λ _. IsExitNoted at_work.old.core at_work.new.core notes.old notes.new cpu lane.old lane.new) }
     ensures app { notes.new.app ≡ notes.old.app }
 {
     let Some(number) = notes.number_in(slot) else {
-        leave(core, ran, lane);
+        at_work.leave(cpu, lane);
         return Ok(());
     };
-    let told = told_at_end(alloc, &ran.call)?;
-    let opened = opened_by(&ran.call, &told);
-    leave(core, ran, lane);
-    match (left_in(&core.parts.slots, slot), told) {
+    let call = &at_work.outgoing(cpu).call;
+    let told = told_at_end(alloc, call)?;
+    let opened = opened_by(call, &told);
+    at_work.leave(cpu, lane);
+    match (left_in(&at_work.core.parts.slots, slot), told) {
         (Some(cont), _) => notes.goes_out(alloc, slot, number, cont),
         (None, Some(told)) => notes.finishes(slot, number, opened, told),
         (None, None) => unreachable!(),
     }
 }
 
-/// A processor goes out, which has done its granted steps.
+/// A processor that is inside goes out.
 pub(crate) fn goes_out(
     alloc: Global,
-    core: &mut Core,
-    ran: Ran,
+    at_work: &mut CoreAtWork,
+    cpu: u8,
     lane: &mut Lane,
     notes: &mut Notes,
 ) -> Result<(), NoMemory>
-    requires { CanLeave core.old ran }
-    ensures noted { IfOk result (λ _. IsExitNoted core.old core.new notes.old notes.new ran lane.old lane.new) }
+    requires { IsInside at_work.old.core cpu }
+    ensures noted { IfOk result (λ _. IsExitNoted at_work.old.core at_work.new.core notes.old notes.new cpu lane.old lane.new) }
     ensures app { notes.new.app ≡ notes.old.app }
 {
-    match errand_of(core.parts.processors.as_slice(), ran.cpu) {
-        Some(Errand::InSlot(slot)) => goes_out_of(alloc, core, slot, ran, lane, notes),
+    match errand_of(at_work.core.parts.processors.as_slice(), cpu) {
+        Some(Errand::InSlot(slot)) => goes_out_of(alloc, at_work, slot, cpu, lane, notes),
         Some(Errand::Fixed(_)) => {
-            leave(core, ran, lane);
+            at_work.leave(cpu, lane);
             Ok(())
         }
         None => unreachable!(),

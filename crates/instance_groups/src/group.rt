@@ -34,7 +34,7 @@ pub fn read_group_log(
     ensures { IfOk result (IsLogOf (booted boot.now (entries natives.now)) journal.now.events uuid) }
 {
     let mut replay = Replay::new(alloc, boot.clone()?, natives)?;
-    let Some(app) = replay.core.parts.setup.application(&uuid)? else {
+    let Some(app) = replay.at_work.core.parts.setup.application(&uuid)? else {
         return Ok(GroupLog {
             app: None,
             entries: Vec::new(alloc),

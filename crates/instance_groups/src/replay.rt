@@ -19,7 +19,7 @@ use base::NoMemory;
 use event_journal::Event;
 use isolation::Replay;
 use journal_replay::lay;
-use kernel_entry::{Visitor, enter};
+use kernel_entry::Visitor;
 use kernel_state::{Application, EnterRefusal};
 use ns_ram::Reads;
 use std::alloc::Global;
@@ -32,10 +32,10 @@ pub(crate) fn log_of(
     events: &[Event],
     app: Application,
 ) -> Result<(Application, Vec<Logged>), NoMemory>
-    requires journal { IsJournal (booted_of replay.old.core) events.now }
-    requires begun { HasDone (booted_of replay.old.core) [] replay.old }
+    requires journal { IsJournal (booted_of replay.old.at_work.core) events.now }
+    requires begun { HasDone (booted_of replay.old.at_work.core) [] replay.old }
     ensures app { IfOk result (λ told. told.0 ≡ app) }
-    ensures log { IfOk result (λ told. told.1.items ≡ (noted (booted_of replay.old.core) events.now (application_of app)).log) }
+    ensures log { IfOk result (λ told. told.1.items ≡ (noted (booted_of replay.old.at_work.core) events.now (application_of app)).log) }
 {
     let mut notes = Notes::new(alloc, app);
     again_from_boot(alloc, replay, events, &mut notes)?;
@@ -49,9 +49,9 @@ fn again_from_boot(
     events: &[Event],
     notes: &mut Notes,
 ) -> Result<(), NoMemory>
-    requires journal { IsJournal (booted_of replay.old.core) events.now }
-    requires begun { HasNoted (booted_of replay.old.core) [] replay.old notes.old }
-    ensures noted { IfOk result (λ _. HasNoted (booted_of replay.old.core) events.now replay.new notes.new) }
+    requires journal { IsJournal (booted_of replay.old.at_work.core) events.now }
+    requires begun { HasNoted (booted_of replay.old.at_work.core) [] replay.old notes.old }
+    ensures noted { IfOk result (λ _. HasNoted (booted_of replay.old.at_work.core) events.now replay.new notes.new) }
     ensures app { notes.new.app ≡ notes.old.app }
 {
     for event in events {
@@ -104,25 +104,32 @@ fn comes_in(
     ensures app { notes.new.app ≡ notes.old.app }
 {
     lay(&mut replay.lane, reads.as_slice());
-    let arrival = arrives(alloc, &replay.core, &notes.app, &visitor.regs, &replay.lane)?;
-    let work = match enter(alloc, &mut replay.core, visitor, &replay.lane) {
-        Ok(work) => work,
-        Err(EnterRefusal::Memory) => return Err(NoMemory),
+    let at_work = &mut replay.at_work;
+    let arrival = arrives(
+        alloc,
+        &at_work.core,
+        &notes.app,
+        &visitor.regs,
+        &replay.lane,
+    )?;
+    match at_work.enter(alloc, visitor, &replay.lane) {
+        Ok(()) => has_come(
+            notes,
+            &at_work.core,
+            visitor,
+            arrival,
+            at_work.outgoing(visitor.cpu),
+        ),
+        Err(EnterRefusal::Memory) => Err(NoMemory),
         Err(EnterRefusal::Full { .. }) => unreachable!(),
-    };
-    has_come(notes, &replay.core, visitor, arrival, &work)?;
-    replay.works[usize::from(visitor.cpu)] = Some(work);
-    Ok(())
+    }
 }
 
-/// A processor does its granted steps, and goes out.
+/// A processor goes out.
 fn goes_out(alloc: Global, replay: &mut Replay, cpu: u8, notes: &mut Notes) -> Result<(), NoMemory>
     requires { CanGoOut replay.old cpu }
     ensures noted { (regs : AnyRegs) → HasGoneOn replay.old replay.new notes.old notes.new (Exit cpu regs) result }
     ensures app { notes.new.app ≡ notes.old.app }
 {
-    let Some(work) = replay.works[usize::from(cpu)].take() else {
-        unreachable!()
-    };
-    going::goes_out(alloc, &mut replay.core, work.run(), &mut replay.lane, notes)
+    going::goes_out(alloc, &mut replay.at_work, cpu, &mut replay.lane, notes)
 }

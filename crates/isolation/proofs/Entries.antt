@@ -1,21 +1,19 @@
 -- An entry that is done again is the journal's.
-use Rattle.std.proofs.Common.{◌≡◌, ℕ, ◌<◌, ◌≤◌, ◌^◌, false, List, [], ◌∷◌, ◌++◌, length, Option, Some, None, refl, ap, sym, subst, ◌∙◌, arith}
+use Rattle.std.proofs.Common.{◌≡◌, ℕ, ◌<◌, ◌≤◌, ◌^◌, List, [], ◌∷◌, ◌++◌, Option, Some, None, refl, ap, sym, subst, ◌∙◌, arith}
 use Rattle.std.proofs.Math.Logic.{∥∥₁_elim, ∥∥₁_map, ∥∥₁_prop}
 use Rattle.std.proofs.Props.{props}
 use Rattle.std.proofs.lemmas.List.Sums.{sum_by-append}
-use Rattle.std.proofs.lemmas.Option.{slice_get-map, some_pair_parts}
-use Rattle.std.specs.Prelude.{IsSomeAnd, not, replicate, slice_get, slice_set}
+use Rattle.std.proofs.lemmas.Option.{some_pair_parts}
+use Rattle.std.specs.Prelude.{IfOk, IsSomeAnd, Result, Ok, Err, slice_get}
 use Rattle.std.specs.Option.{option_and_then, option_map}
-use Rattle.core_machine.proofs.Wholes.{below_works, whole_with_work}
-use Rattle.core_machine.specs.Whole.{IsWhole}
-use Rattle.core_machine.specs.Turns.{insides}
+use Rattle.base.specs.declared.no_memory.NoMemory.{NoMemory}
 use Rattle.event_journal.specs.Event.{copied_by}
 use Rattle.event_journal.specs.Journal.{copied_bytes}
 use Rattle.event_journal.specs.declared.event.Event.{Event}
 use Rattle.event_journal.specs.declared.event.Event.TheVariants.{Entry}
 use Rattle.isolation.specs.Arriving.{IsArrival, IsArrivalBy, IsArrivalIn}
 use Rattle.isolation.specs.Noted.{AreNoted}
-use Rattle.isolation.specs.Replaying.{CanBeNext, CanGoOn, HasArrived, HasArrivedIn, HasDone, HasNoted}
+use Rattle.isolation.specs.Replaying.{CanBeNext, CanGoOn, HasArrived, HasArrivedIn, HasDone, HasNoted, IsEntryNoted}
 use Rattle.isolation.specs.declared.entering.Arrival.{Arrival}
 use Rattle.isolation.specs.declared.notes.Notes.{Notes}
 use Rattle.isolation.specs.declared.replay.Replay.{Replay}
@@ -32,7 +30,7 @@ use Rattle.kernel_model.specs.Application.{Booted, IsBooted}
 use Rattle.kernel_model.specs.Argument.{reg}
 use Rattle.kernel_model.specs.Decision.{Answers, Decision, Taken, Takes}
 use Rattle.kernel_model.specs.Entry.{after_decision, decision_of, entry}
-use Rattle.kernel_model.specs.History.{IsLegal, after_event, is_outside, kernel_after}
+use Rattle.kernel_model.specs.History.{IsLegal, after_event, kernel_after}
 use Rattle.kernel_model.specs.Kernel.{Active, Fixed, Free, InSlot, Inside, Kernel, Outside, PendingCall, Processor, Suspended, ThreadSlot, Visit, cancelled_slots}
 use Rattle.kernel_model.specs.Turns.{ReadsRam}
 use Rattle.kernel_state.proofs.CoreEvents.{CameIn, came_in, core_is_legal, few_steps, journals_legal, some_kernel, some_steps}
@@ -55,15 +53,15 @@ use Rattle.smc_abi.specs.Call.{call_of}
 
 -- the kernel that a replay stands for
 pub kernel_done : (boot : Booted) (history : List Event) (replay : Replay) → HasDone boot history replay
-    → kernel_after boot history ≡ Some (some_kernel replay.core).0
+    → kernel_after boot history ≡ Some (some_kernel replay.at_work.core).0
 kernel_done boot history replay is =
-    sym (ap (λ (b : Booted). kernel_after b (events_of replay.core)) is.booted ∙ ap (kernel_after boot) is.events)
-    ∙ (some_kernel replay.core).1
+    sym (ap (λ (b : Booted). kernel_after b (events_of replay.at_work.core)) is.booted ∙ ap (kernel_after boot) is.events)
+    ∙ (some_kernel replay.at_work.core).1
 
 module _ (replay : Replay) (visitor : Visitor) (reads : List Read)
     (can : CanGoOn replay (Entry visitor.cpu visitor.regs visitor.steps reads)) where
   abbrev pub found : Kernel
-  found = (some_kernel replay.core).0
+  found = (some_kernel replay.at_work.core).0
 
   abbrev pub goes_on : Follows can.boot can.history found (Entry visitor.cpu visitor.regs visitor.steps reads)
   goes_on =
@@ -73,41 +71,29 @@ module _ (replay : Replay) (visitor : Visitor) (reads : List Read)
   goes : CameIn can.boot found goes_on.next (visit_of (coming_of visitor)) reads
   goes = came_in can.boot found goes_on.next visitor.cpu visitor.steps visitor.regs reads goes_on.gives
 
-  pub goes_here : after_event (booted_of replay.core) found (Entry visitor.cpu visitor.regs visitor.steps reads)
+  pub goes_here : after_event (booted_of replay.at_work.core) found (Entry visitor.cpu visitor.regs visitor.steps reads)
       ≡ Some goes_on.next
   goes_here =
       ap (λ (b : Booted). after_event b found (Entry visitor.cpu visitor.regs visitor.steps reads)) can.done.booted
       ∙ goes_on.gives
 
-  few_bytes : copied_bytes (events_of replay.core ++ Entry visitor.cpu visitor.regs visitor.steps reads ∷ []) ≤ 2 ^ 28
+  few_bytes : copied_bytes (events_of replay.at_work.core ++ Entry visitor.cpu visitor.regs visitor.steps reads ∷ []) ≤ 2 ^ 28
   few_bytes =
       subst (λ (es : List Event). copied_bytes (es ++ Entry visitor.cpu visitor.regs visitor.steps reads ∷ []) ≤ 2 ^ 28)
       (sym can.done.events) can.next.few
 
-  pub can_enter : CanEnter replay.core (coming_of visitor)
+  pub can_enter : CanEnter replay.at_work.core (coming_of visitor)
   can_enter = record {
     outside = subst (λ (o : Option Kernel). IsSomeAnd o (λ k. slice_get k.processors visitor.cpu ≡ Some Outside))
-        (sym (some_kernel replay.core).1) goes.outside;
+        (sym (some_kernel replay.at_work.core).1) goes.outside;
     some_steps = some_steps visitor.steps goes.granted;
     few_steps = few_steps visitor.steps goes.granted;
   }
 
-  outside_told : IsSomeAnd (kernel_of replay.core) (λ k. slice_get (insides k) visitor.cpu ≡ Some false)
-  outside_told =
-      subst (λ (o : Option Kernel). IsSomeAnd o (λ k. slice_get (insides k) visitor.cpu ≡ Some false))
-      (sym (some_kernel replay.core).1)
-      (slice_get-map (λ processor. not (is_outside processor)) found.processors visitor.cpu
-      ∙ ap (option_map (λ processor. not (is_outside processor))) goes.outside)
-
-  pub place_there : (place : ℕ) → place ≡ visitor.cpu → place < length replay.works.items
-  place_there place same =
-      below_works replay.core (replicate can.boot.cpus []) replay.works.items can.done.works visitor.cpu false outside_told
-      place same
-
   pub few_processors : visitor.cpu < 8
   few_processors =
-      let there = cpu_there replay.core.parts visitor.cpu replay.core.replay can_enter.outside in
-      ∥∥₁_elim replay.core.replay (Prim.hlevel props) (λ (so : Replays replay.core.parts).
+      let there = cpu_there replay.at_work.core.parts visitor.cpu replay.at_work.core.replay can_enter.outside in
+      ∥∥₁_elim replay.at_work.core.replay (Prim.hlevel props) (λ (so : Replays replay.at_work.core.parts).
       let few = so.is_boot.few_processors in
       let cpus = so.stands.cpus in
       omega (arith, there, few, cpus))
@@ -250,7 +236,7 @@ pub laid_so : (replay : Replay) (visitor : Visitor) (reads laid : List Read) (la
 laid_so replay visitor reads laid lane can same held =
     let event = Entry visitor.cpu visitor.regs visitor.steps reads in
     let legal : IsLegal can.boot (can.history ++ event ∷ []) = record {
-      boots = subst IsBooted can.done.booted (core_is_legal replay.core).boots;
+      boots = subst IsBooted can.done.booted (core_is_legal replay.at_work.core).boots;
       follows = can.next.follows;
     } in
     let are : AreOfOneRam reads = record {
@@ -262,67 +248,71 @@ laid_so replay visitor reads laid lane can same held =
 -- it is never refused as too much
 pub not_full : (replay : Replay) (visitor : Visitor) (reads : List Read)
     (can : CanGoOn replay (Entry visitor.cpu visitor.regs visitor.steps reads)) (lane : List ℕ) → HoldsReads lane reads
-    → (copied more : ℕ) → IsTooMuch replay.core (coming_of visitor) lane copied more → ⊥
+    → (copied more : ℕ) → IsTooMuch replay.at_work.core (coming_of visitor) lane copied more → ⊥
 not_full replay visitor reads can lane held copied more full =
-    never_full replay.core visitor lane reads (found replay visitor reads can) (goes_on replay visitor reads can).next
-    (some_kernel replay.core).1 (goes_here replay visitor reads can) held copied more (few_bytes replay visitor reads can) full
+    never_full replay.at_work.core visitor lane reads (found replay visitor reads can) (goes_on replay visitor reads can).next
+    (some_kernel replay.at_work.core).1 (goes_here replay visitor reads can) held copied more (few_bytes replay visitor reads can) full
 
 -- ---- and that it is noted
 
 module _ (boot : Booted) (history : List Event) (old new : Replay) (visitor : Visitor) (lane : List ℕ) (reads : List Read)
-    (work : Work) (came : Arrival) (place : ℕ) (put : Option Work) (before after : Notes)
+    (work : Work) (came : Arrival) (before after : Notes)
     (noted : HasNoted boot history old before)
     (can : CanBeNext boot history (Entry visitor.cpu visitor.regs visitor.steps reads))
-    (held : HoldsReads lane reads) (has : HasEntered old.core new.core (coming_of visitor) lane work) where
+    (held : HoldsReads lane reads) (has : HasEntered old.at_work.core new.at_work.core (coming_of visitor) lane work) where
   abbrev event : Event
   event = Entry visitor.cpu visitor.regs visitor.steps reads
 
   abbrev known : Kernel
-  known = (some_kernel old.core).0
+  known = (some_kernel old.at_work.core).0
 
   abbrev on : Follows boot history known event
   on = follows boot history known event (kernel_done boot history old noted.done) can.follows
 
-  gives_so : after_event (booted_of old.core) known event ≡ Some on.next
+  gives_so : after_event (booted_of old.at_work.core) known event ≡ Some on.next
   gives_so = ap (λ (b : Booted). after_event b known event) noted.done.booted ∙ on.gives
 
-  done_again : place ≡ visitor.cpu → put ≡ Some work → new.works.items ≡ slice_set old.works.items place put
-      → HasDone boot (history ++ event ∷ []) new
-  done_again same is works = record {
+  done_again : HasDone boot (history ++ event ∷ []) new
+  done_again = record {
     booted = has.boot ∙ noted.done.booted;
     events = has.events
         ∙ ap (λ (es : List Event). es ++ Entry visitor.cpu visitor.regs visitor.steps has.reads ∷ []) noted.done.events
         ∙ ap (λ (rs : List Read). history ++ Entry visitor.cpu visitor.regs visitor.steps rs ∷ [])
-        (same_reads old.core visitor lane reads known on.next (some_kernel old.core).1 gives_so held new.core work has);
-    works = subst (λ (all : List (Option Work)). ∥ IsWhole new.core (replicate boot.cpus []) all ∥₁) (sym works)
-        (whole_with_work old.core new.core (coming_of visitor) lane work (replicate boot.cpus []) old.works.items place put
-        noted.done.works has same is);
+        (same_reads old.at_work.core visitor lane reads known on.next (some_kernel old.at_work.core).1 gives_so held new.at_work.core work has);
   }
 
-  noted_again : ((k : Kernel) → StandsFor old.core.parts k → IsArrival (booted_of old.core) k visitor.regs.a lane came)
-      → ((k next : Kernel) (rs : List Read) → HasArrived new.core.parts k next visitor rs came work → (b : own.Notes)
+  noted_again : ((k : Kernel) → StandsFor old.at_work.core.parts k → IsArrival (booted_of old.at_work.core) k visitor.regs.a lane came)
+      → ((k next : Kernel) (rs : List Read) → HasArrived new.at_work.core.parts k next visitor rs came work → (b : own.Notes)
       → AreNoted before b
       → AreNoted after (own.event_noted before.session k next b (Entry visitor.cpu visitor.regs visitor.steps rs)))
       → after.session ≡ before.session → ∥ AreNoted after (own.noted boot (history ++ event ∷ []) after.session) ∥₁
   noted_again arrives comes session =
-      ∥∥₁_elim old.core.replay ∥∥₁_prop (λ (so : Replays old.core.parts).
-      let both : Some so.kernel ≡ Some known = sym so.comes_to ∙ (some_kernel old.core).1 in
+      ∥∥₁_elim old.at_work.core.replay ∥∥₁_prop (λ (so : Replays old.at_work.core.parts).
+      let both : Some so.kernel ≡ Some known = sym so.comes_to ∙ (some_kernel old.at_work.core).1 in
       let same : so.kernel ≡ known = cc in
-      let is = arrives known (subst (StandsFor old.core.parts) same so.stands) in
-      ∥∥₁_elim (has_arrived old.core visitor lane reads known on.next (some_kernel old.core).1 gives_so held new.core work has
-      came is) ∥∥₁_prop (λ (arrived : HasArrived new.core.parts known on.next visitor reads came work).
+      let is = arrives known (subst (StandsFor old.at_work.core.parts) same so.stands) in
+      ∥∥₁_elim (has_arrived old.at_work.core visitor lane reads known on.next (some_kernel old.at_work.core).1 gives_so held new.at_work.core work has
+      came is) ∥∥₁_prop (λ (arrived : HasArrived new.at_work.core.parts known on.next visitor reads came work).
       ∥∥₁_map noted.noted (λ (are : AreNoted before (own.noted boot history before.session)).
       subst (λ (n : own.Notes). AreNoted after n)
       (sym (ap (own.noted boot (history ++ event ∷ [])) session ∙ on.noted_more before.session))
       (comes known on.next reads arrived (own.noted boot history before.session) are))))
 
-  pub comes_again : place ≡ visitor.cpu → put ≡ Some work → new.works.items ≡ slice_set old.works.items place put
-      → ((k : Kernel) → StandsFor old.core.parts k → IsArrival (booted_of old.core) k visitor.regs.a lane came)
-      → ((k next : Kernel) (rs : List Read) → HasArrived new.core.parts k next visitor rs came work → (b : own.Notes)
+  so_noted : ((k : Kernel) → StandsFor old.at_work.core.parts k → IsArrival (booted_of old.at_work.core) k visitor.regs.a lane came)
+      → ((k next : Kernel) (rs : List Read) → HasArrived new.at_work.core.parts k next visitor rs came work → (b : own.Notes)
       → AreNoted before b
       → AreNoted after (own.event_noted before.session k next b (Entry visitor.cpu visitor.regs visitor.steps rs)))
       → after.session ≡ before.session → HasNoted boot (history ++ event ∷ []) new after
-  comes_again same is works arrives comes session = record {
-    done = done_again same is works;
+  so_noted arrives comes session = record {
+    done = done_again;
     noted = noted_again arrives comes session;
   }
+
+  -- where that took no memory that there isn't
+  pub comes_again : (result : Result (Unit {0}) NoMemory)
+      → ((k : Kernel) → StandsFor old.at_work.core.parts k → IsArrival (booted_of old.at_work.core) k visitor.regs.a lane came)
+      → ((k next : Kernel) (rs : List Read) → HasArrived new.at_work.core.parts k next visitor rs came work
+      → IsEntryNoted before after k next visitor rs result) → after.session ≡ before.session
+      → IfOk result (λ _. HasNoted boot (history ++ event ∷ []) new after)
+  comes_again (Err error) arrives comes session = tt
+  comes_again (Ok _) arrives comes session = so_noted arrives comes session

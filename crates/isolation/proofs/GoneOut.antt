@@ -70,6 +70,11 @@ inside_as (Some (Inside regs steps its)) errand e =
       inside = ap (λ (for : Errand). Some (model.Inside regs.a steps (errand_of for))) same;
     }
 
+-- what a processor came for, by what it goes out with
+pub came_for : (core : Core) (ran : Ran) (cpu : ℕ) (errand : Option Errand) → ran.cpu ≡ cpu
+    → errand_at (slice_get core.parts.processors.items cpu) ≡ errand → errand_at (slice_get core.parts.processors.items ran.cpu) ≡ errand
+came_for core ran cpu errand same is = ap (λ (n : ℕ). errand_at (slice_get core.parts.processors.items n)) same ∙ is
+
 -- the kernel's is inside for what the code's is
 pub inside_for : (core : Core) (kernel : Kernel) (cpu : ℕ) (errand : Errand) → kernel_of core ≡ Some kernel
     → errand_at (slice_get core.parts.processors.items cpu) ≡ Some errand
@@ -248,8 +253,10 @@ module _ (old new : Core) (ran : Ran) (lane now : List ℕ) (told : Regs) (has :
   abbrev HasNumber : Notes → Option ℕ → Type 0
   HasNumber code number = (notes : own.Notes) → AreNoted code notes → number ≡ get notes.numbering.in_slots slot
 
-  pub exit_of_other : (code : Notes) → HasNumber code None → IsExitNoted old new code code ran lane now
+  pub exit_of_other : (code : Notes) → HasNumber code None → IsExitNoted old new code code ran.cpu lane now
   exit_of_other code number = record {
+    ran = ran;
+    its_own = refl;
     told = told;
     has_left = has;
     noted = λ kernel next notes before after are. noted_of_other kernel next before after code.session notes code are (number notes are);
@@ -259,9 +266,11 @@ module _ (old new : Core) (ran : Ran) (lane now : List ℕ) (told : Regs) (has :
       → left_at (slice_get new.parts.slots slot) ≡ Some cont
       → ((notes : own.Notes) (call : PendingCall) → AreNoted code notes → IsLeft slot call cont
       → IfOk result (λ _. AreNoted later (own.exit_noted notes slot call number)))
-      → IfOk result (λ _. IsExitNoted old new code later ran lane now)
+      → IfOk result (λ _. IsExitNoted old new code later ran.cpu lane now)
   exit_waiting code later (Err error) number cont has_number left is = tt
   exit_waiting code later (Ok done) number cont has_number left is = record {
+    ran = ran;
+    its_own = refl;
     told = told;
     has_left = has;
     noted = λ kernel next notes before after are. noted_of_own kernel next before after code.session notes later number (has_number notes are)
@@ -273,9 +282,11 @@ module _ (old new : Core) (ran : Ran) (lane now : List ℕ) (told : Regs) (has :
       → left_at (slice_get new.parts.slots slot) ≡ None → told_at_end ran.call ≡ Some reply
       → ((notes : own.Notes) (call : PendingCall) → AreNoted code notes → HasFinished slot call reply
       → IfOk result (λ _. AreNoted later (own.exit_noted notes slot call number)))
-      → IfOk result (λ _. IsExitNoted old new code later ran lane now)
+      → IfOk result (λ _. IsExitNoted old new code later ran.cpu lane now)
   exit_ended code later (Err error) number reply has_number left tells is = tt
   exit_ended code later (Ok done) number reply has_number left tells is = record {
+    ran = ran;
+    its_own = refl;
     told = told;
     has_left = has;
     noted = λ kernel next notes before after are. noted_of_own kernel next before after code.session notes later number (has_number notes are)
@@ -300,9 +311,11 @@ pub exit_answered : (old new : Core) (ran : Ran) (lane now : List ℕ) (told : R
     (result : Result (Unit {0}) NoMemory) → HasLeft old new ran lane now told
     → errand_at (slice_get old.parts.processors.items ran.cpu) ≡ Some (Fixed answer)
     → ((notes : own.Notes) → AreNoted code notes → IfOk result (λ _. AreNoted later (own.limit_noted notes ran.cpu)))
-    → IfOk result (λ _. IsExitNoted old new code later ran lane now)
+    → IfOk result (λ _. IsExitNoted old new code later ran.cpu lane now)
 exit_answered old new ran lane now told answer code later (Err error) has for is = tt
 exit_answered old new ran lane now told answer code later (Ok done) has for is = record {
+  ran = ran;
+  its_own = refl;
   told = told;
   has_left = has;
   noted = λ kernel next notes before after are.

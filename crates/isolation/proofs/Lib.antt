@@ -2,7 +2,6 @@ pub mod Arrivals
 pub mod Arrived
 pub mod Away
 pub mod Boots
-pub mod CameFor
 pub mod Decided
 pub mod Entries
 pub mod Exits
@@ -14,6 +13,7 @@ pub mod LeftCalls
 pub mod NotesKept
 pub mod OwnLogs
 pub mod Plans
+pub mod RunOn
 pub mod WentOut
 pub mod CallsRead
 pub mod FewCalls

@@ -1,8 +1,7 @@
 -- How far a journal was done again on a core, and what was noted of it.
-use Rattle.std.specs.Prelude.{◌≡◌, ℕ, ◌≤◌, ◌^◌, ◌&&◌, Bool, List, [], ◌∷◌, ◌++◌, replicate, IsSome, IfOk, Result, Option, Some, None, slice_get}
+use Rattle.std.specs.Prelude.{◌≡◌, ℕ, ◌≤◌, ◌^◌, ◌&&◌, Bool, List, [], ◌∷◌, ◌++◌, IsSome, IfOk, Result, Option, Some, None, slice_get}
 use Rattle.std.specs.Global.{Box}
 use Rattle.base.specs.declared.no_memory.NoMemory.{NoMemory}
-use Rattle.core_machine.specs.Whole.{IsWhole}
 use Rattle.event_journal.specs.Journal.{copied_bytes}
 use Rattle.event_journal.specs.declared.event.Event.{Event}
 use Rattle.event_journal.specs.declared.event.Event.TheVariants.{Entry, Exit}
@@ -36,11 +35,10 @@ use Rattle.smc_abi.specs.declared.regs.Regs.{Regs}
 use Rattle.thread_slots.specs.declared.slot.Slot.{Slot}
 use Rattle.thread_slots.specs.declared.slot.Slot.TheVariants.{Suspended}
 
--- the core has done these events, and each processor that is inside has its work
+-- the core has done these events
 pub record HasDone (boot : Booted) (history : List Event) (replay : Replay) : Type 0 where
-  pub booted : booted_of replay.core ≡ boot
-  pub events : events_of replay.core ≡ history
-  pub works : ∥ IsWhole replay.core (replicate boot.cpus []) replay.works.items ∥₁
+  pub booted : booted_of replay.at_work.core ≡ boot
+  pub events : events_of replay.at_work.core ≡ history
 
 -- and what happened to the session is noted: a bare fact, as the one that a core keeps
 pub record HasNoted (boot : Booted) (history : List Event) (replay : Replay) (notes : Notes) : Type 0 where
@@ -122,8 +120,10 @@ IsEntryNoted old new kernel next visitor reads result = (before : own.Notes) →
 -- ---- an exit
 
 -- a processor has gone out with what it carried, and that is noted
-pub record IsExitNoted (old new : Core) (before after : Notes) (ran : Ran) (lane now : List ℕ) : Type 0 where
+pub record IsExitNoted (old new : Core) (before after : Notes) (cpu : ℕ) (lane now : List ℕ) : Type 0 where
+  pub ran : Ran
+  pub its_own : ran.cpu ≡ cpu
   pub told : Regs
   pub has_left : HasLeft old new ran lane now told
   pub noted : (kernel next : model.Kernel) (notes : own.Notes) → kernel_of old ≡ Some kernel → kernel_of new ≡ Some next →
-      AreNoted before notes → AreNoted after (own.event_noted before.session kernel next notes (Exit ran.cpu told))
+      AreNoted before notes → AreNoted after (own.event_noted before.session kernel next notes (Exit cpu told))

@@ -7,8 +7,11 @@ ghost use Rattle.isolation.specs.Replaying.{HasArrived, HasArrivedIn, IsEntryNot
 ghost use Rattle.kernel_entry.specs.Visiting.{coming_of};
 ghost use Rattle.kernel_entry.specs.declared.visitor.Visitor.{Visitor as AnyVisitor};
 ghost use Rattle.kernel_model.specs.Kernel.{Kernel};
-ghost use Rattle.kernel_state.specs.Entering.{HasWork, visit_of};
+ghost use Rattle.kernel_state.specs.Entering.{visit_of};
+ghost use Rattle.kernel_state.specs.Leaving.{CanLeave};
 ghost use Rattle.kernel_state.specs.Tables.{tables_of};
+ghost use Rattle.kernel_state.specs.Work.{IsRanOf};
+ghost use Rattle.kernel_state.specs.declared.work.Work.{Work as AnyWork};
 ghost use Rattle.ns_ram.specs.declared.read.Read.{Read as AnyRead};
 ghost use Rattle.own_model.specs.Own as own;
 ghost use Rattle.session_table.specs.declared.session.Session.{Session as AnySession};
@@ -17,7 +20,7 @@ use crate::entering::{Arrival, NewEvent, is_of_session};
 use crate::notes::{Back, Notes};
 use base::NoMemory;
 use kernel_entry::Visitor;
-use kernel_state::{Core, Errand, Processor, Tables, Work};
+use kernel_state::{Core, Errand, Processor, Ran, Tables};
 use smc_abi::{Answer, ETHREAD_LIMIT};
 
 /// What a processor that is inside came for.
@@ -74,15 +77,15 @@ fn has_come_answered(notes: &mut Notes, tables: &Tables, visitor: Visitor, answe
 }
 
 /// Notes a new call that has come into a slot.
-fn has_come_new(notes: &mut Notes, slot: u8, came: NewEvent, work: &Work) -> Result<(), NoMemory>
+fn has_come_new(notes: &mut Notes, slot: u8, came: NewEvent, ran: &Ran) -> Result<(), NoMemory>
     requires slot { slot < 16 }
     requires few { HasNumbersLeft notes.old }
-    ensures noted { (kernel next : Kernel) (visitor : AnyVisitor) (reads : List AnyRead)
-        → HasArrivedIn kernel next visitor reads (Arrival.New came) work.now slot
+    ensures noted { (kernel next : Kernel) (visitor : AnyVisitor) (reads : List AnyRead) (work : AnyWork) → IsRanOf work ran.now
+        → HasArrivedIn kernel next visitor reads (Arrival.New came) work slot
         → IsEntryNoted notes.old notes.new kernel next visitor reads result }
     ensures session { notes.new.session ≡ notes.old.session }
 {
-    if is_of_session(notes.session, &work.call) {
+    if is_of_session(notes.session, &ran.call) {
         notes.comes_in(slot, came)
     } else {
         Ok(())
@@ -90,9 +93,9 @@ fn has_come_new(notes: &mut Notes, slot: u8, came: NewEvent, work: &Work) -> Res
 }
 
 /// Notes a call that has come back into its slot.
-fn has_come_back(notes: &mut Notes, slot: u8, back: Back, work: &Work) -> Result<(), NoMemory>
-    ensures noted { (kernel next : Kernel) (visitor : AnyVisitor) (reads : List AnyRead)
-        → HasArrivedIn kernel next visitor reads (Arrival.Back back) work.now slot
+fn has_come_back(notes: &mut Notes, slot: u8, back: Back) -> Result<(), NoMemory>
+    ensures noted { (kernel next : Kernel) (visitor : AnyVisitor) (reads : List AnyRead) (work : AnyWork)
+        → HasArrivedIn kernel next visitor reads (Arrival.Back back) work slot
         → IsEntryNoted notes.old notes.new kernel next visitor reads result }
     ensures session { notes.new.session ≡ notes.old.session }
 {
@@ -103,35 +106,35 @@ fn has_come_back(notes: &mut Notes, slot: u8, back: Back, work: &Work) -> Result
 }
 
 /// Notes what has come into a slot.
-fn has_come_for(notes: &mut Notes, slot: u8, arrival: Arrival, work: &Work) -> Result<(), NoMemory>
+fn has_come_for(notes: &mut Notes, slot: u8, arrival: Arrival, ran: &Ran) -> Result<(), NoMemory>
     requires slot { slot < 16 }
     requires few { HasNumbersLeft notes.old }
-    ensures noted { (kernel next : Kernel) (visitor : AnyVisitor) (reads : List AnyRead)
-        → HasArrivedIn kernel next visitor reads arrival work.now slot
+    ensures noted { (kernel next : Kernel) (visitor : AnyVisitor) (reads : List AnyRead) (work : AnyWork) → IsRanOf work ran.now
+        → HasArrivedIn kernel next visitor reads arrival work slot
         → IsEntryNoted notes.old notes.new kernel next visitor reads result }
     ensures session { notes.new.session ≡ notes.old.session }
 {
     match arrival {
-        Arrival::New(came) => has_come_new(notes, slot, came, work),
-        Arrival::Back(back) => has_come_back(notes, slot, back, work),
+        Arrival::New(came) => has_come_new(notes, slot, came, ran),
+        Arrival::Back(back) => has_come_back(notes, slot, back),
         Arrival::Nothing => Ok(()),
     }
 }
 
-/// Notes that a processor has come in.
+/// Notes that a processor has come in, which goes out with this.
 pub(crate) fn has_come(
     notes: &mut Notes,
     core: &Core,
     visitor: Visitor,
     arrival: Arrival,
-    work: &Work,
+    ran: &Ran,
 ) -> Result<(), NoMemory>
     requires cpu { visitor.cpu < 8 }
-    requires work { HasWork core.now work.now }
-    requires own { work.now.cpu ≡ visitor.cpu }
+    requires can { CanLeave core.now ran.now }
+    requires own { ran.now.cpu ≡ visitor.cpu }
     requires few { HasNumbersLeft notes.old }
-    ensures noted { (kernel next : Kernel) (reads : List AnyRead)
-        → HasArrived core.now.parts kernel next visitor reads arrival work.now
+    ensures noted { (kernel next : Kernel) (reads : List AnyRead) (work : AnyWork) → IsRanOf work ran.now
+        → HasArrived core.now.parts kernel next visitor reads arrival work
         → IsEntryNoted notes.old notes.new kernel next visitor reads result }
     ensures session { notes.new.session ≡ notes.old.session }
 {
@@ -140,7 +143,7 @@ pub(crate) fn has_come(
             has_come_answered(notes, &core.parts.tables, visitor, answer);
             Ok(())
         }
-        Some(Errand::InSlot(slot)) => has_come_for(notes, slot, arrival, work),
+        Some(Errand::InSlot(slot)) => has_come_for(notes, slot, arrival, ran),
         None => unreachable!(),
     }
 }

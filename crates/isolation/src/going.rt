@@ -1,16 +1,16 @@
 //! What is noted of a processor that goes out.
 ghost use Rattle.std.specs.Prelude.{◌≡◌, ◌<◌, IfOk, Some, slice_get};
 ghost use Rattle.std.specs.Option.{option_copied};
+ghost use Rattle.core_at_work.specs.Insides.{IsInside};
 ghost use Rattle.isolation.specs.Replaying.{IsExitNoted, errand_at, left_at};
-ghost use Rattle.kernel_state.specs.Leaving.{CanLeave};
 
 use crate::coming::errand_of;
 use crate::leaving::told_at_end;
 use crate::notes::Notes;
 use base::NoMemory;
+use core_at_work::CoreAtWork;
 use frame_pool::Pages;
-use kernel_exit::leave;
-use kernel_state::{Core, Errand, Ran};
+use kernel_state::Errand;
 use ns_ram::Lane;
 use rpc_cont::Cont;
 use std::alloc::Global;
@@ -29,48 +29,47 @@ pub fn left_in(slots: &Slots<Box<Cont<Pages>>>, slot: u8) -> Option<&Cont<Pages>
 /// A processor goes out from the call of a slot.
 fn goes_out_of(
     alloc: Global,
-    core: &mut Core,
+    at_work: &mut CoreAtWork,
     slot: u8,
-    ran: Ran,
+    cpu: u8,
     lane: &mut Lane,
     notes: &mut Notes,
 ) -> Result<(), NoMemory>
     requires slot { slot < 16 }
-    requires can { CanLeave core.old ran }
-    requires errand { errand_at (slice_get core.old.parts.processors.items ran.cpu) ≡ Some (Errand.InSlot slot) }
-    ensures noted { IfOk result (λ _. IsExitNoted core.old core.new notes.old notes.new ran lane.old lane.new) }
+    requires inside { IsInside at_work.old.core cpu }
+    requires errand { errand_at (slice_get at_work.old.core.parts.processors.items cpu) ≡ Some (Errand.InSlot slot) }
+    ensures noted { IfOk result (λ _. IsExitNoted at_work.old.core at_work.new.core notes.old notes.new cpu lane.old lane.new) }
     ensures session { notes.new.session ≡ notes.old.session }
 {
     let Some(number) = notes.number_in(slot) else {
-        leave(core, ran, lane);
+        at_work.leave(cpu, lane);
         return Ok(());
     };
-    let told = told_at_end(alloc, &ran.call)?;
-    leave(core, ran, lane);
-    match (left_in(&core.parts.slots, slot), told) {
+    let told = told_at_end(alloc, &at_work.outgoing(cpu).call)?;
+    at_work.leave(cpu, lane);
+    match (left_in(&at_work.core.parts.slots, slot), told) {
         (Some(cont), _) => notes.goes_out(alloc, slot, number, cont),
         (None, Some(told)) => notes.finishes(slot, number, told),
         (None, None) => unreachable!(),
     }
 }
 
-/// A processor goes out, which has done its granted steps.
+/// A processor that is inside goes out.
 pub(crate) fn goes_out(
     alloc: Global,
-    core: &mut Core,
-    ran: Ran,
+    at_work: &mut CoreAtWork,
+    cpu: u8,
     lane: &mut Lane,
     notes: &mut Notes,
 ) -> Result<(), NoMemory>
-    requires { CanLeave core.old ran }
-    ensures noted { IfOk result (λ _. IsExitNoted core.old core.new notes.old notes.new ran lane.old lane.new) }
+    requires { IsInside at_work.old.core cpu }
+    ensures noted { IfOk result (λ _. IsExitNoted at_work.old.core at_work.new.core notes.old notes.new cpu lane.old lane.new) }
     ensures session { notes.new.session ≡ notes.old.session }
 {
-    match errand_of(core.parts.processors.as_slice(), ran.cpu) {
-        Some(Errand::InSlot(slot)) => goes_out_of(alloc, core, slot, ran, lane, notes),
+    match errand_of(at_work.core.parts.processors.as_slice(), cpu) {
+        Some(Errand::InSlot(slot)) => goes_out_of(alloc, at_work, slot, cpu, lane, notes),
         Some(Errand::Fixed(_)) => {
-            let cpu = ran.cpu;
-            leave(core, ran, lane);
+            at_work.leave(cpu, lane);
             notes.goes_out_answered(cpu)
         }
         None => unreachable!(),

@@ -1,12 +1,12 @@
 //! A core on which a journal is done again.
-ghost use Rattle.std.specs.Prelude.{◌≡◌, [], IfOk, None, replicate};
+ghost use Rattle.std.specs.Prelude.{◌≡◌, [], IfOk};
 ghost use Rattle.std.specs.Option.{option_and_then, option_map};
+ghost use Rattle.core_at_work.specs.Booting.{IsApart};
 ghost use Rattle.event_journal.specs.declared.event.Event.TheVariants.{Entry, Exit};
 ghost use Rattle.isolation.specs.Journals.{IsJournal};
 ghost use Rattle.isolation.specs.Logs.{IsLogOf};
 ghost use Rattle.isolation.specs.Noted.{HasNumbersLeft};
 ghost use Rattle.isolation.specs.Replaying.{CanGoOn, CanGoOut, HasDone, HasGoneOn, HasNoted};
-ghost use Rattle.journal_replay.specs.Booting.{IsApart};
 ghost use Rattle.kernel_model.specs.Application.{booted};
 ghost use Rattle.kernel_model.specs.Instances.{app_of};
 ghost use Rattle.kernel_state.specs.Booting.{IsWithinLimits};
@@ -21,10 +21,11 @@ use crate::going::goes_out;
 use crate::notes::Notes;
 use crate::session_log::OwnLog;
 use base::NoMemory;
+use core_at_work::CoreAtWork;
 use event_journal::Event;
-use journal_replay::{core_of, lay};
-use kernel_entry::{Visitor, enter};
-use kernel_state::{Application, Core, EnterRefusal, Work};
+use journal_replay::lay;
+use kernel_entry::Visitor;
+use kernel_state::{Application, EnterRefusal};
 use native_tas::Natives;
 use ns_ram::{Lane, Reads};
 use std::alloc::Global;
@@ -34,22 +35,9 @@ use uuid::Uuid;
 /// A core on which a journal is done again.
 #[derive(Drop)]
 pub struct Replay {
-    pub core: Core,
-    /// The work of each processor that is inside, by its number.
-    pub works: Vec<Option<Work>>,
+    pub at_work: CoreAtWork,
     /// RAM, written before each entry with what it read.
     pub lane: Lane,
-}
-
-/// So many processors without work.
-fn no_works(alloc: Global, cpus: u8) -> Result<Vec<Option<Work>>, NoMemory>
-    ensures { IfOk result (λ works. works.items ≡ replicate cpus None) }
-{
-    let mut works = Vec::with_capacity(alloc, usize::from(cpus))?;
-    for _ in 0..cpus {
-        works.push(None)?;
-    }
-    Ok(works)
 }
 
 impl Replay {
@@ -59,10 +47,9 @@ impl Replay {
         requires apart { IsApart boot (entries natives.now) }
         ensures { IfOk result (HasDone (booted boot (entries natives.now)) []) }
     {
-        let works = no_works(alloc, boot.cpus)?;
         let lane = Lane::new(alloc)?;
-        let core = core_of(alloc, boot, natives)?;
-        Ok(Replay { core, works, lane })
+        let at_work = CoreAtWork::booted(alloc, boot, natives)?;
+        Ok(Replay { at_work, lane })
     }
 
     /// Does the events of a journal again on a core where nothing has happened, and notes them.
@@ -72,9 +59,9 @@ impl Replay {
         events: &[Event],
         notes: &mut Notes,
     ) -> Result<(), NoMemory>
-        requires journal { IsJournal (booted_of self.old.core) events.now }
-        requires begun { HasNoted (booted_of self.old.core) [] self.old notes.old }
-        ensures noted { IfOk result (λ _. HasNoted (booted_of self.old.core) events.now self.new notes.new) }
+        requires journal { IsJournal (booted_of self.old.at_work.core) events.now }
+        requires begun { HasNoted (booted_of self.old.at_work.core) [] self.old notes.old }
+        ensures noted { IfOk result (λ _. HasNoted (booted_of self.old.at_work.core) events.now self.new notes.new) }
         ensures session { notes.new.session ≡ notes.old.session }
     {
         for event in events {
@@ -85,10 +72,10 @@ impl Replay {
 
     /// The application of this UUID, if there is one.
     fn app_of(&self, uuid: Option<Uuid>) -> Result<Option<Application>, NoMemory>
-        ensures { IfOk result (λ app. option_and_then (app_of (booted_of self.now.core)) uuid ≡ option_map application_of app) }
+        ensures { IfOk result (λ app. option_and_then (app_of (booted_of self.now.at_work.core)) uuid ≡ option_map application_of app) }
     {
         match uuid {
-            Some(uuid) => self.core.parts.setup.application(&uuid),
+            Some(uuid) => self.at_work.core.parts.setup.application(&uuid),
             None => Ok(None),
         }
     }
@@ -100,9 +87,9 @@ impl Replay {
         events: &[Event],
         session: u32,
     ) -> Result<OwnLog, NoMemory>
-        requires journal { IsJournal (booted_of self.old.core) events.now }
-        requires begun { HasDone (booted_of self.old.core) [] self.old }
-        ensures { IfOk result (IsLogOf (booted_of self.old.core) events.now session) }
+        requires journal { IsJournal (booted_of self.old.at_work.core) events.now }
+        requires begun { HasDone (booted_of self.old.at_work.core) [] self.old }
+        ensures { IfOk result (IsLogOf (booted_of self.old.at_work.core) events.now session) }
     {
         let mut notes = Notes::new(alloc, session);
         self.again_from_boot(alloc, events, &mut notes)?;
@@ -150,26 +137,27 @@ impl Replay {
         ensures session { notes.new.session ≡ notes.old.session }
     {
         lay(&mut self.lane, reads.as_slice());
-        let arrival = arrives(alloc, &self.core, &visitor.regs, &self.lane)?;
-        let work = match enter(alloc, &mut self.core, visitor, &self.lane) {
-            Ok(work) => work,
-            Err(EnterRefusal::Memory) => return Err(NoMemory),
+        let at_work = &mut self.at_work;
+        let arrival = arrives(alloc, &at_work.core, &visitor.regs, &self.lane)?;
+        match at_work.enter(alloc, visitor, &self.lane) {
+            Ok(()) => has_come(
+                notes,
+                &at_work.core,
+                visitor,
+                arrival,
+                at_work.outgoing(visitor.cpu),
+            ),
+            Err(EnterRefusal::Memory) => Err(NoMemory),
             Err(EnterRefusal::Full { .. }) => unreachable!(),
-        };
-        has_come(notes, &self.core, visitor, arrival, &work)?;
-        self.works[usize::from(visitor.cpu)] = Some(work);
-        Ok(())
+        }
     }
 
-    /// A processor does its granted steps, and goes out.
+    /// A processor goes out.
     fn goes_out(&mut self, alloc: Global, cpu: u8, notes: &mut Notes) -> Result<(), NoMemory>
         requires { CanGoOut self.old cpu }
         ensures noted { (regs : AnyRegs) → HasGoneOn self.old self.new notes.old notes.new (Exit cpu regs) result }
         ensures session { notes.new.session ≡ notes.old.session }
     {
-        let Some(work) = self.works[usize::from(cpu)].take() else {
-            unreachable!()
-        };
-        goes_out(alloc, &mut self.core, work.run(), &mut self.lane, notes)
+        goes_out(alloc, &mut self.at_work, cpu, &mut self.lane, notes)
     }
 }

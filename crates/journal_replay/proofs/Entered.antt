@@ -1,24 +1,21 @@
 -- An entry that is done again.
-use Rattle.std.proofs.Common.{◌≡◌, ℕ, ◌+◌, ◌<◌, ◌≤◌, ◌^◌, Bool, false, List, [], ◌∷◌, ◌++◌, Option, Some, refl, ap, sym, subst, ◌∙◌, arith}
+use Rattle.std.proofs.Common.{◌≡◌, ℕ, ◌≤◌, ◌^◌, List, [], ◌∷◌, ◌++◌, Option, Some, ap, sym, subst, ◌∙◌, arith}
 use Rattle.std.proofs.lemmas.List.Sums.{sum_by-append}
-use Rattle.std.proofs.lemmas.Option.{slice_get-map, some_pair_parts}
-use Rattle.std.specs.Prelude.{IsSomeAnd, map, not, slice_get}
+use Rattle.std.proofs.lemmas.Option.{some_pair_parts}
+use Rattle.std.specs.Prelude.{IsSomeAnd, slice_get}
 use Rattle.std.specs.Option.{option_and_then, option_map}
-use Rattle.core_machine.specs.Turns.{insides}
 use Rattle.event_journal.specs.Event.{copied_by}
 use Rattle.event_journal.specs.Journal.{copied_bytes}
 use Rattle.event_journal.specs.declared.event.Event.{Event}
 use Rattle.event_journal.specs.declared.event.Event.TheVariants.{Entry}
 use Rattle.journal_replay.specs.Laying.{AreOfOneRam}
-use Rattle.journal_replay.specs.Replaying.{CanBeNext, HasDone, IsReady, MayEnter, boot_of, done_by}
+use Rattle.journal_replay.specs.Replaying.{CanBeNext, HasDone, boot_of, done_by}
 use Rattle.journal_replay.specs.declared.replay.Replay.{Replay}
 use Rattle.journal_replay.proofs.Next.{kernel_now, next_agrees, next_kernel, next_reads_ram}
 use Rattle.kernel_entry.specs.Visiting.{coming_of}
 use Rattle.kernel_entry.specs.declared.visitor.Visitor.{Visitor}
-use Rattle.kernel_model.proofs.Parts.{option_map_some}
 use Rattle.kernel_model.specs.Entry.{entry}
-use Rattle.kernel_model.specs.History.{is_outside}
-use Rattle.kernel_model.specs.Kernel.{Inside, Kernel, Outside, Processor, Visit}
+use Rattle.kernel_model.specs.Kernel.{Kernel, Outside, Visit}
 use Rattle.kernel_state.proofs.CoreEvents.{CameIn, came_in, few_steps, journals_legal, some_kernel, some_steps}
 use Rattle.kernel_state.specs.Entering.{CanEnter, HasEntered, IsTooMuch, bytes_read, visit_of}
 use Rattle.kernel_state.specs.Laws.{CoreEntry}
@@ -28,31 +25,6 @@ use Rattle.ns_ram.proofs.ReaderLaws.{over_lane-reading}
 use Rattle.ns_ram.specs.Reader.{Reader, over_lane}
 use Rattle.ns_ram.specs.Reads.{HoldsReads, total_bytes}
 use Rattle.ns_ram.specs.declared.read.Read.{Read}
-
--- ---- who can come in
-
-abbrev is_in : Processor → Bool
-is_in processor = not (is_outside processor)
-
-outside_is : (processors : List Processor) (cpu : ℕ) → slice_get (map is_in processors) cpu ≡ Some false → slice_get processors cpu ≡ Some Outside
-outside_is processors cpu e =
-    let found = option_map_some is_in (slice_get processors cpu) false (sym (slice_get-map is_in processors cpu) ∙ e) in
-    by found.0 found.1 found.2
-  where
-    by : (one : Processor) → slice_get processors cpu ≡ Some one → is_in one ≡ false → slice_get processors cpu ≡ Some Outside
-    by Outside there is = there
-    by (Inside regs steps errand) there is = absurd cc
-
-pub can_enter : (replay : Replay) (visitor : Visitor) → MayEnter replay visitor → CanEnter replay.core (coming_of visitor)
-can_enter replay visitor may =
-    let kernel = some_kernel replay.core in
-    let told = subst (λ (o : Option Kernel). IsSomeAnd o (λ k. slice_get (insides k) visitor.cpu ≡ Some false)) kernel.1 may.0 in
-    record {
-      outside = subst (λ (o : Option Kernel). IsSomeAnd o (λ k. slice_get k.processors visitor.cpu ≡ Some Outside)) (sym kernel.1)
-          (outside_is kernel.0.processors visitor.cpu told);
-      some_steps = may.1;
-      few_steps = may.2;
-    }
 
 -- ---- an entry
 
@@ -71,13 +43,13 @@ module _ (old : Replay) (visitor : Visitor) (reads : List Read) where
         came_in (boot_of old) (kernel_now old) (next_kernel old (entry_of visitor reads) can).0 visitor.cpu visitor.steps visitor.regs reads
         (next_kernel old (entry_of visitor reads) can).1
 
-    pub may_enter : MayEnter old visitor
-    may_enter = (
-      subst (λ (o : Option Kernel). IsSomeAnd o (λ k. slice_get (insides k) visitor.cpu ≡ Some false)) (sym (some_kernel old.core).1)
-          (slice_get-map is_in (kernel_now old).processors visitor.cpu ∙ ap (option_map is_in) came.outside),
-      some_steps visitor.steps came.granted,
-      few_steps visitor.steps came.granted,
-    )
+    pub can_enter : CanEnter old.at_work.core (coming_of visitor)
+    can_enter = record {
+      outside = subst (λ (o : Option Kernel). IsSomeAnd o (λ k. slice_get k.processors visitor.cpu ≡ Some Outside))
+          (sym (some_kernel old.at_work.core).1) came.outside;
+      some_steps = some_steps visitor.steps came.granted;
+      few_steps = few_steps visitor.steps came.granted;
+    }
 
     pub of_one_ram : AreOfOneRam reads
     of_one_ram = record {
@@ -93,16 +65,16 @@ module _ (old : Replay) (visitor : Visitor) (reads : List Read) where
       by_journal = (over_lane-reading reader lane reads (next_kernel old (entry_of visitor reads) can).0).1 (came.entered, held)
 
       -- it would read as many bytes as the journal says
-      bytes_known : (copied more : ℕ) → IsTooMuch old.core (coming_of visitor) lane copied more → more ≡ total_bytes reads
+      bytes_known : (copied more : ℕ) → IsTooMuch old.at_work.core (coming_of visitor) lane copied more → more ≡ total_bytes reads
       bytes_known copied more full =
           let told : Some (total_bytes reads) ≡ Some more =
-          sym (ap (λ (o : Option Kernel). option_and_then (bytes_read (boot_of old) lane visit) o) (some_kernel old.core).1
+          sym (ap (λ (o : Option Kernel). option_and_then (bytes_read (boot_of old) lane visit) o) (some_kernel old.at_work.core).1
           ∙ ap (λ (o : Option (Kernel × List Read)). option_map (λ (end : Kernel × List Read). total_bytes end.1) o) by_journal)
           ∙ full.of_entry in
           cc
 
       pub never_full : (copied more : ℕ) → copied_bytes (done_by old ++ entry_of visitor reads ∷ []) ≤ 2 ^ 28
-          → IsTooMuch old.core (coming_of visitor) lane copied more → ⊥
+          → IsTooMuch old.at_work.core (coming_of visitor) lane copied more → ⊥
       never_full copied more few full =
           let sum = sum_by-append copied_by (done_by old) (entry_of visitor reads ∷ []) in
           let known = bytes_known copied more full in
@@ -110,10 +82,10 @@ module _ (old : Replay) (visitor : Visitor) (reads : List Read) where
           let above = full.above in
           omega (arith, sum, known, so_far, above, few)
 
-      module _ (new : Core) (work : Work) (has : HasEntered old.core new (coming_of visitor) lane work) where
+      module _ (new : Core) (work : Work) (has : HasEntered old.at_work.core new (coming_of visitor) lane work) where
         abbrev core_entry : CoreEntry
         core_entry = record {
-          old = old.core;
+          old = old.at_work.core;
           new = new;
           coming = coming_of visitor;
           lane = lane;
@@ -121,7 +93,7 @@ module _ (old : Replay) (visitor : Visitor) (reads : List Read) where
           has_entered = has;
           kernel = kernel_now old;
           next = (some_kernel new).0;
-          before = (some_kernel old.core).1;
+          before = (some_kernel old.at_work.core).1;
           after = (some_kernel new).1;
         }
 
@@ -135,10 +107,9 @@ module _ (old : Replay) (visitor : Visitor) (reads : List Read) where
 
   -- ---- once it has come in
 
-  pub entered : (new : Replay) (lane : List ℕ) (work : Work) (has : HasEntered old.core new.core (coming_of visitor) lane work)
-      → has.reads ≡ reads → IsReady new → HasDone old new (entry_of visitor reads)
-  entered new lane work has same ready = record {
+  pub entered : (new : Replay) (lane : List ℕ) (work : Work) (has : HasEntered old.at_work.core new.at_work.core (coming_of visitor) lane work)
+      → has.reads ≡ reads → HasDone old new (entry_of visitor reads)
+  entered new lane work has same = record {
     boot = has.boot;
     events = has.events ∙ ap (λ (rs : List Read). done_by old ++ entry_of visitor rs ∷ []) same;
-    ready = ready;
   }

@@ -1,6 +1,5 @@
 pub mod ReadLists
 pub mod Laid
-pub mod Wholes
 pub mod Next
 pub mod Entered
 pub mod Left

@@ -1,8 +1,7 @@
 -- What is known of an event that can be next.
-use Rattle.std.proofs.Common.{◌≡◌, List, [], ◌∷◌, ◌++◌, Bool, true, false, Option, Some, refl, ap, sym, ◌∙◌}
+use Rattle.std.proofs.Common.{◌≡◌, [], ◌∷◌, ◌++◌, Bool, true, false, Option, Some, refl, ap, sym, ◌∙◌}
 use Rattle.std.specs.Prelude.{IsTrue, Ok}
 use Rattle.std.specs.Option.{option_and_then}
-use Rattle.audit_model.specs.Verdicts.{IsFaultless}
 use Rattle.event_journal.specs.declared.event.Event.{Event}
 use Rattle.journal_replay.specs.Laws.{ReplaysAreFaultless}
 use Rattle.journal_replay.specs.Replaying.{CanBeNext, Does, HasDone, boot_of, done_by}
@@ -23,15 +22,15 @@ use Rattle.kernel_state.specs.Reads.{ReadsAgree}
 
 pub replays_are_faultless : ReplaysAreFaultless
 replays_are_faultless replay = record {
-  legal = core_is_legal replay.core;
-  steady = reads_agree replay.core.parts replay.core.replay;
+  legal = core_is_legal replay.at_work.core;
+  steady = reads_agree replay.at_work.core.parts replay.at_work.core.replay;
 }
 
 -- ---- the next one
 
 -- the kernel by now
 abbrev pub kernel_now : Replay → Kernel
-kernel_now replay = (some_kernel replay.core).0
+kernel_now replay = (some_kernel replay.at_work.core).0
 
 module _ (replay : Replay) (event : Event) (can : CanBeNext replay event) where
   pub next_kernel : (next : Kernel) × (after_event (boot_of replay) (kernel_now replay) event ≡ Some next)
@@ -40,7 +39,7 @@ module _ (replay : Replay) (event : Event) (can : CanBeNext replay event) where
         last.0,
         only_one (after_event (boot_of replay) (kernel_now replay) event) last.0
             (sym (after_events-append (boot_of replay) (first_kernel (boot_of replay)) (done_by replay) (event ∷ [])
-            ∙ ap (λ (o : Option Kernel). option_and_then (λ k. after_events (boot_of replay) k (event ∷ [])) o) (some_kernel replay.core).1)
+            ∙ ap (λ (o : Option Kernel). option_and_then (λ k. after_events (boot_of replay) k (event ∷ [])) o) (some_kernel replay.at_work.core).1)
             ∙ last.1),
       )
 

@@ -1,5 +1,3 @@
-pub mod Booting
 pub mod Laying
-pub mod Unseen
 pub mod Replaying
 pub mod Laws

@@ -4,11 +4,10 @@
 //! the kernel reads. An entry that read something else, and an exit with other registers, can't have been. Nothing is assumed
 //! of a journal, which may come from anybody.
 //!
-//! `booting` boots the core, `laying` lays reads into RAM, `comparing` compares what was done, and `replay` and `doing` have
+//! `laying` lays reads into RAM, `comparing` compares what was done, and `replay` and `doing` have
 //! the core.
 #![tactic(auto)]
 
-mod booting;
 mod comparing;
 mod doing;
 mod laws;
@@ -16,7 +15,6 @@ mod laying;
 mod replay;
 
 pub use base::NoMemory;
-pub use booting::core_of;
 pub use laws::replays_are_faultless;
 pub use laying::lay;
 pub use replay::Replay;

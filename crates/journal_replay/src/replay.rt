@@ -1,12 +1,10 @@
-use kernel_state::{Core, Work};
+use core_at_work::CoreAtWork;
 use ns_ram::Lane;
 
 /// A core on which the events of a journal are done again.
 #[derive(Drop)]
 pub struct Replay {
-    pub(crate) core: Core,
-    /// The work of each processor that is inside, by its number.
-    pub(crate) works: Vec<Option<Work>>,
+    pub(crate) at_work: CoreAtWork,
     /// RAM, written before each entry with what that read.
     pub(crate) lane: Lane,
 }

@@ -12,13 +12,10 @@ use Rattle.native_tas.specs.Table.{entries}
 use Rattle.audit.proofs.checking.check.Goals as goal
 
 pub loop-at-init : goal.loop-at-init
-loop-at-init g c = record { booted = c.in_ok-replay.ensures.booted; done = c.in_ok-replay.ensures.fresh; ready = c.in_ok-replay.ensures.ready }
+loop-at-init g c = record { booted = c.in_ok-replay.ensures.booted; done = c.in_ok-replay.ensures.fresh }
 
-pub does-requires-clause-ready : goal.does-requires-clause-ready
-does-requires-clause-ready g c = c.loop-at.invariant.ready
-
-pub does-requires-clause-few : goal.does-requires-clause-few
-does-requires-clause-few g c =
+pub does-requires : goal.does-requires
+does-requires g c =
     few_with_next (booted c.args.boot.now (entries c.args.natives.now)) c.as_slice-events.result.now c.loop-at.at c.loop-at.replay c.loop-at.invariant
     c.index-events-at.result c.loop-at-test.true c.index-events-at.is
     (subst (λ (es : List Event). copied_bytes es ≤ 2 ^ 28) (sym c.as_slice-events.ensures) c.requires.few)

@@ -8,14 +8,14 @@ use Rattle.kernel_state.specs.Setup.{application_of}
 use Rattle.instance_groups.proofs.coming.has_come_back.Goals as goal
 
 pub returns-in-Some-clause-noted : goal.returns-in-Some-clause-noted
-returns-in-Some-clause-noted c boot kernel next visitor reads has before are =
+returns-in-Some-clause-noted c boot kernel next visitor reads work has before are =
     subst (λ (n : Notes). IfOk c.comes_back.result (λ _. AreNoted c.comes_back.new.self n))
-    (back_of_own (watch boot (application_of c.args.notes.now.app) kernel) next visitor reads c.args.work.now c.args.slot before c.args.came has
+    (back_of_own (watch boot (application_of c.args.notes.now.app) kernel) next visitor reads work c.args.slot before c.args.came has
     c.in-Some.number (sym (c.number_in.ensures before are) ∙ c.in-Some.is))
     (c.comes_back.ensures.noted before are)
 
 pub returns-in-None-clause-noted : goal.returns-in-None-clause-noted
-returns-in-None-clause-noted c boot kernel next visitor reads has before are =
+returns-in-None-clause-noted c boot kernel next visitor reads work has before are =
     subst (AreNoted c.args.notes.now)
-    (back_of_other (watch boot (application_of c.args.notes.now.app) kernel) next visitor reads c.args.work.now c.args.slot before c.args.came has
+    (back_of_other (watch boot (application_of c.args.notes.now.app) kernel) next visitor reads work c.args.slot before c.args.came has
     (sym (c.number_in.ensures before are) ∙ c.in-None.is)) are

@@ -11,7 +11,7 @@ use Rattle.instance_groups.proofs.replay.again_from_boot.Goals as goal
 
 pub again-requires-clause-can : goal.again-requires-clause-can
 again-requires-clause-can c =
-    let boot = booted_of c.args.replay.now.core in
+    let boot = booted_of c.args.replay.now.at_work.core in
     let items = c.args.events.now in
     record {
       boot = boot;
@@ -22,14 +22,14 @@ again-requires-clause-can c =
 
 pub again-requires-clause-few : goal.again-requires-clause-few
 again-requires-clause-few c =
-    numbers_left (booted_of c.args.replay.now.core) (take c.loop-event.event-index c.args.events.now) c.event-item.result c.loop-event.replay
+    numbers_left (booted_of c.args.replay.now.at_work.core) (take c.loop-event.event-index c.args.events.now) c.event-item.result c.loop-event.replay
     c.loop-event.notes c.loop-event.invariant.noted
     (can_be_next c.args.events.now c.loop-event.event-index c.event-item.result c.loop-event-test.true c.event-item.is
-    (booted_of c.args.replay.now.core) c.requires.journal)
+    (booted_of c.args.replay.now.at_work.core) c.requires.journal)
 
 pub loop-event-preserved : goal.loop-event-preserved
 loop-event-preserved c =
-    let boot = booted_of c.args.replay.now.core in
+    let boot = booted_of c.args.replay.now.at_work.core in
     let items = c.args.events.now in
     let next : CanBeNext boot (take c.loop-event.event-index items) c.event-item.result =
     can_be_next items c.loop-event.event-index c.event-item.result c.loop-event-test.true c.event-item.is boot c.requires.journal in
@@ -42,5 +42,5 @@ loop-event-preserved c =
 
 pub returns-clause-noted : goal.returns-clause-noted
 returns-clause-noted c =
-    subst (λ (h : List Event). HasNoted (booted_of c.args.replay.now.core) h c.loop-event.replay c.loop-event.notes)
+    subst (λ (h : List Event). HasNoted (booted_of c.args.replay.now.at_work.core) h c.loop-event.replay c.loop-event.notes)
     (take_all c.loop-event.event-index c.args.events.now c.loop-event-test.false) c.loop-event.invariant.noted

@@ -11,5 +11,5 @@ returns-clause-app c = c.into_log.ensures.app ∙ c.again_from_boot.ensures.app 
 
 pub returns-clause-log : goal.returns-clause-log
 returns-clause-log c =
-    log_so c.again_from_boot.new.notes (booted_of c.args.replay.now.core) c.args.events.now c.args.app c.into_log.result.1.items
+    log_so c.again_from_boot.new.notes (booted_of c.args.replay.now.at_work.core) c.args.events.now c.args.app c.into_log.result.1.items
     c.in_ok-again_from_boot.ensures.noted.noted (c.again_from_boot.ensures.app ∙ c.new-notes.ensures.app) c.into_log.ensures.log

@@ -2,36 +2,36 @@ use Rattle.std.proofs.Common.{◌≡◌, Some, subst}
 use Rattle.std.specs.Prelude.{slice_get}
 use Rattle.isolation.specs.Noted.{AreNoted}
 use Rattle.isolation.specs.Replaying.{errand_at}
-use Rattle.isolation.proofs.CameFor.{came_for, few_slots}
+use Rattle.isolation.proofs.GoneOut.{comes_for, few_slots}
 use Rattle.isolation.proofs.HasCome.{answered_so, arrived_in, same_tables}
 use Rattle.kernel_state.specs.declared.processor.Errand.TheVariants as errand
 use Rattle.isolation.proofs.coming.has_come.Goals as goal
 
 pub has_come_for-requires-clause-slot : goal.has_come_for-requires-clause-slot
 has_come_for-requires-clause-slot c =
-    few_slots c.args.core.now c.args.work.now c.requires.work c.args.visitor.cpu c.requires.own c.in-Some-InSlot.slot
-    (cc (c.errand_of.ensures, c.as_slice.ensures.value, c.in-Some-InSlot.is, c.in-Some-InSlot.field-0-is))
+    few_slots c.args.core.now c.args.ran.now c.in-Some-InSlot.slot c.requires.can
+    (cc (c.requires.own, c.errand_of.ensures, c.as_slice.ensures.value, c.in-Some-InSlot.is, c.in-Some-InSlot.field-0-is))
 
 pub unreachable-requires : goal.unreachable-requires
 unreachable-requires c =
-    came_for c.args.core.now c.args.work.now c.requires.work c.args.visitor.cpu c.requires.own
-    (cc (c.errand_of.ensures, c.as_slice.ensures.value, c.in-None.is))
+    comes_for c.args.core.now c.args.ran.now c.requires.can
+    (cc (c.requires.own, c.errand_of.ensures, c.as_slice.ensures.value, c.in-None.is))
 
 pub returns-in-Some-Fixed-clause-noted : goal.returns-in-Some-Fixed-clause-noted
-returns-in-Some-Fixed-clause-noted c kernel next reads has before are =
+returns-in-Some-Fixed-clause-noted c kernel next reads work run has before are =
     let at : errand_at (slice_get c.args.core.now.parts.processors.items c.args.visitor.cpu) ≡ Some (errand.Fixed c.in-Some-Fixed.answer) =
     cc (c.errand_of.ensures, c.as_slice.ensures.value, c.in-Some-Fixed.is, c.in-Some-Fixed.field-0-is) in
     subst (AreNoted c.has_come_answered.new.notes)
-    (answered_so c.args.core.now.parts c.args.notes.now.session kernel next c.args.visitor reads c.args.arrival c.args.work.now before has
+    (answered_so c.args.core.now.parts c.args.notes.now.session kernel next c.args.visitor reads c.args.arrival work before has
     c.in-Some-Fixed.answer at)
     (c.has_come_answered.ensures.noted kernel before
-    (same_tables c.args.core.now.parts c.args.notes.now.session kernel next c.args.visitor reads c.args.arrival c.args.work.now before has
+    (same_tables c.args.core.now.parts c.args.notes.now.session kernel next c.args.visitor reads c.args.arrival work before has
     c.in-Some-Fixed.answer at) are)
 
 pub returns-in-Some-InSlot-clause-noted : goal.returns-in-Some-InSlot-clause-noted
-returns-in-Some-InSlot-clause-noted c kernel next reads has before are =
+returns-in-Some-InSlot-clause-noted c kernel next reads work run has before are =
     let at : errand_at (slice_get c.args.core.now.parts.processors.items c.args.visitor.cpu) ≡ Some (errand.InSlot c.in-Some-InSlot.slot) =
     cc (c.errand_of.ensures, c.as_slice.ensures.value, c.in-Some-InSlot.is, c.in-Some-InSlot.field-0-is) in
-    c.has_come_for.ensures.noted kernel next c.args.visitor reads
-    (arrived_in c.args.core.now.parts c.args.notes.now.session kernel next c.args.visitor reads c.args.arrival c.args.work.now before has
+    c.has_come_for.ensures.noted kernel next c.args.visitor reads work run
+    (arrived_in c.args.core.now.parts c.args.notes.now.session kernel next c.args.visitor reads c.args.arrival work before has
     c.in-Some-InSlot.slot at) before are

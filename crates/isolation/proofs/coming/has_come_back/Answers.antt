@@ -6,14 +6,14 @@ use Rattle.own_model.specs.Own.{Notes}
 use Rattle.isolation.proofs.coming.has_come_back.Goals as goal
 
 pub returns-in-Some-clause-noted : goal.returns-in-Some-clause-noted
-returns-in-Some-clause-noted c kernel next visitor reads has before are =
+returns-in-Some-clause-noted c kernel next visitor reads work has before are =
     subst (λ (n : Notes). IfOk c.comes_back.result (λ _. AreNoted c.comes_back.new.self n))
-    (back_of_own c.args.notes.now.session kernel next visitor reads c.args.work.now c.args.slot before c.args.back has
+    (back_of_own c.args.notes.now.session kernel next visitor reads work c.args.slot before c.args.back has
     c.in-Some.number (sym (c.number_in.ensures before are) ∙ c.in-Some.is))
     (c.comes_back.ensures.noted before are)
 
 pub returns-in-None-clause-noted : goal.returns-in-None-clause-noted
-returns-in-None-clause-noted c kernel next visitor reads has before are =
+returns-in-None-clause-noted c kernel next visitor reads work has before are =
     subst (AreNoted c.args.notes.now)
-    (back_of_other c.args.notes.now.session kernel next visitor reads c.args.work.now c.args.slot before c.args.back has
+    (back_of_other c.args.notes.now.session kernel next visitor reads work c.args.slot before c.args.back has
     (sym (c.number_in.ensures before are) ∙ c.in-None.is)) are

@@ -1,40 +1,59 @@
 -- What the processor came for.
-use Rattle.std.proofs.Common.{◌≡◌, List, Some, ap, sym, ◌∙◌}
-use Rattle.std.specs.Prelude.{slice_get}
-use Rattle.isolation.specs.Replaying.{errand_at}
-use Rattle.isolation.proofs.GoneOut.{comes_for, exit_answered, few_processors, few_slots}
+use Rattle.std.proofs.Common.{◌≡◌, ℕ, Some, None, subst, sym}
+use Rattle.std.specs.Prelude.{IfOk, slice_get}
+use Rattle.core_at_work.proofs.Worked.{kept_in}
+use Rattle.isolation.specs.Noted.{AreNoted}
+use Rattle.isolation.specs.Replaying.{IsExitNoted, errand_at}
+use Rattle.isolation.proofs.GoneOut.{came_for, comes_for, exit_answered, few_processors, few_slots}
 use Rattle.kernel_state.specs.declared.processor.Errand.TheVariants.{Fixed, InSlot}
-use Rattle.kernel_state.specs.declared.processor.Processor.{Processor as AnyProcessor}
+use Rattle.own_model.specs.Own as own
 use Rattle.isolation.proofs.going.goes_out.Goals as goal
 
 pub goes_out_of-requires-clause-slot : goal.goes_out_of-requires-clause-slot
 goes_out_of-requires-clause-slot c =
-    let items = c.args.core.now.parts.processors.items in
-    let of : c.errand_of.result ≡ errand_at (slice_get items c.args.ran.cpu) =
-    c.errand_of.ensures ∙ ap (λ (ps : List AnyProcessor). errand_at (slice_get ps c.args.ran.cpu)) c.as_slice.ensures.value in
-    let is : errand_at (slice_get items c.args.ran.cpu) ≡ Some (InSlot c.in-Some-InSlot.slot) = cc in
-    few_slots c.args.core.now c.args.ran c.in-Some-InSlot.slot c.requires is
+    let core = c.args.at_work.now.core in
+    let items = core.parts.processors.items in
+    let kept = kept_in c.args.at_work.now c.args.cpu c.requires in
+    let is : errand_at (slice_get items c.args.cpu) ≡ Some (InSlot c.in-Some-InSlot.slot) =
+    cc (c.errand_of.ensures, c.as_slice.ensures.value, c.in-Some-InSlot.is, c.in-Some-InSlot.field-0-is) in
+    few_slots core kept.0 c.in-Some-InSlot.slot kept.1.can
+    (came_for core kept.0 c.args.cpu (Some (InSlot c.in-Some-InSlot.slot)) kept.1.its_own is)
+
+pub goes_out_of-requires-clause-errand : goal.goes_out_of-requires-clause-errand
+goes_out_of-requires-clause-errand c =
+    cc (c.errand_of.ensures, c.as_slice.ensures.value, c.in-Some-InSlot.is, c.in-Some-InSlot.field-0-is)
 
 pub goes_out_answered-requires : goal.goes_out_answered-requires
 goes_out_answered-requires c =
-    let items = c.args.core.now.parts.processors.items in
-    let of : c.errand_of.result ≡ errand_at (slice_get items c.args.ran.cpu) =
-    c.errand_of.ensures ∙ ap (λ (ps : List AnyProcessor). errand_at (slice_get ps c.args.ran.cpu)) c.as_slice.ensures.value in
-    let is : errand_at (slice_get items c.args.ran.cpu) ≡ Some (Fixed c.in-Some-Fixed.field-0-0) = cc in
-    few_processors c.args.core.now c.args.ran.cpu (Fixed c.in-Some-Fixed.field-0-0) is
+    let items = c.args.at_work.now.core.parts.processors.items in
+    let is : errand_at (slice_get items c.args.cpu) ≡ Some (Fixed c.in-Some-Fixed.field-0-0) =
+    cc (c.errand_of.ensures, c.as_slice.ensures.value, c.in-Some-Fixed.is, c.in-Some-Fixed.field-0-is) in
+    few_processors c.args.at_work.now.core c.args.cpu (Fixed c.in-Some-Fixed.field-0-0) is
 
 pub unreachable-requires : goal.unreachable-requires
 unreachable-requires c =
-    let items = c.args.core.now.parts.processors.items in
-    let of : c.errand_of.result ≡ errand_at (slice_get items c.args.ran.cpu) =
-    c.errand_of.ensures ∙ ap (λ (ps : List AnyProcessor). errand_at (slice_get ps c.args.ran.cpu)) c.as_slice.ensures.value in
-    comes_for c.args.core.now c.args.ran c.requires (sym of ∙ c.in-None.is)
+    let core = c.args.at_work.now.core in
+    let items = core.parts.processors.items in
+    let kept = kept_in c.args.at_work.now c.args.cpu c.requires in
+    let is : errand_at (slice_get items c.args.cpu) ≡ None =
+    cc (c.errand_of.ensures, c.as_slice.ensures.value, c.in-None.is) in
+    comes_for core kept.0 kept.1.can (came_for core kept.0 c.args.cpu None kept.1.its_own is)
 
 pub returns-in-Some-Fixed-clause-noted : goal.returns-in-Some-Fixed-clause-noted
 returns-in-Some-Fixed-clause-noted c =
-    let items = c.args.core.now.parts.processors.items in
-    let of : c.errand_of.result ≡ errand_at (slice_get items c.args.ran.cpu) =
-    c.errand_of.ensures ∙ ap (λ (ps : List AnyProcessor). errand_at (slice_get ps c.args.ran.cpu)) c.as_slice.ensures.value in
-    let is : errand_at (slice_get items c.args.ran.cpu) ≡ Some (Fixed c.in-Some-Fixed.field-0-0) = cc in
-    exit_answered c.args.core.now c.leave.new.core c.args.ran c.args.lane.now c.leave.new.lane c.leave.result c.in-Some-Fixed.field-0-0
-    c.args.notes.now c.goes_out_answered.new.self c.goes_out_answered.result c.leave.ensures is c.goes_out_answered.ensures.noted
+    let old = c.args.at_work.now.core in
+    let new = c.leave.new.self.core in
+    let lane = c.args.lane.now in
+    let now = c.leave.new.lane in
+    let items = old.parts.processors.items in
+    let out = c.leave.ensures in
+    let answer = c.in-Some-Fixed.field-0-0 in
+    let is : errand_at (slice_get items c.args.cpu) ≡ Some (Fixed answer) =
+    cc (c.errand_of.ensures, c.as_slice.ensures.value, c.in-Some-Fixed.is, c.in-Some-Fixed.field-0-is) in
+    subst (λ (n : ℕ). IfOk c.goes_out_answered.result (λ _. IsExitNoted old new c.args.notes.now c.goes_out_answered.new.self n lane now))
+    out.its_own
+    (exit_answered old new out.ran lane now c.leave.result.regs answer c.args.notes.now c.goes_out_answered.new.self
+    c.goes_out_answered.result out.has_left
+    (came_for old out.ran c.args.cpu (Some (Fixed answer)) out.its_own is)
+    (λ notes are. subst (λ (n : ℕ). IfOk c.goes_out_answered.result (λ _. AreNoted c.goes_out_answered.new.self (own.limit_noted notes n)))
+    (sym out.its_own) (c.goes_out_answered.ensures.noted notes are)))

@@ -3,7 +3,7 @@ use Rattle.isolation.specs.Journals.{IsJournal}
 use Rattle.isolation.specs.Replaying.{HasDone}
 use Rattle.isolation.proofs.Boots.{apart_booted, within_limits}
 use Rattle.isolation.proofs.OwnLogs.{log_still}
-use Rattle.journal_replay.specs.Booting.{IsApart}
+use Rattle.core_at_work.specs.Booting.{IsApart}
 use Rattle.kernel_model.specs.Application.{Booted, booted}
 use Rattle.kernel_state.specs.Booting.{IsWithinLimits}
 use Rattle.kernel_state.specs.Meaning.{booted_of}
@@ -24,7 +24,7 @@ new-requires-clause-apart g c =
 pub log_of-requires-clause-journal : goal.log_of-requires-clause-journal
 log_of-requires-clause-journal g c =
     let natives = entries c.args.natives.now in
-    let same : booted_of c.in_ok-replay.replay.core ≡ booted c.args.boot.now natives =
+    let same : booted_of c.in_ok-replay.replay.at_work.core ≡ booted c.args.boot.now natives =
     c.in_ok-replay.ensures.booted ∙ ap (λ (b : Boot). booted b natives) c.in_ok-clone.ensures.cases in
     subst (λ (b : Booted). IsJournal b c.as_slice.result.now) (sym same)
     (subst (IsJournal (booted c.args.boot.now natives)) (sym c.as_slice.ensures) c.requires)
@@ -36,6 +36,6 @@ log_of-requires-clause-begun g c =
 pub returns : goal.returns
 returns g c =
     let natives = entries c.args.natives.now in
-    let same : booted_of c.in_ok-replay.replay.core ≡ booted c.args.boot.now natives =
+    let same : booted_of c.in_ok-replay.replay.at_work.core ≡ booted c.args.boot.now natives =
     c.in_ok-replay.ensures.booted ∙ ap (λ (b : Boot). booted b natives) c.in_ok-clone.ensures.cases in
     log_still c.log_of.result _ _ _ _ c.args.session same c.as_slice.ensures c.log_of.ensures

@@ -5,6 +5,6 @@ use Rattle.isolation.proofs.replay.Replay.again_from_boot.Given as goal
 
 abbrev pub invariant-loop-event : goal.invariant-loop-event
 invariant-loop-event l = record {
-  noted : HasNoted (booted_of l.fn.self.core) (take l.event-index l.fn.events) l.self l.notes;
+  noted : HasNoted (booted_of l.fn.self.at_work.core) (take l.event-index l.fn.events) l.self l.notes;
   session : l.notes.session ≡ l.fn.notes.session;
 }

@@ -1,4 +1,4 @@
-use Rattle.std.proofs.Common.{◌≡◌, List, ℕ, Option, ap, sym, ◌∙◌}
+use Rattle.std.proofs.Common.{◌≡◌, ap, sym, ◌∙◌}
 use Rattle.std.specs.Option.{option_and_then}
 use Rattle.isolation.proofs.OwnLogs.{log_so, uuid_so}
 use Rattle.kernel_model.specs.Application.{Booted}
@@ -12,7 +12,7 @@ again_from_boot-requires-clause-begun c = record { done = c.requires.begun; note
 
 pub returns : goal.returns
 returns c =
-    let boot = booted_of c.args.self.now.core in
+    let boot = booted_of c.args.self.now.at_work.core in
     let now = c.in_ok-again_from_boot.ensures.noted in
     let session = c.again_from_boot.ensures.session ∙ c.new-notes.ensures.session in
     let uuid : c.into_log-uuid.result.0 ≡ (noted boot c.args.events.now c.args.session).uuid =

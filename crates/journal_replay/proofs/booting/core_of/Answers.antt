@@ -1,8 +1,0 @@
-use Rattle.std.proofs.Common.{◌≡◌, ℕ, List, Err, None, Some, ap, sym, ◌∙◌}
-use Rattle.journal_replay.proofs.booting.core_of.Goals as goal
-
-pub unreachable-requires : goal.unreachable-requires
-unreachable-requires g c =
-    let refused = c.in-Err-Repeated in
-    let both : None ≡ Some refused.field-0-0 = sym c.requires.apart ∙ (refused.ensures.repeated refused.field-0-0).0 (ap Err refused.field-0-is) in
-    absurd cc
