@@ -25,13 +25,13 @@ sound_boot natives trace sound = of_boot natives trace.boot sound.boot
 -- ---- a machine
 
 pub begun_so : (boot booted : Booted) (play : Play) (machine : Machine) → IsAt boot play machine → boot ≡ booted
-    → booted_of machine.core ≡ booted
+    → booted_of machine.at_work.core ≡ booted
 begun_so boot booted play machine at same = at.booted ∙ same
 
 -- what leads from play to play of one boot
 pub written_so : (old new : Machine) (writes : Play → Play)
     → ((boot : Booted) (play : Play) → IsAt boot play old → IsAt boot (writes play) new)
-    → booted_of new.core ≡ booted_of old.core
+    → booted_of new.at_work.core ≡ booted_of old.at_work.core
 written_so old new writes leads =
-    let kernel = some_of (kernel_of old.core) (machines_stand.has_kernel old) in
-    (leads (booted_of old.core) (play_of old kernel.0) (machines_stand.stands old kernel.0 kernel.1)).booted
+    let kernel = some_of (kernel_of old.at_work.core) (machines_stand.has_kernel old) in
+    (leads (booted_of old.at_work.core) (play_of old kernel.0) (machines_stand.stands old kernel.0 kernel.1)).booted

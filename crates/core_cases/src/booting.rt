@@ -18,7 +18,7 @@ use trace_text::Fill;
 fn begun(alloc: Global, boot: Boot, natives: &Natives, fills: &[Fill]) -> Result<Machine>
     requires boot { IsSoundBoot (map (λ native. native.0) (entries natives.now)) boot }
     requires fills { All IsSoundFill fills.now }
-    ensures { IfOk result (λ machine. booted_of machine.core ≡ booted boot (entries natives.now)) }
+    ensures { IfOk result (λ machine. booted_of machine.at_work.core ≡ booted boot (entries natives.now)) }
 {
     Ok(Machine::booted(alloc, boot, natives, fills)?)
 }
@@ -33,7 +33,7 @@ pub fn machine_of(
     requires boot { IfSome boot (IsSoundBoot (map (λ native. native.0) (entries natives.now))) }
     requires fills { All IsSoundFill fills.now }
     ensures { (given : AnyBoot) → boot ≡ Some given
-        → IfOk result (λ machine. booted_of machine.core ≡ booted given (entries natives.now)) }
+        → IfOk result (λ machine. booted_of machine.at_work.core ≡ booted given (entries natives.now)) }
 {
     match boot {
         Some(boot) => begun(alloc, boot, natives, fills),

@@ -57,7 +57,7 @@ fn play_item(
     list: &mut Vec<Smc>,
     told: &mut Vec<u8>,
 ) -> Result<()>
-    ensures { booted_of machine.new.core ≡ booted_of machine.old.core }
+    ensures { booted_of machine.new.at_work.core ≡ booted_of machine.old.at_work.core }
 {
     if takes(list, item)? {
         return Ok(());
@@ -69,7 +69,7 @@ fn play_item(
 
 /// Plays these items, and tells what comes of it.
 pub fn play(alloc: Global, machine: &mut Machine, items: &[Item]) -> Result<Vec<u8>>
-    ensures { booted_of machine.new.core ≡ booted_of machine.old.core }
+    ensures { booted_of machine.new.at_work.core ≡ booted_of machine.old.at_work.core }
 {
     let mut told = Vec::new(alloc);
     let mut list = Vec::new(alloc);
@@ -97,7 +97,7 @@ pub fn play_text(alloc: Global, natives: &Natives, text: &[u8]) -> Result<Vec<u8
 
 /// Serves a list. Where an entry of it wants for memory, that and what is behind it come once more.
 fn serve(alloc: Global, machine: &mut Machine, list: &[Smc], told: &mut Vec<u8>) -> Result<()>
-    ensures { booted_of machine.new.core ≡ booted_of machine.old.core }
+    ensures { booted_of machine.new.at_work.core ≡ booted_of machine.old.at_work.core }
 {
     if let Some(served) = serve_once(alloc, machine, list, told)? {
         let rest = list.get(served..).context("less was to be served")?;
@@ -116,7 +116,7 @@ fn serve_once(
     list: &[Smc],
     told: &mut Vec<u8>,
 ) -> Result<Option<usize>>
-    ensures { booted_of machine.new.core ≡ booted_of machine.old.core }
+    ensures { booted_of machine.new.at_work.core ≡ booted_of machine.old.at_work.core }
 {
     if !machine.can_serve(alloc, list)? {
         bail!("a processor comes in or goes out twice");
@@ -151,7 +151,7 @@ fn write_or_show(
     item: &Item,
     told: &mut Vec<u8>,
 ) -> Result<()>
-    ensures { booted_of machine.new.core ≡ booted_of machine.old.core }
+    ensures { booted_of machine.new.at_work.core ≡ booted_of machine.old.at_work.core }
 {
     match item {
         Item::Write { cpu, addr, bytes } => write(machine, *cpu, *addr, bytes.as_slice()),
@@ -162,7 +162,7 @@ fn write_or_show(
 
 /// Writes bytes to a processor's RAM.
 fn write(machine: &mut Machine, cpu: u8, addr: u64, bytes: &[u8]) -> Result<()>
-    ensures { booted_of machine.new.core ≡ booted_of machine.old.core }
+    ensures { booted_of machine.new.at_work.core ≡ booted_of machine.old.at_work.core }
 {
     if cpu >= machine.cpus() || !in_ram(addr, bytes.len() as u64) {
         bail!("a write outside of RAM");

@@ -38,7 +38,7 @@ pub(crate) fn boot_again(
 pub(crate) fn played(alloc: Global, natives: &Natives, trace: Trace) -> Result<Machine>
     requires { IsSound (map (λ native. native.0) (entries natives.now)) trace }
     ensures { (boot : AnyBoot) → trace.boot ≡ Some boot
-        → IfOk result (λ machine. booted_of machine.core ≡ booted boot (entries natives.now)) }
+        → IfOk result (λ machine. booted_of machine.at_work.core ≡ booted boot (entries natives.now)) }
 {
     let Trace { boot, fills, items } = trace;
     let mut machine = machine_of(alloc, boot, natives, fills.as_slice())?;

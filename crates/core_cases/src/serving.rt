@@ -11,7 +11,7 @@ use crate::reading::{registers, trace_of};
 use crate::script::{Half, Turn, cpu_of, ordered, takes_turns};
 use answer_lines::{push_mem, push_numbered, push_registers};
 use anyhow::{Context, Error, Result, bail};
-use core_machine::{core_of, first_lane};
+use core_at_work::{core_of, first_lane};
 use event_journal::{Event, Journal};
 use kernel_state::Core;
 use native_tas::Natives;

@@ -9,7 +9,8 @@ use Rattle.core_machine.specs.Moving.{EntersAt, LeavesAt}
 use Rattle.core_machine.specs.Serving.{Extends, HasCome, IsWhy, Serves, ServesOne, item_of}
 use Rattle.core_machine.specs.Serving.{line_of}
 use Rattle.core_machine.specs.Standing.{CanAllCome, CanCome, IsAt, play_of}
-use Rattle.core_machine.specs.Turns.{ComeInTurn, MayCome, inside_after, insides}
+use Rattle.core_at_work.specs.Insides.{insides}
+use Rattle.core_machine.specs.Turns.{ComeInTurn, MayCome, inside_after}
 use Rattle.core_machine.specs.declared.machine.Machine.{Machine}
 use Rattle.core_machine.specs.declared.smc.Smc.{Smc}
 use Rattle.core_machine.specs.declared.smc.Smc.TheVariants.{Comes, Leaves}
@@ -116,35 +117,35 @@ moves boot play next (Leaves cpu) e going =
 -- the play of a machine, and the one after an entry or an exit that has come to it
 record Onward (old new : Machine) (smc : Smc) : Type 0 where
   kernel : Kernel
-  there : kernel_of old.core ≡ Some kernel
+  there : kernel_of old.at_work.core ≡ Some kernel
   next : Play
-  at : IsAt (booted_of old.core) next new
+  at : IsAt (booted_of old.at_work.core) next new
   moved : Moves (play_of old kernel) next smc
 
 onward : (old new : Machine) (before after : List Told) (smc : Smc) → ServesOne old new before after smc (Ok tt) →
     Onward old new smc
 onward old new before after smc one =
-    let kernel = some_kernel old.core in
+    let kernel = some_kernel old.at_work.core in
     let play = play_of old kernel.0 in
-    let come = one.at (booted_of old.core) play (stands old kernel.0 kernel.1) in
+    let come = one.at (booted_of old.at_work.core) play (stands old kernel.0 kernel.1) in
     record {
       kernel = kernel.0;
       there = kernel.1;
       next = come.next;
       at = come.at;
-      moved = moves (booted_of old.core) play come.next smc (sym (one_item (booted_of old.core) (item_of smc) play
+      moved = moves (booted_of old.at_work.core) play come.next smc (sym (one_item (booted_of old.at_work.core) (item_of smc) play
           refl) ∙ come.comes) come.at.goes_on;
     }
 
 -- ---- the events
 
-pub same_events : (old new : Machine) (boot : booted_of new.core ≡ booted_of old.core) →
-    events_of new.core ≡ events_of old.core → Extends old new
+pub same_events : (old new : Machine) (boot : booted_of new.at_work.core ≡ booted_of old.at_work.core) →
+    events_of new.at_work.core ≡ events_of old.at_work.core → Extends old new
 same_events old new boot same = record {
   boot = boot;
   more = [];
-  events = same ∙ sym (append-nil (events_of old.core));
-  legal = core_is_legal new.core;
+  events = same ∙ sym (append-nil (events_of old.at_work.core));
+  legal = core_is_legal new.at_work.core;
 }
 
 pub further : (old mid new : Machine) → Extends old mid → Extends mid new → Extends old new
@@ -152,8 +153,8 @@ further old mid new first second = record {
   boot = second.boot ∙ first.boot;
   more = first.more ++ second.more;
   events = second.events ∙ ap (λ (events : List Event). events ++ second.more) first.events
-      ∙ append_assoc (events_of old.core) first.more second.more;
-  legal = core_is_legal new.core;
+      ∙ append_assoc (events_of old.at_work.core) first.more second.more;
+  legal = core_is_legal new.at_work.core;
 }
 
 extends_one : (old new : Machine) (smc : Smc) → Onward old new smc → Extends old new
@@ -161,7 +162,7 @@ extends_one old new smc on = record {
   boot = on.at.booted;
   more = on.moved.event ∷ [];
   events = on.at.history ∙ on.moved.history;
-  legal = core_is_legal new.core;
+  legal = core_is_legal new.at_work.core;
 }
 
 -- ---- so many of a list
@@ -190,14 +191,14 @@ pub record IsNext (smcs : List Smc) (count : ℕ) (smc : Smc) : Type 0 where
 
 can_next : (now : Machine) (smcs : List Smc) (count : ℕ) (smc : Smc) → IsNext smcs count smc →
     CanAllCome now (drop count smcs) →
-    IsSomeAnd (kernel_of now.core) (λ kernel. MayCome (insides kernel) smc × ComeInTurn
+    IsSomeAnd (kernel_of now.at_work.core) (λ kernel. MayCome (insides kernel) smc × ComeInTurn
     (inside_after (insides kernel) smc) (drop (count + 1) smcs))
 can_next now smcs count smc is can = subst (λ (rest : List Smc). CanAllCome now rest) is.left can
 
 pub next_can : (now : Machine) (smcs : List Smc) (count : ℕ) (smc : Smc) → IsNext smcs count smc →
     CanAllCome now (drop count smcs) → CanCome now smc
 next_can now smcs count smc is can =
-    let kernel = some_kernel now.core in
+    let kernel = some_kernel now.at_work.core in
     let both = subst (λ (o : Option Kernel). IsSomeAnd o (λ k. MayCome (insides k) smc × ComeInTurn
     (inside_after (insides k) smc) (drop (count + 1) smcs)))
     kernel.1 (can_next now smcs count smc is can) in
@@ -275,8 +276,8 @@ served_part old now new before answers after smcs count smc why so is few one = 
 pub extends_none : (old new : Machine) (before after : List Told) (smc : Smc) (why : EnterRefusal) →
     ServesOne old new before after smc (Err why) → Extends old new
 extends_none old new before after smc why one =
-    let kernel = some_kernel old.core in
-    let not = one.at (booted_of old.core) (play_of old kernel.0) (stands old kernel.0 kernel.1) in
+    let kernel = some_kernel old.at_work.core in
+    let not = one.at (booted_of old.at_work.core) (play_of old kernel.0) (stands old kernel.0 kernel.1) in
     same_events old new not.0.booted not.0.history
 
 -- ---- an entry and an exit, as one of a list

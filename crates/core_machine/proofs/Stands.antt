@@ -1,20 +1,18 @@
 -- A machine and the plays at which it stands.
 use Rattle.std.proofs.Common.{◌≡◌, ℕ, Bool, true, false, List, length, Option, Some, None, refl, ap, sym, subst}
 use Rattle.std.proofs.Common.{◌∙◌}
-use Rattle.std.proofs.Math.Logic.{∥∥₁_elim}
-use Rattle.std.proofs.Props.{props}
 use Rattle.std.proofs.lemmas.Option.{slice_get-map}
 use Rattle.std.specs.Prelude.{IsSome, IsSomeAnd, not, slice_get, slice_set}
 use Rattle.std.specs.Option.{option_map}
+use Rattle.core_at_work.specs.Insides.{insides}
+use Rattle.core_at_work.proofs.InsidesMoved.{insides_entered, insides_left}
+use Rattle.core_at_work.proofs.Kept.{all_outside}
 use Rattle.core_machine.specs.Laws.{MachinesStand, TurnsAreTaken}
 use Rattle.core_machine.specs.Standing.{IsAt, play_of}
-use Rattle.core_machine.specs.Turns.{ComeInTurn, MayCome, insides}
-use Rattle.core_machine.specs.Whole.{IsWhole}
+use Rattle.core_machine.specs.Turns.{ComeInTurn, MayCome}
 use Rattle.core_machine.specs.declared.machine.Machine.{Machine}
 use Rattle.core_machine.specs.declared.smc.Smc.TheVariants.{Comes, Leaves}
 use Rattle.core_machine.proofs.AtPlay.{CoreAt}
-use Rattle.core_machine.proofs.TurnsTaken.{insides_entered, insides_left}
-use Rattle.core_machine.proofs.Wholes.{all_outside}
 use Rattle.event_journal.specs.declared.event.Event.TheVariants.{Entry, Exit}
 use Rattle.kernel_model.specs.Application.{Booted}
 use Rattle.kernel_model.specs.History.{after_event, is_outside}
@@ -29,22 +27,17 @@ use Rattle.play_model.proofs.Entries.{Entered, CameIn, WasRefused, entered, left
 abbrev is_in : Processor → Bool
 is_in processor = not (is_outside processor)
 
-pub core_at : (boot : Booted) (play : Play) (machine : Machine) → IsAt boot play machine → CoreAt boot play machine.core
+pub core_at : (boot : Booted) (play : Play) (machine : Machine) → IsAt boot play machine → CoreAt boot play machine.at_work.core
 core_at boot play machine at = record { booted = at.booted; history = at.history; kernel = at.kernel }
 
-pub stands : (machine : Machine) (kernel : Kernel) → kernel_of machine.core ≡ Some kernel →
-    IsAt (booted_of machine.core) (play_of machine kernel) machine
+pub stands : (machine : Machine) (kernel : Kernel) → kernel_of machine.at_work.core ≡ Some kernel →
+    IsAt (booted_of machine.at_work.core) (play_of machine kernel) machine
 stands machine kernel e = record { booted = refl; history = refl; kernel = e; lanes = refl; goes_on = refl }
-
-pub as_many_lanes : (machine : Machine) → length machine.lanes.items ≡ (booted_of machine.core).cpus
-as_many_lanes machine =
-    ∥∥₁_elim machine.whole (Prim.hlevel props)
-    (λ (whole : IsWhole machine.core machine.lanes.items machine.works.items). whole.each_sees)
 
 -- what holds of the play's kernel holds of the machine's
 pub kernel_has : (boot : Booted) (play : Play) (machine : Machine) (P : Kernel → Type 0) → IsAt boot play machine →
     P play.kernel →
-    IsSomeAnd (kernel_of machine.core) P
+    IsSomeAnd (kernel_of machine.at_work.core) P
 kernel_has boot play machine P at holds = subst (λ (o : Option Kernel). IsSomeAnd o P) (sym at.kernel) holds
 
 -- the processor of this state is inside, or not
@@ -55,10 +48,10 @@ state_told kernel cpu state e = slice_get-map is_in kernel.processors cpu ∙ ap
 pub machines_stand : MachinesStand
 machines_stand = record {
   stands = stands;
-  has_kernel = λ machine. let kernel = some_kernel machine.core in subst (λ (o : Option Kernel). IsSome o)
+  has_kernel = λ machine. let kernel = some_kernel machine.at_work.core in subst (λ (o : Option Kernel). IsSome o)
       (sym kernel.1) refl;
   lanes = λ boot play machine at.
-      ap (λ (lanes : List (List ℕ)). length lanes) (sym at.lanes) ∙ as_many_lanes machine
+      ap (λ (lanes : List (List ℕ)). length lanes) (sym at.lanes) ∙ machine.each_sees
       ∙ ap (λ (b : Booted). b.cpus) at.booted;
   can_come = λ boot play machine visitor at outside some few.
       kernel_has boot play machine (λ (kernel : Kernel). MayCome (insides kernel) (Comes visitor)) at

@@ -2,7 +2,8 @@
 use Rattle.std.specs.Prelude.{◌≡◌, ℕ, ◌≤◌, true, false, List, length, replicate, Some, None, IsSome, slice_get}
 use Rattle.std.specs.Prelude.{slice_set}
 use Rattle.core_machine.specs.Standing.{CanAllCome, CanCome, IsAt, play_of}
-use Rattle.core_machine.specs.Turns.{ComeInTurn, insides}
+use Rattle.core_at_work.specs.Insides.{insides}
+use Rattle.core_machine.specs.Turns.{ComeInTurn}
 use Rattle.core_machine.specs.declared.machine.Machine.{Machine}
 use Rattle.core_machine.specs.declared.smc.Smc.{Smc}
 use Rattle.core_machine.specs.declared.smc.Smc.TheVariants.{Comes, Leaves}
@@ -14,9 +15,9 @@ use Rattle.play_model.specs.Play.{Play, enters, leaves}
 
 pub record MachinesStand : Type 0 where
   -- each machine stands at a play
-  pub stands : (machine : Machine) (kernel : Kernel) → kernel_of machine.core ≡ Some kernel →
-      IsAt (booted_of machine.core) (play_of machine kernel) machine
-  pub has_kernel : (machine : Machine) → IsSome (kernel_of machine.core)
+  pub stands : (machine : Machine) (kernel : Kernel) → kernel_of machine.at_work.core ≡ Some kernel →
+      IsAt (booted_of machine.at_work.core) (play_of machine kernel) machine
+  pub has_kernel : (machine : Machine) → IsSome (kernel_of machine.at_work.core)
   -- which has RAM for each processor
   pub lanes : (boot : Booted) (play : Play) (machine : Machine) → IsAt boot play machine → length play.lanes ≡ boot.cpus
   -- a processor that is outside there can come in, and one that is inside can go out

@@ -1,5 +1,4 @@
 pub mod Turns
-pub mod Whole
 pub mod Standing
 pub mod Moving
 pub mod Serving

@@ -68,10 +68,10 @@ pub record Serves (old new : Machine) (before after : List Told) (smcs : List Sm
 
 -- they extend those before, and are legal
 pub record Extends (old new : Machine) : Type 0 where
-  pub boot : booted_of new.core ≡ booted_of old.core
+  pub boot : booted_of new.at_work.core ≡ booted_of old.at_work.core
   pub more : List Event
-  pub events : events_of new.core ≡ events_of old.core ++ more
-  pub legal : IsLegal (booted_of new.core) (events_of new.core)
+  pub events : events_of new.at_work.core ≡ events_of old.at_work.core ++ more
+  pub legal : IsLegal (booted_of new.at_work.core) (events_of new.at_work.core)
 
 -- ---- one of a list
 

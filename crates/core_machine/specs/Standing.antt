@@ -1,6 +1,7 @@
 -- Where a machine stands in a play.
-use Rattle.std.specs.Prelude.{◌≡◌, ℕ, Bool, List, [], Some, None, IsSomeAnd, slice_get}
-use Rattle.core_machine.specs.Turns.{ComeInTurn, MayCome, insides}
+use Rattle.std.specs.Prelude.{◌≡◌, ℕ, List, [], Some, None, IsSomeAnd}
+use Rattle.core_at_work.specs.Insides.{insides}
+use Rattle.core_machine.specs.Turns.{ComeInTurn, MayCome}
 use Rattle.core_machine.specs.declared.machine.Machine.{Machine}
 use Rattle.core_machine.specs.declared.smc.Smc.{Smc}
 use Rattle.kernel_model.specs.Application.{Booted}
@@ -11,9 +12,9 @@ use Rattle.play_model.specs.Play.{Play}
 -- its core was booted so, and has the play's history and kernel; its processors see the play's RAM; and no entry was
 -- refused. Of the lines that are printed it knows nothing
 pub record IsAt (boot : Booted) (play : Play) (machine : Machine) : Type 0 where
-  pub booted : booted_of machine.core ≡ boot
-  pub history : events_of machine.core ≡ play.history
-  pub kernel : kernel_of machine.core ≡ Some play.kernel
+  pub booted : booted_of machine.at_work.core ≡ boot
+  pub history : events_of machine.at_work.core ≡ play.history
+  pub kernel : kernel_of machine.at_work.core ≡ Some play.kernel
   pub lanes : machine.lanes.items ≡ play.lanes
   pub goes_on : play.refused ≡ None
 
@@ -26,7 +27,7 @@ begun boot lanes =
 abbrev pub play_of : Machine → Kernel → Play
 play_of machine kernel = record {
   kernel = kernel;
-  history = events_of machine.core;
+  history = events_of machine.at_work.core;
   lanes = machine.lanes.items;
   lines = [];
   refused = None;
@@ -36,13 +37,8 @@ play_of machine kernel = record {
 
 -- an entry or an exit can come, by which processors of the machine are inside
 abbrev pub CanCome : Machine → Smc → Type 0
-CanCome machine smc = IsSomeAnd (kernel_of machine.core) (λ kernel. MayCome (insides kernel) smc)
+CanCome machine smc = IsSomeAnd (kernel_of machine.at_work.core) (λ kernel. MayCome (insides kernel) smc)
 
 -- a list can come, each behind those before it
 abbrev pub CanAllCome : Machine → List Smc → Type 0
-CanAllCome machine smcs = IsSomeAnd (kernel_of machine.core) (λ kernel. ComeInTurn (insides kernel) smcs)
-
--- a processor of this number is there, and is inside, or outside
-abbrev pub StandsAs : Machine → ℕ → Bool → Type 0
-StandsAs machine cpu inside = IsSomeAnd (kernel_of machine.core)
-    (λ kernel. slice_get (insides kernel) cpu ≡ Some inside)
+CanAllCome machine smcs = IsSomeAnd (kernel_of machine.at_work.core) (λ kernel. ComeInTurn (insides kernel) smcs)

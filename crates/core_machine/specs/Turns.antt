@@ -1,13 +1,7 @@
 -- Who can come next: each processor comes in and goes out by turns.
-use Rattle.std.specs.Prelude.{◌≡◌, ◌≤◌, not, Bool, true, false, List, [], ◌∷◌, map, Some, slice_get, slice_set}
+use Rattle.std.specs.Prelude.{◌≡◌, ◌≤◌, Bool, true, false, List, [], ◌∷◌, Some, slice_get, slice_set}
 use Rattle.core_machine.specs.declared.smc.Smc.{Smc}
 use Rattle.core_machine.specs.declared.smc.Smc.TheVariants.{Comes, Leaves}
-use Rattle.kernel_model.specs.History.{is_outside}
-use Rattle.kernel_model.specs.Kernel.{Kernel}
-
--- which processors are inside, by their numbers
-abbrev pub insides : Kernel → List Bool
-insides kernel = map (λ processor. not (is_outside processor)) kernel.processors
 
 -- where these are inside, this can come: an entry of one that is there and outside, which is granted 1 to 1,000,000
 -- steps, or an exit of one that is inside

@@ -1,15 +1,14 @@
-ghost use Rattle.core_machine.specs.Whole.{IsWhole};
+ghost use Rattle.std.specs.Prelude.{◌≡◌, length};
+ghost use Rattle.kernel_state.specs.Meaning.{booted_of};
 
-use kernel_state::{Core, Work};
+use core_at_work::CoreAtWork;
 use ns_ram::Lane;
 
-/// A core, and for each of its processors the RAM that it sees and, while it is inside, its work.
+/// A core at work, and for each of its processors the RAM that it sees.
 #[derive(Drop)]
 pub struct Machine {
-    pub(crate) core: Core,
+    pub(crate) at_work: CoreAtWork,
     /// The RAM that each processor sees, by its number.
     pub(crate) lanes: Vec<Lane>,
-    /// The work of each processor that is inside, by its number.
-    pub(crate) works: Vec<Option<Work>>,
-    ghost whole: { ∥ IsWhole core lanes.items works.items ∥₁ },
+    ghost each_sees: { length lanes.items ≡ (booted_of at_work.core).cpus },
 }

@@ -1,14 +1,13 @@
 //! Whether a list can be served.
-ghost use Rattle.std.specs.Prelude.{◌≡◌, ◌↔◌, not, map, IfOk, IsTrue, Some, slice_get, slice_set};
+ghost use Rattle.std.specs.Prelude.{◌≡◌, ◌↔◌, not, IfOk, IsTrue, Some, slice_get, slice_set};
 ghost use Rattle.std.specs.Bool.{OnTrue};
-ghost use Rattle.std.specs.Option.{is_some};
 ghost use Rattle.core_machine.specs.Standing.{CanAllCome};
 ghost use Rattle.core_machine.specs.Turns.{ComeInTurn, MayCome, inside_after};
 
-use crate::calls::MOST_STEPS;
 use crate::machine::Machine;
 use crate::smc::Smc;
 use base::NoMemory;
+use core_at_work::MOST_STEPS;
 use std::alloc::Global;
 
 impl Machine {
@@ -16,19 +15,8 @@ impl Machine {
     pub fn can_serve(&self, alloc: Global, smcs: &[Smc]) -> Result<bool, NoMemory>
         ensures { IfOk result (λ can. IsTrue can ↔ CanAllCome self.now smcs.now) }
     {
-        let mut inside = self.insides(alloc)?;
+        let mut inside = self.at_work.insides(alloc)?;
         Ok(come_in_turn(inside.as_mut_slice(), smcs))
-    }
-
-    /// Which processors have work.
-    fn insides(&self, alloc: Global) -> Result<Vec<bool>, NoMemory>
-        ensures { IfOk result (λ inside. inside.items ≡ map is_some self.now.works.items) }
-    {
-        let mut inside = Vec::with_capacity(alloc, self.works.len())?;
-        for work in &self.works {
-            inside.push(work.is_some())?;
-        }
-        Ok(inside)
     }
 }
 

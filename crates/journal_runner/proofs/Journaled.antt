@@ -37,7 +37,7 @@ module _ (natives : List Native) (trace : Trace) (player : Player) (named : Stat
   sound_journal sound =
       subst (λ (boot : Boot). IsSoundJournal boot.cpus events) same_boot
       (subst (λ (on : Booted). IsSoundJournal on.cpus events) end.booted
-      (subst (IsSoundJournal _) (sym are) (sound.of_core player.machine.core)))
+      (subst (IsSoundJournal _) (sym are) (sound.of_core player.machine.at_work.core)))
 
   -- and is the trace's
   pub journal_is : (bytes : List ℕ) → bytes ≡ spelling header events → journal_for natives trace ≡ Some bytes

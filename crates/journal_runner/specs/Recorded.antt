@@ -22,7 +22,7 @@ pub record StandsAtEnd (natives : List Native) (trace : Trace) (player : Player)
   pub has_boot : trace.boot ≡ Some boot
   pub play : Play
   pub is_play : played natives boot trace ≡ Some play
-  pub booted : booted_of player.machine.core ≡ booted boot natives
+  pub booted : booted_of player.machine.at_work.core ≡ booted boot natives
   pub history : history_of player ≡ play.history
   pub stands_for : status ≡ status_of_play play.refused
 

@@ -9,7 +9,8 @@ use Rattle.std.specs.Prelude.{◌==◌}
 use Rattle.core_machine.specs.Laws.{MachinesStand, TurnsAreTaken}
 use Rattle.core_machine.specs.Moving.{EntersAt, LeavesAt}
 use Rattle.core_machine.specs.Standing.{CanCome, IsAt, play_of}
-use Rattle.core_machine.specs.Turns.{ComeInTurn, MayCome, insides}
+use Rattle.core_at_work.specs.Insides.{insides}
+use Rattle.core_machine.specs.Turns.{ComeInTurn, MayCome}
 use Rattle.core_machine.specs.declared.machine.Machine.{Machine}
 use Rattle.core_machine.specs.declared.smc.Smc.{Smc}
 use Rattle.core_machine.specs.declared.smc.Smc.TheVariants.{Comes, Leaves}
@@ -151,8 +152,8 @@ pub never-failed : (refused : EnterRefusal) → stop_of refused ≡ Failed → �
 never-failed (refusal.Full copied more) e = absurd cc
 never-failed refusal.Memory e = absurd cc
 
-kernel-there : (machine : Machine) (o : Option Kernel) → kernel_of machine.core ≡ o → IsSome o → (kernel : Kernel)
-    × (kernel_of machine.core ≡ Some kernel)
+kernel-there : (machine : Machine) (o : Option Kernel) → kernel_of machine.at_work.core ≡ o → IsSome o → (kernel : Kernel)
+    × (kernel_of machine.at_work.core ≡ Some kernel)
 kernel-there machine (Some kernel) is some = (kernel, is)
 kernel-there machine None is some = absurd cc
 
@@ -164,18 +165,18 @@ first-of machine smc None can = absurd can
 
 -- each machine stands somewhere
 pub stands-there : (machine : Machine) → MachinesStand
-    → (kernel : Kernel) × IsAt (booted_of machine.core) (play_of machine kernel) machine
+    → (kernel : Kernel) × IsAt (booted_of machine.at_work.core) (play_of machine kernel) machine
 stands-there machine stand =
-    let there = kernel-there machine (kernel_of machine.core) refl (stand.has_kernel machine) in
+    let there = kernel-there machine (kernel_of machine.at_work.core) refl (stand.has_kernel machine) in
     (there.0, stand.stands machine there.0 there.1)
 
 -- a processor that came in can go out, of a machine of the same boot
 pub goes-in : (old new : Machine) (visitor : Visitor) → MachinesStand → TurnsAreTaken → CanCome old (Comes visitor)
     → ((boot : Booted) (play : Play) → IsAt boot play old → EntersAt boot play visitor new (Ok tt))
-    → CanCome new (Leaves visitor.cpu) × (booted_of new.core ≡ booted_of old.core)
+    → CanCome new (Leaves visitor.cpu) × (booted_of new.at_work.core ≡ booted_of old.at_work.core)
 goes-in old new visitor stand turns can each =
-    let there = kernel-there old (kernel_of old.core) refl (stand.has_kernel old) in
-    let boot = booted_of old.core in
+    let there = kernel-there old (kernel_of old.at_work.core) refl (stand.has_kernel old) in
+    let boot = booted_of old.at_work.core in
     let play = play_of old there.0 in
     let some = some-and (λ (next : Play). IsAt boot next new) (enters boot play (state.visit_of (coming_of visitor)))
     (each boot play (stand.stands old there.0 there.1)) in
@@ -184,7 +185,7 @@ goes-in old new visitor stand turns can each =
     let after = turns.entry boot play some.0 (state.visit_of (coming_of visitor)) some.1 some.2.goes_on in
     let inside = ap (λ (l : List Bool). slice_get l visitor.cpu) after
     ∙ set_found (insides there.0) visitor.cpu true false outside.0 in (
-      first-of new (Leaves visitor.cpu) (kernel_of new.core)
+      first-of new (Leaves visitor.cpu) (kernel_of new.at_work.core)
           (stand.all_can boot some.0 new (Leaves visitor.cpu ∷ []) some.2 (inside, tt)),
       some.2.booted,
     )
@@ -221,7 +222,7 @@ went boot cpu play machine answered leaves_at =
 
 -- its last entry is the one before
 pub went-entry : (boot : Booted) (cpu : ℕ) (play : Play) (machine : Machine) (answered : Regs)
-    → Went boot cpu play machine answered → last_entry (events_of machine.core) cpu ≡ last_entry play.history cpu
+    → Went boot cpu play machine answered → last_entry (events_of machine.at_work.core) cpu ≡ last_entry play.history cpu
 went-entry boot cpu play machine answered w =
     let told : Regs = record { a = w.out.exited.regs } in
     let made = event_made boot (Exit cpu told) play w.out.gone w.out.came in
@@ -257,8 +258,8 @@ pub record HasTold (boot : Booted) (drivers : Drivers) (told : NotifyPlay) (cpu 
     (before after : NotifyPlayer) (old new : List ℕ) : Type 0 where
   pub caller : Regs
   pub asked : Duty
-  pub duty : duty_in asked ≡ duty_of (last_entry (events_of machine.core) cpu) (reg answered.a 0)
-  pub alike : IsToldAlike (last_entry (events_of machine.core) cpu).regs caller.a (duty_in asked)
+  pub duty : duty_in asked ≡ duty_of (last_entry (events_of machine.at_work.core) cpu) (reg answered.a 0)
+  pub alike : IsToldAlike (last_entry (events_of machine.at_work.core) cpu).regs caller.a (duty_in asked)
   pub regs : Regs
   pub told_so : regs.a ≡ told_regs before.desk caller.a answered.a (duty_in asked)
   pub result : Option ResultIn
@@ -278,7 +279,7 @@ module _ (boot : Booted) (drivers : Drivers) (told : NotifyPlay) (cpu : ℕ) (ma
   abbrev at_exit : play_duty.Duty
   at_exit = duty_at told cpu exited
 
-  same_entry : last_entry (events_of machine.core) cpu ≡ last_entry told.play.history cpu
+  same_entry : last_entry (events_of machine.at_work.core) cpu ≡ last_entry told.play.history cpu
   same_entry = went-entry boot cpu told.play machine answered w
 
   same_duty : duty_in t.asked ≡ at_exit

@@ -36,7 +36,7 @@ pub record IsPlayedTo (boot : Booted) (drivers : Drivers) (told : NotifyPlay) (p
 
 -- the machine has RAM for this processor
 abbrev pub HasLane : Machine → ℕ → Type 0
-HasLane machine cpu = cpu < (booted_of machine.core).cpus
+HasLane machine cpu = cpu < (booted_of machine.at_work.core).cpus
 
 -- this processor of it can come in, with such registers, each a number or one of those that it was last told
 pub record CanComeIn (machine : Machine) (cpu steps : ℕ) (regs : List Reg) : Type 0 where

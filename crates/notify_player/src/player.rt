@@ -82,7 +82,7 @@ impl NotifyPlayer {
 
     /// All entries and exits so far.
     fn history(&self) -> &[Event]
-        ensures { result.now ≡ events_of self.now.machine.core }
+        ensures { result.now ≡ events_of self.now.machine.at_work.core }
     {
         self.machine.core().journal().as_slice()
     }

@@ -21,7 +21,8 @@ use Rattle.core_machine.specs.Moving.{EntersAt, LeavesAt}
 use Rattle.trace_player.specs.Playing.{AreLast, ComesIn, Follows, GoesOut, IsPlayedTo, Prints}
 use Rattle.word_parts.specs.Stop.{stop_of}
 use Rattle.core_machine.specs.Standing.{CanCome, IsAt, play_of}
-use Rattle.core_machine.specs.Turns.{ComeInTurn, MayCome, insides}
+use Rattle.core_at_work.specs.Insides.{insides}
+use Rattle.core_machine.specs.Turns.{ComeInTurn, MayCome}
 use Rattle.kernel_entry.specs.Visiting.{coming_of}
 use Rattle.core_machine.specs.declared.machine.Machine.{Machine}
 use Rattle.trace_player.specs.declared.player.Player.{Player}
@@ -89,8 +90,8 @@ pub never-failed : (refused : EnterRefusal) → stop_of refused ≡ Failed → �
 never-failed (refusal.Full copied more) e = absurd cc
 never-failed refusal.Memory e = absurd cc
 
-kernel-there : (machine : Machine) (o : Option Kernel) → kernel_of machine.core ≡ o → IsSome o → (kernel : Kernel)
-    × (kernel_of machine.core ≡ Some kernel)
+kernel-there : (machine : Machine) (o : Option Kernel) → kernel_of machine.at_work.core ≡ o → IsSome o → (kernel : Kernel)
+    × (kernel_of machine.at_work.core ≡ Some kernel)
 kernel-there machine (Some kernel) is some = (kernel, is)
 kernel-there machine None is some = absurd cc
 
@@ -105,8 +106,8 @@ pub goes-in : (old new : Machine) (visitor : Visitor) → MachinesStand → Turn
     → ((boot : Booted) (play : Play) → IsAt boot play old → EntersAt boot play visitor new (Ok tt))
     → CanCome new (Leaves visitor.cpu)
 goes-in old new visitor stand turns can each =
-    let there = kernel-there old (kernel_of old.core) refl (stand.has_kernel old) in
-    let boot = booted_of old.core in
+    let there = kernel-there old (kernel_of old.at_work.core) refl (stand.has_kernel old) in
+    let boot = booted_of old.at_work.core in
     let play = play_of old there.0 in
     let some = some-and (λ (next : Play). IsAt boot next new) (enters boot play (state.visit_of (coming_of visitor)))
     (each boot play (stand.stands old there.0 there.1)) in
@@ -115,7 +116,7 @@ goes-in old new visitor stand turns can each =
     let after = turns.entry boot play some.0 (state.visit_of (coming_of visitor)) some.1 some.2.goes_on in
     let inside = ap (λ (l : List Bool). slice_get l visitor.cpu) after
     ∙ set_found (insides there.0) visitor.cpu true false outside.0 in
-    first-of new (Leaves visitor.cpu) (kernel_of new.core)
+    first-of new (Leaves visitor.cpu) (kernel_of new.at_work.core)
     (stand.all_can boot some.0 new (Leaves visitor.cpu ∷ []) some.2 (inside, tt))
 
 -- ---- nothing printed

@@ -25,7 +25,7 @@ AreLast history answers = (cpu : ℕ) → cpu < 8 → slice_get answers cpu ≡ 
 
 -- the machine has RAM for this processor
 abbrev pub HasLane : Machine → ℕ → Type 0
-HasLane machine cpu = cpu < (booted_of machine.core).cpus
+HasLane machine cpu = cpu < (booted_of machine.at_work.core).cpus
 
 -- this processor of it can come in, with such registers, each a number or one of its last answer
 pub record CanComeIn (machine : Machine) (cpu steps : ℕ) (regs : List Reg) : Type 0 where
@@ -35,7 +35,7 @@ pub record CanComeIn (machine : Machine) (cpu steps : ℕ) (regs : List Reg) : T
 
 -- all entries and exits of the player's core
 abbrev pub history_of : Player → List Event
-history_of player = events_of player.machine.core
+history_of player = events_of player.machine.at_work.core
 
 -- the player has come to this play, but for what was printed
 pub record IsPlayedTo (boot : Booted) (play : Play) (player : Player) : Type 0 where

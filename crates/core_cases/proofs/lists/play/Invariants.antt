@@ -4,4 +4,4 @@ use Rattle.kernel_state.specs.Meaning.{booted_of}
 
 -- the machine was booted with the same
 abbrev pub invariant-loop-item : goal.invariant-loop-item
-invariant-loop-item l = booted_of l.machine.core ≡ booted_of l.fn.machine.core
+invariant-loop-item l = booted_of l.machine.at_work.core ≡ booted_of l.fn.machine.at_work.core

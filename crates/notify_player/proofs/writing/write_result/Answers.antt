@@ -19,7 +19,7 @@ write-requires-clause-ram c =
 pub write-requires-2-clause-cpu : goal.write-requires-2-clause-cpu
 write-requires-2-clause-cpu c =
     let somewhere = stands-there c.args.machine.now c.machines_stand.ensures in
-    let later = c.write.ensures (booted_of c.args.machine.now.core) _ somewhere.1 in
+    let later = c.write.ensures (booted_of c.args.machine.now.at_work.core) _ somewhere.1 in
     subst (λ on. c.args.cpu < on.cpus) (sym later.booted) c.requires.lane
 
 pub write-requires-2-clause-ram : goal.write-requires-2-clause-ram

@@ -1,12 +1,19 @@
 -- The items, the lanes and the core are those of the trace, and what the threads have played of it is true to the kernel.
 use Rattle.std.proofs.Common.{refl}
 use Rattle.base.specs.Zeros.{zeros}
+use Rattle.core_at_work.proofs.Apart.{none_repeated, within_limits}
 use Rattle.kernel_state.specs.Meaning.{booted_of, events_of}
 use Rattle.native_tas.specs.Table.{entries}
 use Rattle.play_model.specs.Play.{filled}
 use Rattle.trace_player.specs.Starting.{trace_of, uuids_of}
 use Rattle.trace_runner.proofs.OnThreads.{lanes-there, of-trace, played-in-order}
 use Rattle.trace_runner.proofs.threads.blocks_of.Goals as goal
+
+pub core_of-requires-clause-limits : goal.core_of-requires-clause-limits
+core_of-requires-clause-limits g c = within_limits (uuids_of (entries c.args.natives.now)) c.args.boot c.requires.boot
+
+pub core_of-requires-clause-apart : goal.core_of-requires-clause-apart
+core_of-requires-clause-apart g c = none_repeated (uuids_of (entries c.args.natives.now)) c.args.boot c.requires.boot
 
 pub play_on_threads-requires-clause-lanes : goal.play_on_threads-requires-clause-lanes
 play_on_threads-requires-clause-lanes g c = λ κs live.

@@ -1,12 +1,20 @@
--- Nobody is inside, and nobody has work.
-use Rattle.std.proofs.Common.{◌≡◌, ℕ, None, replicate, ap, ◌∙◌, length}
-use Rattle.core_machine.proofs.Wholes.{whole_first}
+-- Nothing has happened to its core.
+use Rattle.std.proofs.Common.{refl, ap, sym, ◌∙◌}
+use Rattle.kernel_model.specs.History.{kernel_after}
+use Rattle.kernel_state.specs.Meaning.{booted_of, events_of, kernel_of}
+use Rattle.kernel_state.specs.declared.kernel_core.Core.{Core as AnyCore}
 use Rattle.core_machine.proofs.machine.Machine.new.Goals as goal
 
 pub invariant_of-result : goal.invariant_of-result
-invariant_of-result c =
-    let many : c.len.result ≡ length c.args.lanes.items = search in
-    record {
-      whole = ∣ whole_first c.args.core c.args.lanes.items c.in_ok-works.works.items c.requires.fresh c.requires.lanes
-          (c.in_ok-works.ensures ∙ ap (λ (n : ℕ). replicate n None) many) ∣₁;
-    }
+invariant_of-result c = record {
+  each_sees = c.requires.lanes ∙ sym (ap (λ (core : AnyCore). (booted_of core).cpus) c.in_ok-at_work.ensures);
+}
+
+pub returns : goal.returns
+returns c = record {
+  booted = ap booted_of c.in_ok-at_work.ensures;
+  history = ap events_of c.in_ok-at_work.ensures ∙ c.requires.fresh;
+  kernel = ap kernel_of c.in_ok-at_work.ensures ∙ ap (kernel_after (booted_of c.args.core)) c.requires.fresh;
+  lanes = refl;
+  goes_on = refl;
+}

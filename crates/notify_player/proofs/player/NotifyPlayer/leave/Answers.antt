@@ -16,7 +16,7 @@ use Rattle.notify_player.proofs.player.NotifyPlayer.leave.Goals as goal
 -- the journal of each core is legal
 pub asked_at-asked-requires : goal.asked_at-asked-requires
 asked_at-asked-requires g c =
-    let core = c.leave-answered.new.self.core in
+    let core = c.leave-answered.new.self.at_work.core in
     (booted_of core, subst (IsLegal (booted_of core)) (sym c.history.ensures) (c.journals_stay_legal.ensures.legal core))
 
 pub write_result-requires-clause-lane : goal.write_result-requires-clause-lane

@@ -1,0 +1,14 @@
+-- A sound boot is one of which a core can be made.
+use Rattle.std.specs.Prelude.{map}
+use Rattle.core_at_work.proofs.Apart.{none_repeated, within_limits}
+use Rattle.kernel_model.specs.Application.{Native}
+use Rattle.native_tas.specs.Table.{entries}
+use Rattle.core_machine.proofs.machine.Machine.booted.Goals as goal
+
+pub core_of-requires-clause-limits : goal.core_of-requires-clause-limits
+core_of-requires-clause-limits g c =
+    within_limits (map (λ (native : Native). native.0) (entries c.args.natives.now)) c.args.boot c.requires.boot
+
+pub core_of-requires-clause-apart : goal.core_of-requires-clause-apart
+core_of-requires-clause-apart g c =
+    none_repeated (map (λ (native : Native). native.0) (entries c.args.natives.now)) c.args.boot c.requires.boot
