@@ -1,3 +1,4 @@
+ghost use Rattle.live_text.specs.AskingExamples.{AskingExamples};
 ghost use Rattle.live_text.specs.Examples.{Examples};
 ghost use Rattle.live_text.specs.Sound.{LinesStaySound};
 
@@ -9,4 +10,9 @@ pub fn lines_stay_sound()
 /// Examples of the definitions.
 pub fn worked_examples()
     ensures { Examples }
+{}
+
+/// Examples of lines that ask.
+pub fn questions_asked()
+    ensures { AskingExamples }
 {}

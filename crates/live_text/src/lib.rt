@@ -6,14 +6,18 @@
 //! scene stands for which lines, `Statement`, what a line says and how it is judged, and `Sound`, the limits that lines keep.
 #![tactic(auto)]
 
+mod asking;
 mod builder;
 mod last;
 mod laws;
+mod question;
 mod reading;
 mod scene;
 mod statement;
 
-pub use laws::{lines_stay_sound, worked_examples};
+pub use asking::{MOST_EVENTS, read_question};
+pub use laws::{lines_stay_sound, questions_asked, worked_examples};
+pub use question::{Question, QuestionKind};
 pub use reading::read_line;
 pub use scene::Scene;
 pub use statement::Statement;

@@ -28,7 +28,7 @@ const SIGNAL: &[u8] = b"signal";
 const MAX_VALUE: u32 = 63;
 
 /// The first word of a line.
-fn first_word(line: &[u8]) -> &[u8]
+pub(crate) fn first_word(line: &[u8]) -> &[u8]
     ensures { result.now ≡ word (words_of line.now) 0 }
 {
     let mut words = Words::of(line);

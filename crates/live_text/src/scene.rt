@@ -1,4 +1,4 @@
-ghost use Rattle.std.specs.Prelude.{◌≡◌, OnErr, OnOk, slice_set};
+ghost use Rattle.std.specs.Prelude.{◌≡◌, OnErr, OnOk, is_some, slice_set};
 ghost use Rattle.live_text.specs.Scene.{IsSceneOf};
 ghost use Rattle.live_text.specs.Statement.{HasFewCpus, with_statement};
 ghost use Rattle.notify_text.specs.Rules.{NotifyFront, no_lines};
@@ -76,6 +76,14 @@ impl Scene {
             is_open: true,
             inside: [false; MAX_CPUS],
         }
+    }
+
+    /// Whether a boot is among the lines.
+    pub fn is_booted(&self) -> bool
+        ensures scene { result ≡ is_some self.now.size }
+        ensures lines { (front : NotifyFront) → IsSceneOf self.now front → result ≡ is_some front.trace.boot }
+    {
+        self.size.is_some()
     }
 
     /// The scene behind a line that says this. Want of memory leaves it as it was.
