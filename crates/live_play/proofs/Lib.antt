@@ -1,3 +1,5 @@
+pub mod Asked
+pub mod Changing
 pub mod Effects
 pub mod Grown
 pub mod Returned
@@ -5,3 +7,4 @@ pub mod Steps
 pub mod Talking
 pub mod Traces
 pub mod Unasked
+pub mod Watched

@@ -3,3 +3,8 @@ pub mod Conversation
 pub mod Returns
 pub mod Laws
 pub mod Examples
+pub mod Changes
+pub mod State
+pub mod Showing
+pub mod ShowingLaws
+pub mod ShowingExamples

@@ -1,6 +1,9 @@
 //! What holds of the definitions themselves.
 ghost use Rattle.live_play.specs.Examples.{Examples};
+ghost use Rattle.live_play.specs.Changes.{ChangesTellAll};
 ghost use Rattle.live_play.specs.Laws.{GoodConversationsAreTraces, RefusalsChangeNothing, TurnsAreTold, UnaskedConversationsAreRuns};
+ghost use Rattle.live_play.specs.ShowingExamples.{ShowingExamples};
+ghost use Rattle.live_play.specs.ShowingLaws.{ExitsAreWatched, PlainConversationsAreAsBefore, QuestionsChangeNothing};
 
 /// A line that breaks a rule, and one whose entry would have all entries read too much, are answered so, and change nothing.
 pub fn refusals_change_nothing()
@@ -28,4 +31,29 @@ pub fn unasked_conversations_are_runs()
 /// Examples of the definitions: conversations of a few lines.
 pub fn worked_examples()
     ensures { Examples }
+{}
+
+/// What is said of an exit that is watched tells all that it changes: laid over what RAM was it gives what RAM is.
+pub fn changes_tell_all()
+    ensures { ChangesTellAll }
+{}
+
+/// A line that asks changes nothing that counts, and could as well have been left out.
+pub fn questions_change_nothing()
+    ensures { QuestionsChangeNothing }
+{}
+
+/// A conversation in which no line asks, and no exit is watched, is what it is without such lines.
+pub fn plain_conversations_are_as_before()
+    ensures { PlainConversationsAreAsBefore }
+{}
+
+/// What stands behind the line of an exit that is watched.
+pub fn exits_are_watched()
+    ensures { ExitsAreWatched }
+{}
+
+/// Examples of conversations in which lines ask.
+pub fn questions_shown()
+    ensures { ShowingExamples }
 {}

@@ -1,0 +1,31 @@
+use Rattle.std.proofs.Common.{refl}
+use Rattle.base.specs.Zeros.{zeros}
+use Rattle.hex.proofs.OnLiterals.{hex_on_literals}
+use Rattle.hex.specs.Hex.{decode_pairs}
+use Rattle.notif.specs.Desk.{driver_values, signal_values}
+use Rattle.notify_text.specs.Rules.{after_line, line_rules}
+use Rattle.std.specs.Fmt.{digits}
+use Rattle.ta_isa.specs.Reading.{front_instruction, word_at}
+use Rattle.text_lines.specs.Lines.{is_skipped}
+use Rattle.trace_text.specs.Forms.{bytes, decimal, hexadecimal, is_decimal, is_hex, is_hexadecimal, is_last, is_register, is_uuid, register, uuid}
+use Rattle.trace_text.specs.Limits.{inside_after, lies_in_ram}
+use Rattle.trace_text.specs.Rules.{added, counts, kind_named, rules_behind}
+use Rattle.trace_text.specs.Rules.{after_line as after_trace_line}
+use Rattle.uuid.specs.Text.{by_index}
+use Rattle.live_text.specs.Asking.{kind_asked}
+use Rattle.live_play.specs.Changes.{changes_below}
+use Rattle.live_play.specs.State.{piece_lines, sessions_below, texts_below}
+use Rattle.live_play.proofs.laws.questions_shown.Goals as goal
+
+pub returns : goal.returns
+unfolding zeros digits driver_values signal_values hex_on_literals decode_pairs after_line line_rules is_skipped bytes decimal hexadecimal is_decimal is_hex is_hexadecimal is_last is_register register is_uuid uuid inside_after lies_in_ram added counts rules_behind after_trace_line kind_named by_index front_instruction word_at kind_asked changes_below piece_lines sessions_below texts_below
+returns c = record {
+  of_a_state = refl;
+  of_events = refl;
+  free = refl;
+  active = refl;
+  suspended = refl;
+  cancelled = refl;
+  unchanged = refl;
+  changed = refl;
+}

@@ -1,0 +1,160 @@
+-- A conversation with lines that ask, and with exits that are watched. What asks changes nothing that counts, and what is said
+-- more stands beside the answers of a conversation without it. This project's own.
+use Rattle.std.specs.Prelude.{◌≡◌, ◌⊎◌, ℕ, List, [], ◌∷◌, ◌++◌, Bool, false, if◌then◌else◌, is_some, Option, None, slice_index_or, take}
+use Rattle.std.specs.List.{flat_map}
+use Rattle.std.specs.Option.{option_map_or}
+use Rattle.base.specs.NumberMap.{get}
+use Rattle.event_journal.specs.declared.event.Event.{Event as Happens}
+use Rattle.kernel_model.specs.Application.{Booted, booted}
+use Rattle.kernel_model.specs.Kernel.{Kernel}
+use Rattle.line_port.specs.History.{Adds, Event, Hears, Input, Says}
+use Rattle.line_port.specs.History as heard
+use Rattle.line_port.specs.declared.finish.Finish.{Finish}
+use Rattle.line_port.specs.declared.finish.Finish.TheVariants.{Memory, Over, ReadFault, WriteFault}
+use Rattle.live_text.specs.Asking.{kind_of_line, question_of, question_rules}
+use Rattle.live_text.specs.declared.question.Question.{Question}
+use Rattle.live_text.specs.declared.question.Question.TheVariants as asks
+use Rattle.live_text.specs.declared.question.QuestionKind.{QuestionKind}
+use Rattle.notify_play.specs.NotifyPlay.{NotifyPlay}
+use Rattle.notify_text.specs.Rules.{NotifyFront, no_lines}
+use Rattle.play_model.specs.Line.{Line, Mem, Ret, text_of_line}
+use Rattle.ta_isa.specs.declared.boot.Boot.{Boot}
+use Rattle.text_lines.specs.Words.{words_of}
+use Rattle.trace_text.specs.Limits.{first_broken}
+use Rattle.live_play.specs.Answer.{Answer, Bad, Done, IsPlayed, Setting, after_heard, answer, play_at, text_of_ending}
+use Rattle.live_play.specs.Changes.{changes, text_of_changes}
+use Rattle.live_play.specs.Conversation.{said_to}
+use Rattle.live_play.specs.State.{buffer_lines, event_lines, session_line, state_text, text_if}
+
+-- ---- what a conversation has come to
+
+pub record Position : Type 0 where
+  -- the lines that count
+  pub lines : NotifyFront
+  -- exits are followed by what they change in RAM
+  pub is_watching : Bool
+
+abbrev pub first_position : Position
+first_position = record { lines = no_lines; is_watching = false }
+
+-- ---- what is answered to a question
+
+-- by a core of this boot with this kernel and this history
+abbrev pub told_by : Booted → Kernel → List Happens → Question → List ℕ
+told_by boot kernel history (asks.Watch on) = []
+told_by boot kernel history asks.State = state_text boot kernel history
+told_by boot kernel history (asks.Session number) = text_if (session_line number) (get kernel.tables.sessions number)
+told_by boot kernel history (asks.Buffer cookie) =
+    text_if (λ buffer. buffer_lines kernel.tables.registered cookie) (get kernel.tables.registered.buffers cookie)
+told_by boot kernel history (asks.Events from count) = event_lines history from count
+
+-- behind these lines, which have a play where a boot is among them
+abbrev pub told_at : Setting → NotifyFront → Question → List ℕ
+told_at on lines question =
+    text_if (λ (boot : Boot). text_if (λ (told : NotifyPlay). told_by (booted boot on.natives) told.play.kernel told.play.history question) (play_at on lines))
+    lines.trace.boot
+
+-- a line of a question of this kind breaks this rule; or it is answered
+abbrev pub shown_to_question : Setting → NotifyFront → QuestionKind → List ℕ → List ℕ
+shown_to_question on lines kind line = option_map_or
+    (λ fault. text_of_ending (Bad fault))
+    (first_broken (question_rules kind (is_some lines.trace.boot) line))
+    (told_at on lines (question_of kind (words_of line)) ++ text_of_ending Done)
+
+-- ---- what is said of exits that are watched
+
+-- the RAM of each processor behind these lines; none where there is no boot
+abbrev pub lanes_at : Setting → NotifyFront → List (List ℕ)
+lanes_at on lines = option_map_or (λ (told : NotifyPlay). told.play.lanes) (play_at on lines) []
+
+abbrev pub lane_at : Setting → NotifyFront → ℕ → List ℕ
+lane_at on lines cpu = slice_index_or (lanes_at on lines) cpu []
+
+-- a line, and behind `ret` what the processor's RAM has then and had not before
+abbrev pub watched_line : List (List ℕ) → List (List ℕ) → Line → List ℕ
+watched_line before after (Ret cpu regs) =
+    text_of_line (Ret cpu regs)
+    ++ text_of_changes cpu (changes (slice_index_or before cpu []) (slice_index_or after cpu []))
+watched_line before after (Mem cpu addr bytes) = text_of_line (Mem cpu addr bytes)
+
+-- an answer, with these lines counting before it and those behind it
+abbrev pub watched_answer : Setting → NotifyFront → NotifyFront → Answer → List ℕ
+watched_answer on before after given =
+    flat_map (watched_line (lanes_at on before) (lanes_at on after)) given.lines ++ text_of_ending given.ending
+
+-- ---- what is shown to what was heard
+
+abbrev pub shown_to_other : Setting → Position → Input → List ℕ
+shown_to_other on here input =
+    if here.is_watching
+    then watched_answer on here.lines (after_heard on here.lines input) (answer on here.lines input)
+    else said_to on here.lines input
+
+abbrev pub kind_asked_by : Input → Option QuestionKind
+kind_asked_by (heard.Line line) = kind_of_line line
+kind_asked_by heard.Long = None
+kind_asked_by heard.Cut = None
+
+abbrev pub line_of : Input → List ℕ
+line_of (heard.Line line) = line
+line_of heard.Long = []
+line_of heard.Cut = []
+
+abbrev pub shown_to : Setting → Position → Input → List ℕ
+shown_to on here input = option_map_or
+    (λ kind. shown_to_question on here.lines kind (line_of input))
+    (kind_asked_by input)
+    (shown_to_other on here input)
+
+-- ---- what it has come to then
+
+-- a question changes at most whether exits are watched
+abbrev pub watching_after : Question → Bool → Bool
+watching_after (asks.Watch on) watching = on
+watching_after asks.State watching = watching
+watching_after (asks.Session number) watching = watching
+watching_after (asks.Buffer cookie) watching = watching
+watching_after (asks.Events from count) watching = watching
+
+abbrev pub position_asked : Position → QuestionKind → List ℕ → Position
+position_asked here kind line = option_map_or
+    (λ fault. here)
+    (first_broken (question_rules kind (is_some here.lines.trace.boot) line))
+    (record here { is_watching = watching_after (question_of kind (words_of line)) here.is_watching })
+
+abbrev pub position_after : Setting → Position → Input → Position
+position_after on here input = option_map_or
+    (λ kind. position_asked here kind (line_of input))
+    (kind_asked_by input)
+    (record here { lines = after_heard on here.lines input })
+
+-- ---- all of it
+
+-- from this position on: each is heard, and what is shown to it is said before the next one is heard
+abbrev pub showing : Setting → Position → List Input → List Event
+showing on here [] = []
+showing on here (input ∷ inputs) =
+    Hears input ∷ Says (shown_to on here input) ∷ showing on (position_after on here input) inputs
+
+abbrev pub position_behind : Setting → Position → List Input → Position
+position_behind on here [] = here
+position_behind on here (input ∷ inputs) = position_behind on (position_after on here input) inputs
+
+-- ---- how it ends
+
+-- what one that ends so leaves behind its last whole turn, from this position
+abbrev pub IsShownRest : Setting → Position → Finish → List Event → Type 0
+IsShownRest on here Over rest = rest ≡ []
+IsShownRest on here ReadFault rest = rest ≡ []
+IsShownRest on here WriteFault rest =
+    (input : Input) × (n : ℕ) × (rest ≡ Hears input ∷ Says (take n (shown_to on here input)) ∷ [])
+    × IsPlayed on (position_after on here input).lines
+IsShownRest on here Memory rest = (rest ≡ []) ⊎ ((input : Input) × (rest ≡ Hears input ∷ []))
+
+-- whatever was heard, the history grew by a conversation, in which lines may ask
+pub record IsShowing (on : Setting) (old new : Option (List Event)) (finish : Finish) : Type 0 where
+  pub inputs : List Input
+  pub rest : List Event
+  pub history : Adds old new (showing on first_position inputs ++ rest)
+  pub ended : IsShownRest on (position_behind on first_position inputs) finish rest
+  pub played : IsPlayed on (position_behind on first_position inputs).lines

@@ -1,0 +1,61 @@
+-- What holds of each conversation in which lines may ask.
+use Rattle.std.specs.Prelude.{◌≡◌, ℕ, ◌*◌, List, [], ◌∷◌, ◌++◌, Bool, true, false, filter, is_none, length, None, Some}
+use Rattle.std.specs.List.{list_all}
+use Rattle.line_port.specs.History.{Event, Hears, Input, Says}
+use Rattle.live_text.specs.declared.question.QuestionKind.{QuestionKind}
+use Rattle.live_text.specs.declared.question.QuestionKind.TheVariants.{Watch}
+use Rattle.notify_text.specs.Rules.{NotifyFront}
+use Rattle.ns_ram.specs.Writes.{Write, lane_after}
+use Rattle.play_model.specs.Line.{Ret, text_of_line}
+use Rattle.live_play.specs.Answer.{Done, Setting, after_heard, answer, text_of_ending}
+use Rattle.live_play.specs.Changes.{text_of_changes}
+use Rattle.live_play.specs.Conversation.{after_all, conversation}
+use Rattle.live_play.specs.Showing.{Position, kind_asked_by, lane_at, position_after, position_behind, showing, shown_to, shown_to_other}
+
+-- it asks nothing
+abbrev pub is_plain : Input → Bool
+is_plain input = is_none (kind_asked_by input)
+
+-- nothing that asks was heard
+abbrev pub hears_plain : Event → Bool
+hears_plain (Hears input) = is_plain input
+hears_plain (Says bytes) = true
+
+-- ---- what asks changes nothing
+
+pub record QuestionsChangeNothing : Type 0 where
+  -- the lines that count are as before; and where it isn't a line `watch`, so is whether exits are watched
+  pub lines : (on : Setting) (here : Position) (input : Input) (kind : QuestionKind) → kind_asked_by input ≡ Some kind →
+      (position_after on here input).lines ≡ here.lines
+  pub watching : (on : Setting) (here : Position) (input : Input) (kind : QuestionKind) → kind_asked_by input ≡ Some kind →
+      (kind ≡ Watch → ⊥) → position_after on here input ≡ here
+  -- so it could as well have been left out
+  pub left_out : (on : Setting) (here : Position) (inputs : List Input) →
+      (position_behind on here inputs).lines ≡ after_all on here.lines (filter is_plain inputs)
+
+-- ---- a conversation in which nothing asks
+
+-- it is what it was before lines could ask
+pub record PlainConversationsAreAsBefore : Type 0 where
+  pub said : (on : Setting) (lines : NotifyFront) (inputs : List Input) → list_all is_plain inputs ≡ true →
+      showing on (record { lines = lines; is_watching = false }) inputs ≡ conversation on lines inputs
+  -- a line that asks nothing counts, and is answered, as it is there, but for what is said of exits that are watched
+  pub counted : (on : Setting) (here : Position) (input : Input) → kind_asked_by input ≡ None →
+      (position_after on here input ≡ record here { lines = after_heard on here.lines input })
+      × (shown_to on here input ≡ shown_to_other on here input)
+
+-- ---- exits that are watched
+
+-- behind the line of an exit stand writes, which laid over what the processor's RAM was give what it is, where it has whole blocks
+-- alone
+pub record IsWatched (on : Setting) (before : NotifyFront) (input : Input) (cpu : ℕ) (regs : List ℕ) : Type 0 where
+  pub writes : List Write
+  pub said : shown_to_other on (record { lines = before; is_watching = true }) input
+      ≡ text_of_line (Ret cpu regs) ++ text_of_changes cpu writes ++ text_of_ending Done
+  pub laid_over : (count : ℕ) → length (lane_at on before cpu) ≡ 64 * count →
+      length (lane_at on (after_heard on before input) cpu) ≡ 64 * count →
+      lane_after (lane_at on before cpu) writes ≡ lane_at on (after_heard on before input) cpu
+
+abbrev pub ExitsAreWatched : Type 0
+ExitsAreWatched = (on : Setting) (before : NotifyFront) (input : Input) (cpu : ℕ) (regs : List ℕ) →
+    answer on before input ≡ record { lines = Ret cpu regs ∷ []; ending = Done } → IsWatched on before input cpu regs
