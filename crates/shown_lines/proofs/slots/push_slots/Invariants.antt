@@ -1,0 +1,11 @@
+use Rattle.std.proofs.Common.{◌≡◌, List, ◌++◌}
+use Rattle.std.specs.Prelude.{slice_get}
+use Rattle.kernel_model.specs.Kernel.{ThreadSlot}
+use Rattle.kernel_state.specs.StandsFor.{AreSlots}
+use Rattle.live_play.specs.State.{slot_line, text_if, texts_below}
+use Rattle.shown_lines.proofs.slots.push_slots.Given as goal
+
+abbrev pub invariant-loop-number : goal.invariant-loop-number
+invariant-loop-number l =
+    (held : List ThreadSlot) → AreSlots l.slots l.besides held
+    → l.text.items ≡ l.initial.text.items ++ texts_below l.number (λ number. text_if (slot_line number) (slice_get held number))

@@ -1,0 +1,115 @@
+//! The instances of applications, and counts.
+
+ghost use Rattle.std.specs.Prelude.{◌≡◌, ◌∷◌, ◌++◌, OnOk};
+ghost use Rattle.base.specs.NumberMap.{get};
+ghost use Rattle.kernel_state.specs.Tables.{instance_of, tables_of};
+ghost use Rattle.uuid.specs.Text.{hyphenated_text};
+ghost use Rattle.live_play.specs.State.{count_line, holder_text, instance_line, instance_lines, life_text, sessions_at, sessions_below, text_if};
+
+use answer_lines::push_numbered;
+use kernel_state::Tables;
+use std::alloc::AllocError;
+use ta_instances::Instance;
+use uuid::Uuid;
+
+/// Appends who holds an instance.
+fn push_holder(text: &mut Vec<u8>, holder: Option<u8>) -> Result<(), AllocError>
+    ensures { OnOk result (text.new.items ≡ text.old.items ++ holder_text holder) }
+{
+    match holder {
+        Some(slot) => push_numbered(text, b" held ", u64::from(slot)),
+        None => text.extend_from_slice(b" idle"),
+    }
+}
+
+/// Appends a UUID.
+fn push_uuid(text: &mut Vec<u8>, uuid: Uuid) -> Result<(), AllocError>
+    ensures { OnOk result (text.new.items ≡ text.old.items ++ 32 ∷ hyphenated_text 97 uuid) }
+{
+    let mut buffer = Uuid::encode_buffer();
+    text.push(b' ')?;
+    text.extend_from_slice(uuid.hyphenated().encode_lower(&mut buffer).as_bytes())
+}
+
+/// Appends whether an instance is dead.
+fn push_life(text: &mut Vec<u8>, dead: bool) -> Result<(), AllocError>
+    ensures { OnOk result (text.new.items ≡ text.old.items ++ life_text dead) }
+{
+    if dead {
+        return text.extend_from_slice(b" dead");
+    }
+    text.extend_from_slice(b" alive")
+}
+
+/// Appends the line of an instance.
+fn push_instance(
+    text: &mut Vec<u8>,
+    tables: &Tables,
+    number: u32,
+    instance: &Instance,
+) -> Result<(), AllocError>
+    ensures { OnOk result (
+        text.new.items ≡ text.old.items ++ instance_line (tables_of tables.now) number (instance_of instance.now)) }
+{
+    let users = tables.sessions.users(number).all;
+    push_numbered(text, b"instance ", u64::from(number))?;
+    push_uuid(text, instance.uuid)?;
+    push_numbered(text, b" users ", u64::from(users))?;
+    push_holder(text, instance.holder)?;
+    push_life(text, instance.dead)?;
+    text.push(b'\n')?;
+    Ok(())
+}
+
+/// Appends the line of the instance of this number, where it is kept.
+fn push_instance_at(text: &mut Vec<u8>, tables: &Tables, number: u32) -> Result<(), AllocError>
+    ensures { OnOk result (text.new.items ≡ text.old.items
+        ++ text_if (instance_line (tables_of tables.now) number) (get (tables_of tables.now).instances number)) }
+{
+    match tables.instances.get(number) {
+        Some(instance) => push_instance(text, tables, number, instance),
+        None => Ok(()),
+    }
+}
+
+/// Appends the lines of all instances. The work grows with the number of instances that were ever made.
+pub(crate) fn push_instances(text: &mut Vec<u8>, tables: &Tables) -> Result<(), AllocError>
+    ensures { OnOk result (text.new.items ≡ text.old.items ++ instance_lines (tables_of tables.now)) }
+{
+    for number in 0..u64::from(tables.instances_made) + 1 {
+        push_instance_at(text, tables, number as u32)?;
+    }
+    Ok(())
+}
+
+/// How many sessions the instance of this number has, where it is kept.
+fn session_count_at(tables: &Tables, number: u32) -> u32
+    ensures { result ≡ sessions_at (tables_of tables.now) number }
+{
+    if tables.is_kept(number) {
+        tables.sessions.users(number).all
+    } else {
+        0
+    }
+}
+
+/// How many sessions there are: those of all instances.
+pub(crate) fn session_count(tables: &Tables) -> u64
+    ensures { result ≡ sessions_below (tables_of tables.now).next_instance (tables_of tables.now) }
+{
+    let mut count = 0u64;
+    for number in 0..u64::from(tables.instances_made) + 1 {
+        count += u64::from(session_count_at(tables, number as u32));
+    }
+    count
+}
+
+/// Appends a line of a word and a number.
+pub(crate) fn push_count(text: &mut Vec<u8>, word: &[u8], number: u64) -> Result<(), AllocError>
+    ensures { OnOk result (text.new.items ≡ text.old.items ++ count_line word.now number) }
+{
+    text.extend_from_slice(word)?;
+    push_numbered(text, b" ", number)?;
+    text.push(b'\n')?;
+    Ok(())
+}
