@@ -4,3 +4,4 @@ pub mod Answering
 pub mod Playing
 pub mod Staging
 pub mod Taking
+pub mod Told

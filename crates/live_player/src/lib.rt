@@ -2,14 +2,15 @@
 //!
 //! A [`LivePlayer`] judges each line behind those that count so far, gathers what the lines of the header say, boots its core at
 //! the first line behind them, and then plays each item and each signal as it comes. What a line prints is appended to the
-//! text of its answer. `specs/` has `Header`, `Standing`, where a player stands behind which lines, and `Taking`, how a line
-//! is taken; the definitions of an answer are those of `live_play`.
+//! text of its answer. It also tells what its core keeps. `specs/` has `Header`, `Standing`, where a player stands behind which
+//! lines, and `Taking`, how a line is taken; the definitions of an answer are those of `live_play`.
 #![tactic(auto)]
 
 mod header;
 mod player;
 mod stage;
 mod taken;
+mod telling;
 
 pub use player::LivePlayer;
 pub use taken::Taken;

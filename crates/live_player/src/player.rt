@@ -1,6 +1,7 @@
-ghost use Rattle.std.specs.Prelude.{List, IfOk};
+ghost use Rattle.std.specs.Prelude.{◌≡◌, ◌++◌, List, IfOk, OnOk, is_some, true};
 ghost use Rattle.kernel_model.specs.Application.{Native};
-ghost use Rattle.live_play.specs.Answer.{setting};
+ghost use Rattle.live_play.specs.Answer.{Setting, setting};
+ghost use Rattle.live_play.specs.Showing.{told_at};
 ghost use Rattle.live_player.specs.Standing.{HasCome, StandsAt};
 ghost use Rattle.live_player.specs.Taking.{IsNext, Judges, TakesOn};
 ghost use Rattle.live_text.specs.Statement.{HasFewCpus};
@@ -12,7 +13,7 @@ use crate::header::Header;
 use crate::stage::Stage;
 use crate::taken::Taken;
 use base::NoMemory;
-use live_text::{Scene, Statement, lines_stay_sound, read_line};
+use live_text::{Question, Scene, Statement, lines_stay_sound, read_line};
 use native_tas::Natives;
 use std::alloc::Global;
 use trace_text::LineFault;
@@ -86,5 +87,30 @@ impl LivePlayer {
             Ok(taken) => Ok(taken),
             Err(NoMemory) => Err(LineFault::NoRoom),
         }
+    }
+
+    /// Whether a boot is among the lines.
+    pub fn is_booted(&self) -> bool
+        ensures { (on : Setting) (lines : NotifyFront) → StandsAt on lines self.now → result ≡ is_some lines.trace.boot }
+    {
+        self.scene.is_booted()
+    }
+
+    /// Appends what the core answers to a question, of which a boot stands before. Nothing changes: a core that is not booted yet
+    /// is booted for the answer alone.
+    pub fn push_told(
+        &self,
+        alloc: Global,
+        natives: &Natives,
+        question: &Question,
+        text: &mut Vec<u8>,
+    ) -> Result<(), NoMemory>
+        requires { (lines : NotifyFront) × StandsAt (setting (entries natives.now) (drivers natives.now)) lines self.now
+            × (is_some lines.trace.boot ≡ true) }
+        ensures { (lines : NotifyFront) → StandsAt (setting (entries natives.now) (drivers natives.now)) lines self.now
+            → is_some lines.trace.boot ≡ true → OnOk result (text.new.items ≡ text.old.items
+            ++ told_at (setting (entries natives.now) (drivers natives.now)) lines question.now) }
+    {
+        self.stage.push_told(alloc, natives, question, text)
     }
 }
