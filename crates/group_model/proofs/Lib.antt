@@ -37,4 +37,5 @@ pub mod Ready
 pub mod TiedEvents
 pub mod RepliesTold
 pub mod WholeHistories
+pub mod NumbersKept
 pub mod KeptSessions

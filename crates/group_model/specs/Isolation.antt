@@ -1,6 +1,6 @@
 -- Isolation of groups: whatever else happens, the sessions of a single-instance application are answered as the machine of
 -- their group, which has the group's events alone. This project's own.
-use Rattle.std.specs.Prelude.{◌≡◌, ℕ, true, List, Some, IsSome, take}
+use Rattle.std.specs.Prelude.{◌≡◌, ℕ, true, List, ◌++◌, Some, IsSome, take}
 use Rattle.base.specs.NumberMap.{get}
 use Rattle.event_journal.specs.declared.event.Event.{Event}
 use Rattle.session_table.specs.declared.session.Session.{Session}
@@ -34,11 +34,15 @@ pub record IsKeptTogether (boot : Booted) (kernel : Kernel) (session : ℕ) (app
   pub of_app : app_of boot instance.uuid ≡ Some app
   pub shares : is_single app ≡ true
 
--- after each history that the kernel can have, each such session is one of the group's: it has its number there
-abbrev pub KeptSessionsAreOfTheGroup : Type 0
-KeptSessionsAreOfTheGroup = (boot : Booted) (history : List Event) (kernel : Kernel) (session : ℕ) (app : Application) →
-    kernel_after boot history ≡ Some kernel → IsKeptTogether boot kernel session app →
-    IsSome (get (noted boot history app).sessions session)
+-- after each history that the kernel can have, each such session is one of the group's: it has its number there. And whatever
+-- comes then, it keeps that number
+pub record KeptSessionsAreOfTheGroup : Type 0 where
+  pub known : (boot : Booted) (history : List Event) (kernel : Kernel) (session : ℕ) (app : Application) →
+      kernel_after boot history ≡ Some kernel → IsKeptTogether boot kernel session app →
+      IsSome (get (noted boot history app).sessions session)
+  pub stays : (boot : Booted) (history more : List Event) (session number : ℕ) (app : Application) →
+      IsGroupOf boot (history ++ more) app → get (noted boot history app).sessions session ≡ Some number →
+      get (noted boot (history ++ more) app).sessions session ≡ Some number
 
 -- so in two worlds: after any two legal histories, of any two boots that have the same key, the group of one application
 -- to which the same has happened was answered the same

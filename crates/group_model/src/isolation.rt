@@ -8,8 +8,8 @@ pub fn groups_are_answered_as_alone()
     ensures { AnsweredAsAGroup }
 {}
 
-/// The events of the group are those of all of its sessions: each session that the kernel keeps on an instance of the
-/// application is one of them.
+/// After each history each session that the kernel keeps on an instance of the application has its number in the group; and it keeps
+/// that number, whatever comes then.
 pub fn kept_sessions_are_of_the_group()
     ensures { KeptSessionsAreOfTheGroup }
 {}

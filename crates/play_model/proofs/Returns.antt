@@ -3,6 +3,7 @@ use Rattle.std.proofs.Common.{◌≡◌, List, [], ◌∷◌, ◌++◌, Option, 
 use Rattle.std.specs.Prelude.{IsSome, slice_get}
 use Rattle.std.specs.Option.{option_and_then}
 use Rattle.std.proofs.lemmas.Option.{option_and_then_some}
+use Rattle.base.specs.NumberMap.{get}
 use Rattle.event_journal.specs.declared.event.Event.{Event}
 use Rattle.event_journal.specs.declared.event.Event.TheVariants.{Entry}
 use Rattle.kernel_model.specs.Application.{Booted}
@@ -27,6 +28,7 @@ use Rattle.group_model.proofs.InOrder.{stays_in_order}
 use Rattle.group_model.proofs.KeptSessions.{kept_of_group}
 use Rattle.group_model.proofs.TiedEvents.{events_along}
 use Rattle.group_model.proofs.WholeHistories.{answered_as_a_group}
+use Rattle.group_model.specs.Read.{noted}
 use Rattle.own_model.proofs.WholeHistories.{answered_as_alone}
 use Rattle.own_model.specs.Own.{own_app}
 use Rattle.smc_abi.specs.Call.{call_of}
@@ -127,5 +129,9 @@ pub together_in : (boot : Booted) (history : List Event) → IsLegal boot histor
 together_in boot history legal = record {
   answered = λ app has shares.
       answered_as_a_group events_along stays_in_order boot history app (record { legal = legal; has = has; shares = shares });
-  known = λ before behind kernel session app cut there kept. kept_of_group boot before kernel session app there kept;
+  known = λ before behind kernel session app cut there kept. kept_of_group.known boot before kernel session app there kept;
+  stays = λ before behind session number app cut has shares there.
+      subst (λ (h : List Event). get (noted boot h app).sessions session ≡ Some number) (sym cut)
+      (kept_of_group.stays boot before behind session number app
+      (record { legal = subst (IsLegal boot) cut legal; has = has; shares = shares }) there);
 }

@@ -97,6 +97,11 @@ pub record TogetherIn (boot : Booted) (history : List Event) : Type 0 where
   pub known : (before behind : List Event) (kernel : Kernel) (session : ℕ) (app : Application) →
       history ≡ before ++ behind → kernel_after boot before ≡ Some kernel → IsKeptTogether boot kernel session app →
       IsSome (get (noted boot before app).sessions session)
+  -- and keeps that number to the end of the history
+  pub stays : (before behind : List Event) (session number : ℕ) (app : Application) →
+      history ≡ before ++ behind → app_of boot (uuid_of app) ≡ Some app → is_single app ≡ true →
+      get (noted boot before app).sessions session ≡ Some number →
+      get (noted boot history app).sessions session ≡ Some number
 
 -- ---- plays
 
@@ -118,7 +123,7 @@ pub record IsPlay (boot : Booted) (items : List Item) (play : Play) : Type 0 whe
   -- ETHREAD_LIMIT, which is 1, comes exactly where a new call finds no slot free
   pub no_slot : ToldIn boot play.history 1 FindsNoSlot
   -- sessions that share no instance were answered as alone, each that was ever kept among them; those that share one, as their
-  -- group alone
+  -- group alone, in which each that was ever kept has its number to the end
   pub alone : AloneIn boot play.history
   pub together : TogetherIn boot play.history
 

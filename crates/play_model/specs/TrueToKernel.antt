@@ -85,7 +85,7 @@ pub record IsTrueToKernel (natives : List Native) (boot : Boot) (trace : Trace) 
   -- events alone; that is said of each such session that was kept at any place of the history
   pub alone : AloneIn (booted boot natives) play.history
   -- the sessions of an application that share an instance, a group, were answered as the group's machine answers to what happens to
-  -- the group alone; each such session that was kept at any place of the history is one of its group
+  -- the group alone; each such session that was kept at any place of the history has its number in the group from there on
   pub together : TogetherIn (booted boot natives) play.history
   -- an entry is refused only where all entries would then have read more than 2^28 bytes
   pub refused_entry : (more : ℕ) → play.refused ≡ Some more → 2 ^ 28 < copied_bytes play.history + more

@@ -55,7 +55,7 @@ pub record IsTrueInOrder (natives : List Native) (boot : Boot) (trace : Trace) (
     -- events alone; that is said of each such session that was kept at any place of the history
     pub alone : AloneIn (booted boot natives) play.history
     -- the sessions of an application that share an instance, a group, were answered as the group's machine answers to what happens
-    -- to the group alone; each such session that was kept at any place of the history is one of its group
+    -- to the group alone; each such session that was kept at any place of the history has its number in the group from there on
     pub together : TogetherIn (booted boot natives) play.history
     -- for the m SMCs of its history the places 0 to 2m - 1 are printed, each once, by the processor whose entry or exit stands there
     pub places : PlacesCountUp (booted boot natives) play
