@@ -39,3 +39,4 @@ pub mod RepliesTold
 pub mod WholeHistories
 pub mod KeptSessions
 pub mod Shown
+pub mod ShownAlike

@@ -1,7 +1,10 @@
 -- What the normal world is shown of a call that goes out: a function of the session's reply, and of the numbers and addresses that
--- no reply tells. This project's own.
-use Rattle.std.specs.Prelude.{◌≡◌, ℕ, ◌==◌, List, [], ◌∷◌, ◌++◌, Option, Some, None, if◌then◌else◌, slice_get}
+-- no reply tells, but for the registers a4 to a7, which are the caller's own. This project's own.
+use Rattle.std.specs.Prelude.{◌≡◌, ℕ, ◌==◌, List, [], ◌∷◌, ◌++◌, Option, Some, None, drop, if◌then◌else◌, slice_get}
 use Rattle.std.specs.Option.{option_map, option_map_or, option_and_then}
+use Rattle.base.specs.NumberMap.{get}
+use Rattle.event_journal.specs.declared.event.Event.{Event}
+use Rattle.event_journal.specs.declared.event.Event.TheVariants.{Exit}
 use Rattle.job_model.specs.declared.call_kind.CallKind.{CallKind}
 use Rattle.job_model.specs.declared.call_kind.CallKind.TheVariants as kind
 use Rattle.msg_args.specs.Layout.{session_at, ret_at, origin_at}
@@ -15,14 +18,18 @@ use Rattle.rpc_msgs.specs.declared.rpc.Rpc.TheVariants as rpc
 use Rattle.smc_abi.specs.Answer.{registers_of}
 use Rattle.smc_abi.specs.declared.answer.Answer.{Answer}
 use Rattle.smc_abi.specs.declared.answer.Answer.TheVariants.{Alloc, Cmd, Free}
+use Rattle.smc_abi.specs.declared.regs.Regs.{Regs}
 use Rattle.ta_params.specs.declared.copied_params.CopiedParams.{CopiedParams}
+use Rattle.kernel_model.specs.Application.{Application, Booted}
 use Rattle.kernel_model.specs.Codes.{ok, success}
 use Rattle.kernel_model.specs.Exit.{Exited, exit, progress_in_slot, word32}
+use Rattle.kernel_model.specs.History.{kernel_after}
 use Rattle.kernel_model.specs.Kernel.{CallPhase, Ends, InSlot, Inside, Kernel, PendingCall, Progress}
 use Rattle.kernel_model.specs.Leaving.{Request, leaving_of, plain_request}
 use Rattle.own_model.specs.declared.own_reply.OwnReply.{OwnReply}
 use Rattle.own_model.specs.declared.own_reply.OwnReply.TheVariants as reply
-use Rattle.own_model.specs.Own.{reply_of}
+use Rattle.own_model.specs.Isolation.{IsSessionOf}
+use Rattle.own_model.specs.Own.{noted, own_events, reply_of, woken_in}
 
 -- ---- numbers and addresses
 
@@ -129,3 +136,36 @@ ExitsShowReplies =
     GoesOutFrom kernel cpu slot regs progress exited →
     reply_of woken progress.call.phase (leaving_of slot progress.call) ≡ Some told →
     option_map (seen_with regs) (shown (places_of slot progress.call) told) ≡ Some (exited.regs, exited.writes)
+
+-- ---- in a history
+
+-- the history ends with the exit of a processor for a call of the session, which goes out with a reply
+pub record EndsWithReply (boot : Booted) (history : List Event) (session : ℕ) : Type 0 where
+  pub before : List Event
+  pub cpu : ℕ
+  pub went : Regs
+  pub last_exit : history ≡ before ++ Exit cpu went ∷ []
+  pub kernel : Kernel
+  pub there : kernel_after boot before ≡ Some kernel
+  -- the registers with which the processor came in
+  pub came : List ℕ
+  pub slot : ℕ
+  pub progress : Progress
+  pub exited : Exited
+  pub goes_out : GoesOutFrom kernel cpu slot came progress exited
+  pub number : ℕ
+  pub is_own : get (noted boot before session).numbering.in_slots slot ≡ Some number
+  pub told : OwnReply
+  pub replies : reply_of (woken_in (noted boot before session).numbering slot progress.call.phase) progress.call.phase
+      (leaving_of slot progress.call) ≡ Some told
+
+-- so in two worlds: where the same has happened to sessions of one application up to such an exit of each, whatever else happened, and
+-- their calls have the same places there, they have the same registers and writes, if the processors came in with the same a4 to a7
+abbrev pub SameEventsShowTheSame : Type 0
+SameEventsShowTheSame =
+    (boot another : Booted) (history other : List Event) (session number : ℕ) (app : Application) →
+    boot.key ≡ another.key → IsSessionOf boot history session app → IsSessionOf another other number app →
+    own_events boot history session ≡ own_events another other number →
+    (one : EndsWithReply boot history session) (two : EndsWithReply another other number) →
+    places_of one.slot one.progress.call ≡ places_of two.slot two.progress.call → drop 4 one.came ≡ drop 4 two.came →
+    (one.exited.regs ≡ two.exited.regs) × (one.exited.writes ≡ two.exited.writes)

@@ -1,7 +1,7 @@
 //! Isolation: what a session is answered depends on its own events alone.
 ghost use Rattle.own_model.specs.Isolation.{AnsweredAsAlone, KeptSessionsAreKnown, SameBeginningsSameReplies};
 ghost use Rattle.own_model.specs.Isolation.{SameEventsSameReplies};
-ghost use Rattle.own_model.specs.Shown.{ExitsShowReplies};
+ghost use Rattle.own_model.specs.Shown.{ExitsShowReplies, SameEventsShowTheSame};
 
 /// After each legal history a session of an application whose sessions share no instance was answered as its machine
 /// answers to its events.
@@ -27,9 +27,17 @@ pub fn kept_sessions_are_known()
     ensures { KeptSessionsAreKnown }
 {}
 
-/// What the normal world is shown of a call that goes out with a reply, its registers and what is written for it, is a function
-/// of that reply and of the call's places (`shown`): its slot, its area and buffer, the slot of the call that it wakes, its argument,
-/// the places of its parameters, and the number of the session that it opens.
+/// What the normal world is shown of a call that goes out with a reply, its registers a0 to a3 and what is written for it, is a
+/// function of that reply and of the call's places (`shown`): its slot, its area and buffer, the slot of the call that it wakes, its
+/// argument, the places of its parameters, and the number of the session that it opens. The registers a4 to a7 are no function of
+/// the reply: they are the caller's own, as the processor came in with them.
 pub fn exits_show_replies()
     ensures { ExitsShowReplies }
+{}
+
+/// So where the same has happened to two such sessions of one application up to an exit of each, in whichever two histories and boots
+/// with one key, and their calls have the same places there, the normal world is shown the same at both: the registers, if the
+/// processors came in with the same a4 to a7, and what is written.
+pub fn same_events_show_the_same()
+    ensures { SameEventsShowTheSame }
 {}

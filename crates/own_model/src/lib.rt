@@ -13,7 +13,7 @@ mod own_reply;
 
 pub use isolation::{
     exits_show_replies, kept_sessions_are_known, same_beginnings_get_same_replies,
-    same_events_get_same_replies, sessions_are_answered_as_alone,
+    same_events_get_same_replies, same_events_show_the_same, sessions_are_answered_as_alone,
 };
 pub use laws::{
     calls_of_others_keep_sessions, exits_of_others_keep_sessions, fixed_answers_keep_sessions,
