@@ -1,12 +1,11 @@
 -- Who is inside behind the lines that count, and that what comes next can be taken.
-use Rattle.std.proofs.Common.{◌≡◌, ℕ, ◌+◌, Bool, List, [], ◌∷◌, ◌++◌, Option, Some, None, refl, sym, ap, subst, ◌∙◌, append-nil, arith}
+use Rattle.std.proofs.Common.{◌≡◌, ℕ, ◌+◌, Bool, List, [], ◌∷◌, ◌++◌, Option, Some, None, refl, sym, ap, subst, ◌∙◌, append-nil}
 use Rattle.std.specs.Prelude.{◌==◌, IsTrue, filter}
 use Rattle.std.specs.List.{AllByRecursion, fold}
 use Rattle.std.specs.Option.{option_and_then}
 use Rattle.std.proofs.lemmas.List.Elements.{recursion_from_All}
 use Rattle.std.proofs.lemmas.Option.{option_and_then_some}
 use Rattle.base.specs.Zeros.{zeros}
-use Rattle.base.proofs.ZeroLemmas.{length-zeros}
 use Rattle.kernel_model.specs.Application.{Booted, IsBooted, Native, booted}
 use Rattle.live_play.specs.Answer.{play_at, setting, uuids_in}
 use Rattle.live_play.proofs.Talking.{with_boot}
@@ -18,9 +17,9 @@ use Rattle.notify_player.proofs.Stepping.{ended-steps, item-step, signalled-play
 use Rattle.notify_text.specs.Rules.{NotifyFront}
 use Rattle.notify_text.specs.Steps.{Step, Takes, steps_from}
 use Rattle.notify_text.specs.declared.notify_trace.Signal.{Signal}
-use Rattle.play_model.specs.Coming.{IsWhole}
 use Rattle.play_model.specs.Play.{Play, first_play}
 use Rattle.play_model.proofs.Coming.{Stands, few_cpus, first_stands}
+use Rattle.play_model.proofs.WholeLanes.{zeros-whole}
 use Rattle.ta_isa.specs.declared.boot.Boot.{Boot}
 use Rattle.trace_text.specs.Limits.{cpus_of, inside_after, moved, outside}
 use Rattle.trace_text.specs.Sound.{ComeInTurn, IsSoundItem, can_come}
@@ -72,9 +71,6 @@ walk boot drivers at (i ∷ items) signals inside before after boots sound turn 
 
 -- ---- lines
 
-zeros_whole : IsWhole (zeros 0x400000)
-zeros_whole = let size = length-zeros 0x400000 in omega (arith, size)
-
 -- each processor is inside in the play where it is by the lines
 pub lines_stand : (natives : List Native) (drivers : Drivers) (lines : NotifyFront) (boot : Boot) (told : NotifyPlay)
     → lines.trace.boot ≡ Some boot → IsBooted (booted boot natives)
@@ -88,7 +84,7 @@ lines_stand natives drivers lines boot told there boots sound play going =
     walk on drivers 0 lines.trace.items lines.signals outside
     (first_notify_play on (first_play (zeros 0x400000) on lines.trace.fills)) told boots
     (subst (λ (b : Option Boot). AllByRecursion (IsSoundItem (cpus_of b)) lines.trace.items) there items)
-    sound.in_turn refl (first_stands (zeros 0x400000) on lines.trace.fills zeros_whole)
+    sound.in_turn refl (first_stands (zeros 0x400000) on lines.trace.fills zeros-whole)
     (sym (with_boot (setting natives drivers) boot lines there) ∙ play) going
 
 -- ---- the next item

@@ -7,7 +7,6 @@ use Rattle.std.proofs.lemmas.List.{get_or-set_same}
 use Rattle.std.proofs.lemmas.List.Sums.{sum_by-append}
 use Rattle.std.proofs.lemmas.Option.{option_and_then_some}
 use Rattle.base.specs.Zeros.{zeros}
-use Rattle.base.proofs.ZeroLemmas.{length-zeros}
 use Rattle.event_journal.specs.Event.{copied_by}
 use Rattle.event_journal.specs.Journal.{copied_bytes}
 use Rattle.event_journal.specs.declared.event.Event.{Event}
@@ -31,6 +30,7 @@ use Rattle.play_model.proofs.Coming.{items_can_come}
 use Rattle.play_model.proofs.Entries.{Left, event_made, left, left_going}
 use Rattle.play_model.proofs.LinesStay.{plays_go_on}
 use Rattle.play_model.proofs.PlaysThere.{traces_have_plays}
+use Rattle.play_model.proofs.WholeLanes.{zeros-whole}
 use Rattle.trace_text.specs.declared.item.Item.{Item}
 use Rattle.trace_text.specs.declared.item.Item.TheVariants as item
 use Rattle.trace_text.specs.declared.item.Reg.{Reg}
@@ -115,9 +115,6 @@ call_came boot cpu steps regs before after most going little room e =
     })
 
 -- ---- the items
-
-zeros-whole : coming.IsWhole (zeros 0x400000)
-zeros-whole = let size = length-zeros 0x400000 in omega (arith, size)
 
 module _ (seed total : ℕ) where
   abbrev pub trace : Trace

@@ -8,7 +8,6 @@ use Rattle.std.proofs.lemmas.Grind.{flat_map-append}
 use Rattle.std.proofs.lemmas.List.{append-nil}
 use Rattle.std.proofs.lemmas.List.Elements.{recursion_from_All}
 use Rattle.base.specs.Zeros.{zeros}
-use Rattle.base.proofs.ZeroLemmas.{length-zeros}
 use Rattle.core_machine.specs.Laws.{MachinesStand}
 use Rattle.kernel_model.specs.Application.{Booted, IsBooted, Native, booted}
 use Rattle.kernel_model.proofs.Parts.{some_of}
@@ -23,10 +22,10 @@ use Rattle.notify_text.specs.Sound.{IsSoundSignal, IsSoundTold}
 use Rattle.notify_text.specs.Steps.{Step, Takes, steps_from}
 use Rattle.notify_text.specs.declared.notify_trace.NotifyTrace.{NotifyTrace}
 use Rattle.notify_text.specs.declared.notify_trace.Signal.{Signal}
-use Rattle.play_model.specs.Coming.{IsWhole}
 use Rattle.play_model.specs.Line.{Line, text_of_line}
 use Rattle.play_model.specs.Play.{Play, first_play}
 use Rattle.play_model.proofs.Coming.{Stands, few_cpus, first_stands}
+use Rattle.play_model.proofs.WholeLanes.{zeros-whole}
 use Rattle.ta_isa.specs.declared.boot.Boot.{Boot}
 use Rattle.trace_text.specs.Limits.{cpus_of, moved, outside}
 use Rattle.trace_text.specs.Sound.{ComeInTurn, IsSoundItem, can_come}
@@ -55,9 +54,6 @@ refused-played : (natives : List Native) (drivers : Drivers) (told : NotifyTrace
     → refused_in natives drivers told ≡ play.play.refused
 refused-played natives drivers told boot play is e =
     ap (refused_by natives drivers told) is ∙ ap (option_and_then (λ (p : NotifyPlay). p.play.refused)) e
-
-zeros-whole : IsWhole (zeros 0x400000)
-zeros-whole = let size = length-zeros 0x400000 in omega (arith, size)
 
 -- ---- steps
 

@@ -7,7 +7,6 @@ use Rattle.std.specs.Option.{option_and_then, option_map, option_map_or}
 use Rattle.std.proofs.lemmas.Bool.Decides.{nat_tests}
 use Rattle.std.proofs.lemmas.List.Elements.{All-get_or, recursion_from_All}
 use Rattle.base.specs.Zeros.{zeros}
-use Rattle.base.proofs.ZeroLemmas.{length-zeros}
 use Rattle.event_journal.specs.Journal.{copied_bytes}
 use Rattle.kernel_model.specs.Application.{Booted, IsBooted, Native, booted}
 use Rattle.kernel_model.specs.Entry.{after_entry, entry}
@@ -35,7 +34,7 @@ use Rattle.play_model.specs.Text.{text_by, text_of_play}
 use Rattle.play_model.proofs.Coming.{Stands, comes_in, comes_more, few_cpus, first_stands, inside_there, is_ready}
 use Rattle.play_model.proofs.Coming.{item_stands}
 use Rattle.play_model.proofs.Entries.{CameIn, Entered, WasRefused, entered}
-use Rattle.play_model.proofs.WholeLanes.{entry_given}
+use Rattle.play_model.proofs.WholeLanes.{entry_given, zeros-whole}
 use Rattle.play_model.proofs.EventsCome.{exits_come}
 
 -- ---- an entry
@@ -220,9 +219,8 @@ text_there : (natives : List Native) (uuids : List (List ℕ)) (trace : Trace) �
     → IfSome boot (λ boot. IsBooted (booted boot natives)) → IsSound uuids trace → IsSome (text_by natives trace boot)
 text_there natives uuids trace None is boots sound = refl
 text_there natives uuids trace (Some boot) is boots sound =
-    let whole : IsWhole (zeros 0x400000) = let size = length-zeros 0x400000 in omega (arith, size) in
     let play = some_of (played_over (zeros 0x400000) natives boot trace)
-    (trace_played (zeros 0x400000) natives uuids boot trace whole boots sound is) in
+    (trace_played (zeros 0x400000) natives uuids boot trace zeros-whole boots sound is) in
     subst (λ (o : Option Play). IsSome (option_map text_of_play o)) (sym play.1) refl
 
 pub traces_have_plays : TracesHavePlays

@@ -4,6 +4,8 @@ use Rattle.std.proofs.Common.{length, drop, Option, Some, None, refl, ap, subst,
 use Rattle.std.specs.Prelude.{IsSome, if◌then◌else◌}
 use Rattle.std.specs.Option.{option_and_then, option_map}
 use Rattle.std.proofs.lemmas.List.{length-take-le}
+use Rattle.base.specs.Zeros.{zeros}
+use Rattle.base.proofs.ZeroLemmas.{length-zeros}
 use Rattle.event_journal.specs.declared.event.Event.{Event}
 use Rattle.kernel_model.specs.Application.{Booted, IsBooted}
 use Rattle.kernel_model.specs.Entry.{entry}
@@ -20,6 +22,10 @@ use Rattle.ns_ram.proofs.LaneBytes.{bytes_at-is, bytes_from-is}
 use Rattle.ns_ram.proofs.ReaderSteps.{lane_bytes-held}
 use Rattle.ns_ram.proofs.WordList.{length-words_of}
 use Rattle.play_model.specs.Coming.{IsWhole}
+
+-- RAM of zeros has each byte
+pub zeros-whole : IsWhole (zeros 0x400000)
+zeros-whole = let size = length-zeros 0x400000 in omega (arith, size)
 
 -- the reader has a value over the lane, whatever was listed before
 pub record Gives {A : Type 0} (lane : List ℕ) (reader : Reader A) : Type 0 where

@@ -4,7 +4,6 @@ use Rattle.std.specs.Prelude.{replicate, Ok, Err, IfSome, IsSome}
 use Rattle.std.specs.Option.{option_and_then, option_map}
 use Rattle.std.proofs.lemmas.List.{take_all}
 use Rattle.base.specs.Zeros.{zeros}
-use Rattle.base.proofs.ZeroLemmas.{length-zeros}
 use Rattle.kernel_model.specs.Application.{Booted, IsBooted, Native, booted}
 use Rattle.kernel_state.specs.Meaning.{booted_of}
 use Rattle.kernel_state.specs.declared.kernel_core.Core.{Core}
@@ -13,6 +12,7 @@ use Rattle.play_model.specs.Play.{Play, after_item, after_items, filled, first_p
 use Rattle.play_model.specs.Text.{text_by, text_of, text_of_play}
 use Rattle.play_model.proofs.Coming.{items_can_come}
 use Rattle.play_model.proofs.PlaysThere.{traces_have_plays}
+use Rattle.play_model.proofs.WholeLanes.{zeros-whole}
 use Rattle.ta_isa.specs.declared.boot.Boot.{Boot}
 use Rattle.trace_text.specs.Sound.{IsSound, IsSoundBoot}
 use Rattle.trace_text.specs.declared.item.Item.{Item}
@@ -70,9 +70,6 @@ can-take boot play machine (item.Write cpu addr bytes) stand few at can =
     (subst (λ (on : Booted). cpu < on.cpus) (sym at.booted) can.sound.0, can.sound.1)
 can-take boot play machine (item.Show cpu addr len) stand few at can =
     (subst (λ (on : Booted). cpu < on.cpus) (sym at.booted) can.sound.0, can.sound.1)
-
-zeros-whole : coming.IsWhole (zeros 0x400000)
-zeros-whole = let size = length-zeros 0x400000 in omega (arith, size)
 
 -- ---- the beginning
 
