@@ -218,7 +218,8 @@ pub fn run_alone<S: Source, K: Sink>(
         ((Rose (S.faults input.old) (S.faults input.new) → ⊥) × (Rose (K.faults out.old) (K.faults out.new) → ⊥))
         × Records (entries natives.now) bytes result (K.held out.old) (K.held out.new)) }
 
-    // ---- The verdict on a journal. Any journal is answered so, or there is want of memory.
+    // ---- The verdict on a journal. Each that an input of at most 2^24 bytes spells, with nothing behind it, is answered so where no
+    // port fails, or there is want of memory.
     ensures audits { Asks words.now command.Audit → IfSome (S.left input.old) (λ bytes.
         Keeps (auditing (entries natives.now)) bytes (S.left input.new) result (K.held out.old) (K.held out.new)
         ((Rose (S.faults input.old) (S.faults input.new) → ⊥) × (Rose (K.faults out.old) (K.faults out.new) → ⊥))
@@ -227,7 +228,8 @@ pub fn run_alone<S: Source, K: Sink>(
 
     // ---- What two journals show of a session, or of the sessions that share an application's instance: where that is the same,
     // they were answered the same in both. In each that is a legal history they were answered as the machine that has their events
-    // alone answers. Any two journals are answered so, or there is want of memory.
+    // alone answers. Each two that an input of at most 2^24 bytes spells, with nothing behind them, are answered so where no port
+    // fails, or there is want of memory.
     ensures compares { (subject : Subject) → Asks words.now (Compare subject) → IfSome (S.left input.old) (λ bytes.
         Keeps (comparing (entries natives.now) subject) bytes (S.left input.new) result (K.held out.old) (K.held out.new)
         ((Rose (S.faults input.old) (S.faults input.new) → ⊥) × (Rose (K.faults out.old) (K.faults out.new) → ⊥))

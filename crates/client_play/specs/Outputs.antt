@@ -43,7 +43,7 @@ pub record TellsOutputs (printed outputs : CopiedParams) : Type 0 where
 abbrev pub HaveWordSizes : CopiedParams → Type 0
 HaveWordSizes outputs = AllByRecursion HasWordSize (params_of outputs)
 
--- what tells the outputs of a reply is printed as these are
+-- what tells the outputs of a reply is printed as these are, where their sizes are numbers of 32 bits
 abbrev pub OutputsArePrinted : Type 0
 OutputsArePrinted = (result : CallResult) (printed outputs : CopiedParams) → TellsOutputs printed outputs → HaveWordSizes outputs →
     outputs_text result printed ≡ outputs_text result outputs

@@ -117,7 +117,7 @@ pub record IsToldAlone (boot : Booted) (history : List Event) (session : ℕ) (a
     pub alone : solo_replies (steps_in history) app boot.key (own_events boot history session)
         ≡ Some (own_replies boot history session)
     pub printed : end.result ≡ record { result = in_word told.result; origin = in_word told.origin }
-    -- where the application returned the result, the outputs
+    -- where the application returned the result, the outputs, of memory where its size is below 2^32
     pub printed_outputs : told.origin ≡ 4 → TellsOutputs end.params outputs
 
 -- so it is behind the last event of the line's call, and the reply is one of this very call
@@ -133,7 +133,7 @@ TellsAlone boot history line = (session : ℕ) (app : Application) →
     IsCallIn boot history line session app line.call → IsToldInCall boot history line session app
 
 -- each printed result of a session whose application's sessions share no instance is that of the `Ended` reply to this call, and so are
--- the printed outputs. The reply is its own machine's: others make no difference to it
+-- the printed outputs, of memory where its size is below 2^32. The reply is its own machine's: others make no difference to it
 abbrev pub ResultsAreToldAlone : Type 0
 ResultsAreToldAlone = (natives : List Native) (uuids : List (List ℕ)) (boot : Boot) (script : Script) (play : ClientPlay) →
     IsBooted (booted boot natives) → IsSoundScript uuids script → script.boot ≡ Some boot →

@@ -27,7 +27,7 @@ pub record IsPrinted (natives : List Native) (boot : Boot) (script : Script) (re
     -- histories holds of it
     pub of_trace : IsOfTrace natives boot script play.history
     -- and each printed result of a session that shares no instance is the one with which its own machine, fed by the session's own
-    -- events alone, ends the call, as the outputs behind it are those of that reply
+    -- events alone, ends the call, as the outputs behind it are those of that reply, of memory where its size is below 2^32
     pub alone : All (TellsAlone (booted boot natives) play.history) play.lines
 
 -- of one without a boot, which has no calls: nothing was written, and the status is 0

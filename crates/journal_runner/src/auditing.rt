@@ -105,7 +105,8 @@ pub fn audit<S: Source, K: Sink>(
         Keeps (auditing (entries natives.now)) bytes (S.left input.new) result (K.held out.old) (K.held out.new)
         ((Rose (S.faults input.old) (S.faults input.new) → ⊥) × (Rose (K.faults out.old) (K.faults out.new) → ⊥))) }
 
-    // ---- What was written: the verdict on the journal. And any journal is answered so, or there is want of memory.
+    // ---- What was written: the verdict on the journal. And each that an input of at most 2^24 bytes spells, with nothing behind it,
+    // is answered so where no port fails, or there is want of memory.
     ensures audits { IfSome (S.left input.old) (λ bytes.
         Audits (entries natives.now) bytes result (K.held out.old) (K.held out.new)
         ((Rose (S.faults input.old) (S.faults input.new) → ⊥) × (Rose (K.faults out.old) (K.faults out.new) → ⊥))) }

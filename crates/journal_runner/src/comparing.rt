@@ -132,7 +132,8 @@ pub fn compare<S: Source, K: Sink>(
         ((Rose (S.faults input.old) (S.faults input.new) → ⊥) × (Rose (K.faults out.old) (K.faults out.new) → ⊥))) }
 
     // ---- What was written: where both journals show the same of the session or of the group, it was answered the same in both. And
-    // any two journals are answered so, or there is want of memory.
+    // each two that an input of at most 2^24 bytes spells, with nothing behind them, are answered so where no port fails, or there is
+    // want of memory.
     ensures compares { IfSome (S.left input.old) (λ bytes.
         Compares (entries natives.now) subject bytes result (K.held out.old) (K.held out.new)
         ((Rose (S.faults input.old) (S.faults input.new) → ⊥) × (Rose (K.faults out.old) (K.faults out.new) → ⊥))) }
