@@ -2,6 +2,7 @@ pub mod Asked
 pub mod Changing
 pub mod Effects
 pub mod Grown
+pub mod Outgoing
 pub mod Returned
 pub mod Steps
 pub mod Talking

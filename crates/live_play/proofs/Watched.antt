@@ -1,15 +1,57 @@
--- What stands behind the line of an exit that is watched.
-use Rattle.std.proofs.Common.{ℕ, List, ◌++◌, ap, ◌∙◌, append-nil}
-use Rattle.notify_text.specs.Rules.{NotifyFront}
-use Rattle.play_model.specs.Line.{Ret}
-use Rattle.live_play.specs.Answer.{Done, after_heard, text_of_ending}
-use Rattle.live_play.specs.Changes.{changes}
+-- What stands behind the line of an exit that is watched, and that it tells of all RAM.
+use Rattle.std.proofs.Common.{◌≡◌, ℕ, List, [], ◌∷◌, ◌++◌, length, drop, Option, Some, None, refl, sym, ap, ◌∙◌, append-nil}
+use Rattle.std.specs.Prelude.{slice_index_or}
+use Rattle.std.specs.List.{flat_map}
+use Rattle.std.specs.Option.{option_and_then, option_map_or}
+use Rattle.std.proofs.Math.Seq.{drop-nil}
+use Rattle.kernel_model.specs.Application.{booted}
+use Rattle.kernel_model.proofs.Parts.{some_of}
+use Rattle.line_port.specs.History.{Input}
+use Rattle.line_port.specs.History as heard
+use Rattle.notify_play.specs.NotifyPlay.{NotifyPlay, after_step}
+use Rattle.notify_text.specs.Rules.{NotifyFront, after_line, no_lines, told_in}
+use Rattle.notify_text.specs.Steps.{Signals, Step, Takes, steps_of}
+use Rattle.play_model.specs.Line.{Line, Mem, Ret, text_of_line}
+use Rattle.play_model.specs.Play.{lane_of}
+use Rattle.ta_isa.specs.declared.boot.Boot.{Boot}
+use Rattle.trace_text.specs.declared.fault.BadKind.{BadKind}
+use Rattle.trace_text.specs.declared.fault.BadKind.TheVariants as bad
+use Rattle.live_play.specs.Answer.{Answer, Bad, Done, Full, Setting, TooLong, after_heard, answer, copied_at, fault_at, play_at, printed_at, refused_at, text_of_ending, uuids_in}
+use Rattle.live_play.specs.Changes.{changes, text_of_changes}
+use Rattle.live_play.specs.Conversation.{after_all}
+use Rattle.live_play.specs.Returns.{returns_in}
 use Rattle.live_play.specs.Showing.{lane_at, lanes_at, watched_answer, watched_line}
-use Rattle.live_play.specs.ShowingLaws.{ExitsAreWatched}
+use Rattle.live_play.specs.ShowingLaws.{ExitsAreWatched, IsWatched, OthersStay, told_out}
 use Rattle.live_play.proofs.Changing.{changes_tell_all}
+use Rattle.live_play.proofs.Effects.{AddsItem, AddsSignal, Effect, Heads, Stays, effect}
+use Rattle.live_play.proofs.Outgoing.{cut_front, printed_more, step-goes, step-stays, step_on, step_out, stepped}
+use Rattle.live_play.proofs.Talking.{IsStage, answer_by, answer_unless, counted, item_steps, more-played, printed_by, quiet, refused_by, signal_steps, stage-first, talked}
 
-pub exits_are_watched : ExitsAreWatched
-exits_are_watched on before input cpu regs is =
+-- ---- the text of lines
+
+-- where no line `ret` is among them, it is as where no exit is watched
+pub unwatched-lines : (was now : List (List ℕ)) (lines : List Line) → returns_in lines ≡ []
+    → flat_map (watched_line was now) lines ≡ flat_map text_of_line lines
+unwatched-lines was now [] none = refl
+unwatched-lines was now (Ret cpu regs ∷ lines) none = absurd cc
+unwatched-lines was now (Mem cpu addr bytes ∷ lines) none =
+    ap (λ (l : List ℕ). text_of_line (Mem cpu addr bytes) ++ l) (unwatched-lines was now lines none)
+
+-- behind one line `ret` stands what that exit has changed
+pub watched-lines : (was now : List (List ℕ)) (lines : List Line) (cpu : ℕ) (regs : List ℕ) → lines ≡ Ret cpu regs ∷ []
+    → flat_map (watched_line was now) lines
+    ≡ flat_map text_of_line lines ++ text_of_changes cpu (changes (slice_index_or was cpu []) (slice_index_or now cpu []))
+watched-lines was now lines cpu regs is =
+    let more : List ℕ = text_of_changes cpu (changes (slice_index_or was cpu []) (slice_index_or now cpu [])) in
+    ap (flat_map (watched_line was now)) is
+    ∙ append-nil (text_of_line (Ret cpu regs) ++ more)
+    ∙ ap (λ (l : List ℕ). l ++ more) (sym (ap (flat_map text_of_line) is ∙ append-nil (text_of_line (Ret cpu regs))))
+
+-- ---- the processor that goes out
+
+exit_watched : (on : Setting) (before : NotifyFront) (input : Input) (cpu : ℕ) (regs : List ℕ)
+    → answer on before input ≡ told_out cpu regs → IsWatched on before input cpu regs
+exit_watched on before input cpu regs is =
     let after : NotifyFront = after_heard on before input in
     let was : List (List ℕ) = lanes_at on before in
     let now : List (List ℕ) = lanes_at on after in
@@ -19,3 +61,115 @@ exits_are_watched on before input cpu regs is =
           ∙ ap (λ (text : List ℕ). text ++ text_of_ending Done) (append-nil (watched_line was now (Ret cpu regs)));
       laid_over = λ count long still. changes_tell_all count (lane_at on before cpu) (lane_at on after cpu) long still;
     }
+
+-- ---- the others
+
+abbrev lane_by : ℕ → Option NotifyPlay → List ℕ
+lane_by cpu o = slice_index_or (option_map_or (λ (told : NotifyPlay). told.play.lanes) o []) cpu []
+
+-- the step that prints the line is the one by which the processor goes out
+others_moved : (on : Setting) (boot : Boot) (step : Step) (told next : NotifyPlay) (cpu : ℕ) (regs : List ℕ)
+    → after_step (booted boot on.natives) on.drivers step told ≡ Some next → next.play.refused ≡ None
+    → drop (length told.play.lines) next.play.lines ≡ Ret cpu regs ∷ []
+    → (other : ℕ) → (other ≡ cpu → ⊥) → lane_of next.play other ≡ lane_of told.play other
+others_moved on boot step told next cpu regs came going printed = by (step_out step) refl
+  where
+    by : (out : Option ℕ) → step_out step ≡ out
+        → (other : ℕ) → (other ≡ cpu → ⊥) → lane_of next.play other ≡ lane_of told.play other
+    by None is =
+        let stays = step-stays (booted boot on.natives) on.drivers step told next is came in
+        let lines : stays.lines ≡ Ret cpu regs ∷ [] =
+        sym (cut_front told.play.lines next.play.lines stays.lines stays.are) ∙ printed in
+        let none : [] ≡ returns_in (Ret cpu regs ∷ []) = sym stays.none ∙ ap returns_in lines in
+        absurd cc
+    by (Some c) is =
+        let goes = step-goes (booted boot on.natives) on.drivers step c told next is came going in
+        let line : Ret c goes.regs ∷ [] ≡ Ret cpu regs ∷ [] =
+        sym (cut_front told.play.lines next.play.lines (Ret c goes.regs ∷ []) goes.lines) ∙ printed in
+        let same : c ≡ cpu = cc in
+        λ other apart. goes.others other (λ is. apart (is ∙ same))
+
+others_step : (on : Setting) (boot : Boot) (step : Step) (before after : NotifyFront) (cpu : ℕ) (regs : List ℕ)
+    → play_at on after ≡ option_and_then (step_on on boot step) (play_at on before)
+    → refused_at on before ≡ None → refused_at on after ≡ None
+    → drop (length (printed_at on before)) (printed_at on after) ≡ Ret cpu regs ∷ [] → OthersStay on before after cpu
+others_step on boot step before after cpu regs e going still printed = by (play_at on after) refl
+  where
+    by : (o : Option NotifyPlay) → play_at on after ≡ o → OthersStay on before after cpu
+    by None is =
+        let count : ℕ = length (printed_at on before) in
+        let none : [] ≡ Ret cpu regs ∷ [] = sym (ap (drop count) (ap printed_by is) ∙ drop-nil count) ∙ printed in
+        absurd cc
+    by (Some next) is =
+        let s = stepped on boot step before after next e going is in
+        let went_on : next.play.refused ≡ None = sym (ap refused_by is) ∙ still in
+        let lines = sym (printed_more on before after s.told next s.was is) ∙ printed in
+        λ other apart.
+        ap (lane_by other) is
+        ∙ others_moved on boot step s.told next cpu regs s.came went_on lines other apart
+        ∙ sym (ap (lane_by other) s.was)
+
+others_by : (on : Setting) (before after : NotifyFront) (cpu : ℕ) (regs : List ℕ) → IsStage on before
+    → refused_at on after ≡ None → drop (length (printed_at on before)) (printed_at on after) ≡ Ret cpu regs ∷ []
+    → Effect before after → OthersStay on before after cpu
+others_by on before after cpu regs stage still printed (Stays is) =
+    λ other apart. ap (λ (lines : NotifyFront). lane_at on lines other) is
+others_by on before after cpu regs stage still printed (Heads was now stays there) =
+    let none : [] ≡ Ret cpu regs ∷ [] =
+    sym (ap (λ (l : List Line). drop (length l) (printed_at on after)) (quiet on before was).printed
+    ∙ ap (drop 0) (quiet on after now).printed) ∙ printed in
+    absurd cc
+others_by on before after cpu regs stage still printed (AddsItem i there is) =
+    let boot = some_of before.trace.boot there in
+    let now : after.trace.boot ≡ Some boot.0 = ap (λ (f : NotifyFront). f.trace.boot) is ∙ boot.1 in
+    let steps : steps_of (told_in after) ≡ steps_of (told_in before) ++ Takes i ∷ [] =
+    ap (λ (f : NotifyFront). steps_of (told_in f)) is ∙ item_steps before i stage.orderly in
+    others_step on boot.0 (Takes i) before after cpu regs
+    (more-played on boot.0 before after (Takes i) boot.1 now (ap (λ (f : NotifyFront). f.trace.fills) is) steps)
+    stage.going still printed
+others_by on before after cpu regs stage still printed (AddsSignal value there is) =
+    let boot = some_of before.trace.boot there in
+    let now : after.trace.boot ≡ Some boot.0 = ap (λ (f : NotifyFront). f.trace.boot) is ∙ boot.1 in
+    let steps : steps_of (told_in after) ≡ steps_of (told_in before) ++ Signals value ∷ [] =
+    ap (λ (f : NotifyFront). steps_of (told_in f)) is ∙ signal_steps before value in
+    others_step on boot.0 (Signals value) before after cpu regs
+    (more-played on boot.0 before after (Signals value) boot.1 now (ap (λ (f : NotifyFront). f.trace.fills) is) steps)
+    stage.going still printed
+
+others_between : (on : Setting) (before after : NotifyFront) (cpu : ℕ) (regs : List ℕ) → IsStage on before → Effect before after
+    → (refused : Option ℕ) → refused_at on after ≡ refused → answer_unless on before after refused ≡ told_out cpu regs
+    → OthersStay on before (counted before after (answer_unless on before after refused).ending) cpu
+others_between on before after cpu regs stage effects (Some more) is told =
+    let no : Full (copied_at on before) ≡ Done = ap (λ (a : Answer). a.ending) told in
+    absurd cc
+others_between on before after cpu regs stage effects None is told =
+    others_by on before after cpu regs stage is (ap (λ (a : Answer). a.lines) told) effects
+
+others_line : (on : Setting) (before : NotifyFront) (line : List ℕ) (cpu : ℕ) (regs : List ℕ) → IsStage on before
+    → (fault : Option BadKind) → fault_at on before line ≡ fault → answer_by on before line fault ≡ told_out cpu regs
+    → OthersStay on before (counted before (after_line before line) (answer_by on before line fault).ending) cpu
+others_line on before line cpu regs stage (Some kind) is told =
+    let no : Bad kind ≡ Done = ap (λ (a : Answer). a.ending) told in
+    absurd cc
+others_line on before line cpu regs stage None is told =
+    others_between on before (after_line before line) cpu regs stage (effect (uuids_in on) before line stage.orderly is)
+    (refused_at on (after_line before line)) refl told
+
+others_stay : (on : Setting) (before : NotifyFront) (input : Input) (cpu : ℕ) (regs : List ℕ) → IsStage on before
+    → answer on before input ≡ told_out cpu regs → OthersStay on before (after_heard on before input) cpu
+others_stay on before (heard.Line line) cpu regs stage told =
+    others_line on before line cpu regs stage (fault_at on before line) refl told
+others_stay on before heard.Long cpu regs stage told =
+    let no : TooLong ≡ Done = ap (λ (a : Answer). a.ending) told in
+    absurd cc
+others_stay on before heard.Cut cpu regs stage told =
+    let no : Bad bad.Cut ≡ Done = ap (λ (a : Answer). a.ending) told in
+    absurd cc
+
+pub exits_are_watched : ExitsAreWatched
+exits_are_watched = record {
+  told = exit_watched;
+  others = λ on inputs input cpu regs is.
+      let stage = (talked on no_lines inputs (stage-first on)).stage in
+      others_stay on (after_all on no_lines inputs) input cpu regs stage is;
+}

@@ -1,6 +1,6 @@
 -- A conversation with lines that ask, and with exits that are watched. What asks changes nothing that counts, and what is said
 -- more stands beside the answers of a conversation without it. This project's own.
-use Rattle.std.specs.Prelude.{◌≡◌, ◌⊎◌, ℕ, List, [], ◌∷◌, ◌++◌, Bool, false, if◌then◌else◌, is_some, Option, None, slice_index_or, take}
+use Rattle.std.specs.Prelude.{◌≡◌, ◌⊎◌, ℕ, List, [], ◌∷◌, ◌++◌, Bool, false, if◌then◌else◌, is_some, Option, None, Some, slice_index_or, take}
 use Rattle.std.specs.List.{flat_map}
 use Rattle.std.specs.Option.{option_map_or}
 use Rattle.base.specs.NumberMap.{get}
@@ -21,6 +21,8 @@ use Rattle.play_model.specs.Line.{Line, Mem, Ret, text_of_line}
 use Rattle.ta_isa.specs.declared.boot.Boot.{Boot}
 use Rattle.text_lines.specs.Words.{words_of}
 use Rattle.trace_text.specs.Limits.{first_broken}
+use Rattle.trace_text.specs.declared.item.Item.{Item}
+use Rattle.trace_text.specs.declared.item.Item.TheVariants as item
 use Rattle.live_play.specs.Answer.{Answer, Bad, Done, IsPlayed, Setting, after_heard, answer, play_at, text_of_ending}
 use Rattle.live_play.specs.Changes.{changes, text_of_changes}
 use Rattle.live_play.specs.Conversation.{said_to}
@@ -62,6 +64,14 @@ shown_to_question on lines kind line = option_map_or
     (told_at on lines (question_of kind (words_of line)) ++ text_of_ending Done)
 
 -- ---- what is said of exits that are watched
+
+-- the processor that goes out by an item
+abbrev pub cpu_out_by : Item → Option ℕ
+cpu_out_by (item.Smc cpu steps regs) = Some cpu
+cpu_out_by (item.Enter cpu steps regs) = None
+cpu_out_by (item.Leave cpu) = Some cpu
+cpu_out_by (item.Write cpu addr bytes) = None
+cpu_out_by (item.Show cpu addr len) = None
 
 -- the RAM of each processor behind these lines; none where there is no boot
 abbrev pub lanes_at : Setting → NotifyFront → List (List ℕ)

@@ -4,10 +4,10 @@ use Rattle.std.specs.List.{list_all}
 use Rattle.line_port.specs.History.{Event, Hears, Input, Says}
 use Rattle.live_text.specs.declared.question.QuestionKind.{QuestionKind}
 use Rattle.live_text.specs.declared.question.QuestionKind.TheVariants.{Watch}
-use Rattle.notify_text.specs.Rules.{NotifyFront}
+use Rattle.notify_text.specs.Rules.{NotifyFront, no_lines}
 use Rattle.ns_ram.specs.Writes.{Write, lane_after}
 use Rattle.play_model.specs.Line.{Ret, text_of_line}
-use Rattle.live_play.specs.Answer.{Done, Setting, after_heard, answer, text_of_ending}
+use Rattle.live_play.specs.Answer.{Answer, Done, Setting, after_heard, answer, text_of_ending}
 use Rattle.live_play.specs.Changes.{text_of_changes}
 use Rattle.live_play.specs.Conversation.{after_all, conversation}
 use Rattle.live_play.specs.Showing.{Position, kind_asked_by, lane_at, position_after, position_behind, showing, shown_to, shown_to_other}
@@ -46,6 +46,10 @@ pub record PlainConversationsAreAsBefore : Type 0 where
 
 -- ---- exits that are watched
 
+-- the answer of an exit: its line, and `ok`
+abbrev pub told_out : ℕ → List ℕ → Answer
+told_out cpu regs = record { lines = Ret cpu regs ∷ []; ending = Done }
+
 -- behind the line of an exit stand writes, which laid over what the processor's RAM was give what it is, where it has whole blocks
 -- alone
 pub record IsWatched (on : Setting) (before : NotifyFront) (input : Input) (cpu : ℕ) (regs : List ℕ) : Type 0 where
@@ -56,6 +60,14 @@ pub record IsWatched (on : Setting) (before : NotifyFront) (input : Input) (cpu 
       length (lane_at on (after_heard on before input) cpu) ≡ 64 * count →
       lane_after (lane_at on before cpu) writes ≡ lane_at on (after_heard on before input) cpu
 
-abbrev pub ExitsAreWatched : Type 0
-ExitsAreWatched = (on : Setting) (before : NotifyFront) (input : Input) (cpu : ℕ) (regs : List ℕ) →
-    answer on before input ≡ record { lines = Ret cpu regs ∷ []; ending = Done } → IsWatched on before input cpu regs
+-- the RAM of every processor but this one is behind these lines what it is behind those
+abbrev pub OthersStay : Setting → NotifyFront → NotifyFront → ℕ → Type 0
+OthersStay on before after cpu = (other : ℕ) → (other ≡ cpu → ⊥) → lane_at on after other ≡ lane_at on before other
+
+pub record ExitsAreWatched : Type 0 where
+  pub told : (on : Setting) (before : NotifyFront) (input : Input) (cpu : ℕ) (regs : List ℕ) →
+      answer on before input ≡ told_out cpu regs → IsWatched on before input cpu regs
+  -- behind lines that count, the RAM of every other processor stays as it was
+  pub others : (on : Setting) (inputs : List Input) (input : Input) (cpu : ℕ) (regs : List ℕ) →
+      answer on (after_all on no_lines inputs) input ≡ told_out cpu regs →
+      OthersStay on (after_all on no_lines inputs) (after_heard on (after_all on no_lines inputs) input) cpu
