@@ -14,7 +14,7 @@ use base::NoMemory;
 use core_at_work::CoreAtWork;
 use kernel_entry::Visitor;
 use kernel_state::{Core, EnterRefusal};
-use ns_ram::Lane;
+use ns_ram::{Lane, RAM_BYTES, RAM_START};
 use smc_abi::Regs;
 use std::alloc::Global;
 
@@ -68,6 +68,15 @@ impl Machine {
         ensures len { length result.now ≡ len }
     {
         self.lanes[usize::from(cpu)].at(addr, len)
+    }
+
+    /// All of the RAM that a processor sees: RAM_BYTES bytes.
+    pub fn ram(&self, cpu: u8) -> &[u8]
+        requires { cpu < (booted_of self.now.at_work.core).cpus }
+        ensures lane { (boot : Booted) (play : Play) → IsAt boot play self.now → result.now ≡ lane_of play cpu }
+        ensures len { length result.now ≡ 0x400000 }
+    {
+        self.lanes[usize::from(cpu)].at(RAM_START, RAM_BYTES)
     }
 
     /// Whether a processor is inside. One that there isn't is not.
