@@ -129,7 +129,7 @@ module _ (natives : List Native) (drivers : Drivers) (lines : NotifyFront) where
   pub item_full : (i : Item) (before after : NotifyPlayer) (copied : ℕ) (old new : List ℕ) → IsNext on lines (says.Item i)
       → (p : IsPlayedBehind on lines before)
       → Follows (booted p.boot natives) drivers p.told (after_item (booted p.boot natives) drivers i p.told) (Err Full) after old new
-      → copied ≡ copied_bytes (events_of after.machine.core)
+      → copied ≡ copied_bytes (events_of after.machine.at_work.core)
       → PlaysOn on lines (says.Item i) (taken.Full copied) after old new
   item_full i before after copied old new next p follows read =
       let is : play_at on (with_item i) ≡ Some (playing.refused_at follows.0 p.told) = item_played i before next p ∙ follows.1 in
