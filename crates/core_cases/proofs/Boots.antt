@@ -1,5 +1,5 @@
 -- What a machine was booted with: a core can be booted with what a trace has, and what is played leaves that.
-use Rattle.std.proofs.Common.{◌≡◌, ◌∙◌, ℕ, List, Option, Some, None}
+use Rattle.std.proofs.Common.{◌≡◌, ◌∙◌, ℕ, List, Option, Some, None, subst}
 use Rattle.std.specs.Prelude.{IfSome}
 use Rattle.core_machine.proofs.Stands.{machines_stand}
 use Rattle.core_machine.specs.Standing.{IsAt, play_of}
@@ -21,6 +21,10 @@ of_boot natives None so = so
 
 pub sound_boot : (natives : List (List ℕ)) (trace : Trace) → IsSound natives trace → IfSome trace.boot IsBoot
 sound_boot natives trace sound = of_boot natives trace.boot sound.boot
+
+pub boot_of_sound : (natives : List (List ℕ)) (trace : Trace) (boot : Boot) → IsSound natives trace → trace.boot ≡ Some boot
+    → IsSoundBoot natives boot
+boot_of_sound natives trace boot sound is = subst (λ (o : Option Boot). IfSome o (IsSoundBoot natives)) is sound.boot
 
 -- ---- a machine
 

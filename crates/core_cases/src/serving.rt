@@ -2,9 +2,10 @@
 ghost use Rattle.std.specs.Prelude.{◌≡◌, ◌∷◌, [], All, map};
 ghost use Rattle.core_lock.specs.Passes.{AreUnused, number};
 ghost use Rattle.kernel_state.specs.Meaning.{booted_of, events_of};
+ghost use Rattle.native_tas.specs.Table.{entries};
 ghost use Rattle.normal_cpus.specs.Sharing.{AreCpusOf, boot_of};
 ghost use Rattle.core_cases.specs.Cpus.{IsPairOf};
-ghost use Rattle.trace_text.specs.Sound.{IsSoundFill};
+ghost use Rattle.trace_text.specs.Sound.{IsSound, IsSoundFill};
 
 use crate::pair::Pair;
 use crate::reading::{registers, trace_of};
@@ -224,18 +225,21 @@ fn two_lanes(alloc: Global, fills: &[Fill]) -> Result<(Lane, Lane)>
     Ok((one, two))
 }
 
-/// Serves the trace of a text in this order. Tells its lines, and last whose the events of the core are, once all passes are
-/// back.
-fn serve_text(
+/// Serves a trace in this order. Tells its lines, and last whose the events of the core are, once all passes are back.
+fn serve_trace(
     rt: &impl Wait,
     alloc: Global,
     natives: &Natives,
-    text: &[u8],
+    trace: Trace,
     order: &str,
     told: &mut Vec<u8>,
-) -> Result<()> {
-    let Trace { boot, fills, items } = trace_of(alloc, natives, text)?;
-    let boot = boot.context("a case without a boot")?;
+) -> Result<()>
+    requires { IsSound (map (λ native. native.0) (entries natives.now)) trace }
+{
+    let Trace { boot, fills, items } = trace;
+    let Some(boot) = boot else {
+        bail!("a case without a boot");
+    };
     if boot.cpus != 2 {
         bail!("a case of other than two processors");
     }
@@ -264,7 +268,8 @@ pub fn orders_told(
     let mut told = Vec::new(alloc);
     for order in orders.lines() {
         writeln!(told, "order {order}")?;
-        serve_text(rt, alloc, natives, text.as_bytes(), order, &mut told)?;
+        let trace = trace_of(alloc, natives, text.as_bytes())?;
+        serve_trace(rt, alloc, natives, trace, order, &mut told)?;
     }
     Ok(told)
 }
