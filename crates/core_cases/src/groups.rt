@@ -90,7 +90,7 @@ fn tell_group(
 
 /// What the group of a case tells, once its trace was played, whose boot's first application has sessions that share an instance.
 #[tactic(auto, using(crate::proofs::Tests::is_journal))]
-pub(crate) fn group_told(alloc: Global, text: &[u8]) -> Result<Vec<u8>> {
+pub(crate) fn group_told(alloc: Global, text: &[u8]) -> Result<String> {
     let natives = Natives::new(alloc);
     let trace = trace_of(alloc, &natives, text)?;
     let boot = boot_again(alloc, &natives, text, &trace)?;
@@ -101,5 +101,5 @@ pub(crate) fn group_told(alloc: Global, text: &[u8]) -> Result<Vec<u8>> {
     let journal = machine.core().journal();
     let mut told = String::new(alloc);
     tell_group(alloc, &boot, &natives, journal, &mut told)?;
-    Ok(told.into_bytes())
+    Ok(told)
 }

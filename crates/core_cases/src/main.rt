@@ -19,6 +19,10 @@
 //!   of their group is fed with what has happened to the group. A line of these events is told, and then a line for each reply
 //!   of the machine, with the number of the session that it has opened; where the group was answered otherwise, that stands
 //!   behind it.
+//! - `drawn-groups`, a line `HISTORIES MOVES`, a line of words between commas, the header of a trace, a line `draw`, and a table of
+//!   moves, each a line of items between semicolons: so many traces are played, each with so many moves drawn from the table, and
+//!   the group of each is told as by `groups`, of which the lines are told that have something otherwise. Behind these a line for
+//!   each word: `told WORD` where one of the groups has told it, and else `never WORD`.
 //! - `compared`, with the number of a session or the UUID of an application behind the name, and two journals in hexadecimal
 //!   digits: what they show of the session, or of the sessions of the application.
 #![tactic(auto)]
@@ -39,6 +43,7 @@ mod serving;
 mod comparing;
 mod comparisons;
 mod conditions;
+mod drawn;
 mod events;
 mod feeding;
 mod group_feeding;
@@ -48,6 +53,7 @@ mod replies;
 
 use crate::comparing::sessions_told;
 use crate::comparisons::comparison_told;
+use crate::drawn::drawn_told;
 use crate::groups::group_told;
 use crate::lists::play_text;
 use crate::serving::orders_told;
@@ -70,7 +76,8 @@ fn told(
         "lists" => play_text(alloc, natives, text.as_bytes()),
         "orders" => orders_told(rt, alloc, natives, text),
         "sessions" => sessions_told(alloc, name, text.as_bytes()),
-        "groups" => group_told(alloc, text.as_bytes()),
+        "groups" => Ok(group_told(alloc, text.as_bytes())?.into_bytes()),
+        "drawn-groups" => drawn_told(alloc, text),
         "compared" => comparison_told(alloc, natives, name, text),
         _ => bail!("no kind of case: {kind}"),
     }
