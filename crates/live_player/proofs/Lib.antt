@@ -5,3 +5,4 @@ pub mod Playing
 pub mod Staging
 pub mod Taking
 pub mod Told
+pub mod Watched

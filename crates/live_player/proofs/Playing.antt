@@ -53,7 +53,7 @@ empty_too : (lines : NotifyFront) (boot : Option Boot) → IfNone boot (IsEmpty 
 empty_too lines None empty = (empty.items, empty.signals)
 empty_too lines (Some boot) empty = tt
 
-orderly : (on : Setting) (lines : NotifyFront) → IsWithin on lines → AreOrderly lines
+pub orderly : (on : Setting) (lines : NotifyFront) → IsWithin on lines → AreOrderly lines
 orderly on lines inside =
     let count : ℕ = length lines.trace.items in
     record {

@@ -54,7 +54,7 @@ pub closed_signal : (lines : NotifyFront) (value : ℕ) → IsOpen (with_stateme
 closed_signal lines value is_open = not_empty lines.signals _ is_open.signals
 
 -- without items and signals they are a header
-header_of : (lines : NotifyFront) → IsOpen lines → IsHeader lines
+pub header_of : (lines : NotifyFront) → IsOpen lines → IsHeader lines
 header_of lines is_open = record { items = is_open.items; signals = is_open.signals }
 
 pub begun : (on : Setting) (boot : Boot) (lines : NotifyFront) → lines.trace.boot ≡ Some boot → IsOpen lines
@@ -119,7 +119,7 @@ first_ok natives drivers lines header boot fills (Ok player) can is filled boots
 first_ok natives drivers lines header boot fills (Err e) can is filled boots stands = tt
 
 -- behind an item or a signal there is a boot
-boot_by : (lines : NotifyFront) (boot : Option Boot) → lines.trace.boot ≡ boot → HasItsBoot lines → (IsOpen lines → ⊥)
+pub boot_by : (lines : NotifyFront) (boot : Option Boot) → lines.trace.boot ≡ boot → HasItsBoot lines → (IsOpen lines → ⊥)
     → is_some lines.trace.boot ≡ true
 boot_by lines None there has closed =
     let P : Option Boot → Type 0 = λ o. IfNone o (IsEmpty lines) in
@@ -203,7 +203,7 @@ one_sound value least most =
 
 -- ---- what waits in the header
 
-stage_going : (on : Setting) (lines : NotifyFront) (now : Stage) → StageAt on lines now → refused_at on lines ≡ None
+pub stage_going : (on : Setting) (lines : NotifyFront) (now : Stage) → StageAt on lines now → refused_at on lines ≡ None
 stage_going on lines (stage.Header header) at = (quiet on lines (header_of lines at.1)).going
 stage_going on lines (stage.Core player) at = ap refused_by at.0.play ∙ at.0.stands.machine.goes_on
 

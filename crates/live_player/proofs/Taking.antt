@@ -176,7 +176,7 @@ next_of on lines line said player stay stands kept adds place = record {
 -- ---- what came of it
 
 -- the answer to a line that keeps its rules
-answer_kept : (on : Setting) (lines : NotifyFront) (line : List ℕ) → fault_at on lines line ≡ None
+pub answer_kept : (on : Setting) (lines : NotifyFront) (line : List ℕ) → fault_at on lines line ≡ None
     → answer_to_line on lines line ≡ answer_between on lines (after_line lines line)
 answer_kept on lines line kept =
     ap (answer_by on lines line) kept
@@ -188,13 +188,13 @@ answer_broken on lines line kind broken =
     ap (answer_by on lines line) broken
 
 -- the lines that count behind an answer that ends so
-behind_ending : (on : Setting) (lines : NotifyFront) (line : List ℕ) (ending : Ending)
+pub behind_ending : (on : Setting) (lines : NotifyFront) (line : List ℕ) (ending : Ending)
     → (answer_to_line on lines line).ending ≡ ending
     → after_heard on lines (heard.Line line) ≡ cond (is_done ending) (after_line lines line) lines
 behind_ending on lines line ending is =
     ap (λ (e : Ending). cond (is_done e) (after_line lines line) lines) is
 
-counted_so : (how : Taken) (before after : NotifyFront) → cond (is_done (ending_of how)) after before ≡ counted how before after
+pub counted_so : (how : Taken) (before after : NotifyFront) → cond (is_done (ending_of how)) after before ≡ counted how before after
 counted_so taken.Done before after = refl
 counted_so (taken.Full copied) before after = refl
 

@@ -1,3 +1,4 @@
 pub mod Header
 pub mod Standing
 pub mod Taking
+pub mod Asking

@@ -22,8 +22,8 @@ use trace_text::LineFault;
 #[derive(Drop)]
 pub struct LivePlayer {
     /// What the rules of the next line look at.
-    scene: Scene,
-    stage: Stage,
+    pub(crate) scene: Scene,
+    pub(crate) stage: Stage,
 }
 
 impl LivePlayer {
@@ -39,7 +39,7 @@ impl LivePlayer {
     }
 
     /// Takes what a line says that keeps its rules.
-    fn take(
+    pub(crate) fn take(
         &mut self,
         alloc: Global,
         natives: &Natives,

@@ -1,0 +1,161 @@
+//! Exits that are watched: what they change in their processor's RAM.
+
+ghost use Rattle.std.specs.Prelude.{◌≡◌, ◌++◌, IfOk, OnOk, length};
+ghost use Rattle.live_play.specs.Answer.{Setting, setting};
+ghost use Rattle.live_play.specs.Changes.{changes, text_of_changes};
+ghost use Rattle.live_play.specs.Showing.{cpu_out_by, lane_at};
+ghost use Rattle.live_player.specs.Asking.{CanWatch, Watches, WatchesOn, cpu_going_out};
+ghost use Rattle.live_player.specs.Standing.{HasCome, IsOpen, IsPlayedBehind, StandsAt};
+ghost use Rattle.live_player.specs.Taking.{IsNext};
+ghost use Rattle.live_text.specs.Statement.{HasFewCpus};
+ghost use Rattle.native_tas.specs.Table.{drivers, entries};
+ghost use Rattle.notify_player.specs.Playing.{HasLane};
+ghost use Rattle.notify_text.specs.Rules.{NotifyFront};
+
+use crate::player::LivePlayer;
+use crate::stage::Stage;
+use crate::taken::Taken;
+use base::NoMemory;
+use live_text::{Statement, lines_stay_sound, read_line};
+use native_tas::Natives;
+use notify_player::NotifyPlayer;
+use ns_ram::{RAM_BYTES, RAM_START};
+use shown_lines::push_changes;
+use std::alloc::{AllocError, Global};
+use trace_text::{Item, LineFault};
+
+/// The processor that goes out by an item, where one does.
+fn cpu_out_by(item: &Item) -> Option<u8>
+    ensures { result ≡ cpu_out_by item.now }
+{
+    match item {
+        Item::Smc { cpu, .. } | Item::Leave { cpu } => Some(*cpu),
+        Item::Enter { .. } | Item::Write { .. } | Item::Show { .. } => None,
+    }
+}
+
+/// The processor that goes out by what a line says, where one does.
+pub(crate) fn cpu_going_out(said: &Statement) -> Option<u8>
+    ensures { result ≡ cpu_going_out said.now }
+{
+    match said {
+        Statement::Item(item) => cpu_out_by(item),
+        Statement::Blank
+        | Statement::Boot(_)
+        | Statement::App(_)
+        | Statement::Fill(_)
+        | Statement::Key(_)
+        | Statement::Signal(_) => None,
+    }
+}
+
+/// All of the RAM that a processor of a player sees.
+fn ram_of(player: &NotifyPlayer, cpu: u8) -> &[u8]
+    requires { HasLane player.now.machine cpu }
+    ensures lane { (on : Setting) (lines : NotifyFront) → IsPlayedBehind on lines player.now
+        → result.now ≡ lane_at on lines cpu }
+    ensures len { length result.now ≡ 0x400000 }
+{
+    player.machine().ram(cpu)
+}
+
+impl Stage {
+    /// Copies the RAM that a processor sees, in place of what the copy has held.
+    pub(crate) fn copy_ram(
+        &self,
+        alloc: Global,
+        cpu: u8,
+        copy: &mut Vec<u8>,
+    ) -> Result<(), NoMemory>
+        requires { (on : Setting) × (lines : NotifyFront) × CanWatch on lines cpu self.now }
+        ensures lane { (on : Setting) (lines : NotifyFront) → CanWatch on lines cpu self.now
+            → OnOk result (copy.new.items ≡ lane_at on lines cpu) }
+        ensures len { OnOk result (length copy.new.items ≡ 0x400000) }
+    {
+        copy.clear();
+        match self {
+            Stage::Core(player) => Ok(copy.extend_from_slice(ram_of(player, cpu))?),
+            Stage::Header(header) => {
+                let lane = header.first_lane(alloc)?;
+                Ok(copy.extend_from_slice(lane.at(RAM_START, RAM_BYTES))?)
+            }
+        }
+    }
+
+    /// Appends what is other in a processor's RAM than in this copy, where an item has come or a signal.
+    pub(crate) fn push_changes(
+        &self,
+        alloc: Global,
+        cpu: u8,
+        copy: &[u8],
+        text: &mut Vec<u8>,
+    ) -> Result<(), AllocError>
+        requires watched { (on : Setting) × (lines : NotifyFront) × CanWatch on lines cpu self.now }
+        requires copy { length copy.now ≡ 0x400000 }
+        ensures { (on : Setting) (lines : NotifyFront) → CanWatch on lines cpu self.now → (IsOpen lines → ⊥)
+            → OnOk result (text.new.items
+            ≡ text.old.items ++ text_of_changes cpu (changes copy.now (lane_at on lines cpu))) }
+    {
+        match self {
+            Stage::Core(player) => push_changes(alloc, text, cpu, copy, ram_of(player, cpu)),
+            Stage::Header(_) => Ok(()),
+        }
+    }
+}
+
+impl LivePlayer {
+    /// Takes a line, as `take_line` does, and appends behind the line of an exit what it has changed in its processor's RAM.
+    /// `copy` is room for what that was before.
+    pub fn take_watched_line(
+        &mut self,
+        alloc: Global,
+        natives: &Natives,
+        line: &[u8],
+        copy: &mut Vec<u8>,
+        text: &mut Vec<u8>,
+    ) -> Result<Taken, LineFault>
+        requires { (lines : NotifyFront) × StandsAt (setting (entries natives.now) (drivers natives.now)) lines self.old }
+        ensures { (lines : NotifyFront) → StandsAt (setting (entries natives.now) (drivers natives.now)) lines self.old
+            → Watches (setting (entries natives.now) (drivers natives.now)) lines line.now result
+            self.new text.old.items text.new.items }
+    {
+        lines_stay_sound();
+        let said = read_line(alloc, natives.uuids().as_slice(), &self.scene, line)?;
+        match self.take_watched(alloc, natives, said, copy, text) {
+            Ok(taken) => Ok(taken),
+            Err(NoMemory) => Err(LineFault::NoRoom),
+        }
+    }
+
+    /// Takes what a line says that keeps its rules, where exits are watched.
+    fn take_watched(
+        &mut self,
+        alloc: Global,
+        natives: &Natives,
+        said: Statement,
+        copy: &mut Vec<u8>,
+        text: &mut Vec<u8>,
+    ) -> Result<Taken, NoMemory>
+        requires few { HasFewCpus said }
+        requires next { (lines : NotifyFront)
+            × IsNext (setting (entries natives.now) (drivers natives.now)) lines said
+            × HasCome (setting (entries natives.now) (drivers natives.now)) lines self.old }
+        ensures { (lines : NotifyFront)
+            → IsNext (setting (entries natives.now) (drivers natives.now)) lines said
+            → HasCome (setting (entries natives.now) (drivers natives.now)) lines self.old
+            → IfOk result (λ taken. WatchesOn (setting (entries natives.now) (drivers natives.now)) lines said taken
+            self.new text.old.items text.new.items) }
+    {
+        let Some(cpu) = cpu_going_out(&said) else {
+            return self.take(alloc, natives, said, text);
+        };
+        self.stage.copy_ram(alloc, cpu, copy)?;
+        match self.take(alloc, natives, said, text)? {
+            Taken::Done => {
+                self.stage.push_changes(alloc, cpu, copy.as_slice(), text)?;
+                Ok(Taken::Done)
+            }
+            Taken::Full(copied) => Ok(Taken::Full(copied)),
+        }
+    }
+}
