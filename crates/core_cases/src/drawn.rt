@@ -16,6 +16,7 @@ impl Draws {
     /// A number below so many.
     fn below(&mut self, count: usize) -> usize
         requires { 0 < count }
+        ensures { result < count }
     {
         self.state = self
             .state
