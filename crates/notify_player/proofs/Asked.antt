@@ -1,5 +1,5 @@
--- What an exit asks, by the last entry of its processor in a legal history.
-use Rattle.std.proofs.Common.{ℕ, Bool, true, false, List, [], ◌∷◌, refl, subst}
+-- What an exit asks, by an entry of its processor in a legal history.
+use Rattle.std.proofs.Common.{ℕ, zero, suc, Bool, true, false, List, [], ◌∷◌, refl, subst}
 use Rattle.std.specs.Prelude.{◌==◌, if◌then◌else◌, IsTrue}
 use Rattle.std.specs.List.{AllByRecursion}
 use Rattle.desk_answers.specs.Duties.{HasHeadFirst}
@@ -11,7 +11,7 @@ use Rattle.kernel_model.specs.Argument.{IsNew, is_new, reg}
 use Rattle.kernel_model.specs.History.{IsLegal}
 use Rattle.kernel_model.specs.Turns.{IsReadOfRam, ReadsRam}
 use Rattle.msg_args.specs.Reading.{head_at}
-use Rattle.notify_play.specs.Duty.{CameIn, Duty, Enables, Nothing, RunsBottomHalf, Stops, TellsValue, came_with, duty_of, duty_of_call, duty_of_fast, duty_of_head, entered_last, last_entry}
+use Rattle.notify_play.specs.Duty.{CameIn, Duty, Enables, Nothing, RunsBottomHalf, Stops, TellsValue, came_with, duty_of, duty_of_call, duty_of_fast, duty_of_head, entered_last}
 use Rattle.ns_ram.specs.Lane.{IsInRam}
 use Rattle.ns_ram.specs.declared.read.Read.{Read}
 use Rattle.smc_abi.specs.Call.{call_of}
@@ -19,32 +19,39 @@ use Rattle.smc_abi.specs.declared.call.Call.{Call}
 use Rattle.smc_abi.specs.declared.call.Call.TheVariants.{Fast, WithArg, WithRpcArg, WithRegdArg, Resume, Unknown}
 use Rattle.smc_abi.specs.declared.call.FastCall.{FastCall}
 use Rattle.smc_abi.specs.declared.call.FastCall.TheVariants.{CallsUid, CallsRevision, OsUuid, OsRevision, ShmConfig, Capabilities, DisableShmCache, EnableShmCache, ThreadCount}
-use Rattle.notify_player.specs.Asking.{HasArgument}
+use Rattle.notify_player.specs.Asking.{HasArgument, came_at}
 use Rattle.notify_player.proofs.HeadsFirst.{ReadsHeadFirst, heads_come_first}
 
--- ---- the last entry
+-- ---- an entry
 
 -- a new call read its head first, and all reads are of RAM
 pub record IsGoodEntry (came : CameIn) : Type 0 where
   pub head : IsNew came.regs → HasHeadFirst came.reads
   pub of_ram : AllByRecursion IsReadOfRam came.reads
 
-good-last : (cpu : ℕ) (start : CameIn) (events : List Event) → IsGoodEntry start
-    → AllByRecursion ReadsHeadFirst events → AllByRecursion ReadsRam events → IsGoodEntry (entered_last cpu start events)
-good-last cpu start [] good heads ram = good
-good-last cpu start (Entry came given steps reads ∷ events) good heads ram =
-    good-last cpu (if came == cpu then came_with given.a reads else start) events (by (came == cpu)) heads.1 ram.1
-  where
-    by : (own : Bool) → IsGoodEntry (if own then came_with given.a reads else start)
-    by true = record { head = heads.0; of_ram = ram.0 }
-    by false = good
-good-last cpu start (Exit went told ∷ events) good heads ram = good-last cpu start events good heads.1 ram.1
+no_entry : IsGoodEntry (came_with [] [])
+no_entry = record { head = λ is. tt; of_ram = tt }
 
-pub good-entry : (boot : Booted) (history : List Event) (cpu : ℕ) → IsLegal boot history
-    → IsGoodEntry (last_entry history cpu)
-good-entry boot history cpu legal =
-    good-last cpu (came_with [] []) history (record { head = λ is. tt; of_ram = tt })
-    (heads_come_first boot history legal) (histories_read_ram boot history legal)
+good_event : (cpu : ℕ) (event : Event) → ReadsHeadFirst event → ReadsRam event
+    → IsGoodEntry (entered_last cpu (came_with [] []) (event ∷ []))
+good_event cpu (Entry came given steps reads) heads ram = by (came == cpu)
+  where
+    by : (own : Bool) → IsGoodEntry (if own then came_with given.a reads else came_with [] [])
+    by true = record { head = heads; of_ram = ram }
+    by false = no_entry
+good_event cpu (Exit went told) heads ram = no_entry
+
+good_at : (history : List Event) (at cpu : ℕ) → AllByRecursion ReadsHeadFirst history → AllByRecursion ReadsRam history
+    → IsGoodEntry (came_at history at cpu)
+good_at [] at cpu heads ram = no_entry
+good_at (event ∷ history) zero cpu heads ram = good_event cpu event heads.0 ram.0
+good_at (event ∷ history) (suc at) cpu heads ram = good_at history at cpu heads.1 ram.1
+
+-- at each place of a legal history
+pub good-entry : (boot : Booted) (history : List Event) (at cpu : ℕ) → IsLegal boot history
+    → IsGoodEntry (came_at history at cpu)
+good-entry boot history at cpu legal =
+    good_at history at cpu (heads_come_first boot history legal) (histories_read_ram boot history legal)
 
 -- ---- its duty
 

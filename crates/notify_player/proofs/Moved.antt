@@ -50,10 +50,10 @@ use Rattle.trace_text.specs.declared.item.Reg.{Reg}
 use Rattle.word_parts.specs.Stop.{stop_of}
 use Rattle.word_parts.specs.declared.stop.Stop.{Stop}
 use Rattle.word_parts.specs.declared.stop.Stop.TheVariants.{Full, Failed, Memory}
-use Rattle.notify_player.specs.Asking.{IsToldAlike}
-use Rattle.notify_player.specs.Playing.{AreTold, ComesIn, Follows, GoesOut, IsPlayedTo, Prints}
+use Rattle.notify_player.specs.Asking.{IsToldAlike, came_at}
+use Rattle.notify_player.specs.Playing.{AreLastEntries, AreTold, ComesIn, Follows, GoesOut, IsPlayedTo, Prints}
 use Rattle.notify_player.specs.declared.player.NotifyPlayer.{NotifyPlayer}
-use Rattle.notify_player.proofs.Entries.{exit-behind}
+use Rattle.notify_player.proofs.Entries.{at-exit, entries-came, entries-out}
 use Rattle.notify_player.proofs.Wrote.{lanes-twice}
 
 -- an option that has something has this
@@ -108,25 +108,30 @@ entered-lines boot visit play next (WasRefused reads much is) = ap (λ (p : Play
 
 -- it came in
 pub came-in : (boot : Booted) (drivers : Drivers) (told : NotifyPlay) (cpu steps : ℕ) (regs : List Reg)
-    (visitor : Visitor) (before after : NotifyPlayer)
+    (visitor : Visitor) (before after : NotifyPlayer) → cpu < 8
     → state.visit_of (coming_of visitor) ≡ visit_with told cpu steps regs
     → EntersAt boot told.play visitor after.machine (Ok tt) → IsPlayedTo boot drivers told before
-    → after.answers ≡ before.answers → after.desk ≡ before.desk
+    → after.answers ≡ before.answers → after.entries ≡ slice_set before.entries cpu (length told.play.history)
+    → after.desk ≡ before.desk
     → ComesIn boot drivers told (comes_in boot cpu steps regs told) (Ok tt) after
-came-in boot drivers told cpu steps regs visitor before after same at stands answers desk =
+came-in boot drivers told cpu steps regs visitor before after few same at stands answers entries desk =
     let visit = visit_with told cpu steps regs in
     let some = some-and (λ (next : Play). IsAt boot next after.machine)
     (enters boot told.play (state.visit_of (coming_of visitor))) at in
-    let e : enters boot told.play visit ≡ Some some.0 = ap (enters boot told.play) (sym same) ∙ some.1 in (
+    let e : enters boot told.play visit ≡ Some some.0 = ap (enters boot told.play) (sym same) ∙ some.1 in
+    let came = entered boot visit told.play some.0 e in (
       with_play told some.0,
       ap (option_map (with_play told)) e,
       record {
         machine = some.2;
         count = stands.count;
         answers = subst (AreTold told.answers) (sym answers) stands.answers;
+        entries =
+            subst (AreLastEntries some.0.history) (sym entries)
+            (entries-came boot visit told.play some.0 before.entries few some.2.goes_on came stands.entries);
         desk = desk ∙ stands.desk;
       },
-      entered-lines boot visit told.play some.0 (entered boot visit told.play some.0 e),
+      entered-lines boot visit told.play some.0 came,
     )
 
 -- it was refused
@@ -134,19 +139,20 @@ pub stayed-out : (boot : Booted) (drivers : Drivers) (told : NotifyPlay) (cpu st
     (visitor : Visitor) (before after : NotifyPlayer) (refused : EnterRefusal)
     → state.visit_of (coming_of visitor) ≡ visit_with told cpu steps regs
     → EntersAt boot told.play visitor after.machine (Err refused) → IsPlayedTo boot drivers told before
-    → after.answers ≡ before.answers → after.desk ≡ before.desk
+    → after.answers ≡ before.answers → after.entries ≡ before.entries → after.desk ≡ before.desk
     → ComesIn boot drivers told (comes_in boot cpu steps regs told) (Err (stop_of refused)) after
-stayed-out boot drivers told cpu steps regs visitor before after (refusal.Full copied more) same at stands answers desk = (
+stayed-out boot drivers told cpu steps regs visitor before after (refusal.Full copied more) same at stands answers entries desk = (
   more,
   ap (option_map (with_play told)) (ap (enters boot told.play) (sym same) ∙ at.0.ends),
   record {
     machine = at.1;
     count = stands.count;
     answers = subst (AreTold told.answers) (sym answers) stands.answers;
+    entries = subst (AreLastEntries told.play.history) (sym entries) stands.entries;
     desk = desk ∙ stands.desk;
   },
 )
-stayed-out boot drivers told cpu steps regs visitor before after refusal.Memory same at stands answers desk = tt
+stayed-out boot drivers told cpu steps regs visitor before after refusal.Memory same at stands answers entries desk = tt
 
 pub never-failed : (refused : EnterRefusal) → stop_of refused ≡ Failed → ⊥
 never-failed (refusal.Full copied more) e = absurd cc
@@ -220,15 +226,16 @@ went boot cpu play machine answered leaves_at =
     let same : out.exited.regs ≡ answered.a = cc in
     record { next = some.0; out = out; at = some.2.0; regs = same }
 
--- its last entry is the one before
+-- each place of its history is what it was
 pub went-entry : (boot : Booted) (cpu : ℕ) (play : Play) (machine : Machine) (answered : Regs)
-    → Went boot cpu play machine answered → last_entry (events_of machine.at_work.core) cpu ≡ last_entry play.history cpu
-went-entry boot cpu play machine answered w =
+    → Went boot cpu play machine answered → (place : ℕ)
+    → came_at (events_of machine.at_work.core) place cpu ≡ came_at play.history place cpu
+went-entry boot cpu play machine answered w place =
     let told : Regs = record { a = w.out.exited.regs } in
     let made = event_made boot (Exit cpu told) play w.out.gone w.out.came in
-    ap (λ (h : List Event). last_entry h cpu)
+    ap (λ (h : List Event). came_at h place cpu)
     (w.at.history ∙ ap (λ (p : Play). p.history) (sym w.out.is) ∙ made.0)
-    ∙ exit-behind play.history cpu told cpu
+    ∙ at-exit play.history cpu told place cpu
 
 -- the machine stands at the kernel's play with what the desk writes: so it does at the play with all writes and any line
 pub told-at : (boot : Booted) (cpu : ℕ) (gone : Play) (line other : Line) (first second : List Write) (machine : Machine)
@@ -258,8 +265,8 @@ pub record HasTold (boot : Booted) (drivers : Drivers) (told : NotifyPlay) (cpu 
     (before after : NotifyPlayer) (old new : List ℕ) : Type 0 where
   pub caller : Regs
   pub asked : Duty
-  pub duty : duty_in asked ≡ duty_of (last_entry (events_of machine.at_work.core) cpu) (reg answered.a 0)
-  pub alike : IsToldAlike (last_entry (events_of machine.at_work.core) cpu).regs caller.a (duty_in asked)
+  pub duty : duty_in asked ≡ duty_of (last_entry told.play.history cpu) (reg answered.a 0)
+  pub alike : IsToldAlike (last_entry told.play.history cpu).regs caller.a (duty_in asked)
   pub regs : Regs
   pub told_so : regs.a ≡ told_regs before.desk caller.a answered.a (duty_in asked)
   pub result : Option ResultIn
@@ -267,6 +274,7 @@ pub record HasTold (boot : Booted) (drivers : Drivers) (told : NotifyPlay) (cpu 
   pub wrote : (play : Play) → IsAt boot play machine → IsAt boot (with_writes cpu (writes_of result) play) after.machine
   pub desk : after.desk ≡ after_duty before.desk asked
   pub answers : after.answers ≡ slice_set before.answers cpu regs
+  pub entries : after.entries ≡ before.entries
   pub line : new ≡ old ++ ret_line cpu regs.a
 
 module _ (boot : Booted) (drivers : Drivers) (told : NotifyPlay) (cpu : ℕ) (machine : Machine) (answered : Regs)
@@ -279,13 +287,9 @@ module _ (boot : Booted) (drivers : Drivers) (told : NotifyPlay) (cpu : ℕ) (ma
   abbrev at_exit : play_duty.Duty
   at_exit = duty_at told cpu exited
 
-  same_entry : last_entry (events_of machine.at_work.core) cpu ≡ last_entry told.play.history cpu
-  same_entry = went-entry boot cpu told.play machine answered w
-
   same_duty : duty_in t.asked ≡ at_exit
   same_duty =
       t.duty
-      ∙ ap (λ (came : play_duty.CameIn). duty_of came (reg answered.a 0)) same_entry
       ∙ ap (λ (a : List ℕ). duty_of (last_entry told.play.history cpu) (reg a 0)) (sym w.regs)
 
   abbrev wanted : List ℕ
@@ -295,7 +299,6 @@ module _ (boot : Booted) (drivers : Drivers) (told : NotifyPlay) (cpu : ℕ) (ma
   same_regs =
       t.told_so
       ∙ sym (t.alike before.desk answered.a)
-      ∙ ap (λ (came : play_duty.CameIn). told_regs before.desk came.regs answered.a (duty_in t.asked)) same_entry
       ∙ ap (λ (d : DeskState). told_regs d (last_entry told.play.history cpu).regs answered.a (duty_in t.asked)) stands.desk
       ∙ ap (λ (a : List ℕ). told_regs (desk_of drivers told) (last_entry told.play.history cpu).regs a (duty_in t.asked))
       (sym w.regs)
@@ -334,6 +337,14 @@ module _ (boot : Booted) (drivers : Drivers) (told : NotifyPlay) (cpu : ℕ) (ma
       (subst (λ (a : List ℕ). AreTold (slice_set told.answers cpu a) (slice_set before.answers cpu t.regs)) same_regs
       (told-more told.answers before.answers cpu t.regs (subst (λ (n : ℕ). cpu < n) (sym stands.count) there) stands.answers))
 
+  entries_stay : AreLastEntries next.play.history after.entries
+  entries_stay =
+      let told_so : Regs = record { a = exited.regs } in
+      let made = event_made boot (Exit cpu told_so) told.play w.out.gone w.out.came in
+      subst (AreLastEntries next.play.history) (sym t.entries)
+      (subst (λ (h : List Event). AreLastEntries h before.entries) (sym made.0)
+      (entries-out told.play.history before.entries cpu told_so stands.entries))
+
   desk_next : after.desk ≡ desk_of drivers next
   desk_next =
       t.desk
@@ -358,6 +369,7 @@ module _ (boot : Booted) (drivers : Drivers) (told : NotifyPlay) (cpu : ℕ) (ma
       machine = at_next;
       count = length-set told.answers cpu wanted ∙ stands.count;
       answers = answers_more;
+      entries = entries_stay;
       desk = desk_next;
     },
     prints,
@@ -427,9 +439,10 @@ smc-stopped boot drivers told cpu steps regs Memory player text came = tt
 pub wrote-follows : (boot : Booted) (drivers : Drivers) (told : NotifyPlay) (cpu addr : ℕ) (bytes : List ℕ)
     (before after : NotifyPlayer) (text : List ℕ)
     → IsAt boot (with_writes cpu (record { addr = addr; bytes = bytes } ∷ []) told.play) after.machine
-    → IsPlayedTo boot drivers told before → after.answers ≡ before.answers → after.desk ≡ before.desk
+    → IsPlayedTo boot drivers told before → after.answers ≡ before.answers → after.entries ≡ before.entries
+    → after.desk ≡ before.desk
     → Follows boot drivers told (after_item boot drivers (item.Write cpu addr bytes) told) (Ok tt) after text text
-wrote-follows boot drivers told cpu addr bytes before after text at stands answers desk =
+wrote-follows boot drivers told cpu addr bytes before after text at stands answers entries desk =
     let play = with_writes cpu (record { addr = addr; bytes = bytes } ∷ []) told.play in (
       with_play told play,
       refl,
@@ -437,6 +450,7 @@ wrote-follows boot drivers told cpu addr bytes before after text at stands answe
         machine = at;
         count = stands.count;
         answers = subst (AreTold told.answers) (sym answers) stands.answers;
+        entries = subst (AreLastEntries told.play.history) (sym entries) stands.entries;
         desk = desk ∙ stands.desk;
       },
       nothing-printed told.play play text refl,
@@ -461,6 +475,7 @@ shown boot drivers told cpu addr len bytes player old new is stands put =
         };
         count = stands.count;
         answers = stands.answers;
+        entries = stands.entries;
         desk = stands.desk;
       },
       (

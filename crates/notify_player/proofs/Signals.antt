@@ -10,7 +10,7 @@ use Rattle.notif.specs.Desk.{after_signal}
 use Rattle.notif.specs.History as desk
 use Rattle.notify_play.specs.NotifyPlay.{Drivers, NotifyPlay}
 use Rattle.notify_text.specs.declared.notify_trace.Signal.{Signal}
-use Rattle.notify_player.specs.Playing.{AreTold, IsPlayedTo}
+use Rattle.notify_player.specs.Playing.{AreLastEntries, AreTold, IsPlayedTo}
 use Rattle.notify_player.specs.Signalling.{behind_at, front_at}
 use Rattle.notify_player.specs.declared.player.NotifyPlayer.{NotifyPlayer}
 
@@ -44,12 +44,13 @@ behind-elsewhere at signal signals apart =
 -- the player after one signal
 pub signalled : (boot : Booted) (drivers : Drivers) (told : NotifyPlay) (value : ℕ) (before after : NotifyPlayer)
     → IsPlayedTo boot drivers told before → after.machine ≡ before.machine → after.answers ≡ before.answers
-    → after.desk ≡ after_signal before.desk value
+    → after.entries ≡ before.entries → after.desk ≡ after_signal before.desk value
     → IsPlayedTo boot drivers (record told { calls = desk.Signal value ∷ told.calls }) after
-signalled boot drivers told value before after stands machine answers is = record {
+signalled boot drivers told value before after stands machine answers entries is = record {
   machine = subst (λ (m : Machine). IsAt boot told.play m) (sym machine) stands.machine;
   count = stands.count;
   answers = subst (AreTold told.answers) (sym answers) stands.answers;
+  entries = subst (AreLastEntries told.play.history) (sym entries) stands.entries;
   desk = is ∙ ap (λ d. after_signal d value) stands.desk;
 }
 

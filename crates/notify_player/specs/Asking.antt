@@ -1,9 +1,16 @@
--- What is known of an exit's duty, by the events before it.
-use Rattle.std.specs.Prelude.{◌≡◌, ℕ, List}
+-- Where a processor's last entry stands, and what is known of its exit's duty.
+use Rattle.std.specs.Prelude.{◌≡◌, ℕ, List, [], ◌∷◌, slice_get}
+use Rattle.std.specs.Option.{option_map_or}
+use Rattle.event_journal.specs.declared.event.Event.{Event}
 use Rattle.notif.specs.Desk.{DeskState}
-use Rattle.notify_play.specs.Duty.{Duty, Enables, Nothing, Offers, RunsBottomHalf, Stops, TellsValue}
+use Rattle.notify_play.specs.Duty.{CameIn, Duty, Enables, Nothing, Offers, RunsBottomHalf, Stops, TellsValue, came_with, entered_last}
 use Rattle.notify_play.specs.Told.{told_regs}
 use Rattle.ns_ram.specs.Lane.{IsInRam}
+
+-- how a processor came in by the event at this place, where that is an entry of it
+abbrev pub came_at : List Event → ℕ → ℕ → CameIn
+came_at history at cpu =
+    option_map_or (λ (event : Event). entered_last cpu (came_with [] []) (event ∷ [])) (slice_get history at) (came_with [] [])
 
 -- of a duty that writes a result, the head of its argument lies in RAM
 abbrev pub HasArgument : Duty → Type 0

@@ -4,8 +4,10 @@ use Rattle.std.specs.List.{flat_map}
 use Rattle.core_machine.specs.Standing.{CanCome, IsAt}
 use Rattle.core_machine.specs.declared.machine.Machine.{Machine}
 use Rattle.core_machine.specs.declared.smc.Smc.TheVariants.{Comes, Leaves}
+use Rattle.event_journal.specs.declared.event.Event.{Event}
 use Rattle.kernel_model.specs.Application.{Booted}
 use Rattle.kernel_state.specs.Meaning.{booted_of}
+use Rattle.notify_play.specs.Duty.{last_entry}
 use Rattle.notify_play.specs.NotifyPlay.{Drivers, NotifyPlay, desk_of}
 use Rattle.play_model.specs.Line.{Line, text_of_line}
 use Rattle.play_model.specs.Play.{Play}
@@ -16,6 +18,7 @@ use Rattle.trace_text.specs.declared.item.Item.TheVariants as item
 use Rattle.trace_text.specs.declared.item.Reg.{Reg}
 use Rattle.word_parts.specs.declared.stop.Stop.{Stop}
 use Rattle.word_parts.specs.declared.stop.Stop.TheVariants.{Full, Failed, Memory}
+use Rattle.notify_player.specs.Asking.{came_at}
 use Rattle.notify_player.specs.declared.player.NotifyPlayer.{NotifyPlayer}
 
 -- ---- where a player stands
@@ -25,11 +28,21 @@ abbrev pub AreTold : List (List ℕ) → List Regs → Type 0
 AreTold told answers =
     (cpu : ℕ) → cpu < length told → slice_get answers cpu ≡ Some (record { a = slice_index_or told cpu [] })
 
+-- of each processor, its last entry of this history stands at the place that is kept; where it has none, no entry of it does
+pub record IsLastEntry (history : List Event) (places : List ℕ) (cpu : ℕ) : Type 0 where
+  pub place : ℕ
+  pub kept : slice_get places cpu ≡ Some place
+  pub last : came_at history place cpu ≡ last_entry history cpu
+
+abbrev pub AreLastEntries : List Event → List ℕ → Type 0
+AreLastEntries history places = (cpu : ℕ) → cpu < 8 → IsLastEntry history places cpu
+
 -- the player has come to this play, but for what was printed
 pub record IsPlayedTo (boot : Booted) (drivers : Drivers) (told : NotifyPlay) (player : NotifyPlayer) : Type 0 where
   pub machine : IsAt boot told.play player.machine
   pub count : length told.answers ≡ boot.cpus
   pub answers : AreTold told.answers player.answers
+  pub entries : AreLastEntries told.play.history player.entries
   pub desk : player.desk ≡ desk_of drivers told
 
 -- ---- what can come

@@ -4,10 +4,10 @@ ghost use Rattle.std.specs.Prelude.{◌≡◌, [], ◌∷◌, IfNone, IfSome, Ma
 ghost use Rattle.kernel_model.specs.Application.{Booted};
 ghost use Rattle.kernel_model.specs.History.{IsLegal};
 ghost use Rattle.notif.specs.Desk.{DeskState};
-ghost use Rattle.notify_play.specs.Duty.{CameIn, came_with, duty_of, entered_last, last_entry};
+ghost use Rattle.notify_play.specs.Duty.{CameIn, came_with, duty_of, entered_last};
 ghost use Rattle.notify_play.specs.Told.{told_regs};
 ghost use Rattle.desk_answers.specs.Duties.{duty_in};
-ghost use Rattle.notify_player.specs.Asking.{HasArgument, IsToldAlike};
+ghost use Rattle.notify_player.specs.Asking.{HasArgument, IsToldAlike, came_at};
 
 use desk_answers::{Duty, duty_of};
 use event_journal::Event;
@@ -45,32 +45,27 @@ fn entry_of(event: &Event, cpu: u8) -> Option<(Regs, &[Read])>
     }
 }
 
-/// The registers and the reads of a processor's last entry among these events. Those behind it are looked at once each, so
-/// that all exits of a core look at no event more often than there are processors.
-fn last_entry(history: &[Event], cpu: u8) -> Option<(Regs, &[Read])>
-    ensures { MatchOption result (last_entry history.now cpu ≡ came_with [] [])
-        (λ came. last_entry history.now cpu ≡ came_with came.0.a came.1.now) }
+/// The registers and the reads of a processor's entry at this place of a history, if one of it stands there.
+fn entry_at(history: &[Event], at: usize, cpu: u8) -> Option<(Regs, &[Read])>
+    ensures { MatchOption result (came_at history.now at cpu ≡ came_with [] [])
+        (λ came. came_at history.now at cpu ≡ came_with came.0.a came.1.now) }
 {
-    let mut left = history.len();
-    while left > 0 {
-        left -= 1;
-        if let Some(came) = entry_of(&history[left], cpu) {
-            return Some(came);
-        }
-    }
-    None
+    let Some(event) = history.get(at) else {
+        return None;
+    };
+    entry_of(event, cpu)
 }
 
-/// What the exit of a processor asks behind these events, where the kernel says this in a0. One that never came in asks
-/// nothing.
-pub fn asked_at(history: &[Event], cpu: u8, a0: u32) -> Asked
+/// What the exit of a processor asks behind these events, whose last entry stands at this place, where the kernel says this in
+/// a0. One that never came in asks nothing.
+pub fn asked_at(history: &[Event], at: usize, cpu: u8, a0: u32) -> Asked
     requires { (boot : Booted) × IsLegal boot history.now }
-    ensures duty { duty_in result.duty ≡ duty_of (last_entry history.now cpu) a0 }
+    ensures duty { duty_in result.duty ≡ duty_of (came_at history.now at cpu) a0 }
     // Nothing that is told depends on more of the entry.
-    ensures caller { IsToldAlike (last_entry history.now cpu).regs result.caller.a (duty_in result.duty) }
+    ensures caller { IsToldAlike (came_at history.now at cpu).regs result.caller.a (duty_in result.duty) }
     ensures argument { HasArgument (duty_in result.duty) }
 {
-    let Some((caller, reads)) = last_entry(history, cpu) else {
+    let Some((caller, reads)) = entry_at(history, at, cpu) else {
         return Asked {
             caller: Regs { a: [0; 8] },
             duty: Duty::Nothing,

@@ -1,6 +1,6 @@
 //! A core with its processors and a desk of signals, which are moved step by step.
 
-ghost use Rattle.std.specs.Prelude.{◌≡◌, ℕ, ◌≤◌, ◌<◌, All, Err, OnOk, Some, slice_get};
+ghost use Rattle.std.specs.Prelude.{◌≡◌, ℕ, ◌≤◌, ◌<◌, [], All, Err, OnOk, Some, slice_get};
 ghost use Rattle.core_machine.specs.Standing.{CanCome, IsAt};
 ghost use Rattle.core_machine.specs.declared.smc.Smc.TheVariants.{Leaves};
 ghost use Rattle.kernel_model.specs.Application.{Booted};
@@ -39,18 +39,21 @@ const MAX_CPUS: usize = 8;
 pub struct NotifyPlayer {
     machine: Machine,
     answers: [Regs; MAX_CPUS],
+    /// Where in the journal the last entry of each processor stands.
+    entries: [usize; MAX_CPUS],
     desk: Desk,
 }
 
 impl NotifyPlayer {
-    /// Nobody was told anything yet, and nothing was asked of the desk.
-    pub fn new(machine: Machine, desk: Desk) -> NotifyPlayer
-        ensures { (boot : Booted) (ds : Drivers) (play : Play) → IsAt boot play machine → desk ≡ new_desk ds
+    /// Before any entry: nobody was told anything yet, and nothing was asked of the desk.
+    pub(crate) fn new(machine: Machine, desk: Desk) -> NotifyPlayer
+        ensures { (boot : Booted) (ds : Drivers) (play : Play) → IsAt boot play machine → play.history ≡ [] → desk ≡ new_desk ds
             → boot.cpus ≤ 8 → IsPlayedTo boot ds (first_notify_play boot play) result }
     {
         NotifyPlayer {
             machine,
             answers: [Regs { a: [0; 8] }; MAX_CPUS],
+            entries: [0; MAX_CPUS],
             desk,
         }
     }
@@ -95,6 +98,14 @@ impl NotifyPlayer {
         self.answers[usize::from(cpu)]
     }
 
+    /// Where the last entry of a processor stands.
+    fn entry_of(&self, cpu: u8) -> usize
+        requires { cpu < 8 }
+        ensures { slice_get self.now.entries cpu ≡ Some result }
+    {
+        self.entries[usize::from(cpu)]
+    }
+
     /// A processor comes in.
     fn enter(&mut self, alloc: Global, cpu: u8, steps: u32, regs: &[Reg; 8]) -> Result<(), Stop>
         requires { CanComeIn self.old.machine cpu steps regs.now }
@@ -107,7 +118,9 @@ impl NotifyPlayer {
         machines_stand();
         turns_are_taken();
         let regs = registers(&self.answer_to(cpu), regs);
+        let place = self.history().len();
         self.machine.enter(alloc, Visitor { cpu, regs, steps })?;
+        self.entries[usize::from(cpu)] = place;
         Ok(())
     }
 
@@ -123,7 +136,7 @@ impl NotifyPlayer {
         machines_stand();
         journals_stay_legal();
         let answered = self.machine.leave(cpu);
-        let asked = asked_at(self.history(), cpu, answered.a[0]);
+        let asked = asked_at(self.history(), self.entry_of(cpu), cpu, answered.a[0]);
         let told = answer(&mut self.desk, natives, &asked.caller, answered, asked.duty);
         write_result(&mut self.machine, cpu, told.result);
         self.answers[usize::from(cpu)] = told.regs;

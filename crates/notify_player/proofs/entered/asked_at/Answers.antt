@@ -1,4 +1,4 @@
--- A legal history's last entry of a processor has read its head first, in RAM.
+-- An entry of a processor in a legal history has read its head first, in RAM.
 use Rattle.std.proofs.Common.{ap, refl, subst, sym, ◌∙◌}
 use Rattle.notify_play.specs.Duty.{CameIn, duty_of}
 use Rattle.notify_play.specs.Told.{told_regs}
@@ -20,7 +20,7 @@ returns-in_default-clause-argument c = tt
 
 pub duty_of-duty-requires : goal.duty_of-duty-requires
 duty_of-duty-requires c =
-    (subst IsGoodEntry c.in-Some.ensures (good-entry c.requires.0 c.args.history.now c.args.cpu c.requires.1)).head
+    (subst IsGoodEntry c.in-Some.ensures (good-entry c.requires.0 c.args.history.now c.args.at c.args.cpu c.requires.1)).head
 
 pub returns-clause-duty : goal.returns-clause-duty
 returns-clause-duty c =
@@ -32,5 +32,5 @@ returns-clause-caller c = λ desk answered.
 
 pub returns-clause-argument : goal.returns-clause-argument
 returns-clause-argument c =
-    let good = subst IsGoodEntry c.in-Some.ensures (good-entry c.requires.0 c.args.history.now c.args.cpu c.requires.1) in
+    let good = subst IsGoodEntry c.in-Some.ensures (good-entry c.requires.0 c.args.history.now c.args.at c.args.cpu c.requires.1) in
     subst HasArgument (sym c.duty_of-duty.ensures) (has-argument _ c.args.a0 good)

@@ -1,5 +1,5 @@
 -- The exit of the machine, what it asks, and what is told, written and printed of it.
-use Rattle.std.proofs.Common.{◌≡◌, ℕ, ◌<◌, List, ap, subst, sym}
+use Rattle.std.proofs.Common.{◌≡◌, ℕ, ◌<◌, List, ap, refl, subst, sym, ◌∙◌}
 use Rattle.std.specs.Prelude.{slice_set}
 use Rattle.desk_answers.specs.Duties.{duty_in}
 use Rattle.event_journal.specs.declared.event.Event.{Event}
@@ -7,10 +7,11 @@ use Rattle.kernel_model.specs.Argument.{reg}
 use Rattle.kernel_model.specs.History.{IsLegal}
 use Rattle.kernel_state.specs.Meaning.{booted_of}
 use Rattle.native_tas.specs.Table.{drivers}
-use Rattle.notify_play.specs.Duty.{duty_of, last_entry}
-use Rattle.notify_player.specs.Asking.{IsToldAlike}
+use Rattle.notify_play.specs.Duty.{CameIn, duty_of}
+use Rattle.notify_player.specs.Asking.{IsToldAlike, came_at}
+use Rattle.notify_player.proofs.Entries.{kept-entry}
 use Rattle.notify_player.proofs.Left.{argument-there}
-use Rattle.notify_player.proofs.Moved.{stands-there, went, went-out}
+use Rattle.notify_player.proofs.Moved.{stands-there, went, went-entry, went-out}
 use Rattle.notify_player.proofs.player.NotifyPlayer.leave.Goals as goal
 
 -- the journal of each core is legal
@@ -38,17 +39,23 @@ returns-clause-leaves g c = λ boot told stands.
     let lanes = c.machines_stand.ensures.lanes boot told.play c.args.self.now.machine stands.machine in
     let there = subst (λ on. c.args.cpu < on.cpus) stands.machine.booted c.requires.inside.lane in
     let asked = c.asked_at-asked.result in
+    let place = c.entry_of.result in
+    let here =
+    ap (λ (h : List Event). came_at h place c.args.cpu) c.history.ensures
+    ∙ went-entry boot c.args.cpu told.play c.leave-answered.new.self c.leave-answered.result out place
+    ∙ kept-entry told.play.history c.args.self.now.entries c.args.cpu place c.entry_of.ensures
+    (stands.entries c.args.cpu c.requires.inside.few) in
     went-out boot (drivers c.args.natives.now) told c.args.cpu c.leave-answered.new.self c.leave-answered.result
     c.args.self.now _ _ _ lanes there stands out
     (record {
       caller = asked.caller;
       asked = asked.duty;
       duty =
-          subst (λ (h : List Event). duty_in asked.duty ≡ duty_of (last_entry h c.args.cpu) (reg c.leave-answered.result.a 0))
-          c.history.ensures c.asked_at-asked.ensures.duty;
+          subst (λ (came : CameIn). duty_in asked.duty ≡ duty_of came (reg c.leave-answered.result.a 0))
+          here c.asked_at-asked.ensures.duty;
       alike =
-          subst (λ (h : List Event). IsToldAlike (last_entry h c.args.cpu).regs asked.caller.a (duty_in asked.duty))
-          c.history.ensures c.asked_at-asked.ensures.caller;
+          subst (λ (came : CameIn). IsToldAlike came.regs asked.caller.a (duty_in asked.duty))
+          here c.asked_at-asked.ensures.caller;
       regs = c.answer-told.result.regs;
       told_so = c.answer-told.ensures.regs;
       result = c.answer-told.result.result;
@@ -56,5 +63,6 @@ returns-clause-leaves g c = λ boot told stands.
       wrote = c.write_result.ensures boot;
       desk = c.answer-told.ensures.desk;
       answers = ap (λ (place : ℕ). slice_set c.args.self.now.answers place c.answer-told.result.regs) c.from.ensures;
+      entries = refl;
       line = c.in_ok-push_ret.ensures.told;
     })

@@ -24,7 +24,7 @@ returns-in-Write-clause-follows g c = λ boot told stands.
     (with_writes c.in-Write.cpu (record { addr = c.in-Write.addr; bytes = bytes } ∷ []) told.play) c.write.new.self)
     c.as_slice.ensures (c.write.ensures boot told.play stands.machine) in
     rw c.in-Write.is (wrote-follows boot (drivers c.args.natives.now) told c.in-Write.cpu c.in-Write.addr c.in-Write.bytes
-    c.args.self.now (record c.args.self.now { machine = c.write.new.self }) c.args.lines.now.items at stands refl refl)
+    c.args.self.now (record c.args.self.now { machine = c.write.new.self }) c.args.lines.now.items at stands refl refl refl)
 
 pub returns-in-Show-clause-follows : goal.returns-in-Show-clause-follows
 returns-in-Show-clause-follows g c = λ boot told stands.
