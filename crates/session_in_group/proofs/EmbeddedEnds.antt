@@ -27,7 +27,8 @@ use Rattle.own_model.specs.declared.own_reply.OwnReply.TheVariants as reply
 use Rattle.group_model.specs.Group.{Answered, Going, Group, GroupCall, GroupSession, GroupWaiter, asks, gives_back}
 use Rattle.group_model.specs.Group.{goes_out, goes_out_in, going_in, has_opened, instance_at, instance_back, leaves, opened_by, opened_with}
 use Rattle.group_model.specs.Group.{sessions_ended, sessions_panicked, sessions_unrun, shows, stopped, taken_on, woken_by}
-use Rattle.session_in_group.specs.Embedding.{call_as, instance_as, instance_of, opened_as, opened_told, reply_as}
+use Rattle.group_model.specs.declared.group_reply.GroupReply.{GroupReply}
+use Rattle.session_in_group.specs.Embedding.{call_as, instance_as, instance_of, opened_as}
 use Rattle.session_in_group.specs.Embedding.{sessions_as, waiter_as}
 use Rattle.session_in_group.proofs.EmbeddedParts.{first_as, found-mapped, if-mapped, remove_as, then-mapped}
 use Rattle.session_in_group.proofs.EmbeddedCalls.{instance_there}
@@ -226,9 +227,17 @@ kind_kept most z call (Ends result params false wakes) = refl
 
 -- ---- calls that go out
 
+-- the session that is opened where a call of this kind is told this: the one that there is
+abbrev pub opened_by_kind : Option CallKind → OwnReply → Option ℕ
+opened_by_kind (Some kind.Open) (reply.Ended result origin outputs) = if result == success then Some 0 else None
+opened_by_kind _ told = None
+
+abbrev pub reply_by_kind : Option CallKind → OwnReply → GroupReply
+reply_by_kind call_kind told = record { reply = told; opened = opened_by_kind call_kind told }
+
 -- what the machine of the group does where a call of this kind goes out
 abbrev pub answered_as : Option CallKind → own.Answered → Answered
-answered_as call_kind answered = (opened_as answered.0, option_map (reply_as call_kind) answered.1)
+answered_as call_kind answered = (opened_as answered.0, option_map (reply_by_kind call_kind) answered.1)
 
 -- it is told this, with which this session is opened
 abbrev telling : Group → OwnReply → Option ℕ → Answered
@@ -236,10 +245,10 @@ telling g told opened = (g, Some (record { reply = told; opened = opened }))
 
 -- a reply with which no session is opened
 pub record IsPlain (told : OwnReply) : Type 0 where
-  pub opens : (call_kind : CallKind) → opened_told (Some call_kind) told ≡ None
+  pub opens : (call_kind : CallKind) → opened_by_kind (Some call_kind) told ≡ None
 
 placed_as : (call_kind : CallKind) (test : Bool) (told : OwnReply) → IsPlain told
-    → opened_told (Some call_kind) (if test then told else reply.Alloc) ≡ None
+    → opened_by_kind (Some call_kind) (if test then told else reply.Alloc) ≡ None
 placed_as call_kind true told plain = plain.opens call_kind
 placed_as kind.Open false told plain = refl
 placed_as (kind.Invoke func) false told plain = refl
@@ -258,7 +267,7 @@ asks_as z number call call_kind wanted told plain =
 asked_plain : (wanted : Rpc) (payload : List ℕ) → IsPlain (reply.Ask wanted payload)
 asked_plain wanted payload = record { opens = by_kind }
   where
-    by_kind : (call_kind : CallKind) → opened_told (Some call_kind) (reply.Ask wanted payload) ≡ None
+    by_kind : (call_kind : CallKind) → opened_by_kind (Some call_kind) (reply.Ask wanted payload) ≡ None
     by_kind kind.Open = refl
     by_kind (kind.Invoke func) = refl
     by_kind kind.Close = refl
@@ -267,7 +276,7 @@ asked_plain wanted payload = record { opens = by_kind }
 sleep_plain : IsPlain reply.Sleep
 sleep_plain = record { opens = by_kind }
   where
-    by_kind : (call_kind : CallKind) → opened_told (Some call_kind) reply.Sleep ≡ None
+    by_kind : (call_kind : CallKind) → opened_by_kind (Some call_kind) reply.Sleep ≡ None
     by_kind kind.Open = refl
     by_kind (kind.Invoke func) = refl
     by_kind kind.Close = refl
@@ -276,13 +285,13 @@ sleep_plain = record { opens = by_kind }
 wake_plain : (woken : ℕ) → IsPlain (reply.Wake woken)
 wake_plain woken = record { opens = by_kind }
   where
-    by_kind : (call_kind : CallKind) → opened_told (Some call_kind) (reply.Wake woken) ≡ None
+    by_kind : (call_kind : CallKind) → opened_by_kind (Some call_kind) (reply.Wake woken) ≡ None
     by_kind kind.Open = refl
     by_kind (kind.Invoke func) = refl
     by_kind kind.Close = refl
     by_kind kind.Settled = refl
 
-free_plain : (call_kind : CallKind) → opened_told (Some call_kind) reply.Free ≡ None
+free_plain : (call_kind : CallKind) → opened_by_kind (Some call_kind) reply.Free ≡ None
 free_plain kind.Open = refl
 free_plain (kind.Invoke func) = refl
 free_plain kind.Close = refl
@@ -290,7 +299,7 @@ free_plain kind.Settled = refl
 
 -- an end tells the session that it opens
 ended_told : (call_kind : CallKind) (result : CallResult) (params : CopiedParams)
-    → opened_by call_kind 0 result ≡ opened_told (Some call_kind) (ended result params)
+    → opened_by call_kind 0 result ≡ opened_by_kind (Some call_kind) (ended result params)
 ended_told kind.Open result params = refl
 ended_told (kind.Invoke func) result params = refl
 ended_told kind.Close result params = refl

@@ -1,33 +1,34 @@
--- The machine of a session is that of a group which has this one session: at an event, and over events in a row.
-use Rattle.std.proofs.Common.{◌≡◌, ℕ, Bool, true, false, List, [], ◌∷◌, Option, Some, None, refl, ap, subst, sym, ◌∙◌, arith}
-use Rattle.std.specs.Prelude.{All, ◌==◌, cond, IsSomeAnd, filter, filter_map, map, if◌then◌else◌}
-use Rattle.std.specs.Option.{option_map, option_and_then}
+-- The machine of a session is that of a group which has this one session: at an event.
+use Rattle.std.proofs.Common.{◌≡◌, ℕ, Bool, true, false, Option, Some, None, refl, ap, subst, sym, ◌∙◌, arith}
+use Rattle.std.specs.Prelude.{◌==◌, ◌&&◌, is_some, if◌then◌else◌}
+use Rattle.std.specs.Option.{option_map}
 use Rattle.std.proofs.lemmas.Bool.Decides.{nat_tests}
-use Rattle.std.proofs.lemmas.List.Elements.{All-head, All-tail}
 use Rattle.std.proofs.lemmas.Option.{option_and_then_some}
+use Rattle.base.specs.NumberMap.{get}
 use Rattle.job_model.specs.declared.call_kind.CallKind.{CallKind}
+use Rattle.job_model.specs.declared.call_kind.CallKind.TheVariants as kind
 use Rattle.ta_params.specs.declared.copied_params.CopiedParams.{CopiedParams}
 use Rattle.ta_params.specs.declared.login.Login.{Login}
 use Rattle.kernel_model.specs.Application.{Application}
+use Rattle.kernel_model.specs.Codes.{success}
 use Rattle.kernel_model.specs.Instances.{is_single}
-use Rattle.kernel_model.proofs.Parts.{option_map_some}
 use Rattle.own_model.proofs.InOrder.{InOrderThen, if_any_of, step_so, stays_in_order}
-use Rattle.own_model.specs.Solo.{Solo, unopened}
+use Rattle.own_model.specs.Solo.{OwnCall, Solo, unopened}
 use Rattle.own_model.specs.Solo as own
 use Rattle.own_model.specs.declared.own_event.OwnEvent.{OwnEvent}
 use Rattle.own_model.specs.declared.own_event.OwnEvent.TheVariants as own_event
 use Rattle.own_model.specs.declared.own_reply.OwnReply.{OwnReply}
 use Rattle.own_model.specs.declared.own_reply.OwnReply.TheVariants as reply
-use Rattle.own_model.proofs.MoreSteps as own_runs
-use Rattle.group_model.specs.Group.{Answered, Group, and_reply, group_machine_replies, nobody_there, run, step}
+use Rattle.own_model.proofs.RepliesTold.{steps_told}
+use Rattle.group_model.specs.Group.{Answered, Group, nobody_there, step}
 use Rattle.group_model.specs.declared.group_event.GroupEvent.{GroupEvent}
 use Rattle.group_model.specs.declared.group_reply.GroupReply.{GroupReply}
-use Rattle.session_in_group.specs.Embedding.{CanAllCome, CanCome, IsFollowed, IsNoOpen, OpensFirst, RepliesAsAGroup, RepliesAsASession}
-use Rattle.session_in_group.specs.Embedding.{StepsAsAGroup, event_as, group_as, is_of_call, kind_out, opened_as, reply_as}
-use Rattle.session_in_group.proofs.EmbeddedEnds.{answered_as}
-use Rattle.session_in_group.proofs.EmbeddedAnswers.{IsAnswerFrom, IsOfCall, answers_from}
-use Rattle.session_in_group.proofs.EmbeddedSteps.{nobody_refuses, nothing_comes, open_steps, opened_can, opened_refuses, opened_steps}
-use Rattle.group_model.proofs.MoreSteps.{Ended, behind}
+use Rattle.session_in_group.specs.Embedding.{CanCome, IsFollowed, IsNoOpen}
+use Rattle.session_in_group.specs.Embedding.{StepsAsAGroup, answer_as, event_as, group_as, is_open, opened_as, opened_told}
+use Rattle.session_in_group.proofs.EmbeddedEnds.{answered_as, opened_by_kind, reply_by_kind}
+use Rattle.session_in_group.proofs.EmbeddedAnswers.{IsAnswerFrom, KeepsOn, answers_from}
+use Rattle.session_in_group.proofs.EmbeddedSteps.{kind_out, nobody_refuses, nothing_comes, open_steps, opened_can, opened_refuses, opened_steps}
+use Rattle.group_model.proofs.MoreSteps.{behind}
 
 -- ---- whether a call has come in
 
@@ -58,7 +59,7 @@ grown z has =
 
 -- ---- what is stepped to
 
-same_answer : (a b : own.Answered) → Some a ≡ Some b → a ≡ b
+pub same_answer : (a b : own.Answered) → Some a ≡ Some b → a ≡ b
 same_answer a b e = cc
 
 not_refused : {P : Type 0} (o : Option own.Answered) (answered : own.Answered) → o ≡ None → o ≡ Some answered → P
@@ -81,13 +82,12 @@ open_next most app z next told params login area followed none steps =
     same_answer (own.opens app (unopened z.key) params login area, None) (next, told)
     (sym (ap (λ (y : Solo). own.step most app y (own_event.Open params login area)) (followed.first none)) ∙ steps)
 
--- behind another event a call has come in, as before
-still_in : (most : ℕ) (app : Application) (z next : Solo) (told : Option OwnReply) (event : OwnEvent) (came : GroupEvent)
-    → event_as event ≡ Some came → own.step most app z event ≡ Some (next, told) → (z.entered ≡ 0 → ⊥)
-    → next.entered ≡ 0 → ⊥
-still_in most app z next told event came is steps has none =
-    has ((if_any_of (IsAnswerFrom z) (own.step most app z event) (next, told) (answers_from most app z event came is)
-    steps).0 none)
+-- what it keeps there
+keeps_on : (most : ℕ) (app : Application) (z next : Solo) (told : Option OwnReply) (event : OwnEvent) → IsFollowed z
+    → CanCome z event → own.step most app z event ≡ Some (next, told) → KeepsOn z.entered next
+keeps_on most app z next told event followed can steps =
+    if_any_of (IsAnswerFrom z) (own.step most app z event) (next, told)
+    (answers_from most app z event followed.opens followed.first can) steps
 
 -- ---- it stays followed
 
@@ -101,7 +101,7 @@ stays_first most app z next told event came followed behind can steps is none =
     by_first z.entered
     (λ first. not_refused (own.step most app z event) (next, told)
     (none_first most app z event came followed behind can is first) steps)
-    (λ has. absurd (still_in most app z next told event came is steps has none))
+    (λ has. absurd (has ((keeps_on most app z next told event followed can steps).none_from none)))
 
 first_after : (most : ℕ) (app : Application) (z next : Solo) (told : Option OwnReply) (event : OwnEvent) → IsFollowed z
     → CanCome z event → own.step most app z event ≡ Some (next, told) → next.entered ≡ 0 → next ≡ unopened next.key
@@ -126,18 +126,19 @@ first_after most app z next told own_event.Limited followed can steps none =
     subst (λ (y : Solo). y ≡ unopened y.key) same
     (followed.first (ap (λ (y : Solo). y.entered) same ∙ none))
 
-stays_followed : (most : ℕ) (app : Application) (z next : Solo) (told : Option OwnReply) (event : OwnEvent) → IsFollowed z
+pub stays_followed : (most : ℕ) (app : Application) (z next : Solo) (told : Option OwnReply) (event : OwnEvent) → IsFollowed z
     → CanCome z event → own.step most app z event ≡ Some (next, told) → IsFollowed next
 stays_followed most app z next told event followed can steps = record {
   in_order = if_any_of InOrderThen (own.step most app z event) (next, told) (step_so most app z event followed.in_order) steps;
   first = first_after most app z next told event followed can steps;
+  opens = (keeps_on most app z next told event followed can steps).opens;
 }
 
 -- ---- at an event
 
 -- what the group's machine steps to
 abbrev group_answer : Option CallKind → Solo → Option OwnReply → Option Answered
-group_answer call_kind next told = Some (group_as next, option_map (reply_as call_kind) told)
+group_answer call_kind next told = Some (group_as next, option_map (reply_by_kind call_kind) told)
 
 behind_steps : (most : ℕ) (app : Application) (z next : Solo) (told : Option OwnReply) (event : OwnEvent) (came : GroupEvent)
     → is_single app ≡ false → IsFollowed z → IsNoOpen event → CanCome z event
@@ -150,10 +151,11 @@ behind_steps most app z next told event came alone followed behind can steps is 
     (λ has. ap (λ (g : Group). step most app g came) (grown z has)
     ∙ opened_steps most app z event came alone followed behind can is
     ∙ ap (λ (o : Option own.Answered). option_map (answered_as (kind_out z event)) o) steps
-    ∙ ap (λ (g : Group). answer_of g) (sym (grown next (still_in most app z next told event came is steps has))))
+    ∙ ap (λ (g : Group). answer_of g)
+    (sym (grown next (λ none. has ((keeps_on most app z next told event followed can steps).none_from none)))))
   where
     answer_of : Group → Option Answered
-    answer_of g = Some (g, option_map (reply_as (kind_out z event)) told)
+    answer_of g = Some (g, option_map (reply_by_kind (kind_out z event)) told)
 
 open_first : (most : ℕ) (app : Application) (z next : Solo) (told : Option OwnReply) (params : CopiedParams) (login : Login)
     (area : Bool) (came : GroupEvent) → is_single app ≡ false → IsFollowed z → z.entered ≡ 0
@@ -166,25 +168,108 @@ open_first most app z next told params login area came alone followed none steps
     ∙ ap (λ (answered : own.Answered). group_answer None answered.0 answered.1)
     (open_next most app z next told params login area followed none steps)
 
-steps_as : (most : ℕ) (app : Application) (z next : Solo) (told : Option OwnReply) (event : OwnEvent) (came : GroupEvent)
+by_kind_as : (most : ℕ) (app : Application) (z next : Solo) (told : Option OwnReply) (event : OwnEvent) (came : GroupEvent)
     → is_single app ≡ false → IsFollowed z → CanCome z event
     → own.step most app z event ≡ Some (next, told) → event_as event ≡ Some came
     → step most app (group_as z) came ≡ group_answer (kind_out z event) next told
-steps_as most app z next told (own_event.Open params login area) came alone followed can steps is =
+by_kind_as most app z next told (own_event.Open params login area) came alone followed can steps is =
     open_first most app z next told params login area came alone followed can steps is
-steps_as most app z next told (own_event.Invoke func input area) came alone followed can steps is =
+by_kind_as most app z next told (own_event.Invoke func input area) came alone followed can steps is =
     behind_steps most app z next told (own_event.Invoke func input area) came alone followed tt can steps is
-steps_as most app z next told (own_event.Close area) came alone followed can steps is =
+by_kind_as most app z next told (own_event.Close area) came alone followed can steps is =
     behind_steps most app z next told (own_event.Close area) came alone followed tt can steps is
-steps_as most app z next told own_event.Cancel came alone followed can steps is =
+by_kind_as most app z next told own_event.Cancel came alone followed can steps is =
     behind_steps most app z next told own_event.Cancel came alone followed tt can steps is
-steps_as most app z next told (own_event.Seen number done_by_now) came alone followed can steps is =
+by_kind_as most app z next told (own_event.Seen number done_by_now) came alone followed can steps is =
     behind_steps most app z next told (own_event.Seen number done_by_now) came alone followed tt can steps is
-steps_as most app z next told (own_event.Back number input) came alone followed can steps is =
+by_kind_as most app z next told (own_event.Back number input) came alone followed can steps is =
     behind_steps most app z next told (own_event.Back number input) came alone followed tt can steps is
-steps_as most app z next told (own_event.Out number) came alone followed can steps is =
+by_kind_as most app z next told (own_event.Out number) came alone followed can steps is =
     behind_steps most app z next told (own_event.Out number) came alone followed tt can steps is
-steps_as most app z next told own_event.Limited came alone followed can steps is = absurd cc
+by_kind_as most app z next told own_event.Limited came alone followed can steps is = absurd cc
+
+-- whether a session is opened shows by the number of the call, as by its kind
+opened_same : (call_kind : CallKind) (number : ℕ) (told : OwnReply) → is_open call_kind ≡ (number == 0)
+    → opened_by_kind (Some call_kind) told ≡ opened_told number told
+opened_same kind.Open number (reply.Ended result origin outputs) is =
+    ap (λ test. if test && (result == success) then Some 0 else None) is
+opened_same (kind.Invoke func) number (reply.Ended result origin outputs) is =
+    ap (λ test. if test && (result == success) then Some 0 else None) is
+opened_same kind.Close number (reply.Ended result origin outputs) is =
+    ap (λ test. if test && (result == success) then Some 0 else None) is
+opened_same kind.Settled number (reply.Ended result origin outputs) is =
+    ap (λ test. if test && (result == success) then Some 0 else None) is
+opened_same kind.Open number reply.Alloc is = refl
+opened_same (kind.Invoke func) number reply.Alloc is = refl
+opened_same kind.Close number reply.Alloc is = refl
+opened_same kind.Settled number reply.Alloc is = refl
+opened_same kind.Open number reply.Sleep is = refl
+opened_same (kind.Invoke func) number reply.Sleep is = refl
+opened_same kind.Close number reply.Sleep is = refl
+opened_same kind.Settled number reply.Sleep is = refl
+opened_same kind.Open number (reply.Wake woken) is = refl
+opened_same (kind.Invoke func) number (reply.Wake woken) is = refl
+opened_same kind.Close number (reply.Wake woken) is = refl
+opened_same kind.Settled number (reply.Wake woken) is = refl
+opened_same kind.Open number (reply.Ask wanted payload) is = refl
+opened_same (kind.Invoke func) number (reply.Ask wanted payload) is = refl
+opened_same kind.Close number (reply.Ask wanted payload) is = refl
+opened_same kind.Settled number (reply.Ask wanted payload) is = refl
+opened_same kind.Open number reply.Free is = refl
+opened_same (kind.Invoke func) number reply.Free is = refl
+opened_same kind.Close number reply.Free is = refl
+opened_same kind.Settled number reply.Free is = refl
+opened_same kind.Open number reply.Limited is = refl
+opened_same (kind.Invoke func) number reply.Limited is = refl
+opened_same kind.Close number reply.Limited is = refl
+opened_same kind.Settled number reply.Limited is = refl
+
+-- nothing is told where no call goes out
+untold : (told : Option OwnReply) → is_some told ≡ false → option_map (reply_by_kind None) told ≡ None
+untold None none = refl
+untold (Some said) none = absurd cc
+
+out_told : (z : Solo) (number : ℕ) (call : OwnCall) (told : Option OwnReply) → get z.calls number ≡ Some call
+    → is_open call.kind ≡ (number == 0)
+    → option_map (reply_by_kind (kind_out z (own_event.Out number))) told ≡ answer_as (own_event.Out number) told
+out_told z number call told there is =
+    ap (λ (found : Option OwnCall). option_map (reply_by_kind (option_map (λ (one : OwnCall). one.kind) found)) told) there
+    ∙ by_reply told
+  where
+    by_reply : (one : Option OwnReply)
+        → option_map (reply_by_kind (Some call.kind)) one ≡ answer_as (own_event.Out number) one
+    by_reply None = refl
+    by_reply (Some said) =
+        ap (λ (opened : Option ℕ). Some (record { reply = said; opened = opened })) (opened_same call.kind number said is)
+
+same_told : (most : ℕ) (app : Application) (z next : Solo) (told : Option OwnReply) (event : OwnEvent) (came : GroupEvent)
+    → IsFollowed z → own.step most app z event ≡ Some (next, told) → event_as event ≡ Some came
+    → option_map (reply_by_kind (kind_out z event)) told ≡ answer_as event told
+same_told most app z next told (own_event.Open params login area) came followed steps is =
+    untold told (steps_told most app z (own_event.Open params login area) (next, told) steps)
+same_told most app z next told (own_event.Invoke func input area) came followed steps is =
+    untold told (steps_told most app z (own_event.Invoke func input area) (next, told) steps)
+same_told most app z next told (own_event.Close area) came followed steps is =
+    untold told (steps_told most app z (own_event.Close area) (next, told) steps)
+same_told most app z next told own_event.Cancel came followed steps is =
+    untold told (steps_told most app z own_event.Cancel (next, told) steps)
+same_told most app z next told (own_event.Seen number done_by_now) came followed steps is =
+    untold told (steps_told most app z (own_event.Seen number done_by_now) (next, told) steps)
+same_told most app z next told (own_event.Back number input) came followed steps is =
+    untold told (steps_told most app z (own_event.Back number input) (next, told) steps)
+same_told most app z next told (own_event.Out number) came followed steps is =
+    option_and_then_some (own.goes_out most z number) (get z.calls number) (next, told) steps
+    (λ call there _. out_told z number call told there (followed.opens number call there))
+same_told most app z next told own_event.Limited came followed steps is = absurd cc
+
+pub steps_as : (most : ℕ) (app : Application) (z next : Solo) (told : Option OwnReply) (event : OwnEvent) (came : GroupEvent)
+    → is_single app ≡ false → IsFollowed z → CanCome z event
+    → own.step most app z event ≡ Some (next, told) → event_as event ≡ Some came
+    → step most app (group_as z) came ≡ Some (group_as next, answer_as event told)
+steps_as most app z next told event came alone followed can steps is =
+    by_kind_as most app z next told event came alone followed can steps is
+    ∙ ap (λ (said : Option GroupReply). Some (group_as next, said))
+    (same_told most app z next told event came followed steps is)
 
 silent_so : (most : ℕ) (app : Application) (z next : Solo) (told : Option OwnReply) (event : OwnEvent)
     → own.step most app z event ≡ Some (next, told) → event_as event ≡ None → next ≡ z
@@ -198,7 +283,7 @@ silent_so most app z next told (own_event.Out number) steps is = absurd cc
 silent_so most app z next told own_event.Limited steps is =
     sym (ap (λ (answered : own.Answered). answered.0) (same_answer (z, Some reply.Limited) (next, told) steps))
 
-refuses_at : (most : ℕ) (app : Application) (z : Solo) (event : OwnEvent) (came : GroupEvent) → is_single app ≡ false
+pub refuses_at : (most : ℕ) (app : Application) (z : Solo) (event : OwnEvent) (came : GroupEvent) → is_single app ≡ false
     → IsFollowed z → IsNoOpen event → own.step most app z event ≡ None → event_as event ≡ Some came
     → step most app (group_as z) came ≡ None
 refuses_at most app z event came alone followed behind refused is =
@@ -208,7 +293,7 @@ refuses_at most app z event came alone followed behind refused is =
     (λ has. ap (λ (g : Group). step most app g came) (grown z has)
     ∙ opened_refuses most app z event came alone followed behind refused is)
 
-can_come_at : (most : ℕ) (app : Application) (z : Solo) (event : OwnEvent) (came : GroupEvent) (answered : Answered)
+pub can_come_at : (most : ℕ) (app : Application) (z : Solo) (event : OwnEvent) (came : GroupEvent) (answered : Answered)
     → IsFollowed z → IsNoOpen event → event_as event ≡ Some came → step most app (group_as z) came ≡ Some answered
     → CanCome z event
 can_come_at most app z event came answered followed behind is takes =
@@ -222,7 +307,11 @@ can_come_at most app z event came answered followed behind is takes =
 
 pub steps_as_a_group : StepsAsAGroup
 steps_as_a_group = record {
-  first = λ key. record { in_order = stays_in_order.first key; first = λ none. refl };
+  first = λ key. record {
+    in_order = stays_in_order.first key;
+    first = λ none. refl;
+    opens = λ number call there. absurd cc;
+  };
   stays = λ at next told can steps. stays_followed at.most at.app at.solo next told at.event at.followed can steps;
   steps = λ at next told came can steps is.
       steps_as at.most at.app at.solo next told at.event came at.alone at.followed can steps is;
@@ -232,290 +321,3 @@ steps_as_a_group = record {
   refuses = λ at came behind refused is.
       refuses_at at.most at.app at.solo at.event came at.alone at.followed behind refused is;
 }
-
--- ---- over events in a row
-
--- what the group was told are those replies of the session's machine that are of its calls
-abbrev SaysSame : List OwnReply → Ended → Type 0
-SaysSame replies end = map (λ (one : GroupReply). one.reply) end.1 ≡ filter is_of_call replies
-
-one_more : (call_kind : Option CallKind) (told : Option OwnReply) (g : Group) (said : List GroupReply) (replies : List OwnReply)
-    → IsOfCall told → SaysSame replies (g, said)
-    → SaysSame (own.and_reply told replies) (g, and_reply (option_map (reply_as call_kind) told) said)
-one_more call_kind None g said replies of_call same = same
-one_more call_kind (Some told) g said replies of_call same =
-    ap (λ (others : List OwnReply). told ∷ others) same
-    ∙ sym (ap (λ (test : Bool). cond test (told ∷ filter is_of_call replies) (filter is_of_call replies)) of_call)
-
-and_more : (call_kind : Option CallKind) (told : Option OwnReply) (o : Option Ended) (rest replies : List OwnReply)
-    → IsOfCall told → own.and_reply told rest ≡ replies → IsSomeAnd o (SaysSame rest)
-    → IsSomeAnd (option_map (λ (end : Ended). (end.0, and_reply (option_map (reply_as call_kind) told) end.1)) o)
-    (SaysSame replies)
-and_more call_kind told None rest replies of_call is same = absurd same
-and_more call_kind told (Some end) rest replies of_call is same =
-    one_more call_kind told end.0 end.1 rest of_call same ∙ ap (λ (all : List OwnReply). filter is_of_call all) is
-
--- an event of the group with what comes behind it
-goes_on : (most : ℕ) (app : Application) (g next : Group) (came : GroupEvent) (events : List GroupEvent)
-    (call_kind : Option CallKind) (told : Option OwnReply) (rest replies : List OwnReply)
-    → step most app g came ≡ Some (next, option_map (reply_as call_kind) told) → IsOfCall told
-    → own.and_reply told rest ≡ replies → IsSomeAnd (run most app next events) (SaysSame rest)
-    → IsSomeAnd (run most app g (came ∷ events)) (SaysSame replies)
-goes_on most app g next came events call_kind told rest replies steps of_call is same =
-    subst (λ (o : Option Answered). IsSomeAnd (option_and_then (behind most app events) o) (SaysSame replies)) (sym steps)
-    (and_more call_kind told (run most app next events) rest replies of_call is same)
-
--- one that is none of the group
-goes_by : (most : ℕ) (app : Application) (z : Solo) (answered : own.Answered) (events : List GroupEvent)
-    (rest replies : List OwnReply) → ◌≡◌ {A = own.Answered} (z, Some reply.Limited) answered
-    → own.and_reply answered.1 rest ≡ replies → IsSomeAnd (run most app (group_as answered.0) events) (SaysSame rest)
-    → IsSomeAnd (run most app (group_as z) events) (SaysSame replies)
-goes_by most app z answered events rest replies steps is same =
-    let all : filter is_of_call rest ≡ filter is_of_call replies =
-    ap (λ (a : own.Answered). filter is_of_call (own.and_reply a.1 rest)) steps
-    ∙ ap (λ (told : List OwnReply). filter is_of_call told) is in
-    subst (λ (wanted : List OwnReply). IsSomeAnd (run most app (group_as z) events)
-    (λ (end : Ended). map (λ (one : GroupReply). one.reply) end.1 ≡ wanted)) all
-    (subst (λ (a : own.Answered). IsSomeAnd (run most app (group_as a.0) events) (SaysSame rest)) (sym steps) same)
-
--- a session's machine at the first of these events, with what it steps to, and what the group says behind that
-pub record Going : Type 0 where
-  pub most : ℕ
-  pub app : Application
-  pub alone : is_single app ≡ false
-  pub solo : Solo
-  pub followed : IsFollowed solo
-  pub answered : own.Answered
-  pub events : List OwnEvent
-  pub rest : List OwnReply
-  pub same : IsSomeAnd (run most app (group_as answered.0) (filter_map event_as events)) (SaysSame rest)
-
-at_group_event : (h : Going) (event : OwnEvent) (came : GroupEvent) (replies : List OwnReply) → CanCome h.solo event
-    → own.step h.most h.app h.solo event ≡ Some h.answered → event_as event ≡ Some came
-    → own.and_reply h.answered.1 h.rest ≡ replies
-    → IsSomeAnd (run h.most h.app (group_as h.solo) (came ∷ filter_map event_as h.events)) (SaysSame replies)
-at_group_event h event came replies can steps is all =
-    goes_on h.most h.app (group_as h.solo) (group_as h.answered.0) came (filter_map event_as h.events)
-    (kind_out h.solo event) h.answered.1 h.rest replies
-    (steps_as h.most h.app h.solo h.answered.0 h.answered.1 event came h.alone h.followed can steps is)
-    (if_any_of (IsAnswerFrom h.solo) (own.step h.most h.app h.solo event) h.answered
-    (answers_from h.most h.app h.solo event came is) steps).1 all h.same
-
-at_event : (h : Going) (event : OwnEvent) (replies : List OwnReply) → CanCome h.solo event
-    → own.step h.most h.app h.solo event ≡ Some h.answered → own.and_reply h.answered.1 h.rest ≡ replies
-    → IsSomeAnd (run h.most h.app (group_as h.solo) (filter_map event_as (event ∷ h.events))) (SaysSame replies)
-at_event h (own_event.Open params login area) replies can steps all =
-    at_group_event h (own_event.Open params login area) _ replies can steps refl all
-at_event h (own_event.Invoke func input area) replies can steps all =
-    at_group_event h (own_event.Invoke func input area) _ replies can steps refl all
-at_event h (own_event.Close area) replies can steps all =
-    at_group_event h (own_event.Close area) _ replies can steps refl all
-at_event h own_event.Cancel replies can steps all = at_group_event h own_event.Cancel _ replies can steps refl all
-at_event h (own_event.Seen number done_by_now) replies can steps all =
-    at_group_event h (own_event.Seen number done_by_now) _ replies can steps refl all
-at_event h (own_event.Back number input) replies can steps all =
-    at_group_event h (own_event.Back number input) _ replies can steps refl all
-at_event h (own_event.Out number) replies can steps all =
-    at_group_event h (own_event.Out number) _ replies can steps refl all
-at_event h own_event.Limited replies can steps all =
-    goes_by h.most h.app h.solo h.answered (filter_map event_as h.events) h.rest replies
-    (same_answer (h.solo, Some reply.Limited) h.answered steps) all h.same
-
-same_end : (a b : own_runs.Ended) → Some a ≡ Some b → a ≡ b
-same_end a b e = cc
-
-runs_as : (most : ℕ) (app : Application) (z : Solo) (events : List OwnEvent) (end : own_runs.Ended) → is_single app ≡ false
-    → IsFollowed z → CanAllCome most app z events → own.run most app z events ≡ Some end
-    → IsSomeAnd (run most app (group_as z) (filter_map event_as events)) (SaysSame end.1)
-runs_as most app z [] end alone followed can runs =
-    ap (λ (last : own_runs.Ended). filter is_of_call last.1) (same_end (z, []) end runs)
-runs_as most app z (event ∷ events) end alone followed can runs =
-    option_and_then_some (own_runs.behind most app events) (own.step most app z event) end runs
-    (λ answered steps onward.
-    let rest = option_map_some (λ (rest : own_runs.Ended). (rest.0, own.and_reply answered.1 rest.1))
-    (own.run most app answered.0 events) end onward in
-    let later : CanAllCome most app answered.0 events =
-    subst (λ (o : Option own.Answered). IsSomeAnd o (λ (a : own.Answered). CanAllCome most app a.0 events)) steps can.1 in
-    at_event (record {
-      most = most;
-      app = app;
-      alone = alone;
-      solo = z;
-      followed = followed;
-      answered = answered;
-      events = events;
-      rest = rest.0.1;
-      same = runs_as most app answered.0 events rest.0 alone
-          (stays_followed most app z answered.0 answered.1 event followed can.0 steps) later rest.1;
-    }) event end.1 can.0 steps (ap (λ (last : own_runs.Ended). last.1) rest.2))
-
-told_as : (o : Option Ended) (replies wanted : List OwnReply) → replies ≡ wanted → IsSomeAnd o (SaysSame replies)
-    → IsSomeAnd (option_map (λ (end : Ended). end.1) o)
-    (λ (told : List GroupReply). map (λ (one : GroupReply). one.reply) told ≡ filter is_of_call wanted)
-told_as None replies wanted is same = absurd same
-told_as (Some end) replies wanted is same = same ∙ ap (λ (all : List OwnReply). filter is_of_call all) is
-
-pub replies_as_a_group : RepliesAsAGroup
-replies_as_a_group most app key events replies alone can told =
-    let end = option_map_some (λ (last : own_runs.Ended). last.1) (own.run most app (unopened key) events) replies told in
-    told_as (run most app (nobody_there key) (filter_map event_as events)) end.0.1 replies end.2
-    (runs_as most app (unopened key) events end.0 alone (steps_as_a_group.first key) can end.1)
-
--- ---- the other way round
-
-same_group_answer : (a b : Answered) → Some a ≡ Some b → a ≡ b
-same_group_answer a b e = cc
-
--- these can come to each machine from which on the group's takes them
-abbrev AllCanCome : ℕ → Application → List OwnEvent → Type 0
-AllCanCome most app events = (next : Solo) (end : Ended) → IsFollowed next →
-    run most app (group_as next) (filter_map event_as events) ≡ Some end → CanAllCome most app next events
-
--- behind an event that comes
-others_can : (most : ℕ) (app : Application) (z : Solo) (event : OwnEvent) (came : GroupEvent) (events : List OwnEvent)
-    (end : Ended) (answered : own.Answered)
-    → is_single app ≡ false → IsFollowed z → event_as event ≡ Some came → CanCome z event
-    → own.step most app z event ≡ Some answered → AllCanCome most app events
-    → run most app (group_as z) (came ∷ filter_map event_as events) ≡ Some end → CanAllCome most app answered.0 events
-others_can most app z event came events end answered alone followed is can steps all runs =
-    option_and_then_some (behind most app (filter_map event_as events)) (step most app (group_as z) came) end runs
-    (λ taken takes onward.
-    let rest = option_map_some (λ (rest : Ended). (rest.0, and_reply taken.1 rest.1))
-    (run most app taken.0 (filter_map event_as events)) end onward in
-    let same : taken ≡ (group_as answered.0, option_map (reply_as (kind_out z event)) answered.1) =
-    same_group_answer taken (group_as answered.0, option_map (reply_as (kind_out z event)) answered.1) (sym takes
-    ∙ steps_as most app z answered.0 answered.1 event came alone followed can steps is) in
-    all answered.0 rest.0 (stays_followed most app z answered.0 answered.1 event followed can steps)
-    (ap (λ (a : Answered). run most app a.0 (filter_map event_as events)) (sym same) ∙ rest.1))
-
--- an event that is no open, with those behind it
-one_can : (most : ℕ) (app : Application) (z : Solo) (event : OwnEvent) (came : GroupEvent) (events : List OwnEvent)
-    (end : Ended)
-    → is_single app ≡ false → IsFollowed z → IsNoOpen event → event_as event ≡ Some came → AllCanCome most app events
-    → run most app (group_as z) (came ∷ filter_map event_as events) ≡ Some end
-    → CanAllCome most app z (event ∷ events)
-one_can most app z event came events end alone followed no_open is all runs = (can, by_step (own.step most app z event) refl)
-  where
-    can : CanCome z event
-    can =
-        option_and_then_some (behind most app (filter_map event_as events)) (step most app (group_as z) came) end runs
-        (λ taken takes _. can_come_at most app z event came taken followed no_open is takes)
-
-    by_step : (o : Option own.Answered) → own.step most app z event ≡ o
-        → IsSomeAnd o (λ (answered : own.Answered). CanAllCome most app answered.0 events)
-    by_step None refused =
-        option_and_then_some (behind most app (filter_map event_as events)) (step most app (group_as z) came) end runs
-        (λ taken takes _.
-        let no : None ≡ Some taken = sym (refuses_at most app z event came alone followed no_open refused is) ∙ takes in
-        absurd cc)
-    by_step (Some answered) steps =
-        others_can most app z event came events end answered alone followed is can steps all runs
-
--- an event with those behind it
-event_can : (most : ℕ) (app : Application) (event : OwnEvent) (events : List OwnEvent) → is_single app ≡ false
-    → IsNoOpen event → AllCanCome most app events → AllCanCome most app (event ∷ events)
-event_can most app (own_event.Open params login area) events alone no_open rest =
-    λ next end followed runs. absurd no_open
-event_can most app (own_event.Invoke func input area) events alone no_open rest =
-    λ next end followed runs.
-    one_can most app next (own_event.Invoke func input area) _ events end alone followed tt refl rest runs
-event_can most app (own_event.Close area) events alone no_open rest =
-    λ next end followed runs. one_can most app next (own_event.Close area) _ events end alone followed tt refl rest runs
-event_can most app own_event.Cancel events alone no_open rest =
-    λ next end followed runs. one_can most app next own_event.Cancel _ events end alone followed tt refl rest runs
-event_can most app (own_event.Seen number done_by_now) events alone no_open rest =
-    λ next end followed runs.
-    one_can most app next (own_event.Seen number done_by_now) _ events end alone followed tt refl rest runs
-event_can most app (own_event.Back number input) events alone no_open rest =
-    λ next end followed runs.
-    one_can most app next (own_event.Back number input) _ events end alone followed tt refl rest runs
-event_can most app (own_event.Out number) events alone no_open rest =
-    λ next end followed runs. one_can most app next (own_event.Out number) _ events end alone followed tt refl rest runs
-event_can most app own_event.Limited events alone no_open rest =
-    λ next end followed runs. (tt, rest next end followed runs)
-
-all_can : (most : ℕ) (app : Application) (events : List OwnEvent) → is_single app ≡ false → All IsNoOpen events
-    → AllCanCome most app events
-all_can most app [] alone no_opens = λ next end followed runs. tt
-all_can most app (event ∷ events) alone no_opens =
-    event_can most app event events alone (All-head IsNoOpen event events no_opens)
-    (all_can most app events alone (All-tail IsNoOpen event events no_opens))
-
--- from the start on
-first_can : (most : ℕ) (app : Application) (key : List ℕ) (events : List OwnEvent) (end : Ended) → is_single app ≡ false
-    → OpensFirst events → run most app (nobody_there key) (filter_map event_as events) ≡ Some end
-    → CanAllCome most app (unopened key) events
-first_can most app key [] end alone opens runs = tt
-first_can most app key (own_event.Open params login area ∷ events) end alone opens runs = (
-  refl,
-  others_can most app (unopened key) (own_event.Open params login area) _ events end
-      (own.opens app (unopened key) params login area, None) alone (steps_as_a_group.first key) refl refl refl
-      (all_can most app events alone opens) runs,
-)
-first_can most app key (own_event.Invoke func input area ∷ events) end alone opens runs =
-    one_can most app (unopened key) (own_event.Invoke func input area) _ events end alone (steps_as_a_group.first key) tt refl
-    (all_can most app events alone opens) runs
-first_can most app key (own_event.Close area ∷ events) end alone opens runs =
-    one_can most app (unopened key) (own_event.Close area) _ events end alone (steps_as_a_group.first key) tt refl
-    (all_can most app events alone opens) runs
-first_can most app key (own_event.Cancel ∷ events) end alone opens runs =
-    one_can most app (unopened key) own_event.Cancel _ events end alone (steps_as_a_group.first key) tt refl
-    (all_can most app events alone opens) runs
-first_can most app key (own_event.Seen number done_by_now ∷ events) end alone opens runs =
-    one_can most app (unopened key) (own_event.Seen number done_by_now) _ events end alone (steps_as_a_group.first key) tt
-    refl (all_can most app events alone opens) runs
-first_can most app key (own_event.Back number input ∷ events) end alone opens runs =
-    one_can most app (unopened key) (own_event.Back number input) _ events end alone (steps_as_a_group.first key) tt refl
-    (all_can most app events alone opens) runs
-first_can most app key (own_event.Out number ∷ events) end alone opens runs =
-    one_can most app (unopened key) (own_event.Out number) _ events end alone (steps_as_a_group.first key) tt refl
-    (all_can most app events alone opens) runs
-first_can most app key (own_event.Limited ∷ events) end alone opens runs =
-    (tt, first_can most app key events end alone opens runs)
-
--- what can come is run through
-some_more : (told : Option OwnReply) (o : Option own_runs.Ended) → IsSomeAnd o (λ (end : own_runs.Ended). Unit {0})
-    → IsSomeAnd (option_map (λ (rest : own_runs.Ended). (rest.0, own.and_reply told rest.1)) o)
-    (λ (end : own_runs.Ended). Unit {0})
-some_more told None some = absurd some
-some_more told (Some end) some = tt
-
-steps_through : (most : ℕ) (app : Application) (events : List OwnEvent) (o : Option own.Answered)
-    → ((next : Solo) → CanAllCome most app next events
-    → IsSomeAnd (own.run most app next events) (λ (end : own_runs.Ended). Unit {0}))
-    → IsSomeAnd o (λ (answered : own.Answered). CanAllCome most app answered.0 events)
-    → IsSomeAnd (option_and_then (own_runs.behind most app events) o) (λ (end : own_runs.Ended). Unit {0})
-steps_through most app events None rest later = absurd later
-steps_through most app events (Some answered) rest later =
-    some_more answered.1 (own.run most app answered.0 events) (rest answered.0 later)
-
-runs_through : (most : ℕ) (app : Application) (z : Solo) (events : List OwnEvent) → CanAllCome most app z events
-    → IsSomeAnd (own.run most app z events) (λ (end : own_runs.Ended). Unit {0})
-runs_through most app z [] can = tt
-runs_through most app z (event ∷ events) can =
-    steps_through most app events (own.step most app z event)
-    (λ next later. runs_through most app next events later) can.1
-
-told_back : (o : Option (List GroupReply)) (told : List GroupReply) (wanted : List OwnReply) → o ≡ Some told
-    → IsSomeAnd o (λ (said : List GroupReply). map (λ (one : GroupReply). one.reply) said ≡ wanted)
-    → wanted ≡ map (λ (one : GroupReply). one.reply) told
-told_back None told wanted is same = absurd same
-told_back (Some said) told wanted is same =
-    let there : said ≡ told = cc in
-    sym same ∙ ap (λ (all : List GroupReply). map (λ (one : GroupReply). one.reply) all) there
-
-pub replies_as_a_session : RepliesAsASession
-replies_as_a_session most app key events told alone opens says =
-    let end = option_map_some (λ (last : Ended). last.1) (run most app (nobody_there key) (filter_map event_as events)) told says in
-    let can = first_can most app key events end.0 alone opens end.1 in
-    by_run (own.run most app (unopened key) events) refl (runs_through most app (unopened key) events can) can
-  where
-    by_run : (o : Option own_runs.Ended) → own.run most app (unopened key) events ≡ o
-        → IsSomeAnd o (λ (end : own_runs.Ended). Unit {0}) → CanAllCome most app (unopened key) events
-        → IsSomeAnd (option_map (λ (end : own_runs.Ended). end.1) o)
-        (λ (replies : List OwnReply). filter is_of_call replies ≡ map (λ (one : GroupReply). one.reply) told)
-    by_run None is some can = absurd some
-    by_run (Some end) is some can =
-        told_back (group_machine_replies most app key (filter_map event_as events)) told (filter is_of_call end.1) says
-        (replies_as_a_group most app key events end.1 alone can
-        (ap (λ (o : Option own_runs.Ended). option_map (λ (last : own_runs.Ended). last.1) o) is))

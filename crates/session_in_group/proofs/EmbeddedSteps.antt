@@ -15,7 +15,7 @@ use Rattle.own_model.specs.declared.own_event.OwnEvent.TheVariants as own_event
 use Rattle.group_model.specs.Group.{Answered, Group, GroupCall, Home, closes, comes_back, goes_out, home, invokes, nobody_there}
 use Rattle.group_model.specs.Group.{sees, settles, silent, step}
 use Rattle.group_model.specs.declared.group_event.GroupEvent.{GroupEvent}
-use Rattle.session_in_group.specs.Embedding.{CanCome, IsAtHome, IsFollowed, IsNoOpen, call_as, event_as, kind_out}
+use Rattle.session_in_group.specs.Embedding.{CanCome, IsAtHome, IsFollowed, IsNoOpen, call_as, event_as}
 use Rattle.session_in_group.specs.Embedding.{opened_as}
 use Rattle.session_in_group.proofs.EmbeddedParts.{found-mapped, get_as}
 use Rattle.session_in_group.proofs.EmbeddedCalls.{by_home, closes_as, group_home, invokes_as, opens_as, own_home, settles_as}
@@ -23,6 +23,11 @@ use Rattle.session_in_group.proofs.EmbeddedReturns.{back_as, sees_as}
 use Rattle.session_in_group.proofs.EmbeddedEnds.{answered_as, out_as}
 
 -- ---- once the open has come in
+
+-- the kind of the call that goes out
+abbrev pub kind_out : Solo → OwnEvent → Option CallKind
+kind_out z (own_event.Out number) = option_map (λ (call : OwnCall). call.kind) (get z.calls number)
+kind_out z _ = None
 
 silent_as : (call_kind : Option CallKind) (o : Option Solo)
     → option_map silent (option_map opened_as o) ≡ option_map (answered_as call_kind) (option_map own.silent o)

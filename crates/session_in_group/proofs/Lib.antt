@@ -5,3 +5,8 @@ pub mod EmbeddedEnds
 pub mod EmbeddedAnswers
 pub mod EmbeddedSteps
 pub mod EmbeddedMachines
+pub mod EmbeddedRuns
+pub mod AlongHistories
+pub mod ComingCalls
+pub mod ComingEvents
+pub mod OneLaw

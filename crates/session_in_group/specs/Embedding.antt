@@ -1,6 +1,6 @@
 -- The machine of a session as the machine of a group: the group has this one session, with number 0, and its instance has
 -- number 1. This project's own.
-use Rattle.std.specs.Prelude.{◌≡◌, ℕ, ◌==◌, Bool, true, false, List, [], ◌∷◌, Option, Some, None, IsSomeAnd, All, map, filter}
+use Rattle.std.specs.Prelude.{◌≡◌, ℕ, ◌==◌, ◌&&◌, Bool, true, false, List, [], ◌∷◌, Option, Some, None, IsSomeAnd, All, map}
 use Rattle.std.specs.Prelude.{filter_map, if◌then◌else◌}
 use Rattle.std.specs.Option.{option_map}
 use Rattle.base.specs.NumberMap.{NumberMap, get}
@@ -94,18 +94,25 @@ event_as (own_event.Back number input) = Some (Back number input)
 event_as (own_event.Out number) = Some (Out number)
 event_as own_event.Limited = None
 
--- the kind of the call that goes out
-abbrev pub kind_out : Solo → OwnEvent → Option CallKind
-kind_out z (own_event.Out number) = option_map (λ (call : OwnCall). call.kind) (get z.calls number)
-kind_out z _ = None
+-- the session that is opened where the call of this number is told this: a session's first call is its open, and no other is
+abbrev pub opened_told : ℕ → OwnReply → Option ℕ
+opened_told number (reply.Ended result origin outputs) = if (number == 0) && (result == success) then Some 0 else None
+opened_told number _ = None
 
--- the session that is opened where a call of this kind is told this: the one that there is
-abbrev pub opened_told : Option CallKind → OwnReply → Option ℕ
-opened_told (Some kind.Open) (reply.Ended result origin outputs) = if result == success then Some 0 else None
-opened_told _ told = None
+abbrev pub reply_as : ℕ → OwnReply → GroupReply
+reply_as number told = record { reply = told; opened = opened_told number told }
 
-abbrev pub reply_as : Option CallKind → OwnReply → GroupReply
-reply_as call_kind told = record { reply = told; opened = opened_told call_kind told }
+-- what the group is told at an event of the session: nothing where none of its calls goes out
+abbrev pub answer_as : OwnEvent → Option OwnReply → Option GroupReply
+answer_as (own_event.Out number) told = option_map (reply_as number) told
+answer_as _ told = None
+
+-- at events in a row, to which the session had these replies: one wherever a call went out, and one at each Limited
+abbrev pub replies_as : List OwnEvent → List OwnReply → List GroupReply
+replies_as [] replies = []
+replies_as (own_event.Out number ∷ events) (told ∷ replies) = reply_as number told ∷ replies_as events replies
+replies_as (own_event.Limited ∷ events) (told ∷ replies) = replies_as events replies
+replies_as (_ ∷ events) replies = replies_as events replies
 
 -- ---- events that can come
 
@@ -135,11 +142,22 @@ CanAllCome most app z (event ∷ events) =
     CanCome z event
     × IsSomeAnd (own.step most app z event) (λ (answered : own.Answered). CanAllCome most app answered.0 events)
 
+abbrev pub is_open : CallKind → Bool
+is_open kind.Open = true
+is_open (kind.Invoke func) = false
+is_open kind.Close = false
+is_open kind.Settled = false
+
+-- of these calls the first is an open, and no other
+abbrev pub OnlyFirstOpens : NumberMap OwnCall → Type 0
+OnlyFirstOpens calls = (number : ℕ) (call : OwnCall) → get calls number ≡ Some call → is_open call.kind ≡ (number == 0)
+
 -- what holds of the machine of a session at all times, where what comes can come
 pub record IsFollowed (z : Solo) : Type 0 where
   pub in_order : own_order.IsInOrder z
   -- before its first call nothing is there
   pub first : z.entered ≡ 0 → z ≡ unopened z.key
+  pub opens : OnlyFirstOpens z.calls
 
 -- ---- the laws
 
@@ -170,7 +188,7 @@ pub record StepsAsAGroup : Type 0 where
   pub steps : (at : Moment) (next : Solo) (told : Option OwnReply) (came : GroupEvent) → CanCome at.solo at.event →
       stepped at ≡ Some (next, told) → event_as at.event ≡ Some came →
       step at.most at.app (group_as at.solo) came
-      ≡ Some (group_as next, option_map (reply_as (kind_out at.solo at.event)) told)
+      ≡ Some (group_as next, answer_as at.event told)
   -- where the group has no such event, it stays what it is
   pub silent : (at : Moment) (next : Solo) (told : Option OwnReply) → stepped at ≡ Some (next, told) →
       event_as at.event ≡ None → next ≡ at.solo
@@ -182,19 +200,12 @@ pub record StepsAsAGroup : Type 0 where
   pub refuses : (at : Moment) (came : GroupEvent) → IsNoOpen at.event → stepped at ≡ None →
       event_as at.event ≡ Some came → step at.most at.app (group_as at.solo) came ≡ None
 
--- a reply to one of its calls
-abbrev pub is_of_call : OwnReply → Bool
-is_of_call reply.Limited = false
-is_of_call _ = true
-
--- and so over events in a row, from the start on: the group's machine replies to them what the session's does, but for
--- those that are none of the group
+-- and so over events in a row, from the start on
 abbrev pub RepliesAsAGroup : Type 0
 RepliesAsAGroup = (most : ℕ) (app : Application) (key : List ℕ) (events : List OwnEvent) (replies : List OwnReply) →
     is_single app ≡ false → CanAllCome most app (unopened key) events →
     solo_replies most app key events ≡ Some replies →
-    IsSomeAnd (group_machine_replies most app key (filter_map event_as events))
-    (λ (told : List GroupReply). map (λ (one : GroupReply). one.reply) told ≡ filter is_of_call replies)
+    group_machine_replies most app key (filter_map event_as events) ≡ Some (replies_as events replies)
 
 -- the first of these that is an event of a group may be an open, and no other
 abbrev pub OpensFirst : List OwnEvent → Type 0
@@ -208,5 +219,4 @@ abbrev pub RepliesAsASession : Type 0
 RepliesAsASession = (most : ℕ) (app : Application) (key : List ℕ) (events : List OwnEvent) (told : List GroupReply) →
     is_single app ≡ false → OpensFirst events →
     group_machine_replies most app key (filter_map event_as events) ≡ Some told →
-    IsSomeAnd (solo_replies most app key events)
-    (λ (replies : List OwnReply). filter is_of_call replies ≡ map (λ (one : GroupReply). one.reply) told)
+    IsSomeAnd (solo_replies most app key events) (λ (replies : List OwnReply). told ≡ replies_as events replies)

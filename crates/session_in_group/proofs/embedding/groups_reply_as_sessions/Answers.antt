@@ -1,4 +1,4 @@
-use Rattle.session_in_group.proofs.EmbeddedMachines.{replies_as_a_session as law}
+use Rattle.session_in_group.proofs.EmbeddedRuns.{replies_as_a_session as law}
 use Rattle.session_in_group.proofs.embedding.groups_reply_as_sessions.Goals as goal
 
 pub returns : goal.returns
