@@ -12,12 +12,11 @@ use Rattle.ns_ram.specs.Reads.{total_bytes}
 use Rattle.play_model.specs.Play.{Play}
 use Rattle.smc_abi.specs.declared.regs.Regs.{Regs}
 use Rattle.smc_port.specs.Smc.{Changes, Smc}
-use Rattle.teec.specs.Calls.{Call}
 use Rattle.teec.specs.Rounds.{Calls, Cancels, Ended, Failed, Resumes, Stage, regs_at}
 use Rattle.teec.specs.Runs.{Scene, Turns}
 use Rattle.teec.specs.declared.fault.TeecFault.{TeecFault}
-use Rattle.client_play.specs.Served.{HasNoRoom, IsRun, IsServed, RunsAreCalls, RunsFail, RunsStop, events_of, scene_of}
-use Rattle.client_play.specs.Standing.{Came, Fails, Returned, Standing, Stopped, after_smc, answer_of, call_from, next_stage, play_of, prepared, standing_after, unless_ended, unless_full}
+use Rattle.client_play.specs.Served.{CallOn, HasNoRoom, IsRun, IsServed, Point, RunsAreCalls, RunsFail, RunsStop, comes_from, events_of, point_of, scene_of}
+use Rattle.client_play.specs.Standing.{Came, Fails, Returned, Standing, Stopped, after_smc, answer_of, next_stage, play_of, prepared, standing_after, unless_ended, unless_full}
 use Rattle.client_play.proofs.Preparing.{prepares_alike}
 use Rattle.client_play.proofs.Smcs.{one_smc}
 
@@ -41,25 +40,29 @@ behind old smc next between = record {
   storage = between.storage;
 }
 
-goes_on : (boot : Booted) (cancel_after : Option ℕ) (call : Call) (room : ℕ) (stage : Stage) (old : Standing) (smc : Smc)
-    (next : Kernel) (between : Scene) → Turns call stage (scene_of old) smc between → IsServed boot old.kernel smc next
-    → copied_bytes old.history + total_bytes smc.reads ≤ 2 ^ 28
-    → call_from boot cancel_after call (suc room) stage old
-    ≡ call_from boot cancel_after call room (next_stage cancel_after stage smc.answer) (behind old smc next between)
+-- and how far the call has come
+abbrev point_behind : CallOn → Point → Smc → Kernel → Scene → Point
+point_behind on from smc next between =
+    point_of (next_stage on.cancel_after from.stage smc.answer) (behind from.standing smc next between)
+
+goes_on : (on : CallOn) (from : Point) (room : ℕ) (smc : Smc) (next : Kernel) (between : Scene)
+    → Turns on.call from.stage (scene_of from.standing) smc between → IsServed on.boot from.standing.kernel smc next
+    → copied_bytes from.standing.history + total_bytes smc.reads ≤ 2 ^ 28
+    → comes_from on from (suc room) ≡ comes_from on (point_behind on from smc next between) room
 unfolding behind
-goes_on boot cancel_after call room stage old smc next between turns served few =
-    let asked = prepared call stage old in
-    let ready : turns.asked ≡ scene_of asked = (prepares_alike call stage (scene_of old) turns.asked).0 turns.prepared in
+goes_on on from room smc next between turns served few =
+    let asked = prepared on.call from.stage from.standing in
+    let ready : turns.asked ≡ scene_of asked = (prepares_alike on.call from.stage (scene_of from.standing) turns.asked).0 turns.prepared in
     let changes = subst (λ (scene : Scene). Changes scene.ram smc between.ram) ready turns.changed in
     let stored : asked.storage ≡ between.storage = sym (turns.storage ∙ ap (λ (scene : Scene). scene.storage) ready) in
-    let to = one_smc boot asked smc next between.ram served changes few in
+    let to = one_smc on.boot asked smc next between.ram served changes few in
     let onward = λ (play : Play).
-    call_from boot cancel_after call room (next_stage cancel_after stage (answer_of play)) (standing_after play asked.storage) in
-    next_smc (suc room) stage old (λ regs. option_and_then (unless_full onward) (after_smc boot regs asked)) smc.regs turns.regs
+    comes_from on (point_of (next_stage on.cancel_after from.stage (answer_of play)) (standing_after play asked.storage)) room in
+    next_smc (suc room) from.stage from.standing (λ regs. option_and_then (unless_full onward) (after_smc on.boot regs asked)) smc.regs turns.regs
     ∙ ap (λ (o : Option Play). option_and_then (unless_full onward) o) to.comes
     ∙ ap (λ (o : Option ℕ). option_map_or (λ more. Some (Stopped more to.play.history)) o (onward to.play)) to.going
-    ∙ (λ i. call_from boot cancel_after call room (next_stage cancel_after stage (to.answer i))
-    (record { kernel = to.kernel i; history = to.history i; ram = to.lane i; storage = stored i }))
+    ∙ (λ i. comes_from on (point_of (next_stage on.cancel_after from.stage (to.answer i))
+    (record { kernel = to.kernel i; history = to.history i; ram = to.lane i; storage = stored i })) room)
 
 -- ---- how many bytes were read
 
@@ -76,34 +79,34 @@ few_at_first old smc smcs new is few =
 
 -- ---- the rest of a run
 
-rest_of : (boot : Booted) (cancel_after : Option ℕ) (call : Call) (stage last : Stage) (old new : Standing) (smc : Smc) (smcs : List Smc)
-    → (run : IsRun boot cancel_after call stage old (smc ∷ smcs) last new)
-    → IsRun boot cancel_after call (next_stage cancel_after stage smc.answer) (behind old smc run.served.0 run.runs.0) smcs last new
+-- where its first SMC has led
+abbrev behind_first : (on : CallOn) (from to : Point) (smc : Smc) (smcs : List Smc) → IsRun on from (smc ∷ smcs) to → Point
+behind_first on from to smc smcs run = point_behind on from smc run.served.0 run.runs.0
+
+rest_of : (on : CallOn) (from to : Point) (smc : Smc) (smcs : List Smc) (run : IsRun on from (smc ∷ smcs) to)
+    → IsRun on (behind_first on from to smc smcs run) smcs to
 unfolding behind
-rest_of boot cancel_after call stage last old new smc smcs run = record {
+rest_of on from to smc smcs run = record {
   served = run.served.2;
-  history = run.history ∙ sym (append_assoc old.history (events_of smc) (flat_map events_of smcs));
+  history = run.history ∙ sym (append_assoc from.standing.history (events_of smc) (flat_map events_of smcs));
   few_bytes = run.few_bytes;
   runs = run.runs.2;
 }
 
 -- a run steps on as the call does
-steps : (boot : Booted) (cancel_after : Option ℕ) (call : Call) (room : ℕ) (stage last : Stage) (old new : Standing) (smc : Smc)
-    (smcs : List Smc) → (run : IsRun boot cancel_after call stage old (smc ∷ smcs) last new)
-    → call_from boot cancel_after call (suc room) stage old
-    ≡ call_from boot cancel_after call room (next_stage cancel_after stage smc.answer) (behind old smc run.served.0 run.runs.0)
-steps boot cancel_after call room stage last old new smc smcs run =
-    goes_on boot cancel_after call room stage old smc run.served.0 run.runs.0 run.runs.1 run.served.1
-    (few_at_first old.history smc smcs new.history run.history run.few_bytes)
+steps : (on : CallOn) (from to : Point) (smc : Smc) (smcs : List Smc) (room : ℕ) (run : IsRun on from (smc ∷ smcs) to)
+    → comes_from on from (suc room) ≡ comes_from on (behind_first on from to smc smcs run) room
+steps on from to smc smcs room run =
+    goes_on on from room smc run.served.0 run.runs.0 run.runs.1 run.served.1
+    (few_at_first from.standing.history smc smcs to.standing.history run.history run.few_bytes)
 
 -- one of no SMCs
-stays : (boot : Booted) (cancel_after : Option ℕ) (call : Call) (stage last : Stage) (old new : Standing)
-    → IsRun boot cancel_after call stage old [] last new → (last ≡ stage) × (new ≡ old)
-stays boot cancel_after call stage last old new run = (
+stays : (on : CallOn) (from to : Point) → IsRun on from [] to → (to.stage ≡ from.stage) × (to.standing ≡ from.standing)
+stays on from to run = (
   run.runs.0,
   λ i. record {
     kernel = run.served i;
-    history = (run.history ∙ append-nil old.history) i;
+    history = (run.history ∙ append-nil from.standing.history) i;
     ram = (run.runs.1 i).ram;
     storage = (run.runs.1 i).storage;
   },
@@ -111,46 +114,41 @@ stays boot cancel_after call stage last old new run = (
 
 -- ---- one that ends
 
-ended : (boot : Booted) (cancel_after : Option ℕ) (call : Call) (room : ℕ) (standing : Standing)
-    → call_from boot cancel_after call room Ended standing ≡ Some (Returned room standing)
-ended boot cancel_after call zero standing = refl
-ended boot cancel_after call (suc room) standing = refl
+ended : (on : CallOn) (standing : Standing) (room : ℕ) → comes_from on (point_of Ended standing) room ≡ Some (Returned room standing)
+ended on standing zero = refl
+ended on standing (suc room) = refl
 
 pub runs_are_calls : RunsAreCalls
-runs_are_calls boot cancel_after call stage room old new [] run few =
-    let same = stays boot cancel_after call stage Ended old new run in
+runs_are_calls on from [] new room run few =
+    let same = stays on from (point_of Ended new) run in
     let all : room ≡ room - 0 = omega arith in
-    subst (λ (at : Stage). call_from boot cancel_after call room at old ≡ Some (Returned (room - 0) new)) same.0
-    (ended boot cancel_after call room old ∙ (λ i. Some (Returned (all i) (sym same.1 i))))
-runs_are_calls boot cancel_after call stage zero old new (smc ∷ smcs) run few = absurd (omega (arith, few))
-runs_are_calls boot cancel_after call stage (suc room) old new (smc ∷ smcs) run few =
+    subst (λ (at : Stage). comes_from on (point_of at from.standing) room ≡ Some (Returned (room - 0) new)) same.0
+    (ended on from.standing room ∙ (λ i. Some (Returned (all i) (sym same.1 i))))
+runs_are_calls on from (smc ∷ smcs) new zero run few = absurd (omega (arith, few))
+runs_are_calls on from (smc ∷ smcs) new (suc room) run few =
+    let to = point_of Ended new in
     let fewer : length smcs ≤ room = omega (arith, few) in
     let left : room - length smcs ≡ suc room - suc (length smcs) = omega arith in
-    steps boot cancel_after call room stage Ended old new smc smcs run
-    ∙ runs_are_calls boot cancel_after call (next_stage cancel_after stage smc.answer) room
-    (behind old smc run.served.0 run.runs.0) new smcs
-    (rest_of boot cancel_after call stage Ended old new smc smcs run) fewer
+    steps on from to smc smcs room run
+    ∙ runs_are_calls on (behind_first on from to smc smcs run) smcs new room (rest_of on from to smc smcs run) fewer
     ∙ ap (λ (n : ℕ). Some (Returned n new)) left
 
 -- ---- one that fails
 
-failed : (boot : Booted) (cancel_after : Option ℕ) (call : Call) (room : ℕ) (fault : TeecFault) (standing : Standing)
-    → call_from boot cancel_after call room (Failed fault) standing ≡ Some (Fails fault)
-failed boot cancel_after call zero fault standing = refl
-failed boot cancel_after call (suc room) fault standing = refl
+failed : (on : CallOn) (standing : Standing) (room : ℕ) (fault : TeecFault)
+    → comes_from on (point_of (Failed fault) standing) room ≡ Some (Fails fault)
+failed on standing zero fault = refl
+failed on standing (suc room) fault = refl
 
 pub runs_fail : RunsFail
-runs_fail boot cancel_after call stage room fault old new [] run few =
-    let same = stays boot cancel_after call stage (Failed fault) old new run in
-    subst (λ (at : Stage). call_from boot cancel_after call room at old ≡ Some (Fails fault)) same.0
-    (failed boot cancel_after call room fault old)
-runs_fail boot cancel_after call stage zero fault old new (smc ∷ smcs) run few = absurd (omega (arith, few))
-runs_fail boot cancel_after call stage (suc room) fault old new (smc ∷ smcs) run few =
+runs_fail on from to [] room fault run is few =
+    subst (λ (at : Stage). comes_from on (point_of at from.standing) room ≡ Some (Fails fault)) (sym is ∙ (stays on from to run).0)
+    (failed on from.standing room fault)
+runs_fail on from to (smc ∷ smcs) zero fault run is few = absurd (omega (arith, few))
+runs_fail on from to (smc ∷ smcs) (suc room) fault run is few =
     let fewer : length smcs ≤ room = omega (arith, few) in
-    steps boot cancel_after call room stage (Failed fault) old new smc smcs run
-    ∙ runs_fail boot cancel_after call (next_stage cancel_after stage smc.answer) room fault
-    (behind old smc run.served.0 run.runs.0) new smcs
-    (rest_of boot cancel_after call stage (Failed fault) old new smc smcs run) fewer
+    steps on from to smc smcs room run
+    ∙ runs_fail on (behind_first on from to smc smcs run) to smcs room fault (rest_of on from to smc smcs run) is fewer
 
 -- ---- one that stops
 
@@ -159,43 +157,41 @@ refused_by : (boot : Booted) (asked : Standing) (regs : Regs) (more : ℕ) (onwa
     → option_and_then (unless_full onward) (after_smc boot regs asked) ≡ Some (Stopped more asked.history)
 refused_by boot asked regs more onward refused = ap (λ (o : Option Play). option_and_then (unless_full onward) o) refused
 
-stops_here : (boot : Booted) (cancel_after : Option ℕ) (call : Call) (stage : Stage) (room more : ℕ) (standing : Standing) (regs : Regs)
-    → regs_at stage ≡ Some regs → HasNoRoom boot room regs (prepared call stage standing) more
-    → call_from boot cancel_after call room stage standing ≡ Some (Stopped more standing.history)
-stops_here boot cancel_after call stage zero more standing regs is none =
+stops_here : (on : CallOn) (stage : Stage) (standing : Standing) (room more : ℕ) (regs : Regs) → regs_at stage ≡ Some regs
+    → HasNoRoom on.boot room regs (prepared on.call stage standing) more
+    → comes_from on (point_of stage standing) room ≡ Some (Stopped more standing.history)
+stops_here on stage standing zero more regs is none =
     elim none [
       | inl spent ↦
           next_smc 0 stage standing (λ regs. Some (Stopped 0 standing.history)) regs is
           ∙ ap (λ (n : ℕ). Some (Stopped n standing.history)) (sym spent.1)
       | inr full ↦ absurd (omega (arith, full.0))
     ]
-stops_here boot cancel_after call stage (suc room) more standing regs is none =
+stops_here on stage standing (suc room) more regs is none =
     elim none [
       | inl spent ↦ absurd (omega (arith, spent.0))
       | inr full ↦
-          let asked = prepared call stage standing in
+          let asked = prepared on.call stage standing in
           let onward = λ (play : Play).
-          call_from boot cancel_after call room (next_stage cancel_after stage (answer_of play)) (standing_after play asked.storage) in
-          next_smc (suc room) stage standing (λ regs. option_and_then (unless_full onward) (after_smc boot regs asked)) regs is
-          ∙ refused_by boot asked regs more onward full.1
+          comes_from on (point_of (next_stage on.cancel_after stage (answer_of play)) (standing_after play asked.storage)) room in
+          next_smc (suc room) stage standing (λ regs. option_and_then (unless_full onward) (after_smc on.boot regs asked)) regs is
+          ∙ refused_by on.boot asked regs more onward full.1
     ]
 
 pub runs_stop : RunsStop
-runs_stop boot cancel_after call stage last room more old new [] regs run few is none =
-    let same = stays boot cancel_after call stage last old new run in
+runs_stop on from to [] room more regs run few is none =
+    let same = stays on from to run in
     let all : room - 0 ≡ room = omega arith in
-    let here : HasNoRoom boot room regs (prepared call last new) more =
-    subst (λ (n : ℕ). HasNoRoom boot n regs (prepared call last new) more) all none in
-    subst (λ (at : Stage). call_from boot cancel_after call room at old ≡ Some (Stopped more new.history)) same.0
-    (subst (λ (standing : Standing). call_from boot cancel_after call room last standing ≡ Some (Stopped more new.history)) same.1
-    (stops_here boot cancel_after call last room more new regs is here))
-runs_stop boot cancel_after call stage last zero more old new (smc ∷ smcs) regs run few is none = absurd (omega (arith, few))
-runs_stop boot cancel_after call stage last (suc room) more old new (smc ∷ smcs) regs run few is none =
+    let here : HasNoRoom on.boot room regs (prepared on.call to.stage to.standing) more =
+    subst (λ (n : ℕ). HasNoRoom on.boot n regs (prepared on.call to.stage to.standing) more) all none in
+    subst (λ (at : Stage). comes_from on (point_of at from.standing) room ≡ Some (Stopped more to.standing.history)) same.0
+    (subst (λ (standing : Standing). comes_from on (point_of to.stage standing) room ≡ Some (Stopped more to.standing.history)) same.1
+    (stops_here on to.stage to.standing room more regs is here))
+runs_stop on from to (smc ∷ smcs) zero more regs run few is none = absurd (omega (arith, few))
+runs_stop on from to (smc ∷ smcs) (suc room) more regs run few is none =
     let fewer : length smcs ≤ room = omega (arith, few) in
     let left : suc room - suc (length smcs) ≡ room - length smcs = omega arith in
-    let later : HasNoRoom boot (room - length smcs) regs (prepared call last new) more =
-    subst (λ (n : ℕ). HasNoRoom boot n regs (prepared call last new) more) left none in
-    steps boot cancel_after call room stage last old new smc smcs run
-    ∙ runs_stop boot cancel_after call (next_stage cancel_after stage smc.answer) last room more
-    (behind old smc run.served.0 run.runs.0) new smcs regs
-    (rest_of boot cancel_after call stage last old new smc smcs run) fewer is later
+    let later : HasNoRoom on.boot (room - length smcs) regs (prepared on.call to.stage to.standing) more =
+    subst (λ (n : ℕ). HasNoRoom on.boot n regs (prepared on.call to.stage to.standing) more) left none in
+    steps on from to smc smcs room run
+    ∙ runs_stop on (behind_first on from to smc smcs run) to smcs room more regs (rest_of on from to smc smcs run) fewer is later

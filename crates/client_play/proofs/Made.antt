@@ -25,11 +25,10 @@ use Rattle.play_model.proofs.Entries.{left}
 use Rattle.play_model.proofs.EventsCome.{exits_come}
 use Rattle.smc_abi.specs.declared.regs.Regs.{Regs}
 use Rattle.smc_port.specs.Smc.{Smc}
-use Rattle.teec.specs.Calls.{Call}
 use Rattle.teec.specs.Rounds.{Calls, Cancels, Ended, Failed, Resumes, Stage, regs_at}
 use Rattle.teec.specs.Runs.{Runs}
 use Rattle.client_play.specs.Laws.{CallsAreMadeAlike, MakesAlike}
-use Rattle.client_play.specs.Served.{IsServed, events_of, scene_of}
+use Rattle.client_play.specs.Served.{CallOn, IsServed, events_of, point_of, scene_of}
 use Rattle.client_play.specs.Standing.{Came, Fails, Returned, Standing, Stopped, after_smc, answer_of, call_from, most_returns, next_stage, play_of, prepared, standing_after, steps_granted, tries, unless_full, visit_with}
 use Rattle.client_play.proofs.Going.{next_smc}
 use Rattle.client_play.proofs.Preparing.{prepares_alike}
@@ -128,15 +127,15 @@ smc_made boot regs asked play e going =
 
 -- ---- a call
 
-module _ (boot : Booted) (cancel_after : Option ℕ) (call : Call) (new : Standing) where
+module _ (on : CallOn) (new : Standing) where
   -- an SMC, and all that come behind it
   one_more : (stage : Stage) (old : Standing) (regs : Regs) (play : Play) → regs_at stage ≡ Some regs
-      → MakesSmc boot regs (prepared call stage old) play
-      → MakesAlike boot cancel_after call (next_stage cancel_after stage (answer_of play))
-      (standing_after play (prepared call stage old).storage) new
-      → MakesAlike boot cancel_after call stage old new
+      → MakesSmc on.boot regs (prepared on.call stage old) play
+      → MakesAlike on (point_of (next_stage on.cancel_after stage (answer_of play)) (standing_after play (prepared on.call stage old).storage))
+      new
+      → MakesAlike on (point_of stage old) new
   one_more stage old regs play is first others =
-      let asked = prepared call stage old in
+      let asked = prepared on.call stage old in
       record {
         smcs = first.smc ∷ others.smcs;
         served = (play.kernel, first.served, others.served);
@@ -147,13 +146,13 @@ module _ (boot : Booted) (cancel_after : Option ℕ) (call : Call) (new : Standi
           scene_of (standing_after play asked.storage),
           record {
             asked = scene_of asked;
-            prepared = (prepares_alike call stage (scene_of old) (scene_of asked)).1 refl;
+            prepared = (prepares_alike on.call stage (scene_of old) (scene_of asked)).1 refl;
             regs = is ∙ ap Some (sym first.with);
             changed = record { read = first.read; inside = inside.0; written = first.lane };
             storage = refl;
           },
-          subst (λ (answer : Regs). Runs (record { retries = tries; rounds = most_returns; cancel_after = cancel_after }) call
-              (next_stage cancel_after stage answer) (scene_of (standing_after play asked.storage)) others.smcs Ended (scene_of new))
+          subst (λ (answer : Regs). Runs (record { retries = tries; rounds = most_returns; cancel_after = on.cancel_after }) on.call
+              (next_stage on.cancel_after stage answer) (scene_of (standing_after play asked.storage)) others.smcs Ended (scene_of new))
               first.answer (others.runs inside.1),
         );
       }
@@ -169,37 +168,37 @@ module _ (boot : Booted) (cancel_after : Option ℕ) (call : Call) (new : Standi
       absurd cc
 
   going : (room left : ℕ) (stage : Stage) (old : Standing) (regs : Regs) → regs_at stage ≡ Some regs
-      → ((next : Stage) (between : Standing) → call_from boot cancel_after call room next between ≡ Some (Returned left new)
-      → MakesAlike boot cancel_after call next between new)
-      → call_from boot cancel_after call (suc room) stage old ≡ Some (Returned left new) → MakesAlike boot cancel_after call stage old new
+      → ((next : Stage) (between : Standing) → call_from on.boot on.cancel_after on.call room next between ≡ Some (Returned left new)
+      → MakesAlike on (point_of next between) new)
+      → call_from on.boot on.cancel_after on.call (suc room) stage old ≡ Some (Returned left new) → MakesAlike on (point_of stage old) new
   going room left stage old regs is later e =
-      let asked = prepared call stage old in
+      let asked = prepared on.call stage old in
       let onward = λ (play : Play).
-      call_from boot cancel_after call room (next_stage cancel_after stage (answer_of play)) (standing_after play asked.storage) in
-      let came = sym (next_smc (suc room) stage old (λ regs. option_and_then (unless_full onward) (after_smc boot regs asked)) regs is) ∙ e in
-      option_and_then_some (unless_full onward) (after_smc boot regs asked) (Returned left new) came
+      call_from on.boot on.cancel_after on.call room (next_stage on.cancel_after stage (answer_of play)) (standing_after play asked.storage) in
+      let came = sym (next_smc (suc room) stage old (λ regs. option_and_then (unless_full onward) (after_smc on.boot regs asked)) regs is) ∙ e in
+      option_and_then_some (unless_full onward) (after_smc on.boot regs asked) (Returned left new) came
       (λ (play : Play) there full.
-      let on = goes_behind play onward left play.refused refl full in
-      one_more stage old regs play is (smc_made boot regs asked play there on.0)
-      (later (next_stage cancel_after stage (answer_of play)) (standing_after play asked.storage) on.1))
+      let went = goes_behind play onward left play.refused refl full in
+      one_more stage old regs play is (smc_made on.boot regs asked play there went.0)
+      (later (next_stage on.cancel_after stage (answer_of play)) (standing_after play asked.storage) went.1))
 
   -- where no more SMCs can be made, none is
   spent : (left : ℕ) (stage : Stage) (old : Standing) (regs : Regs) → regs_at stage ≡ Some regs
-      → call_from boot cancel_after call 0 stage old ≡ Some (Returned left new) → MakesAlike boot cancel_after call stage old new
+      → call_from on.boot on.cancel_after on.call 0 stage old ≡ Some (Returned left new) → MakesAlike on (point_of stage old) new
   spent left stage old regs is e =
       let stops : Some (Stopped 0 old.history) ≡ Some (Returned left new) =
       sym (next_smc 0 stage old (λ regs. Some (Stopped 0 old.history)) regs is) ∙ e in
       absurd cc
 
   ends : (room left : ℕ) (old : Standing) → Some (Returned room old) ≡ Some (Returned left new)
-      → MakesAlike boot cancel_after call Ended old new
+      → MakesAlike on (point_of Ended old) new
   ends room left old e =
       let same : old ≡ new = cc in
-      subst (λ (last : Standing). MakesAlike boot cancel_after call Ended old last) same
+      subst (λ (last : Standing). MakesAlike on (point_of Ended old) last) same
       (record { smcs = []; served = refl; history = sym (append-nil old.history); runs = λ inside. (refl, refl) })
 
-  made_from : (room left : ℕ) (stage : Stage) (old : Standing) → call_from boot cancel_after call room stage old ≡ Some (Returned left new)
-      → MakesAlike boot cancel_after call stage old new
+  made_from : (room left : ℕ) (stage : Stage) (old : Standing) → call_from on.boot on.cancel_after on.call room stage old ≡ Some (Returned left new)
+      → MakesAlike on (point_of stage old) new
   made_from zero left Ended old e = ends 0 left old e
   made_from zero left (Failed fault) old e = let fails : Some (Fails fault) ≡ Some (Returned left new) = e in absurd cc
   made_from zero left (Calls refused) old e = spent left (Calls refused) old _ refl e
@@ -215,4 +214,4 @@ module _ (boot : Booted) (cancel_after : Option ℕ) (call : Call) (new : Standi
       going room left (Resumes returns rpc) old _ refl (λ next between. made_from room left next between) e
 
 pub calls_are_made_alike : CallsAreMadeAlike
-calls_are_made_alike boot cancel_after call room left old new e = made_from boot cancel_after call new room left (Calls 0) old e
+calls_are_made_alike on room left old new e = made_from on new room left (Calls 0) old e

@@ -17,7 +17,7 @@ use Rattle.teec.specs.Calls.{Call}
 use Rattle.teec.specs.Rounds.{Ended, Failed, Stage, regs_at}
 use Rattle.teec.specs.Runs.{Runs, Scene}
 use Rattle.teec.specs.declared.fault.TeecFault.{TeecFault}
-use Rattle.client_play.specs.Standing.{Fails, Returned, Standing, Stopped, after_smc, call_from, most_returns, play_of, prepared, steps_granted, tries}
+use Rattle.client_play.specs.Standing.{Came, Fails, Returned, Standing, Stopped, after_smc, call_from, most_returns, play_of, prepared, steps_granted, tries}
 
 -- ---- one SMC after the other
 
@@ -64,20 +64,43 @@ SmcsAreServed = (boot : Booted) (history : List Event) (kernel last : Kernel) (s
 abbrev pub scene_of : Standing → Scene
 scene_of standing = record { ram = standing.ram; storage = standing.storage }
 
--- a run of SMCs that the core has served leads from the one to the other, whose history is behind by their events. All that the
--- core has read it may have read
-pub record IsRun (boot : Booted) (cancel_after : Option ℕ) (call : Call) (stage : Stage) (old : Standing) (smcs : List Smc) (last : Stage)
-    (new : Standing) : Type 0 where
-  pub served : AreServed boot old.kernel smcs new.kernel
-  pub history : new.history ≡ old.history ++ flat_map events_of smcs
-  pub few_bytes : copied_bytes new.history ≤ 2 ^ 28
-  pub runs : Runs (record { retries = tries; rounds = most_returns; cancel_after = cancel_after }) call stage (scene_of old) smcs last (scene_of new)
+-- a client's call on a core, and before the answer to which of its RPC returns it is cancelled
+pub record CallOn : Type 0 where
+  pub boot : Booted
+  pub call : Call
+  pub cancel_after : Option ℕ
 
--- one that ends is the call on the core
+-- how far a call has come: its stage, and how core, RAM and storage stand there
+pub record Point : Type 0 where
+  pub stage : Stage
+  pub standing : Standing
+
+abbrev pub point_of : Stage → Standing → Point
+point_of stage standing = record { stage = stage; standing = standing }
+
+-- these SMCs are those that a client makes from one point of its call to the other
+abbrev pub IsMadeOf : CallOn → Point → List Smc → Point → Type 0
+IsMadeOf on from smcs to =
+    Runs (record { retries = tries; rounds = most_returns; cancel_after = on.cancel_after }) on.call from.stage
+    (scene_of from.standing) smcs to.stage (scene_of to.standing)
+
+-- and the core has served them: its history at the end is that of the beginning with their events. All that it has read it may have
+-- read
+pub record IsRun (on : CallOn) (from : Point) (smcs : List Smc) (to : Point) : Type 0 where
+  pub served : AreServed on.boot from.standing.kernel smcs to.standing.kernel
+  pub history : to.standing.history ≡ from.standing.history ++ flat_map events_of smcs
+  pub few_bytes : copied_bytes to.standing.history ≤ 2 ^ 28
+  pub runs : IsMadeOf on from smcs to
+
+-- what the call comes to from a point on, where so many more SMCs can be made
+abbrev pub comes_from : CallOn → Point → ℕ → Option Came
+comes_from on from room = call_from on.boot on.cancel_after on.call room from.stage from.standing
+
+-- a run that ends is the call on the core
 abbrev pub RunsAreCalls : Type 0
-RunsAreCalls = (boot : Booted) (cancel_after : Option ℕ) (call : Call) (stage : Stage) (room : ℕ) (old new : Standing) (smcs : List Smc) →
-    IsRun boot cancel_after call stage old smcs Ended new → length smcs ≤ room →
-    call_from boot cancel_after call room stage old ≡ Some (Returned (room - length smcs) new)
+RunsAreCalls = (on : CallOn) (from : Point) (smcs : List Smc) (new : Standing) (room : ℕ) →
+    IsRun on from smcs (point_of Ended new) → length smcs ≤ room →
+    comes_from on from room ≡ Some (Returned (room - length smcs) new)
 
 -- there is no room for an SMC: as many were made as a client makes; or the core refuses its entry, which would have read so many
 -- bytes
@@ -88,14 +111,12 @@ HasNoRoom boot room regs asked more =
 
 -- and one that comes to a stage whose SMC has no room stops there
 abbrev pub RunsStop : Type 0
-RunsStop = (boot : Booted) (cancel_after : Option ℕ) (call : Call) (stage last : Stage) (room more : ℕ) (old new : Standing)
-    (smcs : List Smc) (regs : Regs) →
-    IsRun boot cancel_after call stage old smcs last new → length smcs ≤ room → regs_at last ≡ Some regs →
-    HasNoRoom boot (room - length smcs) regs (prepared call last new) more →
-    call_from boot cancel_after call room stage old ≡ Some (Stopped more new.history)
+RunsStop = (on : CallOn) (from to : Point) (smcs : List Smc) (room more : ℕ) (regs : Regs) →
+    IsRun on from smcs to → length smcs ≤ room → regs_at to.stage ≡ Some regs →
+    HasNoRoom on.boot (room - length smcs) regs (prepared on.call to.stage to.standing) more →
+    comes_from on from room ≡ Some (Stopped more to.standing.history)
 
 -- one that fails by its answers is a call that does
 abbrev pub RunsFail : Type 0
-RunsFail = (boot : Booted) (cancel_after : Option ℕ) (call : Call) (stage : Stage) (room : ℕ) (fault : TeecFault) (old new : Standing)
-    (smcs : List Smc) → IsRun boot cancel_after call stage old smcs (Failed fault) new → length smcs ≤ room →
-    call_from boot cancel_after call room stage old ≡ Some (Fails fault)
+RunsFail = (on : CallOn) (from to : Point) (smcs : List Smc) (room : ℕ) (fault : TeecFault) →
+    IsRun on from smcs to → to.stage ≡ Failed fault → length smcs ≤ room → comes_from on from room ≡ Some (Fails fault)

@@ -11,7 +11,7 @@ use Rattle.client_play.specs.Laws.{scene_after}
 use Rattle.client_play.specs.Making.{prepared_at}
 use Rattle.client_play.specs.Played.{Client, call_made}
 use Rattle.client_play.specs.Printed.{call_text, outputs_text}
-use Rattle.client_play.specs.Served.{AreServed, HasNoRoom, HaveTheirWrites, IsRun, events_of}
+use Rattle.client_play.specs.Served.{AreServed, CallOn, HasNoRoom, HaveTheirWrites, IsRun, Point, events_of, point_of}
 use Rattle.client_play.specs.Standing.{Fails, Returned, Standing, Stopped, called, play_of, prepared}
 use Rattle.client_text.specs.declared.script.ScriptCall.{ScriptCall}
 use Rattle.core_port.proofs.OfPlay.{no_room}
@@ -26,7 +26,7 @@ use Rattle.smc_abi.specs.declared.regs.Regs.{Regs}
 use Rattle.smc_port.specs.Smc.{Smc}
 use Rattle.teec.specs.Calls.{Call}
 use Rattle.teec.specs.Client.{Calling, limits_of}
-use Rattle.teec.specs.Rounds.{Calls, Ended, Failed, Stage}
+use Rattle.teec.specs.Rounds.{Calls, Ended, Failed}
 use Rattle.teec.specs.Runs.{Moment, Runs, Scene, Went, moment, scene_of}
 use Rattle.teec.specs.Runs as over_port
 use Rattle.teec.specs.declared.fault.TeecFault.{TeecFault}
@@ -103,16 +103,24 @@ pub record ComesBack (boot : Booted) (place : Client) (now : Calling CoreView) (
 
 module _ (boot : Booted) (place : Client) (names : Sessions) (old now : Calling CoreView) (cancel_after : Option ℕ) (call : Call)
     (at : IsAt boot place (player_of old names)) (over : IsOver boot now.world) where
+  -- the call on this core, and where it begins
+  abbrev on : CallOn
+  on = record { boot = boot; call = call; cancel_after = cancel_after }
+
+  abbrev start : Point
+  start = point_of (Calls 0) place.standing
+
   -- what the core has of a run that has made all SMCs of the port
   since : (last : Moment) (went : Went (limits_of old cancel_after) call (first_of old) last) → last.made ≡ smcs_made now.world
       → Behind boot place.standing.kernel old.world now.world went.smcs
   since last went all = behind boot place.standing.kernel old.world now.world went.smcs at.over over at.kernel (sym all ∙ went.made)
 
   run_of : (last : Moment) (went : Went (limits_of old cancel_after) call (first_of old) last) → (all : last.made ≡ smcs_made now.world)
-      → IsRun boot cancel_after call (Calls 0) place.standing went.smcs last.stage (come_to now (since last went all).last last.scene)
+      → IsRun on start went.smcs (point_of last.stage (come_to now (since last went all).last last.scene))
   run_of last went all =
       let core = since last went all in
-      subst (λ (standing : Standing). IsRun boot cancel_after call (Calls 0) standing went.smcs last.stage (come_to now core.last last.scene))
+      subst (λ (standing : Standing).
+      IsRun on (point_of (Calls 0) standing) went.smcs (point_of last.stage (come_to now core.last last.scene)))
       (sym at.standing)
       (record {
         served = core.served;
@@ -146,8 +154,7 @@ module _ (boot : Booted) (place : Client) (names : Sessions) (old now : Calling 
         kernel = core.last;
         there = core.there;
         counted = few.1;
-        comes = runs_are_calls boot cancel_after call (Calls 0) place.room place.standing (standing_of core.last now) went.smcs
-            (run_of last went refl) few.0;
+        comes = runs_are_calls on start went.smcs (standing_of core.last now) place.room (run_of last went refl) few.0;
       }
 
   -- ---- one that stopped
@@ -158,9 +165,8 @@ module _ (boot : Booted) (place : Client) (names : Sessions) (old now : Calling 
   failed_so reason stopped is =
       let core = since stopped.last stopped.went stopped.all_made in
       let few = few_made stopped.last stopped.went stopped.all_made in
-      runs_fail boot cancel_after call (Calls 0) place.room reason place.standing (come_to now core.last stopped.last.scene) stopped.went.smcs
-      (subst (λ (stage : Stage). IsRun boot cancel_after call (Calls 0) place.standing stopped.went.smcs stage (come_to now core.last stopped.last.scene))
-      is (run_of stopped.last stopped.went stopped.all_made)) few.0
+      runs_fail on start (point_of stopped.last.stage (come_to now core.last stopped.last.scene)) stopped.went.smcs place.room reason
+      (run_of stopped.last stopped.went stopped.all_made) is few.0
 
   -- which none does that can be made
   pub can_stop : (reason : TeecFault) → StoppedBy old now cancel_after call reason
@@ -209,7 +215,7 @@ module _ (boot : Booted) (place : Client) (names : Sessions) (old now : Calling 
       let without = without_room left regs asked none in (
         without.0,
         now.world.history,
-        runs_stop boot cancel_after call (Calls 0) last.stage place.room without.0 place.standing new stopped.went.smcs regs
+        runs_stop on start (point_of last.stage new) stopped.went.smcs place.room without.0 regs
             (run_of last stopped.went stopped.all_made) few.0 stopped.stop.next without.1,
       )
 
