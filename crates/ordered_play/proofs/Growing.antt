@@ -10,16 +10,15 @@ use Rattle.kernel_model.specs.History.{exit_after}
 use Rattle.ns_ram.specs.Lane.{bytes_at}
 use Rattle.ns_ram.specs.Reads.{HoldsReads}
 use Rattle.ns_ram.specs.declared.read.Read.{Read}
-use Rattle.trace_text.specs.declared.item.Item.{Item}
 use Rattle.trace_text.specs.declared.item.Reg.{Reg}
 use Rattle.ordered_play.proofs.Events.{next_last, next_stands, none_at_end, one_longer}
 use Rattle.ordered_play.proofs.Longer.{acts_stay}
 use Rattle.ordered_play.proofs.Ready.{ready_anew}
 use Rattle.ordered_play.proofs.Turn.{entry_by}
 use Rattle.ordered_play.specs.Act.{Act, Comes, Leaves, Writes, Shows, acts_for}
-use Rattle.ordered_play.specs.Laws.{PartsGrow, longer}
-use Rattle.ordered_play.specs.Merge.{Part, seat_left, seat_of, share_of}
-use Rattle.ordered_play.specs.Part.{AreActsOf, ComesIn, GoesOut, IsActOf, IsPart, Share, Standing, StopsAtEvent}
+use Rattle.ordered_play.specs.Laws.{PartsGrow, later, longer}
+use Rattle.ordered_play.specs.Merge.{Part, seat_left, seat_of}
+use Rattle.ordered_play.specs.Part.{AreActsOf, ComesIn, GoesOut, IsActOf, IsPart, Role, Share, Standing, StopsAtEvent}
 use Rattle.ordered_play.specs.Part.{first_standing, next_event}
 use Rattle.ordered_play.specs.Seat.{Shown, Told, ready_for, with_line, with_writes}
 
@@ -124,17 +123,16 @@ skip of (Shows addr len ∷ acts) now =
 
 -- ---- one event more
 
-module _ (of : Share) (event : Event) (items : List Item) (lane : List ℕ) (end : Standing)
-    (part : IsPart of items lane end) where
+module _ (of : Role) (event : Event) (end : Standing) (part : IsPart of end) where
   -- the part with it
   pub record Grown (rest : List Act) (new : Standing) : Type 0 where
-    pub now : Part (longer of (event ∷ [])) items lane
+    pub now : Part (later of (event ∷ []))
     pub comes_to : ready_for rest new.seat ≡ seat_of now
 
   pub grows : (act : Act) (rest : List Act) (new : Standing) → part.left ≡ act ∷ rest
-      → IsActOf (longer of (event ∷ [])) act end new → new.used ≡ length (of.history ++ event ∷ []) → Grown rest new
+      → IsActOf (longer of.share (event ∷ [])) act end new → new.used ≡ length (of.share.history ++ event ∷ []) → Grown rest new
   grows act rest new left is used =
-      let after = longer of (event ∷ []) in
+      let after = longer of.share (event ∷ []) in
       let more = skip after rest new in
       let cut = part.cut ∙ ap (λ (acts : List Act). part.done ++ acts) left
       ∙ ap (λ (acts : List Act). part.done ++ act ∷ acts) more.cut
@@ -146,57 +144,55 @@ module _ (of : Share) (event : Event) (items : List Item) (lane : List ℕ) (end
             done = part.done ++ act ∷ more.skipped;
             left = more.left;
             cut = cut;
-            acts = acts_in_row after part.done (act ∷ more.skipped) (first_standing lane) end more.end
-                (acts_stay of (event ∷ []) part.done (first_standing lane) end part.acts) (new, is, more.are);
-            spent = ap (next_event after.history of.cpu) (more.used ∙ used) ∙ none_at_end of.cpu after.history;
+            acts = acts_in_row after part.done (act ∷ more.skipped) (first_standing of.lane) end more.end
+                (acts_stay of.share (event ∷ []) part.done (first_standing of.lane) end part.acts) (new, is, more.are);
+            spent = ap (next_event after.history of.share.cpu) (more.used ∙ used) ∙ none_at_end of.share.cpu after.history;
             stops = more.stops;
           };
         };
         comes_to = more.ready;
       }
 
-  inside : end.used ≤ length of.history
-  inside = used_within of part.done (first_standing lane) end (omega arith) part.acts
+  inside : end.used ≤ length of.share.history
+  inside = used_within of.share part.done (first_standing of.lane) end (omega arith) part.acts
 
 -- an entry is done
-pub come_in : (of : Share) (items : List Item) (lane : List ℕ) (end : Standing) (part : IsPart of items lane end)
-    (steps : ℕ) (regs : List Reg) (reads : List Read) → HoldsReads end.seat.lane reads
-    → ComesIn (longer of (entry_by of.cpu end.seat steps regs reads ∷ [])) steps regs end
-    (record { used = length of.history + 1; seat = record end.seat { entry_at = length of.history } })
-come_in of items lane end part steps regs reads holds =
-    let event = entry_by of.cpu end.seat steps regs reads in
+pub come_in : (of : Role) (end : Standing) (part : IsPart of end) (steps : ℕ) (regs : List Reg) (reads : List Read) → HoldsReads end.seat.lane reads
+    → ComesIn (longer of.share (entry_by of.share.cpu end.seat steps regs reads ∷ [])) steps regs end
+    (record { used = length of.share.history + 1; seat = record end.seat { entry_at = length of.share.history } })
+come_in of end part steps regs reads holds =
+    let event = entry_by of.share.cpu end.seat steps regs reads in
     record {
-      at = length of.history;
+      at = length of.share.history;
       reads = reads;
-      next = next_last of.cpu end.used of.history event (inside of event items lane end part) refl part.spent;
+      next = next_last of.share.cpu end.used of.share.history event (inside of event end part) refl part.spent;
       holds = holds;
       stands = refl;
     }
 
 -- an exit is done
-pub go_out : (of : Share) (items : List Item) (lane : List ℕ) (end : Standing) (part : IsPart of items lane end)
-    (exited : Exited) → exit_after of.boot of.history of.cpu ≡ Some exited
-    → GoesOut (longer of (Exit of.cpu (record { a = exited.regs }) ∷ [])) end
+pub go_out : (of : Role) (end : Standing) (part : IsPart of end) (exited : Exited) → exit_after of.share.boot of.share.history of.share.cpu ≡ Some exited
+    → GoesOut (longer of.share (Exit of.share.cpu (record { a = exited.regs }) ∷ [])) end
     (record {
-      used = length of.history + 1;
-      seat = with_line (Told exited.regs end.seat.entry_at (length of.history))
+      used = length of.share.history + 1;
+      seat = with_line (Told exited.regs end.seat.entry_at (length of.share.history))
           (with_writes exited.writes (record end.seat { answer = exited.regs }));
     })
-go_out of items lane end part exited exits =
-    let event : Event = Exit of.cpu (record { a = exited.regs }) in
+go_out of end part exited exits =
+    let event : Event = Exit of.share.cpu (record { a = exited.regs }) in
     record {
-      at = length of.history;
+      at = length of.share.history;
       exited = exited;
-      next = next_last of.cpu end.used of.history event (inside of event items lane end part) refl part.spent;
-      exits = ap (λ (h : List Event). exit_after of.boot h of.cpu) (take-append_seam of.history (event ∷ [])) ∙ exits;
+      next = next_last of.share.cpu end.used of.share.history event (inside of event end part) refl part.spent;
+      exits = ap (λ (h : List Event). exit_after of.share.boot h of.share.cpu) (take-append_seam of.share.history (event ∷ [])) ∙ exits;
       stands = refl;
     }
 
 pub parts_grow : PartsGrow
 parts_grow = record {
-  begins = λ boot cpu items lane.
-      let none : List Event = [] in
-      let start = skip (share_of boot none cpu) (acts_for cpu items) (first_standing lane) in (
+  begins = λ of none.
+      let cpu = of.share.cpu in
+      let start = skip of.share (acts_for cpu of.items) (first_standing of.lane) in (
         record {
           end = start.end;
           is_part = record {
@@ -204,25 +200,26 @@ parts_grow = record {
             left = start.left;
             cut = start.cut;
             acts = start.are;
-            spent = ap (next_event none cpu) start.used ∙ none_at_end cpu none;
+            spent = ap (next_event of.share.history cpu) start.used ∙ ap (λ (h : List Event). next_event h cpu 0) none
+                ∙ none_at_end cpu [];
             stops = start.stops;
           };
         },
         start.ready,
       );
-  comes = λ of items lane part steps regs rest reads left holds.
-      let event = entry_by of.cpu part.end.seat steps regs reads in
-      let entered = record part.end.seat { entry_at = length of.history } in
-      let grown = grows of event items lane part.end part.is_part (Comes steps regs) rest
-      (record { used = length of.history + 1; seat = entered }) left
-      (come_in of items lane part.end part.is_part steps regs reads holds) (sym (one_longer of.history event)) in
+  comes = λ of part steps regs rest reads left holds.
+      let event = entry_by of.share.cpu part.end.seat steps regs reads in
+      let entered = record part.end.seat { entry_at = length of.share.history } in
+      let grown = grows of event part.end part.is_part (Comes steps regs) rest
+      (record { used = length of.share.history + 1; seat = entered }) left
+      (come_in of part.end part.is_part steps regs reads holds) (sym (one_longer of.share.history event)) in
       (grown.now, ready_anew rest part.is_part.left entered ∙ grown.comes_to);
-  goes = λ of items lane part rest exited left exits.
-      let event : Event = Exit of.cpu (record { a = exited.regs }) in
-      let gone = with_line (Told exited.regs part.end.seat.entry_at (length of.history))
+  goes = λ of part rest exited left exits.
+      let event : Event = Exit of.share.cpu (record { a = exited.regs }) in
+      let gone = with_line (Told exited.regs part.end.seat.entry_at (length of.share.history))
       (with_writes exited.writes (record part.end.seat { answer = exited.regs })) in
-      let grown = grows of event items lane part.end part.is_part Leaves rest
-      (record { used = length of.history + 1; seat = gone }) left
-      (go_out of items lane part.end part.is_part exited exits) (sym (one_longer of.history event)) in
+      let grown = grows of event part.end part.is_part Leaves rest
+      (record { used = length of.share.history + 1; seat = gone }) left
+      (go_out of part.end part.is_part exited exits) (sym (one_longer of.share.history event)) in
       (grown.now, ready_anew rest part.is_part.left gone ∙ grown.comes_to);
 }

@@ -8,13 +8,12 @@ use Rattle.event_journal.specs.Journal.{copied_bytes}
 use Rattle.kernel_model.specs.History.{exit_after, kernel_after}
 use Rattle.kernel_model.specs.Laws.{IsOfOther}
 use Rattle.ns_ram.specs.Reads.{total_bytes}
-use Rattle.trace_text.specs.declared.item.Item.{Item}
 use Rattle.ordered_play.proofs.Events.{next_stands, next_stays, none_stays}
 use Rattle.ordered_play.specs.Act.{Act, Comes, Leaves, Writes, Shows}
-use Rattle.ordered_play.specs.Laws.{PartsStay, longer}
+use Rattle.ordered_play.specs.Laws.{PartsStay, later, longer}
 use Rattle.ordered_play.specs.Merge.{IsRefusedIf, Part, seat_of, seat_with}
 use Rattle.ordered_play.specs.Ordered.{refused_seat}
-use Rattle.ordered_play.specs.Part.{AreActsOf, ComesIn, GoesOut, IsActOf, IsPart, Share, Standing, first_standing}
+use Rattle.ordered_play.specs.Part.{AreActsOf, ComesIn, GoesOut, IsActOf, IsPart, Role, Share, Standing, first_standing}
 use Rattle.trace_text.specs.declared.item.Reg.{Reg}
 
 module _ (of : Share) (more : List Event) where
@@ -54,62 +53,59 @@ module _ (of : Share) (more : List Event) where
   acts_stay (act ∷ done) old new are = (are.0, act_stays act old are.0 are.1, acts_stay done are.0 new are.2)
 
 -- the part with the same acts
-abbrev pub part_stays : (of : Share) (more : List Event) (items : List Item) (lane : List ℕ) (end : Standing)
-    → AllByRecursion (IsOfOther of.cpu) more → IsPart of items lane end → IsPart (longer of more) items lane end
-part_stays of more items lane end others part = record {
+abbrev pub part_stays : (of : Role) (more : List Event) (end : Standing) → AllByRecursion (IsOfOther of.share.cpu) more → IsPart of end
+    → IsPart (later of more) end
+part_stays of more end others part = record {
   done = part.done;
   left = part.left;
   cut = part.cut;
-  acts = acts_stay of more part.done (first_standing lane) end part.acts;
-  spent = none_stays of.cpu end.used of.history more others part.spent;
+  acts = acts_stay of.share more part.done (first_standing of.lane) end part.acts;
+  spent = none_stays of.share.cpu end.used of.share.history more others part.spent;
   stops = part.stops;
 }
 
 -- ---- refused entries
 
-module _ (of : Share) (more : List Event) (items : List Item) (lane : List ℕ) (part : Part of items lane)
-    (others : AllByRecursion (IsOfOther of.cpu) more) where
-  abbrev pub kept : Part (longer of more) items lane
-  kept = record { end = part.end; is_part = part_stays of more items lane part.end others part.is_part }
+module _ (of : Role) (more : List Event) (part : Part of) (others : AllByRecursion (IsOfOther of.share.cpu) more) where
+  abbrev pub kept : Part (later of more)
+  kept = record { end = part.end; is_part = part_stays of more part.end others part.is_part }
 
-  pub refused_stays : (place : Option ℕ) → IsRefusedIf of items lane part place
-      → IsRefusedIf (longer of more) items lane kept place
+  pub refused_stays : (place : Option ℕ) → IsRefusedIf of part place → IsRefusedIf (later of more) kept place
   refused_stays None refused = tt
   refused_stays (Some place) refused =
-      let front = take-append-le place of.history more refused.within in
-      let long = length-append of.history more in
+      let front = take-append-le place of.share.history more refused.within in
+      let long = length-append of.share.history more in
       let within = refused.within in
       record {
         within = omega (arith, long, within);
-        last = none_stays of.cpu place of.history more others refused.last;
+        last = none_stays of.share.cpu place of.share.history more others refused.last;
         steps = refused.steps;
         regs = refused.regs;
         rest = refused.rest;
         left = refused.left;
         kernel = refused.kernel;
-        before = ap (kernel_after of.boot) front ∙ refused.before;
+        before = ap (kernel_after of.share.boot) front ∙ refused.before;
         reads = refused.reads;
         would_read = refused.would_read;
         many = subst (λ (h : List Event). 2 ^ 28 < copied_bytes h + total_bytes refused.reads) (sym front) refused.many;
       }
 
-  pub seat_stays : (place : Option ℕ) (refused : IsRefusedIf of items lane part place)
-      → seat_with of items lane part place refused
-      ≡ seat_with (longer of more) items lane kept place (refused_stays place refused)
+  pub seat_stays : (place : Option ℕ) (refused : IsRefusedIf of part place)
+      → seat_with of part place refused ≡ seat_with (later of more) kept place (refused_stays place refused)
   unfolding refused_stays
   seat_stays None refused = refl
   seat_stays (Some place) refused =
       ap (λ (h : List Event). refused_seat (seat_of part)
       (record { copied = copied_bytes h; more = total_bytes refused.reads }))
-      (sym (take-append-le place of.history more refused.within))
+      (sym (take-append-le place of.share.history more refused.within))
 
 pub parts_stay : PartsStay
 parts_stay = record {
   acts = acts_stay;
-  parts = λ of more items lane end others part. (part_stays of more items lane end others part, refl);
-  refusals = λ of more items lane part place refused others. (
-    kept of more items lane part others,
-    refused_stays of more items lane part others place refused,
-    seat_stays of more items lane part others place refused,
+  parts = λ of more end others part. (part_stays of more end others part, refl);
+  refusals = λ of more part place refused others. (
+    kept of more part others,
+    refused_stays of more part others place refused,
+    seat_stays of more part others place refused,
   );
 }

@@ -9,9 +9,8 @@ use Rattle.std.proofs.lemmas.Bool.Decides.{nat_tests}
 use Rattle.std.proofs.lemmas.List.FromFn.{length-range_with_len}
 use Rattle.std.proofs.lemmas.List.Sorted.{length_permutation}
 use Rattle.std.proofs.lemmas.Option.{option_and_then_some, slice_get_within}
-use Rattle.base.specs.Zeros.{zeros}
 use Rattle.event_journal.specs.declared.event.Event.{Event}
-use Rattle.kernel_model.specs.Application.{Booted, IsBooted, Native, booted}
+use Rattle.kernel_model.specs.Application.{Booted, IsBooted, Native}
 use Rattle.kernel_model.specs.Turns.{cpu_of}
 use Rattle.ta_isa.specs.declared.boot.Boot.{Boot}
 use Rattle.trace_text.specs.declared.trace.Trace.{Trace}
@@ -21,8 +20,8 @@ use Rattle.ordered_play.proofs.PartsOfPlay.{plays_have_parts}
 use Rattle.ordered_play.proofs.PlacesOfPlays.{AreBelow, all_below, by_each, places_are_each_once}
 use Rattle.ordered_play.proofs.RowsOfBlocks.{IsShort, blocks_long, body, is_full, rows_are, rows_from, rows_short, rows_tell, same_bodies, same_places, some_full, told_of}
 use Rattle.ordered_play.specs.Blocks.{blocks_by, blocks_in, blocks_of, blocks_of_ended, has_ended, has_refused}
-use Rattle.ordered_play.specs.Merge.{IsOfParts}
-use Rattle.ordered_play.specs.Ordered.{OrderedPlay, after_turns, first_ordered, played_in}
+use Rattle.ordered_play.specs.Merge.{IsOfParts, Setting, first_in, setting_of}
+use Rattle.ordered_play.specs.Ordered.{OrderedPlay, after_turns, played_in}
 use Rattle.ordered_play.specs.Places.{BlocksNameTheOrder, ComeAndGo, places_from, places_of, places_printed, printed_places, smcs_of}
 use Rattle.ordered_play.specs.Seat.{Seat}
 
@@ -116,48 +115,48 @@ few_cpus boot boots =
     omega (arith, few, same)
 
 -- a play that refuses no entry and has come to its end, in this order
-pub record IsWhole (boot : Booted) (ram : List ℕ) (trace : Trace) (order : List ℕ) (play : OrderedPlay) : Type 0 where
-  pub is_play : after_turns boot order (first_ordered ram boot trace) ≡ Some play
+pub record IsWhole (on : Setting) (order : List ℕ) (play : OrderedPlay) : Type 0 where
+  pub is_play : after_turns on.boot order (first_in on) ≡ Some play
   pub ended : has_ended play ≡ true
   pub none : has_refused play ≡ false
 
-module _ (boot : Booted) (ram : List ℕ) (trace : Trace) (order : List ℕ) (play : OrderedPlay) (boots : IsBooted boot)
-    (turns : ComeAndGo boot.cpus trace.items) (few : length (blocks_of play) < 2 ^ 64)
-    (whole : IsWhole boot ram trace order play) where
-  of_parts : IsOfParts boot ram trace play
-  of_parts = plays_have_parts boot ram trace order play boots whole.is_play
+module _ (on : Setting) (order : List ℕ) (play : OrderedPlay) (boots : IsBooted on.boot)
+    (turns : ComeAndGo on.boot.cpus on.trace.items) (few : length (blocks_of play) < 2 ^ 64)
+    (whole : IsWhole on order play) where
+  of_parts : IsOfParts on play
+  of_parts = plays_have_parts on order play boots whole.is_play
 
   order_is : map cpu_of play.history ≡ order
-  order_is = is_its_order boot ram trace order play whole.is_play whole.none
+  order_is = is_its_order on order play whole.is_play whole.none
 
   few_events : length play.history < 2 ^ 64
   few_events =
-      let counted = places_are_each_once boot ram trace play of_parts turns whole.ended in
+      let counted = places_are_each_once on play of_parts turns whole.ended in
       let events = counted.events in
       let count = length_permutation (places_printed play) (range_with_len 0 (2 * smcs_of play.history)) counted.once in
       let many = length-range_with_len 0 (2 * smcs_of play.history) in
       let long = blocks_long 0 play.seats in
       omega (arith, events, count, many, long, few)
 
-  events_below : AreBelow boot.cpus play.history
-  events_below = all_below boot [] play.history of_parts.legal
+  events_below : AreBelow on.boot.cpus play.history
+  events_below = all_below on.boot [] play.history of_parts.legal
 
   -- its rows tell of each processor the places of its events
-  rows_tell_places : (cpu : ℕ) → cpu < boot.cpus → flat_map (told_of cpu) (rows_from 0 play.seats) ≡ places_of cpu play.history
+  rows_tell_places : (cpu : ℕ) → cpu < on.boot.cpus → flat_map (told_of cpu) (rows_from 0 play.seats) ≡ places_of cpu play.history
   rows_tell_places cpu below =
-      let its = by_each boot ram trace play of_parts turns whole.ended cpu below in
+      let its = by_each on play of_parts turns whole.ended cpu below in
       let number : cpu ≡ 0 + cpu = omega arith in
       rows_tell cpu 0 cpu play.seats its.seat number its.there ∙ its.prints
 
   are_short : AllByRecursion IsShort (rows_from 0 play.seats)
   are_short =
       let count = of_parts.count in
-      let few = few_cpus boot boots in
+      let few = few_cpus on.boot boots in
       let events = few_events in
       rows_short 0 (length play.history) play.seats (omega (arith, count, few)) (omega (arith, events)) (λ k seat there.
       let within = slice_get_within play.seats k seat there in
-      let below : k < boot.cpus = omega (arith, within, count) in
-      let its = by_each boot ram trace play of_parts turns whole.ended k below in
+      let below : k < on.boot.cpus = omega (arith, within, count) in
+      let its = by_each on play of_parts turns whole.ended k below in
       let same : its.seat ≡ seat = same_some its.seat seat (sym its.there ∙ there) in
       subst (λ (l : List ℕ). AllByRecursion (λ place. place < length play.history) l)
       (sym (ap (λ (s : Seat). printed_places s.lines) (sym same) ∙ its.prints))
@@ -169,28 +168,28 @@ same_rows : (one other : OrderedPlay) → blocks_of one ≡ blocks_of other
 same_rows one other same = same_bodies (rows_from 0 one.seats) (rows_from 0 other.seats)
     (rows_are 0 one.seats ∙ same ∙ sym (rows_are 0 other.seats))
 
-pub orders_are_one : (boot : Booted) (ram : List ℕ) (trace : Trace) (one other : List ℕ) (first second : OrderedPlay)
-    → IsBooted boot → ComeAndGo boot.cpus trace.items → length (blocks_of first) < 2 ^ 64
-    → IsWhole boot ram trace one first → after_turns boot other (first_ordered ram boot trace) ≡ Some second
+pub orders_are_one : (on : Setting) (one other : List ℕ) (first second : OrderedPlay)
+    → IsBooted on.boot → ComeAndGo on.boot.cpus on.trace.items → length (blocks_of first) < 2 ^ 64
+    → IsWhole on one first → after_turns on.boot other (first_in on) ≡ Some second
     → has_ended second ≡ true → blocks_of first ≡ blocks_of second → one ≡ other
-orders_are_one boot ram trace one other first second boots turns few whole is_second ended same =
+orders_are_one on one other first second boots turns few whole is_second ended same =
     let rows = same_rows first second same in
     let none : has_refused second ≡ false =
     sym (some_full 0 second.seats) ∙ ap (λ (texts : List (List ℕ)). list_any is_full texts) (sym rows)
     ∙ some_full 0 first.seats ∙ whole.none in
-    let other_whole : IsWhole boot ram trace other second = record { is_play = is_second; ended = ended; none = none } in
+    let other_whole : IsWhole on other second = record { is_play = is_second; ended = ended; none = none } in
     let other_few : length (blocks_of second) < 2 ^ 64 = subst (λ (l : List ℕ). length l < 2 ^ 64) same few in
-    sym (order_is boot ram trace one first boots turns few whole)
-    ∙ same_order boot.cpus 0 first.history second.history
-    (events_below boot ram trace one first boots turns few whole)
-    (events_below boot ram trace other second boots turns other_few other_whole)
+    sym (order_is on one first boots turns few whole)
+    ∙ same_order on.boot.cpus 0 first.history second.history
+    (events_below on one first boots turns few whole)
+    (events_below on other second boots turns other_few other_whole)
     (λ cpu below.
-    sym (rows_tell_places boot ram trace one first boots turns few whole cpu below)
+    sym (rows_tell_places on one first boots turns few whole cpu below)
     ∙ same_places cpu (rows_from 0 first.seats) (rows_from 0 second.seats)
-    (are_short boot ram trace one first boots turns few whole)
-    (are_short boot ram trace other second boots turns other_few other_whole) rows
-    ∙ rows_tell_places boot ram trace other second boots turns other_few other_whole cpu below)
-    ∙ order_is boot ram trace other second boots turns other_few other_whole
+    (are_short on one first boots turns few whole)
+    (are_short on other second boots turns other_few other_whole) rows
+    ∙ rows_tell_places on other second boots turns other_few other_whole cpu below)
+    ∙ order_is on other second boots turns other_few other_whole
 
 -- ---- blocks of a trace
 
@@ -220,12 +219,11 @@ has_blocks natives boot trace order text play is is_play blocks =
 
 pub blocks_name_the_order : BlocksNameTheOrder
 blocks_name_the_order natives boot trace one other text play boots is turns is_play none few first second =
-    let on = booted boot natives in
-    let ram = zeros 0x400000 in
+    let on = setting_of natives boot trace in
     let own = has_blocks natives boot trace one text play is is_play first in
     option_and_then_some blocks_of_ended (played_in natives boot trace other) text (in_boot natives boot trace other text is second)
     (λ (others : OrderedPlay) played onward.
     let its = ended_with others text onward in
-    orders_are_one on ram trace one other play others boots turns
+    orders_are_one on one other play others boots turns
     (subst (λ (l : List ℕ). length l < 2 ^ 64) (sym own.text_is) few)
     (record { is_play = is_play; ended = own.ended; none = none }) played its.ended (own.text_is ∙ sym its.text_is))

@@ -19,13 +19,13 @@ use Rattle.ns_ram.specs.Reads.{total_bytes}
 use Rattle.ns_ram.specs.declared.read.Read.{Read}
 use Rattle.play_model.specs.Play.{entry_event}
 use Rattle.trace_text.specs.declared.item.Reg.{Reg}
-use Rattle.trace_text.specs.declared.trace.Trace.{Trace}
 use Rattle.ordered_play.proofs.BlocksOfSeats.{one_passes}
 use Rattle.ordered_play.proofs.Events.{same_some}
 use Rattle.ordered_play.proofs.Turn.{moved_on}
 use Rattle.ordered_play.specs.Act.{Act, Comes, Leaves, Writes, Shows}
 use Rattle.ordered_play.specs.Blocks.{has_refused}
-use Rattle.ordered_play.specs.Ordered.{OrderedPlay, after_act, after_turn, after_turns, enters_with, first_ordered, gone_seat}
+use Rattle.ordered_play.specs.Merge.{Setting, first_in}
+use Rattle.ordered_play.specs.Ordered.{OrderedPlay, after_act, after_turn, after_turns, enters_with, gone_seat}
 use Rattle.ordered_play.specs.Ordered.{leaves_with, reads_of, refused_seat, visit_with, with_event, with_seat}
 use Rattle.ordered_play.specs.Seat.{Refusal, Seat, Shown, ready_for, with_line, with_writes}
 
@@ -148,6 +148,6 @@ in_order boot (cpu ∷ order) play last e none =
 
 -- ---- from the first on
 
-pub is_its_order : (boot : Booted) (ram : List ℕ) (trace : Trace) (order : List ℕ) (play : OrderedPlay)
-    → after_turns boot order (first_ordered ram boot trace) ≡ Some play → has_refused play ≡ false → map cpu_of play.history ≡ order
-is_its_order boot ram trace order play e none = (in_order boot order (first_ordered ram boot trace) play e none).order_is
+pub is_its_order : (on : Setting) (order : List ℕ) (play : OrderedPlay) → after_turns on.boot order (first_in on) ≡ Some play
+    → has_refused play ≡ false → map cpu_of play.history ≡ order
+is_its_order on order play e none = (in_order on.boot order (first_in on) play e none).order_is

@@ -21,10 +21,9 @@ use Rattle.kernel_model.specs.Turns.{IsLeftBy, cpu_of, events_by, last_by}
 use Rattle.ordered_play.proofs.Events.{next_from, same_some}
 use Rattle.ordered_play.proofs.Legal.{follows}
 use Rattle.ordered_play.proofs.Turn.{entry_by}
-use Rattle.trace_text.specs.declared.item.Item.{Item}
 use Rattle.trace_text.specs.declared.item.Reg.{Reg}
 use Rattle.ordered_play.specs.Act.{Act, Comes, Leaves, Writes, Shows}
-use Rattle.ordered_play.specs.Part.{AreActsOf, ComesIn, GoesOut, IsActOf, IsPart, Share, Standing, first_of, first_standing, next_event}
+use Rattle.ordered_play.specs.Part.{AreActsOf, ComesIn, GoesOut, IsActOf, IsPart, Role, Share, Standing, first_of, first_standing, next_event}
 use Rattle.ordered_play.specs.Places.{PartsPrintTheirPlaces, PrintsItsPlaces, is_entry, place_inside, places_from, places_in, places_of, printed_places}
 use Rattle.ordered_play.specs.Seat.{PlacedLine, Shown, Told}
 
@@ -387,11 +386,13 @@ pub record HasPartPrinted (of : Share) (end : Standing) (inside : Bool) : Type 0
   pub stands : came_in (last_by of.cpu of.history) ≡ inside
 
 -- behind the last event of the processor nothing more is to be printed
-pub part_prints : (of : Share) (items : List Item) (lane : List ℕ) (end : Standing) → of.cpu < of.boot.cpus
-    → IsLegal of.boot of.history → (part : IsPart of items lane end) → HasPartPrinted of end (inside_by false part.done)
-part_prints of items lane end below legal part =
+pub part_prints : (role : Role) (end : Standing) → role.share.cpu < role.share.boot.cpus
+    → IsLegal role.share.boot role.share.history → (part : IsPart role end)
+    → HasPartPrinted role.share end (inside_by false part.done)
+part_prints role end below legal part =
+    let of = role.share in
     let cpu = of.cpu in
-    let walked = walk_acts of part.done (first_standing lane) end false below legal
+    let walked = walk_acts of part.done (first_standing role.lane) end false below legal
     (record { past = []; rest = of.history; cut = refl; used = refl; prints = refl; stands = refl }) part.acts in
     let past = walked.past in
     let none = no_places cpu (length past) walked.rest
@@ -411,4 +412,4 @@ part_prints of items lane end below legal part =
     }
 
 pub parts_print : PartsPrintTheirPlaces
-parts_print of items lane end below legal part = (part_prints of items lane end below legal part).prints
+parts_print of end below legal part = (part_prints of end below legal part).prints

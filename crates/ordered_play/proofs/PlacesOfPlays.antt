@@ -17,17 +17,14 @@ use Rattle.kernel_model.specs.Application.{Booted}
 use Rattle.kernel_model.specs.History.{IsLegal, after_event, after_events, is_outside, kernel_after}
 use Rattle.kernel_model.specs.Kernel.{Kernel, Outside, Processor, first_kernel}
 use Rattle.kernel_model.specs.Turns.{IsLeftBy, cpu_of, last_by}
-use Rattle.play_model.specs.Play.{filled}
-use Rattle.trace_text.specs.declared.item.Item.{Item}
-use Rattle.trace_text.specs.declared.trace.Trace.{Trace}
 use Rattle.ordered_play.proofs.Events.{same_some}
 use Rattle.ordered_play.proofs.Legal.{follows, processor_below}
 use Rattle.ordered_play.proofs.Places.{came_in, inside_by, part_prints, stood_so}
 use Rattle.ordered_play.specs.Act.{Act, Comes, Leaves, Writes, Shows}
 use Rattle.ordered_play.specs.Blocks.{has_ended, is_none}
-use Rattle.ordered_play.specs.Merge.{HasPart, IsOfParts, IsRefusedIf, Part, seat_with, share_of}
+use Rattle.ordered_play.specs.Merge.{HasPart, IsOfParts, IsRefusedIf, Part, Setting, role_in, seat_with}
 use Rattle.ordered_play.specs.Ordered.{OrderedPlay}
-use Rattle.ordered_play.specs.Part.{IsPart, Share}
+use Rattle.ordered_play.specs.Part.{IsPart, Role}
 use Rattle.ordered_play.specs.Places.{ComeAndGo, ComesAndGoes, HasPrinted, PlacesAreEachOnce, PrintsItsPlaces, is_entry, place_inside, places_from, places_of, places_printed, printed_places, smcs_of}
 use Rattle.ordered_play.specs.Seat.{Seat}
 
@@ -54,11 +51,11 @@ on_behind inside (Leaves ∷ done) left turns = on_behind false done left turns.
 on_behind inside (Writes addr bytes ∷ done) left turns = on_behind inside done left turns
 on_behind inside (Shows addr len ∷ done) left turns = on_behind inside done left turns
 
-with_refusal : (of : Share) (items : List Item) (lane : List ℕ) (part : Part of items lane) (place : Option ℕ)
-    (refused : IsRefusedIf of items lane part place) → PrintsItsPlaces of.cpu of.history part.end.seat
-    → PrintsItsPlaces of.cpu of.history (seat_with of items lane part place refused)
-with_refusal of items lane part None refused prints = prints
-with_refusal of items lane part (Some place) refused prints = prints
+with_refusal : (of : Role) (part : Part of) (place : Option ℕ) (refused : IsRefusedIf of part place)
+    → PrintsItsPlaces of.share.cpu of.share.history part.end.seat
+    → PrintsItsPlaces of.share.cpu of.share.history (seat_with of part place refused)
+with_refusal of part None refused prints = prints
+with_refusal of part (Some place) refused prints = prints
 
 -- a processor that is out has printed all its places
 out_is_whole : (last : Option Event) (n : ℕ) → came_in last ≡ false → place_inside last n ≡ []
@@ -66,44 +63,40 @@ out_is_whole None n out = refl
 out_is_whole (Some (Entry cpu regs steps reads)) n out = absurd cc
 out_is_whole (Some (Exit cpu regs)) n out = refl
 
-module _ (boot : Booted) (ram : List ℕ) (trace : Trace) (play : OrderedPlay) (is : IsOfParts boot ram trace play)
-    (turns : ComeAndGo boot.cpus trace.items) (ended : has_ended play ≡ true) where
-  is_out : (cpu : ℕ) → cpu < boot.cpus → came_in (last_by cpu play.history) ≡ false
+module _ (on : Setting) (play : OrderedPlay) (is : IsOfParts on play)
+    (turns : ComeAndGo on.boot.cpus on.trace.items) (ended : has_ended play ≡ true) where
+  is_out : (cpu : ℕ) → cpu < on.boot.cpus → came_in (last_by cpu play.history) ≡ false
   is_out cpu below =
-      (part_prints of trace.items lane its.part.end below is.legal part).stands ∙ by its.place its.refused its.seat
+      (part_prints of its.part.end below is.legal part).stands ∙ by its.place its.refused its.seat
     where
-      of : Share
-      of = share_of boot play.history cpu
+      of : Role
+      of = role_in on play.history cpu
 
-      lane : List ℕ
-      lane = filled ram trace.fills
-
-      its : HasPart boot ram trace play cpu
+      its : HasPart on play cpu
       its = is.parts cpu below
 
-      part : IsPart of trace.items lane its.part.end
+      part : IsPart of its.part.end
       part = its.part.is_part
 
       onward : (left : List Act) → part.left ≡ left → ComesAndGoes (inside_by false part.done) left
       onward left same = subst (ComesAndGoes (inside_by false part.done)) same
           (on_behind false part.done part.left (subst (ComesAndGoes false) part.cut (turns cpu below)))
 
-      by : (place : Option ℕ) (refused : IsRefusedIf of trace.items lane its.part place)
-          → slice_get play.seats cpu ≡ Some (seat_with of trace.items lane its.part place refused)
+      by : (place : Option ℕ) (refused : IsRefusedIf of its.part place)
+          → slice_get play.seats cpu ≡ Some (seat_with of its.part place refused)
           → inside_by false part.done ≡ false
       by None refused seat =
           onward [] (none_left part.left (each_passes (λ (s : Seat). is_none s.acts) play.seats cpu _ ended seat))
       by (Some place) refused seat = (onward (Comes refused.steps refused.regs ∷ refused.rest) refused.left).0
 
   -- each has printed the places of its events
-  pub by_each : (cpu : ℕ) → cpu < boot.cpus → HasPrinted play cpu
+  pub by_each : (cpu : ℕ) → cpu < on.boot.cpus → HasPrinted play cpu
   by_each cpu below =
-      let of = share_of boot play.history cpu in
-      let lane = filled ram trace.fills in
+      let of = role_in on play.history cpu in
       let its = is.parts cpu below in
-      let seat = seat_with of trace.items lane its.part its.place its.refused in
-      let prints = with_refusal of trace.items lane its.part its.place its.refused
-      (part_prints of trace.items lane its.part.end below is.legal its.part.is_part).prints in
+      let seat = seat_with of its.part its.place its.refused in
+      let prints = with_refusal of its.part its.place its.refused
+      (part_prints of its.part.end below is.legal its.part.is_part).prints in
       let none = out_is_whole (last_by cpu play.history) seat.entry_at (is_out cpu below) in
       record {
         seat = seat;
@@ -286,22 +279,22 @@ left_outside (Some (Exit cpu regs)) processor left out = ap is_outside left
 -- ---- all of it
 
 pub places_are_each_once : PlacesAreEachOnce
-places_are_each_once boot ram trace play is turns ended = record {
+places_are_each_once on play is turns ended = record {
   events = many;
   once = subst (λ (n : ℕ). IsPermutation (places_printed play) (range_with_len 0 n)) many
       (subst (λ (l : List ℕ). IsPermutation l (range_with_len 0 (length play.history))) (sym printed)
-      (all_places boot.cpus 0 play.history (all_below boot [] play.history is.legal)));
+      (all_places on.boot.cpus 0 play.history (all_below on.boot [] play.history is.legal)));
   own = own;
 }
   where
-    own : (cpu : ℕ) → cpu < boot.cpus → HasPrinted play cpu
-    own = by_each boot ram trace play is turns ended
+    own : (cpu : ℕ) → cpu < on.boot.cpus → HasPrinted play cpu
+    own = by_each on play is turns ended
 
-    printed : places_printed play ≡ flat_map (λ cpu. places_of cpu play.history) (range_with_len 0 boot.cpus)
+    printed : places_printed play ≡ flat_map (λ cpu. places_of cpu play.history) (range_with_len 0 on.boot.cpus)
     printed = seats_print play.history 0 play.seats (λ k seat there.
         let within = slice_get_within play.seats k seat there in
         let count = is.count in
-        let below : k < boot.cpus = omega (arith, within, count) in
+        let below : k < on.boot.cpus = omega (arith, within, count) in
         let its = own k below in
         let same : its.seat ≡ seat = same_some its.seat seat (sym its.there ∙ there) in
         let number : k ≡ 0 + k = omega arith in
@@ -311,16 +304,16 @@ places_are_each_once boot ram trace play is turns ended = record {
     all_outside : total is_within play.kernel.processors ≡ 0
     all_outside = none_within play.kernel.processors (λ k processor there.
         let within = slice_get_within play.kernel.processors k processor there in
-        let count = (as_many boot play.history play.kernel is.legal.boots is.kernel).processors in
-        let below : k < boot.cpus = omega (arith, within, count) in
-        let stands = stand_by_their_events boot play.history play.kernel k below is.kernel in
+        let count = (as_many on.boot play.history play.kernel is.legal.boots is.kernel).processors in
+        let below : k < on.boot.cpus = omega (arith, within, count) in
+        let stands = stand_by_their_events on.boot play.history play.kernel k below is.kernel in
         let same : stands.processor ≡ processor = same_some stands.processor processor (sym stands.there ∙ there) in
         ap is_outside (sym same)
-        ∙ left_outside (last_by k play.history) stands.processor stands.left (is_out boot ram trace play is turns ended k below))
+        ∙ left_outside (last_by k play.history) stands.processor stands.left (is_out on play is turns ended k below))
 
     many : length play.history ≡ 2 * smcs_of play.history
     many =
-        let pairs = events_paired boot (first_kernel boot) play.kernel play.history is.kernel in
-        let first : total is_within (first_kernel boot).processors ≡ 0 = none_at_first boot.cpus in
+        let pairs = events_paired on.boot (first_kernel on.boot) play.kernel play.history is.kernel in
+        let first : total is_within (first_kernel on.boot).processors ≡ 0 = none_at_first on.boot.cpus in
         let last = all_outside in
         omega (arith, pairs, first, last)

@@ -82,6 +82,6 @@ same_acts of (act ∷ done) (other_act ∷ more) left behind old one other cut f
     (subst (λ (s : Standing). AreActsOf of done s one) here first.2) second.2 spent over stops halts
 
 pub parts_are_unique : PartsAreUnique
-parts_are_unique of items lane one other first second =
-    same_acts of first.done second.done first.left second.left _ one other (sym first.cut ∙ second.cut)
+parts_are_unique of one other first second =
+    same_acts of.share first.done second.done first.left second.left _ one other (sym first.cut ∙ second.cut)
     first.acts second.acts first.spent second.spent first.stops second.stops

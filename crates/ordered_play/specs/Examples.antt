@@ -104,7 +104,7 @@ half_standing = record {
 
 -- a processor whose part this is, over two bytes of RAM
 abbrev pub IsHalfPart : List Item → Standing → Type 0
-IsHalfPart items standing = IsPart half_way items (7 ∷ 8 ∷ []) standing
+IsHalfPart items standing = IsPart (record { share = half_way; items = items; lane = 7 ∷ 8 ∷ [] }) standing
 
 -- the places of two processors' refused entries
 abbrev pub at_places : Option ℕ → Option ℕ → ℕ → Option ℕ

@@ -35,7 +35,7 @@ pub record Standing : Type 0 where
   pub used : ℕ
   pub seat : Seat
 
--- whose part it is, and of what
+-- a processor's share of a history
 pub record Share : Type 0 where
   pub boot : Booted
   pub cpu : ℕ
@@ -90,16 +90,22 @@ StopsAtEvent (Leaves ∷ acts) = Unit {0}
 StopsAtEvent (Writes addr bytes ∷ acts) = ⊥
 StopsAtEvent (Shows addr len ∷ acts) = ⊥
 
+-- what a processor's part is of: its share of a history, by these items and over this RAM
+pub record Role : Type 0 where
+  pub share : Share
+  pub items : List Item
+  pub lane : List ℕ
+
 -- before its first act, with this RAM
 abbrev pub first_standing : List ℕ → Standing
 first_standing lane = record { used = 0; seat = fresh_seat lane }
 
--- the acts of these items, up to those that no event of the history is left for, are the processor's part of the history:
--- over this RAM they use up its events, and make this of it
-pub record IsPart (of : Share) (items : List Item) (lane : List ℕ) (end : Standing) : Type 0 where
+-- the acts of its items, up to those that no event of the history is left for, are the processor's part of the history:
+-- over its RAM they use up its events, and make this of it
+pub record IsPart (of : Role) (end : Standing) : Type 0 where
   pub done : List Act
   pub left : List Act
-  pub cut : acts_for of.cpu items ≡ done ++ left
-  pub acts : AreActsOf of done (first_standing lane) end
-  pub spent : IsSpent of end
+  pub cut : acts_for of.share.cpu of.items ≡ done ++ left
+  pub acts : AreActsOf of.share done (first_standing of.lane) end
+  pub spent : IsSpent of.share end
   pub stops : StopsAtEvent left

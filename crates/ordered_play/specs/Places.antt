@@ -13,9 +13,9 @@ use Rattle.trace_text.specs.declared.item.Item.{Item}
 use Rattle.trace_text.specs.declared.trace.Trace.{Trace}
 use Rattle.ordered_play.specs.Act.{Act, Comes, Leaves, Writes, Shows, acts_for}
 use Rattle.ordered_play.specs.Blocks.{blocks_in, has_ended, has_refused}
-use Rattle.ordered_play.specs.Merge.{IsOfParts}
+use Rattle.ordered_play.specs.Merge.{IsOfParts, Setting}
 use Rattle.ordered_play.specs.Ordered.{OrderedPlay, played_in}
-use Rattle.ordered_play.specs.Part.{IsPart, Share, Standing}
+use Rattle.ordered_play.specs.Part.{IsPart, Role, Standing}
 use Rattle.ordered_play.specs.Seat.{PlacedLine, Seat, Shown, Told}
 
 -- ---- places
@@ -91,13 +91,13 @@ pub record PlacesCountUp (boot : Booted) (play : OrderedPlay) : Type 0 where
 
 -- a processor's part of a legal history prints the places of its events there
 abbrev pub PartsPrintTheirPlaces : Type 0
-PartsPrintTheirPlaces = (of : Share) (items : List Item) (lane : List ℕ) (end : Standing) → of.cpu < of.boot.cpus →
-    IsLegal of.boot of.history → IsPart of items lane end → PrintsItsPlaces of.cpu of.history end.seat
+PartsPrintTheirPlaces = (of : Role) (end : Standing) → of.share.cpu < of.share.boot.cpus →
+    IsLegal of.share.boot of.share.history → IsPart of end → PrintsItsPlaces of.share.cpu of.share.history end.seat
 
 -- where processors come in and go out by turns, the places of a play that has ended count up
 abbrev pub PlacesAreEachOnce : Type 0
-PlacesAreEachOnce = (boot : Booted) (ram : List ℕ) (trace : Trace) (play : OrderedPlay) → IsOfParts boot ram trace play →
-    ComeAndGo boot.cpus trace.items → has_ended play ≡ true → PlacesCountUp boot play
+PlacesAreEachOnce = (on : Setting) (play : OrderedPlay) → IsOfParts on play → ComeAndGo on.boot.cpus on.trace.items →
+    has_ended play ≡ true → PlacesCountUp on.boot play
 
 -- and where no entry is refused, an order shares its blocks, of fewer than 2^64 bytes, with no other
 abbrev pub BlocksNameTheOrder : Type 0

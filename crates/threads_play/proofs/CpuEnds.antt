@@ -18,7 +18,7 @@ use Rattle.normal_cpus.proofs.OwnEvents.{others_behind}
 use Rattle.ns_ram.specs.Reads.{total_bytes}
 use Rattle.ordered_play.specs.Act.{acts_for}
 use Rattle.ordered_play.specs.Blocks.{block_of, full_line}
-use Rattle.ordered_play.specs.Merge.{seat_of}
+use Rattle.ordered_play.specs.Merge.{role_of, seat_of}
 use Rattle.ordered_play.specs.Seat.{Refusal, Seat, fresh_seat, ready_for}
 use Rattle.trace_text.specs.declared.item.Item.{Item}
 use Rattle.threads_play.specs.Ending.{HasDoneAll, WasRefused, end_of}
@@ -85,7 +85,7 @@ first boot items lane old new is printed starts unused own =
 -- ---- the end
 
 pub all_done : (boot : Booted) (items : List Item) (lane : List ℕ) (player : CpuPlayer) → HasComeTo boot items lane [] player
-    → HasDoneAll (share_in boot player) items lane (end_of player (Ok tt))
+    → HasDoneAll (role_of (share_in boot player) items lane) (end_of player (Ok tt))
 all_done boot items lane player has =
     let part = has.stands.part in
     record {
@@ -98,19 +98,19 @@ all_done boot items lane player has =
 pub full_told : (boot : Booted) (items : List Item) (lane : List ℕ) (copied more : ℕ) (old new : CpuPlayer)
     → new ≡ record old { block = new.block }
     → new.block.items ≡ old.block.items ++ full_line (record { copied = copied; more = more })
-    → IsRefused (share_in boot old) items lane copied more old
-    → WasRefused (share_in boot new) items lane copied more (end_of new (Err (Full copied more)))
+    → IsRefused (role_of (share_in boot old) items lane) copied more old
+    → WasRefused (role_of (share_in boot new) items lane) copied more (end_of new (Err (Full copied more)))
 full_told boot items lane copied more old new is printed was =
     let cpu = number old.pass in
-    let of = share_in boot old in
+    let of = role_of (share_in boot old) items lane in
     let now : CpuPlayer = record old { block = new.block } in
-    let refusal : Refusal = record { copied = copied_bytes (take (length of.history) of.history); more = total_bytes was.refused.reads } in
-    let so_far = was.so_far ∙ ap copied_bytes (sym (take-length of.history)) in
+    let refusal : Refusal = record { copied = copied_bytes (take (length of.share.history) of.share.history); more = total_bytes was.refused.reads } in
+    let so_far = was.so_far ∙ ap copied_bytes (sym (take-length of.share.history)) in
     let of_entry = was.of_entry in
     let numbers : full_line (record { copied = copied; more = more }) ≡ full_line refusal =
     ap (λ (n : ℕ). full_line (record { copied = n; more = more })) so_far
     ∙ ap (λ (n : ℕ). full_line (record { copied = refusal.copied; more = n })) of_entry in
-    let here : WasRefused of items lane copied more (end_of now (Err (Full copied more))) = record {
+    let here : WasRefused of copied more (end_of now (Err (Full copied more))) = record {
       part = was.part;
       refused = was.refused;
       so_far = was.so_far;
@@ -120,5 +120,5 @@ full_told boot items lane copied more old new is printed was =
           ∙ ap (λ (t : List ℕ). t ++ full_line refusal) was.prints
           ∙ sym (block_with_full cpu refusal (seat_of was.part) was.goes_on);
     } in
-    subst (λ (p : CpuPlayer). WasRefused (share_in boot p) items lane copied more (end_of p (Err (Full copied more))))
+    subst (λ (p : CpuPlayer). WasRefused (role_of (share_in boot p) items lane) copied more (end_of p (Err (Full copied more))))
     (sym is) here

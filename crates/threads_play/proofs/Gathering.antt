@@ -9,11 +9,11 @@ use Rattle.core_lock.specs.Passes.{number}
 use Rattle.event_journal.specs.declared.event.Event.{Event}
 use Rattle.normal_cpus.specs.Sharing.{boot_of}
 use Rattle.normal_cpus.specs.declared.shared_core.SharedCore.{SharedCore}
-use Rattle.ordered_play.specs.Merge.{share_of}
+use Rattle.ordered_play.specs.Merge.{role_in}
 use Rattle.play_model.specs.Play.{filled}
 use Rattle.trace_text.specs.declared.trace.Trace.{Trace}
 use Rattle.threads_play.specs.declared.ending.CpuEnd.{CpuEnd}
-use Rattle.threads_play.specs.Ended.{HasEnded, HasEndedOn}
+use Rattle.threads_play.specs.Ended.{HasEnded, HasEndedOn, setting_on}
 use Rattle.threads_play.specs.Laws.{EndsGather}
 use Rattle.threads_play.proofs.Staying.{ends_stay}
 
@@ -42,7 +42,7 @@ one_of : (shared : SharedCore) (ram : List ℕ) (trace : Trace) (history : List 
     → map (λ (end : CpuEnd). number end.pass) ends ≡ numbers_from 0 (boot_of shared).cpus
     → All (HasEndedOn shared ram trace history) ends → (cpu : ℕ) → cpu < (boot_of shared).cpus → cpu < length ends
     → (end : CpuEnd) × (slice_get ends cpu ≡ Some end)
-    × HasEnded (share_of (boot_of shared) history cpu) trace.items (filled ram trace.fills) end
+    × HasEnded (role_in (setting_on shared ram trace) history cpu) end
 one_of shared ram trace history ends numbers all cpu below within =
     let there = at_place ends cpu within in
     let end = there.0 in
@@ -55,7 +55,7 @@ one_of shared ram trace history ends numbers all cpu below within =
     let number_is : number end.pass ≡ cpu = some_same (number end.pass) (0 + cpu) numbered ∙ counted in (
       end,
       there.1,
-      subst (λ (n : ℕ). HasEnded (share_of (boot_of shared) history n) trace.items (filled ram trace.fills) end) number_is
+      subst (λ (n : ℕ). HasEnded (role_in (setting_on shared ram trace) history n) end) number_is
           (ends_stay shared history trace.items (filled ram trace.fills) end has.own has.is_in has.some has.ends),
     )
 

@@ -3,13 +3,11 @@ use Rattle.std.proofs.Common.{◌≡◌, ◌<◌, ℕ, List, length, Option, Som
 use Rattle.std.specs.Option.{option_and_then, option_map}
 use Rattle.std.proofs.lemmas.List.{length-map}
 use Rattle.std.proofs.lemmas.Option.{slice_get-map}
-use Rattle.base.specs.Zeros.{zeros}
 use Rattle.event_journal.specs.declared.event.Event.{Event}
-use Rattle.kernel_model.specs.Application.{Native, booted}
+use Rattle.kernel_model.specs.Application.{Native}
 use Rattle.ordered_play.proofs.BlocksMerged.{blocks_merge}
 use Rattle.ordered_play.specs.Laws.{AreBlocksOf}
-use Rattle.ordered_play.specs.Merge.{Apart, seat_in, share_of}
-use Rattle.play_model.specs.Play.{filled}
+use Rattle.ordered_play.specs.Merge.{Apart, role_in, seat_in, setting_of}
 use Rattle.ta_isa.specs.declared.boot.Boot.{Boot}
 use Rattle.trace_text.specs.declared.trace.Trace.{Trace}
 use Rattle.threads_play.specs.declared.ending.CpuEnd.{CpuEnd}
@@ -20,17 +18,15 @@ texts_count : (ends : List CpuEnd) → length (texts_of ends) ≡ length ends
 texts_count ends = length-map ends (λ (end : CpuEnd). end.block.items)
 
 module _ (natives : List Native) (boot : Boot) (trace : Trace) (history : List Event) (ends : List CpuEnd)
-    (have : HaveEnded (booted boot natives) (zeros 0x400000) trace history ends) where
+    (have : HaveEnded (setting_of natives boot trace) history ends) where
   pub ended_at : (cpu : ℕ) (below : cpu < boot.cpus)
-      → HasEndedAt (share_of (booted boot natives) history cpu) trace.items (filled (zeros 0x400000) trace.fills)
-      (have.each cpu below).0 (places_of ends cpu)
+      → HasEndedAt (role_in (setting_of natives boot trace) history cpu) (have.each cpu below).0 (places_of ends cpu)
   ended_at cpu below =
       let one = have.each cpu below in
-      subst (λ (place : Option ℕ). HasEndedAt (share_of (booted boot natives) history cpu) trace.items
-      (filled (zeros 0x400000) trace.fills) one.0 place)
+      subst (λ (place : Option ℕ). HasEndedAt (role_in (setting_of natives boot trace) history cpu) one.0 place)
       (sym (ap (option_and_then place_of) one.1)) one.2
 
-  abbrev pub apart : Apart (booted boot natives) (zeros 0x400000) trace history
+  abbrev pub apart : Apart (setting_of natives boot trace) history
   apart = record {
     parts = λ cpu below. (ended_at cpu below).part;
     places = places_of ends;

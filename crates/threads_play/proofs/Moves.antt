@@ -22,7 +22,7 @@ use Rattle.ns_ram.specs.Reads.{HoldsReads}
 use Rattle.ns_ram.specs.Writes.{lane_after}
 use Rattle.ordered_play.specs.Act.{Act, Comes, Leaves, Writes, Shows}
 use Rattle.ordered_play.specs.Blocks.{block_of, placed_ret_line, text_of_placed}
-use Rattle.ordered_play.specs.Merge.{share_of}
+use Rattle.ordered_play.specs.Merge.{role_of, share_of}
 use Rattle.ordered_play.specs.Seat.{PlacedLine, Seat, Shown, Told, ready_for, with_line, with_writes}
 use Rattle.play_model.specs.Line.{mem_line}
 use Rattle.play_model.specs.Play.{number_in}
@@ -38,10 +38,10 @@ use Rattle.threads_play.proofs.Parts.{comes, goes, refuses, stays}
 module _ (boot : Booted) (items : List Item) (lane : List ℕ) (acts : List Act) where
   -- the part of another history, of the same number
   moved : (seat : Seat) (cpu new_cpu : ℕ) (history new_history : List Event) → new_cpu ≡ cpu → new_history ≡ history
-      → ComesToSeat (share_of boot history cpu) items lane seat → ComesToSeat (share_of boot new_history new_cpu) items lane seat
+      → ComesToSeat (role_of (share_of boot history cpu) items lane) seat → ComesToSeat (role_of (share_of boot new_history new_cpu) items lane) seat
   moved seat cpu new_cpu history new_history same is part =
-      subst (λ (n : ℕ). ComesToSeat (share_of boot new_history n) items lane seat) (sym same)
-      (subst (λ (h : List Event). ComesToSeat (share_of boot h cpu) items lane seat) (sym is) part)
+      subst (λ (n : ℕ). ComesToSeat (role_of (share_of boot new_history n) items lane) seat) (sym same)
+      (subst (λ (h : List Event). ComesToSeat (role_of (share_of boot h cpu) items lane) seat) (sym is) part)
 
   module _ (old : CpuPlayer) (pass : CpuPass) (own : made old.pass ≡ made_by cpu_of (number old.pass) (seen old.pass))
       (same : number pass ≡ number old.pass) where
@@ -96,7 +96,7 @@ module _ (boot : Booted) (items : List Item) (lane : List ℕ) (acts : List Act)
           let much = subst (λ (l : List ℕ). IsTooMuchAfter boot (seen pass) (coming cpu given steps) l copied more)
           was.stands.sees has.1 in
           let not = refuses boot cpu items lane (seen pass) acts seat steps regs given copied more at given_to much in
-          let here : IsRefused (share_of boot (seen pass) cpu) items lane copied more (record old { pass = pass }) = record {
+          let here : IsRefused (role_of (share_of boot (seen pass) cpu) items lane) copied more (record old { pass = pass }) = record {
             part = at.part;
             refused = not.0;
             so_far = not.1;
@@ -105,7 +105,7 @@ module _ (boot : Booted) (items : List Item) (lane : List ℕ) (acts : List Act)
             sees = was.stands.sees ∙ sym (ap (λ (s : Seat). s.lane) at.comes_to);
             prints = was.prints ∙ ap (block_of cpu) (sym at.comes_to);
           } in
-          subst (λ (n : ℕ). IsRefused (share_of boot (seen pass) n) items lane copied more (record old { pass = pass }))
+          subst (λ (n : ℕ). IsRefused (role_of (share_of boot (seen pass) n) items lane) copied more (record old { pass = pass }))
           (sym same) here
 
     -- ---- an exit
@@ -139,7 +139,7 @@ module _ (boot : Booted) (items : List Item) (lane : List ℕ) (acts : List Act)
             part = moved (ready_for acts (with_line (Told answer.regs.a answer.entry_at answer.exit_at) left)) cpu
                 (number pass) (has.before ++ Exit cpu (record { a = exited.regs }) ∷ []) (seen pass) same ends
                 (subst (λ (l : PlacedLine). ComesToSeat
-                (share_of boot (has.before ++ Exit cpu (record { a = exited.regs }) ∷ []) cpu) items lane
+                (role_of (share_of boot (has.before ++ Exit cpu (record { a = exited.regs }) ∷ []) cpu) items lane)
                 (ready_for acts (with_line l left))) line behind);
             goes_on = was.stands.goes_on;
             sees = has.writes ∙ ap (λ (l : List ℕ). lane_after l exited.writes) was.stands.sees;

@@ -25,9 +25,10 @@ use Rattle.ordered_play.proofs.Growing.{parts_grow}
 use Rattle.ordered_play.proofs.Longer.{parts_stay}
 use Rattle.ordered_play.proofs.Ready.{ready_anew}
 use Rattle.ordered_play.specs.Act.{Act, Comes, Leaves, acts_for}
-use Rattle.ordered_play.specs.Laws.{longer}
-use Rattle.ordered_play.specs.Merge.{IsRefusedAt, Part, seat_left, seat_of, share_of}
+use Rattle.ordered_play.specs.Laws.{later}
+use Rattle.ordered_play.specs.Merge.{IsRefusedAt, Part, role_of, seat_left, seat_of, share_of}
 use Rattle.ordered_play.specs.Ordered.{gone_seat, reads_of, visit_with}
+use Rattle.ordered_play.specs.Part.{Role}
 use Rattle.ordered_play.specs.Seat.{Seat, Told, fresh_seat, ready_for, with_line, with_writes}
 use Rattle.play_model.specs.Play.{entry_event, number_in}
 use Rattle.smc_abi.specs.declared.regs.Regs.{Regs}
@@ -42,41 +43,45 @@ and_then_some f None b is = absurd cc
 and_then_some f (Some a) b is = (a, refl, is)
 
 module _ (boot : Booted) (cpu : ℕ) (items : List Item) (lane : List ℕ) where
+  -- the processor's role in this history
+  abbrev pub role : List Event → Role
+  role history = role_of (share_of boot history cpu) items lane
+
   -- before any event
-  pub begins : ComesToSeat (share_of boot [] cpu) items lane (ready_for (acts_for cpu items) (fresh_seat lane))
+  pub begins : ComesToSeat (role []) (ready_for (acts_for cpu items) (fresh_seat lane))
   begins =
-      let first = parts_grow.begins boot cpu items lane in
+      let first = parts_grow.begins (role []) refl in
       record { part = first.0; comes_to = sym first.1 }
 
   -- behind events of others
   pub stays : (seat : Seat) (before more history : List Event) → before ++ more ≡ history → AllByRecursion (IsOfOther cpu) more
-      → ComesToSeat (share_of boot before cpu) items lane seat → ComesToSeat (share_of boot history cpu) items lane seat
+      → ComesToSeat (role before) seat → ComesToSeat (role history) seat
   stays seat before more history is others was =
       let part = was.part in
-      let now = parts_stay.parts (share_of boot before cpu) more items lane part.end others part.is_part in
-      let still : ComesToSeat (share_of boot (before ++ more) cpu) items lane seat = record {
+      let now = parts_stay.parts (role before) more part.end others part.is_part in
+      let still : ComesToSeat (role (before ++ more)) seat = record {
         part = record { end = part.end; is_part = now.0 };
         comes_to = ap (seat_left part.end.seat) now.1 ∙ was.comes_to;
       } in
-      subst (λ (h : List Event). ComesToSeat (share_of boot h cpu) items lane seat) is still
+      subst (λ (h : List Event). ComesToSeat (role h) seat) is still
 
   module _ (before : List Event) (rest : List Act) (seat : Seat) where
     -- behind its entry
     pub comes : (steps : ℕ) (regs : List Reg) (reads : List Read)
-        → ComesToSeat (share_of boot before cpu) items lane (ready_for (Comes steps regs ∷ rest) seat)
+        → ComesToSeat (role before) (ready_for (Comes steps regs ∷ rest) seat)
         → HoldsReads seat.lane reads
         → ComesToSeat
-        (share_of boot (before ++ Entry cpu (record { a = map (number_in seat.answer) regs }) steps reads ∷ []) cpu) items lane
+        (role (before ++ Entry cpu (record { a = map (number_in seat.answer) regs }) steps reads ∷ []))
         (ready_for rest (record seat { entry_at = length before }))
     comes steps regs reads was holds =
-        let of = share_of boot before cpu in
+        let of = role before in
         let part = was.part in
         let left : part.is_part.left ≡ Comes steps regs ∷ rest = ap (λ (s : Seat). s.acts) was.comes_to in
         let lanes : part.end.seat.lane ≡ seat.lane = ap (λ (s : Seat). s.lane) was.comes_to in
-        let grown = parts_grow.comes of items lane part steps regs rest reads left
+        let grown = parts_grow.comes of part steps regs rest reads left
         (subst (λ (l : List ℕ). HoldsReads l reads) (sym lanes) holds) in
         let here = subst (λ (s : Seat).
-        (now : Part (longer of (entry_event (visit_with cpu s steps regs) reads ∷ [])) items lane)
+        (now : Part (later of (entry_event (visit_with cpu s steps regs) reads ∷ [])))
         × (ready_for rest (record s { entry_at = length before }) ≡ seat_of now)) was.comes_to grown in
         record {
           part = here.0;
@@ -84,15 +89,15 @@ module _ (boot : Booted) (cpu : ℕ) (items : List Item) (lane : List ℕ) where
         }
 
     -- behind its exit
-    pub goes : (exited : Exited) → ComesToSeat (share_of boot before cpu) items lane (ready_for (Leaves ∷ rest) seat)
+    pub goes : (exited : Exited) → ComesToSeat (role before) (ready_for (Leaves ∷ rest) seat)
         → exit_after boot before cpu ≡ Some exited
-        → ComesToSeat (share_of boot (before ++ Exit cpu (record { a = exited.regs }) ∷ []) cpu) items lane
+        → ComesToSeat (role (before ++ Exit cpu (record { a = exited.regs }) ∷ []))
         (ready_for rest (with_line (Told exited.regs seat.entry_at (length before))
         (with_writes exited.writes (record seat { answer = exited.regs }))))
     goes exited was exits =
         let part = was.part in
         let left : part.is_part.left ≡ Leaves ∷ rest = ap (λ (s : Seat). s.acts) was.comes_to in
-        let grown = parts_grow.goes (share_of boot before cpu) items lane part rest exited left exits in
+        let grown = parts_grow.goes (role before) part rest exited left exits in
         let line = Told exited.regs seat.entry_at (length before) in
         record {
           part = grown.0;
@@ -102,13 +107,13 @@ module _ (boot : Booted) (cpu : ℕ) (items : List Item) (lane : List ℕ) where
 
     -- where its entry is refused
     pub refuses : (steps : ℕ) (regs : List Reg) (given : Regs) (copied more : ℕ)
-        (was : ComesToSeat (share_of boot before cpu) items lane (ready_for (Comes steps regs ∷ rest) seat))
+        (was : ComesToSeat (role before) (ready_for (Comes steps regs ∷ rest) seat))
         → given.a ≡ map (number_in seat.answer) regs
         → IsTooMuchAfter boot before (coming cpu given steps) seat.lane copied more
-        → (refused : IsRefusedAt (share_of boot before cpu) items lane was.part (length before))
+        → (refused : IsRefusedAt (role before) was.part (length before))
         × (copied ≡ copied_bytes before) × (more ≡ total_bytes refused.reads)
     refuses steps regs given copied more was given_is much =
-        let of = share_of boot before cpu in
+        let of = role before in
         let own = was.part.end.seat in
         let visit = visit_of (coming cpu given steps) in
         let lanes : own.lane ≡ seat.lane = ap (λ (s : Seat). s.lane) was.comes_to in
@@ -127,7 +132,7 @@ module _ (boot : Booted) (cpu : ℕ) (items : List Item) (lane : List ℕ) where
         ap (λ (v : Visit). reads_of boot kernel own v) (sym same)
         ∙ ap (λ (l : List ℕ). option_map (λ (end : Kernel × List Read). end.1) (over_lane (entry boot kernel visit) l [])) lanes
         ∙ ap (option_map (λ (end : Kernel × List Read). end.1)) found.1 in
-        let refused : IsRefusedAt of items lane was.part (length before) = record {
+        let refused : IsRefusedAt of was.part (length before) = record {
           within = omega arith;
           last = none_at_end cpu before;
           steps = steps;

@@ -4,20 +4,17 @@ use Rattle.std.specs.Prelude.{◌||◌}
 use Rattle.std.specs.List.{list_any}
 use Rattle.std.specs.Option.{is_some, option_and_then}
 use Rattle.std.proofs.lemmas.Option.{slice_get_within}
-use Rattle.base.specs.Zeros.{zeros}
 use Rattle.event_journal.specs.declared.event.Event.{Event}
 use Rattle.kernel_model.specs.Application.{Native, booted}
 use Rattle.kernel_state.specs.declared.enter_refusal.EnterRefusal.{EnterRefusal}
 use Rattle.kernel_state.specs.declared.enter_refusal.EnterRefusal.TheVariants.{Full, Memory}
 use Rattle.ordered_play.specs.Act.{Act, Comes, Leaves, Writes, Shows}
-use Rattle.ordered_play.specs.Merge.{Apart, ComesTo, IsRefusedIf, Part, seat_in, seat_with, share_of}
+use Rattle.ordered_play.specs.Merge.{Apart, ComesTo, IsRefusedIf, Part, role_in, seat_in, seat_with, setting_of}
 use Rattle.ordered_play.specs.Ordered.{OrderedPlay}
-use Rattle.ordered_play.specs.Part.{AreActsOf, IsActOf, Share, Standing, first_standing}
+use Rattle.ordered_play.specs.Part.{AreActsOf, IsActOf, Role, Share, Standing, first_standing}
 use Rattle.ordered_play.specs.Blocks.{has_refused}
 use Rattle.ordered_play.specs.Seat.{Seat}
-use Rattle.play_model.specs.Play.{filled}
 use Rattle.ta_isa.specs.declared.boot.Boot.{Boot}
-use Rattle.trace_text.specs.declared.item.Item.{Item}
 use Rattle.trace_text.specs.declared.trace.Trace.{Trace}
 use Rattle.threads_play.specs.declared.ending.CpuEnd.{CpuEnd}
 use Rattle.threads_play.proofs.Merging.{apart}
@@ -36,15 +33,15 @@ acts_keep : (of : Share) (acts : List Act) (old new : Standing) → AreActsOf of
 acts_keep of [] old new is = ap (λ (s : Standing). s.seat.refused) is
 acts_keep of (act ∷ acts) old new so = acts_keep of acts so.0 new so.2 ∙ act_keeps of act old so.0 so.1
 
-unrefused : (of : Share) (items : List Item) (lane : List ℕ) (part : Part of items lane) → part.end.seat.refused ≡ None
-unrefused of items lane part = acts_keep of part.is_part.done (first_standing lane) part.end part.is_part.acts
+unrefused : (of : Role) (part : Part of) → part.end.seat.refused ≡ None
+unrefused of part = acts_keep of.share part.is_part.done (first_standing of.lane) part.end part.is_part.acts
 
 -- ---- a seat, with its refusal
 
-seat_refused : (of : Share) (items : List Item) (lane : List ℕ) (part : Part of items lane) (place : Option ℕ)
-    (refused : IsRefusedIf of items lane part place) → is_some (seat_with of items lane part place refused).refused ≡ is_some place
-seat_refused of items lane part None refused = ap (λ r. is_some r) (unrefused of items lane part)
-seat_refused of items lane part (Some place) refused = refl
+seat_refused : (of : Role) (part : Part of) (place : Option ℕ) (refused : IsRefusedIf of part place)
+    → is_some (seat_with of part place refused).refused ≡ is_some place
+seat_refused of part None refused = ap (λ r. is_some r) (unrefused of part)
+seat_refused of part (Some place) refused = refl
 
 place_says : (seen : List Event) (outcome : Result (Unit {0}) EnterRefusal) → is_some (place_by seen outcome) ≡ was_refused outcome
 place_says seen (Ok done) = refl
@@ -69,8 +66,8 @@ any_same (seat ∷ seats) (end ∷ ends) count each =
     (any_same seats ends (omega (arith, count)) (λ k s e at there. each (suc k) s e at there))
 
 module _ (natives : List Native) (boot : Boot) (trace : Trace) (history : List Event) (ends : List CpuEnd)
-    (have : HaveEnded (booted boot natives) (zeros 0x400000) trace history ends) where
-  abbrev theirs : Apart (booted boot natives) (zeros 0x400000) trace history
+    (have : HaveEnded (setting_of natives boot trace) history ends) where
+  abbrev theirs : Apart (setting_of natives boot trace) history
   theirs = apart natives boot trace history ends have
 
   module _ (play : OrderedPlay) (to : ComesTo (booted boot natives) history (seat_in theirs) play) where
@@ -79,7 +76,7 @@ module _ (natives : List Native) (boot : Boot) (trace : Trace) (history : List E
     one_says k seat end below at there =
         let is = same_seat seat (seat_in theirs k below) (sym at ∙ to.seats k below) in
         ap (λ (s : Seat). is_some s.refused) is
-        ∙ seat_refused (share_of (booted boot natives) history k) trace.items (filled (zeros 0x400000) trace.fills)
+        ∙ seat_refused (role_in (setting_of natives boot trace) history k)
         (theirs.parts k below) (places_of ends k) (theirs.refusals k below)
         ∙ ap (λ (o : Option CpuEnd). is_some (option_and_then place_of o)) there
         ∙ place_says _ end.outcome

@@ -17,14 +17,14 @@ use Rattle.kernel_state.specs.declared.kernel_core.Core.{Core}
 use Rattle.normal_cpus.specs.Sharing.{CpuPass, boot_of}
 use Rattle.normal_cpus.specs.declared.shared_core.SharedCore.{SharedCore}
 use Rattle.ordered_play.proofs.Merged.{refusals_merge}
-use Rattle.ordered_play.specs.Merge.{share_of}
+use Rattle.ordered_play.specs.Merge.{Setting, role_in, role_of, setting_of, share_of}
 use Rattle.play_model.specs.Play.{filled}
 use Rattle.ta_isa.specs.declared.boot.Boot.{Boot}
 use Rattle.trace_text.specs.declared.item.Item.{Item}
 use Rattle.trace_text.specs.declared.trace.Trace.{Trace}
 use Rattle.threads_play.specs.Ending.{EndsAs}
 use Rattle.threads_play.specs.declared.ending.CpuEnd.{CpuEnd}
-use Rattle.threads_play.specs.Ended.{HasEndedOn, HaveEnded, places_of}
+use Rattle.threads_play.specs.Ended.{HasEndedOn, HaveEnded, places_of, setting_on}
 use Rattle.threads_play.specs.Laws.{EndsGather, EndsMerge}
 use Rattle.threads_play.proofs.Merging.{apart}
 use Rattle.threads_play.proofs.Refusing.{refused_says}
@@ -78,6 +78,9 @@ module _ (shared : SharedCore) (lanes : List (List ℕ)) (items : List Item) (pa
   abbrev ram : List ℕ
   ram = filled (zeros 0x400000) trace.fills
 
+  abbrev on : Setting
+  on = setting_on shared (zeros 0x400000) trace
+
   lane_is : (i : ℕ) → slice_index_or lanes i ram ≡ ram
   lane_is i = ap (λ (ls : List (List ℕ)). get_or ls i ram) of.rams ∙ same_at boot.cpus i ram
 
@@ -87,16 +90,16 @@ module _ (shared : SharedCore) (lanes : List (List ℕ)) (items : List Item) (pa
       all.each i end.pass ram end (subst (λ (n : ℕ). i < n) all.same_length within)
 
   ends_by : (i : ℕ) (end : CpuEnd) → i < length ends
-      → EndsAs (share_of (boot_of shared) (seen (slice_index_or ends i end).pass) (number (slice_index_or ends i end).pass))
-      trace.items ram (slice_index_or ends i end) (slice_index_or ends i end).outcome
+      → EndsAs (role_in on (seen (slice_index_or ends i end).pass) (number (slice_index_or ends i end).pass))
+      (slice_index_or ends i end) (slice_index_or ends i end).outcome
   ends_by i end within =
       let has = played_at i end within in
       let e : CpuEnd = slice_index_or ends i end in
-      subst (λ (n : ℕ). EndsAs (share_of (boot_of shared) (seen e.pass) n) trace.items ram e e.outcome) (sym has.same)
-      (subst (λ (is : List Item). EndsAs (share_of (boot_of shared) (seen e.pass) (number (slice_index_or passes i end.pass)))
-      is ram e e.outcome) of.items_are
-      (subst (λ (l : List ℕ). EndsAs (share_of (boot_of shared) (seen e.pass) (number (slice_index_or passes i end.pass)))
-      items l e e.outcome) (lane_is i) has.ends))
+      subst (λ (n : ℕ). EndsAs (role_in on (seen e.pass) n) e e.outcome) (sym has.same)
+      (subst (λ (is : List Item). EndsAs
+      (role_of (share_of (boot_of shared) (seen e.pass) (number (slice_index_or passes i end.pass))) is ram) e e.outcome) of.items_are
+      (subst (λ (l : List ℕ). EndsAs
+      (role_of (share_of (boot_of shared) (seen e.pass) (number (slice_index_or passes i end.pass))) items l) e e.outcome) (lane_is i) has.ends))
 
   pass_is_in : (i : ℕ) (end : CpuEnd) → i < length ends → IsIn cpu_of (events_of core) (slice_index_or ends i end).pass
   pass_is_in i end within =
@@ -115,8 +118,8 @@ module _ (shared : SharedCore) (lanes : List (List ℕ)) (items : List Item) (pa
   numbers_are : map (λ (end : CpuEnd). number end.pass) ends ≡ map number passes
   numbers_are = maps_same ends passes all.same_length (λ i pass end within. (all.each i pass ram end within).same)
 
-  have : EndsGather → HaveEnded (booted boot natives) (zeros 0x400000) trace (events_of core) ends
-  have ends_gather = subst (λ (on : Booted). HaveEnded on (zeros 0x400000) trace (events_of core) ends) of.core
+  have : EndsGather → HaveEnded (setting_of natives boot trace) (events_of core) ends
+  have ends_gather = subst (λ (core_boot : Booted). HaveEnded (record { boot = core_boot; ram = zeros 0x400000; trace = trace }) (events_of core) ends) of.core
       (ends_gather shared (zeros 0x400000) trace (events_of core) ends (numbers_are ∙ all.numbers) ended_on)
 
   legal : IsLegal (booted boot natives) (events_of core)
@@ -128,7 +131,7 @@ ends_are_played ends_gather ends_merge shared lanes items passes ends core nativ
     let few = few_bytes core.parts core.replay in
     let lawful = legal shared lanes items passes ends core natives boot trace all of in
     let ended = have shared lanes items passes ends core natives boot trace all of ends_gather in
-    let merged = refusals_merge (booted boot natives) (zeros 0x400000) trace history
+    let merged = refusals_merge (setting_of natives boot trace) history
     (apart natives boot trace history ends ended) lawful few in
     record {
       places = places_of ends;

@@ -1,7 +1,6 @@
 -- What holds of the acts of traces, and of works that have ended on one core.
 use Rattle.std.specs.Prelude.{◌≡◌, ◌<◌, ◌≤◌, ◌^◌, ℕ, false, List, length, map, slice_index_or, All, Some, Err}
 use Rattle.std.specs.List.{flat_map, list_any}
-use Rattle.base.specs.Zeros.{zeros}
 use Rattle.core_lock.specs.Counts.{numbers_from}
 use Rattle.core_lock.specs.Passes.{IsIn, number, seen}
 use Rattle.event_journal.specs.Journal.{copied_bytes}
@@ -16,7 +15,7 @@ use Rattle.normal_cpus.specs.Sharing.{CpuPass, IsCpuOf, boot_of}
 use Rattle.normal_cpus.specs.declared.shared_core.SharedCore.{SharedCore}
 use Rattle.ordered_play.specs.Act.{acts_for}
 use Rattle.ordered_play.specs.Blocks.{blocks_in}
-use Rattle.ordered_play.specs.Merge.{order_with, share_of}
+use Rattle.ordered_play.specs.Merge.{order_with, role_of, setting_of, share_of}
 use Rattle.ta_isa.specs.declared.boot.Boot.{Boot}
 use Rattle.trace_text.specs.Sound.{IsSound}
 use Rattle.trace_text.specs.declared.item.Item.{Item}
@@ -24,7 +23,7 @@ use Rattle.trace_text.specs.declared.trace.Trace.{Trace}
 use Rattle.threads_play.specs.Ending.{EndsAs}
 use Rattle.threads_play.specs.InTurn.{AreInTurn}
 use Rattle.threads_play.specs.declared.ending.CpuEnd.{CpuEnd}
-use Rattle.threads_play.specs.Ended.{HasEnded, HasEndedOn, HaveEnded, places_of, texts_of}
+use Rattle.threads_play.specs.Ended.{HasEnded, HasEndedOn, HaveEnded, places_of, setting_on, texts_of}
 use Rattle.threads_play.specs.Played.{IsOfTrace, WasPlayed}
 use Rattle.threads_play.specs.Work.{HasPlayed, lacks_memory, was_refused}
 
@@ -41,21 +40,21 @@ SoundTracesAreInTurn = (natives : List (List ℕ)) (trace : Trace) (cpu : ℕ) �
 abbrev pub EndsStay : Type 0
 EndsStay = (shared : SharedCore) (history : List Event) (items : List Item) (lane : List ℕ) (end : CpuEnd)
     → IsCpuOf shared end.pass → IsIn cpu_of history end.pass → (end.outcome ≡ Err Memory → ⊥)
-    → EndsAs (share_of (boot_of shared) (seen end.pass) (number end.pass)) items lane end end.outcome
-    → HasEnded (share_of (boot_of shared) history (number end.pass)) items lane end
+    → EndsAs (role_of (share_of (boot_of shared) (seen end.pass) (number end.pass)) items lane) end end.outcome
+    → HasEnded (role_of (share_of (boot_of shared) history (number end.pass)) items lane) end
 
 -- of each processor there is one such work, by their numbers: all of them have ended over that history
 abbrev pub EndsGather : Type 0
 EndsGather = (shared : SharedCore) (ram : List ℕ) (trace : Trace) (history : List Event) (ends : List CpuEnd)
     → map (λ (end : CpuEnd). number end.pass) ends ≡ numbers_from 0 (boot_of shared).cpus
-    → All (HasEndedOn shared ram trace history) ends → HaveEnded (boot_of shared) ram trace history ends
+    → All (HasEndedOn shared ram trace history) ends → HaveEnded (setting_on shared ram trace) history ends
 
 -- the works of all processors have ended over one legal history, whose entries have read at most 2^28 bytes: the blocks of the
 -- trace, in the order of that history with the refused entries, are what they have printed
 abbrev pub EndsMerge : Type 0
 EndsMerge = (natives : List Native) (boot : Boot) (trace : Trace) (history : List Event) (ends : List CpuEnd)
     → trace.boot ≡ Some boot → IsLegal (booted boot natives) history → copied_bytes history ≤ 2 ^ 28
-    → HaveEnded (booted boot natives) (zeros 0x400000) trace history ends
+    → HaveEnded (setting_of natives boot trace) history ends
     → blocks_in natives trace (order_with (places_of ends) boot.cpus 0 history) ≡ Some (flat_map (λ text. text) (texts_of ends))
 
 -- ---- once the core is had back

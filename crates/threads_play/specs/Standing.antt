@@ -16,8 +16,8 @@ use Rattle.normal_cpus.specs.declared.shared_core.SharedCore.{SharedCore}
 use Rattle.ns_ram.specs.Reads.{total_bytes}
 use Rattle.ordered_play.specs.Act.{Act}
 use Rattle.ordered_play.specs.Blocks.{block_of}
-use Rattle.ordered_play.specs.Merge.{IsRefusedAt, Part, seat_of, share_of}
-use Rattle.ordered_play.specs.Part.{Share}
+use Rattle.ordered_play.specs.Merge.{IsRefusedAt, Part, role_of, seat_of, share_of}
+use Rattle.ordered_play.specs.Part.{Role, Share}
 use Rattle.ordered_play.specs.Seat.{Seat, Told, fresh_seat, ready_for, with_line}
 use Rattle.trace_text.specs.declared.item.Item.{Item}
 use Rattle.threads_play.specs.declared.player.CpuPlayer.{CpuPlayer}
@@ -44,8 +44,8 @@ pub record GoesOn (shared : SharedCore) (old new : CpuPlayer) : Type 0 where
 -- ---- its part of the history
 
 -- the processor's part of the history comes to this seat
-pub record ComesToSeat (of : Share) (items : List Item) (lane : List ℕ) (seat : Seat) : Type 0 where
-  pub part : Part of items lane
+pub record ComesToSeat (of : Role) (seat : Seat) : Type 0 where
+  pub part : Part of
   pub comes_to : seat_of part ≡ seat
 
 -- the player's processor, and the history that its pass has seen
@@ -55,7 +55,7 @@ share_in boot player = share_of boot (seen player.pass) (number player.pass)
 -- with these acts to come it has come to this seat: by its part of the history, and in what it sees and was told
 pub record StandsAt (boot : Booted) (items : List Item) (lane : List ℕ) (acts : List Act) (seat : Seat) (player : CpuPlayer)
     : Type 0 where
-  pub part : ComesToSeat (share_in boot player) items lane (ready_for acts seat)
+  pub part : ComesToSeat (role_of (share_in boot player) items lane) (ready_for acts seat)
   pub goes_on : seat.refused ≡ None
   pub sees : player.lane ≡ seat.lane
   pub was_told : player.answer.a ≡ seat.answer
@@ -76,20 +76,20 @@ pub record HasGoneOut (boot : Booted) (items : List Item) (lane : List ℕ) (act
   pub prints : player.block.items ≡ block_of (number player.pass) seat
 
 -- its next entry was refused: it has come to its part of the history, which leaves that entry, and has printed the block of it
-pub record IsRefused (of : Share) (items : List Item) (lane : List ℕ) (copied more : ℕ) (player : CpuPlayer) : Type 0 where
-  pub part : Part of items lane
-  pub refused : IsRefusedAt of items lane part (length of.history)
-  pub so_far : copied ≡ copied_bytes of.history
+pub record IsRefused (of : Role) (copied more : ℕ) (player : CpuPlayer) : Type 0 where
+  pub part : Part of
+  pub refused : IsRefusedAt of part (length of.share.history)
+  pub so_far : copied ≡ copied_bytes of.share.history
   pub of_entry : more ≡ total_bytes refused.reads
   pub goes_on : part.end.seat.refused ≡ None
   pub sees : player.lane ≡ part.end.seat.lane
-  pub prints : player.block.items ≡ block_of of.cpu (seat_of part)
+  pub prints : player.block.items ≡ block_of of.share.cpu (seat_of part)
 
 -- what an answer says of the player that then has these acts to come
 abbrev pub LeadsTo : Booted → List Item → List ℕ → List Act → CpuPlayer → Result (Unit {0}) EnterRefusal → Type 0
 LeadsTo boot items lane acts player (Ok done) = HasComeTo boot items lane acts player
 LeadsTo boot items lane acts player (Err (Full copied more)) =
-    IsRefused (share_in boot player) items lane copied more player
+    IsRefused (role_of (share_in boot player) items lane) copied more player
 LeadsTo boot items lane acts player (Err Memory) = Unit {0}
 
 -- it has done nothing, with this RAM

@@ -6,7 +6,7 @@ use Rattle.kernel_state.specs.declared.enter_refusal.EnterRefusal.TheVariants.{F
 use Rattle.normal_cpus.specs.Sharing.{CpuPass, IsCpuOf, boot_of}
 use Rattle.normal_cpus.specs.declared.shared_core.SharedCore.{SharedCore}
 use Rattle.ordered_play.specs.Act.{acts_for}
-use Rattle.ordered_play.specs.Merge.{share_of}
+use Rattle.ordered_play.specs.Merge.{role_of, share_of}
 use Rattle.trace_text.specs.declared.item.Item.{Item}
 use Rattle.threads_play.specs.Ending.{EndsAs}
 use Rattle.threads_play.specs.InTurn.{AreInTurn}
@@ -22,7 +22,7 @@ pub record CanPlay (shared : SharedCore) (items : List Item) (job : CpuPass × L
 pub record HasPlayed (shared : SharedCore) (items : List Item) (job : CpuPass × List ℕ) (end : CpuEnd) : Type 0 where
   pub own : IsCpuOf shared end.pass
   pub same : number end.pass ≡ number job.0
-  pub ends : EndsAs (share_of (boot_of shared) (seen end.pass) (number job.0)) items job.1 end end.outcome
+  pub ends : EndsAs (role_of (share_of (boot_of shared) (seen end.pass) (number job.0)) items job.1) end end.outcome
 
 -- ---- what its outcome says
 

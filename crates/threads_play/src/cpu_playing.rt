@@ -6,7 +6,7 @@ ghost use Rattle.core_lock.specs.Passes.{made, number, seen};
 ghost use Rattle.kernel_model.specs.Application.{Booted};
 ghost use Rattle.normal_cpus.specs.Sharing.{IsCpuOf, boot_of, is_inside};
 ghost use Rattle.ordered_play.specs.Act.{acts_for};
-ghost use Rattle.ordered_play.specs.Merge.{share_of};
+ghost use Rattle.ordered_play.specs.Merge.{role_of, share_of};
 ghost use Rattle.trace_text.specs.declared.item.Item.{Item};
 ghost use Rattle.threads_play.specs.Ending.{EndsAs, end_of};
 ghost use Rattle.threads_play.specs.InTurn.{AreInTurn, StaysInTurn};
@@ -57,8 +57,8 @@ impl CpuPlayer {
         ensures pass { self.new.pass ≡ self.old.pass }
         ensures work { self.new.work ≡ self.old.work }
         ensures tells { (boot : Booted) (items : List Item) (lane : List ℕ)
-            → IsRefused (share_in boot self.old) items lane copied more self.old
-            → EndsAs (share_in boot self.new) items lane (end_of self.new result) result }
+            → IsRefused (role_of (share_in boot self.old) items lane) copied more self.old
+            → EndsAs (role_of (share_in boot self.new) items lane) (end_of self.new result) result }
     {
         match push_full(&mut self.block, copied, more) {
             Ok(()) => Err(EnterRefusal::Full { copied, more }),
@@ -81,7 +81,7 @@ impl CpuPlayer {
         ensures outside { is_some self.new.work ≡ false }
         ensures ends { (items : List Item) (lane : List ℕ)
             → LeadsTo (boot_of shared.now) items lane [] self.old (Err why)
-            → EndsAs (share_in (boot_of shared.now) self.new) items lane (end_of self.new result) result }
+            → EndsAs (role_of (share_in (boot_of shared.now) self.new) items lane) (end_of self.new result) result }
     {
         match why {
             EnterRefusal::Full { copied, more } => self.tell_full(copied, more),
@@ -105,7 +105,7 @@ impl CpuPlayer {
         ensures on { GoesOn shared.now self.old self.new }
         ensures outside { is_some self.new.work ≡ false }
         ensures ends { (items : List Item) (lane : List ℕ) → LeadsTo (boot_of shared.now) items lane [] self.old outcome
-            → EndsAs (share_in (boot_of shared.now) self.new) items lane (end_of self.new result) result }
+            → EndsAs (role_of (share_in (boot_of shared.now) self.new) items lane) (end_of self.new result) result }
     {
         match outcome {
             Ok(()) => Ok(()),
@@ -129,7 +129,7 @@ impl CpuPlayer {
         ensures on { GoesOn shared.now self.old self.new }
         ensures outside { is_some self.new.work ≡ false }
         ensures ends { (lane : List ℕ) → IsNew lane self.old
-            → EndsAs (share_in (boot_of shared.now) self.new) items.now lane (end_of self.new result) result }
+            → EndsAs (role_of (share_in (boot_of shared.now) self.new) items.now lane) (end_of self.new result) result }
     {
         let cpu = self.cpu();
         match push_head(&mut self.block, cpu) {
@@ -186,7 +186,7 @@ pub fn play_cpu(
     ensures same { number result.pass ≡ number pass }
     ensures outside { is_inside result.pass ≡ false }
     ensures begins { IsPrefix (seen pass) (seen result.pass) }
-    ensures ends { EndsAs (share_of (boot_of shared.now) (seen result.pass) (number pass)) items.now lane result result.outcome }
+    ensures ends { EndsAs (role_of (share_of (boot_of shared.now) (seen result.pass) (number pass)) items.now lane) result result.outcome }
 {
     let mut player = CpuPlayer::new(alloc, pass, lane);
     let outcome = player.play(rt, alloc, shared, pace, items);

@@ -6,7 +6,7 @@ use Rattle.base.specs.Zeros.{zeros}
 use Rattle.event_journal.specs.declared.event.Event.{Event}
 use Rattle.kernel_model.specs.Application.{Booted, IsBooted, Native, booted}
 use Rattle.ordered_play.specs.Blocks.{blocks_in}
-use Rattle.ordered_play.specs.Merge.{order_with}
+use Rattle.ordered_play.specs.Merge.{order_with, setting_of}
 use Rattle.ordered_play.specs.Ordered.{OrderedPlay, played_in}
 use Rattle.ordered_play.specs.Act.{Act, Comes, Leaves, Writes as Puts, Shows, acts_for}
 use Rattle.ordered_play.specs.Places.{ComeAndGo, ComesAndGoes}
@@ -65,7 +65,7 @@ true-in-order : (natives : List Native) (boot : Boot) (trace : Trace) (order tex
     → IsTrueInOrder natives boot trace order play
 true-in-order natives boot trace order text play boots has turns is blocks =
     let on = booted boot natives in
-    let of = plays_have_parts on (zeros 0x400000) trace order play boots is in
+    let of = plays_have_parts (setting_of natives boot trace) order play boots is in
     let by_turns = come-and-go natives boot trace.items boots turns in
     record {
       is_play = is;
@@ -77,7 +77,7 @@ true-in-order natives boot trace order text play boots has turns is blocks =
       thread_limit = no_slot_in on play.history of.legal;
       alone = alone_in on play.history of.legal;
       together = together_in on play.history of.legal;
-      places = places_are_each_once on (zeros 0x400000) trace play of by_turns
+      places = places_are_each_once (setting_of natives boot trace) play of by_turns
           (has_blocks natives boot trace order text play has is blocks).ended;
       named = λ none other same few own others.
           blocks_name_the_order natives boot trace order other same play boots has by_turns is none few own others;

@@ -1,11 +1,10 @@
 -- The word `threads`: each processor of a trace plays its items in a thread of its own. What is written then, and when each
 -- status comes.
 use Rattle.std.specs.Prelude.{◌≡◌, ℕ, ◌^◌, ◌<◌, ◌≤◌, ◌⊎◌, Bool, true, false, List, [], length, Option, Some, None}
-use Rattle.base.specs.Zeros.{zeros}
 use Rattle.kernel_model.specs.Application.{Native, booted}
 use Rattle.kernel_model.specs.Laws.{FindsNoCall, FindsNoSlot}
 use Rattle.ordered_play.specs.Blocks.{blocks_in, has_refused}
-use Rattle.ordered_play.specs.Merge.{IsOfParts, order_with}
+use Rattle.ordered_play.specs.Merge.{IsOfParts, order_with, setting_of}
 use Rattle.ordered_play.specs.Ordered.{OrderedPlay, played_in}
 use Rattle.ordered_play.specs.Places.{PlacesCountUp}
 use Rattle.play_model.specs.Laws.{AloneIn, ReturnsIn, TogetherIn, ToldIn}
@@ -41,7 +40,7 @@ pub record IsTrueInOrder (natives : List Native) (boot : Boot) (trace : Trace) (
     -- its one history is the written kernel's, legal from a boot that a core can have, and its entries have read at most
     -- 2^28 bytes; each processor has its part of it: its items in their order, all of them or those before a refused entry,
     -- and its lines, of which each return is an exit there, with the places of its entry and of itself
-    pub of_parts : IsOfParts (booted boot natives) (zeros 0x400000) trace play
+    pub of_parts : IsOfParts (setting_of natives boot trace) play
     -- each exit is the written kernel's at its place
     pub exits : ExitsIn (booted boot natives) play.history
     -- RETURN_FROM_RPC resumes exactly the call that is suspended in its slot for its client

@@ -4,7 +4,7 @@ use mathlib.Core.List.{IsPrefix}
 use Rattle.core_lock.specs.Passes.{made, number, seen}
 use Rattle.normal_cpus.specs.Sharing.{CpuPass, boot_of}
 use Rattle.ordered_play.specs.Act.{acts_for}
-use Rattle.ordered_play.specs.Merge.{share_of}
+use Rattle.ordered_play.specs.Merge.{role_of, share_of}
 use Rattle.threads_play.specs.Ending.{EndsAs, end_of}
 use Rattle.threads_play.specs.declared.ending.CpuEnd.{CpuEnd}
 use Rattle.threads_play.specs.InTurn.{AreInTurn}
@@ -46,8 +46,8 @@ pub returns-clause-ends : goal.returns-clause-ends
 returns-clause-ends g c =
     let boot = boot_of c.args.shared.now in
     let new = c.play-outcome.new.self in
-    subst (λ (end : CpuEnd). EndsAs (share_of boot (seen end.pass) (number c.args.pass)) c.args.items.now c.args.lane end end.outcome)
-    (sym c.into_end.ensures) (subst (λ (n : ℕ). EndsAs (share_of boot (seen new.pass) n) c.args.items.now c.args.lane
+    subst (λ (end : CpuEnd). EndsAs (role_of (share_of boot (seen end.pass) (number c.args.pass)) c.args.items.now c.args.lane) end end.outcome)
+    (sym c.into_end.ensures) (subst (λ (n : ℕ). EndsAs (role_of (share_of boot (seen new.pass) n) c.args.items.now c.args.lane)
     (end_of new c.play-outcome.result) c.play-outcome.result)
     (c.play-outcome.ensures.on.same ∙ ap number c.new-player.ensures.pass)
     (c.play-outcome.ensures.ends c.args.lane c.new-player.ensures.starts))
