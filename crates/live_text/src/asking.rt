@@ -1,6 +1,6 @@
 //! Judging a line that asks.
 
-ghost use Rattle.std.specs.Prelude.{◌≡◌, ◌<◌, ◌∷◌, ◌↔◌, [], IfSome, IsNone, None, false, nat_lt};
+ghost use Rattle.std.specs.Prelude.{◌≡◌, ◌≢◌, ◌<◌, ◌∷◌, ◌↔◌, [], IfErr, IfSome, IsNone, None, false, nat_lt};
 ghost use Rattle.live_text.specs.Asking.{IsAsked, kind_of_line, question_of, rules_of};
 ghost use Rattle.live_text.specs.declared.question.QuestionKind.TheVariants as word_of;
 ghost use Rattle.text_lines.specs.Words.{words_of};
@@ -45,9 +45,10 @@ fn third_word(line: &[u8]) -> &[u8]
 
 /// The number of a word, where it is below 4294967295.
 fn place_in(word: &[u8]) -> Result<u32, LineFault>
-    ensures { Judged (λ n. n) result
+    ensures judged { Judged (λ n. n) result
         ((BadKind.Number, is_decimal word.now) ∷ (BadKind.Range, nat_lt (decimal word.now) 4294967295) ∷ [])
         (decimal word.now) }
+    ensures room { IfErr result (λ fault. fault ≢ LineFault.NoRoom) }
 {
     let number = number(word)?;
     if number == u32::MAX {
@@ -79,8 +80,9 @@ fn has_boot(is_booted: bool) -> Result<(), LineFault>
 
 /// What a line `watch` asks.
 fn read_watch(line: &[u8]) -> Result<Question, LineFault>
-    ensures { Judged (λ asked. asked) result (rules_of word_of.Watch false (words_of line.now))
+    ensures judged { Judged (λ asked. asked) result (rules_of word_of.Watch false (words_of line.now))
         (question_of word_of.Watch (words_of line.now)) }
+    ensures room { IfErr result (λ fault. fault ≢ LineFault.NoRoom) }
 {
     let switch = second_word(line);
     let is_on = switch == ON;
@@ -93,8 +95,9 @@ fn read_watch(line: &[u8]) -> Result<Question, LineFault>
 
 /// What a line `events` asks.
 fn read_events(is_booted: bool, line: &[u8]) -> Result<Question, LineFault>
-    ensures { Judged (λ asked. asked) result (rules_of word_of.Events is_booted (words_of line.now))
+    ensures judged { Judged (λ asked. asked) result (rules_of word_of.Events is_booted (words_of line.now))
         (question_of word_of.Events (words_of line.now)) }
+    ensures room { IfErr result (λ fault. fault ≢ LineFault.NoRoom) }
 {
     has_count(line, 2)?;
     has_boot(is_booted)?;
@@ -111,8 +114,9 @@ fn read_events(is_booted: bool, line: &[u8]) -> Result<Question, LineFault>
 
 /// What a line of this kind asks.
 fn read_kind(kind: QuestionKind, is_booted: bool, line: &[u8]) -> Result<Question, LineFault>
-    ensures { Judged (λ asked. asked) result (rules_of kind is_booted (words_of line.now))
+    ensures judged { Judged (λ asked. asked) result (rules_of kind is_booted (words_of line.now))
         (question_of kind (words_of line.now)) }
+    ensures room { IfErr result (λ fault. fault ≢ LineFault.NoRoom) }
 {
     match kind {
         QuestionKind::Watch => read_watch(line),
@@ -141,6 +145,7 @@ fn read_kind(kind: QuestionKind, is_booted: bool, line: &[u8]) -> Result<Questio
 pub fn read_question(is_booted: bool, line: &[u8]) -> Option<Result<Question, LineFault>>
     ensures other { IsNone result ↔ (kind_of_line line.now ≡ None) }
     ensures asked { IfSome result (IsAsked is_booted line.now) }
+    ensures room { IfSome result (λ judged. IfErr judged (λ fault. fault ≢ LineFault.NoRoom)) }
 {
     let kind = QuestionKind::named(first_word(line))?;
     if !is_text(line) {
