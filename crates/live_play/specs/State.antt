@@ -143,23 +143,15 @@ instance_lines tables =
 
 -- ---- counts
 
--- of the instance of this number, where it is kept
-abbrev pub sessions_at : Tables → ℕ → ℕ
-sessions_at tables number = option_map_or (λ instance. users_of tables number) (get tables.instances number) 0
-
--- all sessions: each is one of an instance
-unfoldable pub sessions_below : ℕ → Tables → ℕ
-sessions_below zero tables = 0
-sessions_below (suc number) tables = sessions_below number tables + sessions_at tables number
-
 -- `WORD N`
 abbrev pub count_line : List ℕ → ℕ → List ℕ
 count_line word number = word ++ 32 ∷ decimal number ++ 10 ∷ []
 
--- how many sessions, registered buffers, and pages that no instance has; events, and bytes that all entries have read
+-- how many sessions, registered buffers, and pages that no instance has; events, and bytes that all entries have read. A session
+-- that is being opened is kept until its open ends, also where its instance has gone before
 abbrev pub count_lines : Booted → Kernel → List Event → List ℕ
 count_lines boot kernel history =
-    count_line (codes "sessions") (sessions_below kernel.tables.next_instance kernel.tables)
+    count_line (codes "sessions") (length kernel.tables.sessions)
     ++ count_line (codes "buffers") (length kernel.tables.registered.buffers)
     ++ count_line (codes "pages") (free_pages boot kernel.tables.instances)
     ++ count_line (codes "events") (length history)

@@ -1,2 +1,3 @@
+pub mod Counting
 pub mod Tables
 pub mod Texts

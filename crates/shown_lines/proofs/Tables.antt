@@ -16,7 +16,7 @@ use Rattle.kernel_state.specs.Calls.{IsCall}
 use Rattle.kernel_state.specs.Processors.{processor_of}
 use Rattle.kernel_state.specs.Replay.{Replays}
 use Rattle.kernel_state.specs.Setup.{booted_with}
-use Rattle.kernel_state.specs.StandsFor.{AreSlots, IsBeside, IsSlot, IsSlotAt, StandsFor}
+use Rattle.kernel_state.specs.StandsFor.{AreSlots, IsBeside, IsSlot, IsSlotAt}
 use Rattle.kernel_state.specs.declared.cancellation.Cancellation.{Cancellation}
 use Rattle.kernel_state.specs.declared.processor.Processor.{Processor}
 use Rattle.kernel_state.specs.declared.parts.Parts.{Parts}
@@ -122,12 +122,11 @@ state_told (Err fault) boot kernel events start slots insides instances all one 
 
 -- each core has a kernel
 pub kernel_told : {E : Type 0} (result : Result (Unit {0}) E) (parts : Parts) (question : Question) (old new : List ℕ)
-    → ((kernel : Kernel) → StandsFor parts kernel
-    → OnOk result (new ≡ old ++ told_by (booted_with parts.setup) kernel parts.journal.events question))
+    → ((so : Replays parts) → OnOk result (new ≡ old ++ told_by (booted_with parts.setup) so.kernel parts.journal.events question))
     → ∥ Replays parts ∥₁
     → OnOk result (option_map (λ (kernel : Kernel). old ++ told_by (booted_with parts.setup) kernel parts.journal.events question)
     (kernel_after (booted_with parts.setup) parts.journal.events) ≡ Some new)
 kernel_told (Ok done) parts question old new tells fact = ∥∥₁_elim fact (Prim.hlevel props) (λ (so : Replays parts).
     ap (option_map (λ (kernel : Kernel). old ++ told_by (booted_with parts.setup) kernel parts.journal.events question)) so.comes_to
-    ∙ ap Some (sym (tells so.kernel so.stands)))
+    ∙ ap Some (sym (tells so)))
 kernel_told (Err fault) parts question old new tells fact = tt

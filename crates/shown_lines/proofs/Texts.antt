@@ -10,7 +10,7 @@ use Rattle.event_journal.specs.Journal.{copied_bytes}
 use Rattle.event_journal.specs.declared.event.Event.{Event}
 use Rattle.kernel_model.specs.Kernel.{Instance, Tables}
 use Rattle.live_play.specs.Changes.{block_at, change_at, changes_below, text_of_changes, wrote_line}
-use Rattle.live_play.specs.State.{holder_text, instance_line, life_text, numbered, piece_line, piece_lines, sessions_at, sessions_below, text_if, texts_below, users_of}
+use Rattle.live_play.specs.State.{holder_text, instance_line, life_text, numbered, piece_line, piece_lines, text_if, texts_below, users_of}
 use Rattle.ns_ram.specs.Writes.{Write}
 use Rattle.shm_registry.specs.Registered.{Registered, piece_at}
 use Rattle.shm_registry.specs.declared.piece.Piece.{Piece}
@@ -54,14 +54,6 @@ pub texts_same : (number : ℕ) (text : ℕ → List ℕ) (start old : List ℕ)
     → old ≡ start ++ texts_below number text → text number ≡ [] → old ≡ start ++ texts_below (number + 1) text
 texts_same number text start old so_far none =
     texts_more number text start old old so_far (sym (ap (λ (l : List ℕ). old ++ l) none ∙ append-nil old))
-
--- the sessions of an instance more
-pub sessions_more : (number : ℕ) (tables : Tables) (old more : ℕ)
-    → old ≡ sessions_below number tables → more ≡ sessions_at tables number → old + more ≡ sessions_below (number + 1) tables
-unfolding sessions_below
-sessions_more number tables old more so_far is =
-    let next : number + 1 ≡ suc number = omega arith in
-    ap (λ n. n + more) so_far ∙ ap (λ n. sessions_below number tables + n) is ∙ ap (λ n. sessions_below n tables) (sym next)
 
 -- ---- the pages of a buffer
 

@@ -1,13 +1,14 @@
 //! The instances of applications, and counts.
 
-ghost use Rattle.std.specs.Prelude.{◌≡◌, ◌∷◌, ◌++◌, OnOk};
+ghost use Rattle.std.specs.Prelude.{◌≡◌, ◌∷◌, ◌++◌, OnOk, length};
 ghost use Rattle.base.specs.NumberMap.{get};
+ghost use Rattle.kernel_state.specs.Replay.{Replays};
 ghost use Rattle.kernel_state.specs.Tables.{instance_of, tables_of};
 ghost use Rattle.uuid.specs.Text.{hyphenated_text};
-ghost use Rattle.live_play.specs.State.{count_line, holder_text, instance_line, instance_lines, life_text, sessions_at, sessions_below, text_if};
+ghost use Rattle.live_play.specs.State.{count_line, holder_text, instance_line, instance_lines, life_text, text_if};
 
 use answer_lines::push_numbered;
-use kernel_state::Tables;
+use kernel_state::{Parts, Tables};
 use std::alloc::AllocError;
 use ta_instances::Instance;
 use uuid::Uuid;
@@ -82,24 +83,15 @@ pub(crate) fn push_instances(text: &mut Vec<u8>, tables: &Tables) -> Result<(), 
     Ok(())
 }
 
-/// How many sessions the instance of this number has, where it is kept.
-fn session_count_at(tables: &Tables, number: u32) -> u32
-    ensures { result ≡ sessions_at (tables_of tables.now) number }
+/// How many sessions are kept. Each is one of an instance whose number was given, though that may be kept no longer: the session
+/// of an open that waits outlasts its instance.
+pub(crate) fn session_count(parts: &Parts) -> u64
+    ensures { (so : Replays parts.now) → result ≡ length so.kernel.tables.sessions }
 {
-    if tables.is_kept(number) {
-        tables.sessions.users(number).all
-    } else {
-        0
-    }
-}
-
-/// How many sessions there are: those of all instances.
-pub(crate) fn session_count(tables: &Tables) -> u64
-    ensures { result ≡ sessions_below (tables_of tables.now).next_instance (tables_of tables.now) }
-{
+    let tables = &parts.tables;
     let mut count = 0u64;
     for number in 0..u64::from(tables.instances_made) + 1 {
-        count += u64::from(session_count_at(tables, number as u32));
+        count += u64::from(tables.sessions.users(number as u32).all);
     }
     count
 }

@@ -4,8 +4,8 @@ ghost use Rattle.std.specs.Prelude.{◌≡◌, ◌++◌, OnOk, Some};
 ghost use Rattle.std.specs.Option.{option_map};
 ghost use Rattle.kernel_model.specs.Kernel.{Kernel};
 ghost use Rattle.kernel_state.specs.Meaning.{booted_of, events_of, kernel_of};
+ghost use Rattle.kernel_state.specs.Replay.{Replays};
 ghost use Rattle.kernel_state.specs.Setup.{booted_with};
-ghost use Rattle.kernel_state.specs.StandsFor.{StandsFor};
 ghost use Rattle.live_play.specs.Showing.{told_by};
 ghost use Rattle.live_play.specs.State.{count_lines, state_text};
 
@@ -20,10 +20,10 @@ use std::alloc::{AllocError, Global};
 
 /// Appends the lines of counts.
 fn push_counts(text: &mut Vec<u8>, parts: &Parts) -> Result<(), AllocError>
-    ensures { (kernel : Kernel) → StandsFor parts.now kernel → OnOk result (text.new.items
-        ≡ text.old.items ++ count_lines (booted_with parts.now.setup) kernel parts.now.journal.events) }
+    ensures { (so : Replays parts.now) → OnOk result (text.new.items
+        ≡ text.old.items ++ count_lines (booted_with parts.now.setup) so.kernel parts.now.journal.events) }
 {
-    push_count(text, b"sessions", session_count(&parts.tables))?;
+    push_count(text, b"sessions", session_count(parts))?;
     push_count(text, b"buffers", parts.tables.registry.len() as u64)?;
     push_count(text, b"pages", u64::from(parts.tables.pool.free()))?;
     push_count(text, b"events", parts.journal.len())?;
@@ -32,8 +32,8 @@ fn push_counts(text: &mut Vec<u8>, parts: &Parts) -> Result<(), AllocError>
 
 /// Appends the lines of all that a core keeps.
 fn push_state(alloc: Global, text: &mut Vec<u8>, parts: &Parts) -> Result<(), AllocError>
-    ensures { (kernel : Kernel) → StandsFor parts.now kernel → OnOk result (text.new.items
-        ≡ text.old.items ++ state_text (booted_with parts.now.setup) kernel parts.now.journal.events) }
+    ensures { (so : Replays parts.now) → OnOk result (text.new.items
+        ≡ text.old.items ++ state_text (booted_with parts.now.setup) so.kernel parts.now.journal.events) }
 {
     push_slots(
         alloc,
@@ -53,8 +53,8 @@ fn push_parts(
     parts: &Parts,
     question: &Question,
 ) -> Result<(), AllocError>
-    ensures { (kernel : Kernel) → StandsFor parts.now kernel → OnOk result (text.new.items
-        ≡ text.old.items ++ told_by (booted_with parts.now.setup) kernel parts.now.journal.events question.now) }
+    ensures { (so : Replays parts.now) → OnOk result (text.new.items
+        ≡ text.old.items ++ told_by (booted_with parts.now.setup) so.kernel parts.now.journal.events question.now) }
 {
     match question {
         Question::Watch(_) => Ok(()),

@@ -14,11 +14,11 @@ use Rattle.trace_text.specs.Rules.{after_line as after_trace_line}
 use Rattle.uuid.specs.Text.{by_index}
 use Rattle.live_text.specs.Asking.{kind_asked}
 use Rattle.live_play.specs.Changes.{changes_below}
-use Rattle.live_play.specs.State.{piece_lines, sessions_below, texts_below}
+use Rattle.live_play.specs.State.{piece_lines, texts_below}
 use Rattle.live_play.proofs.laws.questions_shown.Goals as goal
 
 pub returns : goal.returns
-unfolding zeros digits driver_values signal_values hex_on_literals decode_pairs after_line line_rules is_skipped bytes decimal hexadecimal is_decimal is_hex is_hexadecimal is_last is_register register is_uuid uuid inside_after lies_in_ram added counts rules_behind after_trace_line kind_named by_index front_instruction word_at kind_asked changes_below piece_lines sessions_below texts_below
+unfolding zeros digits driver_values signal_values hex_on_literals decode_pairs after_line line_rules is_skipped bytes decimal hexadecimal is_decimal is_hex is_hexadecimal is_last is_register register is_uuid uuid inside_after lies_in_ram added counts rules_behind after_trace_line kind_named by_index front_instruction word_at kind_asked changes_below piece_lines texts_below
 returns c = record {
   of_a_state = refl;
   of_events = refl;
