@@ -81,6 +81,17 @@ plain_none : (o : Option QuestionKind) → is_none o ≡ true → o ≡ None
 plain_none None e = refl
 plain_none (Some kind) e = absurd cc
 
+-- so what is shown behind it is what is shown without it
+pub shown_same : (on : Setting) (here : Position) (front : List Input) (input : Input) → is_plain input ≡ true
+    → shown_to on (position_behind on here front) input
+    ≡ shown_to_other on
+    (record { lines = after_all on here.lines (filter is_plain front); is_watching = (position_behind on here front).is_watching }) input
+shown_same on here front input plain =
+    let behind : Position = position_behind on here front in
+    shown_by on behind input None (plain_none (kind_asked_by input) plain)
+    ∙ ap (λ (lines : NotifyFront). shown_to_other on (record { lines = lines; is_watching = behind.is_watching }) input)
+    (left_out on here front)
+
 -- behind these lines, with no exit watched
 abbrev pub unwatched : NotifyFront → Position
 unwatched lines = record { lines = lines; is_watching = false }

@@ -32,6 +32,12 @@ pub record QuestionsChangeNothing : Type 0 where
   -- so it could as well have been left out
   pub left_out : (on : Setting) (here : Position) (inputs : List Input) →
       (position_behind on here inputs).lines ≡ after_all on here.lines (filter is_plain inputs)
+  -- and what is shown to a line that asks nothing is what is shown to it without all that asked before it, but for whether exits
+  -- are watched
+  pub shown : (on : Setting) (here : Position) (front : List Input) (input : Input) → is_plain input ≡ true →
+      let behind = position_behind on here front in
+      shown_to on behind input
+      ≡ shown_to_other on (record { lines = after_all on here.lines (filter is_plain front); is_watching = behind.is_watching }) input
 
 -- ---- a conversation in which nothing asks
 

@@ -1,6 +1,6 @@
 use Rattle.std.proofs.Common.{Some, ap, ◌∙◌}
 use Rattle.live_play.specs.Showing.{Position, line_of}
-use Rattle.live_play.proofs.Asked.{after_question, asked-lines, asked-same, left_out}
+use Rattle.live_play.proofs.Asked.{after_question, asked-lines, asked-same, left_out, shown_same}
 use Rattle.live_play.proofs.laws.questions_change_nothing.Goals as goal
 
 pub returns : goal.returns
@@ -10,4 +10,5 @@ returns c = record {
   watching = λ on here input kind is other.
       after_question on here input (Some kind) is ∙ asked-same here kind (line_of input) other;
   left_out = left_out;
+  shown = shown_same;
 }
