@@ -1,13 +1,19 @@
 -- Conversations in which lines ask, and the lines of what is kept.
 use Rattle.std.specs.Prelude.{◌≡◌, ℕ, ◌+◌, List, [], ◌∷◌, ◌++◌, Bool, true, false, codes, replicate, Option, None, Some}
+use Rattle.std.specs.List.{flat_map}
+use Rattle.job_model.specs.Job.{Job}
 use Rattle.job_model.specs.Point.{no_params}
 use Rattle.job_model.specs.declared.call_kind.CallKind.TheVariants.{Invoke}
-use Rattle.kernel_model.specs.Kernel.{Active, Free, PendingCall, Suspended, Untold, Waits}
+use Rattle.kernel_model.specs.Kernel.{Active, Asks, Free, Instance, PendingCall, Suspended, Tables, Untold, Waits, first_tables}
+use Rattle.rpc_msgs.specs.declared.rpc.Rpc.TheVariants.{Suspend}
 use Rattle.rpc_msgs.specs.declared.rpc_buffer.RpcBuffer.{RpcBuffer}
+use Rattle.session_table.specs.Examples.{public}
+use Rattle.session_table.specs.Session.{opened_with, reserved_for}
+use Rattle.shm_registry.specs.Registered.{Registered}
 use Rattle.live_play.specs.Changes.{changes, text_of_changes}
-use Rattle.live_play.specs.Examples.{Turn, events_of, inputs_of, ok, on, turn, uid_told}
+use Rattle.live_play.specs.Examples.{Turn, events_of, inputs_of, ok, on, turn, uid_told, zeros_told}
 use Rattle.live_play.specs.Showing.{first_position, showing}
-use Rattle.live_play.specs.State.{slot_line}
+use Rattle.live_play.specs.State.{buffer_lines, instance_line, session_line, slot_line, state_text}
 
 -- a conversation in which lines may ask goes so
 abbrev pub Shows : List Turn → Type 0
@@ -36,6 +42,34 @@ waiting buffer marked = record {
   buffer = buffer;
   phase = Waits no_params;
 }
+
+-- lines, each with its line feed
+abbrev pub lines_of : List (List ℕ) → List ℕ
+lines_of lines = flat_map (λ (line : List ℕ). line ++ 10 ∷ []) lines
+
+-- an instance, dead or alive, which a call of this slot holds, or none
+abbrev pub instance : Bool → Option ℕ → Instance
+instance dead holder = record { uuid = replicate 16 17; dead = dead; holder = holder; memory = []; objects = [] }
+
+-- session 2 is being opened, and its open waits; the instance that it is to be of, the first one, has gone
+abbrev pub left_behind : Tables
+left_behind = record first_tables {
+  sessions = (2, reserved_for 7 public 1) ∷ [];
+  waiters = record { instance = 1; uuid = replicate 16 17; slot = 1 } ∷ [];
+  next_session = 3;
+  next_instance = 2;
+}
+
+-- a buffer that begins six bytes before its first page ends, which slots 1 and 3 pin
+abbrev pub pinned : Registered
+pinned = record {
+  buffers = (26, record { pages = 0x40003000 ∷ 0x40001000 ∷ 0x40005000 ∷ []; offset = 4090; size = 4106 }) ∷ [];
+  pins = record { cookie = 26; slot = 3 } ∷ record { cookie = 26; slot = 1 } ∷ [];
+}
+
+-- a call whose argument is zeros
+abbrev pub zeros_call : List ℕ
+zeros_call = codes "smc 0 1 32000004 0 40000000 0 0 0 0 0"
 
 pub record ShowingExamples : Type 0 where
   -- a question needs a boot before it, changes nothing, and leaves the header open
@@ -67,12 +101,42 @@ pub record ShowingExamples : Type 0 where
       ∷ turn (codes "session 1") ok
       ∷ turn (codes "buffer 1a") ok
       ∷ [])
+  -- an exit that is watched writes the result of its call; the next one writes the same bytes; and one more isn't watched
+  pub of_watched_exits : Shows (
+      turn (codes "watch on") ok
+      ∷ turn (codes "boot 1 1 1") ok
+      ∷ turn zeros_call (zeros_told ∷ codes "wrote 0 40000000 00000000000000000000000000000000000000000600ffff03000000000000000000000000000000000000000000000000000000000000000000000000000000" ∷ ok)
+      ∷ turn zeros_call (zeros_told ∷ ok)
+      ∷ turn (codes "watch off") ok
+      ∷ turn (codes "write 0 40000014 00") ok
+      ∷ turn zeros_call (zeros_told ∷ ok)
+      ∷ [])
   -- slots
   pub free : slot_line 0 Free ≡ codes "slot 0 free" ++ 10 ∷ []
   pub active : slot_line 15 (Active 3 (waiting None true)) ≡ codes "slot 15 active 3" ++ 10 ∷ []
   pub suspended : slot_line 1 (Suspended 7 (waiting None false)) ≡ codes "slot 1 waits client 7 session 3 instance 2" ++ 10 ∷ []
   pub cancelled : slot_line 1 (Suspended 7 (waiting (Some (record { addr = 0x40010000; cookie = 26 })) true))
       ≡ codes "slot 1 waits client 7 session 3 instance 2 buffer 40010000 000000000000001a cancelled" ++ 10 ∷ []
+  pub asks : (job : Job) → slot_line 1 (Suspended 7 (record (waiting None false) { phase = Asks job (Suspend 250) [] }))
+      ≡ codes "slot 1 asks client 7 session 3 instance 2 wants suspend" ++ 10 ∷ []
+  -- instances, and sessions
+  pub held : instance_line left_behind 1 (instance false (Some 15))
+      ≡ codes "instance 1 11111111-1111-1111-1111-111111111111 users 1 held 15 alive" ++ 10 ∷ []
+  pub idle : instance_line left_behind 2 (instance true None)
+      ≡ codes "instance 2 11111111-1111-1111-1111-111111111111 users 0 idle dead" ++ 10 ∷ []
+  pub opening : session_line 2 (reserved_for 7 public 1) ≡ codes "session 2 client 7 instance 1 opening" ++ 10 ∷ []
+  pub opened : session_line 3 (opened_with (reserved_for 0 public 1) 20) ≡ codes "session 3 client 0 instance 1 opened" ++ 10 ∷ []
+  -- the session of an open that waits is kept, though its instance isn't
+  pub left : state_text (record { cpus = 2; threads = 3; frames = 1; apps = []; key = [] })
+      (record { slots = []; processors = []; tables = left_behind }) []
+      ≡ lines_of (codes "sessions 1" ∷ codes "buffers 0" ∷ codes "pages 1" ∷ codes "events 0" ∷ codes "copied 0" ∷ [])
+  -- a registered buffer, which has a part in each of three pages
+  pub buffer : buffer_lines pinned 26 ≡ lines_of (
+      codes "buffer 000000000000001a pinned 1"
+      ∷ codes "piece 40003ffa 6"
+      ∷ codes "piece 40001000 4096"
+      ∷ codes "piece 40005000 4"
+      ∷ [])
   -- changes in RAM: nothing; a byte of the second block of two, where its first one is as it was
   pub unchanged : changes (replicate 128 0) (replicate 128 0) ≡ []
   pub changed : text_of_changes 1 (changes (replicate 128 0) (replicate 65 0 ++ 255 ∷ replicate 62 0))

@@ -22,10 +22,18 @@ unfolding zeros digits driver_values signal_values hex_on_literals decode_pairs 
 returns c = record {
   of_a_state = refl;
   of_events = refl;
+  of_watched_exits = refl;
   free = refl;
   active = refl;
   suspended = refl;
   cancelled = refl;
+  asks = λ job. refl;
+  held = refl;
+  idle = refl;
+  opening = refl;
+  opened = refl;
+  left = refl;
+  buffer = refl;
   unchanged = refl;
   changed = refl;
 }
