@@ -73,10 +73,19 @@ Seen = List ℕ × List Write
 some_seen : (one two : Seen) → Some one ≡ Some two → one ≡ two
 some_seen one two e = cc
 
+-- what is written, by what is seen
+written : (came regs : List ℕ) (writes : List Write) (told : Option Shown) → option_map (seen_with came) told ≡ Some (regs, writes)
+    → option_map (λ (it : Shown). it.writes) told ≡ Some writes
+written came regs writes None e = absurd cc
+written came regs writes (Some it) e = ap (λ (x : Seen). Some x.1) (some_seen (seen_with came it) (regs, writes) e)
+
+some_writes : (one two : List Write) → Some one ≡ Some two → one ≡ two
+some_writes one two e = cc
+
 -- ---- what is shown
 
 pub show_the_same : SameEventsShowTheSame
-show_the_same boot another history other session number app keys s t same one two places tails =
+show_the_same boot another history other session number app keys s t same one two places =
     let told : one.told ≡ two.told =
     last_same (replies_in (noted boot one.before session).log) (replies_in (noted another two.before number).log) one.told two.told
     (sym (replied_last boot history session one s.legal) ∙ same_replies boot another history other session number app keys s t same
@@ -85,13 +94,20 @@ show_the_same boot another history other session number app keys s t same one tw
     (woken_in (noted boot one.before session).numbering one.slot one.progress.call.phase) one.told one.goes_out one.replies in
     let second = exits_show two.kernel two.cpu two.slot two.came two.progress two.exited
     (woken_in (noted another two.before number).numbering two.slot two.progress.call.phase) two.told two.goes_out two.replies in
-    let here : Seen = (one.exited.regs, one.exited.writes) in
-    let there : Seen = (two.exited.regs, two.exited.writes) in
-    let seen : here ≡ there = some_seen here there
-    (sym first
-    ∙ ap (λ (r : OwnReply). option_map (seen_with one.came) (shown (places_of one.slot one.progress.call) r)) told
-    ∙ ap (λ (p : CallPlaces). option_map (seen_with one.came) (shown p two.told)) places
-    ∙ ap (λ (tail : List ℕ). option_map (λ (it : Shown). (words_of it.answer ++ tail, it.writes))
-    (shown (places_of two.slot two.progress.call) two.told)) tails
-    ∙ second) in
-    (ap (λ (x : Seen). x.0) seen, ap (λ (x : Seen). x.1) seen)
+    let same_shown : shown (places_of one.slot one.progress.call) one.told ≡ shown (places_of two.slot two.progress.call) two.told =
+    ap (λ (r : OwnReply). shown (places_of one.slot one.progress.call) r) told
+    ∙ ap (λ (p : CallPlaces). shown p two.told) places in (
+      (λ tails.
+          let here : Seen = (one.exited.regs, one.exited.writes) in
+          let there : Seen = (two.exited.regs, two.exited.writes) in
+          let seen : here ≡ there = some_seen here there
+          (sym first ∙ ap (option_map (seen_with one.came)) same_shown
+          ∙ ap (λ (tail : List ℕ). option_map (λ (it : Shown). (words_of it.answer ++ tail, it.writes))
+          (shown (places_of two.slot two.progress.call) two.told)) tails
+          ∙ second) in
+          ap (λ (x : Seen). x.0) seen),
+      some_writes one.exited.writes two.exited.writes
+          (sym (written one.came one.exited.regs one.exited.writes (shown (places_of one.slot one.progress.call) one.told) first)
+          ∙ ap (option_map (λ (it : Shown). it.writes)) same_shown
+          ∙ written two.came two.exited.regs two.exited.writes (shown (places_of two.slot two.progress.call) two.told) second),
+    )

@@ -160,12 +160,13 @@ pub record EndsWithReply (boot : Booted) (history : List Event) (session : ℕ) 
       (leaving_of slot progress.call) ≡ Some told
 
 -- so in two worlds: where the same has happened to sessions of one application up to such an exit of each, whatever else happened, and
--- their calls have the same places there, they have the same registers and writes, if the processors came in with the same a4 to a7
+-- their calls have the same places there, the same is written for them, and they have the same registers, if the processors came in with
+-- the same a4 to a7
 abbrev pub SameEventsShowTheSame : Type 0
 SameEventsShowTheSame =
     (boot another : Booted) (history other : List Event) (session number : ℕ) (app : Application) →
     boot.key ≡ another.key → IsSessionOf boot history session app → IsSessionOf another other number app →
     own_events boot history session ≡ own_events another other number →
     (one : EndsWithReply boot history session) (two : EndsWithReply another other number) →
-    places_of one.slot one.progress.call ≡ places_of two.slot two.progress.call → drop 4 one.came ≡ drop 4 two.came →
-    (one.exited.regs ≡ two.exited.regs) × (one.exited.writes ≡ two.exited.writes)
+    places_of one.slot one.progress.call ≡ places_of two.slot two.progress.call →
+    (drop 4 one.came ≡ drop 4 two.came → one.exited.regs ≡ two.exited.regs) × (one.exited.writes ≡ two.exited.writes)

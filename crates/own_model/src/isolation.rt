@@ -36,8 +36,8 @@ pub fn exits_show_replies()
 {}
 
 /// So where the same has happened to two such sessions of one application up to an exit of each, in whichever two histories and boots
-/// with one key, and their calls have the same places there, the normal world is shown the same at both: the registers, if the
-/// processors came in with the same a4 to a7, and what is written.
+/// with one key, and their calls have the same places there, the normal world is shown the same at both: what is written,
+/// and the registers, if the processors came in with the same a4 to a7.
 pub fn same_events_show_the_same()
     ensures { SameEventsShowTheSame }
 {}
