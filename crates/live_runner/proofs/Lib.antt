@@ -1,2 +1,4 @@
+pub mod Answered
 pub mod Turned
 pub mod Talked
+pub mod Plain

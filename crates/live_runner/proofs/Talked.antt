@@ -1,37 +1,38 @@
 -- The turns so far.
 use Rattle.std.proofs.Common.{◌≡◌, ℕ, ◌⊎◌, inl, inr, List, [], ◌∷◌, ◌++◌, Option, Some, None, refl, sym, ap, subst, ◌∙◌}
-use Rattle.std.specs.Prelude.{IfSome, IsSome, Ok}
+use Rattle.std.specs.Prelude.{IfSome, IsSome, Ok, filter}
 use Rattle.kernel_model.specs.Application.{IsBooted, booted}
 use Rattle.kernel_model.proofs.Parts.{some_of}
 use Rattle.line_port.specs.History.{Adds, Event, Hears, Input, Says}
 use Rattle.line_port.specs.Laws.{Adds-nil, Adds-trans}
 use Rattle.line_port.specs.declared.finish.Finish.{Finish}
 use Rattle.line_port.specs.declared.finish.Finish.TheVariants as finish
-use Rattle.live_play.specs.Answer.{IsPlayed, Setting, after_heard, play_at}
-use Rattle.live_play.specs.Conversation.{IsRest, after_all, conversation, said_to}
+use Rattle.live_play.specs.Answer.{IsPlayed, Setting, play_at}
+use Rattle.live_play.specs.Conversation.{after_all}
 use Rattle.live_play.specs.Laws.{IsHeld, TurnsAreTold}
-use Rattle.live_player.specs.Standing.{StandsAt}
-use Rattle.live_player.specs.declared.player.LivePlayer.{LivePlayer}
-use Rattle.live_runner.specs.Talks.{AreHeld, Talks}
-use Rattle.live_runner.specs.Turns.{Turns}
+use Rattle.live_play.specs.Showing.{IsShownRest, Position, first_position, position_after, position_behind, showing, shown_to}
+use Rattle.live_play.specs.ShowingLaws.{QuestionsChangeNothing, is_plain}
+use Rattle.live_runner.specs.Talks.{AreHeld, Shows}
+use Rattle.live_runner.specs.Turns.{StandsIn, Turns}
+use Rattle.live_runner.specs.declared.talk.Talk.{Talk}
 use Rattle.notify_play.specs.NotifyPlay.{NotifyPlay}
-use Rattle.notify_text.specs.Rules.{NotifyFront, no_lines}
+use Rattle.notify_text.specs.Rules.{no_lines}
 use Rattle.ta_isa.specs.declared.boot.Boot.{Boot}
 
 -- ---- one turn more
 
-conversation-more : (on : Setting) (before : NotifyFront) (inputs : List Input) (input : Input)
-    → conversation on before (inputs ++ input ∷ [])
-    ≡ conversation on before inputs ++ Hears input ∷ Says (said_to on (after_all on before inputs) input) ∷ []
-conversation-more on before [] input = refl
-conversation-more on before (first ∷ inputs) input =
-    ap (λ (l : List Event). Hears first ∷ Says (said_to on before first) ∷ l)
-    (conversation-more on (after_heard on before first) inputs input)
+showing-more : (on : Setting) (here : Position) (inputs : List Input) (input : Input)
+    → showing on here (inputs ++ input ∷ [])
+    ≡ showing on here inputs ++ Hears input ∷ Says (shown_to on (position_behind on here inputs) input) ∷ []
+showing-more on here [] input = refl
+showing-more on here (first ∷ inputs) input =
+    ap (λ (l : List Event). Hears first ∷ Says (shown_to on here first) ∷ l)
+    (showing-more on (position_after on here first) inputs input)
 
-after-more : (on : Setting) (before : NotifyFront) (inputs : List Input) (input : Input)
-    → after_all on before (inputs ++ input ∷ []) ≡ after_heard on (after_all on before inputs) input
-after-more on before [] input = refl
-after-more on before (first ∷ inputs) input = after-more on (after_heard on before first) inputs input
+behind-more : (on : Setting) (here : Position) (inputs : List Input) (input : Input)
+    → position_behind on here (inputs ++ input ∷ []) ≡ position_after on (position_behind on here inputs) input
+behind-more on here [] input = refl
+behind-more on here (first ∷ inputs) input = behind-more on (position_after on here first) inputs input
 
 -- a part of what was heard is all of it, or a part of what was heard before
 cons-first : (a b : Input) (xs ys : List Input) → a ∷ xs ≡ b ∷ ys → a ≡ b
@@ -60,45 +61,46 @@ parts (i ∷ inputs) input (f ∷ front) behind e =
 
 -- ---- the turns so far
 
--- the history grew by whole turns, behind which the player stands; and each part of them has its play
-pub record Going (on : Setting) (start now : Option (List Event)) (player : LivePlayer) : Type 0 where
+-- the history grew by whole turns, behind which it stands; and each part of them has its play
+pub record Going (on : Setting) (start now : Option (List Event)) (talk : Talk) : Type 0 where
   pub inputs : List Input
-  pub history : Adds start now (conversation on no_lines inputs)
-  pub stands : StandsAt on (after_all on no_lines inputs) player
-  pub each : (front behind : List Input) → inputs ≡ front ++ behind → IsPlayed on (after_all on no_lines front)
+  pub history : Adds start now (showing on first_position inputs)
+  pub stands : StandsIn on (position_behind on first_position inputs) talk
+  pub each : (front behind : List Input) → inputs ≡ front ++ behind → IsPlayed on (position_behind on first_position front).lines
 
-pub going-first : (on : Setting) (start : Option (List Event)) (player : LivePlayer) → StandsAt on no_lines player
-    → Going on start start player
-going-first on start player stands = record {
+pub going-first : (on : Setting) (start : Option (List Event)) (talk : Talk) → StandsIn on first_position talk
+    → Going on start start talk
+going-first on start talk stands = record {
   inputs = [];
   history = Adds-nil start;
   stands = stands;
   each = λ front behind e.
-      let P : List Input → Type 0 = λ l. IsPlayed on (after_all on no_lines l) in
-      subst P (sym (none-left front behind e)) stands.has_play;
+      let P : List Input → Type 0 = λ l. IsPlayed on (position_behind on first_position l).lines in
+      subst P (sym (none-left front behind e)) stands.player.has_play;
 }
 
-pub going-more : (on : Setting) (start old new : Option (List Event)) (before after : LivePlayer)
+pub going-more : (on : Setting) (start old new : Option (List Event)) (before after : Talk)
     → Going on start old before
-    → ((lines : NotifyFront) → StandsAt on lines before → Turns on lines old new (Ok tt) after)
+    → ((here : Position) → StandsIn on here before → Turns on here old new (Ok tt) after)
     → Going on start new after
 going-more on start old new before after going turns =
-    let turn = turns (after_all on no_lines going.inputs) going.stands in
+    let turn = turns (position_behind on first_position going.inputs) going.stands in
     let input : Input = turn.0 in
     let all : List Input = going.inputs ++ input ∷ [] in
-    let P : NotifyFront → Type 0 = λ f. StandsAt on f after in
-    let stands : StandsAt on (after_all on no_lines all) after = subst P (sym (after-more on no_lines going.inputs input)) turn.2 in
+    let P : Position → Type 0 = λ here. StandsIn on here after in
+    let stands : StandsIn on (position_behind on first_position all) after =
+    subst P (sym (behind-more on first_position going.inputs input)) turn.2 in
     record {
       inputs = all;
       history =
-          subst (Adds start new) (sym (conversation-more on no_lines going.inputs input))
-          (Adds-trans start old new (conversation on no_lines going.inputs)
-          (Hears input ∷ Says (said_to on (after_all on no_lines going.inputs) input) ∷ []) going.history turn.1);
+          subst (Adds start new) (sym (showing-more on first_position going.inputs input))
+          (Adds-trans start old new (showing on first_position going.inputs)
+          (Hears input ∷ Says (shown_to on (position_behind on first_position going.inputs) input) ∷ []) going.history turn.1);
       stands = stands;
       each = λ front behind e.
-          let Q : List Input → Type 0 = λ l. IsPlayed on (after_all on no_lines l) in
+          let Q : List Input → Type 0 = λ l. IsPlayed on (position_behind on first_position l).lines in
           elim (parts going.inputs input front behind e) [
-            | inl whole ↦ subst Q (sym whole) stands.has_play
+            | inl whole ↦ subst Q (sym whole) stands.player.has_play
             | inr rest ↦ going.each front rest.0 rest.1
           ];
     }
@@ -119,6 +121,12 @@ held-there : (on : Setting) (inputs : List Input) → TurnsAreTold → IsPlayed 
     → AreHeld on inputs
 held-there on inputs law played = held-by on inputs (after_all on no_lines inputs).trace.boot law refl played
 
+-- what asks could as well have been left out
+held-behind : (on : Setting) (inputs : List Input) → TurnsAreTold → QuestionsChangeNothing
+    → IsPlayed on (position_behind on first_position inputs).lines → AreHeld on (filter is_plain inputs)
+held-behind on inputs told unchanged played =
+    held-there on (filter is_plain inputs) told (subst (IsPlayed on) (unchanged.left_out on first_position inputs) played)
+
 heard-first : (a b : Input) (xs ys : List Event) → Hears a ∷ xs ≡ Hears b ∷ ys → a ≡ b
 heard-first a b xs ys e = cc
 
@@ -129,37 +137,37 @@ unanswered : (a b : Input) (part : List ℕ) → Hears a ∷ [] ≡ Hears b ∷ 
 unanswered a b part e = cc
 
 -- a part of the last answer was said
-half-held : (on : Setting) (inputs : List Input) (end : Finish) (rest : List Event) → TurnsAreTold
-    → IsRest on (after_all on no_lines inputs) end rest → (input : Input) (part : List ℕ)
-    → rest ≡ Hears input ∷ Says part ∷ [] → AreHeld on (inputs ++ input ∷ [])
-half-held on inputs finish.Over rest law ended input part e = absurd (said-nothing input part (sym ended ∙ e))
-half-held on inputs finish.ReadFault rest law ended input part e = absurd (said-nothing input part (sym ended ∙ e))
-half-held on inputs finish.WriteFault rest law ended input part e =
-    let P : NotifyFront → Type 0 = λ lines. IsPlayed on lines in
-    let Q : Input → Type 0 = λ i. IsPlayed on (after_all on no_lines (inputs ++ i ∷ [])) in
-    held-there on (inputs ++ input ∷ []) law
+half-held : (on : Setting) (inputs : List Input) (end : Finish) (rest : List Event) → TurnsAreTold → QuestionsChangeNothing
+    → IsShownRest on (position_behind on first_position inputs) end rest → (input : Input) (part : List ℕ)
+    → rest ≡ Hears input ∷ Says part ∷ [] → AreHeld on (filter is_plain (inputs ++ input ∷ []))
+half-held on inputs finish.Over rest told unchanged ended input part e = absurd (said-nothing input part (sym ended ∙ e))
+half-held on inputs finish.ReadFault rest told unchanged ended input part e = absurd (said-nothing input part (sym ended ∙ e))
+half-held on inputs finish.WriteFault rest told unchanged ended input part e =
+    let P : Position → Type 0 = λ here. IsPlayed on here.lines in
+    let Q : Input → Type 0 = λ i. IsPlayed on (position_behind on first_position (inputs ++ i ∷ [])).lines in
+    held-behind on (inputs ++ input ∷ []) told unchanged
     (subst Q (heard-first ended.0 input _ _ (sym ended.2 ∙ e))
-    (subst P (sym (after-more on no_lines inputs ended.0)) ended.3))
-half-held on inputs finish.Memory rest law ended input part e =
+    (subst P (sym (behind-more on first_position inputs ended.0)) ended.3))
+half-held on inputs finish.Memory rest told unchanged ended input part e =
     elim ended [
       | inl none ↦ absurd (said-nothing input part (sym none ∙ e))
       | inr heard ↦ absurd (unanswered heard.0 input part (sym heard.1 ∙ e))
     ]
 
-pub talks-ended : (on : Setting) (start old new : Option (List Event)) (player : LivePlayer) (end : Finish) → TurnsAreTold
-    → Going on start old player
-    → ((lines : NotifyFront) → StandsAt on lines player → (rest : List Event) × Adds old new rest × IsRest on lines end rest)
-    → Talks on start new end
-talks-ended on start old new player end law going ends =
-    let last = ends (after_all on no_lines going.inputs) going.stands in
+pub shows-ended : (on : Setting) (start old new : Option (List Event)) (talk : Talk) (end : Finish) → TurnsAreTold
+    → QuestionsChangeNothing → Going on start old talk
+    → ((here : Position) → StandsIn on here talk → (rest : List Event) × Adds old new rest × IsShownRest on here end rest)
+    → Shows on start new end
+shows-ended on start old new talk end told unchanged going ends =
+    let last = ends (position_behind on first_position going.inputs) going.stands in
     record {
       talk = record {
         inputs = going.inputs;
         rest = last.0;
-        history = Adds-trans start old new (conversation on no_lines going.inputs) last.0 going.history last.1;
+        history = Adds-trans start old new (showing on first_position going.inputs) last.0 going.history last.1;
         ended = last.2;
-        played = going.stands.has_play;
+        played = going.stands.player.has_play;
       };
-      held = λ front behind e. held-there on front law (going.each front behind e);
-      half_said = half-held on going.inputs end last.0 law last.2;
+      held = λ front behind e. held-behind on front told unchanged (going.each front behind e);
+      half_said = half-held on going.inputs end last.0 told unchanged last.2;
     }

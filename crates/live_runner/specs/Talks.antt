@@ -1,10 +1,13 @@
 -- What a conversation over a port comes to.
-use Rattle.std.specs.Prelude.{◌≡◌, ℕ, List, [], ◌∷◌, ◌++◌, Option, Some, IfSome}
-use Rattle.line_port.specs.History.{Event, Hears, Input, Says}
+use Rattle.std.specs.Prelude.{◌≡◌, ℕ, List, [], ◌∷◌, ◌++◌, true, filter, Option, Some, IfSome}
+use Rattle.std.specs.List.{list_all}
+use Rattle.line_port.specs.History.{Adds, Event, Hears, Input, Says}
 use Rattle.line_port.specs.declared.finish.Finish.{Finish}
 use Rattle.live_play.specs.Answer.{Setting, play_at}
 use Rattle.live_play.specs.Conversation.{IsConversation, after_all}
 use Rattle.live_play.specs.Laws.{IsHeld}
+use Rattle.live_play.specs.Showing.{IsShowing}
+use Rattle.live_play.specs.ShowingLaws.{hears_plain, is_plain}
 use Rattle.notify_play.specs.NotifyPlay.{NotifyPlay}
 use Rattle.notify_text.specs.Rules.{no_lines}
 use Rattle.ta_isa.specs.declared.boot.Boot.{Boot}
@@ -16,6 +19,8 @@ AreHeld on inputs =
     IfSome (after_all on no_lines inputs).trace.boot (λ (boot : Boot).
     (told : NotifyPlay) × (play_at on (after_all on no_lines inputs) ≡ Some told) × IsHeld on inputs boot told)
 
+-- ---- where no line asks
+
 -- the history grew by a conversation; so it is behind each of its turns, and behind the last line where a part of its answer was
 -- said
 pub record Talks (on : Setting) (old new : Option (List Event)) (finish : Finish) : Type 0 where
@@ -23,3 +28,17 @@ pub record Talks (on : Setting) (old new : Option (List Event)) (finish : Finish
   pub held : (front behind : List Input) → talk.inputs ≡ front ++ behind → AreHeld on front
   pub half_said : (input : Input) (part : List ℕ) → talk.rest ≡ Hears input ∷ Says part ∷ []
       → AreHeld on (talk.inputs ++ input ∷ [])
+
+-- nothing that asks is among what the history grew by
+abbrev pub HearsNoQuestion : Option (List Event) → Option (List Event) → Type 0
+HearsNoQuestion old new = (events : List Event) → Adds old new events → list_all hears_plain events ≡ true
+
+-- ---- where lines may ask
+
+-- the history grew by a conversation in which lines may ask. Of the lines that don't ask all is so behind each of its turns, and
+-- behind the last line where a part of its answer was said
+pub record Shows (on : Setting) (old new : Option (List Event)) (finish : Finish) : Type 0 where
+  pub talk : IsShowing on old new finish
+  pub held : (front behind : List Input) → talk.inputs ≡ front ++ behind → AreHeld on (filter is_plain front)
+  pub half_said : (input : Input) (part : List ℕ) → talk.rest ≡ Hears input ∷ Says part ∷ []
+      → AreHeld on (filter is_plain (talk.inputs ++ input ∷ []))

@@ -1,32 +1,81 @@
 -- What one turn of a conversation comes to.
-use Rattle.std.specs.Prelude.{◌≡◌, ◌⊎◌, ℕ, List, [], ◌∷◌, Option, None, Some, Result, Ok, Err}
+use Rattle.std.specs.Prelude.{◌≡◌, ◌⊎◌, ℕ, List, [], ◌∷◌, ◌++◌, true, is_some, Option, None, Some, Result, Ok, Err}
 use Rattle.line_port.specs.History.{Adds, Event, Hears, Input, Says, heard_events}
+use Rattle.line_port.specs.History as heard
 use Rattle.line_port.specs.declared.finish.Finish.{Finish}
 use Rattle.line_port.specs.declared.finish.Finish.TheVariants.{Memory}
 use Rattle.line_port.specs.declared.port.Heard.{Heard}
-use Rattle.live_play.specs.Answer.{Setting, after_heard}
-use Rattle.live_play.specs.Conversation.{IsRest, said_to}
+use Rattle.live_play.specs.Answer.{Bad, Ending, Setting, after_heard, text_of_ending}
+use Rattle.live_play.specs.Showing.{IsShownRest, Position, position_after, shown_to, shown_to_other, told_at, watching_after}
 use Rattle.live_player.specs.Standing.{StandsAt}
-use Rattle.live_player.specs.declared.player.LivePlayer.{LivePlayer}
+use Rattle.live_player.specs.Taking.{ending_of}
+use Rattle.live_player.specs.declared.taken.Taken.{Taken}
+use Rattle.live_runner.specs.declared.talk.Talk.{Talk}
+use Rattle.live_text.specs.declared.question.Question.{Question}
+use Rattle.live_text.specs.declared.question.Question.TheVariants as asks
 use Rattle.notify_text.specs.Rules.{NotifyFront}
+use Rattle.trace_text.specs.declared.fault.LineFault.{LineFault}
+use Rattle.trace_text.specs.declared.fault.LineFault.TheVariants.{Broken, NoRoom}
+
+-- ---- where it stands
+
+-- the player stands behind the lines that count, and exits are watched or not
+pub record StandsIn (on : Setting) (here : Position) (talk : Talk) : Type 0 where
+  pub player : StandsAt on here.lines talk.player
+  pub watching : talk.is_watching ≡ here.is_watching
+
+-- ---- an answer to a line that asks nothing
 
 -- a call of `hear` that came to this, where this stands in its line, has heard this
 abbrev pub IsHeard : Heard → List ℕ → Input → Type 0
 IsHeard heard line input = heard_events heard line ≡ Hears input ∷ []
 
--- these bytes are what is said to it, behind these lines, and the player stands behind those that count then
-pub record HasAnswered (on : Setting) (before : NotifyFront) (input : Input) (player : LivePlayer) (answer : List ℕ) : Type 0
-  where
-    pub said : answer ≡ said_to on before input
-    pub stands : StandsAt on (after_heard on before input) player
+-- the line was taken so, and all of its answer stands but the line that ends it
+pub record TakesAs (on : Setting) (here : Position) (line : List ℕ) (ending : Ending) (talk : Talk) : Type 0 where
+  pub said : talk.answer.items ++ text_of_ending ending ≡ shown_to_other on here (heard.Line line)
+  pub stands : StandsIn on (record here { lines = after_heard on here.lines (heard.Line line) }) talk
+
+-- by what came of it; of want of memory nothing is said
+abbrev pub TakesIn : Setting → Position → List ℕ → Result Taken LineFault → Talk → Type 0
+TakesIn on here line (Ok how) talk = TakesAs on here line (ending_of how) talk
+TakesIn on here line (Err (Broken kind)) talk = TakesAs on here line (Bad kind) talk
+TakesIn on here line (Err NoRoom) talk = Unit {0}
+
+-- all of its answer stands
+pub record HasAnswered (on : Setting) (here : Position) (line : List ℕ) (talk : Talk) : Type 0 where
+  pub said : talk.answer.items ≡ shown_to_other on here (heard.Line line)
+  pub stands : StandsIn on (record here { lines = after_heard on here.lines (heard.Line line) }) talk
+
+-- ---- an answer to a question
+
+-- but for `watch` a boot stands before it
+abbrev pub CanBeAsked : NotifyFront → Question → Type 0
+CanBeAsked lines (asks.Watch on) = Unit {0}
+CanBeAsked lines asks.State = is_some lines.trace.boot ≡ true
+CanBeAsked lines (asks.Session number) = is_some lines.trace.boot ≡ true
+CanBeAsked lines (asks.Buffer cookie) = is_some lines.trace.boot ≡ true
+CanBeAsked lines (asks.Events from count) = is_some lines.trace.boot ≡ true
+
+-- what it asks was done, and the lines of its answer stand
+pub record Tells (on : Setting) (here : Position) (question : Question) (talk : Talk) : Type 0 where
+  pub said : talk.answer.items ≡ told_at on here.lines question
+  pub stands : StandsIn on (record here { is_watching = watching_after question here.is_watching }) talk
+
+-- ---- an answer
+
+-- to what was heard: it is what is shown to that, and it stands where the conversation is then
+pub record HasShown (on : Setting) (here : Position) (input : Input) (talk : Talk) : Type 0 where
+  pub said : talk.answer.items ≡ shown_to on here input
+  pub stands : StandsIn on (position_after on here input) talk
+
+-- ---- a turn
 
 -- something was heard, and its answer said; or the conversation ends so
-abbrev pub Turns : Setting → NotifyFront → Option (List Event) → Option (List Event) → Result (Unit {0}) Finish → LivePlayer
-    → Type 0
-Turns on before old new (Ok done) player =
-    (input : Input) × Adds old new (Hears input ∷ Says (said_to on before input) ∷ [])
-    × StandsAt on (after_heard on before input) player
-Turns on before old new (Err finish) player = (rest : List Event) × Adds old new rest × IsRest on before finish rest
+abbrev pub Turns : Setting → Position → Option (List Event) → Option (List Event) → Result (Unit {0}) Finish → Talk → Type 0
+Turns on here old new (Ok done) talk =
+    (input : Input) × Adds old new (Hears input ∷ Says (shown_to on here input) ∷ [])
+    × StandsIn on (position_after on here input) talk
+Turns on here old new (Err finish) talk = (rest : List Event) × Adds old new rest × IsShownRest on here finish rest
 
 -- a port that has ended so ended the conversation so; want of memory may come where it has not
 abbrev pub IsEndOf : Finish → Option Finish → Type 0

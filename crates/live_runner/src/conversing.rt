@@ -2,15 +2,14 @@
 
 ghost use Rattle.std.specs.Prelude.{◌≡◌, None};
 ghost use Rattle.live_play.specs.Answer.{setting};
-ghost use Rattle.live_player.specs.Standing.{StandsAt};
-ghost use Rattle.live_runner.specs.Talks.{Talks};
-ghost use Rattle.live_runner.specs.Turns.{EndsAs, IsEndOf, Turns};
+ghost use Rattle.live_play.specs.Showing.{Position};
+ghost use Rattle.live_runner.specs.Talks.{HearsNoQuestion, Shows, Talks};
+ghost use Rattle.live_runner.specs.Turns.{EndsAs, IsEndOf, StandsIn, Turns};
 ghost use Rattle.native_tas.specs.Table.{drivers, entries};
-ghost use Rattle.notify_text.specs.Rules.{NotifyFront};
 
 use crate::talk::Talk;
 use line_port::{Finish, Port};
-use live_play::turns_are_told;
+use live_play::{plain_conversations_are_as_before, questions_change_nothing, turns_are_told};
 use native_tas::Natives;
 use std::alloc::Global;
 
@@ -22,10 +21,10 @@ fn take_turn<P: Port>(
     port: &mut P,
 ) -> Result<(), Finish>
     requires open_there { P.finish port.old ≡ None }
-    requires stands { (lines : NotifyFront) × StandsAt (setting (entries natives.now) (drivers natives.now)) lines talk.old.player }
-    ensures turn { (lines : NotifyFront) → StandsAt (setting (entries natives.now) (drivers natives.now)) lines talk.old.player
-        → Turns (setting (entries natives.now) (drivers natives.now)) lines (P.history port.old) (P.history port.new) result
-        talk.new.player }
+    requires stands { (here : Position) × StandsIn (setting (entries natives.now) (drivers natives.now)) here talk.old }
+    ensures turn { (here : Position) → StandsIn (setting (entries natives.now) (drivers natives.now)) here talk.old
+        → Turns (setting (entries natives.now) (drivers natives.now)) here (P.history port.old) (P.history port.new) result
+        talk.new }
     ensures ends { EndsAs result (P.finish port.new) }
 {
     let heard = port.hear(&mut talk.line);
@@ -48,13 +47,22 @@ fn take_turn<P: Port>(
 pub fn live<P: Port>(alloc: Global, natives: &Natives, port: &mut P) -> Finish
     requires { P.finish port.old ≡ None }
 
-    // ---- The history grew by a conversation from the first line on; and behind each of its turns, as behind an answer that was
-    // said in part, all returns are those of one play, whose history is legal, with the kernel's own answers.
-    ensures talks { Talks (setting (entries natives.now) (drivers natives.now)) (P.history port.old) (P.history port.new) result }
+    // ---- The history grew by a conversation from the first line on, in which lines may ask. Of the lines that don't, as of the
+    // last one where its answer was said in part, all returns are those of one play, whose history is legal, with the kernel's own
+    // answers, behind each turn.
+    ensures shows { Shows (setting (entries natives.now) (drivers natives.now)) (P.history port.old) (P.history port.new) result }
+
+    // ---- Where no line asks, the history grew by a conversation from the first line on, as it does without lines that ask; and
+    // behind each of its turns, as behind an answer that was said in part, all returns are those of one play, whose history is
+    // legal, with the kernel's own answers.
+    ensures talks { HearsNoQuestion (P.history port.old) (P.history port.new) →
+        Talks (setting (entries natives.now) (drivers natives.now)) (P.history port.old) (P.history port.new) result }
 
     // ---- The port has come to this end; but want of memory may come before its end.
     ensures ends { IsEndOf result (P.finish port.new) }
 {
+    plain_conversations_are_as_before();
+    questions_change_nothing();
     turns_are_told();
     let mut talk = Talk::new(alloc);
     for _ in 0..u64::MAX {

@@ -1,11 +1,12 @@
 //! The lines that end answers.
 
-ghost use Rattle.std.specs.Prelude.{◌≡◌, ◌++◌, OnOk};
+ghost use Rattle.std.specs.Prelude.{◌≡◌, ◌++◌, IsErr, OnOk};
 ghost use Rattle.live_play.specs.Answer.{Bad, Done, Full, TooLong, text_of_ending};
+ghost use Rattle.trace_text.specs.declared.fault.BadKind.{BadKind};
 
 use answer_lines::push_numbered;
 use std::alloc::AllocError;
-use trace_text::BadKind;
+use trace_text::{BadKind, LineFault};
 
 /// Appends the line that ends the answer to one that counts.
 pub(crate) fn push_done(text: &mut Vec<u8>) -> Result<(), AllocError>
@@ -22,6 +23,18 @@ pub(crate) fn push_bad(text: &mut Vec<u8>, kind: BadKind) -> Result<(), AllocErr
     text.extend_from_slice(kind.word().as_bytes())?;
     text.push(b'\n')?;
     Ok(())
+}
+
+/// Appends the line that is the answer to one with this fault, where that isn't want of memory.
+pub(crate) fn push_fault(text: &mut Vec<u8>, fault: LineFault) -> Result<(), AllocError>
+    ensures told { (kind : BadKind) → fault ≡ LineFault.Broken kind →
+        OnOk result (text.new.items ≡ text.old.items ++ text_of_ending (Bad kind)) }
+    ensures no_room { fault ≡ LineFault.NoRoom → IsErr result }
+{
+    match fault {
+        LineFault::Broken(kind) => push_bad(text, kind),
+        LineFault::NoRoom => Err(AllocError),
+    }
 }
 
 /// Appends the line that is the answer to one that is too long.

@@ -1,7 +1,8 @@
 //! A conversation with a core, over any port.
 //!
-//! [`live`] hears a line, says its answer at once, and only then hears the next line. `specs/` has `Turns`, what one turn
-//! comes to, and `Talks`, what all of them do; the definitions of a conversation are those of `live_play`.
+//! [`live`] hears a line, says its answer at once, and only then hears the next line. A line may also ask what the core keeps, or
+//! that exits are watched. `specs/` has `Turns`, what one turn comes to, and `Talks`, what all of them do; the definitions of a
+//! conversation are those of `live_play`.
 #![tactic(auto)]
 
 mod conversing;

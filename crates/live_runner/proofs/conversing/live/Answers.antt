@@ -3,28 +3,24 @@ use Rattle.std.proofs.Common.{[], inl, inr, refl}
 use Rattle.line_port.specs.Laws.{Adds-nil}
 use Rattle.line_port.specs.declared.finish.Finish.TheVariants as finish
 use Rattle.live_play.specs.Answer.{setting}
-use Rattle.live_play.specs.Conversation.{after_all}
+use Rattle.live_play.specs.Showing.{first_position, position_behind}
 use Rattle.native_tas.specs.Table.{drivers, entries}
-use Rattle.notify_text.specs.Rules.{no_lines}
-use Rattle.live_runner.proofs.Talked.{going-first, going-more, talks-ended}
+use Rattle.live_runner.proofs.Plain.{plain-talks}
+use Rattle.live_runner.proofs.Talked.{going-first, going-more, shows-ended}
 use Rattle.live_runner.proofs.conversing.live.Goals as goal
 
 pub loop-init : goal.loop-init
 loop-init g c = record {
   going_on = c.requires;
   going = going-first (setting (entries c.args.natives.now) (drivers c.args.natives.now))
-      (g.P.Port.history c.args.port.now) c.new-talk.result.player
+      (g.P.Port.history c.args.port.now) c.new-talk.result
       (c.new-talk.ensures (entries c.args.natives.now) (drivers c.args.natives.now));
 }
 
 pub take_turn-requires-clause-stands : goal.take_turn-requires-clause-stands
 take_turn-requires-clause-stands g c =
     let on = setting (entries c.args.natives.now) (drivers c.args.natives.now) in
-    (after_all on no_lines c.loop.invariant.going.inputs, c.loop.invariant.going.stands)
-
-pub returns-in-Err-clause-talks : goal.returns-in-Err-clause-talks
-returns-in-Err-clause-talks g c =
-    talks-ended _ _ _ _ _ c.in-Err.finish c.turns_are_told.ensures c.loop.invariant.going c.in-Err.ensures.turn
+    (position_behind on first_position c.loop.invariant.going.inputs, c.loop.invariant.going.stands)
 
 pub loop-preserved : goal.loop-preserved
 loop-preserved g c = record {
@@ -32,9 +28,27 @@ loop-preserved g c = record {
   going = going-more _ _ _ _ _ _ c.loop.invariant.going c.in_default.ensures.turn;
 }
 
+pub returns-in-Err-clause-shows : goal.returns-in-Err-clause-shows
+returns-in-Err-clause-shows g c =
+    shows-ended _ _ _ _ _ c.in-Err.finish c.turns_are_told.ensures c.questions_change_nothing.ensures c.loop.invariant.going
+    c.in-Err.ensures.turn
+
+pub returns-in-Err-clause-talks : goal.returns-in-Err-clause-talks
+returns-in-Err-clause-talks g c =
+    plain-talks _ _ _ _ c.plain_conversations_are_as_before.ensures
+    (shows-ended _ _ _ _ _ c.in-Err.finish c.turns_are_told.ensures c.questions_change_nothing.ensures c.loop.invariant.going
+    c.in-Err.ensures.turn)
+
+pub returns-clause-shows : goal.returns-clause-shows
+returns-clause-shows g c =
+    shows-ended _ _ _ _ _ finish.Memory c.turns_are_told.ensures c.questions_change_nothing.ensures c.loop.invariant.going
+    (λ here stands. ([], Adds-nil _, inl refl))
+
 pub returns-clause-talks : goal.returns-clause-talks
 returns-clause-talks g c =
-    talks-ended _ _ _ _ _ finish.Memory c.turns_are_told.ensures c.loop.invariant.going (λ lines stands. ([], Adds-nil _, inl refl))
+    plain-talks _ _ _ _ c.plain_conversations_are_as_before.ensures
+    (shows-ended _ _ _ _ _ finish.Memory c.turns_are_told.ensures c.questions_change_nothing.ensures c.loop.invariant.going
+    (λ here stands. ([], Adds-nil _, inl refl)))
 
 pub returns-clause-ends : goal.returns-clause-ends
 returns-clause-ends g c = inr (refl, c.loop.invariant.going_on)

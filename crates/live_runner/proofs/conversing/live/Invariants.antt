@@ -8,5 +8,5 @@ use Rattle.live_runner.proofs.conversing.live.Given as goal
 abbrev pub invariant-loop : goal.invariant-loop
 invariant-loop g l = record {
   going_on : g.P.Port.finish l.port ≡ None;
-  going : Going (setting (entries l.natives) (drivers l.natives)) (g.P.Port.history l.fn.port) (g.P.Port.history l.port) l.talk.player;
+  going : Going (setting (entries l.natives) (drivers l.natives)) (g.P.Port.history l.fn.port) (g.P.Port.history l.port) l.talk;
 }

@@ -1,32 +1,38 @@
+use Rattle.std.proofs.Common.{refl}
 use Rattle.live_play.specs.Answer.{Setting, setting}
-use Rattle.live_player.specs.declared.taken.Taken.TheVariants as taken
+use Rattle.live_play.specs.Showing.{Position}
+use Rattle.live_text.specs.Asking.{kind_of_line}
 use Rattle.native_tas.specs.Table.{drivers, entries}
-use Rattle.live_runner.proofs.Turned.{broken_answered, taken_answered}
+use Rattle.live_runner.proofs.Answered.{asked_can, broken_answered, question_answered}
 use Rattle.live_runner.proofs.talk.Talk.answer_line.Goals as goal
 
-pub take_line-requires : goal.take_line-requires
-take_line-requires g c = c.requires.stands
-
-pub returns-in-Ok-Done : goal.returns-in-Ok-Done
-returns-in-Ok-Done g c = λ lines stands.
+pub tell-requires-clause-stands : goal.tell-requires-clause-stands
+tell-requires-clause-stands g c =
     let on : Setting = setting (entries c.args.natives.now) (drivers c.args.natives.now) in
-    taken_answered on lines c.args.self.now.line.items taken.Done c.take_line.new.self c.args.self.now.answer.items
-    c.take_line.new.text.items c.push_done.new.text.items c.push_done.result c.requires.none
-    (rw c.as_slice.ensures.value at (rw c.in-Ok-Done.field-0-is at (c.in-Ok-Done.ensures lines stands)))
-    c.push_done.ensures
+    let here : Position = c.requires.stands.0 in (
+      here,
+      c.requires.stands.1,
+      asked_can here.lines c.args.self.now.line.items c.in-Some-Ok.question c.is_booted.result
+          (kind_of_line c.args.self.now.line.items) (c.is_booted.ensures on here.lines c.requires.stands.1.player)
+          (rw c.as_slice.ensures.value at (rw c.in-Some-Ok.field-0-is at c.in-Some-Ok.ensures.asked)),
+    )
 
-pub returns-in-Ok-Full : goal.returns-in-Ok-Full
-returns-in-Ok-Full g c = λ lines stands.
+pub returns-in_ok-tell-in-Some-Ok : goal.returns-in_ok-tell-in-Some-Ok
+returns-in_ok-tell-in-Some-Ok g c = λ here stands.
     let on : Setting = setting (entries c.args.natives.now) (drivers c.args.natives.now) in
-    taken_answered on lines c.args.self.now.line.items (taken.Full c.in-Ok-Full.copied) c.take_line.new.self
-    c.args.self.now.answer.items c.take_line.new.text.items c.push_full.new.text.items c.push_full.result c.requires.none
-    (rw c.as_slice.ensures.value at (rw c.in-Ok-Full.field-0-is at (c.in-Ok-Full.ensures lines stands)))
-    c.push_full.ensures
+    let booted = c.is_booted.ensures on here.lines stands.player in
+    let judged = rw c.as_slice.ensures.value at (rw c.in-Some-Ok.field-0-is at c.in-Some-Ok.ensures.asked) in
+    question_answered on here c.args.self.now.line.items c.in-Some-Ok.question c.is_booted.result c.tell.new.self _
+    c.push_done.result booted judged
+    (c.in_ok-tell-in-Some-Ok.ensures here stands
+    (asked_can here.lines c.args.self.now.line.items c.in-Some-Ok.question c.is_booted.result
+    (kind_of_line c.args.self.now.line.items) booted judged))
+    refl refl c.push_done.ensures
 
-pub returns-in-Err-Broken : goal.returns-in-Err-Broken
-returns-in-Err-Broken g c = λ lines stands.
+pub returns-in-Some-Err : goal.returns-in-Some-Err
+returns-in-Some-Err g c = λ here stands.
     let on : Setting = setting (entries c.args.natives.now) (drivers c.args.natives.now) in
-    broken_answered on lines c.args.self.now.line.items c.in-Err-Broken.kind c.take_line.new.self
-    c.args.self.now.answer.items c.take_line.new.text.items c.push_bad.new.text.items c.push_bad.result c.requires.none
-    (rw c.as_slice.ensures.value at (rw c.in-Err-Broken.field-0-is at (c.in-Err-Broken.ensures lines stands)))
-    c.push_bad.ensures
+    broken_answered on here c.args.self.now.line.items c.in-Some-Err.fault c.is_booted.result c.args.self.now _ c.push_fault.result
+    (c.is_booted.ensures on here.lines stands.player)
+    (rw c.as_slice.ensures.value at (rw c.in-Some-Err.field-0-is at c.in-Some-Err.ensures.asked))
+    c.requires.none stands refl refl c.push_fault.ensures.told c.push_fault.ensures.no_room
