@@ -359,10 +359,12 @@ def items(trace):
 
 
 def check_conversations(comparison):
-    """Answers of conversations are lines as others print them; files of a supplicant; a prompt's lines that aren't of their form."""
+    """Answers to lines that don't ask are lines as others print them, but for what exits that are watched have written; files of a
+    supplicant; a prompt's lines that aren't of their form."""
     for case in conversations.cases():
-        lines = [line for line, answer in case.turns if answer[-1] == "ok"]
-        printed = [line for _, answer in case.turns for line in answer[:-1]]
+        turns = [(line, answer) for line, answer in case.turns if not conversations.asks(line)]
+        lines = [line for line, answer in turns if answer[-1] == "ok"]
+        printed = [told for _, answer in turns for told in answer[:-1] if not told.startswith("wrote ")]
         entries = laid_out("".join(f"{line}\n" for line in lines), "".join(f"{line}\n" for line in printed))
         told = [entry.printed for entry in entries or () if entry.printed]
         comparison.same(f"annotate.py at the conversation {case.name}", told, printed)

@@ -14,6 +14,14 @@ Case = collections.namedtuple("Case", "name turns cut finish")
 
 ENDINGS = ("ok", "bad", "full")
 
+# The first words of lines that ask, which are none of a trace.
+QUESTIONS = ("watch", "state", "session", "buffer", "events")
+
+
+def asks(line):
+    """Whether a line asks."""
+    return line.split(" ")[0] in QUESTIONS
+
 
 class Reader:
     """The case that is being read."""

@@ -18,6 +18,7 @@ usage: live.py [program=FILE] [script] [serve] [notes]
 import collections
 import os
 import pathlib
+import re
 import signal
 import subprocess
 import sys
@@ -30,9 +31,24 @@ from supplicant import Supplicant
 from words import BadWords, run
 
 MOST_SHOWN, MOST_STEPS = 4096, 1_000_000
+RAM_START, RAM_BYTES = 0x4000_0000, 0x40_0000
 
 # The lines of an answer, and the one that ends it.
 Answer = collections.namedtuple("Answer", "lines ending")
+
+
+# What a core keeps: of each slot, and of each instance, the words of its line by their names; the processors that are inside; and the
+# counts by their words. A slot that is free or active has its `phase` alone, and `cpu`.
+State = collections.namedtuple("State", "slots inside instances counts")
+
+# What an instance's line has behind its number.
+INSTANCE = re.compile(r"(?P<uuid>\S+) users (?P<users>\d+) (?:idle|held (?P<holder>\d+)) (?P<life>alive|dead)")
+SLOT = re.compile(
+    r"(?P<phase>\w+)(?: (?P<cpu>\d+)| client (?P<client>\d+) session (?P<session>\d+) instance (?P<instance>\d+))?"
+    r"(?: wants (?P<wants>\w+))?(?: buffer (?P<address>\w{8}) (?P<cookie>\w{16}))?(?P<cancelled> cancelled)?"
+)
+HEXADECIMAL = ("address", "cookie")
+COUNTS = ("sessions", "buffers", "pages", "events", "copied")
 
 
 class Refused(Exception):
@@ -52,12 +68,17 @@ class Over(Exception):
 
 
 class Conversation:
-    """A conversation with a core of its own. `heard`, where it is given, is called with each line and its answer."""
+    """A conversation with a core of its own. `heard`, where it is given, is called with each line and its answer. With `watch` exits
+    are watched, and `ram` has a copy of each processor's RAM, which is behind each answer what the core sees, up to a line
+    `watch off`; else it is None."""
 
-    def __init__(self, file=None, heard=None):
-        self.heard = heard
+    def __init__(self, file=None, heard=None, watch=False):
+        self.heard, self.ram = heard, None
         path = program.found("optee_live", file)
         self.process = subprocess.Popen([path], stdin=subprocess.PIPE, stdout=subprocess.PIPE)
+        if watch:
+            self.ask("watch on")
+            self.ram = []
 
     def __enter__(self):
         return self
@@ -84,9 +105,28 @@ class Conversation:
         except BrokenPipeError:
             raise Over(self.process.wait()) from None
         answer = self.answer()
+        if self.ram is not None and answer.ending == "ok":
+            self.copy(line, answer)
         if self.heard:
             self.heard(line, answer)
         return answer
+
+    def copy(self, line, answer):
+        """Puts what a line and its answer have written into the copies of RAM."""
+        word, _, rest = line.partition(" ")
+        words = rest.split(" ")
+        if word == "boot":
+            self.ram = [bytearray(RAM_BYTES) for _ in range(int(words[0]))]
+        elif word == "mem":
+            for ram in self.ram:
+                put(ram, *words)
+        elif word == "write":
+            put(self.ram[int(words[0])], *words[1:])
+        elif word in ("smc", "leave"):
+            for _, cpu, *written in (told.split(" ") for told in answer.lines[1:]):
+                put(self.ram[int(cpu)], *written)
+        elif line == "watch off":
+            self.ram = None
 
     def answer(self):
         """Reads an answer to the line that ends it."""
@@ -125,6 +165,21 @@ class Conversation:
         """A processor writes bytes into its RAM."""
         self.ask(f"write {cpu} {address:x} {data.hex()}")
 
+    def state(self):
+        """What the core keeps."""
+        state = State([], set(), {}, {})
+        for told in self.ask("state"):
+            word, number, rest = (*told.split(" ", 2), "")[:3]
+            if word == "slot":
+                state.slots.append(named(SLOT, rest))
+            elif word == "inside":
+                state.inside.add(int(number))
+            elif word == "instance":
+                state.instances[int(number)] = named(INSTANCE, rest)
+            elif word in COUNTS:
+                state.counts[word] = int(number)
+        return state
+
 
 class Driver:
     """Calls that are made to their end, with a supplicant that serves them."""
@@ -143,8 +198,30 @@ class Driver:
 
 
 def registers_of(lines):
-    """The registers of a line `ret`."""
-    return [int(register, 16) for register in lines[-1].split(" ")[2:]]
+    """The registers of a line `ret`, which stands before all that the exit has written."""
+    return [int(register, 16) for register in lines[0].split(" ")[2:]]
+
+
+def put(ram, address, digits):
+    """Puts bytes into a copy of RAM."""
+    data = bytes.fromhex(digits)
+    at = int(address, 16) - RAM_START
+    ram[at : at + len(data)] = data
+
+
+def named(form, text):
+    """The words of a text of this form by their names, without those that it hasn't: numbers as such."""
+    words = {name: word for name, word in form.fullmatch(text).groupdict().items() if word is not None}
+    return {name: number(name, word) for name, word in words.items()}
+
+
+def number(name, word):
+    """A word as a number, where it is one."""
+    if name == "cancelled":
+        return True
+    if name in HEXADECIMAL:
+        return int(word, 16)
+    return int(word) if word.isdecimal() else word
 
 
 class Prompt:

@@ -35,7 +35,16 @@ USAGE = b"usage: optee_live\n"
 BOOT, TAKEN = b"boot 1 1 1\n", b"ok\n"
 LONG = 4000  # bytes that are shown at once
 MOST_ANSWERED = 3 * 4096  # bytes of an answer
-REFUSED = ["page", "session-by-its-number", "two-waiting-calls-and-a-wake", "create-object-with-a-tag", "signals"]
+REFUSED = [
+    "page",
+    "session-by-its-number",
+    "two-waiting-calls-and-a-wake",
+    "create-object-with-a-tag",
+    "signals",
+    "questions-of-a-cancelled-wait",
+]
+KEPT = {"sessions": 0, "buffers": 0, "pages": 1, "events": 2, "copied": 0}  # of a core of one page, behind a call
+ASKED = ["state", "session 1", "buffer 40010000", "events 0 3"]  # behind each line
 
 
 class Tests:
@@ -201,8 +210,35 @@ def try_module(tests):
         talk.write(0, 0x40000FFF, bytes(range(200)) * 50)
         tests.same("read", talk.read(0, 0x40000FFF, 10_000), bytes(range(200)) * 50)
         tests.same("smc", talk.smc(0, [0xBF00FF03]), [2, 0, 0, 0, 0, 0, 0, 0])
+        tests.same("state", talk.state(), live.State([{"phase": "free"}], set(), {}, KEPT))
         talk.process.kill()
         tests.same("a program that has ended", refusal(talk.ask, "# a"), -9)
+
+
+def try_questions(tests):
+    """Each conversation with questions behind each of its lines: it is answered as it is without them, and what is kept of the core is
+    read. And with its exits watched: behind it the copies of RAM are what the core sees."""
+    for case in tests.cases.values():
+        with live.Conversation(tests.path) as talk:
+            given = [asked(talk, line) for line, _ in case.turns]
+            tests.same(f"{case.name}, with questions", given, [answer for _, answer in case.turns])
+        with live.Conversation(tests.path, watch=True) as talk:
+            for line, _ in case.turns:
+                if line != "watch off":
+                    talk.send(line)
+            seen = [talk.read(cpu, live.RAM_START, live.RAM_BYTES) == ram for cpu, ram in enumerate(talk.ram)]
+            tests.same(f"{case.name}, its copies of RAM", seen, [True] * len(seen))
+
+
+def asked(talk, line):
+    """The answer to a line, behind which questions are asked. Behind a boot they are answered."""
+    lines, ending = talk.send(line)
+    told = [talk.send(question).ending for question in ASKED]
+    if told != ["bad place"] * len(ASKED):
+        if told != ["ok"] * len(ASKED):
+            return told
+        talk.state()
+    return [*lines, ending]
 
 
 def try_fuzzer(tests):
@@ -295,6 +331,7 @@ TESTS = [
     try_other_streams,
     try_words,
     try_module,
+    try_questions,
     try_fuzzer,
     try_memory,
 ]

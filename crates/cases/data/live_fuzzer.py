@@ -1,5 +1,6 @@
 """A normal world that nobody can trust, in conversation with a core. It learns from each answer which calls stand suspended, for whom,
-and which sessions are open; so it makes calls, and resumes what it likes as whom it likes. It stops at a wrong answer."""
+and which sessions are open; so it makes calls, and resumes what it likes as whom it likes. It stops at a wrong answer, and where the core
+keeps something else than it has learned."""
 
 import pathlib
 import random
@@ -13,9 +14,16 @@ COUNTER, THREADS, ARGUMENTS, BUFFERS = "22222222-3333-4444-5555-666666666666", 3
 ETHREAD_LIMIT, ERESUME = 1, 3
 IMAGE = pathlib.Path(__file__).parent / "applications/counter.hex"
 
+
+
+def number_at(talk, place):
+    """The number of 32 bits that stands in the copy of RAM."""
+    return int.from_bytes(talk.ram[0][place - live.RAM_START :][:4], "little")
+
+
 chance = random.Random(int(sys.argv[2]))
 suspended, sessions, seen = {}, set(), {}
-with live.Conversation(sys.argv[1]) as talk:
+with live.Conversation(sys.argv[1], watch=True) as talk:
     talk.ask(f"boot 1 {THREADS} 8")
     talk.ask(f"ta {COUNTER} {IMAGE.read_text().strip()}")
     for turn in range(int(sys.argv[3])):
@@ -41,8 +49,11 @@ with live.Conversation(sys.argv[1]) as talk:
         if answer[0] in formats.RPCS:
             suspended[answer[3]] = client, place
         if answer[0] == 0:
-            command, session, result = (int.from_bytes(talk.read(0, place + at, 4), "little") for at in (0, 8, 20))
+            command, session, result = (number_at(talk, place + at) for at in (0, 8, 20))
             if result == 0 and command != 1:
                 (sessions.add if command == 0 else sessions.discard)(session)
+        kept = {number: slot["client"] for number, slot in enumerate(talk.state().slots) if slot["phase"] != "free"}
+        if kept != {thread: owner for thread, (owner, place) in suspended.items()}:
+            sys.exit(f"turn {turn}: the core keeps {kept}, with {suspended} suspended")
 names = {0: "OK", ETHREAD_LIMIT: "ETHREAD_LIMIT", ERESUME: "ERESUME", **formats.RPCS}
 print(*(f"{names[a0]} {count}" for a0, count in sorted(seen.items())))
