@@ -16,13 +16,15 @@
 #include <time.h>
 #include <unistd.h>
 
-/* Bytes of RAM that one line shows, and room for that line. */
-enum { MOST_SHOWN = 4096, LINE_ROOM = 3 * MOST_SHOWN };
+/* Bytes of RAM that one line shows, and room for that line. Bytes that one line of an exit has written. */
+enum { MOST_SHOWN = 4096, LINE_ROOM = 3 * MOST_SHOWN, BLOCK = 64 };
+enum { MOST_CPUS = 8, RAM_START = 0x40000000 };
 
 struct live {
     pid_t process;
     int to, from;
     bool is_over;
+    uint8_t *ram; /* the copies of all processors' RAM, or null */
     size_t said; /* bytes that aren't written yet */
     char saying[LINE_ROOM];
     size_t heard_from, heard_to; /* what was read, and not taken yet */
@@ -82,6 +84,7 @@ int live_close(struct live *live) {
     close(live->to), close(live->from);
     do ended = waitpid(live->process, &status, 0);
     while (ended < 0 && errno == EINTR);
+    free(live->ram);
     free(live);
     if (ended < 0) return LIVE_UNKNOWN;
     return WIFEXITED(status) ? WEXITSTATUS(status) : -WTERMSIG(status);
@@ -245,16 +248,42 @@ static bool are_bytes(const char *line, unsigned cpu, uint64_t address, uint8_t 
     return text && *text == 0;
 }
 
-/* The rest of an answer whose first line was heard: the data of its call, which stand just where it is taken, or its end. */
+/* Whether a line is `wrote CPU ADDRESS HEX` of a block of this processor: then it stands in its copy. */
+static bool is_written(struct live *live, const char *line, unsigned cpu) {
+    char start[20];
+    uint32_t address;
+    snprintf(start, sizeof start, "wrote %u ", cpu);
+    const char *text = behind(line, start), *place = text;
+    if (text == NULL || !takes(&place, 8, &address)) return false;
+    if (address < RAM_START || address - RAM_START > LIVE_RAM_BYTES - BLOCK) return false;
+    uint8_t *copy = live->ram + (size_t)cpu * LIVE_RAM_BYTES + (address - RAM_START);
+    if (*place++ != ' ') return false;
+    for (int i = 0; i < BLOCK; i++) {
+        uint32_t byte;
+        if (!takes(&place, 2, &byte)) return false;
+        copy[i] = (uint8_t)byte;
+    }
+    return *place == 0;
+}
+
+/* The first line behind those of what an exit has written, which stand in the copy then. */
+static const char *behind_writes(struct live *live, unsigned cpu) {
+    const char *line = hear(live);
+    while (live->ram && cpu < MOST_CPUS && line && is_written(live, line, cpu)) line = hear(live);
+    return line;
+}
+
+/* An answer that ends with this line, where data of its call stand before it just where it is taken. */
 static struct live_answer rest(struct live *live, const char *line, bool is_data) {
-    struct live_answer answer = ended_by(live, is_data ? hear(live) : line);
+    struct live_answer answer = ended_by(live, line);
     return is_data == (answer.end == LIVE_OK) ? answer : over(live);
 }
 
 static struct live_answer hear_registers(struct live *live, unsigned cpu) {
     uint32_t a[8] = {0};
     const char *line = hear(live);
-    struct live_answer answer = rest(live, line, line && are_registers(line, cpu, a));
+    bool is_data = line && are_registers(line, cpu, a);
+    struct live_answer answer = rest(live, is_data ? behind_writes(live, cpu) : line, is_data);
     memcpy(answer.a, a, sizeof a);
     return answer;
 }
@@ -295,7 +324,8 @@ struct live_answer live_read(struct live *live, unsigned cpu, uint64_t address, 
         part = length - done < MOST_SHOWN ? length - done : MOST_SHOWN;
         say(live, "show %u %" PRIx64 " %zu\n", cpu, address + done, part);
         const char *line = hear(live);
-        answer = rest(live, line, line && are_bytes(line, cpu, address + done, (uint8_t *)bytes + done, part));
+        bool is_data = line && are_bytes(line, cpu, address + done, (uint8_t *)bytes + done, part);
+        answer = rest(live, is_data ? hear(live) : line, is_data);
     }
     return answer;
 }
@@ -305,10 +335,144 @@ struct live_answer live_write(struct live *live, unsigned cpu, uint64_t address,
     say(live, "write %u %" PRIx64 " ", cpu, address);
     say_digits(live, bytes, length);
     say(live, "\n");
-    return hear_end(live);
+    struct live_answer answer = hear_end(live);
+    /* It was taken, so all of it lies in this processor's RAM. */
+    if (live->ram && answer.end == LIVE_OK && length > 0)
+        memcpy(live->ram + (size_t)cpu * LIVE_RAM_BYTES + (address - RAM_START), bytes, length);
+    return answer;
 }
 
 struct live_answer live_signal(struct live *live, unsigned value) {
     say(live, "signal %u\n", value);
     return hear_end(live);
+}
+
+/* ---- What is watched, and what is kept. */
+
+struct live_answer live_watch(struct live *live) {
+    uint8_t *ram = live->ram ? live->ram : calloc(MOST_CPUS, LIVE_RAM_BYTES);
+    if (ram == NULL) return (struct live_answer){.end = LIVE_BAD, .kind = "memory"};
+    say(live, "watch on\n");
+    live->ram = ram;
+    return hear_end(live);
+}
+
+const uint8_t *live_ram(const struct live *live, unsigned cpu) {
+    return live->ram && cpu < MOST_CPUS ? live->ram + (size_t)cpu * LIVE_RAM_BYTES : NULL;
+}
+
+/* Takes a number in decimal behind a word from the front of a text, and says whether both stand there. */
+static bool takes_number(const char **text, const char *word, uint64_t *number) {
+    const char *digits = behind(*text, word);
+    if (digits == NULL || *digits < '0' || *digits > '9') return false;
+    for (*number = 0; *digits >= '0' && *digits <= '9'; digits++) *number = 10 * *number + (uint64_t)(*digits - '0');
+    *text = digits;
+    return true;
+}
+
+/* The same of a number of 32 bits. */
+static bool takes_short(const char **text, const char *word, uint32_t *number) {
+    uint64_t wide;
+    if (!takes_number(text, word, &wide) || wide > UINT32_MAX) return false;
+    *number = (uint32_t)wide;
+    return true;
+}
+
+/* Takes a word from the front of a text, and says whether it stands there. */
+static bool takes_word(const char **text, const char *word) {
+    const char *rest = behind(*text, word);
+    if (rest) *text = rest;
+    return rest != NULL;
+}
+
+/* Takes what stands up to a space, with an end, and says whether there is room for it. */
+static bool takes_part(const char **text, char *part, size_t room) {
+    size_t length = strcspn(*text, " ");
+    if (length == 0 || length >= room) return false;
+    memcpy(part, *text, length), part[length] = 0;
+    *text += length;
+    return true;
+}
+
+/* Takes a buffer, its address and its cookie. */
+static bool takes_buffer(const char **text, struct live_slot *slot) {
+    uint32_t address, high, low;
+    if (!takes(text, 8, &address) || !takes_word(text, " ") || !takes(text, 8, &high) || !takes(text, 8, &low)) return false;
+    slot->address = address, slot->cookie = (uint64_t)high << 32 | low;
+    return slot->has_buffer = true;
+}
+
+/* Takes a call that is to be resumed. */
+static bool takes_call(const char **text, struct live_slot *slot) {
+    static const char *const phases[] = {"runs", "asks", "waits", "ends"};
+    for (int i = 0; i < 4 && slot->phase == LIVE_FREE; i++)
+        if (takes_word(text, phases[i])) slot->phase = (enum live_phase)(LIVE_RUNS + i);
+    if (slot->phase == LIVE_FREE || !takes_short(text, " client ", &slot->client)) return false;
+    if (!takes_short(text, " session ", &slot->session) || !takes_short(text, " instance ", &slot->instance)) return false;
+    if (takes_word(text, " wants ") && !takes_part(text, slot->wants, sizeof slot->wants)) return false;
+    if (takes_word(text, " buffer ") && !takes_buffer(text, slot)) return false;
+    slot->is_cancelled = takes_word(text, " cancelled");
+    return true;
+}
+
+static bool takes_slot(const char *text, struct live_state *state) {
+    uint32_t number;
+    if (!takes_short(&text, "", &number) || number != state->slot_count || number >= 16) return false;
+    struct live_slot *slot = &state->slots[state->slot_count++];
+    if (!takes_word(&text, " ")) return false;
+    if (takes_word(&text, "free")) return *text == 0;
+    if (takes_short(&text, "active ", &slot->cpu)) {
+        slot->phase = LIVE_ACTIVE;
+        return *text == 0;
+    }
+    return takes_call(&text, slot) && *text == 0;
+}
+
+static bool takes_inside(const char *text, struct live_state *state) {
+    uint32_t cpu;
+    if (!takes_short(&text, "", &cpu) || cpu >= MOST_CPUS) return false;
+    return state->is_inside[cpu] = *text == 0;
+}
+
+static bool takes_instance(const char *text, struct live_state *state) {
+    if (state->instance_count >= 80) return false;
+    struct live_instance *instance = &state->instances[state->instance_count++];
+    if (!takes_short(&text, "", &instance->number) || !takes_word(&text, " ")) return false;
+    if (!takes_part(&text, instance->uuid, sizeof instance->uuid) || !takes_short(&text, " users ", &instance->users)) return false;
+    instance->is_held = takes_short(&text, " held ", &instance->holder);
+    if (!instance->is_held && !takes_word(&text, " idle")) return false;
+    instance->is_dead = takes_word(&text, " dead");
+    return (instance->is_dead || takes_word(&text, " alive")) && *text == 0;
+}
+
+/* Takes a line of what a core keeps, and says whether it is of its form. One of a word that isn't known is passed over. */
+static bool takes_line(const char *line, struct live_state *state) {
+    const struct {
+        const char *word;
+        uint64_t *count;
+    } counts[] = {{"sessions ", &state->sessions},
+                  {"buffers ", &state->buffers},
+                  {"pages ", &state->pages},
+                  {"events ", &state->events},
+                  {"copied ", &state->copied}};
+    const char *text;
+    if ((text = behind(line, "slot "))) return takes_slot(text, state);
+    if ((text = behind(line, "inside "))) return takes_inside(text, state);
+    if ((text = behind(line, "instance "))) return takes_instance(text, state);
+    for (size_t i = 0; i < sizeof counts / sizeof counts[0]; i++)
+        if (behind(line, counts[i].word)) return takes_number(&line, counts[i].word, counts[i].count) && *line == 0;
+    return true;
+}
+
+/* Whether a line ends an answer. */
+static bool is_end(const char *line) {
+    return strcmp(line, "ok") == 0 || behind(line, "bad ") || behind(line, "full ");
+}
+
+struct live_answer live_state(struct live *live, struct live_state *state) {
+    memset(state, 0, sizeof *state);
+    say(live, "state\n");
+    const char *line = hear(live);
+    while (line && !is_end(line) && takes_line(line, state)) line = hear(live);
+    return ended_by(live, line);
 }

@@ -4,6 +4,7 @@
 #ifndef LIVE_H
 #define LIVE_H
 
+#include <stdbool.h>
 #include <stddef.h>
 #include <stdint.h>
 #include <sys/types.h>
@@ -32,7 +33,7 @@ struct live_answer {
     enum live_end end;
     /* Of live_smc and live_leave, at LIVE_OK: a0 to a7. */
     uint32_t a[8];
-    /* At LIVE_BAD: `range`, `cpu`, `inside` and others, by docs/formats.md, and `long`. */
+    /* At LIVE_BAD: `range`, `cpu`, `inside` and others, by docs/formats.md, and `long`; of live_watch `memory` besides. */
     char kind[16];
     /* At LIVE_FULL. */
     uint64_t copied;
@@ -77,6 +78,48 @@ struct live_answer live_write(struct live *live, unsigned cpu, uint64_t address,
 
 /* The hardware signals this value, 1 to 63. */
 struct live_answer live_signal(struct live *live, unsigned value);
+
+/* Keeps a copy of each processor's RAM from now on, which behind each call is what the core sees, but behind LIVE_OVER. It comes before
+ * live_boot. It is `memory` where there is no room for the copies, 4 MiB for each of eight processors. */
+struct live_answer live_watch(struct live *live);
+
+/* The copy of a processor's RAM, LIVE_RAM_BYTES from 40000000 (hexadecimal) on: it stands until live_close, and changes by each
+ * call. Null where none is kept. */
+enum { LIVE_RAM_BYTES = 0x400000 };
+const uint8_t *live_ram(const struct live *live, unsigned cpu);
+
+/* How far the call of a thread slot has come. */
+enum live_phase { LIVE_FREE, LIVE_ACTIVE, LIVE_RUNS, LIVE_ASKS, LIVE_WAITS, LIVE_ENDS };
+
+struct live_slot {
+    enum live_phase phase;
+    unsigned cpu; /* at LIVE_ACTIVE: who works on it */
+    /* Behind LIVE_ACTIVE: whose call it is, and its session and instance, 0 where it has none. */
+    uint32_t client, session, instance;
+    char wants[8]; /* at LIVE_ASKS: `time`, `suspend`, `read` and others, by docs/conversation.md */
+    bool has_buffer, is_cancelled;
+    uint64_t address, cookie; /* of its buffer */
+};
+
+struct live_instance {
+    uint32_t number, users; /* its sessions, opened or being opened */
+    char uuid[37];
+    bool is_held, is_dead;
+    unsigned holder; /* the slot of the call that holds it */
+};
+
+/* What a core keeps. */
+struct live_state {
+    unsigned slot_count, instance_count;
+    struct live_slot slots[16];
+    bool is_inside[8];
+    struct live_instance instances[80];
+    /* Sessions, registered buffers, pages that no instance has, entries and exits so far, and bytes that entries have read. */
+    uint64_t sessions, buffers, pages, events, copied;
+};
+
+/* What the core keeps, behind live_boot. It is complete at LIVE_OK alone, and changes nothing. */
+struct live_answer live_state(struct live *live, struct live_state *state);
 
 /* The process of the program, for who ends one that doesn't answer: the call that waits is then answered by LIVE_OVER. */
 pid_t live_process(const struct live *live);

@@ -116,6 +116,25 @@ static void try_lines(void) {
     told_status(live);
 }
 
+/* Where exits are watched, and what the core keeps. */
+static void try_questions(void) {
+    static struct live_state state;
+    struct live *live = open_or_exit(path);
+    tell("a state before the boot", live_state(live, &state));
+    tell("watched", live_watch(live));
+    tell("a boot", live_boot(live, &(struct live_core){2, 3, 4, NULL, 0, NULL}));
+    tell("a write that leaves RAM", live_write(live, 0, RAM + RAM_BYTES - 1, "ab", 2));
+    tell("no bytes", live_write(live, 0, 0, "", 0));
+    tell("a write of the other processor", live_write(live, 1, RAM + RAM_BYTES - 1, "a", 1));
+    printf("  at the end of the copies %02x %02x, and %s\n", live_ram(live, 0)[RAM_BYTES - 1], live_ram(live, 1)[RAM_BYTES - 1],
+           live_ram(live, 8) ? "a ninth one" : "no ninth one");
+    tell("an enter", live_enter(live, 1, 1, threads));
+    tell("a state", live_state(live, &state));
+    printf("  slots %u, inside %d %d, pages %" PRIu64 ", events %" PRIu64 "\n", state.slot_count, state.is_inside[0], state.is_inside[1],
+           state.pages, state.events);
+    told_status(live);
+}
+
 static void try_ram(void) {
     static uint8_t bytes[RAM_BYTES + 108], read[RAM_BYTES + 1];
     struct live *live = opened();
@@ -203,24 +222,53 @@ static void try_stopped(void) {
     told_status(live);
 }
 
-/* A program that is a script of the shell, in which LIVE is the program of the conversation: a boot, and two calls. */
-static void try_script(const char *what, const char *commands) {
+/* Starts a program that is a script of the shell, in which LIVE is the program of the conversation. */
+static struct live *open_script(const char *what, const char *commands) {
     char name[] = "/tmp/live_misuses.XXXXXX";
     int file = mkostemp(name, O_CLOEXEC);
     if (file < 0 || dprintf(file, "#!/bin/sh\n%s\n", commands) < 0 || fchmod(file, 0700) || close(file)) perror(name), exit(1);
     printf("%s\n", what);
     struct live *live = open_or_exit(name);
     tell("  a boot", live_boot(live, &(struct live_core){2, 3, 4, NULL, 0, NULL}));
+    unlink(name);
+    return live;
+}
+
+/* With two calls. */
+static void try_script(const char *what, const char *commands) {
+    struct live *live = open_script(what, commands);
     ask("  a call", live, 0);
     ask("  another", live, 0);
     told_status(live);
-    unlink(name);
 }
 
-/* The boot is answered, and the next line is read. */
+/* With exits that are watched from behind the boot on, and a call. */
+static void try_writes(const char *what, const char *commands) {
+    struct live *live = open_script(what, commands);
+    tell("  watched", live_watch(live));
+    ask("  a call", live, 0);
+    printf("  the copy begins with %02x\n", live_ram(live, 0)[0]);
+    told_status(live);
+}
+
+/* With a look at what the core keeps. */
+static void try_state(const char *what, const char *commands) {
+    static struct live_state state;
+    struct live *live = open_script(what, commands);
+    struct live_answer answer = live_state(live, &state);
+    tell("  the state", answer);
+    if (answer.end == LIVE_OK) printf("  slots %u, sessions %" PRIu64 "\n", state.slot_count, state.sessions);
+    told_status(live);
+}
+
+/* The boot is answered, and the next line is read; likewise behind that a line that watches exits. */
 #define BOOTED "read -r line; echo ok; read -r line; "
+#define WATCHED BOOTED "echo ok; read -r line; "
 #define REGISTER " 00000000"
 #define REGISTERS REGISTER REGISTER REGISTER REGISTER REGISTER REGISTER REGISTER REGISTER
+
+/* Registers, and behind them this, with a zero of as many digits as it says. */
+#define BLOCKS(said) "printf 'ret 0" REGISTERS "\n" said "' 0; read -r line"
 
 static void try_scripts(void) {
     try_script("byte by byte", "\"$LIVE\" | dd bs=1 status=none");
@@ -238,6 +286,27 @@ static void try_scripts(void) {
     try_script("no registers before ok", BOOTED "echo ok; read -r line");
     try_script("a line that begins as ok does", "read -r line; echo okay; read -r line");
     try_script("an answer more", "read -r line; printf 'ok\nok\n'; read -r line");
+    try_script("a block, without exits that are watched", BOOTED BLOCKS("wrote 0 40000000 ab%0126d\nok\n"));
+}
+
+static void try_watched_scripts(void) {
+    try_writes("a block", WATCHED BLOCKS("wrote 0 40000000 ab%0126d\nok\n"));
+    try_writes("a block before RAM", WATCHED BLOCKS("wrote 0 3fffffc0 ab%0126d\nok\n"));
+    try_writes("a block that leaves RAM", WATCHED BLOCKS("wrote 0 403fffff ab%0126d\nok\n"));
+    try_writes("a block of another processor", WATCHED BLOCKS("wrote 1 40000000 ab%0126d\nok\n"));
+    try_writes("a block of a digit less", WATCHED BLOCKS("wrote 0 40000000 ab%0125d\nok\n"));
+    try_writes("a block of a digit more", WATCHED BLOCKS("wrote 0 40000000 ab%0127d\nok\n"));
+    try_writes("an end within a block", WATCHED "printf 'ret 0" REGISTERS "\nwrote 0 40000000 ab'");
+    try_writes("an end behind a block", WATCHED "printf 'ret 0" REGISTERS "\nwrote 0 40000000 ab%0126d\n' 0");
+    try_state("a state with a line that isn't known", BOOTED "printf 'slot 0 free\nthreads 9\nsessions 7\nok\n'; read -r line");
+    try_state("a slot that is left out", BOOTED "printf 'slot 1 free\nok\n'; read -r line");
+    try_state("a slot of half a line", BOOTED "printf 'slot 0 asks client 0\nok\n'; read -r line");
+    try_state("a slot that goes on", BOOTED "printf 'slot 0 free now\nok\n'; read -r line");
+    try_state("seventeen slots", BOOTED "for i in 0 1 2 3 4 5 6 7 8 9 10 11 12 13 14 15 16; do echo slot $i free; done; echo ok; read -r line");
+    try_state("a processor that there isn't", BOOTED "printf 'inside 8\nok\n'; read -r line");
+    try_state("an instance of half a line", BOOTED "printf 'instance 1 1111 users 1\nok\n'; read -r line");
+    try_state("a count that is none", BOOTED "printf 'sessions many\nok\n'; read -r line");
+    try_state("an end within a state", BOOTED "printf 'slot 0 free\nslot 1'");
 }
 
 /* ---- Two conversations. */
@@ -265,11 +334,13 @@ int main(int count, char **words) {
     try_no_program();
     try_boots(image);
     try_lines();
+    try_questions();
     try_ram();
     try_full(image);
     try_killed();
     try_stopped();
     try_scripts();
+    try_watched_scripts();
     try_two();
     return 0;
 }
