@@ -93,7 +93,7 @@ enum live_phase { LIVE_FREE, LIVE_ACTIVE, LIVE_RUNS, LIVE_ASKS, LIVE_WAITS, LIVE
 
 struct live_slot {
     enum live_phase phase;
-    unsigned cpu; /* at LIVE_ACTIVE: who works on it */
+    uint32_t cpu; /* at LIVE_ACTIVE: who works on it */
     /* Behind LIVE_ACTIVE: whose call it is, and its session and instance, 0 where it has none. */
     uint32_t client, session, instance;
     char wants[8]; /* at LIVE_ASKS: `time`, `suspend`, `read` and others, by docs/conversation.md */
@@ -105,7 +105,7 @@ struct live_instance {
     uint32_t number, users; /* its sessions, opened or being opened */
     char uuid[37];
     bool is_held, is_dead;
-    unsigned holder; /* the slot of the call that holds it */
+    uint32_t holder; /* the slot of the call that holds it */
 };
 
 /* What a core keeps. */
