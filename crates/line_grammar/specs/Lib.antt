@@ -1,0 +1,4 @@
+pub mod Meaning
+pub mod Grammar
+pub mod Reading
+pub mod Examples

@@ -1,0 +1,7 @@
+//! The grammar of a text of lines, whatever the lines say: what lines lead to, which value a text spells, what its first fault
+//! is, and that each text has one meaning. Traces, traces with signals and scripts are its cases.
+#![tactic(auto)]
+
+mod examples;
+
+pub use examples::worked_examples;
