@@ -6,6 +6,7 @@ pub mod Inside
 pub mod Pieces
 pub mod SoundWords
 pub mod SoundLaws
+pub mod Answered
 pub mod GrammarLaws
 pub mod PlainLines
 pub mod Keys

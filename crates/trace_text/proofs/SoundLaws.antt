@@ -365,7 +365,7 @@ at_last end e = all_outside 8 (fold moved outside end.items) (length-fold outsid
 pub IsSound-spelled : (natives : List (List ℕ)) (text : List ℕ) (trace : Trace) → Spells natives text trace → IsSound natives trace
 IsSound-spelled natives text trace s =
     let last = all_lines natives no_front s.lines s.end s.spelled (at_first natives) in
-    subst (λ (t : Trace). IsSound natives t) s.trace_is (record {
+    subst (λ (t : Trace). IsSound natives t) s.value_is (record {
       no_boot = last.no_boot;
       boot = last.is_boot;
       fills = last.are_fills;

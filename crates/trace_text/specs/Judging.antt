@@ -1,6 +1,5 @@
--- What the private functions of the crate answer, in the words of the rules; and the pieces of a text read one
--- after the other, which the loop of the reader computes.
-use Rattle.std.specs.Prelude.{◌≡◌, ℕ, ◌+◌, List, [], ◌∷◌, Bool, true, false, ◌≤◌, Option, Some, None, is_none, IfSome, Result, Ok, Err, ◌⊎◌, unwrap_or}
+-- What the functions of this crate, and of those with a grammar of their own, answer in the words of the rules.
+use Rattle.std.specs.Prelude.{◌≡◌, ℕ, List, [], Bool, true, false, ◌≤◌, Option, Some, None, is_none, IfSome, Result, Ok, Err, unwrap_or}
 use Rattle.ta_isa.specs.declared.boot.App.{App}
 use Rattle.ta_isa.specs.declared.boot.Boot.{Boot}
 use Rattle.ta_isa.specs.declared.image_fault.ImageFault.{ImageFault}
@@ -17,8 +16,6 @@ use Rattle.trace_text.specs.declared.item.Item.TheVariants as item
 use Rattle.trace_text.specs.declared.limits.Size.{Size}
 use Rattle.trace_text.specs.declared.trace.Trace.{Trace}
 use Rattle.trace_text.specs.Limits.{Front, first_broken, inside_after, no_key, trace_in}
-use Rattle.trace_text.specs.Rules.{after_line}
-use Rattle.trace_text.specs.Grammar.{piece_fault}
 
 -- a word was read: it has the form, and this is what it writes; or it hasn't
 abbrev pub Reads : {A : Type 0} → Option A → Bool → A → Type 0
@@ -57,35 +54,29 @@ item_cpu (item.Leave cpu) = cpu
 item_cpu (item.Write cpu addr bytes) = cpu
 item_cpu (item.Show cpu addr len) = cpu
 
--- something was put into the trace, or memory ran out
-abbrev pub IsPut : Result Unit LineFault → Front → Front → Type 0
+-- something was put behind what stands, or memory ran out
+abbrev pub IsPut : {S : Type 0} → Result Unit LineFault → S → S → Type 0
 IsPut (Ok u) wanted after = after ≡ wanted
 IsPut (Err fault) wanted after = fault ≡ NoRoom
 
+-- it ended so: without a fault, and with this value; or with a fault
+abbrev pub IsEnded : {V : Type 0} → Result V BadKind → Option BadKind → V → Type 0
+IsEnded (Ok told) fault value = (fault ≡ None) × (told ≡ value)
+IsEnded (Err kind) fault value = fault ≡ Some kind
+
 -- the text ends here: there is no fault, and this is its trace; or there is one
 abbrev pub Ends : Result Trace BadKind → Option BadKind → Front → Type 0
-Ends (Ok trace) fault before = (fault ≡ None) × (trace ≡ trace_in before)
-Ends (Err kind) fault before = fault ≡ Some kind
+Ends result fault before = IsEnded result fault (trace_in before)
 
--- the verdict on a piece, where it has no fault
-abbrev pub unless : Option BadKind → ℕ → Result Trace TraceFault → Result Trace TraceFault
-unless None place verdict = verdict
-unless (Some kind) place verdict = Err (Bad place kind)
+-- this was read and answered, or memory ran out
+abbrev pub IsUnlessMemory : {V : Type 0} → Result V TraceFault → Result V (ℕ × BadKind) → Type 0
+IsUnlessMemory (Ok value) read = read ≡ Ok value
+IsUnlessMemory (Err (Bad place kind)) read = read ≡ Err (place, kind)
+IsUnlessMemory (Err Memory) read = Unit {0}
 
--- the trace of the pieces from this place on, or the first fault
-unfoldable pub read_pieces : List (List ℕ) → ℕ → Front → List (List ℕ) → Result Trace TraceFault
-read_pieces natives place before [] = Ok (trace_in before)
-read_pieces natives place before (piece ∷ []) = unless (piece_fault natives before piece []) place (Ok (trace_in before))
-read_pieces natives place before (piece ∷ (next ∷ pieces)) =
-    unless (piece_fault natives before piece (next ∷ pieces)) place (read_pieces natives (place + 1) (after_line before piece) (next ∷ pieces))
-
--- it was answered so, unless memory ran out
-abbrev pub IsUnlessMemory : Result Trace TraceFault → Result Trace TraceFault → Type 0
-IsUnlessMemory result wanted = (result ≡ wanted) ⊎ (result ≡ Err Memory)
-
--- a line was taken: it keeps its rules, and leads from the trace before it to the one after it; or it broke a rule;
--- or memory ran out
-abbrev pub IsTaken : Result Unit LineFault → List (BadKind × Bool) → Front → Front → Type 0
+-- a line was taken: it keeps its rules, and leads from what stood before it to what stands after it; or it broke a rule; or
+-- memory ran out
+abbrev pub IsTaken : {S : Type 0} → Result Unit LineFault → List (BadKind × Bool) → S → S → Type 0
 IsTaken (Ok u) rules wanted after = (first_broken rules ≡ None) × (after ≡ wanted)
 IsTaken (Err (Broken kind)) rules wanted after = first_broken rules ≡ Some kind
 IsTaken (Err NoRoom) rules wanted after = Unit {0}

@@ -237,7 +237,7 @@ impl Builder {
     }
 
     /// The trace, where the text ends with these bytes behind its last line feed.
-    #[tactic(auto, unfolding(crate::specs::Grammar::piece_fault, crate::specs::Rules::line_rules))]
+    #[tactic(auto, unfolding(line_grammar::specs::Grammar::piece_fault, crate::specs::Rules::line_rules))]
     pub fn finish_text(self, rest: &[u8]) -> Result<Trace, BadKind>
         ensures { (natives : List (List ℕ)) → Ends result (piece_fault natives self rest.now []) self }
     {

@@ -2,12 +2,12 @@ use Rattle.std.proofs.Common.{ℕ, List, [], ◌∷◌, ◌++◌, refl, arith}
 use Rattle.std.specs.Prelude.{codes}
 use Rattle.std.specs.Fmt.{digits}
 use Rattle.hex.specs.Hex.{decode_pairs}
+use Rattle.line_grammar.specs.Grammar.{piece_fault}
+use Rattle.line_grammar.specs.Reading.{read_pieces}
 use Rattle.uuid.specs.Text.{by_index}
 use Rattle.trace_text.specs.declared.fault.BadKind.TheVariants as bad
 use Rattle.trace_text.specs.Forms.{is_decimal, decimal, is_hexadecimal, hexadecimal, is_last, is_register, register, is_uuid, uuid, is_hex, bytes}
-use Rattle.trace_text.specs.Grammar.{piece_fault}
 use Rattle.trace_text.specs.Examples.{boot_line, enter_line, key_line, keyed_trace, small_trace, text_of}
-use Rattle.trace_text.specs.Judging.{read_pieces}
 use Rattle.trace_text.specs.Limits.{inside_after, lies_in_ram, no_front, trace_in}
 use Rattle.text_lines.specs.Lines.{is_skipped}
 use Rattle.trace_text.specs.Rules.{added, after_line, counts, kind_named, line_rules, rules_behind}

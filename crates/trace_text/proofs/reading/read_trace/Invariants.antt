@@ -1,12 +1,12 @@
 use Rattle.std.proofs.Common.{◌≡◌, ◌≤◌, ◌+◌, length}
-use Rattle.trace_text.specs.Grammar.{pieces_of}
-use Rattle.trace_text.specs.Judging.{read_pieces}
+use Rattle.line_grammar.specs.Reading.{read_pieces}
+use Rattle.trace_text.specs.Grammar.{pieces_of, trace_lines}
 use Rattle.trace_text.specs.Limits.{no_front}
 use Rattle.trace_text.proofs.reading.read_trace.Given as goal
 
 abbrev pub invariant-loop-line : goal.invariant-loop-line
 invariant-loop-line l = record {
-  so_far : read_pieces l.natives l.place l.reader (pieces_of l.rest) ≡ read_pieces l.natives 1 no_front (pieces_of l.text);
+  so_far : read_pieces (trace_lines l.natives) l.place l.reader (pieces_of l.rest) ≡ read_pieces (trace_lines l.natives) 1 no_front (pieces_of l.text);
   few : l.place + length l.rest ≤ length l.text + 1;
 }
 
