@@ -5,8 +5,9 @@ use Rattle.std.specs.List.{list_all}
 use Rattle.text_lines.specs.Lines.{is_skipped}
 use Rattle.text_lines.specs.Words.{words_of}
 use Rattle.trace_text.specs.Forms.{decimal}
+use Rattle.line_grammar.specs.Grammar as grammar
 use Rattle.trace_text.specs.Grammar.{piece_fault as trace_fault}
-use Rattle.trace_text.specs.Judging as trace
+use Rattle.trace_text.specs.Judging.{IsTaken}
 use Rattle.trace_text.specs.Limits.{Front, first_broken}
 use Rattle.trace_text.specs.Rules.{added_by_kind, counts, is_text_byte, kind_named, rules_behind, rules_of_kind, word, words_behind}
 use Rattle.trace_text.specs.Rules.{after_line as after_trace_line, line_rules as trace_rules}
@@ -16,7 +17,7 @@ use Rattle.trace_text.specs.declared.fault.LineFault.{LineFault}
 use Rattle.trace_text.specs.declared.fault.LineFault.TheVariants.{Broken, NoRoom}
 use Rattle.trace_text.specs.declared.line_kind.LineKind.{LineKind}
 use Rattle.notify_text.specs.Grammar.{piece_fault}
-use Rattle.notify_text.specs.Judging.{IsTaken, header_fault, late_fault}
+use Rattle.notify_text.specs.Judging.{header_fault, late_fault}
 use Rattle.notify_text.specs.Rules.{NotifyFront, after_line, has_no_signal, is_header, is_signal, line_rules, other_rules, rules_of_words, signal_rules, with_line, with_signal}
 use Rattle.notify_text.specs.declared.notify_trace.Signal.{Signal}
 
@@ -195,7 +196,7 @@ after-skipped before line is = ap (λ (b : Bool). cond b before (with_line befor
 -- what stands behind the last line feed has the fault that it has in a trace
 pub end-same : (natives : List (List ℕ)) (before : NotifyFront) (rest : List ℕ)
     → piece_fault natives before rest [] ≡ trace_fault natives before.trace rest []
-unfolding piece_fault trace_fault line_rules trace_rules
+unfolding grammar.piece_fault line_rules trace_rules
 end-same natives before [] = refl
 end-same natives before (b ∷ bytes) = refl
 
@@ -237,7 +238,7 @@ signal-taken natives before after line (Err NoRoom) text some is taken = tt
 
 pub other-taken : (natives : List (List ℕ)) (before : NotifyFront) (after : Front) (line : List ℕ)
     (result : Result Unit LineFault) → is_signal (words_of line) ≡ false → late_fault before (words_of line) ≡ None
-    → trace.IsTaken result (trace_rules natives before.trace true line) (after_trace_line before.trace line) after
+    → IsTaken result (trace_rules natives before.trace true line) (after_trace_line before.trace line) after
     → IsTaken result (line_rules natives before true line) (after_line before line) (with_trace before after)
 other-taken natives before after line (Ok done) plain late taken = (
   rules-same natives before true line plain late ∙ taken.0,

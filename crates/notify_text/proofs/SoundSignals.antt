@@ -201,7 +201,7 @@ pub sound-spelled : (natives : List (List ℕ)) (text : List ℕ) (told : Notify
 sound-spelled natives text told s =
     let last = so_far-lines natives no_lines s.lines s.end s.spelled (so_far-first natives) in
     let trace = last.trace in
-    subst (IsSoundTold natives) s.told_is (record {
+    subst (IsSoundTold natives) s.value_is (record {
       trace = record {
         no_boot = trace.no_boot;
         boot = trace.is_boot;

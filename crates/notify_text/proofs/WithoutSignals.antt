@@ -6,6 +6,7 @@ use Rattle.std.proofs.lemmas.Bool.{and_parts}
 use Rattle.std.proofs.lemmas.List.Folds.{list_all-append}
 use Rattle.text_lines.specs.Words.{words_of}
 use Rattle.trace_text.specs.Grammar.{pieces_of}
+use Rattle.line_grammar.specs.Grammar as grammar
 use Rattle.trace_text.specs.Grammar as trace
 use Rattle.trace_text.specs.Limits.{Front, first_broken, no_front, trace_in}
 use Rattle.trace_text.specs.Rules.{after_line as after_trace_line, line_rules as trace_rules}
@@ -61,7 +62,7 @@ leads_there natives before (line ∷ lines) after plain leads =
 piece_as_trace : (natives : List (List ℕ)) (before : Front) (piece : List ℕ) (back : List (List ℕ))
     → is_no_signal piece ≡ true
     → piece_fault natives (no_signals before) piece back ≡ trace.piece_fault natives before piece back
-unfolding piece_fault trace.piece_fault
+unfolding grammar.piece_fault
 piece_as_trace natives before piece (next ∷ back) plain = rules_as_trace natives before true piece plain
 piece_as_trace natives before [] [] plain = refl
 piece_as_trace natives before (b ∷ bytes) [] plain = rules_as_trace natives before false (b ∷ bytes) plain
@@ -102,15 +103,15 @@ are_traces natives text plain = record {
     text_is = s.text_is;
     end = no_signals s.end;
     spelled = leads_here natives no_front s.lines s.end (in_front text s.lines [] [] plain s.text_is).0 s.spelled;
-    told_is = ap without_signals s.trace_is;
+    value_is = ap without_signals s.value_is;
     no_end_fault = s.no_end_fault;
   };
   only = λ told s.
       let leads = leads_there natives no_front s.lines s.end (in_front text s.lines [] [] plain s.text_is).0 s.spelled in
       let alone : told_in s.end ≡ without_signals (trace_in s.end.trace) = ap told_in leads.0 in
-      let trace_is : trace_in s.end.trace ≡ told.trace = ap (λ (t : NotifyTrace). t.trace) s.told_is in (
-        sym s.told_is ∙ alone ∙ ap without_signals trace_is,
-        record { lines = s.lines; text_is = s.text_is; end = s.end.trace; spelled = leads.1; trace_is = trace_is; no_end_fault = s.no_end_fault },
+      let trace_is : trace_in s.end.trace ≡ told.trace = ap (λ (t : NotifyTrace). t.trace) s.value_is in (
+        sym s.value_is ∙ alone ∙ ap without_signals trace_is,
+        record { lines = s.lines; text_is = s.text_is; end = s.end.trace; spelled = leads.1; value_is = trace_is; no_end_fault = s.no_end_fault },
       );
   faults = λ place kind f.
       let parts = in_front text f.front f.piece f.back plain f.text_is in

@@ -2,14 +2,14 @@
 
 ghost use Rattle.std.specs.Prelude.{◌≡◌, ℕ, ◌<◌, ◌^◌, ◌+◌, ◌⊎◌, ◌∷◌, [], List, length, true, false, Ok, Err, IfOk, IfErr};
 ghost use Rattle.notify_text.specs.Grammar.{IsFaultOf, IsFirstFault, Spells, piece_fault};
-ghost use Rattle.notify_text.specs.Judging.{Ends, IsPut, IsTaken, header_fault, late_fault};
-ghost use Rattle.notify_text.specs.Rules.{after_line, is_header, is_signal, line_rules, no_lines, signal_rules, with_signal};
+ghost use Rattle.notify_text.specs.Judging.{header_fault, late_fault};
+ghost use Rattle.notify_text.specs.Rules.{after_line, is_header, is_signal, line_rules, no_lines, signal_rules, told_in, with_signal};
 ghost use Rattle.notify_text.specs.Sound.{IsSoundTold};
 ghost use Rattle.notify_text.specs.declared.notify_trace.NotifyTrace.{NotifyTrace};
 ghost use Rattle.text_lines.specs.Words.{words_of};
 ghost use Rattle.trace_text.specs.Forms.{decimal, is_decimal};
 ghost use Rattle.trace_text.specs.Grammar.{IsPlacedIn};
-ghost use Rattle.trace_text.specs.Judging.{Judged};
+ghost use Rattle.trace_text.specs.Judging.{IsEnded, IsPut, IsTaken, Judged};
 ghost use Rattle.trace_text.specs.Limits.{is_within};
 ghost use Rattle.trace_text.specs.Rules.{counts, kind_named, word};
 ghost use Rattle.trace_text.specs.declared.fault.BadKind.{BadKind};
@@ -173,7 +173,7 @@ impl Reader {
 
     /// The trace with its signals, where the text ends with these bytes behind its last line feed.
     fn finish(self, rest: &[u8]) -> Result<NotifyTrace, BadKind>
-        ensures { (natives : List (List ℕ)) → Ends result (piece_fault natives self rest.now []) self }
+        ensures { (natives : List (List ℕ)) → IsEnded result (piece_fault natives self rest.now []) (told_in self) }
     {
         let Reader { builder, signals } = self;
         match builder.finish_text(rest) {

@@ -1,7 +1,8 @@
 use Rattle.std.proofs.Common.{◌≡◌, true, None, sym, subst}
-use Rattle.notify_text.specs.Judging.{IsTaken, late_fault}
+use Rattle.notify_text.specs.Judging.{late_fault}
 use Rattle.notify_text.specs.Rules.{NotifyFront, after_line, line_rules}
 use Rattle.text_lines.specs.Words.{words_of}
+use Rattle.trace_text.specs.Judging.{IsTaken}
 use Rattle.notify_text.proofs.Lines.{after-skipped, bad-byte, late-broken, other-taken, signal-taken, skipped-kept, told_of}
 use Rattle.notify_text.proofs.reading.Reader.take.Goals as goal
 
