@@ -4,8 +4,9 @@ use Rattle.std.specs.Prelude.{drop}
 use Rattle.std.specs.List.{list_all}
 use Rattle.text_lines.specs.Lines.{is_skipped}
 use Rattle.text_lines.specs.Words.{words_of}
+use Rattle.line_grammar.specs.Grammar as grammar
 use Rattle.trace_text.specs.Grammar.{piece_fault as trace_fault}
-use Rattle.trace_text.specs.Judging as trace
+use Rattle.trace_text.specs.Judging.{IsTaken}
 use Rattle.trace_text.specs.Limits.{Front, end_fault, first_broken, inside_after, trace_in}
 use Rattle.trace_text.specs.Rules.{added, added_by_kind, counts, is_text_byte, kind_named, rules_behind, rules_of_kind, word, words_behind}
 use Rattle.trace_text.specs.Rules.{after_line as after_trace_line, line_rules as trace_rules}
@@ -18,7 +19,7 @@ use Rattle.trace_text.specs.declared.trace.Trace.{Trace}
 use Rattle.trace_text.specs.declared.line_kind.LineKind.{LineKind}
 use Rattle.trace_text.specs.declared.line_kind.LineKind.TheVariants as kind
 use Rattle.client_text.specs.Grammar.{piece_fault}
-use Rattle.client_text.specs.Judging.{IsKept, IsTaken, header_fault}
+use Rattle.client_text.specs.Judging.{IsKept, header_fault}
 use Rattle.client_text.specs.Rules.{ScriptFront, after_line, call_named, call_of, call_rules, has_no_call, header_rules, is_header, line_rules, rules_of_words, script_in, thread_limits, with_call, with_line}
 use Rattle.client_text.specs.declared.call_kind.CallKind.{CallKind}
 use Rattle.client_text.specs.declared.script.ScriptCall.{ScriptCall}
@@ -281,7 +282,7 @@ no_items natives before line kept none = items_where natives before line (is_ski
 -- what stands behind the last line feed has the fault that it has in a trace, where no item stands before
 pub end_same : (natives : List (List ℕ)) (before : ScriptFront) (rest : List ℕ) → end_fault before.header ≡ None
     → piece_fault natives before rest [] ≡ trace_fault natives before.header rest []
-unfolding piece_fault trace_fault line_rules trace_rules
+unfolding grammar.piece_fault line_rules trace_rules
 end_same natives before [] none = sym none
 end_same natives before (b ∷ bytes) none = refl
 
@@ -371,7 +372,7 @@ header_is natives before line kind is =
 -- it is refused as a line of a trace
 pub header_stops : (natives : List (List ℕ)) (before after : ScriptFront) (line : List ℕ) (kind : LineKind) (fault : LineFault)
     (header : Front) → IsHeaderLine before line kind
-    → trace.IsTaken (Err fault) (trace_rules natives before.header true line) (after_trace_line before.header line) header
+    → IsTaken (Err fault) (trace_rules natives before.header true line) (after_trace_line before.header line) header
     → IsTaken (Err fault) (header_rules (kind_named (word (words_of line) 0)) natives before (words_of line))
     (with_header before (after_trace_line before.header line)) after
 header_stops natives before after line kind (Broken k) header is taken =

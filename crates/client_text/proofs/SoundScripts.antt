@@ -301,7 +301,7 @@ pub sound_spelled : (natives : List (List ℕ)) (text : List ℕ) (script : Scri
     → IsSoundScript natives script
 sound_spelled natives text script s =
     let last = so_far_lines natives no_lines s.lines s.end s.spelled (so_far_first natives) in
-    subst (IsSoundScript natives) s.script_is (record {
+    subst (IsSoundScript natives) s.value_is (record {
       no_boot = neither natives s.end last;
       boot = both natives s.end last;
       fills = last.header.are_fills;

@@ -1,8 +1,7 @@
 -- What the private functions of the reader answer, in the words of the rules.
 use Rattle.std.specs.Prelude.{◌≡◌, ℕ, List, [], ◌∷◌, Bool, Option, Some, None, Result, Ok, Err}
 use Rattle.client_text.specs.Forms.{parts_of}
-use Rattle.client_text.specs.Rules.{ScriptFront, has_no_call, is_header, script_in}
-use Rattle.client_text.specs.declared.script.Script.{Script}
+use Rattle.client_text.specs.Rules.{ScriptFront, has_no_call, is_header}
 use Rattle.trace_text.specs.Limits.{first_broken}
 use Rattle.trace_text.specs.Forms.{hexadecimal}
 use Rattle.trace_text.specs.Rules.{counts, word, words_behind}
@@ -11,23 +10,6 @@ use Rattle.trace_text.specs.declared.fault.BadKind.{BadKind}
 use Rattle.trace_text.specs.declared.fault.BadKind.TheVariants as bad
 use Rattle.trace_text.specs.declared.fault.LineFault.{LineFault}
 use Rattle.trace_text.specs.declared.fault.LineFault.TheVariants.{Broken, NoRoom}
-
--- something was put behind what stands, or memory ran out
-abbrev pub IsPut : Result Unit LineFault → ScriptFront → ScriptFront → Type 0
-IsPut (Ok u) wanted after = after ≡ wanted
-IsPut (Err fault) wanted after = fault ≡ NoRoom
-
--- a line was taken: it keeps its rules, and leads from the script before it to the one after it; or it broke a rule;
--- or memory ran out
-abbrev pub IsTaken : Result Unit LineFault → List (BadKind × Bool) → ScriptFront → ScriptFront → Type 0
-IsTaken (Ok u) rules wanted after = (first_broken rules ≡ None) × (after ≡ wanted)
-IsTaken (Err (Broken kind)) rules wanted after = first_broken rules ≡ Some kind
-IsTaken (Err NoRoom) rules wanted after = Unit {0}
-
--- the text ends here: there is no fault, and this is its script; or there is one
-abbrev pub Ends : Result Script BadKind → Option BadKind → ScriptFront → Type 0
-Ends (Ok script) fault before = (fault ≡ None) × (script ≡ script_in before)
-Ends (Err kind) fault before = fault ≡ Some kind
 
 -- ---- parts
 

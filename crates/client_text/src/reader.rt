@@ -3,11 +3,12 @@
 ghost use Rattle.std.specs.Prelude.{◌≡◌, ℕ, [], List, false, true};
 ghost use Rattle.std.specs.List.{list_all};
 ghost use Rattle.client_text.specs.Grammar.{piece_fault};
-ghost use Rattle.client_text.specs.Judging.{Ends, IsKept, IsPut, IsTaken, header_fault};
-ghost use Rattle.client_text.specs.Rules.{after_line, call_of, call_rules, close_rules, header_rules, invoke_of, invoke_rules, is_header, is_opened, line_rules, no_lines, open_of, open_rules, opens, thread_limits, with_call};
+ghost use Rattle.client_text.specs.Judging.{IsKept, header_fault};
+ghost use Rattle.client_text.specs.Rules.{after_line, call_of, call_rules, close_rules, header_rules, invoke_of, invoke_rules, is_header, is_opened, line_rules, no_lines, open_of, open_rules, opens, script_in, thread_limits, with_call};
 ghost use Rattle.client_text.specs.declared.script.ScriptCall.TheVariants as call;
 ghost use Rattle.text_lines.specs.Lines.{is_skipped};
 ghost use Rattle.text_lines.specs.Words.{words_of};
+ghost use Rattle.trace_text.specs.Judging.{IsEnded, IsPut, IsTaken};
 ghost use Rattle.trace_text.specs.Rules.{is_text_byte, kind_named, word};
 ghost use Rattle.trace_text.specs.Rules as trace;
 
@@ -232,7 +233,7 @@ impl Reader {
     /// The script, where the text ends with these bytes behind its last line feed.
     pub(crate) fn finish(self, rest: &[u8]) -> Result<Script, BadKind>
         requires { self.header.items ≡ [] }
-        ensures { (natives : List (List ℕ)) → Ends result (piece_fault natives self rest.now []) self }
+        ensures { (natives : List (List ℕ)) → IsEnded result (piece_fault natives self rest.now []) (script_in self) }
     {
         let Reader { header, calls } = self;
         match header.finish_text(rest) {

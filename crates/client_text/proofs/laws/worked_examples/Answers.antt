@@ -5,9 +5,10 @@ use Rattle.hex.specs.Hex.{decode_pairs}
 use Rattle.uuid.specs.Text.{by_index}
 use Rattle.client_text.specs.Examples.{boot_line, open_line, opened, s, small_lines, small_script}
 use Rattle.client_text.specs.Forms.{cancel_number, is_name, is_param, key_named, param_of}
-use Rattle.client_text.specs.Grammar.{piece_fault}
 use Rattle.client_text.specs.Rules.{after_line, call_named, has_between, line_rules, no_lines, script_in}
-use Rattle.client_text.proofs.Meanings.{first_fault_read, read_pieces, spelled_read}
+use Rattle.client_text.proofs.Meanings.{first_fault_read, spelled_read}
+use Rattle.line_grammar.specs.Grammar.{piece_fault}
+use Rattle.line_grammar.specs.Reading.{read_pieces}
 use Rattle.text_lines.specs.Lines.{is_skipped}
 use Rattle.trace_text.specs.Examples.{text_of}
 use Rattle.trace_text.specs.Forms.{bytes, decimal, hexadecimal, is_decimal, is_hex, is_hexadecimal, is_uuid, uuid}

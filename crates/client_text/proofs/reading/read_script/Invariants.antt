@@ -1,12 +1,13 @@
 use Rattle.std.proofs.Common.{◌≡◌, ◌≤◌, ◌+◌, [], length}
+use Rattle.line_grammar.specs.Reading.{read_pieces}
+use Rattle.client_text.specs.Grammar.{script_lines}
 use Rattle.trace_text.specs.Grammar.{pieces_of}
-use Rattle.client_text.proofs.Meanings.{read_pieces}
 use Rattle.client_text.specs.Rules.{no_lines}
 use Rattle.client_text.proofs.reading.read_script.Given as goal
 
 abbrev pub invariant-loop-line : goal.invariant-loop-line
 invariant-loop-line l = record {
-  so_far : read_pieces l.natives l.place l.reader (pieces_of l.rest) ≡ read_pieces l.natives 1 no_lines (pieces_of l.text);
+  so_far : read_pieces (script_lines l.natives) l.place l.reader (pieces_of l.rest) ≡ read_pieces (script_lines l.natives) 1 no_lines (pieces_of l.text);
   no_item : l.reader.header.items ≡ [];
   few : l.place + length l.rest ≤ length l.text + 1;
 }

@@ -1,8 +1,9 @@
 use Rattle.std.proofs.Common.{◌≡◌, None, Err, sym, subst}
 use Rattle.text_lines.specs.Words.{words_of}
+use Rattle.trace_text.specs.Judging.{IsTaken}
 use Rattle.trace_text.specs.Rules.{kind_named, word}
 use Rattle.trace_text.specs.Rules.{after_line as after_trace_line}
-use Rattle.client_text.specs.Judging.{IsTaken, header_fault}
+use Rattle.client_text.specs.Judging.{header_fault}
 use Rattle.client_text.specs.Rules.{ScriptFront, header_rules}
 use Rattle.client_text.proofs.Lines.{IsHeaderLine, front_of, header_ends, header_stops, with_header}
 use Rattle.client_text.proofs.reader.Reader.take_header.Goals as goal
