@@ -34,7 +34,7 @@ use Rattle.alone_runner.specs.declared.command.Grammar.TheVariants.{Text, Record
 same_content : (grammar : Grammar) (natives : List (List ℕ)) (input : List ℕ) (one other : Content)
     → Spells grammar natives input one → Spells grammar natives input other → one ≡ other
 same_content Text natives input (variant.Trace a) (variant.Trace b) p q =
-    ap (λ (t : Trace). variant.Trace t) ((text.every_text natives input).one_trace a b p q)
+    ap (λ (t : Trace). variant.Trace t) ((text.every_text natives input).one_value a b p q)
 same_content Text natives input (variant.Trace a) (variant.Image b) p q = absurd q
 same_content Text natives input (variant.Image a) other p q = absurd p
 same_content Records natives input (variant.Trace a) (variant.Trace b) p q =

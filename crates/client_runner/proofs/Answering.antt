@@ -31,7 +31,7 @@ use Rattle.client_runner.specs.Scripts.{IsPrinted, IsPrintedBy, IsUnplayed, Play
 -- an input spells one script, or it has a fault, and not both
 pub one_meaning : (natives : List Native) (input : List ℕ) → HasOneMeaning (client_word natives) input
 one_meaning natives input = record {
-  one_content = (every_text (uuids_of natives) input).one_script;
+  one_content = (every_text (uuids_of natives) input).one_value;
   not_both = (every_text (uuids_of natives) input).not_both;
 }
 

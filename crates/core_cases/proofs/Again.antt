@@ -8,4 +8,4 @@ use Rattle.trace_text.specs.declared.trace.Trace.{Trace}
 pub boot_of_one : (natives : List (List ℕ)) (text : List ℕ) (one other : Trace) (boot : Boot) → Spells natives text one
     → Spells natives text other → other.boot ≡ Some boot → one.boot ≡ Some boot
 boot_of_one natives text one other boot first second is =
-    ap (λ (trace : Trace). trace.boot) ((every_text natives text).one_trace one other first second) ∙ is
+    ap (λ (trace : Trace). trace.boot) ((every_text natives text).one_value one other first second) ∙ is

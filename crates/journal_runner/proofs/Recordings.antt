@@ -32,7 +32,7 @@ use Rattle.journal_runner.specs.Records.{IsRecorded, IsRecordedWith, IsUnrecorde
 -- a text spells one trace, or it has a fault, and not both
 pub one_meaning : (natives : List Native) (input : List ℕ) → HasOneMeaning (recording natives) input
 one_meaning natives input = record {
-  one_content = (every_text (uuids_of natives) input).one_trace;
+  one_content = (every_text (uuids_of natives) input).one_value;
   not_both = (every_text (uuids_of natives) input).not_both;
 }
 

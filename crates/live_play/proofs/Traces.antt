@@ -154,7 +154,7 @@ good_conversations_are_traces natives drivers inputs e =
         text_is = pieces-lines l.lines l.lack;
         end = last;
         spelled = l.leads;
-        told_is = refl;
+        value_is = refl;
         no_end_fault = outside;
       };
       text = λ text. said_is natives drivers inputs text last.trace.boot refl;
@@ -223,7 +223,7 @@ unasked_conversations_are_runs natives drivers inputs e unasked =
         text_is = pieces-lines (filter is_no_signal l.lines) (filtered_lack l.lines l.lack);
         end = last.trace;
         spelled = leads_aside (uuids_in (setting natives drivers)) no_lines l.lines last l.leads;
-        trace_is = refl;
+        value_is = refl;
         no_end_fault = outside;
       };
       text = run_is natives drivers inputs unasked;

@@ -39,7 +39,7 @@ use Rattle.notify_runner.specs.Run.{CanBeBooted, notifying, refused_by}
 pub one_meaning : (natives : List Native) (drivers : Drivers) (input : List ℕ)
     → HasOneMeaning (notifying natives drivers) input
 one_meaning natives drivers input = record {
-  one_content = (every_text (uuids_of natives) input).one_trace;
+  one_content = (every_text (uuids_of natives) input).one_value;
   not_both = (every_text (uuids_of natives) input).not_both;
 }
 
