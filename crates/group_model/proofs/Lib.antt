@@ -39,3 +39,15 @@ pub mod RepliesTold
 pub mod WholeHistories
 pub mod NumbersKept
 pub mod KeptSessions
+pub mod EmbeddedParts
+pub mod EmbeddedCalls
+pub mod EmbeddedReturns
+pub mod EmbeddedEnds
+pub mod EmbeddedAnswers
+pub mod EmbeddedSteps
+pub mod EmbeddedMachines
+pub mod EmbeddedRuns
+pub mod AlongHistories
+pub mod ComingCalls
+pub mod ComingEvents
+pub mod OneLaw

@@ -9,3 +9,5 @@ pub mod Exits
 pub mod Resumes
 pub mod Isolation
 pub mod Examples
+pub mod Embedding
+pub mod OneLaw

@@ -1,0 +1,5 @@
+use Rattle.group_model.proofs.EmbeddedMachines.{steps_as_a_group as law}
+use Rattle.group_model.proofs.embedding.sessions_step_as_groups.Goals as goal
+
+pub returns : goal.returns
+returns c = law

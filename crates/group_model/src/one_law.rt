@@ -1,0 +1,22 @@
+//! One law for a session whose application's sessions share no instance, and for sessions that share one.
+ghost use Rattle.group_model.specs.OneLaw.{AnsweredAsARealm, KeptSessionsHaveRealms, OwnEventsCanCome, SameRealmEventsSameReplies};
+
+/// What has happened to a session of a legal history could all come, one after the other.
+pub fn own_events_can_come()
+    ensures { OwnEventsCanCome }
+{}
+
+/// Those who share an instance are answered as the machine of a group which has what happened to them alone.
+pub fn realms_are_answered_as_alone()
+    ensures { AnsweredAsARealm }
+{}
+
+/// So in two worlds: those to whom the same has happened were answered the same.
+pub fn same_realm_events_get_same_replies()
+    ensures { SameRealmEventsSameReplies }
+{}
+
+/// And this is about each session that the kernel keeps, from then on.
+pub fn kept_sessions_have_realms()
+    ensures { KeptSessionsHaveRealms }
+{}

@@ -1,2 +1,0 @@
-pub mod Embedding
-pub mod OneLaw
