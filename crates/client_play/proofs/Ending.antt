@@ -23,7 +23,7 @@ use Rattle.ns_ram.specs.Lane.{bytes_at, bytes_put}
 use Rattle.ns_ram.specs.Writes.{lane_after}
 use Rattle.ns_ram.proofs.LaneBytes.{bytes_at-is}
 use Rattle.own_model.specs.Own.{Logged, Notes, ended, exit_noted, no_notes, noted, out_noted, own_app, own_replies}
-use Rattle.own_model.specs.Own.{replies_in, reply_of, with_reply, woken_in}
+use Rattle.own_model.specs.Own.{replies_in, reply_of, wake_kept, wake_of, with_reply}
 use Rattle.own_model.specs.Parameters.{outputs_with}
 use Rattle.own_model.specs.declared.own_event.OwnEvent.TheVariants.{Out}
 use Rattle.own_model.proofs.KeptSessions.{kept_sessions_known, noted-append}
@@ -78,7 +78,7 @@ module _ (boot : Booted) (history : List Event) (session : ℕ) (told : Regs) (r
       ∙ ap (λ (p : Option Progress). (option_map_or by_progress p notes).log) end.comes
       ∙ ap (λ (n : Option ℕ). (option_map_or (exit_noted notes end.slot end.progress.call) n notes).log) end.has
       ∙ ap (λ (leaving : Leaving). (option_map_or (with_reply end.number notes)
-      (reply_of (woken_in notes.numbering end.slot end.progress.call.phase) end.progress.call.phase leaving) notes).log)
+      (reply_of (wake_kept notes.numbering end.slot (wake_of end.progress.call.phase)) end.progress.call.phase leaving) notes).log)
       end.leaves
 
   -- the session's last reply is this result

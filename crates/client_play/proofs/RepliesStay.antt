@@ -19,7 +19,7 @@ use Rattle.ns_ram.specs.Reader.{reading}
 use Rattle.own_model.specs.Own.{Entering, Logged, Notes, Resuming, back_noted, call_noted, entry_noted, event_noted, event_of}
 use Rattle.own_model.specs.Own.{exit_noted, input_of, is_limit, is_of_client, limit_noted, no_notes, noted, noted_from, numbered}
 use Rattle.own_model.specs.Own.{out_noted, own_replies, replies_in, reply_of, resume_noted, seen_noted, slot_noted, with_event}
-use Rattle.own_model.specs.Own.{with_reply, woken_in}
+use Rattle.own_model.specs.Own.{wake_kept, wake_of, with_reply}
 use Rattle.own_model.specs.declared.own_event.OwnEvent.TheVariants.{Back, Limited, Out, Seen}
 use Rattle.own_model.specs.declared.own_reply.OwnReply.{OwnReply}
 use Rattle.own_model.specs.declared.own_reply.OwnReply.TheVariants as reply
@@ -97,7 +97,7 @@ entry_grows session e notes (Some (Inside regs steps (InSlot slot))) =
 exit_grows : (notes : Notes) (slot : ℕ) (call : PendingCall) (number : ℕ) → Grows notes (exit_noted notes slot call number)
 exit_grows notes slot call number =
     map_or-both (Grows notes) (with_reply number notes)
-    (reply_of (woken_in notes.numbering slot call.phase) call.phase (leaving_of slot call)) notes
+    (reply_of (wake_kept notes.numbering slot (wake_of call.phase)) call.phase (leaving_of slot call)) notes
     (λ told. ((Out number, Some told) ∷ [], refl)) (stays notes)
 
 limit_grows : (notes : Notes) (cpu : ℕ) → Grows notes (limit_noted notes cpu)

@@ -26,7 +26,7 @@ use Rattle.own_model.specs.Isolation.{steps_in}
 use Rattle.own_model.specs.Own.{Entering, Logged, Notes, Resuming, back_noted, entry_noted, event_noted, event_of}
 use Rattle.own_model.specs.Own.{events_in, exit_noted, is_limit, is_of_client, no_notes, noted, noted_from, numbered as with_number}
 use Rattle.own_model.specs.Own.{out_noted, own_app, own_events, reply_of, resume_noted, seen_noted, slot_noted}
-use Rattle.own_model.specs.Own.{with_reply, woken_in}
+use Rattle.own_model.specs.Own.{wake_kept, wake_of, with_reply}
 use Rattle.own_model.specs.declared.own_event.OwnEvent.{OwnEvent}
 use Rattle.own_model.specs.declared.own_event.OwnEvent.TheVariants.{Open, Invoke, Close, Cancel, Seen, Back, Out, Limited}
 use Rattle.ta_params.specs.declared.copied_params.CopiedParams.{CopiedParams}
@@ -123,7 +123,7 @@ exit_opens_none : (notes : Notes) (slot : ℕ) (call : PendingCall) (number : �
     → NoOpens (exit_noted notes slot call number).log
 exit_opens_none notes slot call number none =
     map_or-both (λ (n : Notes). NoOpens n.log) (with_reply number notes)
-    (reply_of (woken_in notes.numbering slot call.phase) call.phase (leaving_of slot call)) notes
+    (reply_of (wake_kept notes.numbering slot (wake_of call.phase)) call.phase (leaving_of slot call)) notes
     (λ told. one_more notes.log _ none tt) none
 
 out_opens_none : (kernel : Kernel) (notes : Notes) (cpu : ℕ) (processor : Option Processor) → NoOpens notes.log

@@ -35,7 +35,7 @@ use Rattle.own_model.specs.Isolation.{steps_in}
 use Rattle.own_model.specs.Laws.{whose_of}
 use Rattle.own_model.specs.Own.{Entering, Logged, Notes, Resuming, back_noted, call_noted, entry_noted, event_noted, event_of}
 use Rattle.own_model.specs.Own.{events_in, exit_noted, input_of, is_limit, is_of_client, no_notes, numbered, out_noted, own_events}
-use Rattle.own_model.specs.Own.{own_replies, reply_of, resume_noted, seen_noted, slot_noted, with_event, with_reply, woken_in}
+use Rattle.own_model.specs.Own.{own_replies, reply_of, resume_noted, seen_noted, slot_noted, wake_kept, wake_of, with_event, with_reply}
 use Rattle.own_model.specs.Solo.{Answered, Solo, run, step, unopened}
 use Rattle.group_model.proofs.AlongHistories.{AllAlong, Grows, HoldsEarly, HoldsTied, NotesSo, all_along}
 use Rattle.group_model.proofs.ComingCalls.{CanBeNoted, endings_can}
@@ -135,7 +135,7 @@ slot_more session r notes client before (Some (Active cpu now)) =
 exit_more : (notes : Notes) (slot : ℕ) (call : PendingCall) (number : ℕ)
     → Grows AreOfNoCaller notes (exit_noted notes slot call number)
 exit_more notes slot call number =
-    by_reply (reply_of (woken_in notes.numbering slot call.phase) call.phase (leaving_of slot call))
+    by_reply (reply_of (wake_kept notes.numbering slot (wake_of call.phase)) call.phase (leaving_of slot call))
     (exit_noted notes slot call number) refl
   where
     by_reply : (told : Option OwnReply) (after : Notes) → after.log ≡ (option_map_or (with_reply number notes) told notes).log

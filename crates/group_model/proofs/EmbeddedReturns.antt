@@ -17,7 +17,7 @@ use Rattle.kernel_model.specs.Kernel.{Asks, CallPhase, Ends, Instance, Runs, Wai
 use Rattle.kernel_model.specs.Resume.{phase_seen}
 use Rattle.own_model.specs.InOrder.{Fits}
 use Rattle.own_model.specs.Solo.{OwnCall, OwnSession, Solo, is_buffer, is_no_buffer, phase_at, phase_back, points_of}
-use Rattle.own_model.specs.Solo.{wakes_back}
+use Rattle.own_model.specs.Solo.{wake_left}
 use Rattle.own_model.specs.Solo as own
 use Rattle.own_model.specs.declared.own_event.BackInput.{BackInput}
 use Rattle.group_model.specs.Group.{Group, GroupCall, GroupSession, GroupWaiter, Start, Waiting, closing_points, comes_back}
@@ -168,7 +168,7 @@ back_in_as app z number call input (Asks job wanted payload) alone fits =
 back_in_as app z number call input (Waits params) alone fits =
     retests_as app z (record { number = number; call = call; params = params; input = input }) alone fits
 back_in_as app z number call input (Ends result params told wakes) alone fits =
-    some_as z number (record call { phase = Ends result params told (wakes_back wakes input) })
+    some_as z number (record call { phase = Ends result params told (wake_left wakes input) })
 
 pub back_as : (app : Application) (z : Solo) (number : ℕ) (input : BackInput) (call : OwnCall) → is_single app ≡ false
     → Fits call.kind call.phase

@@ -1,15 +1,10 @@
 -- What a call of the group that comes back is given, and what it has seen, whatever it comes to.
-use Rattle.std.proofs.Common.{◌≡◌, ℕ, true, ◌∷◌, Option, refl, ◌∙◌}
-use Rattle.std.specs.Prelude.{◌==◌, ◌||◌, if◌then◌else◌}
+use Rattle.std.proofs.Common.{◌≡◌, ℕ, true, Option, refl}
+use Rattle.std.specs.Prelude.{◌||◌}
 use Rattle.base.specs.NumberMap.{NumberMap}
-use Rattle.job_model.specs.declared.call_kind.CallKind.TheVariants as kind
-use Rattle.job_model.specs.declared.entry_point.EntryPoint.TheVariants as point
-use Rattle.job_model.specs.Steps as steps
-use Rattle.rpc_msgs.specs.Answer as answer
-use Rattle.rpc_msgs.specs.declared.rpc.Rpc.TheVariants as rpc
 use Rattle.kernel_model.specs.Given.{Buffer, Given, NoBuffer, Nothing, Reply, call_given}
 use Rattle.kernel_model.specs.Kernel.{PendingCall, Progress}
-use Rattle.kernel_model.specs.Resume.{Resumed, begins}
+use Rattle.kernel_model.specs.Resume.{Resumed}
 use Rattle.kernel_model.specs.Resume.{phase_seen, sees}
 use Rattle.kernel_model.proofs.Parts.{if-both}
 use Rattle.own_model.specs.Own.{input_of}

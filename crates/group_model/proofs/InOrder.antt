@@ -22,7 +22,7 @@ use Rattle.own_model.proofs.InOrder.{IfAny, back_works, by_numbers, if_any_map, 
 use Rattle.own_model.proofs.Maps.{get-insert-same, get-remove-other, get-removed}
 use Rattle.own_model.proofs.Maps.{insert-again, remove-inserted}
 use Rattle.own_model.specs.InOrder.{IsAtWork, IsWaiting}
-use Rattle.own_model.specs.Solo.{is_no_buffer, phase_at, phase_back, wakes_back}
+use Rattle.own_model.specs.Solo.{is_no_buffer, phase_at, phase_back, wake_left}
 use Rattle.own_model.specs.declared.own_event.BackInput.{BackInput}
 use Rattle.group_model.specs.Group.{Answered, Going, Group, GroupCall, GroupSession, GroupWaiter}
 use Rattle.group_model.specs.Group.{Home, Opener, Waiting, and_reply}
@@ -194,10 +194,10 @@ back_in_so app g number own call input (Waits params) order found kinds instance
       waits = subst IsWaiting (sym is ∙ phases) tt;
     })
 back_in_so app g number own call input (Ends result params told wakes) order found kinds instances phases is =
-    follows g number own (record call { phase = Ends result params told (wakes_back wakes input) }) order found kinds
+    follows g number own (record call { phase = Ends result params told (wake_left wakes input) }) order found kinds
     instances
-    (subst (λ (p : CallPhase). MayFollow own.kind p (Ends result params told (wakes_back wakes input))) (sym is ∙ phases)
-    (end_follows own.kind result params told told wakes (wakes_back wakes input)
+    (subst (λ (p : CallPhase). MayFollow own.kind p (Ends result params told (wake_left wakes input))) (sym is ∙ phases)
+    (end_follows own.kind result params told told wakes (wake_left wakes input)
     (back_fits own.kind result params told wakes input)))
 
 back_so : (app : Application) (g : Group) (number : ℕ) (input : BackInput) (call : GroupCall) → IsInOrder g

@@ -7,8 +7,6 @@ use Rattle.std.proofs.lemmas.Option.{option_and_then_some}
 use Rattle.base.specs.NumberMap.{NumberMap, get}
 use Rattle.job_model.specs.Job.{Job}
 use Rattle.job_model.specs.Steps.{Left, grant_of}
-use Rattle.job_model.specs.Steps as steps
-use Rattle.rpc_msgs.specs.declared.rpc.Rpc.TheVariants as rpc
 use Rattle.kernel_model.specs.Exit.{Exited, exit, exit_of, further, goes_out_from}
 use Rattle.kernel_model.specs.Exit.{progress_held}
 use Rattle.kernel_model.specs.Kernel.{Active, CallPhase, Free, Kernel, PendingCall}
@@ -17,7 +15,7 @@ use Rattle.kernel_model.specs.Leaving.{Interrupted, Leaving}
 use Rattle.kernel_model.specs.Leaving.{leaving_of}
 use Rattle.own_model.proofs.FixedAnswers.{left}
 use Rattle.own_model.proofs.OwnInterrupts.{is_left, phases_on}
-use Rattle.own_model.specs.Own.{reply_of, slot_kept, with_wake, woken_in}
+use Rattle.own_model.specs.Own.{reply_of, slot_kept, wake_kept, wake_of, with_wake}
 use Rattle.own_model.specs.Tied.{PhasesAlike, call_in}
 use Rattle.group_model.specs.Group.{Group, GroupCall}
 use Rattle.group_model.specs.Read.{Notes, exit_noted, opened_in, out_noted, with_reply}
@@ -58,7 +56,7 @@ record LeavesRunning (about : About) (kernel : Kernel) (visit : Visit) (notes : 
     (progress : Progress) : Type 0 where
   tied : AreTied about (goes_out_from kernel visit slot progress).kernel.slots
       (goes_out_from kernel visit slot progress).kernel.tables notes g
-  wakes_none : woken_in notes.numbering slot progress.call.phase ≡ None
+  wakes_none : wake_kept notes.numbering slot (wake_of progress.call.phase) ≡ None
 
 left_running : (about : About) (kernel : Kernel) (visit : Visit) (notes : Notes) (g : Group) (slot number : ℕ)
     (held : ThreadSlot) (progress : Progress)
@@ -107,9 +105,9 @@ left_running about kernel visit notes g slot number (Active worker call) progres
     subst (LeavesRunning about kernel visit notes g slot) (sym is.is) left_so
 
 interrupt_noted : (notes : Notes) (slot number : ℕ) (call : PendingCall) → leaving_of slot call ≡ Interrupted
-    → woken_in notes.numbering slot call.phase ≡ None → exit_noted notes slot call number ≡ notes
+    → wake_kept notes.numbering slot (wake_of call.phase) ≡ None → exit_noted notes slot call number ≡ notes
 interrupt_noted notes slot number call interrupted none =
-    ap (λ (leaving : Leaving). told_after leaving (woken_in notes.numbering slot call.phase)) interrupted
+    ap (λ (leaving : Leaving). told_after leaving (wake_kept notes.numbering slot (wake_of call.phase))) interrupted
     ∙ ap (λ (woken : Option ℕ). told_after Interrupted woken) none
   where
     told_after : Leaving → Option ℕ → Notes

@@ -26,7 +26,7 @@ use Rattle.kernel_model.proofs.Parts.{if-both, map_or-both}
 use Rattle.own_model.proofs.EventKinds.{EntryKind, HasAnswer, IsNewCall, IsResume, entry_kind}
 use Rattle.own_model.proofs.NewCalls.{OfAllEndings}
 use Rattle.own_model.proofs.NewEntries.{new_call_taken}
-use Rattle.own_model.specs.Own.{Entering, reply_of, woken_in}
+use Rattle.own_model.specs.Own.{Entering, reply_of, wake_kept, wake_of}
 use Rattle.group_model.specs.Line.{AreNames}
 use Rattle.group_model.specs.Read.{Notes, Watched, back_noted, entry_noted, event_noted, event_of, exit_noted, finds_it_gone}
 use Rattle.group_model.specs.Read.{numbered, opened_in, out_noted, resume_noted, room_noted, seen_noted, sessions_with, slot_noted}
@@ -123,7 +123,7 @@ exit_keeps : (notes : Notes) (slot : ℕ) (call : PendingCall) (number : ℕ)
     → KeepsSessions notes (exit_noted notes slot call number)
 exit_keeps notes slot call number =
     map_or-both (KeepsSessions notes) (with_reply number notes (opened_in notes call call.kind (leaving_of slot call)))
-    (reply_of (woken_in notes.numbering slot call.phase) call.phase (leaving_of slot call)) notes
+    (reply_of (wake_kept notes.numbering slot (wake_of call.phase)) call.phase (leaving_of slot call)) notes
     (λ told. refl) refl
 
 out_keeps : (kernel : Kernel) (notes : Notes) (processor : Option Processor)

@@ -38,7 +38,7 @@ use Rattle.own_model.proofs.OwnSeen.{as_far}
 use Rattle.own_model.proofs.OwnWakes.{held_alike}
 use Rattle.own_model.specs.InOrder.{IsAtWork}
 use Rattle.own_model.specs.Own.{input_of}
-use Rattle.own_model.specs.Solo.{is_no_buffer, phase_back, wakes_back}
+use Rattle.own_model.specs.Solo.{is_no_buffer, phase_back, wake_left}
 use Rattle.own_model.specs.Tied.{FoundAlike, InstancesAlike, IsFurther, PhasesAlike, WakesAlike, WasTold}
 use Rattle.group_model.specs.Group.{Group, GroupCall, GroupSession, GroupWaiter, Waiting, comes_back, comes_back_in}
 use Rattle.group_model.specs.Group.{gives_up, instance_at, made, opens_again, retests, start_again, waits_on}
@@ -807,7 +807,7 @@ module _ (boot : Booted) (w : Watched) (p : Place) (call : PendingCall) (own : G
   ends_so result answered params remains told shown_by wakes woken own_is results leaves_it tolds alike =
       comes_in (Ends answered remains shown_by woken) _ own_is
       (goes_on_so (Ends result params told (still_wakes given wakes))
-      (Ends answered remains shown_by (wakes_back woken (input_of given)))
+      (Ends answered remains shown_by (wake_left woken (input_of given)))
       (results, leaves_it, tolds, wakes_alike (kept_at p) given wakes woken alike) (λ _. refl)
       (λ was. subst WasTold own_is was))
 

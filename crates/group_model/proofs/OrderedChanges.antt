@@ -24,7 +24,7 @@ use Rattle.kernel_model.proofs.Parts.{if-both, map_or-both, option_map_some}
 use Rattle.own_model.proofs.InOrder.{IfAny, by_numbers}
 use Rattle.own_model.proofs.Maps.{get-insert-other, get-insert-same, get-inserted, get-removed}
 use Rattle.own_model.specs.InOrder.{IsAtWork, IsWaiting}
-use Rattle.own_model.specs.Solo.{phase_at, wakes_back}
+use Rattle.own_model.specs.Solo.{phase_at, wake_left}
 use Rattle.own_model.specs.declared.own_event.BackInput.{BackInput}
 use Rattle.own_model.specs.declared.own_event.BackInput.TheVariants.{Nothing, Buffer, NoBuffer, Reply}
 use Rattle.own_model.specs.declared.own_event.OwnInput.{OwnInput}
@@ -128,7 +128,7 @@ shown_fits g call kind.Settled result params told = tt
 -- one that wakes as many as before at most
 pub back_fits : (call_kind : CallKind) (result : CallResult) (params : CopiedParams) (told : Bool) (wakes : Option ℕ)
     (input : BackInput) → Fits call_kind (Ends result params told wakes)
-    → Fits call_kind (Ends result params told (wakes_back wakes input))
+    → Fits call_kind (Ends result params told (wake_left wakes input))
 back_fits kind.Open result params told wakes input fits = tt
 back_fits (kind.Invoke func) result params told wakes input fits = tt
 back_fits kind.Close result params told wakes input fits = tt

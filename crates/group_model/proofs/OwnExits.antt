@@ -27,9 +27,8 @@ use Rattle.own_model.proofs.FixedAnswers.{left}
 use Rattle.own_model.proofs.InOrder.{if_any_of}
 use Rattle.own_model.proofs.Maps.{get-insert-same}
 use Rattle.own_model.proofs.OwnChanges.{some_number}
-use Rattle.own_model.proofs.OwnWakes.{woken_of}
 use Rattle.own_model.specs.InOrder.{IsAtWork, IsWaiting}
-use Rattle.own_model.specs.Own.{Numbering, ended, reply_of, request_reply, slot_kept, with_wake, woken_in}
+use Rattle.own_model.specs.Own.{Numbering, ended, reply_of, request_reply, slot_kept, wake_kept, wake_of, with_wake}
 use Rattle.own_model.specs.Tied.{FoundAlike, HoldersAlike, PhasesAlike, WasTold, call_at, call_in}
 use Rattle.own_model.specs.declared.own_reply.OwnReply.{OwnReply}
 use Rattle.own_model.specs.declared.own_reply.OwnReply.TheVariants as reply
@@ -59,7 +58,7 @@ noted_by p leaving woken opened told =
 
 -- whom the call wakes
 abbrev woken_at : Place → PendingCall → Option ℕ
-woken_at p call = woken_in p.notes.numbering p.slot call.phase
+woken_at p call = wake_kept p.notes.numbering p.slot (wake_of call.phase)
 
 -- what a call goes out with, what is told of it, and the machine then
 record GoesOut (p : Place) (own : GroupCall) (progress : Progress) : Type 0 where
@@ -407,7 +406,7 @@ finishes_so p own progress result params c e has_none =
       numbering = slot_kept p.notes.numbering p.slot (Finishes result params);
       numbers =
           ap (λ (f : CallPhase). slot_kept
-          (with_wake p.notes.numbering p.slot (woken_in p.notes.numbering p.slot f)) p.slot
+          (with_wake p.notes.numbering p.slot (wake_kept p.notes.numbering p.slot (wake_of f))) p.slot
           (Finishes result params)) e.is;
       final = record g { calls = remove g.calls p.number };
       goes = out_of p own progress (Ends result params e.told None) _ c e.own_is
@@ -469,7 +468,7 @@ by_phase p own progress (Ends result params told (Some woken)) (Ends answer rema
     (ap (λ (f : CallPhase). leaving_in p.slot progress.call f) is)
     (ap (λ (f : CallPhase). request_reply (woken_at p progress.call) f) is
     ∙ ap (λ (o : Option ℕ). option_map (λ number. reply.Wake number) o)
-    (c.comes.keeps.number ∙ ap (λ (f : CallPhase). woken_of f) own_is)) own_is refl
+    (c.comes.keeps.number ∙ ap (λ (f : CallPhase). wake_of f) own_is)) own_is refl
     (placed_alike progress.call c.comes.going.call request (rpc.Wake other)
     (area_out p own progress (Ends answer remains shown (Some other)) c own_is tt) c.comes.alike.buffers refl) refl
 by_phase p own progress (Ends result params told None) (Ends answer remains shown None) c is own_is alike out =

@@ -28,8 +28,8 @@ use Rattle.kernel_model.specs.Sessions.{sessions_after, sessions_after_panic}
 use Rattle.kernel_model.specs.Sessions as kept_sessions
 use Rattle.kernel_model.proofs.Parts.{option_map_some}
 use Rattle.own_model.proofs.OwnChanges.{some_number}
-use Rattle.own_model.proofs.OwnWakes.{KeepsWake, keeps_shown, keeps_told, woken_of}
-use Rattle.own_model.specs.Own.{with_wake, woken_in}
+use Rattle.own_model.proofs.OwnWakes.{KeepsWake, keeps_shown, keeps_told}
+use Rattle.own_model.specs.Own.{wake_kept, wake_of, with_wake}
 use Rattle.own_model.specs.Tied.{HoldersAlike, IsFurther, PhasesAlike, WakesAlike, WasTold}
 use Rattle.group_model.specs.Group.{Going, Group, GroupCall, GroupSession, gives_back, going_in, sessions_ended}
 use Rattle.group_model.specs.Group.{sessions_panicked, sessions_unrun, shows, stopped, taken_on}
@@ -78,7 +78,7 @@ pub record Comes (p : Place) (own : GroupCall) (progress : Progress) : Type 0 wh
   pub going : Going
   pub goes : going_in p.about.most p.group own own.phase ≡ Some going
   pub tied : Tied p.about.app (names_at p) p.kernel.slots progress.tables going.group
-  pub keeps : KeepsWake p.notes.numbering p.slot progress.call.phase (woken_of going.call.phase)
+  pub keeps : KeepsWake p.notes.numbering p.slot progress.call.phase (wake_of going.call.phase)
   pub alike : CallsAlike p.notes.sessions p.instances (get keeps.wakes p.slot) progress.call going.call
   pub told : (woken : ℕ) → get keeps.wakes p.slot ≡ Some woken → IsTold going.call
 
@@ -347,7 +347,7 @@ unchanged p call = record { call = call; tables = p.kernel.tables }
 
 -- a call that asks or waits stays as it is
 plain_so : (p : Place) (call : PendingCall) (own : GroupCall) → OwnThere p call own
-    → woken_in p.notes.numbering p.slot call.phase ≡ None → woken_of own.phase ≡ None → (IsTold own → ⊥)
+    → wake_kept p.notes.numbering p.slot (wake_of call.phase) ≡ None → wake_of own.phase ≡ None → (IsTold own → ⊥)
     → going_in p.about.most p.group own own.phase ≡ Some (record { group = p.group; call = own })
     → Comes p own (unchanged p call)
 plain_so p call own h nobody no_own untold goes = record {
@@ -377,11 +377,11 @@ told_so p call own result answer params left wakes woken h is own_is results lea
       tied = h.tied;
       keeps = record {
         wakes = end.keeps.wakes;
-        is = ap (λ (phase : CallPhase). with_wake p.notes.numbering p.slot (woken_in p.notes.numbering p.slot phase)) is
+        is = ap (λ (phase : CallPhase). with_wake p.notes.numbering p.slot (wake_kept p.notes.numbering p.slot (wake_of phase))) is
             ∙ end.keeps.is;
         others = end.keeps.others;
-        number = ap (λ (phase : CallPhase). woken_in p.notes.numbering p.slot phase) is ∙ end.keeps.number
-            ∙ sym (ap (λ (phase : CallPhase). woken_of phase) own_is);
+        number = ap (λ (phase : CallPhase). wake_kept p.notes.numbering p.slot (wake_of phase)) is ∙ end.keeps.number
+            ∙ sym (ap (λ (phase : CallPhase). wake_of phase) own_is);
       };
       alike = record {
         homes = h.alike.homes;
@@ -446,14 +446,14 @@ by_phase p granted call own progress (Runs job) (Runs from) h is own_is alike e 
 by_phase p granted call own progress (Asks job wanted payload) (Asks from asked bytes) h is own_is alike e out bound =
     progress_is (Comes p own) (unchanged p call) progress e
     (plain_so p call own h
-    (ap (λ (phase : CallPhase). woken_in p.notes.numbering p.slot phase) is)
-    (ap (λ (phase : CallPhase). woken_of phase) own_is) (λ told. subst WasTold own_is told)
+    (ap (λ (phase : CallPhase). wake_kept p.notes.numbering p.slot (wake_of phase)) is)
+    (ap (λ (phase : CallPhase). wake_of phase) own_is) (λ told. subst WasTold own_is told)
     (ap (λ (phase : CallPhase). going_in p.about.most p.group own phase) own_is))
 by_phase p granted call own progress (Waits params) (Waits copied) h is own_is alike e out bound =
     progress_is (Comes p own) (unchanged p call) progress e
     (plain_so p call own h
-    (ap (λ (phase : CallPhase). woken_in p.notes.numbering p.slot phase) is)
-    (ap (λ (phase : CallPhase). woken_of phase) own_is) (λ told. subst WasTold own_is told)
+    (ap (λ (phase : CallPhase). wake_kept p.notes.numbering p.slot (wake_of phase)) is)
+    (ap (λ (phase : CallPhase). wake_of phase) own_is) (λ told. subst WasTold own_is told)
     (ap (λ (phase : CallPhase). going_in p.about.most p.group own phase) own_is))
 by_phase p granted call own progress (Ends result params true wakes) (Ends answer left true woken) h is own_is alike e
     out bound =

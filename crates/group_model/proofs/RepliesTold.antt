@@ -21,7 +21,7 @@ use Rattle.kernel_model.specs.Kernel.{Inside, Kernel, Outside, PendingCall, Proc
 use Rattle.kernel_model.specs.Kernel.{Suspended, Tables, ThreadSlot, Untold, Visit, Waits}
 use Rattle.kernel_model.specs.Leaving.{Finishes, FreesBuffer, Interrupted, Leaving, Requests, WantsBuffer, leaving_of}
 use Rattle.kernel_model.proofs.Parts.{option_map_some}
-use Rattle.own_model.specs.Own.{input_of, reply_of, woken_in}
+use Rattle.own_model.specs.Own.{input_of, reply_of, wake_kept, wake_of}
 use Rattle.own_model.specs.declared.own_reply.OwnReply.{OwnReply}
 use Rattle.group_model.specs.declared.group_event.GroupEvent.{GroupEvent}
 use Rattle.group_model.specs.declared.group_event.GroupEvent.TheVariants.{Back, Cancel, Close, Invoke, Open, Out, Room, Seen}
@@ -209,7 +209,7 @@ entry_told w notes (Some (Inside regs steps (InSlot slot))) told =
 exit_told : (notes : Notes) (slot : ℕ) (call : PendingCall) (number : ℕ) → Told notes
     → Told (exit_noted notes slot call number)
 exit_told notes slot call number told =
-    by (reply_of (woken_in notes.numbering slot call.phase) call.phase (leaving_of slot call))
+    by (reply_of (wake_kept notes.numbering slot (wake_of call.phase)) call.phase (leaving_of slot call))
   where
     by : (found : Option OwnReply)
         → Told (option_map_or (with_reply number notes (opened_in notes call call.kind (leaving_of slot call))) found notes)

@@ -25,7 +25,7 @@ use Rattle.kernel_model.specs.Instances.{fresh_memory, given_back, held_by, is_h
 use Rattle.kernel_model.specs.Kernel.{CallPhase, Runs, Asks, Waits, Ends, Instance}
 use Rattle.kernel_model.specs.Resume.{is_close, phase_seen}
 use Rattle.own_model.specs.Own.{ended}
-use Rattle.own_model.specs.Solo.{is_buffer, is_no_buffer, phase_at, phase_back, wakes_back}
+use Rattle.own_model.specs.Solo.{is_buffer, is_no_buffer, phase_at, phase_back, wake_left}
 use Rattle.own_model.specs.declared.own_event.BackInput.{BackInput}
 use Rattle.own_model.specs.declared.own_event.OwnInput.{OwnInput}
 use Rattle.own_model.specs.declared.own_event.OwnInput.TheVariants.{Copied, Faulty, Unread}
@@ -458,7 +458,7 @@ comes_back_in app g number call input (Asks job wanted payload) =
 comes_back_in app g number call input (Waits params) =
     retests app g (record { number = number; call = call; params = params; input = input })
 comes_back_in app g number call input (Ends result params told wakes) =
-    Some (with_call g number (record call { phase = Ends result params told (wakes_back wakes input) }))
+    Some (with_call g number (record call { phase = Ends result params told (wake_left wakes input) }))
 
 abbrev pub comes_back : Application → Group → ℕ → BackInput → GroupCall → Option Group
 comes_back app g number input call =

@@ -26,7 +26,7 @@ use Rattle.kernel_model.specs.Kernel.{PendingCall, Progress, ThreadSlot, Free, A
 use Rattle.kernel_model.specs.Kernel.{Processor, Inside, Kernel, Tables, Visit, first_kernel}
 use Rattle.kernel_model.specs.Leaving.{Leaving, Interrupted, Finishes, leaving_of}
 use Rattle.own_model.specs.Own.{Entering, Numbering, input_of, input_settled, next_in, reply_of, slot_kept}
-use Rattle.own_model.specs.Own.{with_wake, woken_in}
+use Rattle.own_model.specs.Own.{wake_kept, wake_of, with_wake}
 use Rattle.own_model.specs.Parameters.{params_of}
 use Rattle.own_model.specs.declared.own_event.OwnInput.{OwnInput}
 use Rattle.own_model.specs.declared.own_event.OwnInput.TheVariants.{Copied, Faulty, Unread}
@@ -201,7 +201,7 @@ with_reply number notes opened told =
 abbrev pub exit_noted : Notes → ℕ → PendingCall → ℕ → Notes
 exit_noted notes slot call number =
     let leaving = leaving_of slot call in
-    let woken = woken_in notes.numbering slot call.phase in
+    let woken = wake_kept notes.numbering slot (wake_of call.phase) in
     let opened = opened_in notes call call.kind leaving in
     let told = option_map_or (with_reply number notes opened) (reply_of woken call.phase leaving) notes in
     record told { numbering = slot_kept (with_wake notes.numbering slot woken) slot leaving }

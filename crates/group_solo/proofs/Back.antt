@@ -7,7 +7,7 @@ use Rattle.kernel_model.specs.Application.{Application}
 use Rattle.kernel_model.specs.Kernel.{Asks, CallPhase, Ends, Runs, Waits}
 use Rattle.kernel_state.specs.Calls.{IsInPhase}
 use Rattle.own_model.proofs.Maps.{get-insert-same}
-use Rattle.own_model.specs.Solo.{OwnCall, Solo, is_buffer, phase_back, unopened, wakes_back}
+use Rattle.own_model.specs.Solo.{OwnCall, Solo, is_buffer, phase_back, unopened, wake_left}
 use Rattle.own_model.specs.Solo as own
 use Rattle.own_model.specs.declared.own_event.BackInput.{BackInput}
 use Rattle.rpc_cont.specs.declared.cont.Cont.{Cont}
@@ -66,7 +66,7 @@ answered_in app g next number input old new call (Asks job wanted payload) same 
     }
 answered_in app g next number input old new call (Waits params) same is works here e takes = absurd (works here.phase)
 answered_in app g next number input old new call (Ends result params told wakes) same is works here e takes =
-    let then : CallPhase = Ends result params told (wakes_back wakes input) in
+    let then : CallPhase = Ends result params told (wake_left wakes input) in
     let so : with_call g number (record call { phase = then }) ≡ next = cc in
     record {
       call = record call { phase = then };

@@ -30,7 +30,7 @@ use Rattle.ns_ram.specs.Reader.{reading}
 use Rattle.ns_ram.specs.Reads.{total_bytes}
 use Rattle.ns_ram.specs.declared.read.Read.{Read}
 use Rattle.own_model.proofs.EventKinds.{EntryKind, HasAnswer, IsNewCall, IsResume, entry_kind}
-use Rattle.own_model.specs.Own.{Entering, Numbering, reply_of, slot_kept, with_wake, woken_in}
+use Rattle.own_model.specs.Own.{Entering, Numbering, reply_of, slot_kept, wake_kept, wake_of, with_wake}
 use Rattle.own_model.specs.declared.own_reply.OwnReply.{OwnReply}
 use Rattle.smc_abi.specs.declared.regs.Regs.{Regs}
 
@@ -98,7 +98,7 @@ told_counts notes number opened (Some reply) = refl
 exit_counts : (notes : Notes) (slot : ℕ) (call : PendingCall) (number : ℕ) → KeepsCount notes (exit_noted notes slot call number)
 exit_counts notes slot call number =
     let leaving : Leaving = leaving_of slot call in
-    let woken : Option ℕ = woken_in notes.numbering slot call.phase in
+    let woken : Option ℕ = wake_kept notes.numbering slot (wake_of call.phase) in
     let opened : Option ℕ = opened_in notes call call.kind leaving in
     let told : Option OwnReply = reply_of woken call.phase leaving in
     ap (λ (n : ℕ). n + (option_map_or (with_reply number notes opened) told notes).next_session)

@@ -28,7 +28,7 @@ use Rattle.kernel_model.specs.Leaving.{FreesBuffer, Finishes, Interrupted, Leavi
 use Rattle.kernel_model.specs.Application.{Application, Booted}
 use Rattle.ns_ram.specs.Reader.{reading}
 use Rattle.own_model.proofs.InOrder.{IfAny, if_any_map, if_any_then}
-use Rattle.own_model.specs.Own.{Entering, reply_of, woken_in}
+use Rattle.own_model.specs.Own.{Entering, reply_of, wake_kept, wake_of}
 use Rattle.own_model.specs.Tied.{call_in}
 use Rattle.own_model.specs.declared.own_reply.OwnReply.{OwnReply}
 use Rattle.solo.specs.Stepping.{HasRoomIn}
@@ -283,7 +283,7 @@ module _ (boot : Booted) (about : About) (events : ℕ) (kernel : Kernel) (notes
       by_number slot call None is = none
       by_number slot call (Some number) is =
           exits slot number (opened_in notes call call.kind (leaving_of slot call)) is
-          (reply_of (woken_in notes.numbering slot call.phase) call.phase (leaving_of slot call)) (exit_noted notes slot call number) refl
+          (reply_of (wake_kept notes.numbering slot (wake_of call.phase)) call.phase (leaving_of slot call)) (exit_noted notes slot call number) refl
 
       by_errand : (p : Option Processor) → Grows (FirstReady about.most g) notes (out_noted kernel notes p)
       by_errand None = none

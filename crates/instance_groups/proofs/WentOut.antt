@@ -5,7 +5,7 @@ use Rattle.std.specs.Option.{option_and_then, option_map_or}
 use Rattle.base.specs.NumberMap.{get}
 use Rattle.group_model.specs.Read.{Notes, exit_noted, opened_in, with_reply}
 use Rattle.instance_groups.specs.Noted.{HasFinishedAs, opened_so}
-use Rattle.isolation.specs.Noted.{HasFinished, IsLeft, without_slot, woken_as}
+use Rattle.isolation.specs.Noted.{HasFinished, IsLeft, without_slot}
 use Rattle.isolation.specs.Telling.{told_by, wakes_as}
 use Rattle.isolation.proofs.LeftCalls.{noted_finished, noted_left}
 use Rattle.job_model.specs.declared.call_kind.CallKind.{CallKind}
@@ -40,20 +40,20 @@ module _ (numbers : own.Numbering) where
   shown number (Some reply) = refl
 
   abbrev ReplyOf : ℕ → PendingCall → Option OwnReply
-  ReplyOf slot call = own.reply_of (own.woken_in numbers slot call.phase) call.phase (leaving_of slot call)
+  ReplyOf slot call = own.reply_of (own.wake_kept numbers slot (own.wake_of call.phase)) call.phase (leaving_of slot call)
 
   abbrev NumbersOf : ℕ → PendingCall → own.Numbering
-  NumbersOf slot call = own.slot_kept (own.with_wake numbers slot (own.woken_in numbers slot call.phase)) slot (leaving_of slot call)
+  NumbersOf slot call = own.slot_kept (own.with_wake numbers slot (own.wake_kept numbers slot (own.wake_of call.phase))) slot (leaving_of slot call)
 
   left_reply : (slot : ℕ) (call : PendingCall) (cont : Cont (List ℕ)) → IsLeft slot call cont
-      → ReplyOf slot call ≡ told_by cont (woken_as numbers slot (wakes_as cont))
+      → ReplyOf slot call ≡ told_by cont (own.wake_kept numbers slot (wakes_as cont))
   left_reply slot call cont is =
       sym (shown 0 (ReplyOf slot call))
       ∙ ap (λ (n : own.Notes). first_told n.log) (noted_left beside slot 0 call cont is)
-      ∙ shown 0 (told_by cont (woken_as numbers slot (wakes_as cont)))
+      ∙ shown 0 (told_by cont (own.wake_kept numbers slot (wakes_as cont)))
 
   left_numbers : (slot : ℕ) (call : PendingCall) (cont : Cont (List ℕ)) → IsLeft slot call cont
-      → NumbersOf slot call ≡ own.with_wake numbers slot (woken_as numbers slot (wakes_as cont))
+      → NumbersOf slot call ≡ own.with_wake numbers slot (own.wake_kept numbers slot (wakes_as cont))
   left_numbers slot call cont is = ap (λ (n : own.Notes). n.numbering) (noted_left beside slot 0 call cont is)
 
   end_reply : (slot : ℕ) (call : PendingCall) (told : OwnReply) → HasFinished slot call told → ReplyOf slot call ≡ Some told
@@ -106,14 +106,14 @@ module _ (notes : Notes) (call : PendingCall) where
 
 pub group_left : (notes : Notes) (slot number : ℕ) (call : PendingCall) (cont : Cont (List ℕ)) → IsLeft slot call cont
     → exit_noted notes slot call number
-    ≡ gone_noted notes number None (told_by cont (woken_as notes.numbering slot (wakes_as cont)))
-    (own.with_wake notes.numbering slot (woken_as notes.numbering slot (wakes_as cont)))
+    ≡ gone_noted notes number None (told_by cont (own.wake_kept notes.numbering slot (wakes_as cont)))
+    (own.with_wake notes.numbering slot (own.wake_kept notes.numbering slot (wakes_as cont)))
 group_left notes slot number call cont is =
     ap (λ (o : Option ℕ). gone_noted notes number o (ReplyOf notes.numbering slot call) (NumbersOf notes.numbering slot call))
     (nothing_opened notes call call.kind (leaving_of slot call) is.left is.in_slot)
     ∙ ap (λ (r : Option OwnReply). gone_noted notes number None r (NumbersOf notes.numbering slot call))
     (left_reply notes.numbering slot call cont is)
-    ∙ ap (λ (n : own.Numbering). gone_noted notes number None (told_by cont (woken_as notes.numbering slot (wakes_as cont))) n)
+    ∙ ap (λ (n : own.Numbering). gone_noted notes number None (told_by cont (own.wake_kept notes.numbering slot (wakes_as cont))) n)
     (left_numbers notes.numbering slot call cont is)
 
 pub group_finished : (notes : Notes) (slot number : ℕ) (call : PendingCall) (told : OwnReply) (opened : Option ℕ)
@@ -123,7 +123,7 @@ pub group_finished : (notes : Notes) (slot number : ℕ) (call : PendingCall) (t
 group_finished notes slot number call told opened is =
     let reply = end_reply notes.numbering slot call told is.finished in
     ap (λ (o : Option ℕ). gone_noted notes number o (ReplyOf notes.numbering slot call) (NumbersOf notes.numbering slot call))
-    (end_opened notes call call.kind (leaving_of slot call) (own.woken_in notes.numbering slot call.phase) call.phase told
+    (end_opened notes call call.kind (leaving_of slot call) (own.wake_kept notes.numbering slot (own.wake_of call.phase)) call.phase told
     is.finished.free reply
     ∙ ap (option_and_then (get notes.sessions)) (sym is.opened))
     ∙ ap (λ (r : Option OwnReply). gone_noted notes number (option_and_then (get notes.sessions) opened) r

@@ -4,11 +4,12 @@ ghost use Rattle.base.specs.NumberMap.{get, insert};
 ghost use Rattle.std.specs.Option.{option_and_then};
 ghost use Rattle.instance_groups.specs.Arriving.{event_as, event_in, gets_session};
 ghost use Rattle.instance_groups.specs.Noted.{AreNoted, HasFinishedAs, HasNumbersLeft, called_as, has_called, with_input, with_resumed, with_room, with_seen, with_told};
-ghost use Rattle.isolation.specs.Noted.{IsLeft, woken_as};
+ghost use Rattle.isolation.specs.Noted.{IsLeft};
 ghost use Rattle.isolation.specs.Telling.{wakes_as};
 ghost use Rattle.group_model.specs.Read as group;
 ghost use Rattle.kernel_model.specs.Kernel.{PendingCall};
 ghost use Rattle.kernel_state.specs.Setup.{application_of};
+ghost use Rattle.own_model.specs.Own.{wake_kept};
 
 use crate::arriving::{NewCall, Resumed, SessionCall};
 use crate::group_log::Logged;
@@ -253,7 +254,7 @@ impl Notes {
     /// now.
     fn woken_in(&self, slot: u8, cont: &Cont<Pages>) -> Option<u32>
         ensures { (notes : group.Notes) → AreNoted self.now notes
-            → result ≡ woken_as notes.numbering slot (wakes_as cont.now) }
+            → result ≡ wake_kept notes.numbering slot (wakes_as cont.now) }
     {
         let woken = wakes(cont)?;
         match self.numbering.woken_by(u32::from(slot)) {

@@ -35,7 +35,7 @@ use Rattle.own_model.proofs.EventKinds.{EntryKind, HasAnswer, IsNewCall, IsResum
 use Rattle.own_model.proofs.FixedAnswers.{entered}
 use Rattle.own_model.specs.Own.{Entering, Notes, Numbering, Resuming, back_noted, call_noted, entry_noted, event_noted, event_of, exit_noted, is_limit}
 use Rattle.own_model.specs.Own.{is_of_client, no_notes, noted, noted_from, numbered, out_noted, resume_noted, seen_noted, slot_kept, slot_noted}
-use Rattle.own_model.specs.Own.{with_wake, woken_in}
+use Rattle.own_model.specs.Own.{wake_kept, wake_of, with_wake}
 use Rattle.smc_abi.specs.Call.{call_of}
 use Rattle.smc_abi.specs.declared.answer.Answer.{Answer}
 use Rattle.smc_abi.specs.declared.call.Call.{Call}
@@ -208,7 +208,7 @@ out_counts kernel notes cpu (Some (Inside regs steps (InSlot slot))) =
     map_or-both (KeepsCount notes) _ (progress_in_slot kernel steps slot) notes
     (λ (progress : Progress). map_or-both (KeepsCount notes) (exit_noted notes slot progress.call)
     (get notes.numbering.in_slots slot) notes
-    (λ number. kept_counts notes.numbering slot (woken_in notes.numbering slot progress.call.phase) (leaving_of slot progress.call)) refl) refl
+    (λ number. kept_counts notes.numbering slot (wake_kept notes.numbering slot (wake_of progress.call.phase)) (leaving_of slot progress.call)) refl) refl
 
 -- one more at most, where so many bytes were read
 abbrev pub CountsOne : ℕ → Notes → Notes → Type 0

@@ -41,7 +41,7 @@ use Rattle.own_model.specs.Isolation.{IsSessionOf, steps_in}
 use Rattle.own_model.specs.Laws.{About, AreTied, SharesNone, about_next}
 use Rattle.own_model.specs.Own.{Entering, Logged, Notes, Resuming, back_noted, call_noted, entry_noted, event_in, event_noted, event_of, events_in, exit_noted}
 use Rattle.own_model.specs.Own.{is_limit, is_of_client, no_notes, noted, noted_from, numbered as with_number, out_noted, own_events, own_replies, replies_in, reply_of}
-use Rattle.own_model.specs.Own.{resume_noted, seen_noted, settled_event, slot_noted, with_event, with_reply, woken_in}
+use Rattle.own_model.specs.Own.{resume_noted, seen_noted, settled_event, slot_noted, wake_kept, wake_of, with_event, with_reply}
 use Rattle.own_model.specs.Solo.{Answered, OwnCall, Solo, run, step, unopened}
 use Rattle.own_model.specs.Tied.{PhasesAlike, call_in}
 use Rattle.own_model.specs.declared.own_event.OwnEvent.{OwnEvent}
@@ -347,7 +347,7 @@ module _ (about : About) (events : ℕ) (kernel : Kernel) (notes : Notes) (solo 
           → Grows (FirstReady about.most solo) notes (option_map_or (exit_noted notes slot call) found notes)
       by_number slot call None is = none
       by_number slot call (Some number) is =
-          exits slot number call is (reply_of (woken_in notes.numbering slot call.phase) call.phase (leaving_of slot call))
+          exits slot number call is (reply_of (wake_kept notes.numbering slot (wake_of call.phase)) call.phase (leaving_of slot call))
           (exit_noted notes slot call number) refl
 
       by_errand : (p : Option Processor) → Grows (FirstReady about.most solo) notes (out_noted kernel notes cpu p)

@@ -7,7 +7,7 @@ use Rattle.kernel_model.specs.Kernel.{CallPhase, Runs, Asks, Waits, Ends, Free, 
 use Rattle.kernel_model.specs.Leaving.{Leaving, Interrupted, WantsBuffer, Requests, FreesBuffer, Finishes, Request, leaving_in, leaving_of, plain_request}
 use Rattle.kernel_state.specs.Calls.{IsCall, IsInPhase, woken_slot}
 use Rattle.own_model.specs.Own as own
-use Rattle.own_model.specs.Own.{Notes, Numbering, exit_noted, reply_of, request_reply, slot_kept, with_reply, with_wake, woken_in}
+use Rattle.own_model.specs.Own.{Notes, Numbering, exit_noted, reply_of, request_reply, slot_kept, wake_kept, wake_of, with_reply, with_wake}
 use Rattle.own_model.specs.declared.own_reply.OwnReply.{OwnReply}
 use Rattle.own_model.specs.declared.own_reply.OwnReply.TheVariants as reply
 use Rattle.rpc_cont.specs.declared.cont.Asked.{Asked}
@@ -20,7 +20,7 @@ use Rattle.rpc_msgs.specs.Request.{has_payload}
 use Rattle.rpc_msgs.specs.declared.request_place.RequestPlace.{RequestPlace}
 use Rattle.rpc_msgs.specs.declared.rpc.Rpc.TheVariants as rpc
 use Rattle.rpc_msgs.specs.declared.rpc_buffer.RpcBuffer.{RpcBuffer}
-use Rattle.isolation.specs.Noted.{HasFinished, IsLeft, ended_in, without_slot, woken_as}
+use Rattle.isolation.specs.Noted.{HasFinished, IsLeft, ended_in, without_slot}
 use Rattle.isolation.specs.Telling.{asked_reply, asks_with_payload, has_place, told_behind, told_by, told_in, wakes_as, wakes_in}
 
 -- ---- what a call goes out with, by its phase, its area and its buffer
@@ -208,23 +208,11 @@ tells_so slot call cont woken (Ends result params told None) room left is has e 
 
 -- ---- whom it wakes
 
-abbrev wakes_of : CallPhase → Option ℕ
-wakes_of (Ends result params told wakes) = wakes
-wakes_of _ = None
-
-wakes_told : (cont : Cont (List ℕ)) (phase : CallPhase) → PhaseAs cont phase → wakes_as cont ≡ wakes_of phase
+wakes_told : (cont : Cont (List ℕ)) (phase : CallPhase) → PhaseAs cont phase → wakes_as cont ≡ wake_of phase
 wakes_told cont (Runs job) is = ap (λ (p : Phase). wakes_in p cont.request) is
 wakes_told cont (Asks job wanted payload) is = ap (λ (p : Phase). wakes_in p cont.request) is.0
 wakes_told cont (Waits params) is = ap (λ (p : Phase). wakes_in p cont.request) is
 wakes_told cont (Ends result params told wakes) is = wakes_so cont wakes is.0 is.1
-
-woken_so : (numbers : Numbering) (slot : ℕ) (phase : CallPhase)
-    → woken_in numbers slot phase ≡ woken_as numbers slot (wakes_of phase)
-woken_so numbers slot (Runs job) = refl
-woken_so numbers slot (Asks job wanted payload) = refl
-woken_so numbers slot (Waits params) = refl
-woken_so numbers slot (Ends result params told None) = refl
-woken_so numbers slot (Ends result params told (Some wakes)) = refl
 
 -- ---- a call that stays in its slot
 
@@ -253,14 +241,13 @@ left_noted notes slot number woken reply =
     record (option_map_or (with_reply number notes) reply notes) { numbering = with_wake notes.numbering slot woken }
 
 pub noted_left : (notes : Notes) (slot number : ℕ) (call : PendingCall) (cont : Cont (List ℕ)) → IsLeft slot call cont
-    → exit_noted notes slot call number ≡ left_noted notes slot number (woken_as notes.numbering slot (wakes_as cont))
-    (told_by cont (woken_as notes.numbering slot (wakes_as cont)))
+    → exit_noted notes slot call number ≡ left_noted notes slot number (wake_kept notes.numbering slot (wakes_as cont))
+    (told_by cont (wake_kept notes.numbering slot (wakes_as cont)))
 noted_left notes slot number call cont is =
     let leaving : Leaving = leaving_of slot call in
     let phase = left_phase slot call is.left leaving is.in_slot in
-    let wakes : woken_in notes.numbering slot call.phase ≡ woken_as notes.numbering slot (wakes_as cont) =
-    woken_so notes.numbering slot call.phase
-    ∙ ap (woken_as notes.numbering slot) (sym (wakes_told cont call.phase
+    let wakes : wake_kept notes.numbering slot (wake_of call.phase) ≡ wake_kept notes.numbering slot (wakes_as cont) =
+    ap (wake_kept notes.numbering slot) (sym (wakes_told cont call.phase
     (subst (PhaseAs cont) phase (phase_as cont is.left.phase is.is.phase)))) in
     let at : leaving ≡ leaving_at slot call.phase (room_of call) = leaving_so slot call call.phase in
     let in_slot = subst (λ (l : Leaving). slot_left call l ≡ Suspended call.client is.left) at is.in_slot in
@@ -270,19 +257,19 @@ noted_left notes slot number call cont is =
     ap (λ (w : Option ℕ). (let after = option_map_or (with_reply number notes) (reply_of w call.phase leaving) notes in
     record after { numbering = slot_kept (with_wake notes.numbering slot w) slot leaving })) wakes
     ∙ ap (λ (numbers : Numbering). (let after = option_map_or (with_reply number notes)
-    (reply_of (woken_as notes.numbering slot (wakes_as cont)) call.phase leaving) notes in
+    (reply_of (wake_kept notes.numbering slot (wakes_as cont)) call.phase leaving) notes in
     record after { numbering = numbers }))
-    (kept_still (with_wake notes.numbering slot (woken_as notes.numbering slot (wakes_as cont))) slot call is.left leaving
+    (kept_still (with_wake notes.numbering slot (wake_kept notes.numbering slot (wakes_as cont))) slot call is.left leaving
     is.in_slot)
-    ∙ ap (λ (r : Option OwnReply). left_noted notes slot number (woken_as notes.numbering slot (wakes_as cont)) r)
-    (told (woken_as notes.numbering slot (wakes_as cont)))
+    ∙ ap (λ (r : Option OwnReply). left_noted notes slot number (wake_kept notes.numbering slot (wakes_as cont)) r)
+    (told (wake_kept notes.numbering slot (wakes_as cont)))
 
 -- ---- a call that has finished
 
 -- what is noted of one that goes out so
 abbrev noted_at : Notes → ℕ → ℕ → CallPhase → Leaving → Notes
 noted_at notes slot number phase leaving =
-    let woken = woken_in notes.numbering slot phase in
+    let woken = wake_kept notes.numbering slot (wake_of phase) in
     let after = option_map_or (with_reply number notes) (reply_of woken phase leaving) notes in
     record after { numbering = slot_kept (with_wake notes.numbering slot woken) slot leaving }
 

@@ -1,7 +1,7 @@
 -- What the code's notes of a session stand for, and what is noted of a call that comes back or goes out.
 use Rattle.std.specs.Prelude.{◌≡◌, ℕ, ◌+◌, ◌^◌, ◌<◌, ◌==◌, Bool, List, [], ◌∷◌, ◌++◌, Option, Some, None, slice_get}
 use Rattle.std.specs.List.{list_any}
-use Rattle.std.specs.Option.{option_and_then, option_map_or, option_or}
+use Rattle.std.specs.Option.{option_and_then, option_map_or}
 use Rattle.base.specs.NumberMap.{get, remove}
 use Rattle.isolation.specs.declared.notes.Notes.{Notes}
 use Rattle.isolation.specs.declared.numbering.Numbering.{Numbering}
@@ -89,11 +89,3 @@ pub record HasFinished (slot : ℕ) (call : PendingCall) (reply : OwnReply) : Ty
 abbrev pub with_told : List own.Logged → ℕ → Option OwnReply → List own.Logged
 with_told log number None = log
 with_told log number (Some told) = log ++ (Out number, Some told) ∷ []
-
--- ---- whom it wakes
-
--- the number of the call that the call of a slot wakes, where it wakes that of this slot: the number that was kept, or else
--- that of the call in the slot now
-abbrev pub woken_as : own.Numbering → ℕ → Option ℕ → Option ℕ
-woken_as numbers slot None = None
-woken_as numbers slot (Some woken) = option_or (get numbers.wakes slot) (get numbers.in_slots woken)

@@ -2,7 +2,7 @@
 ghost use Rattle.std.specs.Prelude.{◌≡◌, ◌<◌, ◌∷◌, ◌++◌, [], IfOk, Some, None};
 ghost use Rattle.base.specs.NumberMap.{get};
 ghost use Rattle.isolation.specs.Arriving.{NamesApp};
-ghost use Rattle.isolation.specs.Noted.{AreNoted, HasFinished, HasNumbersLeft, IsLeft, with_away, with_back, with_told, woken_as};
+ghost use Rattle.isolation.specs.Noted.{AreNoted, HasFinished, HasNumbersLeft, IsLeft, with_away, with_back, with_told};
 ghost use Rattle.isolation.specs.Telling.{wakes_as};
 ghost use Rattle.kernel_model.specs.Kernel.{PendingCall};
 ghost use Rattle.own_model.specs.Own as own;
@@ -150,7 +150,7 @@ impl Notes {
     /// now.
     fn woken_in(&self, slot: u8, cont: &Cont<Pages>) -> Option<u32>
         ensures { (notes : own.Notes) → AreNoted self.now notes
-            → result ≡ woken_as notes.numbering slot (wakes_as cont.now) }
+            → result ≡ own.wake_kept notes.numbering slot (wakes_as cont.now) }
     {
         let woken = wakes(cont)?;
         match self.numbering.woken_by(u32::from(slot)) {

@@ -36,7 +36,7 @@ use Rattle.own_model.specs.Solo.{goes_out, goes_out_in, going_in, home, instance
 use Rattle.own_model.specs.Solo.{is_no_buffer, made, opens, opens_first, phase_at, phase_back, run, sees}
 use Rattle.own_model.specs.Solo.{session_ended, session_panicked, session_unrun}
 use Rattle.own_model.specs.Solo.{settles, shows, silent, start_with, step, stopped, taken_on, tests_again, waits}
-use Rattle.own_model.specs.Solo.{waits_on, wakes_back, with_call, without_waiter, woken_by, works_or_waits}
+use Rattle.own_model.specs.Solo.{waits_on, wake_left, with_call, without_waiter, woken_by, works_or_waits}
 use Rattle.own_model.specs.declared.own_event.BackInput.{BackInput}
 use Rattle.own_model.specs.declared.own_event.BackInput.TheVariants.{Nothing, Buffer, NoBuffer, Reply}
 use Rattle.own_model.specs.declared.own_event.OwnEvent.{OwnEvent}
@@ -132,7 +132,7 @@ shown_fits rest kind.Settled result params told = tt
 -- one that wakes as many as before at most
 back_fits : (call_kind : CallKind) (result : CallResult) (params : CopiedParams) (told : Bool) (wakes : Option ℕ)
     (input : BackInput) → Fits call_kind (Ends result params told wakes)
-    → Fits call_kind (Ends result params told (wakes_back wakes input))
+    → Fits call_kind (Ends result params told (wake_left wakes input))
 back_fits kind.Open result params told wakes input fits = tt
 back_fits (kind.Invoke func) result params told wakes input fits = tt
 back_fits kind.Close result params told wakes input fits = tt
@@ -529,9 +529,9 @@ back_in_so app z number own call input (Waits params) order found kinds phases i
     map_or-both IsInOrder (tests_again app z w) (home z) (gives_up z number call bad_parameters)
     (λ at. tests_again_so app z w at order there) (gives_up_so z number call bad_parameters order there)
 back_in_so app z number own call input (Ends result params told wakes) order found kinds phases is =
-    follows z number own (record call { phase = Ends result params told (wakes_back wakes input) }) order found kinds
-    (subst (λ (p : CallPhase). MayFollow own.kind p (Ends result params told (wakes_back wakes input))) (sym is ∙ phases)
-    (end_follows own.kind result params told told wakes (wakes_back wakes input)
+    follows z number own (record call { phase = Ends result params told (wake_left wakes input) }) order found kinds
+    (subst (λ (p : CallPhase). MayFollow own.kind p (Ends result params told (wake_left wakes input))) (sym is ∙ phases)
+    (end_follows own.kind result params told told wakes (wake_left wakes input)
     (back_fits own.kind result params told wakes input)))
 
 back_so : (app : Application) (z : Solo) (number : ℕ) (input : BackInput) (call : OwnCall) → IsInOrder z

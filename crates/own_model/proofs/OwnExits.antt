@@ -33,11 +33,10 @@ use Rattle.own_model.proofs.Maps.{get-insert-same}
 use Rattle.own_model.proofs.OwnChanges.{IsIdle, call_changes, call_goes, some_number}
 use Rattle.own_model.proofs.OwnProgress.{Comes, OwnThere, comes_to}
 use Rattle.own_model.proofs.OwnTaken.{one_step}
-use Rattle.own_model.proofs.OwnWakes.{woken_of}
 use Rattle.own_model.specs.InOrder.{Fits, IsAtWork, IsIn, IsInOrder, IsWaiting, holder_of}
 use Rattle.own_model.specs.Laws.{About, AreTied, GoesAlong, whose_of}
 use Rattle.own_model.specs.Own.{Notes, Numbering, ended, event_noted, exit_noted, out_noted, reply_of, request_reply}
-use Rattle.own_model.specs.Own.{slot_kept, with_reply, with_wake, woken_in}
+use Rattle.own_model.specs.Own.{slot_kept, wake_kept, wake_of, with_reply, with_wake}
 use Rattle.own_model.specs.Solo.{Answered, Going, OwnCall, Solo, asks, going_in, goes_out, goes_out_in, with_call}
 use Rattle.own_model.specs.Tied.{AreasAlike, CallsAlike, FoundAlike, HoldersAlike, PhasesAlike, Tied, WasTold, Whose, call_at}
 use Rattle.own_model.specs.Tied.{call_in}
@@ -63,9 +62,9 @@ record GoesOut (about : About) (kernel : Kernel) (notes : Notes) (solo : Solo) (
   leaving : Leaving
   leaves_so : leaving_of slot progress.call ≡ leaving
   told : OwnReply
-  tells : reply_of (woken_in notes.numbering slot progress.call.phase) progress.call.phase leaving ≡ Some told
+  tells : reply_of (wake_kept notes.numbering slot (wake_of progress.call.phase)) progress.call.phase leaving ≡ Some told
   numbering : Numbering
-  numbers : slot_kept (with_wake notes.numbering slot (woken_in notes.numbering slot progress.call.phase)) slot leaving
+  numbers : slot_kept (with_wake notes.numbering slot (wake_kept notes.numbering slot (wake_of progress.call.phase))) slot leaving
       ≡ numbering
   final : Solo
   goes : goes_out about.most solo number own ≡ Some (final, Some told)
@@ -95,10 +94,10 @@ goes_along about kernel visit notes solo slot number own progress there g =
     })
   where
     woken : Option ℕ
-    woken = woken_in notes.numbering slot progress.call.phase
+    woken = wake_kept notes.numbering slot (wake_of progress.call.phase)
 
     same : exit_noted notes slot progress.call number
-        ≡ noted_by notes slot number g.leaving (woken_in notes.numbering slot progress.call.phase) (Some g.told)
+        ≡ noted_by notes slot number g.leaving (wake_kept notes.numbering slot (wake_of progress.call.phase)) (Some g.told)
     same = ap (λ (leaving : Leaving). noted_by notes slot number leaving woken
         (reply_of woken progress.call.phase leaving)) g.leaves_so
         ∙ ap (λ (o : Option OwnReply). noted_by notes slot number g.leaving woken o) g.tells
@@ -176,7 +175,7 @@ request_so : (about : About) (kernel : Kernel) (notes : Notes) (solo : Solo) (sl
     (phase : CallPhase) (place : Option RequestPlace) → (c : Coming about kernel notes solo slot number own progress)
     → leaving_of slot progress.call
     ≡ option_map_or (λ (at : RequestPlace). Requests at request) (place_of progress.call request) WantsBuffer
-    → request_reply (woken_in notes.numbering slot progress.call.phase) progress.call.phase ≡ Some told
+    → request_reply (wake_kept notes.numbering slot (wake_of progress.call.phase)) progress.call.phase ≡ Some told
     → c.comes.going.call.phase ≡ phase
     → goes_out_in c.comes.going.solo number c.comes.going.call phase
     ≡ Some (asks c.comes.going.solo number c.comes.going.call wanted told)
@@ -371,7 +370,7 @@ finishes_so about kernel notes solo slot number own progress result params c e h
       tells = refl;
       numbering = slot_kept notes.numbering slot (Finishes result params);
       numbers =
-          ap (λ (p : CallPhase). slot_kept (with_wake notes.numbering slot (woken_in notes.numbering slot p)) slot
+          ap (λ (p : CallPhase). slot_kept (with_wake notes.numbering slot (wake_kept notes.numbering slot (wake_of p))) slot
           (Finishes result params)) e.is;
       final = record z { calls = remove z.calls number };
       goes = out_of about kernel notes solo slot number own progress (Ends result params e.told None) _ c e.own_is
@@ -424,7 +423,7 @@ by_phase about kernel notes solo slot number own progress (Asks job wanted paylo
     request_so about kernel notes solo slot number own progress request asked
     (reply.Ask asked bytes) (Asks from asked bytes)
     (place_of progress.call request) c (ap (λ (p : CallPhase). leaving_in slot progress.call p) is)
-    (ap (λ (p : CallPhase). request_reply (woken_in notes.numbering slot progress.call.phase) p) (is ∙ alike.1))
+    (ap (λ (p : CallPhase). request_reply (wake_kept notes.numbering slot (wake_of progress.call.phase)) p) (is ∙ alike.1))
     own_is refl
     (placed_alike progress.call c.comes.going.call request asked
     (area_out about kernel notes solo slot number own progress (Asks from asked bytes) c own_is tt) c.comes.alike.buffers
@@ -434,7 +433,7 @@ by_phase about kernel notes solo slot number own progress (Waits params) (Waits 
     request_so about kernel notes solo slot number own progress request (rpc.Sleep number)
     reply.Sleep (Waits copied)
     (place_of progress.call request) c (ap (λ (p : CallPhase). leaving_in slot progress.call p) is)
-    (ap (λ (p : CallPhase). request_reply (woken_in notes.numbering slot progress.call.phase) p) is) own_is refl
+    (ap (λ (p : CallPhase). request_reply (wake_kept notes.numbering slot (wake_of progress.call.phase)) p) is) own_is refl
     (placed_alike progress.call c.comes.going.call request (rpc.Sleep number)
     (area_out about kernel notes solo slot number own progress (Waits copied) c own_is tt) c.comes.alike.buffers refl) refl
 by_phase about kernel notes solo slot number own progress (Ends result params told (Some woken))
@@ -443,9 +442,9 @@ by_phase about kernel notes solo slot number own progress (Ends result params to
     request_so about kernel notes solo slot number own progress request (rpc.Wake other) (reply.Wake other)
     (Ends answer remains shown (Some other))
     (place_of progress.call request) c (ap (λ (p : CallPhase). leaving_in slot progress.call p) is)
-    (ap (λ (p : CallPhase). request_reply (woken_in notes.numbering slot progress.call.phase) p) is
+    (ap (λ (p : CallPhase). request_reply (wake_kept notes.numbering slot (wake_of progress.call.phase)) p) is
     ∙ ap (λ (o : Option ℕ). option_map (λ number. reply.Wake number) o)
-    (c.comes.keeps.number ∙ ap (λ (p : CallPhase). woken_of p) own_is)) own_is refl
+    (c.comes.keeps.number ∙ ap (λ (p : CallPhase). wake_of p) own_is)) own_is refl
     (placed_alike progress.call c.comes.going.call request (rpc.Wake other)
     (area_out about kernel notes solo slot number own progress (Ends answer remains shown (Some other)) c own_is tt)
     c.comes.alike.buffers refl) refl

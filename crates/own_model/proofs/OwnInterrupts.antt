@@ -32,7 +32,7 @@ use Rattle.kernel_model.proofs.Parts.{option_map_some, set_found, set_other}
 use Rattle.own_model.proofs.FixedAnswers.{goes_silently, left}
 use Rattle.own_model.specs.Laws.{About, AreTied, GoesAlong, whose_of}
 use Rattle.own_model.specs.Own.{Notes, event_noted, exit_noted, out_noted, reply_of, slot_kept, with_reply, with_wake}
-use Rattle.own_model.specs.Own.{woken_in}
+use Rattle.own_model.specs.Own.{wake_kept, wake_of}
 use Rattle.own_model.specs.Solo.{OwnCall, Solo}
 use Rattle.own_model.specs.Tied.{AreTiedCalls, CallsAlike, HasNumber, IsFurther, IsOther, IsTiedCall, PhasesAlike}
 use Rattle.own_model.specs.Tied.{Whose, call_at, call_in}
@@ -255,7 +255,7 @@ left_running : (about : About) (kernel : Kernel) (visit : Visit) (notes : Notes)
     → progress_held kernel.tables visit.steps held ≡ Some progress → leaving_of slot progress.call ≡ Interrupted
     → AreTied about kernel notes solo
     → AreTied about (goes_out_from kernel visit slot progress).kernel notes solo
-    × (woken_in notes.numbering slot progress.call.phase ≡ None)
+    × (wake_kept notes.numbering slot (wake_of progress.call.phase) ≡ None)
 left_running about kernel visit notes solo slot number Free progress has there e interrupted tied = absurd cc
 left_running about kernel visit notes solo slot number (Suspended client call) progress has there e interrupted tied =
     absurd cc
@@ -291,13 +291,13 @@ left_running about kernel visit notes solo slot number (Active worker call) prog
       key = tied.key;
     } in (
       subst (λ (p : Progress). AreTied about (goes_out_from kernel visit slot p).kernel notes solo) (sym is.is) still,
-      ap (λ (p : Progress). woken_in notes.numbering slot p.call.phase) is.is,
+      ap (λ (p : Progress). wake_kept notes.numbering slot (wake_of p.call.phase)) is.is,
     )
 
 interrupt_noted : (notes : Notes) (slot number : ℕ) (call : PendingCall) → leaving_of slot call ≡ Interrupted
-    → woken_in notes.numbering slot call.phase ≡ None → exit_noted notes slot call number ≡ notes
+    → wake_kept notes.numbering slot (wake_of call.phase) ≡ None → exit_noted notes slot call number ≡ notes
 interrupt_noted notes slot number call interrupted none =
-    ap (λ (leaving : Leaving). told_after leaving (woken_in notes.numbering slot call.phase)) interrupted
+    ap (λ (leaving : Leaving). told_after leaving (wake_kept notes.numbering slot (wake_of call.phase))) interrupted
     ∙ ap (λ (woken : Option ℕ). told_after Interrupted woken) none
   where
     told_after : Leaving → Option ℕ → Notes

@@ -49,7 +49,7 @@ use Rattle.own_model.specs.Laws.{About, SharesNone, whose_of}
 use Rattle.own_model.specs.Own.{Notes, input_of}
 use Rattle.own_model.specs.Solo.{OwnCall, OwnSession, Solo, Start, Waiting, comes_back, comes_back_in, is_buffer}
 use Rattle.own_model.specs.Solo.{is_no_buffer, job_of, phase_back, points_of, retests, tests_again, waits_on}
-use Rattle.own_model.specs.Solo.{wakes_back}
+use Rattle.own_model.specs.Solo.{wake_left}
 use Rattle.own_model.specs.Solo as machine
 use Rattle.own_model.specs.Tied.{CallsAlike, FoundAlike, InstancesAlike, IsFurther, IsOn, PhasesAlike, WakesAlike}
 use Rattle.own_model.specs.Tied.{WasTold, shown}
@@ -101,7 +101,7 @@ given_flagged before job (Reply reply) flagged seen =
     advance_flagged before job (answer.Replied reply) (advance_on_answer (answer.Replied reply) job) flagged seen refl
 
 pub wakes_alike : (kept : Option ℕ) (given : Given) (wakes woken : Option ℕ) → WakesAlike kept wakes woken
-    → WakesAlike kept (still_wakes given wakes) (wakes_back woken (input_of given))
+    → WakesAlike kept (still_wakes given wakes) (wake_left woken (input_of given))
 wakes_alike kept Nothing wakes woken alike = alike
 wakes_alike kept (Buffer buffer) wakes woken alike = alike
 wakes_alike kept NoBuffer wakes woken alike = tt
@@ -562,10 +562,10 @@ module _ (boot : Booted) (about : About) (kernel : Kernel) (notes : Notes) (solo
       → GivenSo (goes_on resumed (Ends result params told (still_wakes given wakes)))
   ends_so result answered params remains told shown_by wakes woken is own_is results leaves tolds alike = record {
     final = machine.with_call then_machine number
-        (record own_now { phase = Ends answered remains shown_by (wakes_back woken (input_of given)) });
+        (record own_now { phase = Ends answered remains shown_by (wake_left woken (input_of given)) });
     comes = comes_in (Ends answered remains shown_by woken) _ own_is refl;
     back = goes_on_so (Ends result params told (still_wakes given wakes))
-        (Ends answered remains shown_by (wakes_back woken (input_of given)))
+        (Ends answered remains shown_by (wake_left woken (input_of given)))
         (results, leaves, tolds, wakes_alike (get notes.numbering.wakes slot) given wakes woken alike) (λ _. refl)
         (λ was. subst WasTold own_is was);
   }

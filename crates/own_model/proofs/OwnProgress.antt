@@ -26,10 +26,10 @@ use Rattle.kernel_model.specs.Resume.{phase_seen}
 use Rattle.kernel_model.proofs.Parts.{option_map_some}
 use Rattle.own_model.proofs.OwnChanges.{some_number, tables_tied, tied_with}
 use Rattle.own_model.proofs.OwnEnds.{IsOwnCall, end_tables, panic_tables, unrun_tables}
-use Rattle.own_model.proofs.OwnWakes.{KeepsWake, keeps_shown, keeps_told, woken_alike, woken_of}
+use Rattle.own_model.proofs.OwnWakes.{KeepsWake, keeps_shown, keeps_told, woken_alike}
 use Rattle.own_model.specs.InOrder.{Fits, IsInOrder}
 use Rattle.own_model.specs.Laws.{About, AreTied, whose_of}
-use Rattle.own_model.specs.Own.{Notes, with_wake, woken_in}
+use Rattle.own_model.specs.Own.{Notes, wake_kept, wake_of, with_wake}
 use Rattle.own_model.specs.Solo.{Going, OwnCall, OwnSession, Solo, gives_back, going_in, session_ended}
 use Rattle.own_model.specs.Solo.{session_panicked, session_unrun, shows, stopped, taken_on}
 use Rattle.own_model.specs.Solo as machine
@@ -54,7 +54,7 @@ pub record Comes (about : About) (kernel : Kernel) (notes : Notes) (solo : Solo)
   pub going : Going
   pub goes : going_in about.most solo own own.phase ≡ Some going
   pub tied : Tied about.app (whose_of about notes) kernel.slots progress.tables going.solo
-  pub keeps : KeepsWake notes.numbering slot progress.call.phase (woken_of going.call.phase)
+  pub keeps : KeepsWake notes.numbering slot progress.call.phase (wake_of going.call.phase)
   pub alike : CallsAlike about.session about.instance (get keeps.wakes slot) progress.call going.call
   pub told : (woken : ℕ) → get keeps.wakes slot ≡ Some woken → WasTold going.call.phase
 
@@ -347,8 +347,8 @@ progress_is P found progress e holds = let same : found ≡ progress = cc in sub
 -- a call that asks or waits stays as it is
 plain_so : (about : About) (kernel : Kernel) (notes : Notes) (solo : Solo) (slot number : ℕ)
     (call : PendingCall) (own : OwnCall)
-    → OwnThere about kernel notes solo slot number call own → woken_in notes.numbering slot call.phase ≡ None
-    → woken_of own.phase ≡ None
+    → OwnThere about kernel notes solo slot number call own → wake_kept notes.numbering slot (wake_of call.phase) ≡ None
+    → wake_of own.phase ≡ None
     → (WasTold own.phase → ⊥) → going_in about.most solo own own.phase ≡ Some (record { solo = solo; call = own })
     → Comes about kernel notes solo slot own (record { call = call; tables = kernel.tables })
 plain_so about kernel notes solo slot number call own h nobody no_own untold goes = record {
@@ -384,10 +384,10 @@ told_so about kernel notes solo slot number call own result answer params left w
       tied = h.tied;
       keeps = record {
         wakes = end.keeps.wakes;
-        is = ap (λ (p : CallPhase). with_wake notes.numbering slot (woken_in notes.numbering slot p)) is ∙ end.keeps.is;
+        is = ap (λ (p : CallPhase). with_wake notes.numbering slot (wake_kept notes.numbering slot (wake_of p))) is ∙ end.keeps.is;
         others = end.keeps.others;
-        number = ap (λ (p : CallPhase). woken_in notes.numbering slot p) is ∙ end.keeps.number
-            ∙ sym (ap (λ (p : CallPhase). woken_of p) own_is);
+        number = ap (λ (p : CallPhase). wake_kept notes.numbering slot (wake_of p)) is ∙ end.keeps.number
+            ∙ sym (ap (λ (p : CallPhase). wake_of p) own_is);
       };
       alike = record {
         of_session = h.alike.of_session;
@@ -457,15 +457,15 @@ by_phase about kernel notes solo slot number granted call own progress (Asks job
     (Asks from asked bytes) h is own_is alike e out bound =
     progress_is (Comes about kernel notes solo slot own) (record { call = call; tables = kernel.tables }) progress e
     (plain_so about kernel notes solo slot number call own h
-    (ap (λ (p : CallPhase). woken_in notes.numbering slot p) is)
-    (ap (λ (p : CallPhase). woken_of p) own_is) (λ told. subst WasTold own_is told)
+    (ap (λ (p : CallPhase). wake_kept notes.numbering slot (wake_of p)) is)
+    (ap (λ (p : CallPhase). wake_of p) own_is) (λ told. subst WasTold own_is told)
     (ap (λ (p : CallPhase). going_in about.most solo own p) own_is))
 by_phase about kernel notes solo slot number granted call own progress (Waits params)
     (Waits copied) h is own_is alike e out bound =
     progress_is (Comes about kernel notes solo slot own) (record { call = call; tables = kernel.tables }) progress e
     (plain_so about kernel notes solo slot number call own h
-    (ap (λ (p : CallPhase). woken_in notes.numbering slot p) is)
-    (ap (λ (p : CallPhase). woken_of p) own_is) (λ told. subst WasTold own_is told)
+    (ap (λ (p : CallPhase). wake_kept notes.numbering slot (wake_of p)) is)
+    (ap (λ (p : CallPhase). wake_of p) own_is) (λ told. subst WasTold own_is told)
     (ap (λ (p : CallPhase). going_in about.most solo own p) own_is))
 by_phase about kernel notes solo slot number granted call own progress (Ends result params true wakes)
     (Ends answer left true woken) h is own_is alike e out bound =

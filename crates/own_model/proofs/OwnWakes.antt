@@ -16,7 +16,7 @@ use Rattle.kernel_model.specs.Instances.{is_held}
 use Rattle.kernel_model.specs.Kernel.{CallPhase, Ends, Instance, PendingCall, Tables}
 use Rattle.own_model.proofs.Maps.{get-insert-other, get-insert-same}
 use Rattle.own_model.proofs.OwnChanges.{TablesAlike}
-use Rattle.own_model.specs.Own.{Numbering, with_wake, woken_in}
+use Rattle.own_model.specs.Own.{Numbering, wake_kept, wake_of, with_wake}
 use Rattle.own_model.specs.Solo.{Solo}
 use Rattle.own_model.specs.Solo as machine
 use Rattle.own_model.specs.Tied.{FoundAlike, HoldersAlike, IsOn, WakesAlike, Whose, waiting_for}
@@ -87,20 +87,15 @@ module _ (app : Application) (whose : Whose) (tables : Tables) (z : Solo)
 
 -- ---- how it is kept
 
--- whom the machine's call wakes, by its phase
-abbrev pub woken_of : CallPhase → Option ℕ
-woken_of (Ends result params told woken) = woken
-woken_of _ = None
-
 -- by an exit in this phase its number is kept
 pub record KeepsWake (numbering : Numbering) (slot : ℕ) (phase : CallPhase) (woken : Option ℕ) : Type 0 where
   pub wakes : NumberMap ℕ
-  pub is : with_wake numbering slot (woken_in numbering slot phase) ≡ record numbering { wakes = wakes }
+  pub is : with_wake numbering slot (wake_kept numbering slot (wake_of phase)) ≡ record numbering { wakes = wakes }
   pub others : (at : ℕ) → (slot ≡ at → ⊥) → get wakes at ≡ get numbering.wakes at
-  pub number : woken_in numbering slot phase ≡ woken
+  pub number : wake_kept numbering slot (wake_of phase) ≡ woken
 
 -- nobody is kept anew
-pub keeps_none : (numbering : Numbering) (slot : ℕ) (phase : CallPhase) → woken_in numbering slot phase ≡ None
+pub keeps_none : (numbering : Numbering) (slot : ℕ) (phase : CallPhase) → wake_kept numbering slot (wake_of phase) ≡ None
     → KeepsWake numbering slot phase None
 keeps_none numbering slot phase none = record {
   wakes = numbering.wakes;

@@ -26,7 +26,7 @@ use Rattle.own_model.specs.declared.own_reply.OwnReply.{OwnReply}
 use Rattle.own_model.specs.Own.{Entering, Logged, Notes, Resuming, back_noted, call_noted, entry_noted}
 use Rattle.own_model.specs.Own.{event_in, event_noted, exit_noted, input_of, is_limit, is_of_client, limit_noted}
 use Rattle.own_model.specs.Own.{no_notes, noted, noted_from, numbered, out_noted, reply_of, resume_noted, seen_noted}
-use Rattle.own_model.specs.Own.{input_settled, settled_event, slot_noted, with_event, with_reply, woken_in}
+use Rattle.own_model.specs.Own.{input_settled, settled_event, slot_noted, wake_kept, wake_of, with_event, with_reply}
 use Rattle.own_model.specs.Solo.{Answered, Going, Solo, OwnCall, going_in, goes_out, goes_out_in, leaves, silent, step}
 
 -- a call goes out, and is told something
@@ -168,7 +168,7 @@ entry_told session e notes (Some (Inside regs steps (InSlot slot))) told =
 exit_told : (notes : Notes) (slot : ℕ) (call : PendingCall) (number : ℕ) → Told notes
     → Told (exit_noted notes slot call number)
 exit_told notes slot call number told =
-    by (reply_of (woken_in notes.numbering slot call.phase) call.phase (leaving_of slot call))
+    by (reply_of (wake_kept notes.numbering slot (wake_of call.phase)) call.phase (leaving_of slot call))
   where
     by : (found : Option OwnReply) → Told (option_map_or (with_reply number notes) found notes)
     by None = told

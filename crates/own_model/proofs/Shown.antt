@@ -1,6 +1,6 @@
 -- What is shown of a call is a function of its reply and of its places.
 use Rattle.std.proofs.Common.{◌≡◌, ℕ, ◌≤◌, Bool, true, false, min, List, [], ◌∷◌, ◌++◌, length, map, take, Option, Some, None, refl, ap, subst, sym, ◌∙◌, arith}
-use Rattle.std.specs.Prelude.{◌==◌, if◌then◌else◌, nat_le, slice_get}
+use Rattle.std.specs.Prelude.{◌==◌, if◌then◌else◌, nat_le}
 use Rattle.std.specs.Option.{option_and_then, option_map, option_map_or}
 use Rattle.std.proofs.lemmas.Bool.Decides.{nat_tests}
 use Rattle.std.proofs.lemmas.List.{length-take, take_all}
@@ -22,15 +22,15 @@ use Rattle.ta_params.specs.declared.copied_params.CopiedParams.{CopiedParams}
 use Rattle.ta_params.specs.declared.copied_params.GpParam.{GpParam}
 use Rattle.ta_params.specs.declared.copied_params.GpParam.TheVariants.{Empty, Value, Memref}
 use Rattle.ta_params.specs.declared.copied_params.Way.TheVariants.{In, Out, Inout}
-use Rattle.kernel_model.specs.Exit.{Exited, answer_of, exit, exit_of, exit_with, goes_out_from, progress_in_slot, session_writes, word32, writes_of}
-use Rattle.kernel_model.specs.Kernel.{CallPhase, Runs, Asks, Waits, Ends, InSlot, Inside, Kernel, PendingCall, Processor, Progress, Visit}
-use Rattle.kernel_model.specs.Leaving.{FreesBuffer, Finishes, Leaving, Request, Requests, WantsBuffer, leaving_in, leaving_of, place_of, plain_request}
+use Rattle.kernel_model.specs.Exit.{Exited, answer_of, exit, exit_of, goes_out_from, session_writes, word32, writes_of}
+use Rattle.kernel_model.specs.Kernel.{CallPhase, Runs, Asks, Waits, Ends, PendingCall, Processor, Progress, Visit}
+use Rattle.kernel_model.specs.Leaving.{FreesBuffer, Finishes, Leaving, Request, Requests, WantsBuffer, leaving_in, place_of, plain_request}
 use Rattle.own_model.specs.declared.own_reply.OwnReply.{OwnReply}
 use Rattle.own_model.specs.declared.own_reply.OwnReply.TheVariants as reply
 use Rattle.own_model.specs.Own.{ended, reply_of, request_reply}
 use Rattle.own_model.specs.Parameters.{bytes_told, output_of, outputs_of, outputs_with}
-use Rattle.own_model.specs.Shown.{CallPlaces, ExitsShowReplies, GoesOutFrom, Shown, buffer_freed, end_shown, opened_number, outputs_shown}
-use Rattle.own_model.specs.Shown.{places_in, places_of, requested_at, seen_with, session_shown, shown}
+use Rattle.own_model.specs.Shown.{CallPlaces, ExitsShowReplies, Shown, buffer_freed, opened_number, outputs_shown}
+use Rattle.own_model.specs.Shown.{places_in, requested_at, seen_with, session_shown, shown}
 
 -- ---- what is written back is what is told
 

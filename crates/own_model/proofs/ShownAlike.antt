@@ -16,7 +16,7 @@ use Rattle.ns_ram.specs.Writes.{Write}
 use Rattle.smc_abi.specs.Answer.{words_of}
 use Rattle.own_model.specs.declared.own_event.OwnEvent.TheVariants.{Out}
 use Rattle.own_model.specs.declared.own_reply.OwnReply.{OwnReply}
-use Rattle.own_model.specs.Own.{Logged, Notes, exit_noted, no_notes, noted, out_noted, own_replies, replies_in, with_reply, woken_in}
+use Rattle.own_model.specs.Own.{Logged, Notes, exit_noted, no_notes, noted, out_noted, own_replies, replies_in, wake_kept, wake_of, with_reply}
 use Rattle.own_model.specs.Shown.{CallPlaces, EndsWithReply, SameEventsShowTheSame, Shown, places_of, seen_with, shown}
 use Rattle.own_model.proofs.KeptSessions.{noted-append}
 use Rattle.own_model.proofs.Shown.{exits_show}
@@ -91,9 +91,9 @@ show_the_same boot another history other session number app keys s t same one tw
     (sym (replied_last boot history session one s.legal) ∙ same_replies boot another history other session number app keys s t same
     ∙ replied_last another other number two t.legal) in
     let first = exits_show one.kernel one.cpu one.slot one.came one.progress one.exited
-    (woken_in (noted boot one.before session).numbering one.slot one.progress.call.phase) one.told one.goes_out one.replies in
+    (wake_kept (noted boot one.before session).numbering one.slot (wake_of one.progress.call.phase)) one.told one.goes_out one.replies in
     let second = exits_show two.kernel two.cpu two.slot two.came two.progress two.exited
-    (woken_in (noted another two.before number).numbering two.slot two.progress.call.phase) two.told two.goes_out two.replies in
+    (wake_kept (noted another two.before number).numbering two.slot (wake_of two.progress.call.phase)) two.told two.goes_out two.replies in
     let same_shown : shown (places_of one.slot one.progress.call) one.told ≡ shown (places_of two.slot two.progress.call) two.told =
     ap (λ (r : OwnReply). shown (places_of one.slot one.progress.call) r) told
     ∙ ap (λ (p : CallPlaces). shown p two.told) places in (

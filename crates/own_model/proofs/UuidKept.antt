@@ -31,7 +31,7 @@ use Rattle.own_model.proofs.OtherCalls.{less}
 use Rattle.own_model.specs.declared.own_event.OwnEvent.{OwnEvent}
 use Rattle.own_model.specs.Own.{Entering, Notes, Resuming, back_noted, entry_noted, event_noted, event_of, exit_noted}
 use Rattle.own_model.specs.Own.{is_limit, is_of_client, numbered, out_noted, reply_of, resume_noted, seen_noted}
-use Rattle.own_model.specs.Own.{slot_noted, uuid_by, with_reply, woken_in}
+use Rattle.own_model.specs.Own.{slot_noted, uuid_by, wake_kept, wake_of, with_reply}
 
 -- ---- new calls
 
@@ -133,7 +133,7 @@ exit_keeps : (notes : Notes) (slot : ℕ) (call : PendingCall) (number : ℕ)
     → KeepsUuid notes (exit_noted notes slot call number)
 exit_keeps notes slot call number =
     map_or-both (KeepsUuid notes) (with_reply number notes)
-    (reply_of (woken_in notes.numbering slot call.phase) call.phase (leaving_of slot call)) notes
+    (reply_of (wake_kept notes.numbering slot (wake_of call.phase)) call.phase (leaving_of slot call)) notes
     (λ told. refl) refl
 
 out_keeps : (kernel : Kernel) (notes : Notes) (cpu : ℕ) (processor : Option Processor)

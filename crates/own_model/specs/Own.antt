@@ -197,11 +197,16 @@ entry_noted session e notes _ = notes
 
 -- ---- exits
 
--- the number of the call that a call in this phase wakes: that which was kept, or else that of the call in the slot now
-abbrev pub woken_in : Numbering → ℕ → CallPhase → Option ℕ
-woken_in numbering slot (Ends result params told (Some woken)) =
-    option_or (get numbering.wakes slot) (get numbering.in_slots woken)
-woken_in numbering slot _ = None
+-- whom a call in this phase wakes: in the kernel by the slot, in a machine by the number
+abbrev pub wake_of : CallPhase → Option ℕ
+wake_of (Ends result params told wakes) = wakes
+wake_of _ = None
+
+-- the number of the call that the call of a slot wakes, where it wakes that of the other slot: the one that was kept, or else that of
+-- the call which is there now
+abbrev pub wake_kept : Numbering → ℕ → Option ℕ → Option ℕ
+wake_kept numbering slot None = None
+wake_kept numbering slot (Some woken) = option_or (get numbering.wakes slot) (get numbering.in_slots woken)
 
 -- what is told of a request
 abbrev pub request_reply : Option ℕ → CallPhase → Option OwnReply
@@ -241,7 +246,7 @@ slot_kept numbering slot _ = numbering
 abbrev pub exit_noted : Notes → ℕ → PendingCall → ℕ → Notes
 exit_noted notes slot call number =
     let leaving = leaving_of slot call in
-    let woken = woken_in notes.numbering slot call.phase in
+    let woken = wake_kept notes.numbering slot (wake_of call.phase) in
     let told = option_map_or (with_reply number notes) (reply_of woken call.phase leaving) notes in
     record told { numbering = slot_kept (with_wake notes.numbering slot woken) slot leaving }
 

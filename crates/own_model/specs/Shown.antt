@@ -24,12 +24,12 @@ use Rattle.kernel_model.specs.Application.{Application, Booted}
 use Rattle.kernel_model.specs.Codes.{ok, success}
 use Rattle.kernel_model.specs.Exit.{Exited, exit, progress_in_slot, word32}
 use Rattle.kernel_model.specs.History.{kernel_after}
-use Rattle.kernel_model.specs.Kernel.{CallPhase, Ends, InSlot, Inside, Kernel, PendingCall, Progress}
+use Rattle.kernel_model.specs.Kernel.{CallPhase, InSlot, Inside, Kernel, PendingCall, Progress}
 use Rattle.kernel_model.specs.Leaving.{Request, leaving_of, plain_request}
 use Rattle.own_model.specs.declared.own_reply.OwnReply.{OwnReply}
 use Rattle.own_model.specs.declared.own_reply.OwnReply.TheVariants as reply
 use Rattle.own_model.specs.Isolation.{IsSessionOf}
-use Rattle.own_model.specs.Own.{noted, own_events, reply_of, woken_in}
+use Rattle.own_model.specs.Own.{noted, own_events, reply_of, wake_kept, wake_of}
 
 -- ---- numbers and addresses
 
@@ -46,10 +46,6 @@ pub record CallPlaces : Type 0 where
   pub params : List Place
   pub opens : Option ℕ
 
-abbrev pub woken_slot : CallPhase → Option ℕ
-woken_slot (Ends result params told wakes) = wakes
-woken_slot _ = None
-
 abbrev pub opened_number : CallKind → ℕ → Option ℕ
 opened_number kind.Open session = Some session
 opened_number _ session = None
@@ -60,7 +56,7 @@ places_in slot call phase = record {
   slot = slot;
   area = call.area;
   buffer = call.buffer;
-  wakes = woken_slot phase;
+  wakes = wake_of phase;
   argument = call.arg;
   params = call.places;
   opens = opened_number call.kind call.session;
@@ -156,7 +152,7 @@ pub record EndsWithReply (boot : Booted) (history : List Event) (session : ℕ) 
   pub number : ℕ
   pub is_own : get (noted boot before session).numbering.in_slots slot ≡ Some number
   pub told : OwnReply
-  pub replies : reply_of (woken_in (noted boot before session).numbering slot progress.call.phase) progress.call.phase
+  pub replies : reply_of (wake_kept (noted boot before session).numbering slot (wake_of progress.call.phase)) progress.call.phase
       (leaving_of slot progress.call) ≡ Some told
 
 -- so in two worlds: where the same has happened to sessions of one application up to such an exit of each, whatever else happened, and

@@ -212,11 +212,11 @@ phase_back before job NoBuffer = phase_on_answer before job answer.NoBuffer
 phase_back before job (Reply told) = phase_on_answer before job (answer.Replied told)
 
 -- whom a call that has ended still wakes: nobody once it was answered, or where it got no buffer for that
-abbrev pub wakes_back : Option ℕ → BackInput → Option ℕ
-wakes_back wakes Nothing = wakes
-wakes_back wakes Buffer = wakes
-wakes_back wakes NoBuffer = None
-wakes_back wakes (Reply told) = None
+abbrev pub wake_left : Option ℕ → BackInput → Option ℕ
+wake_left wakes Nothing = wakes
+wake_left wakes Buffer = wakes
+wake_left wakes NoBuffer = None
+wake_left wakes (Reply told) = None
 
 abbrev pub is_buffer : BackInput → Bool
 is_buffer Buffer = true
@@ -271,7 +271,7 @@ comes_back_in app z number call input (Asks job wanted payload) =
 comes_back_in app z number call input (Waits params) =
     Some (retests app z (record { number = number; call = call; params = params; input = input }))
 comes_back_in app z number call input (Ends result params told wakes) =
-    Some (with_call z number (record call { phase = Ends result params told (wakes_back wakes input) }))
+    Some (with_call z number (record call { phase = Ends result params told (wake_left wakes input) }))
 
 abbrev pub comes_back : Application → Solo → ℕ → BackInput → OwnCall → Option Solo
 comes_back app z number input call =

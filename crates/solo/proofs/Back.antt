@@ -9,7 +9,7 @@ use Rattle.kernel_model.specs.Application.{Application}
 use Rattle.kernel_model.specs.Kernel.{CallPhase, Runs, Asks, Waits, Ends}
 use Rattle.kernel_model.specs.Resume.{phase_on_answer}
 use Rattle.kernel_state.specs.Calls.{IsInPhase, bytes_of, woken_slot}
-use Rattle.own_model.specs.Solo.{OwnCall, Solo, comes_back_in, phase_back, wakes_back, with_call}
+use Rattle.own_model.specs.Solo.{OwnCall, Solo, comes_back_in, phase_back, wake_left, with_call}
 use Rattle.own_model.specs.declared.own_event.BackInput.{BackInput}
 use Rattle.own_model.specs.declared.own_event.BackInput.TheVariants as back
 use Rattle.rpc_cont.specs.Answering.{IsAnswered}
@@ -58,7 +58,7 @@ in_phase old new call at kind seen did area buffer is here = record {
 -- what it is given answers nothing
 pub record AnswersNothing (input : BackInput) : Type 0 where
   pub asks : (before : CallPhase) (job : Job) → phase_back before job input ≡ before
-  pub wakes : (wakes : Option ℕ) → wakes_back wakes input ≡ wakes
+  pub wakes : (wakes : Option ℕ) → wake_left wakes input ≡ wakes
 
 pub nothing_answers : AnswersNothing back.Nothing
 nothing_answers = record { asks = λ before job. refl; wakes = λ wakes. refl }
@@ -75,7 +75,7 @@ unchanged_in app solo next number input cont call (Asks job wanted payload) same
     record { call = call; is = is; has = sym so ∙ ap (λ (p : CallPhase). with_call solo number (record call { phase = p })) (nothing.asks call.phase job) }
 unchanged_in app solo next number input cont call (Waits params) same works nothing is at e = absurd (works at.phase)
 unchanged_in app solo next number input cont call (Ends result params told wakes) same works nothing is at e =
-    let so : with_call solo number (record call { phase = Ends result params told (wakes_back wakes input) }) ≡ next = cc in record {
+    let so : with_call solo number (record call { phase = Ends result params told (wake_left wakes input) }) ≡ next = cc in record {
       call = call;
       is = is;
       has = sym so ∙ ap (λ (p : CallPhase). with_call solo number (record call { phase = p }))
@@ -93,7 +93,7 @@ unchanged app solo next number input cont call works nothing is e =
 -- what it is given is this answer
 pub record IsAnswer (input : BackInput) (answer : RpcAnswer) : Type 0 where
   pub asks : (before : CallPhase) (job : Job) → phase_back before job input ≡ phase_on_answer before job answer
-  pub wakes : (wakes : Option ℕ) → wakes_back wakes input ≡ None
+  pub wakes : (wakes : Option ℕ) → wake_left wakes input ≡ None
 
 -- what `resume_with` says of an answer
 pub record TakesAnswer (old new : Cont (List ℕ)) (answer : RpcAnswer) : Type 0 where
@@ -122,7 +122,7 @@ answered_in app solo next number input answer old new call (Asks job wanted payl
     record { call = record call { phase = then }; is = taken old new answer call then takes is here; has = sym so }
 answered_in app solo next number input answer old new call (Waits params) works by takes is at e = absurd (works at.phase)
 answered_in app solo next number input answer old new call (Ends result params told wakes) works by takes is at e =
-    let then : CallPhase = Ends result params told (wakes_back wakes input) in
+    let then : CallPhase = Ends result params told (wake_left wakes input) in
     let so : with_call solo number (record call { phase = then }) ≡ next = cc in
     let here : IsInPhase new then =
     subst (λ (w : Option ℕ). IsInPhase new (Ends result params told w)) (sym (by.wakes wakes))

@@ -2,7 +2,7 @@ use Rattle.std.proofs.Common.{◌≡◌, ℕ, Option, ap, sym, subst, ◌∙◌}
 use Rattle.instance_groups.specs.Noted.{with_told}
 use Rattle.instance_groups.specs.declared.notes.Notes.{Notes as AnyNotes}
 use Rattle.instance_groups.proofs.NotesKept.{out_noted}
-use Rattle.isolation.specs.Noted.{AreNumbers, woken_as}
+use Rattle.isolation.specs.Noted.{AreNumbers}
 use Rattle.isolation.specs.Telling.{told_by, wakes_as}
 use Rattle.isolation.specs.declared.numbering.Numbering.{Numbering as AnyNumbering}
 use Rattle.own_model.specs.Own as own
@@ -12,7 +12,7 @@ pub returns-clause-noted : goal.returns-clause-noted
 returns-clause-noted c notes call are is =
     let old = c.args.self.now in
     let stays = c.tells.ensures.stays in
-    let woken : c.woken_in-woken.result ≡ woken_as notes.numbering c.args.slot (wakes_as c.args.cont.now) =
+    let woken : c.woken_in-woken.result ≡ own.wake_kept notes.numbering c.args.slot (wakes_as c.args.cont.now) =
     c.woken_in-woken.ensures notes are in
     out_noted old _ notes are c.args.slot c.args.number call c.args.cont.now is
     (subst (λ (w : Option ℕ). AreNumbers c.with_wake.new.self (own.with_wake notes.numbering c.args.slot w)) woken
