@@ -6,6 +6,6 @@ use Rattle.kernel_model.specs.Application.{Native}
 
 pub read_boots_can_be_checked : ReadBootsCanBeChecked
 read_boots_can_be_checked natives boot sound = record {
-  limits = within_limits (map (λ (native : Native). native.0) natives) boot sound;
-  apart = none_repeated (map (λ (native : Native). native.0) natives) boot sound;
+  limits = within_limits boot sound.boots;
+  apart = none_repeated (map (λ (native : Native). native.0) natives) boot sound.boots sound.no_native;
 }

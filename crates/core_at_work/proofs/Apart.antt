@@ -4,14 +4,14 @@ use Rattle.std.specs.Prelude.{not, ◌||◌, if◌then◌else◌, IsTrue, All, A
 use Rattle.std.specs.Str.{bytes_eq}
 use Rattle.std.proofs.lemmas.List.Folds.{list_any-append}
 use Rattle.kernel_state.specs.Booting.{IsWithinLimits, first_repeated, has_uuid}
+use Rattle.ta_isa.specs.Boots.{IsBoot}
 use Rattle.ta_isa.specs.declared.boot.App.{App}
 use Rattle.ta_isa.specs.declared.boot.Boot.{Boot}
-use Rattle.trace_text.specs.Sound.{IsSoundBoot}
 
 abbrev IsOther : App → App → Type 0
 IsOther one other = IsTrue (not (bytes_eq one.uuid other.uuid))
 
-abbrev IsNew : List (List ℕ) → App → Type 0
+abbrev pub IsNew : List (List ℕ) → App → Type 0
 IsNew uuids app = IsTrue (not (has_uuid uuids app.uuid))
 
 not_there : (found : Bool) (uuid : List ℕ) (rest : Option (List ℕ)) → IsTrue (not found)
@@ -42,20 +42,20 @@ none_repeats earlier (app ∷ apps) apart new =
     (λ k d within. new_more earlier app (get_or apps k d) (new (suc k) d (omega (arith, within)))
     (apart 0 (suc k) d (omega arith) (omega (arith, within))))
 
--- the applications of a sound boot
-pub none_repeated : (uuids : List (List ℕ)) (boot : Boot) → IsSoundBoot uuids boot
+-- the applications of a boot, of which none has one of these UUIDs
+pub none_repeated : (uuids : List (List ℕ)) (boot : Boot) → IsBoot boot → All (IsNew uuids) boot.apps
     → first_repeated uuids (map (λ (app : App). app.uuid) boot.apps) ≡ None
-none_repeated uuids boot sound = none_repeats uuids boot.apps sound.boots.apart sound.no_native
+none_repeated uuids boot boots new = none_repeats uuids boot.apps boots.apart new
 
 -- and it is within the limits
-pub within_limits : (uuids : List (List ℕ)) (boot : Boot) → IsSoundBoot uuids boot → IsWithinLimits boot
-within_limits uuids boot sound = record {
-  some_processor = sound.boots.some_processor;
-  few_processors = sound.boots.few_processors;
-  some_thread = sound.boots.some_thread;
-  few_threads = sound.boots.few_threads;
-  some_frame = sound.boots.some_frame;
-  few_frames = sound.boots.few_frames;
-  few_apps = sound.boots.few_apps;
-  valid = sound.boots.valid;
+pub within_limits : (boot : Boot) → IsBoot boot → IsWithinLimits boot
+within_limits boot boots = record {
+  some_processor = boots.some_processor;
+  few_processors = boots.few_processors;
+  some_thread = boots.some_thread;
+  few_threads = boots.few_threads;
+  some_frame = boots.some_frame;
+  few_frames = boots.few_frames;
+  few_apps = boots.few_apps;
+  valid = boots.valid;
 }

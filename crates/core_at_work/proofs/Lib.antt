@@ -1,5 +1,4 @@
 pub mod Apart
-pub mod Fills
 pub mod InsidesMoved
 pub mod Stand
 pub mod Kept

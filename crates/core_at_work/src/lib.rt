@@ -6,8 +6,7 @@
 //! core's own entry and exit are; that just the processors that are inside have something to go out with, each its own, is a fact
 //! of the type.
 //!
-//! `booting` boots a core and fills its RAM, `core_at_work` and `working` have the core, and `went_out` says what a processor
-//! goes out with.
+//! `booting` boots a core, `core_at_work` and `working` have the core, and `went_out` says what a processor goes out with.
 #![tactic(auto)]
 
 mod booting;
@@ -16,7 +15,7 @@ mod went_out;
 mod working;
 
 pub use base::NoMemory;
-pub use booting::{core_of, first_lane, first_lanes};
+pub use booting::core_of;
 pub use core_at_work::CoreAtWork;
 pub use went_out::WentOut;
 pub use working::MOST_STEPS;

@@ -1,4 +1,5 @@
 pub mod AtPlay
+pub mod Fills
 pub mod Lanes
 pub mod Played
 pub mod Stands

@@ -7,9 +7,10 @@ ghost use Rattle.native_tas.specs.Table.{entries};
 ghost use Rattle.play_model.specs.Play.{first_play};
 ghost use Rattle.trace_text.specs.Sound.{IsSoundBoot, IsSoundFill};
 
+use crate::filling::first_lanes;
 use crate::machine::Machine;
 use base::NoMemory;
-use core_at_work::{core_of, first_lanes};
+use core_at_work::core_of;
 use native_tas::Natives;
 use std::alloc::Global;
 use ta_isa::Boot;

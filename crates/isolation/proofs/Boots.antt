@@ -5,7 +5,7 @@ use Rattle.std.proofs.lemmas.Slice.Eq.{bytes_eq-Decides}
 use Rattle.std.specs.Prelude.{IsTrue, not, ◌||◌}
 use Rattle.std.specs.List.{list_any}
 use Rattle.std.specs.Str.{bytes_eq}
-use Rattle.core_at_work.proofs.Apart.{none_repeated}
+use Rattle.core_at_work.proofs.Apart as limits
 use Rattle.core_at_work.specs.Booting.{IsApart}
 use Rattle.kernel_model.specs.Application.{AreNatives, Booted, BuiltIn, IsBooted, Native, OfImage, booted}
 use Rattle.kernel_state.specs.Booting.{IsWithinLimits, has_uuid}
@@ -71,18 +71,7 @@ boots_with boot natives boots =
 -- ---- its limits
 
 pub within_limits : (boot : Boot) (natives : List Native) → IsBooted (booted boot natives) → IsWithinLimits boot
-within_limits boot natives boots =
-    let is = (boots_with boot natives boots).is_boot in
-    record {
-      some_processor = is.some_processor;
-      few_processors = is.few_processors;
-      some_thread = is.some_thread;
-      few_threads = is.few_threads;
-      some_frame = is.some_frame;
-      few_frames = is.few_frames;
-      few_apps = is.few_apps;
-      valid = is.valid;
-    }
+within_limits boot natives boots = limits.within_limits boot (boots_with boot natives boots).is_boot
 
 -- ---- and no UUID stands twice
 
@@ -118,8 +107,6 @@ new_app (native ∷ natives) app each =
 pub apart_booted : (boot : Boot) (natives : List Native) → IsBooted (booted boot natives) → IsApart boot natives
 apart_booted boot natives boots =
     let with = boots_with boot natives boots in
-    none_repeated (map (λ (native : Native). native.0) natives) boot (record {
-      boots = with.is_boot;
-      no_native = λ k d below. new_app natives (get_or boot.apps k d)
-          (λ i e within. not_this boot.apps k d (get_or natives i e).0 below (with.are_natives.others i e within));
-    })
+    limits.none_repeated (map (λ (native : Native). native.0) natives) boot with.is_boot
+    (λ k d below. new_app natives (get_or boot.apps k d)
+    (λ i e within. not_this boot.apps k d (get_or natives i e).0 below (with.are_natives.others i e within)))

@@ -12,7 +12,7 @@ ghost use Rattle.play_model.specs.Play.{filled};
 ghost use Rattle.trace_text.specs.Sound.{IsSoundFill};
 
 use base::NoMemory;
-use core_at_work::first_lane;
+use core_machine::first_lane;
 use live_text::Statement;
 use native_tas::Natives;
 use notify_player::NotifyPlayer;

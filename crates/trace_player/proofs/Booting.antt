@@ -20,6 +20,6 @@ sound_boots natives boot few apart sound = record {
   natives = natives;
   is_boot = sound.boots;
   are_natives = natives_if_none None boot natives (uuids_of natives) boot.apps
-      (sym (none_repeated (uuids_of natives) boot sound)) refl refl few apart;
+      (sym (none_repeated (uuids_of natives) boot sound.boots sound.no_native)) refl refl few apart;
   same = refl;
 }

@@ -9,7 +9,8 @@ ghost use Rattle.word_parts.specs.Input.{TakesAtMost};
 ghost use Rattle.trace_runner.specs.Threads.{AnsweredOnThreads, IsPlayedInOrder, IsServedByThreads, RanOnThreads, status_where};
 
 use base::NoMemory;
-use core_at_work::{core_of, first_lanes};
+use core_at_work::core_of;
+use core_machine::first_lanes;
 use native_tas::Natives;
 use ports::{Pace, Sink, Source};
 use std::alloc::Global;

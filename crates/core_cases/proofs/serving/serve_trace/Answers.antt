@@ -5,8 +5,9 @@ use Rattle.core_cases.proofs.serving.serve_trace.Goals as goal
 
 pub core_of-requires-clause-limits : goal.core_of-requires-clause-limits
 core_of-requires-clause-limits g c =
-    within_limits _ c.in-Some.boot (boot_of_sound _ c.args.trace c.in-Some.boot c.requires c.in-Some.is)
+    within_limits c.in-Some.boot (boot_of_sound _ c.args.trace c.in-Some.boot c.requires c.in-Some.is).boots
 
 pub core_of-requires-clause-apart : goal.core_of-requires-clause-apart
 core_of-requires-clause-apart g c =
-    none_repeated _ c.in-Some.boot (boot_of_sound _ c.args.trace c.in-Some.boot c.requires c.in-Some.is)
+    let sound = boot_of_sound _ c.args.trace c.in-Some.boot c.requires c.in-Some.is in
+    none_repeated _ c.in-Some.boot sound.boots sound.no_native

@@ -10,10 +10,11 @@ use Rattle.trace_runner.proofs.OnThreads.{lanes-there, of-trace, played-in-order
 use Rattle.trace_runner.proofs.threads.blocks_of.Goals as goal
 
 pub core_of-requires-clause-limits : goal.core_of-requires-clause-limits
-core_of-requires-clause-limits g c = within_limits (uuids_of (entries c.args.natives.now)) c.args.boot c.requires.boot
+core_of-requires-clause-limits g c = within_limits c.args.boot c.requires.boot.boots
 
 pub core_of-requires-clause-apart : goal.core_of-requires-clause-apart
-core_of-requires-clause-apart g c = none_repeated (uuids_of (entries c.args.natives.now)) c.args.boot c.requires.boot
+core_of-requires-clause-apart g c =
+    none_repeated (uuids_of (entries c.args.natives.now)) c.args.boot c.requires.boot.boots c.requires.boot.no_native
 
 pub play_on_threads-requires-clause-lanes : goal.play_on_threads-requires-clause-lanes
 play_on_threads-requires-clause-lanes g c = λ κs live.

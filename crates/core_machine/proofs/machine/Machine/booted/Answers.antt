@@ -6,9 +6,9 @@ use Rattle.native_tas.specs.Table.{entries}
 use Rattle.core_machine.proofs.machine.Machine.booted.Goals as goal
 
 pub core_of-requires-clause-limits : goal.core_of-requires-clause-limits
-core_of-requires-clause-limits g c =
-    within_limits (map (λ (native : Native). native.0) (entries c.args.natives.now)) c.args.boot c.requires.boot
+core_of-requires-clause-limits g c = within_limits c.args.boot c.requires.boot.boots
 
 pub core_of-requires-clause-apart : goal.core_of-requires-clause-apart
 core_of-requires-clause-apart g c =
-    none_repeated (map (λ (native : Native). native.0) (entries c.args.natives.now)) c.args.boot c.requires.boot
+    none_repeated (map (λ (native : Native). native.0) (entries c.args.natives.now)) c.args.boot c.requires.boot.boots
+    c.requires.boot.no_native
