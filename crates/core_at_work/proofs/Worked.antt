@@ -1,15 +1,16 @@
 -- What is kept of the processors of a core at work.
-use Rattle.std.proofs.Common.{◌≡◌, ℕ, zero, suc, ◌<◌, get_or, true, false, List, [], ◌∷◌, length, Option, Some, None, refl, ap, sym, subst, ◌∙◌, arith}
+use Rattle.std.proofs.Common.{◌≡◌, ◌≢◌, ℕ, zero, suc, ◌<◌, get_or, true, false, List, [], ◌∷◌, length, Option, Some, None, refl, ap, sym, subst, ◌∙◌, arith}
 use Rattle.std.proofs.lemmas.Option.{slice_get_read}
 use Rattle.std.specs.Prelude.{Result, Ok, Err, slice_get, slice_set}
 use Rattle.std.specs.Option.{is_some, option_and_then, option_map}
 use Rattle.core_at_work.specs.Insides.{IsInside, IsOutside}
-use Rattle.core_at_work.specs.Working.{ComesIn, outgoing_of}
+use Rattle.core_at_work.specs.Working.{ComesIn, SameOutgoing, outgoing_of}
 use Rattle.core_at_work.specs.declared.core_at_work.CoreAtWork.{CoreAtWork}
 use Rattle.core_at_work.proofs.Kept.{own_found}
 use Rattle.core_at_work.proofs.Stand.{Outgoing, found, inside_below, inside_cpu, outside_cpu}
 use Rattle.kernel_entry.specs.Visiting.{coming_of}
 use Rattle.kernel_entry.specs.declared.visitor.Visitor.{Visitor}
+use Rattle.kernel_model.proofs.Parts.{set_other}
 use Rattle.kernel_state.specs.Entering.{Enters}
 use Rattle.kernel_state.specs.Leaving.{CanLeave}
 use Rattle.kernel_state.specs.Meaning.{booted_of}
@@ -19,9 +20,9 @@ use Rattle.kernel_state.specs.declared.work.Ran.{Ran}
 
 -- a refusal of the core is one of the core at work
 pub refused : (old new : CoreAtWork) (visitor : Visitor) (lane : List ℕ) (why : EnterRefusal) →
-    Enters old.core new.core (coming_of visitor) lane (Err why) → ComesIn old new visitor lane (Err why)
-refused old new visitor lane (Full copied more) is = is
-refused old new visitor lane Memory is = is
+    Enters old.core new.core (coming_of visitor) lane (Err why) → SameOutgoing old new → ComesIn old new visitor lane (Err why)
+refused old new visitor lane (Full copied more) is same = (is.0, is.1, same)
+refused old new visitor lane Memory is same = (is, same)
 
 -- ---- what is put
 
@@ -35,6 +36,13 @@ pub put_there : (outgoing : Outgoing) (place cpu : ℕ) (put : Option Ran) → p
     slice_get (slice_set outgoing place put) cpu ≡ Some put
 put_there outgoing place cpu put same below =
     ap (slice_get (slice_set outgoing place put)) (sym same) ∙ set_at outgoing place put below
+
+-- and each other processor goes out with what it had
+pub put_beside : (outgoing : Outgoing) (place cpu : ℕ) (put : Option Ran) → place ≡ cpu → (other : ℕ) → other ≢ cpu →
+    option_and_then (λ (k : Option Ran). k) (slice_get (slice_set outgoing place put) other)
+    ≡ option_and_then (λ (k : Option Ran). k) (slice_get outgoing other)
+put_beside outgoing place cpu put same other apart =
+    ap (option_and_then (λ (k : Option Ran). k)) (set_other outgoing place other put (λ at. apart (sym at ∙ same)))
 
 -- ---- what is found
 
@@ -101,4 +109,4 @@ pub came_boot : (old new : CoreAtWork) (visitor : Visitor) (lane : List ℕ) (re
     ComesIn old new visitor lane result → booted_of new.core ≡ booted_of old.core
 came_boot old new visitor lane (Ok done) come = come.entered.boot
 came_boot old new visitor lane (Err (Full copied more)) come = come.0.boot
-came_boot old new visitor lane (Err Memory) come = come.boot
+came_boot old new visitor lane (Err Memory) come = come.0.boot

@@ -1,8 +1,9 @@
 //! What is done with a core at work: its processors come in and go out.
-ghost use Rattle.std.specs.Prelude.{◌≡◌, ◌↔◌, [], IfOk, IsTrue, None, Some, replicate};
+ghost use Rattle.std.specs.Prelude.{◌≡◌, ◌↔◌, [], IfOk, IsSomeAnd, IsTrue, None, Some, replicate};
 ghost use Rattle.std.specs.Option.{option_map};
 ghost use Rattle.core_at_work.specs.Booting.{IsApart};
 ghost use Rattle.core_at_work.specs.Insides.{IsInside, IsOutside, insides};
+ghost use Rattle.core_at_work.specs.Panics.{panic_of};
 ghost use Rattle.core_at_work.specs.Working.{ComesIn, GoesOut, outgoing_of};
 ghost use Rattle.kernel_entry.specs.Visiting.{coming_of};
 ghost use Rattle.kernel_model.specs.Application.{booted};
@@ -86,6 +87,14 @@ impl CoreAtWork {
         }
     }
 
+    /// The code of the panic in which the granted steps end of the call that a processor goes out with, if they do.
+    pub fn panic(&self, cpu: u8) -> Option<u32>
+        requires { IsInside self.now.core cpu }
+        ensures { IsSomeAnd (kernel_of self.now.core) (λ kernel. result ≡ panic_of kernel cpu) }
+    {
+        panic_of(self.outgoing(cpu).stop)
+    }
+
     /// Which processors are inside, by their numbers.
     pub fn insides(&self, alloc: Global) -> Result<Vec<bool>, NoMemory>
         ensures { IfOk result (λ inside. option_map insides (kernel_of self.now.core) ≡ Some inside.items) }
@@ -142,10 +151,10 @@ impl CoreAtWork {
         requires { IsInside self.old.core cpu }
         ensures { GoesOut self.old self.new cpu lane.old lane.new result }
     {
+        let panic = self.panic(cpu);
         let Some(ran) = self.outgoing[usize::from(cpu)].take() else {
             unreachable!()
         };
-        let panic = panic_of(ran.stop);
         let regs = leave(&mut self.core, ran, lane);
         WentOut { regs, panic }
     }

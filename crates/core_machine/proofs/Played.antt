@@ -127,7 +127,7 @@ enters_so boot play old machine visitor lane (Err (Full copied more)) at sees la
   entry_refused boot play old.at_work.core visitor lane copied more (core_at boot play old at) sees come.1,
   still_at boot play old machine at lanes come.0,
 )
-enters_so boot play old machine visitor lane (Err Memory) at sees lanes come = still_at boot play old machine at lanes come
+enters_so boot play old machine visitor lane (Err Memory) at sees lanes come = still_at boot play old machine at lanes come.0
 
 -- ---- an exit
 

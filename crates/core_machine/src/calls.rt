@@ -1,5 +1,6 @@
 //! What is done with a machine: its processors come in and go out, and RAM is written and shown.
 ghost use Rattle.std.specs.Prelude.{◌≡◌, ◌<◌, [], ◌∷◌, ◌↔◌, IfOk, IsTrue, length};
+ghost use Rattle.core_at_work.specs.Panics.{panic_of};
 ghost use Rattle.core_machine.specs.Moving.{EntersAt, LeavesAt};
 ghost use Rattle.core_machine.specs.Standing.{CanCome, IsAt, begun};
 ghost use Rattle.core_machine.specs.declared.smc.Smc.TheVariants as smc;
@@ -77,6 +78,14 @@ impl Machine {
         ensures len { length result.now ≡ 0x400000 }
     {
         self.lanes[usize::from(cpu)].at(RAM_START, RAM_BYTES)
+    }
+
+    /// The code of the panic in which the granted steps of the call have ended that a processor goes out with, if they did.
+    pub fn panic(&self, cpu: u8) -> Option<u32>
+        requires { CanCome self.now (smc.Leaves cpu) }
+        ensures { (boot : Booted) (play : Play) → IsAt boot play self.now → result ≡ panic_of play.kernel cpu }
+    {
+        self.at_work.panic(cpu)
     }
 
     /// Whether a processor is inside. One that there isn't is not.

@@ -1,11 +1,11 @@
 -- It comes in to the core, and its work is kept; or it doesn't.
-use Rattle.std.proofs.Common.{◌<◌, ℕ, length, Option, Some, ap, arith, sym, subst, ◌∙◌}
+use Rattle.std.proofs.Common.{◌<◌, ℕ, length, Option, Some, ap, arith, refl, sym, subst, ◌∙◌}
 use Rattle.std.proofs.lemmas.Result.{err_from_is_err_and}
 use Rattle.std.specs.Prelude.{slice_set}
 use Rattle.std.specs.Option.{is_some, option_and_then, option_map}
 use Rattle.core_at_work.proofs.Kept.{as_before, entered, refused_as_before}
 use Rattle.core_at_work.proofs.Stand.{has_inside, outside_below}
-use Rattle.core_at_work.proofs.Worked.{put_there, refused}
+use Rattle.core_at_work.proofs.Worked.{put_beside, put_there, refused}
 use Rattle.core_at_work.specs.declared.core_at_work.CoreAtWork.{CoreAtWork}
 use Rattle.kernel_entry.specs.Visiting.{coming_of}
 use Rattle.kernel_state.specs.declared.work.Ran.{Ran}
@@ -31,7 +31,8 @@ returns-in_err-work c =
           (refused_as_before old.core c.enter.new.core (coming_of c.args.visitor) c.args.lane.now c.in_err-work.field-0.0
           c.in_err-work.ensures) old.own;
     } in
-    rw (told.1, told.2) (refused old new c.args.visitor c.args.lane.now c.in_err-work.field-0.0 c.in_err-work.ensures)
+    rw (told.1, told.2) (refused old new c.args.visitor c.args.lane.now c.in_err-work.field-0.0 c.in_err-work.ensures
+    (λ cpu. refl))
 
 pub index_mut-requires : goal.index_mut-requires
 index_mut-requires c =
@@ -68,4 +69,5 @@ returns c =
       kept = ap (option_and_then (λ (k : Option Ran). k)) there ∙ c.put.ensures;
       inside = has_inside c.enter.new.core (slice_set old.outgoing.items c.from.result put) have cpu
           (ap (option_map is_some) there ∙ ap (λ (kept : Option Ran). Some (is_some kept)) c.put.ensures);
+      others = put_beside old.outgoing.items c.from.result cpu put c.from.ensures;
     }

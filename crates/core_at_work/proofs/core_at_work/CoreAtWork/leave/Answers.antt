@@ -1,8 +1,7 @@
 -- What it goes out with is there, and its own.
 use Rattle.std.proofs.Common.{arith, sym, ◌∙◌}
 use Rattle.core_at_work.proofs.Kept.{left}
-use Rattle.core_at_work.proofs.PanicTold.{panic_told}
-use Rattle.core_at_work.proofs.Worked.{kept_as, kept_below, never_none}
+use Rattle.core_at_work.proofs.Worked.{kept_as, kept_below, never_none, put_beside}
 use Rattle.core_at_work.proofs.core_at_work.CoreAtWork.leave.Goals as goal
 
 pub index_mut-requires : goal.index_mut-requires
@@ -46,5 +45,6 @@ returns c =
       its_own = kept.its_own;
       can = kept.can;
       has_left = c.leave-regs.ensures;
-      panic = λ kernel at. c.panic_of-panic.ensures ∙ panic_told old.core ran c.args.cpu kernel kept.can kept.its_own at;
+      panic = c.panic-panic.ensures;
+      others = put_beside old.outgoing.items c.from.result c.args.cpu c.take.new.self c.from.ensures;
     }
