@@ -28,7 +28,8 @@ abbrev pub AreTold : List (List ℕ) → List Regs → Type 0
 AreTold told answers =
     (cpu : ℕ) → cpu < length told → slice_get answers cpu ≡ Some (record { a = slice_index_or told cpu [] })
 
--- of each processor, its last entry of this history stands at the place that is kept; where it has none, no entry of it does
+-- of each processor, its entry at the place that is kept came in with what its last entry of this history came in with, the same
+-- registers and reads; where it has none, with nothing
 pub record IsLastEntry (history : List Event) (places : List ℕ) (cpu : ℕ) : Type 0 where
   pub place : ℕ
   pub kept : slice_get places cpu ≡ Some place
