@@ -38,7 +38,7 @@ same_content Text natives input (variant.Trace a) (variant.Trace b) p q =
 same_content Text natives input (variant.Trace a) (variant.Image b) p q = absurd q
 same_content Text natives input (variant.Image a) other p q = absurd p
 same_content Records natives input (variant.Trace a) (variant.Trace b) p q =
-    ap (λ (t : Trace). variant.Trace t) ((records.meaning natives input).one_trace a b p q)
+    ap (λ (t : Trace). variant.Trace t) ((records.meaning natives input).one_value a b p q)
 same_content Records natives input (variant.Trace a) (variant.Image b) p q = absurd q
 same_content Records natives input (variant.Image a) other p q = absurd p
 same_content Assembler natives input (variant.Image a) (variant.Image b) p q =

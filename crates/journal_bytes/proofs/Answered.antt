@@ -1,5 +1,5 @@
 -- What reading answers, by its loop.
-use Rattle.std.proofs.Common.{◌≡◌, ℕ, suc, ◌+◌, ◌-◌, ◌^◌, ◌<◌, ◌≤◌, Bool, true, false, cond, eqb, List, [], ◌∷◌, length, drop, Option, Some, None, Result, Ok, Err, ◌⊎◌, inl, inr, refl, sym, subst, ap, ◌∙◌, arith}
+use Rattle.std.proofs.Common.{◌≡◌, ℕ, ◌+◌, ◌-◌, ◌^◌, ◌<◌, ◌≤◌, Bool, true, false, cond, eqb, List, [], ◌∷◌, length, drop, Option, Some, None, Result, Ok, Err, ◌⊎◌, inl, inr, refl, sym, subst, ap, ◌∙◌, arith}
 use Rattle.std.specs.Prelude.{IfErr, IfOk, is_some, not, ◌==◌}
 use Rattle.std.proofs.lemmas.Bool.{eqb-true}
 use Rattle.base.proofs.Numbers.{IsBytes}
@@ -7,22 +7,18 @@ use Rattle.ta_isa.specs.declared.boot.Boot.{Boot}
 use Rattle.event_journal.specs.Journal.{copied_bytes}
 use Rattle.trace_text.specs.declared.fault.BadKind.{BadKind}
 use Rattle.trace_text.specs.declared.fault.BadKind.TheVariants as bad
-use Rattle.trace_text.specs.declared.fault.LineFault.{LineFault}
-use Rattle.trace_text.specs.declared.fault.LineFault.TheVariants.{Broken, NoRoom}
 use Rattle.trace_text.specs.declared.fault.TraceFault.{TraceFault}
 use Rattle.trace_text.specs.declared.fault.TraceFault.TheVariants.{Bad, Memory}
-use Rattle.trace_text.specs.Judging.{placed}
 use Rattle.trace_text.specs.Limits.{first_broken}
 use Rattle.trace_text.specs.Sound.{IsSoundBoot}
-use Rattle.trace_bin.specs.Taking.{IsRefused}
 use Rattle.journal_bytes.specs.declared.reading.ReadJournal.{ReadJournal}
 use Rattle.journal_bytes.specs.Record.{end_tag}
 use Rattle.journal_bytes.specs.Recording.{nothing, Told}
 use Rattle.journal_bytes.specs.Rules.{after_record, behind_record, record_rules}
 use Rattle.journal_bytes.specs.Taking.{is_record}
-use Rattle.journal_bytes.specs.Grammar.{fault_at, IsFaultOf, IsFirstFault, IsReadUnlessMemory, IsRefusedUnlessMemory, Leads, magic_fault, Spells, Whole, whole_of}
+use Rattle.journal_bytes.specs.Grammar.{end_fault, fault_at, IsFaultOf, IsFirstFault, IsReadUnlessMemory, IsRefusedUnlessMemory, Leads, magic_fault, Spells, Whole, whole_of}
 use Rattle.journal_bytes.specs.Sound.{IsSoundJournal}
-use Rattle.journal_bytes.proofs.GrammarLaws.{leads_one, not_both, one_fault, one_journal}
+use Rattle.journal_bytes.proofs.GrammarLaws.{not_both, one_fault, one_journal}
 use Rattle.journal_bytes.proofs.SoundRecords.{record_covered, spelled_within}
 use Rattle.journal_bytes.proofs.Shrinks.{shorter}
 
@@ -71,40 +67,15 @@ clauses natives bytes (Err fault) fit few answer = record {
   journal = tt;
 }
 
--- ---- the loop
-
--- so many records less one keep their rules, and the next place is that of what stands behind them
-pub goes_on : (natives : List (List ℕ)) (bytes : List ℕ) (place : ℕ) (before after : Told) (rest behind : List ℕ) → 1 ≤ place → Leads natives nothing (drop 4 bytes) (place - 1) before rest
-    → first_broken (record_rules natives before rest) ≡ None → after ≡ after_record before rest → behind ≡ behind_record rest → Leads natives nothing (drop 4 bytes) (place + 1 - 1) after behind
-goes_on natives bytes place before after rest behind some so_far kept added cut =
-    let C : ℕ → Type 0 = λ n. Leads natives nothing (drop 4 bytes) n after behind in
-    let T : Told → Type 0 = λ t. Leads natives nothing (drop 4 bytes) (suc (place - 1)) t behind in
-    let B : List ℕ → Type 0 = λ b. Leads natives nothing (drop 4 bytes) (suc (place - 1)) (after_record before rest) b in
-    let next : suc (place - 1) ≡ place + 1 - 1 = omega arith in
-    subst C next (subst T (sym added) (subst B (sym cut) (leads_one natives nothing (drop 4 bytes) (place - 1) before rest so_far kept)))
-
+-- where a record stands, its fault is that of what stands there
 no_end : (is_end : Bool) → not is_end ≡ true → is_end ≡ false
 no_end true e = absurd cc
 no_end false e = refl
 
-record_fault : (natives : List (List ℕ)) (before : Told) (rest : List ℕ) (kind : BadKind) → is_record rest ≡ true → first_broken (record_rules natives before rest) ≡ Some kind → fault_at natives before rest ≡ Some kind
-record_fault natives before [] kind here e = absurd cc
-record_fault natives before (tag ∷ body) kind here e = rw (no_end (tag == end_tag) here) e
-
--- a record has a fault, or memory ran out
-pub stops : (natives : List (List ℕ)) (bytes : List ℕ) (place : ℕ) (before : Told) (rest : List ℕ) (fault : LineFault) → magic_fault bytes ≡ None → 1 ≤ place → is_record rest ≡ true → Leads natives nothing (drop 4 bytes) (place - 1) before rest
-    → IsRefused fault (record_rules natives before rest) → IsAnswer natives bytes (Err (placed place fault))
-stops natives bytes place before rest (Broken kind) begins some here so_far broken =
-    let at : place ≡ place - 1 + 1 = omega arith in
-    inr (record { begins = begins; count = place - 1; before = before; rest = rest; kept = so_far; place_is = at; fault = record_fault natives before rest kind here broken })
-stops natives bytes place before rest NoRoom begins some here so_far broken = tt
-
--- a fault of what stands behind the records
-pub ends_badly : (natives : List (List ℕ)) (bytes : List ℕ) (place : ℕ) (before : Told) (rest : List ℕ) (kind : BadKind) → magic_fault bytes ≡ None → 1 ≤ place → Leads natives nothing (drop 4 bytes) (place - 1) before rest → fault_at natives before rest ≡ Some kind
-    → IsFirstFault natives bytes place kind
-ends_badly natives bytes place before rest kind begins some so_far fault =
-    let at : place ≡ place - 1 + 1 = omega arith in
-    inr (record { begins = begins; count = place - 1; before = before; rest = rest; kept = so_far; place_is = at; fault = fault })
+pub record_here : (natives : List (List ℕ)) (before : Told) (rest : List ℕ) → is_record rest ≡ true → fault_at natives before rest ≡ first_broken (record_rules natives before rest)
+record_here natives before [] here = absurd cc
+record_here natives before (tag ∷ body) here =
+    ap (λ (b : Bool). cond b (end_fault before) (first_broken (record_rules natives before (tag ∷ body)))) (no_end (tag == end_tag) here)
 
 -- ---- the end
 

@@ -92,7 +92,7 @@ none_broken true true true false e f g h = absurd cc
 none_broken true true true true e f g h = refl
 
 -- a record that ends behind the bytes, or want of memory
-pub cut_so : (natives : List (List ℕ)) (before : Told) (body : List ℕ) (count : ℕ) (bytes : List ℕ) (fault : LineFault) → IsFront body count bytes → IsCutAt fault count bytes → IsRefused fault (rules_in kind.Entry natives before body)
+pub cut_so : (natives : List (List ℕ)) (before : Told) (body : List ℕ) (count : ℕ) (bytes : List ℕ) (fault : LineFault) → IsFront body count bytes → IsCutAt fault count bytes → IsRefused fault (first_broken (rules_in kind.Entry natives before body))
 unfolding is_whole
 cut_so natives before body count bytes (Broken what) front (none, is_cut) =
     ap (λ (b : Bool). cond (b && is_some (listed_in body)) (first_broken (rules_of kind.Entry natives before body)) (Some bad.Cut)) (le-leb 41 (length body) front.long)

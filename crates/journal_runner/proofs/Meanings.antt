@@ -21,7 +21,7 @@ fault_in_first natives bytes Memory is = tt
 
 module _ (natives : List (List ℕ)) (bytes : List ℕ) where
   same_whole : (one other : Whole) → Spells natives bytes one → Spells natives bytes other → one ≡ other
-  same_whole = (meaning natives bytes).one_journal
+  same_whole = (meaning natives bytes).one_value
 
   -- ---- a journal alone
 

@@ -1,4 +1,5 @@
 pub mod SoundRecords
+pub mod RecordLaws
 pub mod GrammarLaws
 pub mod Lengths
 pub mod Payload

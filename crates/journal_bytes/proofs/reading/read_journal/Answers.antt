@@ -4,19 +4,20 @@ use Rattle.std.proofs.lemmas.List.{nil_from_length}
 use Rattle.trace_text.specs.declared.fault.BadKind.TheVariants as bad
 use Rattle.trace_text.specs.declared.fault.TraceFault.{TraceFault}
 use Rattle.trace_text.specs.declared.fault.TraceFault.TheVariants.{Bad}
-use Rattle.journal_bytes.specs.Grammar.{fault_at}
+use Rattle.trace_bin.proofs.RecordLaws.{ends_badly, goes_on, stops}
+use Rattle.journal_bytes.specs.Grammar.{IsFaultOf, fault_at, journal_records}
 use Rattle.journal_bytes.specs.Recording.{told_by}
 use Rattle.journal_bytes.specs.Rules.{behind_record}
-use Rattle.journal_bytes.proofs.Answered.{clauses, covered_by, end_unbooted, ends_badly, ends_well, fewer, goes_on, IsAnswer, stops}
+use Rattle.journal_bytes.proofs.Answered.{clauses, covered_by, end_unbooted, ends_well, fewer, record_here}
 use Rattle.journal_bytes.proofs.reading.read_journal.Goals as goal
 
 pub returns-in-Err : goal.returns-in-Err
 returns-in-Err c =
-    let A : TraceFault → Type 0 = λ f. IsAnswer c.args.natives.now c.args.bytes.now (Err f) in
+    let A : TraceFault → Type 0 = λ f. IsFaultOf c.args.natives.now c.args.bytes.now f in
     let answer = clauses c.args.natives.now c.args.bytes.now (Err c.at.result) (λ i. omega (arith, c.type_inv.bytes i)) c.requires
     (subst A (sym c.at.ensures)
-    (stops c.args.natives.now c.args.bytes.now c.records.place (told_by c.records.recording) c.records.rest.now c.in-Err.fault (sym c.in_default.ensures.which) c.records.invariant.some (sym c.records-test.ensures) c.records.invariant.so_far
-    c.in-Err.ensures.taken)) in
+    (stops (journal_records c.args.natives.now) c.args.bytes.now c.records.place (told_by c.records.recording) c.records.rest.now c.in-Err.fault (sym c.in_default.ensures.which) c.records.invariant.some c.records.invariant.so_far
+    (record_here c.args.natives.now (told_by c.records.recording) c.records.rest.now (sym c.records-test.ensures)) c.in-Err.ensures.taken)) in
     record { found = answer.found; only = answer.only; bad = answer.bad; refused = answer.refused; boot = answer.boot; journal = answer.journal }
 
 pub records-smaller : goal.records-smaller
@@ -32,7 +33,7 @@ records-preserved c =
     record {
       some = omega arith;
       so_far =
-          goes_on c.args.natives.now c.args.bytes.now c.records.place (told_by c.records.recording) (told_by c.take_record.new.recording) c.records.rest.now c.in-Ok.after.now c.records.invariant.some c.records.invariant.so_far
+          goes_on (journal_records c.args.natives.now) c.args.bytes.now c.records.place (told_by c.records.recording) (told_by c.take_record.new.recording) c.records.rest.now c.in-Ok.after.now c.records.invariant.some c.records.invariant.so_far
           c.in-Ok.ensures.taken.0 c.in-Ok.ensures.taken.1 c.in-Ok.ensures.rest;
       header = c.in-Ok.ensures.header;
       few = omega (arith, c.records.invariant.few, less, long);
@@ -43,7 +44,7 @@ pub returns-then-is_empty : goal.returns-then-is_empty
 returns-then-is_empty c =
     let none : c.records.rest.now ≡ [] = nil_from_length c.records.rest.now (eqb-true (length c.records.rest.now) 0 (sym c.if-is_empty.ensures)) in
     let answer = clauses c.args.natives.now c.args.bytes.now (Err (Bad c.records.place bad.Cut)) (λ i. omega (arith, c.type_inv.bytes i)) c.requires
-    (ends_badly c.args.natives.now c.args.bytes.now c.records.place (told_by c.records.recording) c.records.rest.now bad.Cut (sym c.in_default.ensures.which) c.records.invariant.some c.records.invariant.so_far
+    (ends_badly (journal_records c.args.natives.now) c.args.bytes.now c.records.place (told_by c.records.recording) c.records.rest.now bad.Cut (sym c.in_default.ensures.which) c.records.invariant.some c.records.invariant.so_far
     (ap (λ (r : List ℕ). fault_at c.args.natives.now (told_by c.records.recording) r) none)) in
     record { found = answer.found; only = answer.only; bad = answer.bad; refused = answer.refused; boot = answer.boot; journal = answer.journal }
 
@@ -58,6 +59,6 @@ returns-in-Ok-finish c =
 pub returns-in-Err-finish : goal.returns-in-Err-finish
 returns-in-Err-finish c =
     let answer = clauses c.args.natives.now c.args.bytes.now (Err (Bad c.records.place c.in-Err-finish.kind)) (λ i. omega (arith, c.type_inv.bytes i)) c.requires
-    (ends_badly c.args.natives.now c.args.bytes.now c.records.place (told_by c.records.recording) c.records.rest.now c.in-Err-finish.kind (sym c.in_default.ensures.which) c.records.invariant.some c.records.invariant.so_far
+    (ends_badly (journal_records c.args.natives.now) c.args.bytes.now c.records.place (told_by c.records.recording) c.records.rest.now c.in-Err-finish.kind (sym c.in_default.ensures.which) c.records.invariant.some c.records.invariant.so_far
     (end_unbooted c.args.natives.now (told_by c.records.recording) c.records.rest.now c.in-Err-finish.kind (sym c.records-test.ensures) (sym c.if-is_empty.ensures) c.in-Err-finish.ensures.0 c.in-Err-finish.ensures.1)) in
     record { found = answer.found; only = answer.only; bad = answer.bad; refused = answer.refused; boot = answer.boot; journal = answer.journal }
