@@ -1,6 +1,5 @@
 -- From what was answered to the play that was printed.
 use Rattle.std.proofs.Common.{◌≡◌, ℕ, ◌^◌, ◌≤◌, ◌⊎◌, inl, inr, List, [], Option, Some, None, refl, subst}
-use Rattle.std.specs.Prelude.{IfSome}
 use Rattle.std.specs.Option.{option_and_then, option_map}
 use Rattle.kernel_model.specs.Application.{IsBooted, Native, booted}
 use Rattle.made_play.specs.Summary.{made_play, summary_of, summary_of_play}
@@ -15,22 +14,20 @@ use Rattle.ta_isa.specs.declared.image.Image.{Image}
 use Rattle.trace_text.specs.declared.trace.Trace.{Trace}
 use Rattle.workload.specs.Work.{made_boot, made_trace}
 use Rattle.journal_runner.specs.Known.{CanBootWith}
-use Rattle.alone_runner.specs.Content.{CanBePlayed, Spells, text_for}
+use Rattle.alone_runner.specs.Content.{CanBePlayed, IsTooLarge, Spells, refused_for, text_for}
 use Rattle.trace_player.specs.Refused.{refused_by}
 use Rattle.alone_runner.specs.Plays.{IsPlayed, IsPrinted, IsPrintedBy, IsSummedUp, IsUnplayed, Plays, SpellsTraces}
 use Rattle.alone_runner.specs.Run.{Worked, reading}
-use Rattle.word_parts.specs.Keeping.{Keeps}
-use Rattle.word_parts.specs.Word.{IsServedBy, Ran}
+use Rattle.word_parts.specs.Word.{Ran}
 use Rattle.trace_player.specs.Starting.{uuids_of}
 use Rattle.word_parts.specs.Answer.{Writes, status_of_play}
-use Rattle.word_parts.specs.Line.{bad_trace_line}
 use Rattle.alone_runner.specs.declared.content.Content.{Content}
 use Rattle.alone_runner.specs.declared.content.Content.TheVariants as content
 use Rattle.alone_runner.specs.declared.command.Grammar.{Grammar}
 use Rattle.alone_runner.specs.declared.command.Grammar.TheVariants.{Text, Records, Assembler}
 use Rattle.word_parts.specs.declared.status.Status.{Status}
-use Rattle.word_parts.specs.declared.status.Status.TheVariants.{BadTrace, ReadFault, WriteFault, Memory, TooLong}
 use Rattle.word_parts.specs.declared.status.Status.TheVariants as status
+use Rattle.word_parts.proofs.Ended.{IsUnserved, WasServed, ran-served, ran-served-or-not}
 use Rattle.word_parts.proofs.Worded.{some-and}
 use Rattle.word_parts.proofs.Answering.{writes-named}
 
@@ -63,18 +60,6 @@ printed-by natives trace result text old new (Some boot) boots is same put =
 
 -- ---- an input
 
--- the status is none at which a text may be cut short
-record IsWhole (result : Status) : Type 0 where
-  no_read : result ≡ ReadFault → ⊥
-  no_write : result ≡ WriteFault → ⊥
-  no_want : result ≡ Memory → ⊥
-  no_fault : result ≡ BadTrace → ⊥
-
--- an input was played, or it was too much to be played
-abbrev WasPlayed : Grammar → List Native → List ℕ → Status → Option (List ℕ) → Option (List ℕ) → Type 0
-WasPlayed grammar natives input result old new =
-    ((result ≡ TooLong) × IsUnplayed grammar natives input) ⊎ IsPlayed grammar natives input result old new
-
 no_image : (grammar : Grammar) (natives : List (List ℕ)) (input : List ℕ) (image : Image) → SpellsTraces grammar
     → Spells grammar natives input (content.Image image) → ⊥
 no_image Text natives input image traces spelled = spelled
@@ -82,79 +67,48 @@ no_image Records natives input image traces spelled = spelled
 no_image Assembler natives input image traces spelled = traces
 
 served-played : (grammar : Grammar) (natives : List Native) (input : List ℕ) (content : Content) (result : Status)
-    (old new : Option (List ℕ)) → SpellsTraces grammar → IsWhole result
-    → Spells grammar (uuids_of natives) input content → CanBePlayed natives content
-    → IsServedBy (reading grammar natives) content result old new → WasPlayed grammar natives input result old new
-served-played grammar natives input (content.Image image) result old new traces whole spelled can served =
+    (text : List ℕ) (old new : Option (List ℕ)) → SpellsTraces grammar → Spells grammar (uuids_of natives) input content
+    → (IsTooLarge content → ⊥) → CanBePlayed natives content → text_for natives content ≡ Some text
+    → result ≡ status_of_play (refused_for natives content) → Appends old new text
+    → IsPlayed grammar natives input result old new
+served-played grammar natives input (content.Image image) result text old new traces spelled few can is same put =
     absurd (no_image grammar (uuids_of natives) input image traces spelled)
-served-played grammar natives input (content.Trace trace) result old new traces whole spelled can (inl many) =
-    inl (many.1, inr (trace, spelled, many.0))
-served-played grammar natives input (content.Trace trace) result old new traces whole spelled can (inr (few, inl want)) =
-    absurd (whole.no_want want.0)
-served-played grammar natives input (content.Trace trace) result old new traces whole spelled can (inr (few, inr plays)) =
-    let text = some-and _ (text_for natives (content.Trace trace)) plays in
-    let put = writes-named _ text.0 result old new text.2 whole.no_write whole.no_want in
-    inr (record {
-      trace = trace;
-      spelled = spelled;
-      few = few;
-      printed = printed-by natives trace result text.0 old new trace.boot can text.1 put.0 put.1;
-    })
+served-played grammar natives input (content.Trace trace) result text old new traces spelled few can is same put = record {
+  trace = trace;
+  spelled = spelled;
+  few = few;
+  printed = printed-by natives trace result text old new trace.boot can is same put;
+}
 
-ran-played : (grammar : Grammar) (natives : List Native) (input : List ℕ) (left : Option (List ℕ)) (result : Status)
-    (old new : Option (List ℕ)) → SpellsTraces grammar → IsWhole result
-    → Ran (reading grammar natives) input left result old new → WasPlayed grammar natives input result old new
-ran-played grammar natives input left result old new traces whole (inl ((inl fault), nothing)) =
-    absurd (whole.no_read fault)
-ran-played grammar natives input left result old new traces whole (inl ((inr want), nothing)) =
-    absurd (whole.no_want want)
-ran-played grammar natives input left result old new traces whole (inr (inl long)) = inl (long.0, inl long.1)
-ran-played grammar natives input left result old new traces whole (inr (inr (short, ended, inl want))) =
-    absurd (whole.no_want want.0)
-ran-played grammar natives input left result old new traces whole (inr (inr (short, ended, inr (inl refused)))) =
-    let put = writes-named BadTrace (bad_trace_line refused.place refused.kind) result old new refused.line
-    whole.no_write whole.no_want in
-    absurd (whole.no_fault put.0)
-ran-played grammar natives input left result old new traces whole (inr (inr (short, ended, inr (inr served)))) =
-    served-played grammar natives input served.content result old new traces whole served.spelled served.known
-    served.served
+-- what was served is what was played
+was-played : (grammar : Grammar) (natives : List Native) (input : List ℕ) (result : Status) (old new : Option (List ℕ))
+    → SpellsTraces grammar → WasServed (reading grammar natives) input result old new
+    → IsPlayed grammar natives input result old new
+was-played grammar natives input result old new traces served =
+    served-played grammar natives input served.content result served.text old new traces served.spelled served.few served.known
+    served.is_text served.stands_for served.put
 
-ran-plays : (grammar : Grammar) (natives : List Native) (input : List ℕ) (left : Option (List ℕ)) (result : Status)
+-- or it was too much to be played
+was-unplayed : (grammar : Grammar) (natives : List Native) (input : List ℕ) → SpellsTraces grammar
+    → IsUnserved (reading grammar natives) input → IsUnplayed grammar natives input
+was-unplayed grammar natives input traces (inl long) = inl long
+was-unplayed grammar natives input traces (inr (content.Trace trace, spelled, many)) = inr (trace, spelled, many)
+was-unplayed grammar natives input traces (inr (content.Image image, spelled, many)) = absurd many
+
+-- what a call that keeps to the word shows
+pub ran-plays : (grammar : Grammar) (natives : List Native) (input : List ℕ) (left : Option (List ℕ)) (result : Status)
     (old new : Option (List ℕ)) → SpellsTraces grammar → Ran (reading grammar natives) input left result old new
     → Plays grammar natives input result old new
 ran-plays grammar natives input left result old new traces ran = record {
-  ok = λ e. ok-played e (ran-played grammar natives input left result old new traces (record {
-    no_read = λ f. absurd cc;
-    no_write = λ f. absurd cc;
-    no_want = λ f. absurd cc;
-    no_fault = λ f. absurd cc;
-  }) ran);
-  too_long = λ e. long-played (ran-played grammar natives input left result old new traces (record {
-    no_read = λ f. absurd cc;
-    no_write = λ f. absurd cc;
-    no_want = λ f. absurd cc;
-    no_fault = λ f. absurd cc;
-  }) ran);
+  ok = λ e. was-played grammar natives input result old new traces
+      (ran-served (reading grammar natives) input left result old new ran e);
+  too_long = λ e. by_end (ran-served-or-not (reading grammar natives) input left result old new ran e);
 }
   where
-    ok-played : result ≡ status.Ok → WasPlayed grammar natives input result old new
-        → IsPlayed grammar natives input result old new
-    ok-played e (inl unplayed) = let long = unplayed.0 in absurd cc
-    ok-played e (inr played) = played
-
-    long-played : WasPlayed grammar natives input result old new
+    by_end : IsUnserved (reading grammar natives) input ⊎ WasServed (reading grammar natives) input result old new
         → IsUnplayed grammar natives input ⊎ IsPlayed grammar natives input result old new
-    long-played (inl unplayed) = inl unplayed.1
-    long-played (inr played) = inr played
-
--- over an input that the source tells
-pub kept-plays : (grammar : Grammar) (natives : List Native) (told left : Option (List ℕ)) (result : Status)
-    (old new : Option (List ℕ)) (no_fault : Type 0) → SpellsTraces grammar
-    → IfSome told (λ input. Keeps (reading grammar natives) input left result old new no_fault)
-    → IfSome told (λ input. Plays grammar natives input result old new)
-kept-plays grammar natives (Some input) left result old new no_fault traces kept =
-    ran-plays grammar natives input left result old new traces kept.ran
-kept-plays grammar natives None left result old new no_fault traces kept = tt
+    by_end (inl unserved) = inl (was-unplayed grammar natives input traces unserved)
+    by_end (inr served) = inr (was-played grammar natives input result old new traces served)
 
 -- ---- a made trace
 

@@ -1,5 +1,5 @@
 -- What an input spells is one thing, in each grammar, and words ask for one command.
-use Rattle.std.proofs.Common.{◌≡◌, ℕ, ◌^◌, ◌<◌, List, [], get_or, ap, refl, sym, ◌∙◌, arith}
+use Rattle.std.proofs.Common.{◌≡◌, ℕ, ◌^◌, ◌<◌, List, [], get_or, ap, subst, sym, ◌∙◌, arith}
 use Rattle.std.specs.Prelude.{String, codes, if◌then◌else◌, map, string_bytes}
 use Rattle.std.specs.Fmt.{decimal}
 use Rattle.std.specs.Str.{bytes_eq}
@@ -124,23 +124,10 @@ same_command texts one other p q =
 pub one_command : (words : List (String Global)) (one other : Command) → Asks words one → Asks words other → one ≡ other
 one_command words one other p q = same_command (map string_bytes words) one other p q
 
--- so the grammar is one, or what is compared, or the seed and the number of calls
-pub one_grammar : (words : List (String Global)) (one other : Grammar) → Asks words (Serve one) → Asks words (Serve other)
-    → one ≡ other
-one_grammar words one other p q = let same = one_command words (Serve one) (Serve other) p q in cc
-
-pub one_subject : (words : List (String Global)) (one other : Subject) → Asks words (Compare one) → Asks words (Compare other)
-    → one ≡ other
-one_subject words one other p q = let same = one_command words (Compare one) (Compare other) p q in cc
-
-pub one_work : (words : List (String Global)) (s n t m : ℕ) → Asks words (Work s n) → Asks words (Work t m)
-    → (s ≡ t) × (n ≡ m)
-one_work words s n t m p q = let same = one_command words (Work s n) (Work t m) p q in (cc, cc)
-
--- words that ask for one command ask for no other
-pub no_other : {X : Type 0} (words : List (String Global)) (one other : Command) → (one ≡ other → ⊥) → Asks words one
-    → Asks words other → X
-no_other words one other differ p q = absurd (differ (one_command words one other p q))
+-- so what the one comes to they come to, whatever they ask for
+pub does_asked : (words : List (String Global)) (Does : Command → Type 0) (one : Command) → Asks words one → Does one
+    → (command : Command) → Asks words command → Does command
+does_asked words Does one asked does command asks = subst Does (one_command words one command asked asks) does
 
 -- `threads` asks for nothing else
 pub threads_alone : (texts : List (List ℕ)) (other : Command) → Say texts Threads → Say texts other → other ≡ Threads

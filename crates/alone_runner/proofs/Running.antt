@@ -1,23 +1,26 @@
 -- From what was read, played and answered to what the top call says.
 use Rattle.std.proofs.Common.{◌≡◌, ℕ, ◌^◌, ◌≤◌, ◌⊎◌, inl, inr, List, [], Option, Some, None, refl, sym, ap, subst}
-use Rattle.std.specs.Prelude.{IfSome, IsSomeAnd, Ok}
+use Rattle.std.specs.Prelude.{IsSomeAnd, Ok}
 use Rattle.std.specs.Option.{option_map}
 use Rattle.kernel_model.specs.Application.{Native}
 use Rattle.play_model.specs.Play.{Play}
 use Rattle.play_model.specs.Text.{text_by}
-use Rattle.ports.specs.Port.{Appends}
+use Rattle.ports.specs.Port.{Appends, Rose}
 use Rattle.trace_text.specs.declared.trace.Trace.{Trace}
 use Rattle.made_play.specs.Summary.{made_play, summary_of, summary_of_play}
 use Rattle.made_play.proofs.Ends.{law as made_plays_end}
 use Rattle.trace_player.specs.Refused.{refused_by}
 use Rattle.word_parts.specs.Answer.{Writes}
+use Rattle.word_parts.specs.Call.{Call}
 use Rattle.word_parts.specs.Output.{AppendsPart}
 use Rattle.word_parts.proofs.Answering.{is-short, writes-named, writes-part, writes-whole}
 use Rattle.word_parts.proofs.Worded.{some-and}
 use Rattle.word_parts.specs.declared.status.Status.{Status}
 use Rattle.word_parts.specs.declared.status.Status.TheVariants.{WriteFault, Memory}
 use Rattle.word_parts.specs.declared.status.Status.TheVariants as status
+use Rattle.alone_runner.specs.Commands.{SumsUp}
 use Rattle.alone_runner.specs.Run.{IsToldOf, WorkStatuses, Worked, WritesSummary}
+use Rattle.alone_runner.proofs.Plays.{worked-plays}
 
 -- ---- playing
 
@@ -28,11 +31,6 @@ told-none natives trace old new is put = (
   ap (refused_by natives trace) is,
   subst (λ (o : Option (List ℕ)). IsSomeAnd o (Appends old new)) (sym (ap (text_by natives trace) is)) put,
 )
-
--- two facts of what a source tells are one
-pub both-some : {X : Type 0} (o : Option X) (P Q : X → Type 0) → IfSome o P → IfSome o Q → IfSome o (λ x. P x × Q x)
-both-some (Some x) P Q p q = (p, q)
-both-some None P Q p q = tt
 
 -- ---- made traces
 
@@ -81,3 +79,14 @@ worked-whole seed count result old new no_fault (inr worked) =
     by_end text is (inl whole) =
         inl (whole.0, subst (λ (o : Option (List ℕ)). IsSomeAnd o (Appends old new)) (sym is) whole.1)
     by_end text is (inr want) = inr want
+
+-- all of that
+pub sums-up : (seed count : ℕ) (call : Call) → count ≤ 2 ^ 16 → (call.result ≡ WriteFault → Rose call.sink_old call.sink_new)
+    → Worked seed count call.result call.old call.new → SumsUp seed count call
+sums-up seed count call few failed worked = record {
+  worked = worked;
+  statuses = worked-statuses seed count call.result call.old call.new few worked;
+  plays = λ ok. worked-plays seed count call.old call.new few
+      (subst (λ (s : Status). Worked seed count s call.old call.new) ok worked);
+  complete = λ quiet. worked-whole seed count call.result call.old call.new (λ e. quiet (failed e)) worked;
+}

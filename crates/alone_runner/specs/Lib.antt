@@ -5,3 +5,4 @@ pub mod Run
 pub mod Plays
 pub mod Counts
 pub mod Digesting
+pub mod Commands

@@ -14,7 +14,7 @@ use Rattle.word_parts.specs.declared.stop.Stop.{Stop}
 use Rattle.word_parts.specs.declared.status.Status.{Status}
 use Rattle.word_parts.specs.declared.status.Status.TheVariants.{WriteFault, Memory}
 use Rattle.word_parts.specs.declared.status.Status.TheVariants as status
-use Rattle.alone_runner.specs.Content.{CanBePlayed, IsFirstFault, IsTooLarge, Spells, refused_for, text_for}
+use Rattle.alone_runner.specs.Content.{CanBePlayed, IsFirstFault, IsSoundContent, IsTooLarge, Spells, refused_for, text_for}
 use Rattle.alone_runner.specs.declared.command.Grammar.{Grammar}
 use Rattle.alone_runner.specs.declared.content.Content.{Content}
 
@@ -35,6 +35,12 @@ reading grammar natives = record {
   text_for = text_for natives;
   refused_for = refused_for natives;
 }
+
+-- the input spells this, which is within its limits and can be played
+pub record WasRead (grammar : Grammar) (natives : List Native) (input : List ℕ) (content : Content) : Type 0 where
+  pub spelled : Spells grammar (uuids_of natives) input content
+  pub sound : IsSoundContent (uuids_of natives) content
+  pub can : CanBePlayed natives content
 
 -- what a play of the trace that stopped so, or didn't, has written
 abbrev pub IsToldOf : List Native → Trace → Result (Unit {0}) Stop → Option (List ℕ) → Option (List ℕ) → Type 0

@@ -1,12 +1,12 @@
 -- From what was read, played and answered to what the word says of it.
 use Rattle.std.proofs.Common.{◌≡◌, ℕ, ◌≤◌, inl, inr, List, [], length, Option, Some, None, refl, sym, subst}
-use Rattle.std.specs.Prelude.{◌⊎◌, IfNone, IfSome}
+use Rattle.std.specs.Prelude.{◌⊎◌, Err, IfErr, IfNone, IfOk, IfSome, Ok, Result}
 use Rattle.std.specs.Option.{option_and_then, option_map}
 use Rattle.client_play.proofs.OfTraces.{plays_are_of_traces}
 use Rattle.client_play.proofs.Told.{results_are_told_alone}
-use Rattle.client_play.specs.Played.{ClientPlay, played, stopped_by, text_by, text_of, text_of_play}
+use Rattle.client_play.specs.Played.{ClientPlay, played, stopped_by, text_by, text_of_play}
 use Rattle.client_text.proofs.Meanings.{every_text}
-use Rattle.client_text.specs.Grammar.{Spells}
+use Rattle.client_text.specs.Grammar.{IsFaultOf as IsFaultOfText, IsFirstFault, Spells}
 use Rattle.client_text.specs.Sound.{IsClientBoot, IsSoundScript}
 use Rattle.client_text.specs.declared.script.Script.{Script}
 use Rattle.kernel_model.specs.Application.{IsBooted, Native, booted}
@@ -14,16 +14,14 @@ use Rattle.ports.specs.Port.{Appends}
 use Rattle.ta_isa.specs.declared.boot.Boot.{Boot}
 use Rattle.trace_player.proofs.Booting.{AreApart, sound_boots}
 use Rattle.trace_player.specs.Starting.{uuids_of}
-use Rattle.word_parts.proofs.Answering.{writes-named}
-use Rattle.word_parts.proofs.Worded.{some-and}
+use Rattle.trace_text.specs.declared.fault.TraceFault.{TraceFault}
+use Rattle.trace_text.specs.declared.fault.TraceFault.TheVariants.{Bad}
+use Rattle.trace_text.specs.declared.fault.TraceFault.TheVariants as fault
+use Rattle.word_parts.proofs.Ended.{IsUnserved, WasServed, ran-served, ran-served-or-not}
 use Rattle.word_parts.specs.Answer.{status_of_play}
-use Rattle.word_parts.specs.Keeping.{Keeps}
-use Rattle.word_parts.specs.Line.{bad_trace_line}
-use Rattle.word_parts.specs.Word.{HasOneMeaning, IsServedBy, Ran}
+use Rattle.word_parts.specs.Word.{HasOneMeaning, IsFaultOf, Ran}
 use Rattle.word_parts.specs.declared.status.Status.{Status}
-use Rattle.word_parts.specs.declared.status.Status.TheVariants.{BadTrace, ReadFault, WriteFault, Memory, TooLong}
-use Rattle.word_parts.specs.declared.status.Status.TheVariants as status
-use Rattle.client_runner.specs.Client.{CanBePlayed, client_word}
+use Rattle.client_runner.specs.Client.{CanBePlayed, WasRead, client_word}
 use Rattle.client_runner.specs.Scripts.{IsPrinted, IsPrintedBy, IsUnplayed, PlaysScripts, WasPlayed}
 
 -- ---- reading
@@ -86,76 +84,48 @@ printed_by natives script result text old new (Some boot) sound has none boots i
 
 -- ---- an input
 
--- the status is none at which a text may be cut short
-record IsWhole (result : Status) : Type 0 where
-  no_read : result ≡ ReadFault → ⊥
-  no_write : result ≡ WriteFault → ⊥
-  no_want : result ≡ Memory → ⊥
-  no_fault : result ≡ BadTrace → ⊥
-
--- an input was played, or it was too much to be played
-abbrev WasDone : List Native → List ℕ → Status → Option (List ℕ) → Option (List ℕ) → Type 0
-WasDone natives input result old new =
-    ((result ≡ TooLong) × IsUnplayed natives input) ⊎ WasPlayed natives input result old new
-
-served_done : (natives : List Native) (input : List ℕ) (script : Script) (result : Status) (old new : Option (List ℕ))
-    → IsWhole result → Spells (uuids_of natives) input script → CanBePlayed natives script
-    → IsServedBy (client_word natives) script result old new → WasDone natives input result old new
-served_done natives input script result old new whole spelled can (inl many) = inl (many.1, inr (script, spelled, many.0))
-served_done natives input script result old new whole spelled can (inr (few, inl want)) = absurd (whole.no_want want.0)
-served_done natives input script result old new whole spelled can (inr (few, inr plays)) =
-    let text = some-and _ (text_of natives script) plays in
-    let put = writes-named _ text.0 result old new text.2 whole.no_write whole.no_want in
-    inr (record {
+-- what was served is what was played
+served_played : (natives : List Native) (input : List ℕ) (result : Status) (old new : Option (List ℕ))
+    → WasServed (client_word natives) input result old new → WasPlayed natives input result old new
+served_played natives input result old new served =
+    let script = served.content in
+    let can = served.known in
+    record {
       script = script;
-      spelled = spelled;
-      few = few;
-      printed = printed_by natives script result text.0 old new script.boot can.sound refl can.sound.no_boot can.boots text.1
-          put.0 put.1;
-    })
+      spelled = served.spelled;
+      few = served.few;
+      printed = printed_by natives script result served.text old new script.boot can.sound refl can.sound.no_boot can.boots
+          served.is_text served.stands_for served.put;
+    }
 
-ran_done : (natives : List Native) (input : List ℕ) (left : Option (List ℕ)) (result : Status) (old new : Option (List ℕ))
-    → IsWhole result → Ran (client_word natives) input left result old new → WasDone natives input result old new
-ran_done natives input left result old new whole (inl ((inl fault), nothing)) = absurd (whole.no_read fault)
-ran_done natives input left result old new whole (inl ((inr want), nothing)) = absurd (whole.no_want want)
-ran_done natives input left result old new whole (inr (inl long)) = inl (long.0, inl long.1)
-ran_done natives input left result old new whole (inr (inr (short, ended, inl want))) = absurd (whole.no_want want.0)
-ran_done natives input left result old new whole (inr (inr (short, ended, inr (inl refused)))) =
-    let put = writes-named BadTrace (bad_trace_line refused.place refused.kind) result old new refused.line
-    whole.no_write whole.no_want in
-    absurd (whole.no_fault put.0)
-ran_done natives input left result old new whole (inr (inr (short, ended, inr (inr served)))) =
-    served_done natives input served.content result old new whole served.spelled served.known served.served
-
-ran_plays : (natives : List Native) (input : List ℕ) (left : Option (List ℕ)) (result : Status) (old new : Option (List ℕ))
+-- what a call that keeps to the word shows
+pub ran_plays : (natives : List Native) (input : List ℕ) (left : Option (List ℕ)) (result : Status) (old new : Option (List ℕ))
     → Ran (client_word natives) input left result old new → PlaysScripts natives input result old new
 ran_plays natives input left result old new ran = record {
-  ok = λ e. ok_done e (ran_done natives input left result old new (record {
-    no_read = λ f. absurd cc;
-    no_write = λ f. absurd cc;
-    no_want = λ f. absurd cc;
-    no_fault = λ f. absurd cc;
-  }) ran);
-  too_long = λ e. long_done (ran_done natives input left result old new (record {
-    no_read = λ f. absurd cc;
-    no_write = λ f. absurd cc;
-    no_want = λ f. absurd cc;
-    no_fault = λ f. absurd cc;
-  }) ran);
+  ok = λ e. served_played natives input result old new (ran-served (client_word natives) input left result old new ran e);
+  too_long = λ e. by_end (ran-served-or-not (client_word natives) input left result old new ran e);
 }
   where
-    ok_done : result ≡ status.Ok → WasDone natives input result old new → WasPlayed natives input result old new
-    ok_done e (inl undone) = let long = undone.0 in absurd cc
-    ok_done e (inr done) = done
-
-    long_done : WasDone natives input result old new
+    by_end : IsUnserved (client_word natives) input ⊎ WasServed (client_word natives) input result old new
         → IsUnplayed natives input ⊎ WasPlayed natives input result old new
-    long_done (inl undone) = inl undone.1
-    long_done (inr done) = inr done
+    by_end (inl unserved) = inl unserved
+    by_end (inr served) = inr (served_played natives input result old new served)
 
--- over an input that the source tells
-pub kept_plays : (natives : List Native) (told left : Option (List ℕ)) (result : Status) (old new : Option (List ℕ))
-    (no_fault : Type 0) → IfSome told (λ input. Keeps (client_word natives) input left result old new no_fault)
-    → IfSome told (λ input. PlaysScripts natives input result old new)
-kept_plays natives (Some input) left result old new no_fault kept = ran_plays natives input left result old new kept.ran
-kept_plays natives None left result old new no_fault kept = tt
+-- ---- reading and serving
+
+-- what was read beside built-in applications of these UUIDs can be played
+pub was_read : (natives : List Native) (uuids : List (List ℕ)) (input : List ℕ) (read : Result Script TraceFault)
+    → uuids ≡ uuids_of natives → length uuids ≤ 16 → AreApart uuids → IfOk read (λ script. Spells uuids input script)
+    → IfOk read (IsSoundScript uuids) → IfOk read (WasRead natives input)
+was_read natives uuids input (Ok script) same few apart spelled sound = record {
+  spelled = subst (λ (us : List (List ℕ)). Spells us input script) same spelled;
+  can = can_be_played natives uuids script same few apart sound;
+}
+was_read natives uuids input (Err fault) same few apart spelled sound = tt
+
+pub was_refused : (natives : List Native) (uuids : List (List ℕ)) (input : List ℕ) (read : Result Script TraceFault)
+    → uuids ≡ uuids_of natives → IfErr read (IsFaultOfText uuids input) → IfErr read (IsFaultOf (client_word natives) input)
+was_refused natives uuids input (Ok script) same bad = tt
+was_refused natives uuids input (Err (Bad place kind)) same bad =
+    subst (λ (us : List (List ℕ)). IsFirstFault us input place kind) same bad
+was_refused natives uuids input (Err fault.Memory) same bad = tt

@@ -1,5 +1,5 @@
 -- What the word answers, and what it has written.
-use Rattle.std.specs.Prelude.{List, IfSome}
+use Rattle.std.specs.Prelude.{ℕ, List, IfSome}
 use Rattle.client_play.specs.Played.{HasTooManyCalls, stopped_in, text_of}
 use Rattle.client_text.specs.Grammar.{IsFirstFault, Spells}
 use Rattle.client_text.specs.Sound.{IsSoundScript}
@@ -12,6 +12,11 @@ use Rattle.word_parts.specs.Word.{Word}
 pub record CanBePlayed (natives : List Native) (script : Script) : Type 0 where
   pub sound : IsSoundScript (uuids_of natives) script
   pub boots : IfSome script.boot (λ boot. IsBooted (booted boot natives))
+
+-- the input spells this, which can be played
+pub record WasRead (natives : List Native) (input : List ℕ) (script : Script) : Type 0 where
+  pub spelled : Spells (uuids_of natives) input script
+  pub can : CanBePlayed natives script
 
 -- what an input spells, beside built-in applications, and what is written for it
 abbrev pub client_word : List Native → Word

@@ -16,4 +16,4 @@ mod playing;
 mod sessions;
 mod word;
 
-pub use word::client;
+pub use word::Client;

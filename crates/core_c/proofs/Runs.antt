@@ -1,8 +1,7 @@
 -- From the clauses of the top call to what a call over memory comes to.
-use Rattle.std.proofs.Common.{◌≡◌, ℕ, ◌⊎◌, inl, inr, Bool, false, List, [], Option, Some, None, refl, sym, subst, arith}
+use Rattle.std.proofs.Common.{◌≡◌, ℕ, inl, inr, Bool, false, List, [], Option, Some, None, refl, sym, subst, arith}
 use Rattle.std.specs.Prelude.{◌↔◌, IsTrue}
 use Rattle.client_runner.specs.Client.{client_word}
-use Rattle.client_runner.specs.Scripts.{PlaysScripts}
 use Rattle.compare_model.specs.declared.subject.Subject.{Subject}
 use Rattle.ports.specs.Port.{Appends, Rose}
 use Rattle.journal_runner.specs.Auditing.{auditing}
@@ -10,22 +9,21 @@ use Rattle.journal_runner.specs.Audits.{Audits}
 use Rattle.journal_runner.specs.Compares.{Compares}
 use Rattle.journal_runner.specs.Comparing.{comparing}
 use Rattle.journal_runner.specs.Recording.{recording}
-use Rattle.journal_runner.specs.Records.{Records}
-use Rattle.notify_runner.specs.Notified.{Notifies}
 use Rattle.notify_runner.specs.Run.{notifying}
 use Rattle.alone_runner.proofs.Readings.{not_serve, not_work, threads_alone}
 use Rattle.alone_runner.proofs.Running.{worked-statuses}
-use Rattle.alone_runner.specs.Plays.{IsSummedUp, Plays, SpellsTraces}
-use Rattle.alone_runner.specs.Run.{WorkStatuses, Worked, WritesSummary, reading, usage_line}
+use Rattle.alone_runner.specs.Commands.{DoesAlone}
+use Rattle.alone_runner.specs.Run.{reading, usage_line}
 use Rattle.word_parts.specs.Keeping.{Keeps}
 use Rattle.word_parts.specs.Word.{Word}
 use Rattle.word_parts.specs.Answer.{Writes}
+use Rattle.word_parts.specs.BuiltIn.{BuiltIn}
+use Rattle.word_parts.specs.Call.{Call}
 use Rattle.alone_runner.specs.Words.{Say, SayNothing}
+use Rattle.alone_runner.specs.declared.command.Command.{Command}
 use Rattle.alone_runner.specs.declared.command.Command.TheVariants.{Audit, Client, Compare, Notify, Record, Serve, Threads, Work}
-use Rattle.alone_runner.specs.declared.command.Grammar.{Grammar}
 use Rattle.word_parts.specs.declared.status.Status.{Status}
 use Rattle.word_parts.specs.declared.status.Status.TheVariants.{Memory, ReadFault, Usage, WriteFault}
-use Rattle.word_parts.specs.declared.status.Status.TheVariants as status
 use Rattle.native_tas.specs.Program.{program_drivers, program_entries}
 use Rattle.core_c.specs.Running.{AskNothing, Drivers, IsRun, Native}
 
@@ -33,36 +31,28 @@ use Rattle.core_c.specs.Running.{AskNothing, Drivers, IsRun, Native}
 pub quiet : Rose 0 0 → ⊥
 quiet rose = grind arith
 
--- the clauses of the top call without threads, where its ports count none
-pub record Clauses (natives : List Native) (drivers : Drivers) (texts : List (List ℕ)) (input : List ℕ) (left : Option (List ℕ))
-    (result : Status) (old new : Option (List ℕ)) : Type 0 where
+-- a call over these bytes, whose ports count none
+abbrev pub memory_call : List ℕ → Option (List ℕ) → Status → List ℕ → List ℕ → Call
+memory_call input left result held output = record {
+  result = result;
+  told = Some input;
+  left = left;
+  old = Some held;
+  new = Some output;
+  source_old = 0;
+  source_new = 0;
+  sink_old = 0;
+  sink_new = 0;
+}
+
+-- the clauses of the top call without threads
+pub record Clauses (built : BuiltIn) (texts : List (List ℕ)) (call : Call) : Type 0 where
   pub alone : Say texts Threads → ⊥
-  pub usage : result ≡ Usage → SayNothing texts × Appends old new usage_line
-  pub other_words : SayNothing texts → Writes Usage usage_line result old new
-  pub serves : (grammar : Grammar) → Say texts (Serve grammar)
-      → Keeps (reading grammar natives) input left result old new ((Rose 0 0 → ⊥) × (Rose 0 0 → ⊥))
-  pub plays : (grammar : Grammar) → Say texts (Serve grammar) → SpellsTraces grammar
-      → Plays grammar natives input result old new
-  pub records : Say texts Record
-      → Keeps (recording natives) input left result old new ((Rose 0 0 → ⊥) × (Rose 0 0 → ⊥)) × Records natives input result old new
-  pub audits : Say texts Audit
-      → Keeps (auditing natives) input left result old new ((Rose 0 0 → ⊥) × (Rose 0 0 → ⊥))
-      × Audits natives input result old new ((Rose 0 0 → ⊥) × (Rose 0 0 → ⊥))
-  pub compares : (subject : Subject) → Say texts (Compare subject)
-      → Keeps (comparing natives subject) input left result old new ((Rose 0 0 → ⊥) × (Rose 0 0 → ⊥))
-      × Compares natives subject input result old new ((Rose 0 0 → ⊥) × (Rose 0 0 → ⊥))
-  pub notifies : Say texts Notify
-      → Keeps (notifying natives drivers) input left result old new ((Rose 0 0 → ⊥) × (Rose 0 0 → ⊥))
-      × Notifies natives drivers input result old new
-  pub plays_scripts : Say texts Client
-      → Keeps (client_word natives) input left result old new ((Rose 0 0 → ⊥) × (Rose 0 0 → ⊥)) × PlaysScripts natives input result old new
-  pub worked : (seed count : ℕ) → Say texts (Work seed count) → Worked seed count result old new
-  pub work_statuses : (seed count : ℕ) → Say texts (Work seed count) → WorkStatuses seed count result old new
-  pub work_plays : (seed count : ℕ) → Say texts (Work seed count) → result ≡ status.Ok → IsSummedUp seed count old new
-  pub work_complete : (seed count : ℕ) → Say texts (Work seed count) → (Rose 0 0 → ⊥)
-      → ((result ≡ status.Ok) × WritesSummary seed count old new) ⊎ (result ≡ Memory)
-  pub reads : result ≡ ReadFault → Rose 0 0
-  pub writes : result ≡ WriteFault → Rose 0 0
+  pub usage : call.result ≡ Usage → SayNothing texts × Appends call.old call.new usage_line
+  pub other_words : SayNothing texts → Writes Usage usage_line call.result call.old call.new
+  pub does : (command : Command) → Say texts command → DoesAlone built command call
+  pub reads : call.result ≡ ReadFault → Rose call.source_old call.source_new
+  pub writes : call.result ≡ WriteFault → Rose call.sink_old call.sink_new
 
 -- no port has failed
 keeps_quiet : (word : Word) (input : List ℕ) (left : Option (List ℕ)) (result : Status) (old new : Option (List ℕ))
@@ -91,46 +81,47 @@ compares_quiet natives subject input result old new c = record {
 
 -- where nothing was held before
 pub of_clauses : (natives : List Native) (drivers : Drivers) (texts : List (List ℕ)) (input : List ℕ) (left : Option (List ℕ))
-    (result : Status) (output : List ℕ) → Clauses natives drivers texts input left result (Some []) (Some output)
+    (result : Status) (output : List ℕ)
+    → Clauses (record { natives = natives; drivers = drivers }) texts (memory_call input left result [] output)
     → IsRun natives drivers texts input result output
 of_clauses natives drivers texts input left result output c = record {
   usage = λ e. (inl (c.usage e).0, (c.usage e).1);
   other_words = other;
   serves = λ grammar said. record {
     left = left;
-    keeps = keeps_quiet (reading grammar natives) input left result (Some []) (Some output) (c.serves grammar said);
-    plays = c.plays grammar said;
+    keeps = keeps_quiet (reading grammar natives) input left result (Some []) (Some output) (c.does (Serve grammar) said).0;
+    plays = (c.does (Serve grammar) said).1;
   };
   records = λ said. record {
     left = left;
-    keeps = keeps_quiet (recording natives) input left result (Some []) (Some output) (c.records said).0;
-    records = (c.records said).1;
+    keeps = keeps_quiet (recording natives) input left result (Some []) (Some output) (c.does Record said).0;
+    records = (c.does Record said).1;
   };
   audits = λ said. record {
     left = left;
-    keeps = keeps_quiet (auditing natives) input left result (Some []) (Some output) (c.audits said).0;
-    audits = audits_quiet natives input result (Some []) (Some output) (c.audits said).1;
+    keeps = keeps_quiet (auditing natives) input left result (Some []) (Some output) (c.does Audit said).0;
+    audits = audits_quiet natives input result (Some []) (Some output) (c.does Audit said).1;
   };
   compares = λ subject said. record {
     left = left;
-    keeps = keeps_quiet (comparing natives subject) input left result (Some []) (Some output) (c.compares subject said).0;
-    compares = compares_quiet natives subject input result (Some []) (Some output) (c.compares subject said).1;
+    keeps = keeps_quiet (comparing natives subject) input left result (Some []) (Some output) (c.does (Compare subject) said).0;
+    compares = compares_quiet natives subject input result (Some []) (Some output) (c.does (Compare subject) said).1;
   };
   notifies = λ said. record {
     left = left;
-    keeps = keeps_quiet (notifying natives drivers) input left result (Some []) (Some output) (c.notifies said).0;
-    notifies = (c.notifies said).1;
+    keeps = keeps_quiet (notifying natives drivers) input left result (Some []) (Some output) (c.does Notify said).0;
+    notifies = (c.does Notify said).1;
   };
   plays_scripts = λ said. record {
     left = left;
-    keeps = keeps_quiet (client_word natives) input left result (Some []) (Some output) (c.plays_scripts said).0;
-    plays = (c.plays_scripts said).1;
+    keeps = keeps_quiet (client_word natives) input left result (Some []) (Some output) (c.does Client said).0;
+    plays = (c.does Client said).1;
   };
   works = λ seed count said. record {
-    worked = c.worked seed count said;
-    statuses = c.work_statuses seed count said;
-    plays = c.work_plays seed count said;
-    complete = c.work_complete seed count said quiet;
+    worked = (c.does (Work seed count) said).worked;
+    statuses = (c.does (Work seed count) said).statuses;
+    plays = (c.does (Work seed count) said).plays;
+    complete = (c.does (Work seed count) said).complete quiet;
   };
   reads = λ e. quiet (c.reads e);
   writes = λ e. quiet (c.writes e);

@@ -1,24 +1,45 @@
 -- From a journal that was read to what is answered; what was kept; and that bytes have one meaning.
-use Rattle.std.proofs.Common.{◌≡◌, ℕ, inl, inr, List, Option, Some, None, refl, sym, ap, subst, ◌∙◌}
-use Rattle.std.specs.Prelude.{◌⊎◌, IfSome}
+use Rattle.std.proofs.Common.{◌≡◌, ℕ, inl, inr, List, Option, refl, sym, ap, subst, ◌∙◌}
+use Rattle.std.specs.Prelude.{◌⊎◌, Err, IfErr, IfOk, Ok, Result}
 use Rattle.audit_model.proofs.Prefixes.{one_verdict}
 use Rattle.audit_model.specs.declared.verdict.Verdict.{Verdict}
-use Rattle.journal_bytes.specs.Grammar.{Whole}
+use Rattle.journal_bytes.specs.Grammar.{Whole, whole_of}
+use Rattle.journal_bytes.specs.declared.reading.ReadJournal.{ReadJournal}
 use Rattle.kernel_model.specs.Application.{Native, booted}
 use Rattle.trace_player.specs.Starting.{uuids_of}
+use Rattle.trace_text.specs.declared.fault.TraceFault.{TraceFault}
+use Rattle.trace_text.specs.declared.fault.TraceFault.TheVariants.{Bad}
+use Rattle.trace_text.specs.declared.fault.TraceFault.TheVariants as fault
 use Rattle.word_parts.specs.Input.{IsTooLong}
 use Rattle.word_parts.specs.Keeping.{Keeps}
-use Rattle.word_parts.specs.Word.{Answered, HasOneMeaning, IsRefusedWhole, IsServedWhole}
+use Rattle.word_parts.specs.Word.{Answered, HasOneMeaning, IsFaultOf, IsRefusedWhole, IsServedWhole}
 use Rattle.word_parts.specs.declared.status.Status.{Status}
 use Rattle.word_parts.specs.declared.status.Status.TheVariants.{Memory}
 use Rattle.word_parts.specs.declared.status.Status.TheVariants as status
 use Rattle.journal_runner.specs.Auditing.{Audited, IsVerdictOn, SpellsAudited, auditing}
 use Rattle.journal_runner.specs.Audits.{Audits, IsAnsweredFor}
-use Rattle.journal_runner.specs.Reading.{SpellsAlone}
+use Rattle.journal_runner.specs.Reading.{IsFaultAlone, IsFaultAloneOf, KeepsLimits, SpellsAlone, WasReadAlone}
 use Rattle.journal_runner.proofs.Ending.{ok_or_memory}
 use Rattle.journal_runner.proofs.Meanings.{not_both_alone, same_alone}
 
--- ---- answering
+-- ---- reading and answering
+
+-- what was read beside built-in applications of these UUIDs
+pub was_read : (natives uuids : List (List ℕ)) (input : List ℕ) (read : Result ReadJournal TraceFault) → uuids ≡ natives
+    → IfOk read (λ journal. SpellsAlone uuids input (whole_of journal)) → IfOk read (KeepsLimits uuids)
+    → IfOk read (WasReadAlone natives input)
+was_read natives uuids input (Ok read) same alone limits = record {
+  alone = subst (λ (us : List (List ℕ)). SpellsAlone us input (whole_of read)) same alone;
+  limits = subst (λ (us : List (List ℕ)). KeepsLimits us read) same limits;
+}
+was_read natives uuids input (Err fault) same alone limits = tt
+
+pub was_refused : (natives : List Native) (uuids : List (List ℕ)) (input : List ℕ) (read : Result ReadJournal TraceFault)
+    → uuids ≡ uuids_of natives → IfErr read (IsFaultAloneOf uuids input) → IfErr read (IsFaultOf (auditing natives) input)
+was_refused natives uuids input (Ok read) same bad = tt
+was_refused natives uuids input (Err (Bad place kind)) same bad =
+    subst (λ (us : List (List ℕ)). IsFaultAlone us input place kind) same bad
+was_refused natives uuids input (Err fault.Memory) same bad = tt
 
 -- what is written for a journal that stands alone is what the word answers
 pub answered_alone : (natives : List Native) (input : List ℕ) (whole : Whole) (result : Status) (old new : Option (List ℕ))
@@ -64,17 +85,15 @@ module _ (natives : List Native) (input : List ℕ) (left : Option (List ℕ)) (
         → (result ≡ status.Ok) ⊎ (result ≡ Memory)
     kept_complete whole alone short none = ok_or_memory result (nothing_else whole alone short none)
 
--- over an input that the source tells
-pub kept_audits : (natives : List Native) (told left : Option (List ℕ)) (result : Status) (old new : Option (List ℕ))
-    (no_fault : Type 0) → IfSome told (λ input. Keeps (auditing natives) input left result old new no_fault)
-    → IfSome told (λ input. Audits natives input result old new no_fault)
-kept_audits natives (Some input) left result old new no_fault kept = record {
+pub kept_audits : (natives : List Native) (input : List ℕ) (left : Option (List ℕ)) (result : Status) (old new : Option (List ℕ))
+    (no_fault : Type 0) → Keeps (auditing natives) input left result old new no_fault
+    → Audits natives input result old new no_fault
+kept_audits natives input left result old new no_fault kept = record {
   ok = λ ok.
       let served = (kept.statuses.ok ok).1 in
       record { audited = served.0; spelled = served.1.spelled; line = served.2 };
   complete = kept_complete natives input left result old new no_fault kept;
 }
-kept_audits natives None left result old new no_fault kept = tt
 
 -- ---- one meaning
 

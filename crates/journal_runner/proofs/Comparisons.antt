@@ -1,27 +1,50 @@
 -- From two journals that were read to what is answered; and that bytes have one meaning.
-use Rattle.std.proofs.Common.{◌≡◌, ℕ, inl, inr, List, Option, Some, None, refl, sym, ap, subst, ◌∙◌}
-use Rattle.std.specs.Prelude.{◌⊎◌, IfSome}
+use Rattle.std.proofs.Common.{◌≡◌, ℕ, inl, inr, List, Option, refl, sym, ap, subst, ◌∙◌}
+use Rattle.std.specs.Prelude.{◌⊎◌, Err, IfErr, IfOk, Ok, Result}
 use Rattle.compare_model.proofs.Comparisons.{one_comparison}
 use Rattle.compare_model.proofs.Replies.{journals_are_answered_alone, same_gives_same_replies}
 use Rattle.compare_model.specs.Comparing.{IsComparedAs}
 use Rattle.compare_model.specs.declared.compared.Compared.{Compared}
 use Rattle.compare_model.specs.declared.subject.Subject.{Subject}
-use Rattle.journal_bytes.specs.Grammar.{Whole}
+use Rattle.journal_bytes.specs.Grammar.{Whole, whole_of}
 use Rattle.kernel_model.specs.Application.{Native}
 use Rattle.trace_player.specs.Starting.{uuids_of}
+use Rattle.trace_text.specs.declared.fault.TraceFault.{TraceFault}
+use Rattle.trace_text.specs.declared.fault.TraceFault.TheVariants.{Bad}
+use Rattle.trace_text.specs.declared.fault.TraceFault.TheVariants as fault
 use Rattle.word_parts.specs.Keeping.{Keeps}
 use Rattle.word_parts.specs.Input.{IsTooLong}
-use Rattle.word_parts.specs.Word.{Answered, HasOneMeaning, IsRefusedWhole, IsServedWhole}
+use Rattle.word_parts.specs.Word.{Answered, HasOneMeaning, IsFaultOf, IsRefusedWhole, IsServedWhole}
 use Rattle.word_parts.specs.declared.status.Status.{Status}
 use Rattle.word_parts.specs.declared.status.Status.TheVariants.{Memory}
 use Rattle.word_parts.specs.declared.status.Status.TheVariants as status
 use Rattle.journal_runner.specs.Compares.{Compares, IsAnsweredForPair}
 use Rattle.journal_runner.specs.Comparing.{Comparison, SpellsCompared, comparing, pair_of}
-use Rattle.journal_runner.specs.Reading.{SpellsPair}
+use Rattle.journal_runner.specs.Reading.{IsFaultOfPair, IsFaultOfPairOf, KeepsLimits, SpellsPair, WasReadPair}
+use Rattle.journal_runner.specs.declared.reading.ReadPair.{ReadPair}
 use Rattle.journal_runner.proofs.Ending.{ok_or_memory}
 use Rattle.journal_runner.proofs.Meanings.{not_both_pair, same_first, same_second}
 
--- ---- answering
+-- ---- reading and answering
+
+-- what was read beside built-in applications of these UUIDs
+pub was_read : (natives uuids : List (List ℕ)) (input : List ℕ) (read : Result ReadPair TraceFault) → uuids ≡ natives
+    → IfOk read (λ pair. SpellsPair uuids input (whole_of pair.one) (whole_of pair.two))
+    → IfOk read (λ pair. KeepsLimits uuids pair.one × KeepsLimits uuids pair.two) → IfOk read (WasReadPair natives input)
+was_read natives uuids input (Ok read) same pair limits = record {
+  pair = subst (λ (us : List (List ℕ)). SpellsPair us input (whole_of read.one) (whole_of read.two)) same pair;
+  one = subst (λ (us : List (List ℕ)). KeepsLimits us read.one) same limits.0;
+  two = subst (λ (us : List (List ℕ)). KeepsLimits us read.two) same limits.1;
+}
+was_read natives uuids input (Err fault) same pair limits = tt
+
+pub was_refused : (natives : List Native) (subject : Subject) (uuids : List (List ℕ)) (input : List ℕ)
+    (read : Result ReadPair TraceFault) → uuids ≡ uuids_of natives → IfErr read (IsFaultOfPairOf uuids input)
+    → IfErr read (IsFaultOf (comparing natives subject) input)
+was_refused natives subject uuids input (Ok read) same bad = tt
+was_refused natives subject uuids input (Err (Bad place kind)) same bad =
+    subst (λ (us : List (List ℕ)). IsFaultOfPair us input place kind) same bad
+was_refused natives subject uuids input (Err fault.Memory) same bad = tt
 
 -- what is written for two journals is what the word answers
 pub answered_pair : (natives : List Native) (subject : Subject) (input : List ℕ) (one two : Whole) (result : Status)
@@ -68,12 +91,10 @@ module _ (natives : List Native) (subject : Subject) (input : List ℕ) (left : 
         → (result ≡ status.Ok) ⊎ (result ≡ Memory)
     kept_complete one two pair short none = ok_or_memory result (nothing_else one two pair short none)
 
--- over an input that the source tells
-pub kept_compares : (natives : List Native) (subject : Subject) (told left : Option (List ℕ)) (result : Status)
-    (old new : Option (List ℕ)) (no_fault : Type 0)
-    → IfSome told (λ input. Keeps (comparing natives subject) input left result old new no_fault)
-    → IfSome told (λ input. Compares natives subject input result old new no_fault)
-kept_compares natives subject (Some input) left result old new no_fault kept = record {
+pub kept_compares : (natives : List Native) (subject : Subject) (input : List ℕ) (left : Option (List ℕ)) (result : Status)
+    (old new : Option (List ℕ)) (no_fault : Type 0) → Keeps (comparing natives subject) input left result old new no_fault
+    → Compares natives subject input result old new no_fault
+kept_compares natives subject input left result old new no_fault kept = record {
   ok = λ ok.
       let served = (kept.statuses.ok ok).1 in
       let comparison = served.0 in
@@ -88,7 +109,6 @@ kept_compares natives subject (Some input) left result old new no_fault kept = r
       };
   complete = kept_complete natives subject input left result old new no_fault kept;
 }
-kept_compares natives subject None left result old new no_fault kept = tt
 
 -- ---- one meaning
 

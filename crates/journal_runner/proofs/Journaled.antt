@@ -96,9 +96,6 @@ pub play_never_fails : (o : Option ℕ) (named : Status) → named ≡ status_of
 play_never_fails None named is e = absurd cc
 play_never_fails (Some more) named is e = absurd cc
 
-pub play_not_usage : (o : Option ℕ) (named result : Status) (text : List ℕ) (old new : Option (List ℕ))
-    → named ≡ status_of_play o → Writes named text result old new → result ≡ status.Usage → ⊥
-play_not_usage None named result text old new is (inl whole) e = let all = sym e ∙ whole.0 ∙ is in absurd cc
-play_not_usage (Some more) named result text old new is (inl whole) e = let all = sym e ∙ whole.0 ∙ is in absurd cc
-play_not_usage o named result text old new is (inr ((inl fault), part)) e = let all = sym e ∙ fault in absurd cc
-play_not_usage o named result text old new is (inr ((inr want), part)) e = let all = sym e ∙ want in absurd cc
+pub play_not_usage : (o : Option ℕ) (named : Status) → named ≡ status_of_play o → named ≡ status.Usage → ⊥
+play_not_usage None named is e = absurd cc
+play_not_usage (Some more) named is e = absurd cc

@@ -1,7 +1,7 @@
 -- From what was answered to the play whose journal was written; and that a text has one meaning.
-use Rattle.std.proofs.Common.{◌≡◌, ℕ, ◌⊎◌, inl, inr, List, [], Option, Some, None, refl, subst}
+use Rattle.std.proofs.Common.{◌≡◌, ℕ, ◌≤◌, ◌⊎◌, inl, inr, List, [], length, Option, Some, None, refl, subst}
 use Rattle.std.specs.Option.{option_and_then, option_map}
-use Rattle.std.specs.Prelude.{IfSome}
+use Rattle.std.specs.Prelude.{Err, IfErr, IfOk, Ok, Result}
 use Rattle.audit.proofs.SteadyPlays.{plays_are_faultless}
 use Rattle.base.specs.Zeros.{zeros}
 use Rattle.kernel_model.specs.Application.{IsBooted, Native, booted}
@@ -9,24 +9,25 @@ use Rattle.play_model.specs.Play.{Play, played}
 use Rattle.play_model.proofs.TrueToKernel.{plays_are_true}
 use Rattle.ports.specs.Port.{Appends}
 use Rattle.ta_isa.specs.declared.boot.Boot.{Boot}
+use Rattle.trace_player.proofs.Booting.{AreApart}
 use Rattle.trace_player.specs.Refused.{refused_by}
 use Rattle.trace_player.specs.Starting.{uuids_of}
 use Rattle.trace_text.proofs.GrammarLaws.{every_text}
-use Rattle.trace_text.specs.Grammar.{Spells}
+use Rattle.trace_text.specs.Grammar.{IsFaultOf as IsFaultOfText, IsFirstFault, Spells}
+use Rattle.trace_text.specs.Sound.{IsSound}
+use Rattle.trace_text.specs.declared.fault.TraceFault.{TraceFault}
+use Rattle.trace_text.specs.declared.fault.TraceFault.TheVariants.{Bad}
+use Rattle.trace_text.specs.declared.fault.TraceFault.TheVariants as fault
 use Rattle.trace_text.specs.declared.trace.Trace.{Trace}
 use Rattle.word_parts.specs.Answer.{status_of_play}
-use Rattle.word_parts.specs.Keeping.{Keeps}
-use Rattle.word_parts.specs.Line.{bad_trace_line}
 use Rattle.word_parts.specs.Limits.{HasTooMany}
-use Rattle.word_parts.specs.Word.{Answered, HasOneMeaning, IsServedBy, Ran}
+use Rattle.word_parts.specs.Word.{Answered, HasOneMeaning, IsFaultOf, IsServedBy, Ran}
 use Rattle.word_parts.specs.declared.status.Status.{Status}
-use Rattle.word_parts.specs.declared.status.Status.TheVariants.{BadTrace, ReadFault, WriteFault, Memory, TooLong}
-use Rattle.word_parts.specs.declared.status.Status.TheVariants as status
-use Rattle.word_parts.proofs.Answering.{writes-named}
-use Rattle.word_parts.proofs.Worded.{some-and}
+use Rattle.word_parts.proofs.Ended.{IsUnserved, WasServed, ran-served, ran-served-or-not}
+use Rattle.journal_runner.proofs.Booting.{can_boot}
 use Rattle.journal_runner.specs.Known.{CanBoot, CanBootWith}
 use Rattle.journal_runner.specs.Recorded.{IsSpelledIfPlayed}
-use Rattle.journal_runner.specs.Recording.{HasSpelledJournal, IsRecordable, journal_for, journal_of, journal_with, recording}
+use Rattle.journal_runner.specs.Recording.{HasSpelledJournal, WasRead, journal_of, journal_with, recording}
 use Rattle.journal_runner.specs.Records.{IsRecorded, IsRecordedWith, IsUnrecorded, Records, WasRecorded}
 
 -- a text spells one trace, or it has a fault, and not both
@@ -88,76 +89,48 @@ answered_for natives input trace result old new spelled boots served (inr journa
 
 -- ---- an input
 
--- the status is none at which a text may be cut short
-record IsWhole (result : Status) : Type 0 where
-  no_read : result ≡ ReadFault → ⊥
-  no_write : result ≡ WriteFault → ⊥
-  no_want : result ≡ Memory → ⊥
-  no_fault : result ≡ BadTrace → ⊥
-
--- an input was recorded, or it was too much to be played
-abbrev WasDone : List Native → List ℕ → Status → Option (List ℕ) → Option (List ℕ) → Type 0
-WasDone natives input result old new =
-    ((result ≡ TooLong) × IsUnrecorded natives input) ⊎ WasRecorded natives input result old new
-
-served_done : (natives : List Native) (input : List ℕ) (trace : Trace) (result : Status) (old new : Option (List ℕ))
-    → IsWhole result → Spells (uuids_of natives) input trace → IsRecordable natives trace
-    → IsServedBy (recording natives) trace result old new → WasDone natives input result old new
-served_done natives input trace result old new whole spelled known (inl many) = inl (many.1, inr (trace, spelled, many.0))
-served_done natives input trace result old new whole spelled known (inr (few, inl want)) = absurd (whole.no_want want.0)
-served_done natives input trace result old new whole spelled known (inr (few, inr records)) =
-    let bytes = some-and _ (journal_for natives trace) records in
-    let put = writes-named _ bytes.0 result old new bytes.2 whole.no_write whole.no_want in
-    inr (record {
+-- what was served is what was recorded
+served_recorded : (natives : List Native) (input : List ℕ) (result : Status) (old new : Option (List ℕ))
+    → WasServed (recording natives) input result old new → WasRecorded natives input result old new
+served_recorded natives input result old new served =
+    let trace = served.content in
+    record {
       trace = trace;
-      spelled = spelled;
-      few = few;
-      recorded = recorded_with natives trace result bytes.0 old new trace.boot refl (known.spelled few) known.boots bytes.1 put.0
-          put.1;
-    })
+      spelled = served.spelled;
+      few = served.few;
+      recorded = recorded_with natives trace result served.text old new trace.boot refl (served.known.spelled served.few)
+          served.known.boots served.is_text served.stands_for served.put;
+    }
 
-ran_done : (natives : List Native) (input : List ℕ) (left : Option (List ℕ)) (result : Status) (old new : Option (List ℕ))
-    → IsWhole result → Ran (recording natives) input left result old new → WasDone natives input result old new
-ran_done natives input left result old new whole (inl ((inl fault), nothing)) = absurd (whole.no_read fault)
-ran_done natives input left result old new whole (inl ((inr want), nothing)) = absurd (whole.no_want want)
-ran_done natives input left result old new whole (inr (inl long)) = inl (long.0, inl long.1)
-ran_done natives input left result old new whole (inr (inr (short, ended, inl want))) = absurd (whole.no_want want.0)
-ran_done natives input left result old new whole (inr (inr (short, ended, inr (inl refused)))) =
-    let put = writes-named BadTrace (bad_trace_line refused.place refused.kind) result old new refused.line
-    whole.no_write whole.no_want in
-    absurd (whole.no_fault put.0)
-ran_done natives input left result old new whole (inr (inr (short, ended, inr (inr served)))) =
-    served_done natives input served.content result old new whole served.spelled served.known served.served
-
-ran_records : (natives : List Native) (input : List ℕ) (left : Option (List ℕ)) (result : Status) (old new : Option (List ℕ))
+-- what a call that keeps to the word shows
+pub ran_records : (natives : List Native) (input : List ℕ) (left : Option (List ℕ)) (result : Status) (old new : Option (List ℕ))
     → Ran (recording natives) input left result old new → Records natives input result old new
 ran_records natives input left result old new ran = record {
-  ok = λ e. ok_done e (ran_done natives input left result old new (record {
-    no_read = λ f. absurd cc;
-    no_write = λ f. absurd cc;
-    no_want = λ f. absurd cc;
-    no_fault = λ f. absurd cc;
-  }) ran);
-  too_long = λ e. long_done (ran_done natives input left result old new (record {
-    no_read = λ f. absurd cc;
-    no_write = λ f. absurd cc;
-    no_want = λ f. absurd cc;
-    no_fault = λ f. absurd cc;
-  }) ran);
+  ok = λ e. served_recorded natives input result old new (ran-served (recording natives) input left result old new ran e);
+  too_long = λ e. by_end (ran-served-or-not (recording natives) input left result old new ran e);
 }
   where
-    ok_done : result ≡ status.Ok → WasDone natives input result old new → WasRecorded natives input result old new
-    ok_done e (inl undone) = let long = undone.0 in absurd cc
-    ok_done e (inr done) = done
+    by_end : IsUnserved (recording natives) input ⊎ WasServed (recording natives) input result old new
+        → IsUnrecorded natives input ⊎ WasRecorded natives input result old new
+    by_end (inl unserved) = inl unserved
+    by_end (inr served) = inr (served_recorded natives input result old new served)
 
-    long_done : WasDone natives input result old new → IsUnrecorded natives input ⊎ WasRecorded natives input result old new
-    long_done (inl undone) = inl undone.1
-    long_done (inr done) = inr done
+-- ---- reading
 
--- over an input that the source tells
-pub kept_records : (natives : List Native) (told left : Option (List ℕ)) (result : Status) (old new : Option (List ℕ))
-    (no_fault : Type 0) → IfSome told (λ input. Keeps (recording natives) input left result old new no_fault)
-    → IfSome told (λ input. Records natives input result old new)
-kept_records natives (Some input) left result old new no_fault kept =
-    ran_records natives input left result old new kept.ran
-kept_records natives None left result old new no_fault kept = tt
+-- what was read beside built-in applications of these UUIDs can be played
+pub was_read : (natives : List Native) (uuids : List (List ℕ)) (input : List ℕ) (read : Result Trace TraceFault)
+    → uuids ≡ uuids_of natives → length uuids ≤ 16 → AreApart uuids → IfOk read (λ trace. Spells uuids input trace)
+    → IfOk read (IsSound uuids) → IfOk read (WasRead natives input)
+was_read natives uuids input (Ok trace) same few apart spelled sound = record {
+  spelled = subst (λ (us : List (List ℕ)). Spells us input trace) same spelled;
+  sound = subst (λ (us : List (List ℕ)). IsSound us trace) same sound;
+  boots = can_boot natives uuids trace same few apart sound;
+}
+was_read natives uuids input (Err fault) same few apart spelled sound = tt
+
+pub was_refused : (natives : List Native) (uuids : List (List ℕ)) (input : List ℕ) (read : Result Trace TraceFault)
+    → uuids ≡ uuids_of natives → IfErr read (IsFaultOfText uuids input) → IfErr read (IsFaultOf (recording natives) input)
+was_refused natives uuids input (Ok trace) same bad = tt
+was_refused natives uuids input (Err (Bad place kind)) same bad =
+    subst (λ (us : List (List ℕ)). IsFirstFault us input place kind) same bad
+was_refused natives uuids input (Err fault.Memory) same bad = tt

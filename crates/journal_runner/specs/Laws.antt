@@ -7,12 +7,12 @@ use Rattle.compare_model.specs.declared.compared.Compared.{Compared}
 use Rattle.compare_model.specs.declared.subject.Subject.{Subject}
 use Rattle.journal_bytes.specs.Grammar.{Whole}
 use Rattle.kernel_model.specs.Application.{Native, booted}
-use Rattle.ports.specs.Port.{Appends, Rose}
+use Rattle.ports.specs.Port.{Appends}
 use Rattle.ta_isa.specs.declared.boot.Boot.{Boot}
 use Rattle.trace_player.specs.Starting.{uuids_of}
 use Rattle.trace_text.specs.declared.trace.Trace.{Trace}
+use Rattle.word_parts.specs.Call.{Call, HasNoFault, KeepsOver}
 use Rattle.word_parts.specs.Input.{IsTooLong}
-use Rattle.word_parts.specs.Keeping.{Keeps}
 use Rattle.word_parts.specs.Word.{CanBeRefused}
 use Rattle.word_parts.specs.declared.status.Status.{Status}
 use Rattle.word_parts.specs.declared.status.Status.TheVariants.{Memory}
@@ -25,26 +25,11 @@ use Rattle.journal_runner.specs.Records.{IsRecorded}
 
 -- ---- `audit` of what `record` has written
 
--- a call of a word: its status, what its source has left and its sink tells, and how many faults each of them counts
-pub record Call : Type 0 where
-  pub result : Status
-  pub left : Option (List ℕ)
-  pub old : Option (List ℕ)
-  pub new : Option (List ℕ)
-  pub source_old : ℕ
-  pub source_new : ℕ
-  pub sink_old : ℕ
-  pub sink_new : ℕ
-
--- no port has failed by it
-abbrev pub HasNoFault : Call → Type 0
-HasNoFault call = (Rose call.source_old call.source_new → ⊥) × (Rose call.sink_old call.sink_new → ⊥)
-
 -- each call of `audit` over this input by which no port has failed ends with 0 and has written `legal N`, N being this number, or
 -- there is want of memory
 abbrev pub IsAuditedLegal : List Native → List ℕ → ℕ → Type 0
 IsAuditedLegal natives input count =
-    (call : Call) → Keeps (auditing natives) input call.left call.result call.old call.new (HasNoFault call) → HasNoFault call
+    (call : Call) → KeepsOver (auditing natives) input call → HasNoFault call
     → ((call.result ≡ status.Ok) × Appends call.old call.new (verdict_line count Legal)) ⊎ (call.result ≡ Memory)
 
 -- what `record` has written of a trace with a boot is audited as legal beside the same applications, N being the number of the

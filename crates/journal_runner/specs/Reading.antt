@@ -1,6 +1,6 @@
 -- Which journals bytes spell up to their end, alone or one behind the other, and what the first fault of any other bytes is.
 use Rattle.std.specs.Prelude.{◌≡◌, ◌⊎◌, ℕ, ◌+◌, ◌<◌, List, drop, length}
-use Rattle.journal_bytes.specs.Grammar.{IsFirstFault as IsFaultOfJournal, Spells, Whole}
+use Rattle.journal_bytes.specs.Grammar.{IsFirstFault as IsFaultOfJournal, Spells, Whole, whole_of}
 use Rattle.journal_bytes.specs.Sound.{IsSoundJournal}
 use Rattle.journal_bytes.specs.declared.reading.ReadJournal.{ReadJournal}
 use Rattle.trace_text.specs.Sound.{IsSoundBoot}
@@ -8,6 +8,7 @@ use Rattle.trace_text.specs.declared.fault.BadKind.{BadKind}
 use Rattle.trace_text.specs.declared.fault.BadKind.TheVariants.{Item}
 use Rattle.trace_text.specs.declared.fault.TraceFault.{TraceFault}
 use Rattle.trace_text.specs.declared.fault.TraceFault.TheVariants.{Bad, Memory}
+use Rattle.journal_runner.specs.declared.reading.ReadPair.{ReadPair}
 
 -- what was read is within its limits, beside built-in applications of these UUIDs
 pub record KeepsLimits (natives : List (List ℕ)) (read : ReadJournal) : Type 0 where
@@ -38,6 +39,11 @@ abbrev pub IsFaultAloneOf : List (List ℕ) → List ℕ → TraceFault → Type
 IsFaultAloneOf natives bytes (Bad place kind) = IsFaultAlone natives bytes place kind
 IsFaultAloneOf natives bytes Memory = Unit {0}
 
+-- the bytes spell the journal that was read, which is within its limits
+pub record WasReadAlone (natives : List (List ℕ)) (bytes : List ℕ) (read : ReadJournal) : Type 0 where
+  pub alone : SpellsAlone natives bytes (whole_of read)
+  pub limits : KeepsLimits natives read
+
 -- ---- two journals, one right behind the other
 
 -- the bytes spell the first journal at their front, and the second alone behind its end
@@ -62,3 +68,9 @@ IsFaultOfPair natives bytes place kind = IsFaultOfJournal natives bytes place ki
 abbrev pub IsFaultOfPairOf : List (List ℕ) → List ℕ → TraceFault → Type 0
 IsFaultOfPairOf natives bytes (Bad place kind) = IsFaultOfPair natives bytes place kind
 IsFaultOfPairOf natives bytes Memory = Unit {0}
+
+-- the bytes spell the two journals that were read, which are within their limits
+pub record WasReadPair (natives : List (List ℕ)) (bytes : List ℕ) (read : ReadPair) : Type 0 where
+  pub pair : SpellsPair natives bytes (whole_of read.one) (whole_of read.two)
+  pub one : KeepsLimits natives read.one
+  pub two : KeepsLimits natives read.two

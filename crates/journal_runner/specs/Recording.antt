@@ -8,6 +8,7 @@ use Rattle.ta_isa.specs.declared.boot.Boot.{Boot}
 use Rattle.trace_player.specs.Refused.{refused_in}
 use Rattle.trace_player.specs.Starting.{uuids_of}
 use Rattle.trace_text.specs.Grammar.{IsFirstFault, Spells}
+use Rattle.trace_text.specs.Sound.{IsSound}
 use Rattle.trace_text.specs.declared.trace.Trace.{Trace}
 use Rattle.word_parts.specs.Limits.{HasTooMany}
 use Rattle.word_parts.specs.Word.{Word}
@@ -35,6 +36,12 @@ pub record HasSpelledJournal (natives : List Native) (trace : Trace) : Type 0 wh
 pub record IsRecordable (natives : List Native) (trace : Trace) : Type 0 where
   pub boots : CanBoot natives trace
   pub spelled : (HasTooMany trace.items → ⊥) → HasSpelledJournal natives trace
+
+-- the input spells this, which is within its limits, and a core can be booted for it
+pub record WasRead (natives : List Native) (input : List ℕ) (trace : Trace) : Type 0 where
+  pub spelled : Spells (uuids_of natives) input trace
+  pub sound : IsSound (uuids_of natives) trace
+  pub boots : CanBoot natives trace
 
 -- the word: a text trace, beside these built-in applications, is answered with its journal
 abbrev pub recording : List Native → Word

@@ -1,15 +1,12 @@
 //! The word `compare`.
-ghost use Rattle.std.specs.Prelude.{◌≡◌, ◌≢◌, ◌≤◌, ◌+◌, ◌^◌, ◌++◌, [], IfOk, IfSome, OnOk, length};
+ghost use Rattle.std.specs.Prelude.{◌≡◌, ◌++◌, IfOk, OnOk};
 ghost use Rattle.compare_model.specs.Comparing.{IsComparedAs};
 ghost use Rattle.journal_bytes.specs.Grammar.{whole_of};
 ghost use Rattle.native_tas.specs.Table.{entries};
-ghost use Rattle.ports.specs.Port.{Appends, Rose};
 ghost use Rattle.trace_player.specs.Starting.{uuids_of};
-ghost use Rattle.word_parts.specs.Input.{TakesAtMost};
-ghost use Rattle.word_parts.specs.Keeping.{Keeps};
-ghost use Rattle.word_parts.specs.Word.{Answered};
-ghost use Rattle.journal_runner.specs.Compares.{Compares, IsAnsweredForPair};
-ghost use Rattle.journal_runner.specs.Comparing.{compared_line, compared_words, comparing, pair_of};
+ghost use Rattle.word_parts.specs.Faults.{TellsFaults};
+ghost use Rattle.journal_runner.specs.Compares.{IsAnsweredForPair};
+ghost use Rattle.journal_runner.specs.Comparing.{compared_line, compared_words, pair_of};
 ghost use Rattle.journal_runner.specs.Reading.{KeepsLimits};
 
 use crate::reading::{ReadPair, read_pair};
@@ -17,10 +14,11 @@ use answer_lines::push_numbered;
 use audit::read_boots_can_be_checked;
 use base::NoMemory;
 use compare_model::{Compared, Subject};
+use journal_bytes::TraceFault;
 use native_tas::Natives;
-use ports::{Sink, Source};
+use ports::Sink;
 use std::alloc::{AllocError, Global};
-use word_parts::{Status, answer_fault, answer_line, read_whole};
+use word_parts::{InputWord, Status, answer_line};
 
 /// Appends the words of what two journals show.
 fn push_compared(line: &mut Vec<u8>, compared: Compared) -> Result<(), AllocError>
@@ -75,10 +73,7 @@ fn compare_journals<K: Sink>(
     requires two { KeepsLimits (uuids_of (entries natives.now)) read.now.two }
     ensures answered { IsAnsweredForPair (entries natives.now) subject (whole_of read.now.one) (whole_of read.now.two)
         result (K.held out.old) (K.held out.new) }
-    ensures words { result ≡ Status.Usage → ⊥ }
-    ensures write_fault { result ≡ Status.WriteFault → Rose (K.faults out.old) (K.faults out.new) }
-    ensures count { K.faults out.old ≤ K.faults out.new }
-    ensures stays { result ≢ Status.WriteFault → K.faults out.new ≡ K.faults out.old }
+    ensures faults { TellsFaults result (K.faults out.old) (K.faults out.new) }
 {
     let Ok(compared) = shown_by(alloc, natives, subject, read) else {
         return Status::Memory;
@@ -89,70 +84,49 @@ fn compare_journals<K: Sink>(
     }
 }
 
-/// Compares the journals of an input that was read whole. Its bytes are free before they are compared.
-fn answer<K: Sink>(
-    alloc: Global,
-    subject: Subject,
-    input: Vec<u8>,
-    out: &mut K,
-    natives: &Natives,
-) -> Status
-    requires { length input.items ≤ 2 ^ 24 }
-    ensures answered { Answered (comparing (entries natives.now) subject) input.items result (K.held out.old) (K.held out.new) }
-    ensures words { result ≡ Status.Usage → ⊥ }
-    ensures write_fault { result ≡ Status.WriteFault → Rose (K.faults out.old) (K.faults out.new) }
-    ensures count { K.faults out.old ≤ K.faults out.new }
-    ensures stays { result ≢ Status.WriteFault → K.faults out.new ≡ K.faults out.old }
-{
-    let read = read_pair(alloc, input.as_slice(), natives.uuids().as_slice());
-    drop(input);
-    match read {
-        Ok(read) => compare_journals(alloc, natives, subject, &read, out),
-        Err(fault) => answer_fault(alloc, fault, out),
-    }
+/// The word that reads the bytes of two journals ([`journal_bytes`]), the second right behind the end of the first, and writes what they
+/// show of a session, or of the group of sessions that share one instance, beside the applications that are built in: the first event
+/// of one of them that can't be, as `illegal J AT`; or that the number stands for no session there whose application has an instance
+/// for each, or the UUID for no application whose sessions share one, as `absent J`; or that the applications or the keys differ, as
+/// `other`; or the first of the events of the session or of the group that differs, as `events N`, counted from 0; or else how many
+/// replies it was given, as `same N`. Places go on counting in the second journal. Bytes behind its end are
+/// [`trace_text::BadKind::Item`] at the place after that of the end.
+///
+/// It shows that, where both journals show the same of the session or of the group, it was answered the same in both; and each two that
+/// an input of at most 2^24 bytes spells, with nothing behind them, are answered so where no port fails, or there is want of memory.
+#[derive(Clone, Copy)]
+pub struct Compare {
+    pub subject: Subject,
 }
 
-/// Reads the bytes of two journals ([`journal_bytes`]), the second right behind the end of the first, and writes what they show of a
-/// session, or of the group of sessions that share one instance, beside the applications that are built in: the first event of one of
-/// them that can't be, as `illegal J AT`; or that the number stands for no session there whose application has an instance for each, or
-/// the UUID for no application whose sessions share one, as `absent J`; or that the applications or the keys differ, as `other`; or the
-/// first of the events of the session or of the group that differs, as `events N`, counted from 0; or else how many replies it was
-/// given, as `same N`. Places go on counting in the second journal. Bytes behind its end are [`trace_text::BadKind::Item`] at the place
-/// after that of the end.
-pub fn compare<S: Source, K: Sink>(
-    alloc: Global,
-    subject: Subject,
-    input: &mut S,
-    out: &mut K,
-    natives: &Natives,
-) -> Status
-    // ---- All that the word keeps to: the input, each status, and when an input is served or refused whole.
-    ensures keeps { IfSome (S.left input.old) (λ bytes.
-        Keeps (comparing (entries natives.now) subject) bytes (S.left input.new) result (K.held out.old) (K.held out.new)
-        ((Rose (S.faults input.old) (S.faults input.new) → ⊥) × (Rose (K.faults out.old) (K.faults out.new) → ⊥))) }
+impl InputWord for Compare {
+    ghost use Rattle.word_parts.specs.Call.{HasNoFault};
+    ghost use Rattle.journal_runner.specs.Compares.{Compares};
+    ghost use Rattle.journal_runner.specs.Comparing.{comparing};
+    ghost use Rattle.journal_runner.specs.Reading.{WasReadPair};
 
-    // ---- What was written: where both journals show the same of the session or of the group, it was answered the same in both. And
-    // each two that an input of at most 2^24 bytes spells, with nothing behind them, are answered so where no port fails, or there is
-    // want of memory.
-    ensures compares { IfSome (S.left input.old) (λ bytes.
-        Compares (entries natives.now) subject bytes result (K.held out.old) (K.held out.new)
-        ((Rose (S.faults input.old) (S.faults input.new) → ⊥) × (Rose (K.faults out.old) (K.faults out.new) → ⊥))) }
+    type Content = ReadPair;
 
-    // ---- Faults of the ports.
-    ensures words { result ≡ Status.Usage → ⊥ }
-    ensures read_fault { result ≡ Status.ReadFault →
-        Rose (S.faults input.old) (S.faults input.new) × Appends (K.held out.old) (K.held out.new) [] }
-    ensures write_fault { result ≡ Status.WriteFault → Rose (K.faults out.old) (K.faults out.new) }
+    ghost word = { λ it built. comparing built.natives it.subject };
 
-    // ---- Reading ends, and counts of faults never fall.
-    ensures taken { TakesAtMost (2 ^ 24 + 1) (S.left input.old) (S.left input.new) }
-    ensures input_count { S.faults input.old ≤ S.faults input.new }
-    ensures out_count { K.faults out.old ≤ K.faults out.new }
-    ensures input_stays { result ≢ Status.ReadFault → S.faults input.new ≡ S.faults input.old }
-    ensures out_stays { result ≢ Status.WriteFault → K.faults out.new ≡ K.faults out.old }
-{
-    match read_whole(alloc, input) {
-        Ok(bytes) => answer(alloc, subject, bytes, out, natives),
-        Err(status) => status,
+    ghost Shows = { λ it built input call.
+        Compares built.natives it.subject input call.result call.old call.new (HasNoFault call) };
+
+    ghost IsRead = { λ it built input read. WasReadPair (uuids_of built.natives) input read };
+
+    fn laws(self) {}
+
+    fn read(self, alloc: Global, input: &[u8], natives: &Natives) -> Result<ReadPair, TraceFault> {
+        read_pair(alloc, input, natives.uuids().as_slice())
+    }
+
+    fn serve<K: Sink>(
+        self,
+        alloc: Global,
+        read: ReadPair,
+        out: &mut K,
+        natives: &Natives,
+    ) -> Status {
+        compare_journals(alloc, natives, self.subject, &read, out)
     }
 }

@@ -1,7 +1,7 @@
 //! What holds of the words together, each the contract of a function that does nothing.
 ghost use Rattle.journal_runner.specs.Laws.{JournalsHaveAnswers, RecordedIsAuditedLegal};
 
-/// Of what [`crate::record`] has written to its end of a trace with a boot, if it has at most 2^24 bytes, [`crate::audit`] beside the
+/// Of what [`crate::Record`] has written to its end of a trace with a boot, if it has at most 2^24 bytes, [`crate::Audit`] beside the
 /// same built-in applications writes `legal N`, N being the number of its events, where no port fails; or there is want of memory.
 pub fn recorded_is_audited_legal()
     ensures { RecordedIsAuditedLegal }

@@ -2,10 +2,10 @@
 
 use line_port::Entry;
 use native_tas::Natives;
-use notify_runner::notify;
+use notify_runner::Notify;
 use ports::{MemSink, MemSource};
 use std::alloc::{AllocError, Global};
-use word_parts::Status;
+use word_parts::{Status, run_word};
 
 /// The line that ends the answer to a line that was taken.
 const TAKEN: &[u8] = b"ok\n";
@@ -57,6 +57,6 @@ pub fn is_as_notified(alloc: Global, natives: &Natives, log: &[Entry]) -> Result
     let Taken { lines, said } = Taken::of(alloc, log)?;
     let mut source = MemSource::new(lines, Vec::new(alloc));
     let mut sink = MemSink::new(alloc, Vec::new(alloc));
-    let status = notify(alloc, &mut source, &mut sink, natives);
+    let status = run_word(alloc, Notify, &mut source, &mut sink, natives);
     Ok(status == Status::Ok && sink.bytes() == said.as_slice())
 }

@@ -1,6 +1,6 @@
 -- From what was read, played and answered to what the word says of it.
 use Rattle.std.proofs.Common.{◌≡◌, ℕ, ◌≤◌, ◌⊎◌, inl, inr, List, [], ◌∷◌, ◌++◌, length, take, drop, Option, Some, None, refl, sym, ap, subst, ◌∙◌}
-use Rattle.std.specs.Prelude.{IfNone, IfSome}
+use Rattle.std.specs.Prelude.{Err, IfErr, IfNone, IfOk, IfSome, Ok, Result}
 use Rattle.std.specs.Option.{option_and_then, option_map}
 use Rattle.std.proofs.lemmas.List.{take-append-drop}
 use Rattle.std.proofs.lemmas.Option.{option_and_then_some}
@@ -10,9 +10,9 @@ use Rattle.notify_play.proofs.Asking.{steps_call_desk}
 use Rattle.notify_play.proofs.Following.{steps_are_played}
 use Rattle.notify_play.proofs.Ordered.{steps_hold_in_order}
 use Rattle.notify_play.specs.NotifyPlay.{Drivers, NotifyPlay, after_step, after_steps, notify_played, unless_refused}
-use Rattle.notify_play.specs.Text.{notify_text_by, notify_text_of, notify_text_of_play}
+use Rattle.notify_play.specs.Text.{notify_text_by, notify_text_of_play}
 use Rattle.notify_text.proofs.Meanings.{every_text}
-use Rattle.notify_text.specs.Grammar.{Spells}
+use Rattle.notify_text.specs.Grammar.{IsFaultOf as IsFaultOfText, IsFirstFault, Spells}
 use Rattle.notify_text.specs.Sound.{IsSoundTold}
 use Rattle.notify_text.specs.Steps.{Step, steps_of}
 use Rattle.notify_text.specs.declared.notify_trace.NotifyTrace.{NotifyTrace}
@@ -21,17 +21,15 @@ use Rattle.ta_isa.specs.declared.boot.Boot.{Boot}
 use Rattle.trace_player.proofs.Booting.{AreApart, sound_boots}
 use Rattle.trace_player.specs.Starting.{uuids_of}
 use Rattle.trace_text.specs.Sound.{IsSoundBoot}
+use Rattle.trace_text.specs.declared.fault.TraceFault.{TraceFault}
+use Rattle.trace_text.specs.declared.fault.TraceFault.TheVariants.{Bad}
+use Rattle.trace_text.specs.declared.fault.TraceFault.TheVariants as fault
 use Rattle.word_parts.specs.Answer.{status_of_play}
-use Rattle.word_parts.specs.Line.{bad_trace_line}
-use Rattle.word_parts.specs.Keeping.{Keeps}
-use Rattle.word_parts.specs.Word.{HasOneMeaning, IsServedBy, Ran}
+use Rattle.word_parts.specs.Word.{Answered, HasOneMeaning, IsFaultOf, IsServedBy, Ran}
 use Rattle.word_parts.specs.declared.status.Status.{Status}
-use Rattle.word_parts.specs.declared.status.Status.TheVariants.{BadTrace, ReadFault, WriteFault, Memory, TooLong}
-use Rattle.word_parts.specs.declared.status.Status.TheVariants as status
-use Rattle.word_parts.proofs.Answering.{writes-named}
-use Rattle.word_parts.proofs.Worded.{some-and}
+use Rattle.word_parts.proofs.Ended.{IsUnserved, WasServed, ran-served, ran-served-or-not}
 use Rattle.notify_runner.specs.Notified.{HoldsBehind, IsPrinted, IsPrintedWith, IsUnplayed, Notifies, WasNotified, start_of}
-use Rattle.notify_runner.specs.Run.{CanBeBooted, notifying, refused_by}
+use Rattle.notify_runner.specs.Run.{CanBeBooted, WasRead, notifying, refused_by}
 
 -- ---- reading
 
@@ -139,83 +137,60 @@ printed_with natives drivers told result text old new (Some boot) boots is same 
 
 -- ---- an input
 
--- the status is none at which a text may be cut short
-record IsWhole (result : Status) : Type 0 where
-  no_read : result ≡ ReadFault → ⊥
-  no_write : result ≡ WriteFault → ⊥
-  no_want : result ≡ Memory → ⊥
-  no_fault : result ≡ BadTrace → ⊥
+-- what was served is what was played
+served_notified : (natives : List Native) (drivers : Drivers) (input : List ℕ) (result : Status) (old new : Option (List ℕ))
+    → WasServed (notifying natives drivers) input result old new → WasNotified natives drivers input result old new
+served_notified natives drivers input result old new served = record {
+  told = served.content;
+  spelled = served.spelled;
+  few = served.few;
+  printed = printed_with natives drivers served.content result served.text old new served.content.trace.boot served.known
+      served.is_text served.stands_for served.put;
+}
 
--- an input was played, or it was too much to be played
-abbrev WasDone : List Native → Drivers → List ℕ → Status → Option (List ℕ) → Option (List ℕ) → Type 0
-WasDone natives drivers input result old new =
-    ((result ≡ TooLong) × IsUnplayed natives input) ⊎ WasNotified natives drivers input result old new
-
-served_done : (natives : List Native) (drivers : Drivers) (input : List ℕ) (told : NotifyTrace) (result : Status)
-    (old new : Option (List ℕ)) → IsWhole result → Spells (uuids_of natives) input told
-    → CanBeBooted natives told told.trace.boot → IsServedBy (notifying natives drivers) told result old new
-    → WasDone natives drivers input result old new
-served_done natives drivers input told result old new whole spelled can (inl many) = inl (many.1, inr (told, spelled, many.0))
-served_done natives drivers input told result old new whole spelled can (inr (few, inl want)) =
-    absurd (whole.no_want want.0)
-served_done natives drivers input told result old new whole spelled can (inr (few, inr plays)) =
-    let text = some-and _ (notify_text_of natives drivers told) plays in
-    let put = writes-named _ text.0 result old new text.2 whole.no_write whole.no_want in
-    inr (record {
-      told = told;
-      spelled = spelled;
-      few = few;
-      printed = printed_with natives drivers told result text.0 old new told.trace.boot can text.1 put.0 put.1;
-    })
-
-ran_done : (natives : List Native) (drivers : Drivers) (input : List ℕ) (left : Option (List ℕ)) (result : Status)
-    (old new : Option (List ℕ)) → IsWhole result → Ran (notifying natives drivers) input left result old new
-    → WasDone natives drivers input result old new
-ran_done natives drivers input left result old new whole (inl ((inl fault), nothing)) = absurd (whole.no_read fault)
-ran_done natives drivers input left result old new whole (inl ((inr want), nothing)) = absurd (whole.no_want want)
-ran_done natives drivers input left result old new whole (inr (inl long)) = inl (long.0, inl long.1)
-ran_done natives drivers input left result old new whole (inr (inr (short, ended, inl want))) =
-    absurd (whole.no_want want.0)
-ran_done natives drivers input left result old new whole (inr (inr (short, ended, inr (inl refused)))) =
-    let put = writes-named BadTrace (bad_trace_line refused.place refused.kind) result old new refused.line
-    whole.no_write whole.no_want in
-    absurd (whole.no_fault put.0)
-ran_done natives drivers input left result old new whole (inr (inr (short, ended, inr (inr served)))) =
-    served_done natives drivers input served.content result old new whole served.spelled served.known served.served
-
-ran_notifies : (natives : List Native) (drivers : Drivers) (input : List ℕ) (left : Option (List ℕ)) (result : Status)
+-- what a call that keeps to the word shows
+pub ran_notifies : (natives : List Native) (drivers : Drivers) (input : List ℕ) (left : Option (List ℕ)) (result : Status)
     (old new : Option (List ℕ)) → Ran (notifying natives drivers) input left result old new
     → Notifies natives drivers input result old new
 ran_notifies natives drivers input left result old new ran = record {
-  ok = λ e. ok_done e (ran_done natives drivers input left result old new (record {
-    no_read = λ f. absurd cc;
-    no_write = λ f. absurd cc;
-    no_want = λ f. absurd cc;
-    no_fault = λ f. absurd cc;
-  }) ran);
-  too_long = λ e. long_done (ran_done natives drivers input left result old new (record {
-    no_read = λ f. absurd cc;
-    no_write = λ f. absurd cc;
-    no_want = λ f. absurd cc;
-    no_fault = λ f. absurd cc;
-  }) ran);
+  ok = λ e. served_notified natives drivers input result old new
+      (ran-served (notifying natives drivers) input left result old new ran e);
+  too_long = λ e. by_end (ran-served-or-not (notifying natives drivers) input left result old new ran e);
 }
   where
-    ok_done : result ≡ status.Ok → WasDone natives drivers input result old new
-        → WasNotified natives drivers input result old new
-    ok_done e (inl undone) = let long = undone.0 in absurd cc
-    ok_done e (inr done) = done
-
-    long_done : WasDone natives drivers input result old new
+    by_end : IsUnserved (notifying natives drivers) input ⊎ WasServed (notifying natives drivers) input result old new
         → IsUnplayed natives input ⊎ WasNotified natives drivers input result old new
-    long_done (inl undone) = inl undone.1
-    long_done (inr done) = inr done
+    by_end (inl unserved) = inl unserved
+    by_end (inr served) = inr (served_notified natives drivers input result old new served)
 
--- over an input that the source tells
-pub kept_notifies : (natives : List Native) (drivers : Drivers) (told left : Option (List ℕ)) (result : Status)
-    (old new : Option (List ℕ)) (no_fault : Type 0)
-    → IfSome told (λ input. Keeps (notifying natives drivers) input left result old new no_fault)
-    → IfSome told (λ input. Notifies natives drivers input result old new)
-kept_notifies natives drivers (Some input) left result old new no_fault kept =
-    ran_notifies natives drivers input left result old new kept.ran
-kept_notifies natives drivers None left result old new no_fault kept = tt
+-- ---- reading and serving
+
+-- what was read beside built-in applications of these UUIDs can be served
+pub was_read : (natives : List Native) (uuids : List (List ℕ)) (input : List ℕ) (read : Result NotifyTrace TraceFault)
+    → uuids ≡ uuids_of natives → length uuids ≤ 16 → AreApart uuids → IfOk read (λ told. Spells uuids input told)
+    → IfOk read (IsSoundTold uuids) → IfOk read (WasRead natives input)
+was_read natives uuids input (Ok told) same few apart spelled sound = record {
+  spelled = subst (λ (us : List (List ℕ)). Spells us input told) same spelled;
+  sound = subst (λ (us : List (List ℕ)). IsSoundTold us told) same sound;
+  boots = can_be_booted natives uuids told same few apart sound;
+}
+was_read natives uuids input (Err fault) same few apart spelled sound = tt
+
+pub was_refused : (natives : List Native) (drivers : Drivers) (uuids : List (List ℕ)) (input : List ℕ)
+    (read : Result NotifyTrace TraceFault) → uuids ≡ uuids_of natives → IfErr read (IsFaultOfText uuids input)
+    → IfErr read (IsFaultOf (notifying natives drivers) input)
+was_refused natives drivers uuids input (Ok told) same bad = tt
+was_refused natives drivers uuids input (Err (Bad place kind)) same bad =
+    subst (λ (us : List (List ℕ)). IsFirstFault us input place kind) same bad
+was_refused natives drivers uuids input (Err fault.Memory) same bad = tt
+
+-- and what is served of it is what the word answers
+pub answered : (natives : List Native) (drivers : Drivers) (input : List ℕ) (told : NotifyTrace) (result : Status)
+    (old new : Option (List ℕ)) → WasRead natives input told → IsServedBy (notifying natives drivers) told result old new
+    → Answered (notifying natives drivers) input result old new
+answered natives drivers input told result old new read served = inr (inr (record {
+  content = told;
+  spelled = read.spelled;
+  known = read.boots;
+  served = served;
+}))

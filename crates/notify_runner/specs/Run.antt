@@ -5,6 +5,7 @@ use Rattle.kernel_model.specs.Application.{IsBooted, Native, booted}
 use Rattle.notify_play.specs.NotifyPlay.{Drivers, NotifyPlay, notify_played}
 use Rattle.notify_play.specs.Text.{notify_text_of}
 use Rattle.notify_text.specs.Grammar.{IsFirstFault, Spells}
+use Rattle.notify_text.specs.Sound.{IsSoundTold}
 use Rattle.notify_text.specs.declared.notify_trace.NotifyTrace.{NotifyTrace}
 use Rattle.ta_isa.specs.declared.boot.Boot.{Boot}
 use Rattle.trace_player.specs.Starting.{uuids_of}
@@ -36,6 +37,12 @@ IsToldOf natives drivers told stopped old new =
 abbrev pub CanBeBooted : List Native → NotifyTrace → Option Boot → Type 0
 CanBeBooted natives told None = (told.trace.items ≡ []) × (told.signals ≡ [])
 CanBeBooted natives told (Some boot) = IsBooted (booted boot natives)
+
+-- the input spells this, which is within its limits, and a core can be booted for it
+pub record WasRead (natives : List Native) (input : List ℕ) (told : NotifyTrace) : Type 0 where
+  pub spelled : Spells (uuids_of natives) input told
+  pub sound : IsSoundTold (uuids_of natives) told
+  pub boots : CanBeBooted natives told told.trace.boot
 
 -- what an input spells, beside built-in applications and drivers, and what is written for it
 abbrev pub notifying : List Native → Drivers → Word

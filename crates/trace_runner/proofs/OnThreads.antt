@@ -1,6 +1,6 @@
 -- From the play of a trace on threads to what the top call says.
 use Rattle.std.proofs.Common.{◌≡◌, ℕ, ◌^◌, ◌≤◌, ◌⊎◌, inl, inr, Bool, true, false, List, [], ◌∷◌, ◌++◌, length, Option, Some, None, refl, sym, ap, subst, ◌∙◌, arith}
-use Rattle.std.specs.Prelude.{◌↔◌, IfNone, IfSome, IsTrue, replicate}
+use Rattle.std.specs.Prelude.{IfNone, IfSome, replicate}
 use Rattle.std.proofs.lemmas.List.{append-nil, length-replicate}
 use Rattle.base.specs.Zeros.{zeros}
 use Rattle.event_journal.specs.declared.event.Event.{Event}
@@ -23,12 +23,16 @@ use Rattle.trace_text.specs.Sound.{IsSound}
 use Rattle.trace_text.specs.declared.item.Item.{Item}
 use Rattle.trace_text.specs.declared.trace.Fill.{Fill}
 use Rattle.trace_text.specs.declared.trace.Trace.{Trace}
+use Rattle.alone_runner.specs.Commands.{DoesAlone}
 use Rattle.alone_runner.specs.Content.{Spells}
 use Rattle.alone_runner.specs.Plays.{IsUnplayed}
 use Rattle.alone_runner.specs.Run.{reading}
 use Rattle.word_parts.specs.Word.{CanBeRefused, IsBad, IsRefusedWhole}
 use Rattle.trace_player.specs.Starting.{trace_of, uuids_of}
+use Rattle.trace_runner.specs.Commands.{Does, DoesOnThreads}
 use Rattle.trace_runner.specs.Threads.{AnsweredOnThreads, AreBlocks, BlocksOf, CanBePlayedOnThreads, IsPlayedInOrder, IsPlayedOnThreads, IsServedByThreads, IsTrueInOrder, PrintsBlocks, RanOnThreads, ThreadStatuses, WritesPartOnThreads, status_where}
+use Rattle.alone_runner.specs.declared.command.Command.{Command}
+use Rattle.alone_runner.specs.declared.command.Command.TheVariants.{Serve, Threads, Record, Audit, Compare, Notify, Client, Work}
 use Rattle.alone_runner.specs.declared.content.Content.TheVariants as content
 use Rattle.alone_runner.specs.declared.command.Grammar.TheVariants.{Text}
 use Rattle.word_parts.specs.declared.status.Status.{Status}
@@ -37,6 +41,8 @@ use Rattle.word_parts.specs.declared.status.Status.TheVariants as status
 use Rattle.play_model.proofs.TrueToKernel.{exits_in, refused_in}
 use Rattle.alone_runner.proofs.Readings.{one_meaning}
 use Rattle.word_parts.specs.Answer.{Writes}
+use Rattle.word_parts.specs.BuiltIn.{BuiltIn}
+use Rattle.word_parts.specs.Call.{Call}
 use Rattle.word_parts.specs.Input.{IsAtEnd, IsTooLong, IsUnreadAs}
 use Rattle.word_parts.specs.Limits.{HasTooMany}
 use Rattle.word_parts.specs.Line.{bad_trace_line}
@@ -121,12 +127,6 @@ of-trace natives boot fills items on lanes is same = record { boots = refl; core
 pub none-put : (held : Option (List ℕ)) → Appends held held []
 none-put None = tt
 none-put (Some bytes) = sym (append-nil bytes)
-
--- the items that were counted are few
-pub few-items : (items counted : List Item) (many : Bool) → counted ≡ items → (IsTrue many ↔ HasTooMany counted)
-    → many ≡ false → HasTooMany items → ⊥
-few-items items counted many same told few has =
-    let yes = told.1 (subst (λ (all : List Item). HasTooMany all) (sym same) has) in absurd cc
 
 -- without a boot there are no items, and nothing is printed
 none-items : (P : Type 0) (boot : Option Boot) → boot ≡ None → IfNone boot P → P
@@ -381,10 +381,10 @@ ran-whole natives input left result old new trace can no_read no_write (inr (inr
 pub threads-whole : (natives : List Native) (told left : Option (List ℕ)) (result : Status) (old new : Option (List ℕ))
     (a b c d : ℕ) → (result ≡ ReadFault → Rose a b) → (result ≡ WriteFault → Rose c d)
     → IfSome told (λ input. RanOnThreads natives input left result old new)
-    → IfSome told (λ input. (trace : Trace) → CanBePlayedOnThreads natives input trace → (Rose a b → ⊥) → (Rose c d → ⊥)
+    → IfSome told (λ input. (trace : Trace) → CanBePlayedOnThreads natives input trace → (Rose a b → ⊥) × (Rose c d → ⊥)
     → PrintsBlocks natives trace result old new ⊎ (result ≡ Memory))
-threads-whole natives (Some input) left result old new a b c d read write ran = λ trace can no_read no_write.
-    ran-whole natives input left result old new trace can (λ e. no_read (read e)) (λ e. no_write (write e)) ran
+threads-whole natives (Some input) left result old new a b c d read write ran = λ trace can quiet.
+    ran-whole natives input left result old new trace can (λ e. quiet.0 (read e)) (λ e. quiet.1 (write e)) ran
 threads-whole natives None left result old new a b c d read write ran = tt
 
 -- ---- inputs that leave their grammar
@@ -412,8 +412,35 @@ ran-refused natives input left result old new can no_read no_write (inr (inr (sh
 pub threads-refused : (natives : List Native) (told left : Option (List ℕ)) (result : Status) (old new : Option (List ℕ))
     (a b c d : ℕ) → (result ≡ ReadFault → Rose a b) → (result ≡ WriteFault → Rose c d)
     → IfSome told (λ input. RanOnThreads natives input left result old new)
-    → IfSome told (λ input. CanBeRefused (reading Text natives) input → (Rose a b → ⊥) → (Rose c d → ⊥)
+    → IfSome told (λ input. CanBeRefused (reading Text natives) input → (Rose a b → ⊥) × (Rose c d → ⊥)
     → IsRefusedWhole (reading Text natives) input result old new ⊎ (result ≡ Memory))
-threads-refused natives (Some input) left result old new a b c d read write ran = λ can no_read no_write.
-    ran-refused natives input left result old new can (λ e. no_read (read e)) (λ e. no_write (write e)) ran
+threads-refused natives (Some input) left result old new a b c d read write ran = λ can quiet.
+    ran-refused natives input left result old new can (λ e. quiet.0 (read e)) (λ e. quiet.1 (write e)) ran
 threads-refused natives None left result old new a b c d read write ran = tt
+
+-- ---- a call
+
+-- all of that
+pub does-on-threads : (natives : List Native) (call : Call) → (call.result ≡ ReadFault → Rose call.source_old call.source_new)
+    → (call.result ≡ WriteFault → Rose call.sink_old call.sink_new) → (call.result ≡ Memory → call.new ≡ call.old)
+    → IfSome call.told (λ input. RanOnThreads natives input call.left call.result call.old call.new) → DoesOnThreads natives call
+does-on-threads natives call read write memory ran = record {
+  ran = ran;
+  statuses = threads-statuses natives call.told call.left call.result call.old call.new ran;
+  memory = memory;
+  complete = threads-whole natives call.told call.left call.result call.old call.new call.source_old call.source_new
+      call.sink_old call.sink_new read write ran;
+  refuses = threads-refused natives call.told call.left call.result call.old call.new call.source_old call.source_new
+      call.sink_old call.sink_new read write ran;
+}
+
+-- what is answered without threads is answered so
+pub does-alone : (built : BuiltIn) (command : Command) (call : Call) → DoesAlone built command call → Does built command call
+does-alone built (Serve grammar) call does = does
+does-alone built Threads call never = absurd never
+does-alone built Record call does = does
+does-alone built Audit call does = does
+does-alone built (Compare subject) call does = does
+does-alone built Notify call does = does
+does-alone built Client call does = does
+does-alone built (Work seed count) call does = does

@@ -5,6 +5,7 @@ ghost use Rattle.native_tas.specs.Table.{entries};
 ghost use Rattle.ports.specs.Port.{Appends, Rose};
 ghost use Rattle.trace_text.specs.Sound.{IsSound};
 ghost use Rattle.trace_player.specs.Starting.{trace_of, uuids_of};
+ghost use Rattle.word_parts.specs.Faults.{TellsFaults};
 ghost use Rattle.word_parts.specs.Input.{TakesAtMost};
 ghost use Rattle.trace_runner.specs.Threads.{AnsweredOnThreads, IsPlayedInOrder, IsServedByThreads, RanOnThreads, status_where};
 
@@ -72,11 +73,8 @@ fn answer_trace<R: Threads + Wait + Sync, K: Sink, G: Pace + Sync>(
 ) -> Status
     requires { IsSound (uuids_of (entries natives.now)) trace }
     ensures served { IsServedByThreads (entries natives.now) trace result (K.held out.old) (K.held out.new) }
-    ensures words { result ≡ Status.Usage → ⊥ }
-    ensures write_fault { result ≡ Status.WriteFault → Rose (K.faults out.old) (K.faults out.new) }
     ensures memory { result ≡ Status.Memory → K.held out.new ≡ K.held out.old }
-    ensures count { K.faults out.old ≤ K.faults out.new }
-    ensures stays { result ≢ Status.WriteFault → K.faults out.new ≡ K.faults out.old }
+    ensures faults { TellsFaults result (K.faults out.old) (K.faults out.new) }
 {
     if has_too_many(trace.items.as_slice()) {
         return Status::TooLong;
@@ -110,11 +108,8 @@ fn answer_input<R: Threads + Wait + Sync, K: Sink, G: Pace + Sync>(
 ) -> Status
     requires { length input.items ≤ 2 ^ 24 }
     ensures answered { AnsweredOnThreads (entries natives.now) input.items result (K.held out.old) (K.held out.new) }
-    ensures words { result ≡ Status.Usage → ⊥ }
-    ensures write_fault { result ≡ Status.WriteFault → Rose (K.faults out.old) (K.faults out.new) }
     ensures memory { result ≡ Status.Memory → K.held out.new ≡ K.held out.old }
-    ensures count { K.faults out.old ≤ K.faults out.new }
-    ensures stays { result ≢ Status.WriteFault → K.faults out.new ≡ K.faults out.old }
+    ensures faults { TellsFaults result (K.faults out.old) (K.faults out.new) }
 {
     let read = read_trace(alloc, input.as_slice(), natives.uuids().as_slice());
     drop(input);
@@ -135,16 +130,13 @@ pub fn run_on_threads<R: Threads + Wait + Sync, S: Source, K: Sink, G: Pace + Sy
 ) -> Status
     ensures told { IfSome (S.left input.old) (λ bytes.
         RanOnThreads (entries natives.now) bytes (S.left input.new) result (K.held out.old) (K.held out.new)) }
-    ensures words { result ≡ Status.Usage → ⊥ }
     ensures read_fault { result ≡ Status.ReadFault →
         Rose (S.faults input.old) (S.faults input.new) × Appends (K.held out.old) (K.held out.new) [] }
-    ensures write_fault { result ≡ Status.WriteFault → Rose (K.faults out.old) (K.faults out.new) }
+    ensures faults { TellsFaults result (K.faults out.old) (K.faults out.new) }
     ensures memory { result ≡ Status.Memory → K.held out.new ≡ K.held out.old }
     ensures taken { TakesAtMost (2 ^ 24 + 1) (S.left input.old) (S.left input.new) }
     ensures input_count { S.faults input.old ≤ S.faults input.new }
-    ensures out_count { K.faults out.old ≤ K.faults out.new }
     ensures input_stays { result ≢ Status.ReadFault → S.faults input.new ≡ S.faults input.old }
-    ensures out_stays { result ≢ Status.WriteFault → K.faults out.new ≡ K.faults out.old }
 {
     match read_whole(alloc, input) {
         Ok(bytes) => answer_input(rt, alloc, bytes, out, natives, pace),

@@ -1,5 +1,5 @@
 -- What is known of a status, by what was written with it.
-use Rattle.std.proofs.Common.{◌≡◌, ℕ, ◌⊎◌, inl, inr, List, Option, Some, None, refl, sym, ◌∙◌}
+use Rattle.std.proofs.Common.{◌≡◌, ℕ, ◌⊎◌, inl, inr, List, Option, Some, None, refl}
 use Rattle.std.specs.Prelude.{IsSome, Result, Ok, Err}
 use Rattle.ports.specs.Port.{Appends}
 use Rattle.word_parts.specs.Answer.{Writes, status_of, status_of_play}
@@ -64,12 +64,6 @@ not-usage (Ok done) e = absurd cc
 not-usage (Err Full) e = absurd cc
 not-usage (Err Failed) e = absurd cc
 not-usage (Err stop.Memory) e = absurd cc
-
-pub writes-not-usage : (text : List ℕ) (result : Status) (old new : Option (List ℕ))
-    → Writes BadTrace text result old new → result ≡ status.Usage → ⊥
-writes-not-usage text result old new (inl whole) e = let is = sym whole.0 ∙ e in absurd cc
-writes-not-usage text result old new (inr ((inl fault), part)) e = let is = sym fault ∙ e in absurd cc
-writes-not-usage text result old new (inr ((inr want), part)) e = let is = sym want ∙ e in absurd cc
 
 pub failed-only : (stopped : Result (Unit {0}) Stop) → status_of stopped ≡ WriteFault → stopped ≡ Err Failed
 failed-only (Ok done) e = absurd cc

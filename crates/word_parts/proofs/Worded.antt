@@ -1,6 +1,6 @@
 -- From what was read, played and answered to what a word says of it.
 use Rattle.std.proofs.Common.{◌≡◌, ℕ, ◌^◌, ◌≤◌, ◌⊎◌, inl, inr, List, [], ◌++◌, length, Option, Some, None, refl, sym, ap, subst, ◌∙◌, arith}
-use Rattle.std.specs.Prelude.{IfSome, IsSome, IsSomeAnd, Result, Ok, Err}
+use Rattle.std.specs.Prelude.{IfSome, IsSomeAnd, Result, Ok, Err}
 use Rattle.std.proofs.lemmas.List.{append-nil}
 use Rattle.ports.specs.Port.{Appends, Moves, Rose}
 use Rattle.ports.specs.PortLaws.{Appends-nil}
@@ -52,15 +52,6 @@ pub fault-refused : (word : Word) (input : List ℕ) (why : TraceFault) (result 
 fault-refused word input (fault.Bad place kind) result old new first line =
     inr (record { place = place; kind = kind; first = first place kind refl; line = line })
 fault-refused word input fault.Memory result old new first want = inl want
-
-pub fault-answered : (word : Word) (input : List ℕ) (why : TraceFault) (result : Status) (old new : Option (List ℕ))
-    → ((place : ℕ) (kind : BadKind) → why ≡ fault.Bad place kind → word.IsFirstFault input place kind)
-    → AnswersFault why result old new → Answered word input result old new
-fault-answered word input why result old new first answers =
-    elim (fault-refused word input why result old new first answers) [
-      | inl want ↦ inl want
-      | inr refused ↦ inr (inl refused)
-    ]
 
 -- an option that has something has this
 pub some-and : {X : Type 0} (P : X → Type 0) (o : Option X) → IsSomeAnd o P → (x : X) × (o ≡ Some x) × P x
@@ -224,12 +215,6 @@ ran-statuses word input left result old new ran = record {
   bad_trace = λ e. ran-bad word input left old new (subst (λ (s : Status). Ran word input left s old new) e ran);
   part = ran-part word input left result old new ran;
 }
-
-pub told-statuses : (word : Word) (told left : Option (List ℕ)) (result : Status)
-    (old new : Option (List ℕ)) → IfSome told (λ input. Ran word input left result old new)
-    → IfSome told (λ input. Statuses word input left result old new)
-told-statuses word (Some input) left result old new ran = ran-statuses word input left result old new ran
-told-statuses word None left result old new ran = tt
 
 -- ---- completeness
 

@@ -5,7 +5,10 @@ pub mod Output
 pub mod Line
 pub mod Limits
 pub mod Answer
+pub mod Faults
 pub mod Gathering
+pub mod BuiltIn
 pub mod Word
 pub mod Keeping
+pub mod Call
 pub mod Examples

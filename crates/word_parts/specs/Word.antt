@@ -2,6 +2,8 @@
 use Rattle.std.specs.Prelude.{◌≡◌, ℕ, ◌^◌, ◌≤◌, ◌⊎◌, List, [], length, Option, Some, None, IsSome, IsSomeAnd}
 use Rattle.ports.specs.Port.{Appends}
 use Rattle.trace_text.specs.declared.fault.BadKind.{BadKind}
+use Rattle.trace_text.specs.declared.fault.TraceFault.{TraceFault}
+use Rattle.trace_text.specs.declared.fault.TraceFault.TheVariants as fault
 use Rattle.word_parts.specs.Answer.{IsUnread, Writes, status_of_play}
 use Rattle.word_parts.specs.Input.{IsTooLong}
 use Rattle.word_parts.specs.Line.{bad_trace_line}
@@ -25,6 +27,11 @@ pub record Word : Type 1 where
   pub text_for : Content → Option (List ℕ)
   -- how many bytes the entry would have read that its play refuses, where it refuses one
   pub refused_for : Content → Option ℕ
+
+-- the fault by which an input was refused is its first; at want of memory it may have one or none
+abbrev pub IsFaultOf : Word → List ℕ → TraceFault → Type 0
+IsFaultOf word input (fault.Bad place kind) = word.IsFirstFault input place kind
+IsFaultOf word input fault.Memory = Unit {0}
 
 -- ---- what an input spells
 

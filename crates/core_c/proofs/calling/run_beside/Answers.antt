@@ -4,8 +4,9 @@ use Rattle.std.specs.Prelude.{◌++◌}
 use Rattle.native_tas.specs.Table.{drivers, entries}
 use Rattle.alone_runner.specs.Run.{usage_line}
 use Rattle.word_parts.specs.Answer.{Writes}
+use Rattle.word_parts.specs.BuiltIn.{built_in}
 use Rattle.word_parts.specs.declared.status.Status.TheVariants.{Usage}
-use Rattle.core_c.proofs.Runs.{Clauses, not_threads, of_clauses, of_threads}
+use Rattle.core_c.proofs.Runs.{Clauses, memory_call, not_threads, of_clauses, of_threads}
 use Rattle.core_c.proofs.calling.run_beside.Goals as goal
 
 pub returns-else-asks_threads : goal.returns-else-asks_threads
@@ -18,22 +19,13 @@ returns-else-asks_threads g c =
     let left = Some c.run_alone.new.input.left.now in
     let output = c.run_alone.new.out.held.items in
     of_clauses natives notified texts input left c.run_alone.result output
-    (subst (λ (held : List ℕ). Clauses natives notified texts input left c.run_alone.result (Some held) (Some output)) c.requires
+    (subst (λ (held : List ℕ). Clauses (built_in c.args.natives.now) texts (memory_call input left c.run_alone.result held output))
+    c.requires
     (record {
       alone = not_threads texts c.asks_threads.result c.asks_threads.ensures c.if-asks_threads.false;
       usage = e.usage;
       other_words = λ nothing. (e.other_words nothing).0;
-      serves = e.serves;
-      plays = e.plays;
-      records = e.records;
-      audits = e.audits;
-      compares = e.compares;
-      notifies = e.notifies;
-      plays_scripts = e.plays_scripts;
-      worked = e.worked;
-      work_statuses = e.work_statuses;
-      work_plays = e.work_plays;
-      work_complete = e.work_complete;
+      does = e.does;
       reads = λ is. (e.read_fault is).1;
       writes = e.write_fault;
     }))

@@ -1,4 +1,4 @@
-use Rattle.std.proofs.Common.{List, ℕ, inl, inr, subst}
+use Rattle.std.proofs.Common.{List, ℕ, inr, subst}
 use Rattle.native_tas.specs.Table.{entries}
 use Rattle.trace_player.specs.Refused.{refused_in}
 use Rattle.trace_player.specs.Starting.{trace_of}
@@ -17,16 +17,9 @@ returns-in-Ok-clause-done g c =
 pub returns-in-Ok-clause-spelled : goal.returns-in-Ok-clause-spelled
 returns-in-Ok-clause-spelled g c = inr (inr c.in-Ok.ensures.spelled)
 
-pub returns-in-Ok-clause-words : goal.returns-in-Ok-clause-words
-returns-in-Ok-clause-words g c =
-    play_not_usage (refused_in (entries c.args.natives.now) (trace_of c.args.boot c.args.fills.now c.args.items.now))
-    c.in-Ok.recorded.status _ _ _ _ c.in-Ok.ensures.status c.answer_line.ensures.line
-
-pub returns-in-Ok-clause-write_fault : goal.returns-in-Ok-clause-write_fault
-returns-in-Ok-clause-write_fault g c = λ e.
-    elim (c.answer_line.ensures.write_fault e) [
-      | inl fault ↦ absurd (play_never_fails
-          (refused_in (entries c.args.natives.now) (trace_of c.args.boot c.args.fills.now c.args.items.now))
-          c.in-Ok.recorded.status c.in-Ok.ensures.status fault)
-      | inr rose ↦ rose
-    ]
+pub returns-in-Ok-clause-faults : goal.returns-in-Ok-clause-faults
+returns-in-Ok-clause-faults g c =
+    let refused = refused_in (entries c.args.natives.now) (trace_of c.args.boot c.args.fills.now c.args.items.now) in
+    let status = c.in-Ok.recorded.status in
+    c.answer_line.ensures.faults (play_not_usage refused status c.in-Ok.ensures.status)
+    (play_never_fails refused status c.in-Ok.ensures.status)

@@ -3,9 +3,10 @@ use Rattle.std.proofs.Common.{List, ℕ, refl, subst}
 use Rattle.native_tas.specs.Table.{entries}
 use Rattle.trace_player.specs.Starting.{trace_of, uuids_of}
 use Rattle.trace_runner.specs.Threads.{status_where}
+use Rattle.word_parts.proofs.Serving.{few-items}
 use Rattle.word_parts.specs.Answer.{Writes}
 use Rattle.word_parts.specs.declared.status.Status.{Status}
-use Rattle.trace_runner.proofs.OnThreads.{few-items, none-put, served-none, served-some}
+use Rattle.trace_runner.proofs.OnThreads.{none-put, served-none, served-some}
 use Rattle.trace_player.proofs.Playable.{same-trace}
 use Rattle.trace_runner.proofs.threads.answer_trace.Goals as goal
 

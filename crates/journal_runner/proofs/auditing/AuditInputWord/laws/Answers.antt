@@ -1,0 +1,10 @@
+use Rattle.word_parts.specs.Call.{HasNoFault}
+use Rattle.journal_runner.proofs.Audited.{kept_audits, one_meaning}
+use Rattle.journal_runner.proofs.auditing.AuditInputWord.laws.Goals as goal
+
+pub returns-clause-one_meaning : goal.returns-clause-one_meaning
+returns-clause-one_meaning c = λ built input. one_meaning built.natives input
+
+pub returns-clause-shown : goal.returns-clause-shown
+returns-clause-shown c = λ built input call kept.
+    kept_audits built.natives input call.left call.result call.old call.new (HasNoFault call) kept
