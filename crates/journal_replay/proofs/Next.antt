@@ -1,7 +1,10 @@
 -- What is known of an event that can be next.
-use Rattle.std.proofs.Common.{◌≡◌, [], ◌∷◌, ◌++◌, Bool, true, false, Option, Some, refl, ap, sym, ◌∙◌}
-use Rattle.std.specs.Prelude.{IsTrue, Ok}
+use Rattle.std.proofs.Common.{◌≡◌, [], ◌∷◌, ◌++◌, Bool, true, false, Option, Some, refl, ap, sym, subst, ◌∙◌}
+use Rattle.std.specs.Prelude.{IsTrue, Result, Ok, Err}
 use Rattle.std.specs.Option.{option_and_then}
+use Rattle.audit_model.specs.Verdicts.{IsFaultless}
+use Rattle.base.specs.declared.no_memory.NoMemory.{NoMemory}
+use Rattle.core_at_work.specs.declared.core_at_work.CoreAtWork.{CoreAtWork}
 use Rattle.event_journal.specs.declared.event.Event.{Event}
 use Rattle.journal_replay.specs.Laws.{ReplaysAreFaultless}
 use Rattle.journal_replay.specs.Replaying.{CanBeNext, Does, HasDone, boot_of, done_by}
@@ -16,6 +19,7 @@ use Rattle.kernel_model.specs.Kernel.{Kernel, first_kernel}
 use Rattle.kernel_model.specs.Turns.{ReadsRam}
 use Rattle.kernel_state.proofs.CoreEvents.{core_is_legal, some_kernel}
 use Rattle.kernel_state.proofs.Told.{reads_agree}
+use Rattle.kernel_state.specs.Meaning.{booted_of, events_of}
 use Rattle.kernel_state.specs.Reads.{ReadsAgree}
 
 -- ---- the events that were done
@@ -57,3 +61,14 @@ pub does_so : (old new : Replay) (event : Event) (answer : Bool) → (IsTrue ans
     → Does old new event (Ok answer)
 does_so old new event true done can = done refl
 does_so old new event false done can = λ next. let no : IsTrue false = can next in absurd cc
+
+-- RAM is no part of what was done
+pub does_still : (old laid new : Replay) (event : Event) (result : Result Bool NoMemory) → laid.at_work ≡ old.at_work
+    → Does laid new event result → Does old new event result
+does_still old laid new event (Ok true) same has = record {
+  boot = has.boot ∙ ap (λ (at_work : CoreAtWork). booted_of at_work.core) same;
+  events = has.events ∙ ap (λ (at_work : CoreAtWork). events_of at_work.core ++ event ∷ []) same;
+}
+does_still old laid new event (Ok false) same cannot = λ can.
+    cannot (subst (λ (at_work : CoreAtWork). IsFaultless (booted_of at_work.core) (events_of at_work.core ++ event ∷ [])) (sym same) can)
+does_still old laid new event (Err error) same does = tt

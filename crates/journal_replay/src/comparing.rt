@@ -1,7 +1,7 @@
 //! Whether an event that was done again is that of the journal.
 ghost use Rattle.std.specs.Prelude.{◌≡◌, ◌↔◌, ℕ, List, [], ◌∷◌, ◌++◌, IsTrue};
 ghost use Rattle.event_journal.specs.declared.event.Event.{Event as AnyEvent};
-ghost use Rattle.event_journal.specs.declared.event.Event.TheVariants.{Entry};
+ghost use Rattle.event_journal.specs.declared.event.Event.TheVariants.{Entry, Exit};
 ghost use Rattle.ns_ram.specs.declared.read.Read.{Read as AnyRead};
 ghost use Rattle.smc_abi.specs.declared.regs.Regs.{Regs as AnyRegs};
 
@@ -59,6 +59,27 @@ pub(crate) fn last_has_read(events: &[Event], reads: &[Read]) -> bool
 {
     match events.last() {
         Some(last) => has_read(last, reads),
+        None => false,
+    }
+}
+
+/// An exit has left these registers.
+fn has_left(event: &Event, regs: &Regs) -> bool
+    ensures { (cpu : ℕ) (told : AnyRegs) → event.now ≡ Exit cpu told → (IsTrue result ↔ (told.a ≡ regs.now.a)) }
+{
+    match event {
+        Event::Exit { regs: told, .. } => are_same_regs(*told, regs),
+        Event::Entry { .. } => false,
+    }
+}
+
+/// The last event, an exit, has these registers.
+pub fn last_has_left(events: &[Event], regs: &Regs) -> bool
+    ensures { (before : List AnyEvent) (cpu : ℕ) (told : AnyRegs)
+        → events.now ≡ before ++ Exit cpu told ∷ [] → (IsTrue result ↔ (told.a ≡ regs.now.a)) }
+{
+    match events.last() {
+        Some(last) => has_left(last, regs),
         None => false,
     }
 }

@@ -1,12 +1,17 @@
 //! Doing events again.
-ghost use Rattle.std.specs.Prelude.{◌≡◌, ◌≤◌, ◌^◌, [], ◌∷◌, ◌++◌, IfOk, Ok};
+ghost use Rattle.std.specs.Prelude.{◌≡◌, ◌↔◌, ◌≤◌, ◌^◌, [], ◌∷◌, ◌++◌, IfOk, IsTrue, Ok, true};
 ghost use Rattle.core_at_work.specs.Booting.{IsApart};
+ghost use Rattle.core_at_work.specs.Working.{HasComeIn};
 ghost use Rattle.event_journal.specs.Journal.{copied_bytes};
 ghost use Rattle.event_journal.specs.declared.event.Event.TheVariants.{Entry, Exit};
+ghost use Rattle.journal_replay.specs.Laying.{AreOfOneRam};
 ghost use Rattle.journal_replay.specs.Replaying.{Does, boot_of, done_by};
+ghost use Rattle.kernel_entry.specs.Visiting.{coming_of};
 ghost use Rattle.kernel_model.specs.Application.{booted};
 ghost use Rattle.kernel_state.specs.Booting.{IsWithinLimits};
+ghost use Rattle.kernel_state.specs.Entering.{CanEnter};
 ghost use Rattle.native_tas.specs.Table.{entries};
+ghost use Rattle.ns_ram.specs.Reads.{HoldsReads};
 
 use crate::comparing::{are_same_regs, last_has_read};
 use crate::laying::lay;
@@ -69,10 +74,38 @@ impl Replay {
         requires { copied_bytes (done_by self.old ++ Entry visitor.cpu visitor.regs visitor.steps reads.now ∷ []) ≤ 2 ^ 28 }
         ensures { Does self.old self.new (Entry visitor.cpu visitor.regs visitor.steps reads.now) result }
     {
-        if !self.at_work.may_enter(&visitor) {
+        if !self.awaits(&visitor, reads) {
             return Ok(false);
         }
+        self.enters(alloc, visitor, reads)
+    }
+
+    /// Whether this visitor can come in. Where it can, RAM has what it reads from then on, if that can be of one RAM.
+    pub fn awaits(&mut self, visitor: &Visitor, reads: &[Read]) -> bool
+        ensures can { IsTrue result ↔ CanEnter self.old.at_work.core (coming_of visitor.now) }
+        ensures laid { IsTrue result → AreOfOneRam reads.now → HoldsReads self.new.lane reads.now }
+        ensures stays { self.new.at_work ≡ self.old.at_work }
+    {
+        if !self.at_work.may_enter(visitor) {
+            return false;
+        }
         lay(&mut self.lane, reads);
+        true
+    }
+
+    /// A visitor that can come in does, over RAM that has what it reads, and does its granted steps; whether it has read that.
+    pub fn enters(
+        &mut self,
+        alloc: Global,
+        visitor: Visitor,
+        reads: &[Read],
+    ) -> Result<bool, NoMemory>
+        requires can { CanEnter self.old.at_work.core (coming_of visitor) }
+        requires laid { AreOfOneRam reads.now → HoldsReads self.old.lane reads.now }
+        requires few { copied_bytes (done_by self.old ++ Entry visitor.cpu visitor.regs visitor.steps reads.now ∷ []) ≤ 2 ^ 28 }
+        ensures does { Does self.old self.new (Entry visitor.cpu visitor.regs visitor.steps reads.now) result }
+        ensures came { result ≡ Ok true → HasComeIn self.old.at_work self.new.at_work visitor self.old.lane }
+    {
         match self.at_work.enter(alloc, visitor, &self.lane) {
             Ok(()) => {
                 let events = self.at_work.core.parts.journal.as_slice();

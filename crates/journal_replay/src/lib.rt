@@ -15,6 +15,7 @@ mod laying;
 mod replay;
 
 pub use base::NoMemory;
+pub use comparing::last_has_left;
 pub use laws::replays_are_faultless;
 pub use laying::lay;
 pub use replay::Replay;

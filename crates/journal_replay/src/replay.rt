@@ -4,7 +4,7 @@ use ns_ram::Lane;
 /// A core on which the events of a journal are done again.
 #[derive(Drop)]
 pub struct Replay {
-    pub(crate) at_work: CoreAtWork,
+    pub at_work: CoreAtWork,
     /// RAM, written before each entry with what that read.
-    pub(crate) lane: Lane,
+    pub lane: Lane,
 }

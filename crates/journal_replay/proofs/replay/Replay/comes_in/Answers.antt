@@ -1,36 +1,33 @@
--- The processor comes in, and its reads are compared.
-use Rattle.std.proofs.Common.{◌∙◌}
-use Rattle.journal_replay.specs.Replaying.{done_by}
-use Rattle.journal_replay.proofs.Entered.{can_enter, entered, entry_of, never_full, of_one_ram, same_reads}
-use Rattle.journal_replay.proofs.Next.{does_so}
+-- A visitor that can come in does.
+use Rattle.std.proofs.Common.{◌≤◌, ◌^◌, [], ◌∷◌, ◌++◌, subst, sym}
+use Rattle.core_at_work.specs.declared.core_at_work.CoreAtWork.{CoreAtWork}
+use Rattle.event_journal.specs.Journal.{copied_bytes}
+use Rattle.journal_replay.proofs.Entered.{can_enter, entry_of}
+use Rattle.journal_replay.proofs.Next.{does_still}
+use Rattle.kernel_entry.specs.Visiting.{coming_of}
+use Rattle.kernel_state.specs.Entering.{CanEnter}
+use Rattle.kernel_state.specs.Meaning.{events_of}
 use Rattle.journal_replay.proofs.replay.Replay.comes_in.Goals as goal
 
-pub returns-then-not-may_enter : goal.returns-then-not-may_enter
-returns-then-not-may_enter c can =
-    let may = c.may_enter.ensures.1 (can_enter c.args.self.now c.args.visitor c.args.reads.now can) in
+pub returns-then-not-awaits : goal.returns-then-not-awaits
+returns-then-not-awaits c can =
+    let may = c.awaits.ensures.can.1 (can_enter c.args.self.now c.args.visitor c.args.reads.now can) in
     absurd cc
 
-pub enter-requires : goal.enter-requires
-enter-requires c = c.may_enter.ensures.0 c.if-not-may_enter.false
+pub enters-requires-clause-can : goal.enters-requires-clause-can
+enters-requires-clause-can c =
+    subst (λ (at_work : CoreAtWork). CanEnter at_work.core (coming_of c.args.visitor)) (sym c.awaits.ensures.stays)
+    (c.awaits.ensures.can.0 c.if-not-awaits.false)
 
-pub returns-in-Ok : goal.returns-in-Ok
-returns-in-Ok c =
-    let old = c.args.self.now in
-    let visitor = c.args.visitor in
-    let reads = c.args.reads.now in
-    let lane = c.lay.new.lane in
-    let come = c.in-Ok.ensures in
-    let has = come.entered in
-    let told = c.last_has_read.ensures (done_by old) visitor.cpu visitor.steps visitor.regs has.reads (c.as_slice-events.ensures ∙ has.events) in
-    does_so old _ (entry_of visitor reads) c.last_has_read.result
-    (λ same. entered old visitor reads _ lane come.work has (told.0 same))
-    (λ can. told.1 (same_reads old visitor reads can lane (c.lay.ensures (of_one_ram old visitor reads can)) c.enter.new.self.core
-    come.work has))
+pub enters-requires-clause-laid : goal.enters-requires-clause-laid
+enters-requires-clause-laid c = c.awaits.ensures.laid c.if-not-awaits.false
 
-pub returns-in-Err-Full : goal.returns-in-Err-Full
-returns-in-Err-Full c can =
-    let old = c.args.self.now in
-    let visitor = c.args.visitor in
-    let reads = c.args.reads.now in
-    never_full old visitor reads can c.lay.new.lane (c.lay.ensures (of_one_ram old visitor reads can)) c.in-Err-Full.field-0-0
-    c.in-Err-Full.field-0-1 c.requires (rw c.in-Err-Full.field-0-is at c.in-Err-Full.ensures).1
+pub enters-requires-clause-few : goal.enters-requires-clause-few
+enters-requires-clause-few c =
+    subst (λ (at_work : CoreAtWork). copied_bytes (events_of at_work.core ++ entry_of c.args.visitor c.args.reads.now ∷ []) ≤ 2 ^ 28)
+    (sym c.awaits.ensures.stays) c.requires
+
+pub returns : goal.returns
+returns c =
+    does_still c.args.self.now c.awaits.new.self c.enters.new.self (entry_of c.args.visitor c.args.reads.now) c.enters.result
+    c.awaits.ensures.stays c.enters.ensures.does
