@@ -1,18 +1,18 @@
 -- What is noted by one event more.
 use Rattle.std.proofs.Common.{◌≡◌, ℕ, List, [], ◌∷◌, ◌++◌, Option, Some, ap, sym, ◌∙◌}
-use Rattle.std.specs.Prelude.{IsSome}
 use Rattle.std.specs.Option.{option_and_then, option_map_or}
 use Rattle.std.proofs.lemmas.Option.{option_and_then_some}
 use Rattle.event_journal.specs.declared.event.Event.{Event}
-use Rattle.kernel_model.proofs.Parts.{some_of}
 use Rattle.kernel_model.proofs.Past.{after_events-append}
 use Rattle.kernel_model.proofs.Suspended.{only_one}
 use Rattle.kernel_model.specs.Application.{Booted}
 use Rattle.kernel_model.specs.History.{after_event, after_events, kernel_after}
 use Rattle.kernel_model.specs.Kernel.{Kernel, first_kernel}
+use Rattle.kernel_state.specs.Meaning.{booted_of, events_of, kernel_of}
+use Rattle.kernel_state.specs.declared.kernel_core.Core.{Core}
 use Rattle.own_model.specs.Own.{Notes, event_noted, no_notes, noted, noted_from}
 
-noted_then : (boot : Booted) (session : ℕ) (kernel last next : Kernel) (notes : Notes) (events : List Event) (event : Event)
+pub noted_then : (boot : Booted) (session : ℕ) (kernel last next : Kernel) (notes : Notes) (events : List Event) (event : Event)
     → after_events boot kernel events ≡ Some last → after_event boot last event ≡ Some next
     → noted_from boot session kernel notes (events ++ event ∷ [])
     ≡ event_noted session last next (noted_from boot session kernel notes events) event
@@ -31,24 +31,22 @@ noted_then boot session kernel last next notes (first ∷ events) event at then 
     (sym (ap (λ (o : Option Kernel). option_map_or (λ (n : Kernel).
     noted_from boot session n (event_noted session kernel n notes first) events) o notes) is)))
 
--- the kernel behind one event more, and what is noted by then
-pub record Follows (boot : Booted) (history : List Event) (kernel : Kernel) (event : Event) : Type 0 where
-  pub next : Kernel
-  pub gives : after_event boot kernel event ≡ Some next
-  pub comes_to : kernel_after boot (history ++ event ∷ []) ≡ Some next
-  pub noted_more : (session : ℕ) → noted boot (history ++ event ∷ []) session
-      ≡ event_noted session kernel next (noted boot history session) event
+-- ---- on a core that has done one event more
 
-pub follows : (boot : Booted) (history : List Event) (kernel : Kernel) (event : Event) → kernel_after boot history ≡ Some kernel
-    → IsSome (kernel_after boot (history ++ event ∷ [])) → Follows boot history kernel event
-follows boot history kernel event at some =
-    let last = some_of (kernel_after boot (history ++ event ∷ [])) some in
-    let gives = only_one (after_event boot kernel event) last.0
-    (sym (after_events-append boot (first_kernel boot) history (event ∷ [])
-    ∙ ap (λ (o : Option Kernel). option_and_then (λ k. after_events boot k (event ∷ [])) o) at) ∙ last.1) in
-    record {
-      next = last.0;
-      gives = gives;
-      comes_to = last.1;
-      noted_more = λ session. noted_then boot session (first_kernel boot) kernel last.0 no_notes history event at gives;
-    }
+-- the kernel before it goes on to the one behind it
+pub goes_on : (old new : Core) (event : Event) → booted_of new ≡ booted_of old → events_of new ≡ events_of old ++ event ∷ []
+    → (kernel next : Kernel) → kernel_of old ≡ Some kernel → kernel_of new ≡ Some next → after_event (booted_of old) kernel event ≡ Some next
+goes_on old new event boot done kernel next at then =
+    only_one (after_event (booted_of old) kernel event) next
+    (sym (after_events-append (booted_of old) (first_kernel (booted_of old)) (events_of old) (event ∷ [])
+    ∙ ap (λ (o : Option Kernel). option_and_then (λ k. after_events (booted_of old) k (event ∷ [])) o) at)
+    ∙ sym (ap (λ (b : Booted). kernel_after b (events_of new)) boot ∙ ap (kernel_after (booted_of old)) done) ∙ then)
+
+-- what is noted of a session by its events is what is noted of that event, behind what was noted before
+pub noted_more : (old new : Core) (event : Event) → booted_of new ≡ booted_of old → events_of new ≡ events_of old ++ event ∷ []
+    → (session : ℕ) (kernel next : Kernel) → kernel_of old ≡ Some kernel → kernel_of new ≡ Some next
+    → noted (booted_of new) (events_of new) session ≡ event_noted session kernel next (noted (booted_of old) (events_of old) session) event
+noted_more old new event boot done session kernel next at then =
+    ap (λ (b : Booted). noted b (events_of new) session) boot ∙ ap (λ (h : List Event). noted (booted_of old) h session) done
+    ∙ noted_then (booted_of old) session (first_kernel (booted_of old)) kernel next no_notes (events_of old) event at
+    (goes_on old new event boot done kernel next at then)

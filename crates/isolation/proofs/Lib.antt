@@ -5,11 +5,11 @@ pub mod Boots
 pub mod Decided
 pub mod Entries
 pub mod Exits
-pub mod Fronts
 pub mod Further
 pub mod GoneOut
 pub mod HasCome
 pub mod LeftCalls
+pub mod LogsGrow
 pub mod NotesKept
 pub mod OwnLogs
 pub mod Plans
@@ -18,3 +18,4 @@ pub mod WentOut
 pub mod CallsRead
 pub mod FewCalls
 pub mod FedAlong
+pub mod ReadOn

@@ -1,18 +1,19 @@
 -- What is told of a session by its notes.
-use Rattle.std.proofs.Common.{◌≡◌, ℕ, List, [], ◌∷◌, ◌++◌, Option, Some, None, refl, ap, sym, subst, ◌∙◌}
+use Rattle.std.proofs.Common.{◌≡◌, ℕ, List, [], ◌∷◌, ◌++◌, Option, Some, None, refl, ap, sym, ◌∙◌}
 use Rattle.std.proofs.Math.Logic.{∥∥₁_elim}
 use Rattle.std.proofs.Props.{props}
 use Rattle.std.proofs.lemmas.List.Elements.{filter_map-append}
-use Rattle.std.specs.Option.{option_to_list}
+use Rattle.std.specs.Option.{option_and_then, option_map, option_to_list}
 use Rattle.std.specs.Prelude.{IfOk, Result, Ok, Err}
 use Rattle.base.specs.declared.no_memory.NoMemory.{NoMemory}
 use Rattle.event_journal.specs.declared.event.Event.{Event}
-use Rattle.isolation.specs.Logs.{IsLogOf}
 use Rattle.isolation.specs.Noted.{AreNoted}
-use Rattle.isolation.specs.declared.notes.Notes.{Notes}
-use Rattle.isolation.specs.declared.session_log.OwnLog.{OwnLog}
-use Rattle.isolation.proofs.GoneOut.{logged_set}
+use Rattle.isolation.specs.Reading.{IsReading, IsReadingOf, boot_of, events_of, listing, noted_by}
+use Rattle.isolation.specs.declared.log_reader.LogReader.{LogReader}
 use Rattle.kernel_model.specs.Application.{Application, Booted}
+use Rattle.kernel_model.specs.Instances.{app_of}
+use Rattle.kernel_state.specs.Setup.{application_of}
+use Rattle.kernel_state.specs.declared.setup.Application.{Application as CodeApp}
 use Rattle.own_model.proofs.WholeHistories.{answered_as_alone}
 use Rattle.own_model.specs.Isolation.{IsSessionOf, steps_in}
 use Rattle.own_model.specs.Own as own
@@ -20,36 +21,30 @@ use Rattle.own_model.specs.Solo.{solo_replies}
 use Rattle.own_model.specs.declared.own_event.OwnEvent.{OwnEvent}
 use Rattle.own_model.specs.declared.own_reply.OwnReply.{OwnReply}
 
-log_prop : (xs ys : List own.Logged) → IsProp (xs ≡ ys)
-log_prop xs ys = Prim.hlevel (props, logged_set)
-
 uuid_prop : (one other : Option (List ℕ)) → IsProp (one ≡ other)
 uuid_prop one other = Prim.hlevel props
 
--- what is told of bare notes is the definition's log
-pub log_so : (code : Notes) (boot : Booted) (events : List Event) (session : ℕ) (told : List own.Logged)
-    → ∥ AreNoted code (own.noted boot events code.session) ∥₁ → code.session ≡ session
-    → ((notes : own.Notes) → AreNoted code notes → told ≡ notes.log) → told ≡ (own.noted boot events session).log
-log_so code boot events session told noted same tells =
-    ∥∥₁_elim noted (log_prop told (own.noted boot events session).log) (λ (are : AreNoted code (own.noted boot events code.session)).
-    tells (own.noted boot events code.session) are
-    ∙ ap (λ (n : ℕ). (own.noted boot events n).log) same)
+-- the UUID of bare notes is the definition's
+pub uuid_so : (reader : LogReader) (told : Option (List ℕ)) → IsReading reader → ((notes : own.Notes) → AreNoted reader.notes notes → told ≡ notes.uuid)
+    → told ≡ (noted_by reader).uuid
+uuid_so reader told reading tells =
+    ∥∥₁_elim reading (uuid_prop told (noted_by reader).uuid) (λ (are : AreNoted reader.notes (listing (noted_by reader) [])).
+    tells (listing (noted_by reader) []) are)
 
--- and so is the UUID
-pub uuid_so : (code : Notes) (boot : Booted) (events : List Event) (session : ℕ) (told : Option (List ℕ))
-    → ∥ AreNoted code (own.noted boot events code.session) ∥₁ → code.session ≡ session
-    → ((notes : own.Notes) → AreNoted code notes → told ≡ notes.uuid) → told ≡ (own.noted boot events session).uuid
-uuid_so code boot events session told noted same tells =
-    ∥∥₁_elim noted (uuid_prop told (own.noted boot events session).uuid) (λ (are : AreNoted code (own.noted boot events code.session)).
-    tells (own.noted boot events code.session) are
-    ∙ ap (λ (n : ℕ). (own.noted boot events n).uuid) same)
+-- and its application
+pub app_so : (reader : LogReader) (uuid : Option (List ℕ)) (result : Result (Option CodeApp) NoMemory) → uuid ≡ (noted_by reader).uuid
+    → IfOk result (λ app. option_and_then (app_of (boot_of reader)) uuid ≡ option_map application_of app)
+    → IfOk result (λ app. own.own_app (boot_of reader) (events_of reader) reader.notes.session ≡ option_map application_of app)
+app_so reader uuid (Ok app) same is = ap (λ (o : Option (List ℕ)). option_and_then (app_of (boot_of reader)) o) (sym same) ∙ is
+app_so reader uuid (Err error) same is = tt
 
--- a log of events from a boot is one of the same events from the same boot
-pub log_still : (result : Result OwnLog NoMemory) (at boot : Booted) (done events : List Event) (session : ℕ) → at ≡ boot → done ≡ events
-    → IfOk result (IsLogOf at done session) → IfOk result (IsLogOf boot events session)
-log_still (Ok log) at boot done events session same all is =
-    subst (λ (h : List Event). IsLogOf boot h session log) all (subst (λ (b : Booted). IsLogOf b done session log) same is)
-log_still (Err error) at boot done events session same all is = tt
+-- that of a reader which has read a journal is the journal's
+pub app_read : (boot : Booted) (events : List Event) (session : ℕ) (reader : LogReader) → IsReadingOf boot events session reader
+    → own.own_app boot events session ≡ own.own_app (boot_of reader) (events_of reader) reader.notes.session
+app_read boot events session reader is =
+    sym (ap (λ (b : Booted). own.own_app b (events_of reader) reader.notes.session) is.booted
+    ∙ ap (λ (h : List Event). own.own_app boot h reader.notes.session) is.events
+    ∙ ap (λ (n : ℕ). own.own_app boot events n) is.of_session)
 
 -- the replies are those of the machine of one session
 pub alone_so : {T : Type 0} (result : Result T NoMemory) (items : T → List OwnReply) (log : List own.Logged) (boot : Booted)

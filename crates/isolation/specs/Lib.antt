@@ -2,5 +2,6 @@ pub mod Arriving
 pub mod Journals
 pub mod Logs
 pub mod Noted
+pub mod Reading
 pub mod Replaying
 pub mod Telling

@@ -1,22 +1,17 @@
--- How far a journal was done again on a core, and what was noted of it.
-use Rattle.std.specs.Prelude.{◌≡◌, ℕ, ◌≤◌, ◌^◌, ◌&&◌, Bool, List, [], ◌∷◌, ◌++◌, IsSome, IfOk, Result, Option, Some, None, slice_get}
+-- What is noted of an event that is done again on a core.
+use Rattle.std.specs.Prelude.{◌≡◌, ℕ, ◌&&◌, Bool, List, IfOk, Result, Option, Some, None, slice_get}
 use Rattle.std.specs.Global.{Box}
 use Rattle.base.specs.declared.no_memory.NoMemory.{NoMemory}
-use Rattle.event_journal.specs.Journal.{copied_bytes}
 use Rattle.event_journal.specs.declared.event.Event.{Event}
 use Rattle.event_journal.specs.declared.event.Event.TheVariants.{Entry, Exit}
 use Rattle.isolation.specs.Arriving.{IsArrivalIn}
 use Rattle.isolation.specs.Noted.{AreNoted}
 use Rattle.isolation.specs.declared.entering.Arrival.{Arrival}
 use Rattle.isolation.specs.declared.notes.Notes.{Notes}
-use Rattle.isolation.specs.declared.replay.Replay.{Replay}
-use Rattle.kernel_model.specs.Application.{Booted}
-use Rattle.kernel_model.specs.History.{kernel_after}
 use Rattle.kernel_entry.specs.declared.visitor.Visitor.{Visitor}
 use Rattle.kernel_model.specs.Kernel as model
 use Rattle.kernel_state.specs.Leaving.{HasLeft}
-use Rattle.kernel_state.specs.Meaning.{booted_of, events_of, kernel_of}
-use Rattle.kernel_state.specs.Reads.{ReadsAgree}
+use Rattle.kernel_state.specs.Meaning.{kernel_of}
 use Rattle.kernel_state.specs.StandsFor.{StandsFor}
 use Rattle.kernel_state.specs.Work.{IsCarriedAs}
 use Rattle.kernel_state.specs.declared.kernel_core.Core.{Core}
@@ -28,46 +23,17 @@ use Rattle.kernel_state.specs.declared.work.Ran.{Ran}
 use Rattle.kernel_state.specs.declared.work.Work.{Work}
 use Rattle.ns_ram.specs.declared.read.Read.{Read}
 use Rattle.own_model.specs.Own as own
-use Rattle.own_model.specs.Own.{noted}
 use Rattle.rpc_cont.specs.declared.cont.Cont.{Cont}
 use Rattle.smc_abi.specs.declared.answer.Answer.{Answer}
 use Rattle.smc_abi.specs.declared.regs.Regs.{Regs}
 use Rattle.thread_slots.specs.declared.slot.Slot.{Slot}
 use Rattle.thread_slots.specs.declared.slot.Slot.TheVariants.{Suspended}
 
--- the core has done these events
-pub record HasDone (boot : Booted) (history : List Event) (replay : Replay) : Type 0 where
-  pub booted : booted_of replay.at_work.core ≡ boot
-  pub events : events_of replay.at_work.core ≡ history
-
--- and what happened to the session is noted: a bare fact, as the one that a core keeps
-pub record HasNoted (boot : Booted) (history : List Event) (replay : Replay) (notes : Notes) : Type 0 where
-  pub done : HasDone boot history replay
-  pub noted : ∥ AreNoted notes (noted boot history notes.session) ∥₁
-
--- the event can be done next: a legal history goes on with it, its reads agree, and not too much was read with them
-pub record CanBeNext (boot : Booted) (history : List Event) (event : Event) : Type 0 where
-  pub follows : IsSome (kernel_after boot (history ++ event ∷ []))
-  pub few : copied_bytes (history ++ event ∷ []) ≤ 2 ^ 28
-  pub agree : ReadsAgree event
-
--- so many events were done, and this one can be done next
-pub record CanGoOn (replay : Replay) (event : Event) : Type 0 where
-  pub boot : Booted
-  pub history : List Event
-  pub done : HasDone boot history replay
-  pub next : CanBeNext boot history event
-
--- the event is done and noted, or memory was wanting
-abbrev pub HasGoneOn : Replay → Replay → Notes → Notes → Event → Result (Unit {0}) NoMemory → Type 0
-HasGoneOn old new before after event result = (boot : Booted) (history : List Event) →
-    HasNoted boot history old before → CanBeNext boot history event →
-    IfOk result (λ _. HasNoted boot (history ++ event ∷ []) new after)
-
--- a processor of this number can go out next
-pub record CanGoOut (replay : Replay) (cpu : ℕ) : Type 0 where
-  pub regs : Regs
-  pub next : CanGoOn replay (Exit cpu regs)
+-- where so much was noted of what came before it, what was noted of an event that was done is too
+abbrev pub IsNoted : Core → Core → Notes → Notes → Event → Type 0
+IsNoted old new before after event = (kernel next : model.Kernel) (notes : own.Notes) →
+    kernel_of old ≡ Some kernel → kernel_of new ≡ Some next → AreNoted before notes →
+    AreNoted after (own.event_noted before.session kernel next notes event)
 
 -- ---- what is seen of the parts
 
@@ -125,5 +91,4 @@ pub record IsExitNoted (old new : Core) (before after : Notes) (cpu : ℕ) (lane
   pub its_own : ran.cpu ≡ cpu
   pub told : Regs
   pub has_left : HasLeft old new ran lane now told
-  pub noted : (kernel next : model.Kernel) (notes : own.Notes) → kernel_of old ≡ Some kernel → kernel_of new ≡ Some next →
-      AreNoted before notes → AreNoted after (own.event_noted before.session kernel next notes (Exit cpu told))
+  pub noted : IsNoted old new before after (Exit cpu told)

@@ -5,18 +5,19 @@
 //! definitions of `own_model` read it off the kernel, and noted.
 //!
 //! `session_log` has what is read off, `notes` what is noted, `entering` what is seen of an entry and `coming` what is noted of
-//! one, `leaving` what is told of a call that goes out and `going` what is noted of that, and `replay` the core on which the
-//! journal is done again.
+//! one, `leaving` what is told of a call that goes out and `going` what is noted of that. `doing` does an event again and notes it,
+//! `log_reader` reads a log event by event, and `own` reads that of a whole journal.
 #![tactic(auto)]
 
 mod coming;
+mod doing;
 mod entering;
 mod going;
 mod leaving;
+mod log_reader;
 mod notes;
 mod numbering;
 mod own;
-mod replay;
 mod session_log;
 
 pub use base::NoMemory;
@@ -24,9 +25,9 @@ pub use coming::errand_of;
 pub use entering::{back_in, input_settled};
 pub use going::left_in;
 pub use leaving::{reply_of, told_at_end, wakes};
+pub use log_reader::LogReader;
 pub use notes::Back;
 pub use numbering::Numbering;
 pub use own::{own_events, own_log, own_replies};
 pub use own_model::{BackInput, OwnEvent, OwnInput, OwnReply};
-pub use replay::Replay;
 pub use session_log::{Logged, OwnLog};

@@ -16,6 +16,7 @@ use frame_pool::Pages;
 use own_model::{BackInput, OwnEvent, OwnReply};
 use rpc_cont::Cont;
 use std::alloc::Global;
+use std::mem;
 use uuid::Uuid;
 
 /// The most processors that a core may have.
@@ -58,13 +59,20 @@ impl Notes {
         }
     }
 
-    /// The UUID of the session's application, and what has happened to the session and what it was answered.
-    pub(crate) fn into_log(self) -> (Option<Uuid>, Vec<Logged>)
-        ensures uuid { (notes : own.Notes) → AreNoted self notes → result.0 ≡ notes.uuid }
-        ensures log { (notes : own.Notes) → AreNoted self notes → result.1.items ≡ notes.log }
+    /// The UUID of the session's application, once its open has come in.
+    pub(crate) fn uuid(&self) -> Option<Uuid>
+        ensures { (notes : own.Notes) → AreNoted self.now notes → result ≡ notes.uuid }
     {
-        let Notes { uuid, log, .. } = self;
-        (uuid, log)
+        self.uuid
+    }
+
+    /// Takes what was listed so far.
+    pub(crate) fn take_log(&mut self, alloc: Global) -> Vec<Logged>
+        ensures log { result.items ≡ self.old.log.items }
+        ensures taken { self.new.log.items ≡ [] }
+        ensures stays { self.new ≡ record self.old { log = self.new.log } }
+    {
+        mem::replace(&mut self.log, Vec::new(alloc))
     }
 
     /// The number of the call in this slot, if it is one of the session.

@@ -10,7 +10,7 @@ ghost use Rattle.own_model.specs.Own.{events_in, own_events, own_replies, replie
 ghost use Rattle.own_model.specs.Solo.{solo_replies, unopened};
 ghost use Rattle.solo.specs.Feeding.{CanBeFed};
 
-use crate::replay::Replay;
+use crate::log_reader::LogReader;
 use crate::session_log::{Logged, OwnLog};
 use base::NoMemory;
 use event_journal::Journal;
@@ -32,8 +32,10 @@ pub fn own_log(
     requires { IsJournal (booted boot.now (entries natives.now)) journal.now.events }
     ensures { IfOk result (IsLogOf (booted boot.now (entries natives.now)) journal.now.events session) }
 {
-    let mut replay = Replay::new(alloc, boot.clone()?, natives)?;
-    replay.log_of(alloc, journal.as_slice(), session)
+    let mut reader = LogReader::new(alloc, boot, natives, session)?;
+    let entries = reader.reads_all(alloc, journal.as_slice())?;
+    let app = reader.app()?;
+    Ok(OwnLog { app, entries })
 }
 
 /// The event itself.
