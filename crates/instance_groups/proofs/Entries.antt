@@ -1,26 +1,24 @@
--- An entry that is done again for a group is the journal's.
+-- An entry that is done again is noted of a group.
 use Rattle.std.proofs.Common.{◌≡◌, ℕ, List, [], ◌∷◌, ◌++◌, Option, Some, None, refl, ap, sym, subst, ◌∙◌}
 use Rattle.std.proofs.Math.Logic.{∥∥₁_elim, ∥∥₁_map, ∥∥₁_prop}
 use Rattle.std.proofs.lemmas.Option.{some_pair_parts}
-use Rattle.std.specs.Prelude.{IfOk, IsSomeAnd, Result, Ok, Err, slice_get}
-use Rattle.base.specs.declared.no_memory.NoMemory.{NoMemory}
+use Rattle.std.proofs.lemmas.List.{append_cancel_left}
+use Rattle.std.specs.Prelude.{IsSomeAnd, slice_get}
 use Rattle.event_journal.specs.declared.event.Event.{Event}
 use Rattle.event_journal.specs.declared.event.Event.TheVariants.{Entry}
 use Rattle.group_model.specs.Read as group
 use Rattle.instance_groups.specs.Arriving.{IsArrival, IsArrivalBy, IsArrivalIn, Watch, watch}
 use Rattle.instance_groups.specs.Noted.{AreNoted}
-use Rattle.instance_groups.specs.Replaying.{HasArrived, HasArrivedIn, HasNoted, IsEntryNoted}
+use Rattle.instance_groups.specs.Replaying.{HasArrived, HasArrivedIn, IsNoted}
 use Rattle.instance_groups.specs.declared.arriving.Arrival.{Arrival}
 use Rattle.instance_groups.specs.declared.notes.Notes.{Notes}
-use Rattle.instance_groups.proofs.Further.{noted_more}
-use Rattle.isolation.specs.Replaying.{CanBeNext, HasDone}
-use Rattle.isolation.specs.declared.replay.Replay.{Replay}
-use Rattle.isolation.proofs.Entries.{by_journal, inside_so, kernel_done, same_next, same_reads}
-use Rattle.isolation.proofs.Further.{Follows, follows}
+use Rattle.instance_groups.proofs.GoneOut.{noted_prop}
+use Rattle.isolation.proofs.Entries.{by_journal, inside_so, same_next}
+use Rattle.isolation.proofs.Further.{goes_on}
 use Rattle.kernel_entry.specs.Visiting.{coming_of}
 use Rattle.kernel_entry.specs.declared.visitor.Visitor.{Visitor}
 use Rattle.kernel_model.proofs.Parts.{set_then_read}
-use Rattle.kernel_model.specs.Application.{Application, Booted}
+use Rattle.kernel_model.specs.Application.{Application}
 use Rattle.kernel_model.specs.Argument.{reg}
 use Rattle.kernel_model.specs.Decision.{Answers, Decision, Taken, Takes}
 use Rattle.kernel_model.specs.Entry.{after_decision, decision_of, entry}
@@ -28,13 +26,12 @@ use Rattle.kernel_model.specs.History.{after_event}
 use Rattle.kernel_model.specs.Kernel.{Active, Fixed, Free, InSlot, Inside, Kernel, PendingCall, Suspended, Tables, ThreadSlot, Visit, cancelled_slots}
 use Rattle.kernel_state.proofs.CoreEvents.{some_kernel}
 use Rattle.kernel_state.specs.Entering.{HasEntered, visit_of}
-use Rattle.kernel_state.specs.Meaning.{booted_of, kernel_of}
+use Rattle.kernel_state.specs.Meaning.{booted_of, events_of, kernel_of}
 use Rattle.kernel_state.specs.Replay.{Replays}
 use Rattle.kernel_state.specs.Setup.{application_of}
 use Rattle.kernel_state.specs.StandsFor.{StandsFor}
 use Rattle.kernel_state.specs.Work.{IsCarriedAs, IsCarriedFor, IsWorkIn, IsWorkOf}
 use Rattle.kernel_state.specs.declared.kernel_core.Core.{Core}
-use Rattle.kernel_state.specs.declared.setup.Application.{Application as CodeApp}
 use Rattle.kernel_state.specs.declared.work.Work.{Work}
 use Rattle.ns_ram.proofs.ReaderLaws.{over_lane-then}
 use Rattle.ns_ram.specs.Reader.{Reader, done, over_lane}
@@ -125,74 +122,33 @@ module _ (old : Core) (visitor : Visitor) (lane : List ℕ) (reads : List Read) 
 
 -- ---- and that it is noted
 
-module _ (boot : Booted) (history : List Event) (old new : Replay) (visitor : Visitor) (lane : List ℕ) (reads : List Read)
-    (work : Work) (came : Arrival) (before after : Notes)
-    (noted : HasNoted boot history old before)
-    (can : CanBeNext boot history (Entry visitor.cpu visitor.regs visitor.steps reads))
-    (held : HoldsReads lane reads) (has : HasEntered old.at_work.core new.at_work.core (coming_of visitor) lane work) where
+module _ (old new : Core) (visitor : Visitor) (lane : List ℕ) (reads : List Read) (work : Work) (came : Arrival) (before after : Notes)
+    (has : HasEntered old new (coming_of visitor) lane work)
+    (done : events_of new ≡ events_of old ++ Entry visitor.cpu visitor.regs visitor.steps reads ∷ []) where
   abbrev event : Event
   event = Entry visitor.cpu visitor.regs visitor.steps reads
 
-  abbrev known : Kernel
-  known = (some_kernel old.at_work.core).0
+  abbrev app_before : Application
+  app_before = application_of before.app
 
-  abbrev app : Application
-  app = application_of before.app
+  has_read : has.reads ≡ reads
+  has_read =
+      let both : Entry visitor.cpu visitor.regs visitor.steps has.reads ∷ [] ≡ event ∷ [] =
+      append_cancel_left (events_of old) (Entry visitor.cpu visitor.regs visitor.steps has.reads ∷ []) (event ∷ []) (sym has.events ∙ done) in
+      cc
 
-  abbrev on : Follows boot history known event
-  on = follows boot history known event (kernel_done boot history old noted.done) can.follows
-
-  gives_so : after_event (booted_of old.at_work.core) known event ≡ Some on.next
-  gives_so = ap (λ (b : Booted). after_event b known event) noted.done.booted ∙ on.gives
-
-  done_again : HasDone boot (history ++ event ∷ []) new
-  done_again = record {
-    booted = has.boot ∙ noted.done.booted;
-    events = has.events
-        ∙ ap (λ (es : List Event). es ++ Entry visitor.cpu visitor.regs visitor.steps has.reads ∷ []) noted.done.events
-        ∙ ap (λ (rs : List Read). history ++ Entry visitor.cpu visitor.regs visitor.steps rs ∷ [])
-        (same_reads old.at_work.core visitor lane reads known on.next (some_kernel old.at_work.core).1 gives_so held new.at_work.core work has);
-  }
-
-  -- what the code makes of the entry
-  abbrev NotesEntry : Type 0
-  NotesEntry = (b : Booted) (k next : Kernel) (rs : List Read) → HasArrived new.at_work.core.parts (watch b app k) next visitor rs came work
-      → (notes : group.Notes) → AreNoted before notes
-      → AreNoted after (group.event_noted b app k next notes (Entry visitor.cpu visitor.regs visitor.steps rs))
-
-  noted_so : after.app ≡ before.app
-      → group.event_noted (booted_of old.at_work.core) app known on.next (group.noted boot history app) event
-      ≡ group.noted boot (history ++ event ∷ []) (application_of after.app)
-  noted_so same =
-      ap (λ (b : Booted). group.event_noted b app known on.next (group.noted boot history app) event) noted.done.booted
-      ∙ sym (noted_more boot app history known on.next event (kernel_done boot history old noted.done) on.gives)
-      ∙ ap (λ (a : CodeApp). group.noted boot (history ++ event ∷ []) (application_of a)) (sym same)
-
-  noted_again : ((k : Kernel) → StandsFor old.at_work.core.parts k → IsArrival (watch (booted_of old.at_work.core) app k) visitor.regs.a lane came)
-      → NotesEntry → after.app ≡ before.app → ∥ AreNoted after (group.noted boot (history ++ event ∷ []) (application_of after.app)) ∥₁
-  noted_again arrives comes same_app =
-      ∥∥₁_elim old.at_work.core.replay ∥∥₁_prop (λ (so : Replays old.at_work.core.parts).
-      let both : Some so.kernel ≡ Some known = sym so.comes_to ∙ (some_kernel old.at_work.core).1 in
-      let same : so.kernel ≡ known = cc in
-      let is = arrives known (subst (StandsFor old.at_work.core.parts) same so.stands) in
-      ∥∥₁_elim (has_arrived old.at_work.core visitor lane reads known on.next (some_kernel old.at_work.core).1 gives_so held new.at_work.core work has
-      app came is) ∥∥₁_prop (λ (arrived : HasArrived new.at_work.core.parts (watch (booted_of old.at_work.core) app known) on.next visitor reads came work).
-      ∥∥₁_map noted.noted (λ (are : AreNoted before (group.noted boot history app)).
-      subst (λ (n : group.Notes). AreNoted after n) (noted_so same_app)
-      (comes (booted_of old.at_work.core) known on.next reads arrived (group.noted boot history app) are))))
-
-  so_noted : ((k : Kernel) → StandsFor old.at_work.core.parts k → IsArrival (watch (booted_of old.at_work.core) app k) visitor.regs.a lane came)
-      → NotesEntry → after.app ≡ before.app → HasNoted boot (history ++ event ∷ []) new after
-  so_noted arrives comes same_app = record {
-    done = done_again;
-    noted = noted_again arrives comes same_app;
-  }
-
-  -- where that took no memory that there isn't
-  pub comes_again : (result : Result (Unit {0}) NoMemory)
-      → ((k : Kernel) → StandsFor old.at_work.core.parts k → IsArrival (watch (booted_of old.at_work.core) app k) visitor.regs.a lane came)
-      → ((b : Booted) (k next : Kernel) (rs : List Read) → HasArrived new.at_work.core.parts (watch b app k) next visitor rs came work
-      → IsEntryNoted b before after k next visitor rs result) → after.app ≡ before.app
-      → IfOk result (λ _. HasNoted boot (history ++ event ∷ []) new after)
-  comes_again (Err error) arrives comes same_app = tt
-  comes_again (Ok _) arrives comes same_app = so_noted arrives comes same_app
+  pub entry_noted : ((k : Kernel) → StandsFor old.parts k → IsArrival (watch (booted_of old) app_before k) visitor.regs.a lane came)
+      → ((k next : Kernel) (rs : List Read) → HasArrived new.parts (watch (booted_of old) app_before k) next visitor rs came work
+      → (b : group.Notes) → AreNoted before b
+      → AreNoted after (group.event_noted (booted_of old) app_before k next b (Entry visitor.cpu visitor.regs visitor.steps rs)))
+      → IsNoted old new before after event
+  entry_noted arrives comes kernel next notes at then are =
+      ∥∥₁_elim old.replay (noted_prop after (group.event_noted (booted_of old) app_before kernel next notes event)) (λ (so : Replays old.parts).
+      let both : Some so.kernel ≡ Some kernel = sym so.comes_to ∙ at in
+      let same : so.kernel ≡ kernel = cc in
+      let is = arrives kernel (subst (StandsFor old.parts) same so.stands) in
+      ∥∥₁_elim (has_arrived old visitor lane reads kernel next at (goes_on old new event has.boot done kernel next at then)
+      (subst (HoldsReads lane) has_read has.from_lane) new work has app_before came is)
+      (noted_prop after (group.event_noted (booted_of old) app_before kernel next notes event))
+      (λ (arrived : HasArrived new.parts (watch (booted_of old) app_before kernel) next visitor reads came work).
+      comes kernel next reads arrived notes are))

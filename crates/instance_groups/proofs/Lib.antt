@@ -11,8 +11,10 @@ pub mod Further
 pub mod GoneOut
 pub mod HasCome
 pub mod Logs
+pub mod LogsGrow
 pub mod NotesKept
 pub mod Plans
+pub mod ReadOn
 pub mod RunOn
 pub mod Sessions
 pub mod WentOut

@@ -1,6 +1,5 @@
 -- What is told of a group by its notes.
 use Rattle.std.proofs.Common.{◌≡◌, ℕ, List, [], ◌∷◌, ◌++◌, Option, Some, None, refl, ap, ◌∙◌}
-use Rattle.std.proofs.Math.Logic.{∥∥₁_elim}
 use Rattle.std.proofs.lemmas.List.Elements.{filter_map-append}
 use Rattle.std.specs.Option.{option_map_or, option_to_list}
 use Rattle.std.specs.Prelude.{IfOk, Result, Ok, Err}
@@ -9,24 +8,9 @@ use Rattle.event_journal.specs.declared.event.Event.{Event}
 use Rattle.group_model.specs.Read as group
 use Rattle.group_model.specs.declared.group_event.GroupEvent.{GroupEvent}
 use Rattle.group_model.specs.declared.group_reply.GroupReply.{GroupReply}
-use Rattle.instance_groups.proofs.GoneOut.{log_prop}
 use Rattle.instance_groups.specs.Journals.{events_in, group_events_of, group_replies_of, log_by, replies_in}
-use Rattle.instance_groups.specs.Noted.{AreNoted}
-use Rattle.instance_groups.specs.declared.notes.Notes.{Notes}
 use Rattle.kernel_model.specs.Application.{Application, Booted}
 use Rattle.kernel_model.specs.Instances.{app_of}
-use Rattle.kernel_state.specs.Setup.{application_of}
-use Rattle.kernel_state.specs.declared.setup.Application.{Application as CodeApp}
-
--- what is told of bare notes is the definition's log
-pub log_so : (code : Notes) (boot : Booted) (events : List Event) (app : CodeApp) (told : List group.Logged)
-    → ∥ AreNoted code (group.noted boot events (application_of code.app)) ∥₁ → code.app ≡ app
-    → ((notes : group.Notes) → AreNoted code notes → told ≡ notes.log) → told ≡ (group.noted boot events (application_of app)).log
-log_so code boot events app told noted same tells =
-    ∥∥₁_elim noted (log_prop told (group.noted boot events (application_of app)).log)
-    (λ (are : AreNoted code (group.noted boot events (application_of code.app))).
-    tells (group.noted boot events (application_of code.app)) are
-    ∙ ap (λ (a : CodeApp). (group.noted boot events (application_of a)).log) same)
 
 -- with one event more there is its reply more, if it has one
 pub replies_more : (log : List group.Logged) (logged : group.Logged)

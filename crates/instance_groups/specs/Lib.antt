@@ -1,4 +1,5 @@
 pub mod Arriving
 pub mod Journals
 pub mod Noted
+pub mod Reading
 pub mod Replaying

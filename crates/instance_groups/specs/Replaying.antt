@@ -1,21 +1,18 @@
--- How far a journal was done again on a core, and what was noted of a group.
-use Rattle.std.specs.Prelude.{◌≡◌, ℕ, List, [], ◌∷◌, ◌++◌, IfOk, Result, Some, slice_get}
+-- What is noted of a group by an event that is done again on a core.
+use Rattle.std.specs.Prelude.{◌≡◌, ℕ, List, IfOk, Result, Some, slice_get}
 use Rattle.base.specs.declared.no_memory.NoMemory.{NoMemory}
 use Rattle.event_journal.specs.declared.event.Event.{Event}
 use Rattle.event_journal.specs.declared.event.Event.TheVariants.{Entry, Exit}
 use Rattle.group_model.specs.Read as group
-use Rattle.group_model.specs.Read.{noted}
 use Rattle.instance_groups.specs.Arriving.{IsArrivalIn, Watch}
 use Rattle.instance_groups.specs.Noted.{AreNoted}
 use Rattle.instance_groups.specs.declared.arriving.Arrival.{Arrival}
 use Rattle.instance_groups.specs.declared.notes.Notes.{Notes}
-use Rattle.isolation.specs.Replaying.{CanBeNext, HasDone}
-use Rattle.isolation.specs.declared.replay.Replay.{Replay}
 use Rattle.kernel_entry.specs.declared.visitor.Visitor.{Visitor}
 use Rattle.kernel_model.specs.Application.{Booted}
 use Rattle.kernel_model.specs.Kernel as model
 use Rattle.kernel_state.specs.Leaving.{HasLeft}
-use Rattle.kernel_state.specs.Meaning.{kernel_of}
+use Rattle.kernel_state.specs.Meaning.{booted_of, kernel_of}
 use Rattle.kernel_state.specs.Setup.{application_of}
 use Rattle.kernel_state.specs.StandsFor.{StandsFor}
 use Rattle.kernel_state.specs.Work.{IsCarriedAs}
@@ -26,16 +23,11 @@ use Rattle.kernel_state.specs.declared.work.Work.{Work}
 use Rattle.ns_ram.specs.declared.read.Read.{Read}
 use Rattle.smc_abi.specs.declared.regs.Regs.{Regs}
 
--- so many events were done, and what happened to the group is noted: a bare fact, as the one that a core keeps
-pub record HasNoted (boot : Booted) (history : List Event) (replay : Replay) (notes : Notes) : Type 0 where
-  pub done : HasDone boot history replay
-  pub noted : ∥ AreNoted notes (noted boot history (application_of notes.app)) ∥₁
-
--- the event is done and noted, or memory was wanting
-abbrev pub HasGoneOn : Replay → Replay → Notes → Notes → Event → Result (Unit {0}) NoMemory → Type 0
-HasGoneOn old new before after event result = (boot : Booted) (history : List Event) →
-    HasNoted boot history old before → CanBeNext boot history event →
-    IfOk result (λ _. HasNoted boot (history ++ event ∷ []) new after)
+-- where so much was noted of what came before it, what was noted of an event that was done is too
+abbrev pub IsNoted : Core → Core → Notes → Notes → Event → Type 0
+IsNoted old new before after event = (kernel next : model.Kernel) (notes : group.Notes) →
+    kernel_of old ≡ Some kernel → kernel_of new ≡ Some next → AreNoted before notes →
+    AreNoted after (group.event_noted (booted_of old) (application_of before.app) kernel next notes event)
 
 -- ---- an entry
 

@@ -10,11 +10,10 @@ ghost use Rattle.native_tas.specs.Table.{entries};
 ghost use Rattle.own_model.specs.Isolation.{steps_in};
 
 use crate::group_log::{GroupLog, Logged};
-use crate::replay::log_of;
+use crate::log_reader::LogReader;
 use base::NoMemory;
 use event_journal::Journal;
 use group_model::{GroupEvent, GroupReply};
-use isolation::Replay;
 use native_tas::Natives;
 use std::alloc::Global;
 use ta_isa::Boot;
@@ -33,18 +32,20 @@ pub fn read_group_log(
     requires { IsJournal (booted boot.now (entries natives.now)) journal.now.events }
     ensures { IfOk result (IsLogOf (booted boot.now (entries natives.now)) journal.now.events uuid) }
 {
-    let mut replay = Replay::new(alloc, boot.clone()?, natives)?;
-    let Some(app) = replay.at_work.core.parts.setup.application(&uuid)? else {
-        return Ok(GroupLog {
+    let made = LogReader::new(alloc, boot, natives, uuid)?;
+    match made {
+        Some(mut reader) => {
+            let entries = reader.reads_all(alloc, journal.as_slice())?;
+            Ok(GroupLog {
+                app: Some(reader.into_app()),
+                entries,
+            })
+        }
+        None => Ok(GroupLog {
             app: None,
             entries: Vec::new(alloc),
-        });
-    };
-    let (app, entries) = log_of(alloc, &mut replay, journal.as_slice(), app)?;
-    Ok(GroupLog {
-        app: Some(app),
-        entries,
-    })
+        }),
+    }
 }
 
 /// The event itself.

@@ -5,20 +5,22 @@
 //! be fed with the events.
 //!
 //! `group_log` has what is read off, `notes` what is noted, `arriving` what is seen of an entry and `coming` what is noted of
-//! one, `going` what is noted of a call that goes out, `replay` the core on which the journal is done again, and `group` what is
-//! offered.
+//! one, and `going` what is noted of a call that goes out. `doing` does an event again and notes it, `log_reader` reads a log event by
+//! event, and `group` reads that of a whole journal.
 #![tactic(auto)]
 
 mod arriving;
 mod coming;
+mod doing;
 mod going;
 mod group;
 mod group_log;
+mod log_reader;
 mod notes;
-mod replay;
 
 pub use base::NoMemory;
 pub use group::{group_events, group_replies, read_group_log};
 pub use group_log::{GroupLog, Logged};
 pub use group_model::{GroupEvent, GroupReply};
 pub use group_solo::GroupSolo;
+pub use log_reader::LogReader;

@@ -22,6 +22,7 @@ use own_model::{BackInput, OwnReply};
 use rpc_cont::Cont;
 use std::alloc::Global;
 use std::collections::BTreeMap;
+use std::mem;
 
 /// What is noted of a group.
 #[derive(Drop)]
@@ -92,13 +93,21 @@ impl Notes {
         }
     }
 
-    /// What has happened to the group, and what it was answered.
-    pub(crate) fn into_log(self) -> (Application, Vec<Logged>)
-        ensures app { result.0 ≡ self.app }
-        ensures log { (notes : group.Notes) → AreNoted self notes → result.1.items ≡ notes.log }
+    /// The group's application.
+    pub(crate) fn into_app(self) -> Application
+        ensures { result ≡ self.app }
     {
-        let Notes { app, log, .. } = self;
-        (app, log)
+        let Notes { app, .. } = self;
+        app
+    }
+
+    /// Takes what was listed so far.
+    pub(crate) fn take_log(&mut self, alloc: Global) -> Vec<Logged>
+        ensures log { result.items ≡ self.old.log.items }
+        ensures taken { self.new.log.items ≡ [] }
+        ensures stays { self.new ≡ record self.old { log = self.new.log } }
+    {
+        mem::replace(&mut self.log, Vec::new(alloc))
     }
 
     /// The number of the call in this slot, if it is one of the group.

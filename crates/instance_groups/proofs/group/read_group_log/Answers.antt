@@ -1,33 +1,49 @@
-use Rattle.std.proofs.Common.{◌≡◌, [], ap, sym, subst, ◌∙◌}
+use Rattle.std.proofs.Common.{◌≡◌, List, Some, refl, ap, sym, subst, ◌∙◌}
+use Rattle.event_journal.specs.declared.event.Event.{Event}
+use Rattle.group_model.specs.Read.{noted}
+use Rattle.instance_groups.proofs.ReadOn.{log_named}
+use Rattle.instance_groups.specs.Journals.{log_by}
+use Rattle.instance_groups.specs.Reading.{group_app}
 use Rattle.isolation.specs.Journals.{IsJournal}
-use Rattle.isolation.specs.Replaying.{HasDone}
 use Rattle.isolation.proofs.Boots.{apart_booted, within_limits}
-use Rattle.core_at_work.specs.Booting.{IsApart}
 use Rattle.kernel_model.specs.Application.{Booted, booted}
-use Rattle.kernel_state.specs.Booting.{IsWithinLimits}
-use Rattle.kernel_state.specs.Meaning.{booted_of}
+use Rattle.kernel_state.specs.Setup.{application_of}
+use Rattle.kernel_state.specs.declared.setup.Application.{Application as CodeApp}
 use Rattle.native_tas.specs.Table.{entries}
-use Rattle.ta_isa.specs.declared.boot.Boot.{Boot}
 use Rattle.instance_groups.proofs.group.read_group_log.Goals as goal
 
 pub new-requires-clause-limits : goal.new-requires-clause-limits
-new-requires-clause-limits g c =
-    subst IsWithinLimits (sym c.in_ok-clone.ensures.cases)
-    (within_limits c.args.boot.now (entries c.args.natives.now) c.requires.legal.boots)
+new-requires-clause-limits g c = within_limits c.args.boot.now (entries c.args.natives.now) c.requires.legal.boots
 
 pub new-requires-clause-apart : goal.new-requires-clause-apart
-new-requires-clause-apart g c =
-    subst (λ (b : Boot). IsApart b (entries c.args.natives.now)) (sym c.in_ok-clone.ensures.cases)
-    (apart_booted c.args.boot.now (entries c.args.natives.now) c.requires.legal.boots)
+new-requires-clause-apart g c = apart_booted c.args.boot.now (entries c.args.natives.now) c.requires.legal.boots
 
-pub log_of-requires-clause-journal : goal.log_of-requires-clause-journal
-log_of-requires-clause-journal g c =
-    let natives = entries c.args.natives.now in
-    let same : booted_of c.in_ok-replay.replay.at_work.core ≡ booted c.args.boot.now natives =
-    c.in_ok-replay.ensures.booted ∙ ap (λ (b : Boot). booted b natives) c.in_ok-clone.ensures.cases in
-    subst (λ (b : Booted). IsJournal b c.as_slice.result.now) (sym same)
-    (subst (IsJournal (booted c.args.boot.now natives)) (sym c.as_slice.ensures) c.requires)
+pub reads_all-requires-clause-journal : goal.reads_all-requires-clause-journal
+reads_all-requires-clause-journal g c =
+    let has = rw c.in-Some.is at c.in_ok-made.ensures in
+    subst (λ (b : Booted). IsJournal b c.as_slice.result.now) (sym has.1.booted)
+    (subst (IsJournal (booted c.args.boot.now (entries c.args.natives.now))) (sym c.as_slice.ensures) c.requires)
 
-pub log_of-requires-clause-begun : goal.log_of-requires-clause-begun
-log_of-requires-clause-begun g c =
-    subst (λ (b : Booted). HasDone b [] c.in_ok-replay.replay) (sym c.in_ok-replay.ensures.booted) c.in_ok-replay.ensures
+pub reads_all-requires-clause-reading : goal.reads_all-requires-clause-reading
+reads_all-requires-clause-reading g c =
+    let has = rw c.in-Some.is at c.in_ok-made.ensures in
+    record { booted = refl; events = has.1.events; of_app = refl; reading = has.1.reading }
+
+pub returns-in_ok-entries-in-Some : goal.returns-in_ok-entries-in-Some
+returns-in_ok-entries-in-Some g c =
+    let boot = booted c.args.boot.now (entries c.args.natives.now) in
+    let app = group_app c.in-Some.reader in
+    let has = rw c.in-Some.is at c.in_ok-made.ensures in
+    record {
+      app = has.0 ∙ ap (λ (a : CodeApp). Some (application_of a)) (sym (c.into_app.ensures ∙ c.in_ok-entries-in-Some.ensures.app));
+      entries = c.in_ok-entries-in-Some.ensures.log
+          ∙ ap (λ (b : Booted). (noted b c.as_slice.result.now app).log) has.1.booted
+          ∙ ap (λ (h : List Event). (noted boot h app).log) c.as_slice.ensures
+          ∙ log_named boot c.args.journal.now.events c.args.uuid app has.0;
+    }
+
+pub returns-in-None : goal.returns-in-None
+returns-in-None g c =
+    let boot = booted c.args.boot.now (entries c.args.natives.now) in
+    let none = rw c.in-None.is at c.in_ok-made.ensures in
+    record { app = none; entries = c.new-in-None.ensures.items ∙ sym (ap (log_by boot c.args.journal.now.events) none) }

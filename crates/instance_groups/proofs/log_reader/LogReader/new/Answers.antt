@@ -1,0 +1,32 @@
+use Rattle.std.proofs.Common.{◌≡◌, List, [], Option, Some, refl, ap, subst, sym, ◌∙◌}
+use Rattle.std.specs.Option.{option_map}
+use Rattle.event_journal.specs.declared.event.Event.{Event}
+use Rattle.group_model.specs.Read.{noted}
+use Rattle.instance_groups.specs.Noted.{AreNoted}
+use Rattle.instance_groups.specs.Reading.{listing}
+use Rattle.journal_replay.specs.Replaying.{boot_of}
+use Rattle.kernel_model.specs.Application.{Application, Booted}
+use Rattle.kernel_model.specs.Instances.{app_of}
+use Rattle.kernel_state.specs.Setup.{application_of}
+use Rattle.kernel_state.specs.declared.setup.Application.{Application as CodeApp}
+use Rattle.instance_groups.proofs.log_reader.LogReader.new.Goals as goal
+
+pub returns-in-Some : goal.returns-in-Some
+returns-in-Some g c =
+    let made = c.in_ok-replay.ensures in (
+      sym (ap (λ (b : Booted). app_of b c.args.uuid) made.booted) ∙ c.in_ok-found.ensures
+          ∙ ap (λ (found : Option CodeApp). option_map application_of found) c.in-Some.is
+          ∙ ap (λ (a : CodeApp). Some (application_of a)) (sym c.new-notes.ensures.app),
+      record {
+        booted = made.booted;
+        events = made.fresh;
+        of_app = refl;
+        reading = ∣ subst (λ (h : List Event). AreNoted c.new-notes.result
+            (listing (noted (boot_of c.in_ok-replay.replay) h (application_of c.new-notes.result.app)) [])) (sym made.fresh) c.new-notes.ensures.noted ∣₁;
+      },
+    )
+
+pub returns-in-None : goal.returns-in-None
+returns-in-None g c =
+    sym (ap (λ (b : Booted). app_of b c.args.uuid) c.in_ok-replay.ensures.booted) ∙ c.in_ok-found.ensures
+    ∙ ap (λ (found : Option CodeApp). option_map application_of found) c.in-None.is
