@@ -1,2 +1,4 @@
+pub mod Comparisons
 pub mod Differences
+pub mod ReadBoth
 pub mod Logs

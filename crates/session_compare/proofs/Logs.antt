@@ -1,29 +1,31 @@
 -- What two logs show is what the two journals show.
 use Rattle.std.proofs.Common.{◌≡◌, ◌↔◌, ℕ, List, [], Bool, true, false, Option, Some, None, refl, ap, sym, subst, ◌∙◌, length, inl, inr}
-use Rattle.std.specs.Prelude.{IfOk, IsTrue, ◌⊎◌, Result, Ok, Err}
+use Rattle.std.specs.Prelude.{IfOk, IsSome, IsTrue, ◌⊎◌, Result, Ok, Err, if◌then◌else◌}
 use Rattle.std.specs.Option.{option_and_then, option_map, option_map_or}
-use Rattle.audit_model.proofs.Prefixes.{prefixes_can_be}
 use Rattle.base.specs.declared.no_memory.NoMemory.{NoMemory}
 use Rattle.compare_model.proofs.Replies.{same_gives_same_replies}
-use Rattle.compare_model.specs.Comparing.{AreOfOne, AreShownAs, CanBe, CanBeBoth, DifferFirstAt, FailsAt, HaveSameReplies, IsComparedAs, Pair}
+use Rattle.compare_model.specs.Comparing.{AreOfOne, AreShownAs, CanBe, CanBeBoth, DifferFirstAt, FailsAt, HaveSameReplies, IsAbsentIn, IsComparedAs, Pair}
 use Rattle.compare_model.specs.Comparing.{Shown, core_of, group_in, if_shared, session_in, unless_shared}
 use Rattle.compare_model.specs.declared.compared.Compared.{Compared}
 use Rattle.compare_model.specs.declared.compared.Compared.TheVariants.{Absent, Events, Illegal, Other, Same}
 use Rattle.compare_model.specs.declared.subject.Subject.{Subject}
 use Rattle.compare_model.specs.declared.subject.Subject.TheVariants.{Group, Session}
+use Rattle.audit_model.proofs.Prefixes.{prefixes_can_be}
 use Rattle.event_journal.specs.declared.event.Event.{Event}
-use Rattle.group_model.specs.Read.{group_events, group_replies}
 use Rattle.instance_groups.specs.Journals.{log_by}
 use Rattle.instance_groups.specs.declared.group_log.GroupLog.{GroupLog}
 use Rattle.isolation.specs.Journals.{IsJournal}
-use Rattle.isolation.specs.declared.session_log.OwnLog.{OwnLog}
 use Rattle.journal_bytes.specs.declared.reading.ReadJournal.{ReadJournal}
+use Rattle.group_model.specs.Read.{group_events, group_replies}
 use Rattle.kernel_model.specs.Application.{Application, Booted, Native, booted}
 use Rattle.kernel_model.specs.Instances.{app_of}
 use Rattle.kernel_state.specs.Setup.{application_of}
 use Rattle.kernel_state.specs.declared.setup.Application.{Application as AnyApplication}
+use Rattle.own_model.specs.Own.{Logged}
 use Rattle.session_compare.specs.Logs.{AreGroupLogsOf, AreLogsOf, AreToldApart, IsShownBy, events_in, replies_in}
+use Rattle.session_compare.specs.Comparisons.{Compares, ShowsEvents}
 use Rattle.session_compare.specs.Pairs.{CanBeCompared, CanBeRead}
+use Rattle.session_compare.specs.declared.differing.Comparison.{Comparison}
 
 -- ---- a journal that can be
 
@@ -100,35 +102,36 @@ module _ {E R : Type 0} where
 
 -- ---- sessions
 
-module _ (pair : Pair) (session : ℕ) (one two : OwnLog) (are : AreLogsOf pair session one two) (app other : Option AnyApplication)
-    (unless : option_and_then unless_shared (option_map application_of one.app) ≡ option_map application_of app)
-    (unless_too : option_and_then unless_shared (option_map application_of two.app) ≡ option_map application_of other) where
-  one_logged : IsLoggedAs (session_in pair session pair.one) app one.entries.items
+module _ (pair : Pair) (session : ℕ) (app other kept other_kept : Option AnyApplication) (one two : List Logged)
+    (are : AreLogsOf pair session app other one two)
+    (unless : option_and_then unless_shared (option_map application_of app) ≡ option_map application_of kept)
+    (unless_too : option_and_then unless_shared (option_map application_of other) ≡ option_map application_of other_kept) where
+  one_logged : IsLoggedAs (session_in pair session pair.one) kept one
   one_logged = record {
-    app_is = ap (λ (o : Option Application). option_and_then unless_shared o) are.in_one.app ∙ unless;
-    events_are = sym (ap events_in are.in_one.entries);
-    replies_are = sym (ap replies_in are.in_one.entries);
+    app_is = ap (λ (o : Option Application). option_and_then unless_shared o) are.app_one ∙ unless;
+    events_are = sym (ap events_in are.log_one);
+    replies_are = sym (ap replies_in are.log_one);
   }
 
-  two_logged : IsLoggedAs (session_in pair session pair.two) other two.entries.items
+  two_logged : IsLoggedAs (session_in pair session pair.two) other_kept two
   two_logged = record {
-    app_is = ap (λ (o : Option Application). option_and_then unless_shared o) are.in_two.app ∙ unless_too;
-    events_are = sym (ap events_in are.in_two.entries);
-    replies_are = sym (ap replies_in are.in_two.entries);
+    app_is = ap (λ (o : Option Application). option_and_then unless_shared o) are.app_two ∙ unless_too;
+    events_are = sym (ap events_in are.log_two);
+    replies_are = sym (ap replies_in are.log_two);
   }
 
   pub sessions_apart : (told : Compared)
-      → AreToldApart pair (option_map application_of app) (option_map application_of other) (Some told)
+      → AreToldApart pair (option_map application_of kept) (option_map application_of other_kept) (Some told)
       → IsComparedAs pair (Session session) told
   sessions_apart told is =
-      shown_apart pair (session_in pair session pair.one) (session_in pair session pair.two) are.can_be app other one.entries.items
-      two.entries.items one_logged two_logged told is
+      shown_apart pair (session_in pair session pair.one) (session_in pair session pair.two) are.can_be kept other_kept one two
+      one_logged two_logged told is
 
-  pub sessions_alike : AreToldApart pair (option_map application_of app) (option_map application_of other) None → (told : Compared)
-      → IsShownBy one.entries.items two.entries.items told → IsComparedAs pair (Session session) told
+  pub sessions_alike : AreToldApart pair (option_map application_of kept) (option_map application_of other_kept) None → (told : Compared)
+      → IsShownBy one two told → IsComparedAs pair (Session session) told
   sessions_alike same told is =
-      shown_alike pair (session_in pair session pair.one) (session_in pair session pair.two) are.can_be app other one.entries.items
-      two.entries.items one_logged two_logged same told is
+      shown_alike pair (session_in pair session pair.one) (session_in pair session pair.two) are.can_be kept other_kept one two
+      one_logged two_logged same told is
 
 -- ---- groups
 
@@ -176,6 +179,16 @@ module _ (pair : Pair) (uuid : List ℕ) (one two : GroupLog) (are : AreGroupLog
   groups_alike same told is =
       shown_alike pair (group_in pair uuid pair.one) (group_in pair uuid pair.two) are.can_be app other one.entries.items two.entries.items
       one_grouped two_grouped same told is
+
+-- ---- a comparison that was made as the logs were read
+
+pub shown_by : {E R : Type 0} (code : Comparison E) (one two : List (E × Option R)) (told : Compared) → Compares code one two
+    → ShowsEvents (events_in one) (events_in two) code.replies told → IsShownBy one two told
+shown_by code one two (Illegal of at) compares is = absurd is
+shown_by code one two (Absent of) compares is = absurd is
+shown_by code one two Other compares is = absurd is
+shown_by code one two (Events at) compares is = is
+shown_by code one two (Same count) compares is = (is.0, is.1 ∙ compares.replies)
 
 -- ---- applications
 

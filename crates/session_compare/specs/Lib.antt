@@ -1,3 +1,5 @@
 pub mod Pairs
 pub mod Logs
+pub mod Comparisons
+pub mod Sessions
 pub mod Examples

@@ -1,14 +1,16 @@
 -- The logs of a session or of a group in two journals, and what they show.
-use Rattle.std.specs.Prelude.{◌≡◌, ◌⊎◌, ℕ, List, Option, None, Some, filter_map, length, map}
+use Rattle.std.specs.Prelude.{◌≡◌, ℕ, List, Option, None, Some, filter_map, length, map}
+use Rattle.std.specs.Option.{option_map}
 use Rattle.compare_model.specs.Comparing.{AreOfOne, AreOfTwo, CanBeBoth, DifferFirstAt, IsAbsentIn, Pair, core_of}
 use Rattle.compare_model.specs.declared.compared.Compared.{Compared}
 use Rattle.compare_model.specs.declared.compared.Compared.TheVariants.{Absent, Events, Other, Same}
 use Rattle.instance_groups.specs.Journals.{IsLogOf as IsGroupLogOf}
 use Rattle.instance_groups.specs.declared.group_log.GroupLog.{GroupLog}
-use Rattle.isolation.specs.Logs.{IsLogOf}
-use Rattle.isolation.specs.declared.session_log.OwnLog.{OwnLog}
 use Rattle.journal_bytes.specs.declared.reading.ReadJournal.{ReadJournal}
 use Rattle.kernel_model.specs.Application.{Application, Native, booted}
+use Rattle.kernel_state.specs.Setup.{application_of}
+use Rattle.kernel_state.specs.declared.setup.Application.{Application as AnyApplication}
+use Rattle.own_model.specs.Own.{Logged, noted, own_app}
 
 -- ---- logs
 
@@ -19,15 +21,13 @@ events_in log = map (λ logged. logged.0) log
 abbrev pub replies_in : {E R : Type 0} → List (E × Option R) → List R
 replies_in log = filter_map (λ logged. logged.1) log
 
--- the log is that of the session in the journal
-abbrev pub IsLogIn : List Native → ReadJournal → ℕ → OwnLog → Type 0
-IsLogIn natives read session log = IsLogOf (booted read.boot natives) read.journal.events session log
-
--- both journals can be, and the logs are those of the session in them
-pub record AreLogsOf (pair : Pair) (session : ℕ) (one two : OwnLog) : Type 0 where
+-- both journals can be, and these are the applications and the logs of the session in them
+pub record AreLogsOf (pair : Pair) (session : ℕ) (app other : Option AnyApplication) (one two : List Logged) : Type 0 where
   pub can_be : CanBeBoth pair
-  pub in_one : IsLogOf (core_of pair pair.one) pair.one.events session one
-  pub in_two : IsLogOf (core_of pair pair.two) pair.two.events session two
+  pub app_one : own_app (core_of pair pair.one) pair.one.events session ≡ option_map application_of app
+  pub app_two : own_app (core_of pair pair.two) pair.two.events session ≡ option_map application_of other
+  pub log_one : one ≡ (noted (core_of pair pair.one) pair.one.events session).log
+  pub log_two : two ≡ (noted (core_of pair pair.two) pair.two.events session).log
 
 -- the log is that of the sessions of this UUID's application in the journal
 abbrev pub IsGroupLogIn : List Native → ReadJournal → List ℕ → GroupLog → Type 0

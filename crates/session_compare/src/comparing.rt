@@ -1,59 +1,18 @@
 //! Comparing two journals.
 ghost use Rattle.std.specs.Prelude.{IfOk};
-ghost use Rattle.compare_model.specs.Comparing.{CanBeBoth, HaveSameReplies, IsComparedAs};
+ghost use Rattle.compare_model.specs.Comparing.{HaveSameReplies, IsComparedAs};
 ghost use Rattle.compare_model.specs.declared.subject.Subject.TheVariants.{Group, Session};
 ghost use Rattle.native_tas.specs.Table.{entries};
-ghost use Rattle.session_compare.specs.Pairs.{CanBeCompared, CanBeRead, pair_of};
+ghost use Rattle.session_compare.specs.Pairs.{CanBeCompared, pair_of};
 
 use crate::groups::compare_group;
 use crate::sessions::compare_session;
-use audit::check;
-use audit_model::Verdict;
 use base::NoMemory;
 use compare_model::{Compared, Subject};
 use journal_bytes::ReadJournal;
 use native_tas::Natives;
 use std::alloc::Global;
 use uuid::Uuid;
-
-/// Compares two journals that can be.
-fn compare_legal(
-    alloc: Global,
-    one: &ReadJournal,
-    two: &ReadJournal,
-    natives: &Natives,
-    subject: Subject,
-) -> Result<Compared, NoMemory>
-    requires one { CanBeCompared (entries natives.now) one.now }
-    requires two { CanBeCompared (entries natives.now) two.now }
-    requires can_be { CanBeBoth (pair_of (entries natives.now) one.now two.now) }
-    ensures { IfOk result (IsComparedAs (pair_of (entries natives.now) one.now two.now) subject) }
-{
-    match subject {
-        Subject::Session(session) => compare_session(alloc, one, two, natives, session),
-        Subject::Group(uuid) => compare_group(alloc, one, two, natives, uuid),
-    }
-}
-
-/// Compares a journal that can be with another.
-fn compare_with(
-    alloc: Global,
-    one: &ReadJournal,
-    two: &ReadJournal,
-    natives: &Natives,
-    subject: Subject,
-) -> Result<Compared, NoMemory>
-    requires one { CanBeCompared (entries natives.now) one.now }
-    requires two { CanBeCompared (entries natives.now) two.now }
-    requires can_be { CanBeRead (entries natives.now) one.now }
-    ensures { IfOk result (IsComparedAs (pair_of (entries natives.now) one.now two.now) subject) }
-{
-    let verdict = check(alloc, &two.boot, natives, &two.journal)?;
-    match verdict {
-        Verdict::Legal => compare_legal(alloc, one, two, natives, subject),
-        Verdict::Illegal(at) => Ok(Compared::Illegal { journal: 2, at }),
-    }
-}
 
 /// What two journals show of a session or of a group, as [`compare`] and [`compare_groups`] say.
 pub fn compare_on(
@@ -70,10 +29,9 @@ pub fn compare_on(
     // Where both show the same of it, it was answered the same.
     ensures same_replies { IfOk result (HaveSameReplies (pair_of (entries natives.now) one.now two.now) subject) }
 {
-    let verdict = check(alloc, &one.boot, natives, &one.journal)?;
-    match verdict {
-        Verdict::Legal => compare_with(alloc, one, two, natives, subject),
-        Verdict::Illegal(at) => Ok(Compared::Illegal { journal: 1, at }),
+    match subject {
+        Subject::Session(session) => compare_session(alloc, one, two, natives, session),
+        Subject::Group(uuid) => compare_group(alloc, one, two, natives, uuid),
     }
 }
 

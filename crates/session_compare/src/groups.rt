@@ -1,4 +1,4 @@
-//! What two journals that can be show of the sessions that share one instance.
+//! What two journals show of the sessions that share one instance.
 ghost use Rattle.std.specs.Prelude.{◌≡◌, ◌↔◌, ℕ, List, IfOk, IsTrue};
 ghost use Rattle.compare_model.specs.Comparing.{CanBeBoth, IsComparedAs, Pair};
 ghost use Rattle.compare_model.specs.declared.subject.Subject.TheVariants.{Group};
@@ -7,8 +7,10 @@ ghost use Rattle.session_compare.specs.Logs.{AreGroupLogsOf, IsGroupLogIn};
 ghost use Rattle.session_compare.specs.Pairs.{CanBeCompared, CanBeRead, pair_of};
 
 use crate::apart::{is_same_key, told_apart};
-use crate::differing::compare_events;
 use crate::same_apps::if_shared;
+use crate::whole_logs::compare_events;
+use audit::check;
+use audit_model::Verdict;
 use base::NoMemory;
 use compare_model::Compared;
 use instance_groups::{GroupLog, read_group_log};
@@ -50,7 +52,7 @@ fn log_in(
 }
 
 /// Compares two journals that can be, on a group.
-pub(crate) fn compare_group(
+fn compare_legal(
     alloc: Global,
     one: &ReadJournal,
     two: &ReadJournal,
@@ -66,4 +68,43 @@ pub(crate) fn compare_group(
     let other = log_in(alloc, two, natives, uuid)?;
     let one_key = is_same_key(&one.boot.key, &two.boot.key);
     Ok(compare_logs(log, other, one_key))
+}
+
+/// Compares a journal that can be with another, on a group.
+fn compare_with(
+    alloc: Global,
+    one: &ReadJournal,
+    two: &ReadJournal,
+    natives: &Natives,
+    uuid: Uuid,
+) -> Result<Compared, NoMemory>
+    requires one { CanBeCompared (entries natives.now) one.now }
+    requires two { CanBeCompared (entries natives.now) two.now }
+    requires can_be { CanBeRead (entries natives.now) one.now }
+    ensures { IfOk result (IsComparedAs (pair_of (entries natives.now) one.now two.now) (Group uuid)) }
+{
+    let verdict = check(alloc, &two.boot, natives, &two.journal)?;
+    match verdict {
+        Verdict::Legal => compare_legal(alloc, one, two, natives, uuid),
+        Verdict::Illegal(at) => Ok(Compared::Illegal { journal: 2, at }),
+    }
+}
+
+/// Compares two journals on a group.
+pub(crate) fn compare_group(
+    alloc: Global,
+    one: &ReadJournal,
+    two: &ReadJournal,
+    natives: &Natives,
+    uuid: Uuid,
+) -> Result<Compared, NoMemory>
+    requires one { CanBeCompared (entries natives.now) one.now }
+    requires two { CanBeCompared (entries natives.now) two.now }
+    ensures { IfOk result (IsComparedAs (pair_of (entries natives.now) one.now two.now) (Group uuid)) }
+{
+    let verdict = check(alloc, &one.boot, natives, &one.journal)?;
+    match verdict {
+        Verdict::Legal => compare_with(alloc, one, two, natives, uuid),
+        Verdict::Illegal(at) => Ok(Compared::Illegal { journal: 1, at }),
+    }
 }

@@ -1,9 +1,11 @@
 //! What two journals show of a session, or of the sessions that share one instance: whether the same happened to it in both, or
 //! where that first differs.
 //!
-//! Each journal is checked, and then done again once for the log of the session or of the group. `comparing` has the calls, `sessions`
-//! and `groups` read the logs, `apart` says what the two applications alone show, and `differing` looks for the first event that
-//! differs. `same_events`, `same_group_events`, `same_inputs`, `same_params` and `same_apps` say when two events, what came with
+//! For a session each journal is done again once, which checks it and reads the log off it, and the two logs are compared as they are read:
+//! the second journal is read on while the first log is ahead, and of both only what the other lacks is kept. For a group each journal is
+//! checked, and then done again once for the whole log. `comparing` has the calls, `sessions` and `groups` read the logs, `differing` and
+//! `whole_logs` compare them, `apart` says what the two applications alone show, and `illegal` what is told where the second journal can't
+//! be. `same_events`, `same_group_events`, `same_inputs`, `same_params` and `same_apps` say when two events, what came with
 //! them, parameters and applications are the same.
 #![tactic(auto)]
 
@@ -12,12 +14,14 @@ mod comparing;
 mod differing;
 mod examples;
 mod groups;
+mod illegal;
 mod same_apps;
 mod same_events;
 mod same_group_events;
 mod same_inputs;
 mod same_params;
 mod sessions;
+mod whole_logs;
 
 pub use base::NoMemory;
 pub use compare_model::{Compared, Subject};

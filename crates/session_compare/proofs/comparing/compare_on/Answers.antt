@@ -1,24 +1,30 @@
+use Rattle.std.proofs.Common.{subst, sym}
+use Rattle.std.specs.Prelude.{IfOk}
+use Rattle.compare_model.specs.Comparing.{IsComparedAs}
+use Rattle.compare_model.specs.declared.subject.Subject.{Subject}
 use Rattle.native_tas.specs.Table.{entries}
-use Rattle.session_compare.proofs.Logs.{illegal_in_one, told_same}
+use Rattle.session_compare.proofs.Logs.{told_same}
 use Rattle.session_compare.specs.Pairs.{pair_of}
 use Rattle.session_compare.proofs.comparing.compare_on.Goals as goal
 
-pub check-requires-clause-limits : goal.check-requires-clause-limits
-check-requires-clause-limits g c = c.requires.one.boot.limits
+pub returns-in-Session-clause-compared : goal.returns-in-Session-clause-compared
+returns-in-Session-clause-compared g c =
+    let pair = pair_of (entries c.args.natives.now) c.args.one.now c.args.two.now in
+    subst (λ (subject : Subject). IfOk c.compare_session.result (IsComparedAs pair subject)) (sym c.in-Session.is) c.compare_session.ensures
 
-pub check-requires-clause-apart : goal.check-requires-clause-apart
-check-requires-clause-apart g c = c.requires.one.boot.apart
+pub returns-in-Session-clause-same_replies : goal.returns-in-Session-clause-same_replies
+returns-in-Session-clause-same_replies g c =
+    let pair = pair_of (entries c.args.natives.now) c.args.one.now c.args.two.now in
+    told_same pair c.args.subject c.compare_session.result
+    (subst (λ (subject : Subject). IfOk c.compare_session.result (IsComparedAs pair subject)) (sym c.in-Session.is) c.compare_session.ensures)
 
-pub check-requires-clause-few : goal.check-requires-clause-few
-check-requires-clause-few g c = c.requires.one.few
+pub returns-in-Group-clause-compared : goal.returns-in-Group-clause-compared
+returns-in-Group-clause-compared g c =
+    let pair = pair_of (entries c.args.natives.now) c.args.one.now c.args.two.now in
+    subst (λ (subject : Subject). IfOk c.compare_group.result (IsComparedAs pair subject)) (sym c.in-Group.is) c.compare_group.ensures
 
-pub compare_with-requires-clause-can_be : goal.compare_with-requires-clause-can_be
-compare_with-requires-clause-can_be g c = rw c.in-Legal.is at c.in_ok-verdict.ensures
-
-pub returns-in-Legal-clause-same_replies : goal.returns-in-Legal-clause-same_replies
-returns-in-Legal-clause-same_replies g c =
-    told_same (pair_of (entries c.args.natives.now) c.args.one.now c.args.two.now) c.args.subject c.compare_with.result c.compare_with.ensures
-
-pub returns-in-Illegal-clause-compared : goal.returns-in-Illegal-clause-compared
-returns-in-Illegal-clause-compared g c = illegal_in_one (pair_of (entries c.args.natives.now) c.args.one.now c.args.two.now) c.args.subject
-    c.in-Illegal.at (rw c.in-Illegal.is at c.in_ok-verdict.ensures)
+pub returns-in-Group-clause-same_replies : goal.returns-in-Group-clause-same_replies
+returns-in-Group-clause-same_replies g c =
+    let pair = pair_of (entries c.args.natives.now) c.args.one.now c.args.two.now in
+    told_same pair c.args.subject c.compare_group.result
+    (subst (λ (subject : Subject). IfOk c.compare_group.result (IsComparedAs pair subject)) (sym c.in-Group.is) c.compare_group.ensures)

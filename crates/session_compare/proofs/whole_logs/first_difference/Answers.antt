@@ -1,7 +1,7 @@
 use Rattle.std.proofs.Common.{◌≡◌, Bool, true, false}
 use Rattle.std.specs.Prelude.{IsTrue}
 use Rattle.session_compare.proofs.Differences.{differ_there, same_next}
-use Rattle.session_compare.proofs.differing.first_difference.Goals as goal
+use Rattle.session_compare.proofs.whole_logs.first_difference.Goals as goal
 
 not_both : (b : Bool) → b ≡ false → IsTrue b → ⊥
 not_both true is so = absurd cc

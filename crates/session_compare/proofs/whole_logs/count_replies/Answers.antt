@@ -2,7 +2,7 @@ use Rattle.std.proofs.Common.{ap, arith, length, ◌∙◌}
 use Rattle.std.proofs.lemmas.List.{take_all}
 use Rattle.session_compare.specs.Logs.{replies_in}
 use Rattle.session_compare.proofs.Differences.{replies_next}
-use Rattle.session_compare.proofs.differing.count_replies.Goals as goal
+use Rattle.session_compare.proofs.whole_logs.count_replies.Goals as goal
 
 pub loop-logged-preserved : goal.loop-logged-preserved
 loop-logged-preserved g c =

@@ -1,7 +1,7 @@
 use Rattle.std.proofs.Common.{◌≡◌, Some, ap, sym, ◌∙◌, false}
 use Rattle.std.specs.Prelude.{IsTrue}
 use Rattle.session_compare.proofs.Differences.{event_there, no_event}
-use Rattle.session_compare.proofs.differing.is_event_at.Goals as goal
+use Rattle.session_compare.proofs.whole_logs.is_event_at.Goals as goal
 
 module _ {X : Type 0} where
   same_some : (x y : X) → Some x ≡ Some y → x ≡ y

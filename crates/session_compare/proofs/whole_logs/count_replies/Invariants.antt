@@ -1,6 +1,6 @@
 use Rattle.std.proofs.Common.{◌≡◌, ◌≤◌, length, take}
 use Rattle.session_compare.specs.Logs.{replies_in}
-use Rattle.session_compare.proofs.differing.count_replies.Given as goal
+use Rattle.session_compare.proofs.whole_logs.count_replies.Given as goal
 
 abbrev pub invariant-loop-logged : goal.invariant-loop-logged
 invariant-loop-logged g l = record {

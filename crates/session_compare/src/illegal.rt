@@ -1,0 +1,35 @@
+//! Two journals of which the second can't be.
+ghost use Rattle.std.specs.Prelude.{IfOk};
+ghost use Rattle.compare_model.specs.Comparing.{IsComparedAs};
+ghost use Rattle.compare_model.specs.declared.subject.Subject.{Subject as AnySubject};
+ghost use Rattle.audit_model.specs.Verdicts.{IsIllegalAt};
+ghost use Rattle.journal_bytes.specs.declared.reading.ReadJournal.{ReadJournal as AnyReadJournal};
+ghost use Rattle.kernel_model.specs.Application.{booted};
+ghost use Rattle.native_tas.specs.Table.{entries};
+ghost use Rattle.session_compare.specs.Pairs.{CanBeCompared, pair_of};
+
+use audit::check;
+use audit_model::Verdict;
+use base::NoMemory;
+use compare_model::Compared;
+use journal_bytes::ReadJournal;
+use native_tas::Natives;
+use std::alloc::Global;
+
+/// What is told where the event of this number can't be in the second journal: the first may have one too.
+pub(crate) fn illegal_two(
+    alloc: Global,
+    one: &ReadJournal,
+    natives: &Natives,
+    at: u64,
+) -> Result<Compared, NoMemory>
+    requires { CanBeCompared (entries natives.now) one.now }
+    ensures { (two : AnyReadJournal) (subject : AnySubject) → IsIllegalAt (booted two.boot (entries natives.now)) two.journal.events at
+        → IfOk result (IsComparedAs (pair_of (entries natives.now) one.now two) subject) }
+{
+    let verdict = check(alloc, &one.boot, natives, &one.journal)?;
+    match verdict {
+        Verdict::Legal => Ok(Compared::Illegal { journal: 2, at }),
+        Verdict::Illegal(at) => Ok(Compared::Illegal { journal: 1, at }),
+    }
+}
