@@ -23,7 +23,7 @@ use Rattle.kernel_model.specs.Kernel.{ACancel, AnInvoke, AnOpen, Active, Asks, C
 use Rattle.kernel_model.specs.Kernel.{Processor, Progress, Runs, SettledCall, Suspended, Tables, ThreadSlot, Untold, Visit, Waits}
 use Rattle.kernel_model.specs.Leaving.{Leaving, Interrupted, WantsBuffer, Requests, FreesBuffer, Finishes, leaving_of}
 use Rattle.ns_ram.specs.Reader.{reading}
-use Rattle.own_model.specs.Own.{Entering, Numbering, input_of, next_in, reply_of, slot_kept, with_wake, woken_in}
+use Rattle.own_model.specs.Own.{Entering, Numbering, input_of, next_in, reply_of, slot_kept, wake_kept, wake_of, with_wake}
 use Rattle.own_model.specs.declared.own_reply.OwnReply.{OwnReply}
 use Rattle.ta_params.specs.declared.call_result.CallResult.{CallResult}
 
@@ -185,27 +185,27 @@ module _ (notes : Notes) where
   exit_adds : (slot : ℕ) (call : PendingCall) (number : ℕ)
       → Adds (λ log. exit_noted (listing notes log) slot call number) (exit_noted notes slot call number)
   exit_adds slot call number =
-      let by = adds (reply_of (woken_in notes.numbering slot call.phase) call.phase (leaving_of slot call)) in
+      let by = adds (reply_of (wake_kept notes.numbering slot (wake_of call.phase)) call.phase (leaving_of slot call)) in
       record {
         more = by.more;
         so = λ log. ap (λ (opened : Option ℕ). let n : Notes = record
             (option_map_or (with_reply number (listing notes log) opened)
-            (reply_of (woken_in notes.numbering slot call.phase) call.phase (leaving_of slot call)) (listing notes log)) {
-              numbering = slot_kept (with_wake notes.numbering slot (woken_in notes.numbering slot call.phase)) slot (leaving_of slot call);
+            (reply_of (wake_kept notes.numbering slot (wake_of call.phase)) call.phase (leaving_of slot call)) (listing notes log)) {
+              numbering = slot_kept (with_wake notes.numbering slot (wake_kept notes.numbering slot (wake_of call.phase))) slot (leaving_of slot call);
             } in n) (same_opened call log call.kind (leaving_of slot call)) ∙ by.so log;
       }
     where
       adds : (o : Option OwnReply) → Adds
           (λ log. record (option_map_or (with_reply number (listing notes log) (opened_in notes call call.kind (leaving_of slot call))) o (listing notes log)) {
-            numbering = slot_kept (with_wake notes.numbering slot (woken_in notes.numbering slot call.phase)) slot (leaving_of slot call);
+            numbering = slot_kept (with_wake notes.numbering slot (wake_kept notes.numbering slot (wake_of call.phase))) slot (leaving_of slot call);
           })
           (record (option_map_or (with_reply number notes (opened_in notes call call.kind (leaving_of slot call))) o notes) {
-            numbering = slot_kept (with_wake notes.numbering slot (woken_in notes.numbering slot call.phase)) slot (leaving_of slot call);
+            numbering = slot_kept (with_wake notes.numbering slot (wake_kept notes.numbering slot (wake_of call.phase))) slot (leaving_of slot call);
           })
       adds None = record {
         more = [];
         so = λ log. ap (listing (record notes {
-          numbering = slot_kept (with_wake notes.numbering slot (woken_in notes.numbering slot call.phase)) slot (leaving_of slot call);
+          numbering = slot_kept (with_wake notes.numbering slot (wake_kept notes.numbering slot (wake_of call.phase))) slot (leaving_of slot call);
         })) (sym (append-nil log));
       }
       adds (Some told) =

@@ -15,7 +15,7 @@ use Rattle.kernel_model.specs.Leaving.{Leaving, Interrupted, WantsBuffer, Reques
 use Rattle.ns_ram.specs.Reader.{reading}
 use Rattle.own_model.specs.Own.{Entering, Logged, Notes, Resuming, back_noted, call_noted, entry_noted, event_noted, event_of, exit_noted, fixed_noted}
 use Rattle.own_model.specs.Own.{input_of, is_limit, is_of_client, limit_noted, next_in, numbered, out_noted, reply_of, resume_noted, seen_noted, slot_kept}
-use Rattle.own_model.specs.Own.{slot_noted, uuid_by, with_event, with_reply, with_wake, woken_in}
+use Rattle.own_model.specs.Own.{slot_noted, uuid_by, with_event, with_reply, wake_kept, wake_of, with_wake}
 use Rattle.own_model.specs.declared.own_event.OwnEvent.{OwnEvent}
 use Rattle.own_model.specs.declared.own_event.OwnEvent.TheVariants.{Open, Invoke, Close, Cancel, Seen, Back, Out, Limited}
 use Rattle.own_model.specs.declared.own_reply.OwnReply.{OwnReply}
@@ -146,19 +146,19 @@ module _ (notes : Notes) where
 
   exit_adds : (slot : ℕ) (call : PendingCall) (number : ℕ)
       → Adds (λ log. exit_noted (listing notes log) slot call number) (exit_noted notes slot call number)
-  exit_adds slot call number = adds (reply_of (woken_in notes.numbering slot call.phase) call.phase (leaving_of slot call))
+  exit_adds slot call number = adds (reply_of (wake_kept notes.numbering slot (wake_of call.phase)) call.phase (leaving_of slot call))
     where
       adds : (o : Option OwnReply) → Adds
           (λ log. record (option_map_or (with_reply number (listing notes log)) o (listing notes log)) {
-            numbering = slot_kept (with_wake notes.numbering slot (woken_in notes.numbering slot call.phase)) slot (leaving_of slot call);
+            numbering = slot_kept (with_wake notes.numbering slot (wake_kept notes.numbering slot (wake_of call.phase))) slot (leaving_of slot call);
           })
           (record (option_map_or (with_reply number notes) o notes) {
-            numbering = slot_kept (with_wake notes.numbering slot (woken_in notes.numbering slot call.phase)) slot (leaving_of slot call);
+            numbering = slot_kept (with_wake notes.numbering slot (wake_kept notes.numbering slot (wake_of call.phase))) slot (leaving_of slot call);
           })
       adds None = record {
         more = [];
         so = λ log. ap (listing (record notes {
-          numbering = slot_kept (with_wake notes.numbering slot (woken_in notes.numbering slot call.phase)) slot (leaving_of slot call);
+          numbering = slot_kept (with_wake notes.numbering slot (wake_kept notes.numbering slot (wake_of call.phase))) slot (leaving_of slot call);
         })) (sym (append-nil log));
       }
       adds (Some told) = record { more = (Out number, Some told) ∷ []; so = λ log. refl }
