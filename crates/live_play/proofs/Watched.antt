@@ -17,10 +17,10 @@ use Rattle.ta_isa.specs.declared.boot.Boot.{Boot}
 use Rattle.trace_text.specs.declared.fault.BadKind.{BadKind}
 use Rattle.trace_text.specs.declared.fault.BadKind.TheVariants as bad
 use Rattle.live_play.specs.Answer.{Answer, Bad, Done, Full, Setting, TooLong, after_heard, answer, copied_at, fault_at, play_at, printed_at, refused_at, text_of_ending, uuids_in}
-use Rattle.live_play.specs.Changes.{changes, text_of_changes}
+use Rattle.live_play.specs.Changes.{changes}
 use Rattle.live_play.specs.Conversation.{after_all}
 use Rattle.live_play.specs.Returns.{returns_in}
-use Rattle.live_play.specs.Showing.{lane_at, lanes_at, watched_answer, watched_line}
+use Rattle.live_play.specs.Showing.{lane_at, text_behind, watched_answer, watched_line}
 use Rattle.live_play.specs.ShowingLaws.{ExitsAreWatched, IsWatched, OthersStay, told_out}
 use Rattle.live_play.proofs.Changing.{changes_tell_all}
 use Rattle.live_play.proofs.Effects.{AddsItem, AddsSignal, Effect, Heads, Stays, effect}
@@ -30,20 +30,20 @@ use Rattle.live_play.proofs.Talking.{IsStage, answer_by, answer_unless, counted,
 -- ---- the text of lines
 
 -- where no line `ret` is among them, it is as where no exit is watched
-pub unwatched-lines : (was now : List (List ℕ)) (lines : List Line) → returns_in lines ≡ []
-    → flat_map (watched_line was now) lines ≡ flat_map text_of_line lines
-unwatched-lines was now [] none = refl
-unwatched-lines was now (Ret cpu regs ∷ lines) none = absurd cc
-unwatched-lines was now (Mem cpu addr bytes ∷ lines) none =
-    ap (λ (l : List ℕ). text_of_line (Mem cpu addr bytes) ++ l) (unwatched-lines was now lines none)
+pub unwatched-lines : (on : Setting) (before after : NotifyFront) (lines : List Line) → returns_in lines ≡ []
+    → flat_map (watched_line on before after) lines ≡ flat_map text_of_line lines
+unwatched-lines on before after [] none = refl
+unwatched-lines on before after (Ret cpu regs ∷ lines) none = absurd cc
+unwatched-lines on before after (Mem cpu addr bytes ∷ lines) none =
+    ap (λ (l : List ℕ). text_of_line (Mem cpu addr bytes) ++ l) (unwatched-lines on before after lines none)
 
--- behind one line `ret` stands what that exit has changed
-pub watched-lines : (was now : List (List ℕ)) (lines : List Line) (cpu : ℕ) (regs : List ℕ) → lines ≡ Ret cpu regs ∷ []
-    → flat_map (watched_line was now) lines
-    ≡ flat_map text_of_line lines ++ text_of_changes cpu (changes (slice_index_or was cpu []) (slice_index_or now cpu []))
-watched-lines was now lines cpu regs is =
-    let more : List ℕ = text_of_changes cpu (changes (slice_index_or was cpu []) (slice_index_or now cpu [])) in
-    ap (flat_map (watched_line was now)) is
+-- behind one line `ret` stands in what panic its call has ended, and what that exit has changed
+pub watched-lines : (on : Setting) (before after : NotifyFront) (lines : List Line) (cpu : ℕ) (regs : List ℕ)
+    → lines ≡ Ret cpu regs ∷ []
+    → flat_map (watched_line on before after) lines ≡ flat_map text_of_line lines ++ text_behind on before after cpu
+watched-lines on before after lines cpu regs is =
+    let more : List ℕ = text_behind on before after cpu in
+    ap (flat_map (watched_line on before after)) is
     ∙ append-nil (text_of_line (Ret cpu regs) ++ more)
     ∙ ap (λ (l : List ℕ). l ++ more) (sym (ap (flat_map text_of_line) is ∙ append-nil (text_of_line (Ret cpu regs))))
 
@@ -53,12 +53,10 @@ exit_watched : (on : Setting) (before : NotifyFront) (input : Input) (cpu : ℕ)
     → answer on before input ≡ told_out cpu regs → IsWatched on before input cpu regs
 exit_watched on before input cpu regs is =
     let after : NotifyFront = after_heard on before input in
-    let was : List (List ℕ) = lanes_at on before in
-    let now : List (List ℕ) = lanes_at on after in
     record {
       writes = changes (lane_at on before cpu) (lane_at on after cpu);
       said = ap (watched_answer on before after) is
-          ∙ ap (λ (text : List ℕ). text ++ text_of_ending Done) (append-nil (watched_line was now (Ret cpu regs)));
+          ∙ ap (λ (text : List ℕ). text ++ text_of_ending Done) (append-nil (watched_line on before after (Ret cpu regs)));
       laid_over = λ count long still. changes_tell_all count (lane_at on before cpu) (lane_at on after cpu) long still;
     }
 

@@ -5,6 +5,7 @@ pub mod Laws
 pub mod Examples
 pub mod Changes
 pub mod State
+pub mod Panicking
 pub mod Showing
 pub mod ShowingLaws
 pub mod ShowingExamples

@@ -26,6 +26,7 @@ use Rattle.trace_text.specs.declared.item.Item.TheVariants as item
 use Rattle.live_play.specs.Answer.{Answer, Bad, Done, IsPlayed, Setting, after_heard, answer, play_at, text_of_ending}
 use Rattle.live_play.specs.Changes.{changes, text_of_changes}
 use Rattle.live_play.specs.Conversation.{said_to}
+use Rattle.live_play.specs.Panicking.{panic_between, panic_line}
 use Rattle.live_play.specs.State.{buffer_lines, event_lines, session_line, state_text, text_if}
 
 -- ---- what a conversation has come to
@@ -80,17 +81,21 @@ lanes_at on lines = option_map_or (λ (told : NotifyPlay). told.play.lanes) (pla
 abbrev pub lane_at : Setting → NotifyFront → ℕ → List ℕ
 lane_at on lines cpu = slice_index_or (lanes_at on lines) cpu []
 
--- a line, and behind `ret` what the processor's RAM has then and had not before
-abbrev pub watched_line : List (List ℕ) → List (List ℕ) → Line → List ℕ
-watched_line before after (Ret cpu regs) =
-    text_of_line (Ret cpu regs)
-    ++ text_of_changes cpu (changes (slice_index_or before cpu []) (slice_index_or after cpu []))
-watched_line before after (Mem cpu addr bytes) = text_of_line (Mem cpu addr bytes)
+-- what stands behind a line `ret` of this processor, between these lines and those: the panic in which its call has ended, if it
+-- did, and what the processor's RAM has then and had not before
+abbrev pub text_behind : Setting → NotifyFront → NotifyFront → ℕ → List ℕ
+text_behind on before after cpu =
+    text_if panic_line (panic_between on before after) ++ text_of_changes cpu (changes (lane_at on before cpu) (lane_at on after cpu))
+
+-- a line, and what stands behind it
+abbrev pub watched_line : Setting → NotifyFront → NotifyFront → Line → List ℕ
+watched_line on before after (Ret cpu regs) = text_of_line (Ret cpu regs) ++ text_behind on before after cpu
+watched_line on before after (Mem cpu addr bytes) = text_of_line (Mem cpu addr bytes)
 
 -- an answer, with these lines counting before it and those behind it
 abbrev pub watched_answer : Setting → NotifyFront → NotifyFront → Answer → List ℕ
 watched_answer on before after given =
-    flat_map (watched_line (lanes_at on before) (lanes_at on after)) given.lines ++ text_of_ending given.ending
+    flat_map (watched_line on before after) given.lines ++ text_of_ending given.ending
 
 -- ---- what is shown to what was heard
 

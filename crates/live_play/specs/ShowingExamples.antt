@@ -12,6 +12,7 @@ use Rattle.session_table.specs.Session.{opened_with, reserved_for}
 use Rattle.shm_registry.specs.Registered.{Registered}
 use Rattle.live_play.specs.Changes.{changes, text_of_changes}
 use Rattle.live_play.specs.Examples.{Turn, events_of, inputs_of, ok, on, turn, uid_told, zeros_told}
+use Rattle.live_play.specs.Panicking.{panic_line}
 use Rattle.live_play.specs.Showing.{first_position, showing}
 use Rattle.live_play.specs.State.{buffer_lines, instance_line, session_line, slot_line, state_text}
 
@@ -137,6 +138,8 @@ pub record ShowingExamples : Type 0 where
       ∷ codes "piece 40001000 4096"
       ∷ codes "piece 40005000 4"
       ∷ [])
+  -- a panic
+  pub panicked : panic_line 5 ≡ codes "panic 00000005" ++ 10 ∷ []
   -- changes in RAM: nothing; a byte of the second block of two, where its first one is as it was
   pub unchanged : changes (replicate 128 0) (replicate 128 0) ≡ []
   pub changed : text_of_changes 1 (changes (replicate 128 0) (replicate 65 0 ++ 255 ∷ replicate 62 0))

@@ -10,7 +10,9 @@ use Rattle.play_model.specs.Line.{Ret, text_of_line}
 use Rattle.live_play.specs.Answer.{Answer, Done, Setting, after_heard, answer, text_of_ending}
 use Rattle.live_play.specs.Changes.{text_of_changes}
 use Rattle.live_play.specs.Conversation.{after_all, conversation}
+use Rattle.live_play.specs.Panicking.{panic_between, panic_line}
 use Rattle.live_play.specs.Showing.{Position, kind_asked_by, lane_at, position_after, position_behind, showing, shown_to, shown_to_other}
+use Rattle.live_play.specs.State.{text_if}
 
 -- it asks nothing
 abbrev pub is_plain : Input → Bool
@@ -56,12 +58,13 @@ pub record PlainConversationsAreAsBefore : Type 0 where
 abbrev pub told_out : ℕ → List ℕ → Answer
 told_out cpu regs = record { lines = Ret cpu regs ∷ []; ending = Done }
 
--- behind the line of an exit stand writes, which laid over what the processor's RAM was give what it is, where it has whole blocks
--- alone
+-- behind the line of an exit stands the panic in which its call has ended, if it did, and then writes, which laid over what the
+-- processor's RAM was give what it is, where it has whole blocks alone
 pub record IsWatched (on : Setting) (before : NotifyFront) (input : Input) (cpu : ℕ) (regs : List ℕ) : Type 0 where
   pub writes : List Write
   pub said : shown_to_other on (record { lines = before; is_watching = true }) input
-      ≡ text_of_line (Ret cpu regs) ++ text_of_changes cpu writes ++ text_of_ending Done
+      ≡ text_of_line (Ret cpu regs)
+      ++ (text_if panic_line (panic_between on before (after_heard on before input)) ++ text_of_changes cpu writes) ++ text_of_ending Done
   pub laid_over : (count : ℕ) → length (lane_at on before cpu) ≡ 64 * count →
       length (lane_at on (after_heard on before input) cpu) ≡ 64 * count →
       lane_after (lane_at on before cpu) writes ≡ lane_at on (after_heard on before input) cpu

@@ -6,3 +6,4 @@ pub mod Staging
 pub mod Taking
 pub mod Told
 pub mod Watched
+pub mod Panics

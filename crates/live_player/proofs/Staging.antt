@@ -12,6 +12,7 @@ use Rattle.live_play.specs.Answer.{Setting, answer_between, play_at, refused_at,
 use Rattle.live_play.proofs.Effects.{IsHeader}
 use Rattle.live_play.proofs.Talking.{no_steps, printed_by, quiet, refused_by, start, with_boot}
 use Rattle.live_player.specs.Header.{IsHeaderOf, boot_in}
+use Rattle.live_player.specs.Panicking.{EndsIn}
 use Rattle.live_player.specs.Standing.{CanBegin, IsOpen, IsPlayedBehind, StageAt}
 use Rattle.live_player.specs.Taking.{Answers, IsNext, IsPlaced, PlaysOn, StagePlays, counted, played}
 use Rattle.live_player.specs.declared.header.Header.{Header}
@@ -260,6 +261,21 @@ waits_by on lines (says.Signal value) now text waiting placed at = absurd waitin
 pub waits : (on : Setting) (lines : NotifyFront) (said : Statement) (now : Stage) (text : List ℕ) → Waits said
     → IsPlaced lines said → StageAt on lines now → StagePlays on lines said taken.Done now text text
 waits on lines said now text which placed at = waits_by on lines said now text (waiting said which) placed at
+
+-- of which no panic is told
+untold_by : (on : Setting) (lines : NotifyFront) (said : Statement) (panic : Option ℕ) → IsWaiting said
+    → EndsIn on lines said taken.Done panic
+untold_by on lines says.Blank panic waiting = tt
+untold_by on lines (says.Boot size) panic waiting = tt
+untold_by on lines (says.App app) panic waiting = tt
+untold_by on lines (says.Fill fill) panic waiting = tt
+untold_by on lines (says.Key key) panic waiting = tt
+untold_by on lines (says.Item i) panic waiting = absurd waiting
+untold_by on lines (says.Signal value) panic waiting = tt
+
+pub waits_untold : (on : Setting) (lines : NotifyFront) (said : Statement) (panic : Option ℕ) → Waits said
+    → EndsIn on lines said taken.Done panic
+waits_untold on lines said panic which = untold_by on lines said panic (waiting said which)
 
 -- it is added there
 on_ok : {A E P Q : Type 0} (result : Result A E) → (P → Q) → OnOk result P → OnOk result Q

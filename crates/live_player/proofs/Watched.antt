@@ -18,11 +18,14 @@ use Rattle.live_play.specs.Answer.{Answer, Setting, after_heard, answer_between,
 use Rattle.live_play.specs.Answer as ends
 use Rattle.live_play.specs.Changes.{changes, text_of_changes}
 use Rattle.live_play.specs.Returns.{returns_in}
-use Rattle.live_play.specs.Showing.{cpu_out_by, lane_at, lanes_at}
+use Rattle.live_play.specs.Panicking.{panic_between, panic_line}
+use Rattle.live_play.specs.Showing.{cpu_out_by, lane_at}
+use Rattle.live_play.specs.State.{text_if}
 use Rattle.live_play.proofs.Outgoing.{lines-done, none_returned, one_returned, step_on}
 use Rattle.live_play.proofs.Talking.{answer_unless, item_steps, more-played, quiet, signal_steps, start}
 use Rattle.live_play.proofs.Watched.{unwatched-lines, watched-lines}
 use Rattle.live_player.specs.Asking.{AnswersWatched, CanWatch, TakesWatched, Watches, WatchesOn, cpu_going_out}
+use Rattle.live_player.specs.Panicking.{EndsIn}
 use Rattle.live_player.specs.Standing.{HasCome, IsOpen, IsPlayedBehind, IsWithin, StageAt}
 use Rattle.live_player.specs.Taking.{Answers, IsNext, Judges, TakesOn, counted, ending_of}
 use Rattle.live_player.specs.declared.header.Header.{Header}
@@ -262,7 +265,7 @@ unwatched on before after counts how old new answers none = record {
   ending = answers.ending;
   text = answers.text
       ∙ ap (λ (l : List ℕ). old ++ l)
-      (sym (unwatched-lines (lanes_at on before) (lanes_at on counts) (answer_between on before after).lines none));
+      (sym (unwatched-lines on before counts (answer_between on before after).lines none));
 }
 
 pub watches_full : (on : Setting) (lines : NotifyFront) (said : Statement) (copied : ℕ) (player : LivePlayer) (old new : List ℕ)
@@ -319,50 +322,57 @@ one_line on lines i cpu was now out next at behind done =
     (stage_going on lines was at) out core.1 core.2 in
     (one.0, lines-done on lines after (done_going on lines after done) ∙ one.1)
 
-watched_text : (on : Setting) (before after : NotifyFront) (cpu : ℕ) (regs copy old between new : List ℕ)
+watched_text : (on : Setting) (before after : NotifyFront) (cpu : ℕ) (regs copy old between panicked new : List ℕ) (panic : Option ℕ)
     → (answer_between on before after).lines ≡ Ret cpu regs ∷ [] → copy ≡ lane_at on before cpu
     → Answers (answer_between on before after) taken.Done old between
-    → new ≡ between ++ text_of_changes cpu (changes copy (lane_at on after cpu))
+    → panic ≡ panic_between on before after → panicked ≡ between ++ text_if panic_line panic
+    → new ≡ panicked ++ text_of_changes cpu (changes copy (lane_at on after cpu))
     → AnswersWatched on before after (answer_between on before after) taken.Done old new
-watched_text on before after cpu regs copy old between new line copied answers pushed =
+watched_text on before after cpu regs copy old between panicked new panic line copied answers told said pushed =
     let lines : List Line = (answer_between on before after).lines in
     let text : List ℕ = flat_map text_of_line lines in
+    let ends : List ℕ = text_if panic_line panic in
     let more : List ℕ = text_of_changes cpu (changes copy (lane_at on after cpu)) in
     record {
       ending = answers.ending;
       text = pushed
-          ∙ ap (λ (l : List ℕ). l ++ more) answers.text
-          ∙ append_assoc old text more
+          ∙ ap (λ (l : List ℕ). l ++ more) (said ∙ ap (λ (l : List ℕ). l ++ ends) answers.text)
+          ∙ append_assoc (old ++ text) ends more
+          ∙ append_assoc old text (ends ++ more)
           ∙ ap (λ (l : List ℕ). old ++ l)
-          (ap (λ (ram : List ℕ). text ++ text_of_changes cpu (changes ram (lane_at on after cpu))) copied
-          ∙ sym (watched-lines (lanes_at on before) (lanes_at on after) lines cpu regs line));
+          (ap (λ (ram : List ℕ). text ++ (ends ++ text_of_changes cpu (changes ram (lane_at on after cpu)))) copied
+          ∙ ap (λ (p : Option ℕ). text ++ (text_if panic_line p
+          ++ text_of_changes cpu (changes (lane_at on before cpu) (lane_at on after cpu)))) told
+          ∙ sym (watched-lines on before after lines cpu regs line));
     }
 
 pub watches_done : (on : Setting) (lines : NotifyFront) (said : Statement) (cpu : ℕ) (was : Stage) (player : LivePlayer)
-    (copy old between new : List ℕ) → cpu_going_out said ≡ Some cpu → IsNext on lines said → StageAt on lines was
-    → copy ≡ lane_at on lines cpu → TakesOn on lines said taken.Done player old between
-    → new ≡ between ++ text_of_changes cpu (changes copy (lane_at on (with_statement lines said) cpu))
+    (copy old between panicked new : List ℕ) (panic : Option ℕ) → cpu_going_out said ≡ Some cpu → IsNext on lines said
+    → StageAt on lines was → copy ≡ lane_at on lines cpu → TakesOn on lines said taken.Done player old between
+    → EndsIn on lines said taken.Done panic → panicked ≡ between ++ text_if panic_line panic
+    → new ≡ panicked ++ text_of_changes cpu (changes copy (lane_at on (with_statement lines said) cpu))
     → WatchesOn on lines said taken.Done player old new
-watches_done on lines said cpu was player copy old between new out next at copied takes pushed = by said out next takes pushed
+watches_done on lines said cpu was player copy old between panicked new panic out next at copied takes ends told pushed =
+    by said out next takes ends pushed
   where
     by : (said : Statement) → cpu_going_out said ≡ Some cpu → IsNext on lines said
-        → TakesOn on lines said taken.Done player old between
-        → new ≡ between ++ text_of_changes cpu (changes copy (lane_at on (with_statement lines said) cpu))
+        → TakesOn on lines said taken.Done player old between → EndsIn on lines said taken.Done panic
+        → new ≡ panicked ++ text_of_changes cpu (changes copy (lane_at on (with_statement lines said) cpu))
         → WatchesOn on lines said taken.Done player old new
-    by says.Blank out next takes pushed = absurd cc
-    by (says.Boot size) out next takes pushed = absurd cc
-    by (says.App app) out next takes pushed = absurd cc
-    by (says.Fill fill) out next takes pushed = absurd cc
-    by (says.Key key) out next takes pushed = absurd cc
-    by (says.Item i) out next takes pushed =
+    by says.Blank out next takes ends pushed = absurd cc
+    by (says.Boot size) out next takes ends pushed = absurd cc
+    by (says.App app) out next takes ends pushed = absurd cc
+    by (says.Fill fill) out next takes ends pushed = absurd cc
+    by (says.Key key) out next takes ends pushed = absurd cc
+    by (says.Item i) out next takes ends pushed =
         let line = one_line on lines i cpu was player.stage out next at takes.come.stage_at takes.answers.ending in
         record {
           answers =
-              watched_text on lines (with_statement lines (says.Item i)) cpu line.0 copy old between new line.1 copied
-              takes.answers pushed;
+              watched_text on lines (with_statement lines (says.Item i)) cpu line.0 copy old between panicked new panic line.1
+              copied takes.answers ends told pushed;
           come = takes.come;
         }
-    by (says.Signal value) out next takes pushed = absurd cc
+    by (says.Signal value) out next takes ends pushed = absurd cc
 
 -- ---- a line
 

@@ -4,7 +4,7 @@ use Rattle.std.specs.List.{flat_map}
 use Rattle.base.specs.Zeros.{zeros}
 use Rattle.line_port.specs.History as heard
 use Rattle.live_play.specs.Answer.{Answer, Setting, after_heard, answer_between, answer_to_line}
-use Rattle.live_play.specs.Showing.{cpu_out_by, lanes_at, watched_line}
+use Rattle.live_play.specs.Showing.{cpu_out_by, watched_line}
 use Rattle.live_player.specs.Standing.{HasCome, IsWithin, StageAt, StandsAt}
 use Rattle.live_player.specs.Taking.{Breaks, counted, ending_of}
 use Rattle.live_player.specs.declared.player.LivePlayer.{LivePlayer}
@@ -35,12 +35,12 @@ pub record CanWatch (on : Setting) (lines : NotifyFront) (cpu : ℕ) (now : Stag
   pub stage_at : StageAt on lines now
   pub there : cpu < cpus_of lines.trace.boot
 
--- the answer ends so, and the text of its lines, with what exits have changed between these lines and those, stands behind the
--- old text
+-- the answer ends so, and the text of its lines, with the panics of exits and what they have changed between these lines and
+-- those, stands behind the old text
 pub record AnswersWatched (on : Setting) (before after : NotifyFront) (given : Answer) (how : Taken) (old new : List ℕ) : Type 0
   where
     pub ending : given.ending ≡ ending_of how
-    pub text : new ≡ old ++ flat_map (watched_line (lanes_at on before) (lanes_at on after)) given.lines
+    pub text : new ≡ old ++ flat_map (watched_line on before after) given.lines
 
 -- what a line says was taken
 pub record WatchesOn (on : Setting) (before : NotifyFront) (said : Statement) (how : Taken) (player : LivePlayer)

@@ -2,6 +2,7 @@ ghost use Rattle.std.specs.Prelude.{◌≡◌, ◌++◌, List, IfOk, OnOk, is_so
 ghost use Rattle.kernel_model.specs.Application.{Native};
 ghost use Rattle.live_play.specs.Answer.{Setting, setting};
 ghost use Rattle.live_play.specs.Showing.{told_at};
+ghost use Rattle.live_player.specs.Panicking.{EndsIn};
 ghost use Rattle.live_player.specs.Standing.{HasCome, StandsAt};
 ghost use Rattle.live_player.specs.Taking.{IsNext, Judges, TakesOn};
 ghost use Rattle.live_text.specs.Statement.{HasFewCpus};
@@ -38,25 +39,30 @@ impl LivePlayer {
         }
     }
 
-    /// Takes what a line says that keeps its rules.
+    /// Takes what a line says that keeps its rules. Of an item, it tells the panic in which its call has ended.
     pub(crate) fn take(
         &mut self,
         alloc: Global,
         natives: &Natives,
         said: Statement,
+        panic: &mut Option<u32>,
         text: &mut Vec<u8>,
     ) -> Result<Taken, NoMemory>
         requires few { HasFewCpus said }
         requires next { (lines : NotifyFront)
             × IsNext (setting (entries natives.now) (drivers natives.now)) lines said
             × HasCome (setting (entries natives.now) (drivers natives.now)) lines self.old }
-        ensures { (lines : NotifyFront)
+        ensures takes { (lines : NotifyFront)
             → IsNext (setting (entries natives.now) (drivers natives.now)) lines said
             → HasCome (setting (entries natives.now) (drivers natives.now)) lines self.old
             → IfOk result (λ taken. TakesOn (setting (entries natives.now) (drivers natives.now)) lines said taken
             self.new text.old.items text.new.items) }
+        ensures panic { (lines : NotifyFront)
+            → IsNext (setting (entries natives.now) (drivers natives.now)) lines said
+            → HasCome (setting (entries natives.now) (drivers natives.now)) lines self.old
+            → IfOk result (λ taken. EndsIn (setting (entries natives.now) (drivers natives.now)) lines said taken panic.new) }
     {
-        match self.stage.play(alloc, natives, &said, text)? {
+        match self.stage.play(alloc, natives, &said, panic, text)? {
             Taken::Done => {
                 self.scene.take(&said)?;
                 self.stage.add(said)?;
@@ -83,7 +89,7 @@ impl LivePlayer {
     {
         lines_stay_sound();
         let said = read_line(alloc, natives.uuids().as_slice(), &self.scene, line)?;
-        match self.take(alloc, natives, said, text) {
+        match self.take(alloc, natives, said, &mut None, text) {
             Ok(taken) => Ok(taken),
             Err(NoMemory) => Err(LineFault::NoRoom),
         }

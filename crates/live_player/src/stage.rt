@@ -3,6 +3,7 @@
 ghost use Rattle.std.specs.Prelude.{◌≡◌, ℕ, ◌≤◌, List, ◌∷◌, IfOk, OnOk};
 ghost use Rattle.kernel_model.specs.Application.{Booted};
 ghost use Rattle.live_play.specs.Answer.{Setting, setting};
+ghost use Rattle.live_player.specs.Panicking.{EndsIn, ItemEndsIn};
 ghost use Rattle.live_player.specs.Standing.{IsPlayedBehind, StageAt};
 ghost use Rattle.live_player.specs.Taking.{IsNext, IsPlaced, PlaysOn, StagePlays, played};
 ghost use Rattle.live_text.specs.Statement.{with_statement};
@@ -14,6 +15,7 @@ ghost use Rattle.notify_player.specs.Playing.{IsPlayedTo};
 ghost use Rattle.notify_text.specs.Rules.{NotifyFront};
 
 use crate::header::Header;
+use crate::panicking;
 use crate::taken::Taken;
 use base::NoMemory;
 use core_machine::machines_stand;
@@ -35,26 +37,31 @@ pub(crate) enum Stage {
     Core(NotifyPlayer),
 }
 
-/// Plays an item, and appends what it prints.
+/// Plays an item, appends what it prints, and tells the panic in which its call has ended.
 fn play_on(
     player: &mut NotifyPlayer,
     alloc: Global,
     natives: &Natives,
     item: &Item,
+    panic: &mut Option<u32>,
     text: &mut Vec<u8>,
 ) -> Result<Taken, NoMemory>
     requires { (lines : NotifyFront)
         × IsNext (setting (entries natives.now) (drivers natives.now)) lines (says.Item item.now)
         × IsPlayedBehind (setting (entries natives.now) (drivers natives.now)) lines player.old }
-    ensures { (lines : NotifyFront)
+    ensures plays { (lines : NotifyFront)
         → IsNext (setting (entries natives.now) (drivers natives.now)) lines (says.Item item.now)
         → IsPlayedBehind (setting (entries natives.now) (drivers natives.now)) lines player.old
         → IfOk result (λ taken. PlaysOn (setting (entries natives.now) (drivers natives.now)) lines (says.Item item.now)
         taken player.new text.old.items text.new.items) }
+    ensures panic { (lines : NotifyFront)
+        → IsPlayedBehind (setting (entries natives.now) (drivers natives.now)) lines player.old
+        → IfOk result (λ taken. ItemEndsIn (setting (entries natives.now) (drivers natives.now)) lines item.now taken
+        panic.new) }
 {
     machines_stand();
     desks_keep_their_drivers();
-    match player.play_item(alloc, natives, item, text) {
+    match panicking::play_item(player, alloc, natives, item, panic, text) {
         Ok(()) => Ok(Taken::Done),
         Err(Stop::Full) => Ok(Taken::Full(player.machine().core().journal().copied())),
         Err(Stop::Failed | Stop::Memory) => Err(NoMemory),
@@ -73,29 +80,35 @@ fn signal_on(player: &mut NotifyPlayer, value: u32)
 }
 
 impl Stage {
-    /// Plays an item, and appends what it prints. A core that was booted for it stays unless its entry is refused, since
-    /// lines of the header may follow then.
+    /// Plays an item, appends what it prints, and tells the panic in which its call has ended. A core that was booted for it stays
+    /// unless its entry is refused, since lines of the header may follow then.
     fn play_item(
         &mut self,
         alloc: Global,
         natives: &Natives,
         item: &Item,
+        panic: &mut Option<u32>,
         text: &mut Vec<u8>,
     ) -> Result<Taken, NoMemory>
         requires { (lines : NotifyFront)
             × IsNext (setting (entries natives.now) (drivers natives.now)) lines (says.Item item.now)
             × StageAt (setting (entries natives.now) (drivers natives.now)) lines self.old }
-        ensures { (lines : NotifyFront)
+        ensures plays { (lines : NotifyFront)
             → IsNext (setting (entries natives.now) (drivers natives.now)) lines (says.Item item.now)
             → StageAt (setting (entries natives.now) (drivers natives.now)) lines self.old
             → IfOk result (λ taken. StagePlays (setting (entries natives.now) (drivers natives.now)) lines
             (says.Item item.now) taken self.new text.old.items text.new.items) }
+        ensures panic { (lines : NotifyFront)
+            → IsNext (setting (entries natives.now) (drivers natives.now)) lines (says.Item item.now)
+            → StageAt (setting (entries natives.now) (drivers natives.now)) lines self.old
+            → IfOk result (λ taken. ItemEndsIn (setting (entries natives.now) (drivers natives.now)) lines item.now taken
+            panic.new) }
     {
         match self {
-            Stage::Core(player) => play_on(player, alloc, natives, item, text),
+            Stage::Core(player) => play_on(player, alloc, natives, item, panic, text),
             Stage::Header(header) => {
                 let mut player = header.first_player(alloc, natives)?;
-                let taken = play_on(&mut player, alloc, natives, item, text)?;
+                let taken = play_on(&mut player, alloc, natives, item, panic, text)?;
                 match taken {
                     Taken::Done => {
                         *self = Stage::Core(player);
@@ -132,25 +145,32 @@ impl Stage {
         }
     }
 
-    /// Plays what a line says, where it is an item or a signal, and appends what it prints.
+    /// Plays what a line says, where it is an item or a signal, and appends what it prints. Of an item, it tells the panic in which
+    /// its call has ended.
     pub(crate) fn play(
         &mut self,
         alloc: Global,
         natives: &Natives,
         said: &Statement,
+        panic: &mut Option<u32>,
         text: &mut Vec<u8>,
     ) -> Result<Taken, NoMemory>
         requires { (lines : NotifyFront)
             × IsNext (setting (entries natives.now) (drivers natives.now)) lines said.now
             × StageAt (setting (entries natives.now) (drivers natives.now)) lines self.old }
-        ensures { (lines : NotifyFront)
+        ensures plays { (lines : NotifyFront)
             → IsNext (setting (entries natives.now) (drivers natives.now)) lines said.now
             → StageAt (setting (entries natives.now) (drivers natives.now)) lines self.old
             → IfOk result (λ taken. StagePlays (setting (entries natives.now) (drivers natives.now)) lines said.now
             taken self.new text.old.items text.new.items) }
+        ensures panic { (lines : NotifyFront)
+            → IsNext (setting (entries natives.now) (drivers natives.now)) lines said.now
+            → StageAt (setting (entries natives.now) (drivers natives.now)) lines self.old
+            → IfOk result (λ taken. EndsIn (setting (entries natives.now) (drivers natives.now)) lines said.now taken
+            panic.new) }
     {
         match said {
-            Statement::Item(item) => self.play_item(alloc, natives, item, text),
+            Statement::Item(item) => self.play_item(alloc, natives, item, panic, text),
             Statement::Signal(value) => {
                 self.signal(alloc, natives, *value)?;
                 Ok(Taken::Done)

@@ -1,4 +1,4 @@
-//! Exits that are watched: what they change in their processor's RAM.
+//! Exits that are watched: the panics in which their calls end, and what they change in their processor's RAM.
 
 ghost use Rattle.std.specs.Prelude.{◌≡◌, ◌++◌, IfOk, OnOk, length};
 ghost use Rattle.live_play.specs.Answer.{Setting, setting};
@@ -20,7 +20,7 @@ use live_text::{Statement, lines_stay_sound, read_line};
 use native_tas::Natives;
 use notify_player::NotifyPlayer;
 use ns_ram::{RAM_BYTES, RAM_START};
-use shown_lines::push_changes;
+use shown_lines::{push_changes, push_panic};
 use std::alloc::{AllocError, Global};
 use trace_text::{Item, LineFault};
 
@@ -104,8 +104,8 @@ impl Stage {
 }
 
 impl LivePlayer {
-    /// Takes a line, as `take_line` does, and appends behind the line of an exit what it has changed in its processor's RAM.
-    /// `copy` is room for what that was before.
+    /// Takes a line, as `take_line` does, and appends behind the line of an exit the panic in which its call has ended, if it did,
+    /// and what it has changed in its processor's RAM. `copy` is room for what that was before.
     pub fn take_watched_line(
         &mut self,
         alloc: Global,
@@ -146,12 +146,14 @@ impl LivePlayer {
             → IfOk result (λ taken. WatchesOn (setting (entries natives.now) (drivers natives.now)) lines said taken
             self.new text.old.items text.new.items) }
     {
+        let mut panic = None;
         let Some(cpu) = cpu_going_out(&said) else {
-            return self.take(alloc, natives, said, text);
+            return self.take(alloc, natives, said, &mut panic, text);
         };
         self.stage.copy_ram(alloc, cpu, copy)?;
-        match self.take(alloc, natives, said, text)? {
+        match self.take(alloc, natives, said, &mut panic, text)? {
             Taken::Done => {
+                push_panic(alloc, text, panic)?;
                 self.stage.push_changes(alloc, cpu, copy.as_slice(), text)?;
                 Ok(Taken::Done)
             }

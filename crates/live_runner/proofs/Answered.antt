@@ -7,7 +7,7 @@ use Rattle.line_port.specs.History.{Hears, Input}
 use Rattle.line_port.specs.History as history
 use Rattle.line_port.specs.declared.port.Heard.TheVariants as heard
 use Rattle.live_play.specs.Answer.{Answer, Bad, Done, Ending, Setting, TooLong, after_heard, answer, answer_to_line, play_at, text_of_answer, text_of_ending, without_lines}
-use Rattle.live_play.specs.Showing.{Position, lanes_at, position_after, shown_to, shown_to_other, told_at, watched_answer, watched_line, watching_after}
+use Rattle.live_play.specs.Showing.{Position, position_after, shown_to, shown_to_other, told_at, watched_answer, watched_line, watching_after}
 use Rattle.live_play.proofs.Asked.{after_question, shown_by}
 use Rattle.live_player.specs.Asking.{Watches}
 use Rattle.live_player.specs.Standing.{StandsAt}
@@ -74,13 +74,12 @@ pub watched_taken : (on : Setting) (here : Position) (line : List ℕ) (result :
     → old ≡ [] → talk.is_watching ≡ here.is_watching → here.is_watching ≡ true
     → Watches on here.lines line result talk.player old talk.answer.items → TakesIn on here line result talk
 watched_taken on here line (Ok how) talk old none watching is_on takes =
-    let before : List (List ℕ) = lanes_at on here.lines in
-    let after : List (List ℕ) = lanes_at on (after_heard on here.lines (history.Line line)) in
+    let after : NotifyFront = after_heard on here.lines (history.Line line) in
     let given : Answer = answer_to_line on here.lines line in
     record {
       said = ap (λ (l : List ℕ). l ++ text_of_ending (ending_of how))
-          (takes.answers.text ∙ ap (λ (l : List ℕ). l ++ flat_map (watched_line before after) given.lines) none)
-          ∙ ap (λ (e : Ending). flat_map (watched_line before after) given.lines ++ text_of_ending e) (sym takes.answers.ending)
+          (takes.answers.text ∙ ap (λ (l : List ℕ). l ++ flat_map (watched_line on here.lines after) given.lines) none)
+          ∙ ap (λ (e : Ending). flat_map (watched_line on here.lines after) given.lines ++ text_of_ending e) (sym takes.answers.ending)
           ∙ sym (shown-as on here (history.Line line) true is_on);
       stands = record { player = takes.stands; watching = watching };
     }

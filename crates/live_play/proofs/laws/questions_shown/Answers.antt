@@ -34,6 +34,7 @@ returns c = record {
   opened = refl;
   left = refl;
   buffer = refl;
+  panicked = refl;
   unchanged = refl;
   changed = refl;
 }

@@ -1,10 +1,12 @@
-use Rattle.std.proofs.Common.{subst}
+use Rattle.std.proofs.Common.{subst, sym, ◌∙◌}
 use Rattle.std.specs.Prelude.{Err}
 use Rattle.kernel_model.specs.Application.{booted}
 use Rattle.native_tas.specs.Table.{drivers, entries}
 use Rattle.notify_play.specs.NotifyPlay.{after_item}
 use Rattle.notify_player.specs.Playing.{Follows}
 use Rattle.word_parts.specs.declared.stop.Stop.{Stop}
+use Rattle.live_play.specs.Answer.{setting}
+use Rattle.live_player.proofs.Panics.{panic_told}
 use Rattle.live_player.proofs.Playing.{desk_is, item_can, item_done, item_full}
 use Rattle.live_player.proofs.stage.play_on.Goals as goal
 
@@ -18,19 +20,28 @@ play_item-requires-clause-desk g c =
     desk_is (entries c.args.natives.now) (drivers c.args.natives.now) c.requires.0 c.args.player.now
     c.desks_keep_their_drivers.ensures c.requires.2
 
-pub returns-in-Ok : goal.returns-in-Ok
-returns-in-Ok g c = λ lines next p.
+pub returns-in-Ok-clause-plays : goal.returns-in-Ok-clause-plays
+returns-in-Ok-clause-plays g c = λ lines next p.
     item_done (entries c.args.natives.now) (drivers c.args.natives.now) lines c.args.item.now c.args.player.now
-    c.play_item.new.self c.args.text.now.items c.play_item.new.lines.items next p
+    c.play_item.new.player c.args.text.now.items c.play_item.new.text.items next p
     (c.in-Ok.ensures.follows (booted p.boot (entries c.args.natives.now)) p.told p.stands)
 
-pub returns-in-Err-Full : goal.returns-in-Err-Full
-returns-in-Err-Full g c = λ lines next p.
+pub returns-in-Err-Full-clause-plays : goal.returns-in-Err-Full-clause-plays
+returns-in-Err-Full-clause-plays g c = λ lines next p.
     let natives = entries c.args.natives.now in
     let ds = drivers c.args.natives.now in
-    item_full natives ds lines c.args.item.now c.args.player.now c.play_item.new.self c.copied.result
-    c.args.text.now.items c.play_item.new.lines.items next p
+    item_full natives ds lines c.args.item.now c.args.player.now c.play_item.new.player c.copied.result
+    c.args.text.now.items c.play_item.new.text.items next p
     (subst (λ (stop : Stop). Follows (booted p.boot natives) ds p.told (after_item (booted p.boot natives) ds c.args.item.now p.told)
-    (Err stop) c.play_item.new.self c.args.text.now.items c.play_item.new.lines.items) c.in-Err-Full.field-0-is
+    (Err stop) c.play_item.new.player c.args.text.now.items c.play_item.new.text.items) c.in-Err-Full.field-0-is
     (c.in-Err-Full.ensures.follows (booted p.boot natives) p.told p.stands))
     (cc)
+
+pub play_item-requires-clause-played : goal.play_item-requires-clause-played
+play_item-requires-clause-played g c =
+    let p = c.requires.2 in (booted p.boot (entries c.args.natives.now), p.told, p.stands)
+
+pub returns-in-Ok-clause-panic : goal.returns-in-Ok-clause-panic
+returns-in-Ok-clause-panic g c = λ lines p.
+    c.in-Ok.ensures.panic (booted p.boot (entries c.args.natives.now)) p.told p.stands
+    ∙ sym (panic_told (setting (entries c.args.natives.now) (drivers c.args.natives.now)) lines c.args.item.now c.args.player.now p)

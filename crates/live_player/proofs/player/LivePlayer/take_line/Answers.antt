@@ -38,4 +38,4 @@ returns-in-Ok g c = λ lines stands.
     c.lines_stay_sound.ensures come judged (c.in_ok-said.ensures.in_place lines come.scene no_boot) in
     read_takes (entries c.args.natives.now) (drivers c.args.natives.now) c.as_slice.result.now lines c.args.line.now
     c.in_ok-said.said c.in-Ok.taken c.take.new.self _ _ same c.as_slice.ensures.fits
-    (subst AreApart (sym c.as_slice.ensures.value) c.uuids.ensures.apart) judged (c.in-Ok.ensures lines next come)
+    (subst AreApart (sym c.as_slice.ensures.value) c.uuids.ensures.apart) judged (c.in-Ok.ensures.takes lines next come)

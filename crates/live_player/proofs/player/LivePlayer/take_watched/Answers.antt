@@ -12,7 +12,7 @@ returns-in_default g c = λ lines next come.
     let on : Setting = setting (entries c.args.natives.now) (drivers c.args.natives.now) in
     watches_staying on lines c.args.said c.take.result c.args.self.now.stage c.take.new.self c.args.text.now.items
     c.take.new.text.items (λ cpu out. c.in_default.not-Some cpu (c.cpu_going_out.ensures ∙ out)) next come.stage_at
-    (c.take.ensures lines next come)
+    (c.take.ensures.takes lines next come)
 
 pub copy_ram-requires : goal.copy_ram-requires
 copy_ram-requires g c =
@@ -26,7 +26,7 @@ copy_ram-requires g c =
 pub push_changes-requires-clause-watched : goal.push_changes-requires-clause-watched
 push_changes-requires-clause-watched g c =
     let next = c.requires.next in
-    let takes = rw c.in-Done.is at (c.in_ok-take.ensures next.0 next.1 next.2) in (
+    let takes = rw c.in-Done.is at (c.in_ok-take.ensures.takes next.0 next.1 next.2) in (
       setting (entries c.args.natives.now) (drivers c.args.natives.now),
       with_statement next.0 c.args.said,
       can_still_watch (entries c.args.natives.now) (drivers c.args.natives.now) next.0 c.args.said c.in-Some.cpu
@@ -40,7 +40,7 @@ returns-in_ok-push_changes-in-Done g c = λ lines next come.
     let on : Setting = setting natives ds in
     let cpu = c.in-Some.cpu in
     let out = sym c.cpu_going_out.ensures ∙ c.in-Some.is in
-    let takes = rw c.in-Done.is at (c.in_ok-take.ensures lines next come) in
+    let takes = rw c.in-Done.is at (c.in_ok-take.ensures.takes lines next come) in
     let after = with_statement lines c.args.said in
     let copied = c.in_ok-copy_ram.ensures.lane on lines
     (can_watch natives ds lines c.args.said cpu c.args.self.now.stage out next come.stage_at) in
@@ -48,12 +48,14 @@ returns-in_ok-push_changes-in-Done g c = λ lines next come.
     (can_still_watch natives ds lines c.args.said cpu c.take-2.new.self.stage out next takes.come.stage_at)
     (not_open lines c.args.said cpu out) in
     watches_done on lines c.args.said cpu c.args.self.now.stage c.take-2.new.self c.copy_ram.new.copy.items
-    c.args.text.now.items c.take-2.new.text.items c.push_changes.new.text.items out next come.stage_at copied takes
-    (pushed ∙ ap (λ (copy : List ℕ). c.take-2.new.text.items ++ text_of_changes cpu (changes copy (lane_at on after cpu)))
+    c.args.text.now.items c.take-2.new.text.items c.push_panic.new.text.items c.push_changes.new.text.items c.take-2.new.panic
+    out next come.stage_at copied takes (rw c.in-Done.is at (c.in_ok-take.ensures.panic lines next come))
+    c.in_ok-push_panic-in-Done.ensures
+    (pushed ∙ ap (λ (copy : List ℕ). c.push_panic.new.text.items ++ text_of_changes cpu (changes copy (lane_at on after cpu)))
     c.as_slice.ensures.value)
 
 pub returns-in-Full : goal.returns-in-Full
 returns-in-Full g c = λ lines next come.
     let on : Setting = setting (entries c.args.natives.now) (drivers c.args.natives.now) in
     watches_full on lines c.args.said c.in-Full.copied c.take-2.new.self c.args.text.now.items c.take-2.new.text.items
-    (rw c.in-Full.is at (c.in_ok-take.ensures lines next come))
+    (rw c.in-Full.is at (c.in_ok-take.ensures.takes lines next come))

@@ -8,12 +8,12 @@ use Rattle.live_player.proofs.stage.Stage.play_item.Goals as goal
 pub play_on-requires : goal.play_on-requires
 play_on-requires g c = (c.requires.0, c.requires.1, (rw c.in-Core.is at c.requires.2).0)
 
-pub returns-in-Core : goal.returns-in-Core
-returns-in-Core g c = λ lines next stands.
+pub returns-in-Core-clause-plays : goal.returns-in-Core-clause-plays
+returns-in-Core-clause-plays g c = λ lines next stands.
     let on : Setting = setting (entries c.args.natives.now) (drivers c.args.natives.now) in
     let there = rw c.in-Core.is at stands in
     core_plays on lines c.args.item.now c.play_on.result c.play_on.new.player c.args.text.now.items
-    c.play_on.new.text.items there.1 (c.play_on.ensures lines next there.0)
+    c.play_on.new.text.items there.1 (c.play_on.ensures.plays lines next there.0)
 
 pub first_player-requires : goal.first_player-requires
 first_player-requires g c =
@@ -35,22 +35,42 @@ play_on-requires-in-Header g c =
           (closed_item c.requires.0 c.args.item.now) refl),
     )
 
-pub returns-in-Done : goal.returns-in-Done
-returns-in-Done g c = λ lines next stands.
+pub returns-in-Done-clause-plays : goal.returns-in-Done-clause-plays
+returns-in-Done-clause-plays g c = λ lines next stands.
     let on : Setting = setting (entries c.args.natives.now) (drivers c.args.natives.now) in
     let there = rw c.in-Header.is at stands in
     let can = can_begin on lines (says.Item c.args.item.now) c.in-Header.header there.0 there.1 next
     (closed_item lines c.args.item.now) refl in
     rw c.in-Done.is (begun_plays on lines c.args.item.now c.play_on-in-Header.new.player c.args.text.now.items
     c.play_on-in-Header.new.text.items
-    (rw c.in-Done.is at (c.in_ok-taken-in-Header.ensures lines next (c.in_ok-player-in-Header.ensures lines can))))
+    (rw c.in-Done.is at (c.in_ok-taken-in-Header.ensures.plays lines next (c.in_ok-player-in-Header.ensures lines can))))
 
-pub returns-in-Full : goal.returns-in-Full
-returns-in-Full g c = λ lines next stands.
+pub returns-in-Full-clause-plays : goal.returns-in-Full-clause-plays
+returns-in-Full-clause-plays g c = λ lines next stands.
     let on : Setting = setting (entries c.args.natives.now) (drivers c.args.natives.now) in
     let there = rw c.in-Header.is at stands in
     let can = can_begin on lines (says.Item c.args.item.now) c.in-Header.header there.0 there.1 next
     (closed_item lines c.args.item.now) refl in
     rw c.in-Full.is (refused_plays on lines c.args.item.now _ c.play_on-in-Header.new.player _ c.args.text.now.items
     c.play_on-in-Header.new.text.items
-    (rw c.in-Full.is at (c.in_ok-taken-in-Header.ensures lines next (c.in_ok-player-in-Header.ensures lines can))) there)
+    (rw c.in-Full.is at (c.in_ok-taken-in-Header.ensures.plays lines next (c.in_ok-player-in-Header.ensures lines can))) there)
+
+pub returns-in-Core-clause-panic : goal.returns-in-Core-clause-panic
+returns-in-Core-clause-panic g c = λ lines next stands.
+    c.play_on.ensures.panic lines (rw c.in-Core.is at stands).0
+
+pub returns-in-Done-clause-panic : goal.returns-in-Done-clause-panic
+returns-in-Done-clause-panic g c = λ lines next stands.
+    let on : Setting = setting (entries c.args.natives.now) (drivers c.args.natives.now) in
+    let there = rw c.in-Header.is at stands in
+    let can = can_begin on lines (says.Item c.args.item.now) c.in-Header.header there.0 there.1 next
+    (closed_item lines c.args.item.now) refl in
+    c.in_ok-taken-in-Header.ensures.panic lines (c.in_ok-player-in-Header.ensures lines can)
+
+pub returns-in-Full-clause-panic : goal.returns-in-Full-clause-panic
+returns-in-Full-clause-panic g c = λ lines next stands.
+    let on : Setting = setting (entries c.args.natives.now) (drivers c.args.natives.now) in
+    let there = rw c.in-Header.is at stands in
+    let can = can_begin on lines (says.Item c.args.item.now) c.in-Header.header there.0 there.1 next
+    (closed_item lines c.args.item.now) refl in
+    c.in_ok-taken-in-Header.ensures.panic lines (c.in_ok-player-in-Header.ensures lines can)

@@ -1,0 +1,80 @@
+//! Items that are played so that the panic is read in which a call ends: it is told by what a processor goes out with, and by
+//! nothing behind its exit.
+
+ghost use Rattle.std.specs.Prelude.{◌≡◌, OnOk};
+ghost use Rattle.core_at_work.specs.Panics.{panic_of};
+ghost use Rattle.kernel_model.specs.Application.{Booted};
+ghost use Rattle.live_play.specs.Panicking.{panic_by};
+ghost use Rattle.native_tas.specs.Table.{drivers};
+ghost use Rattle.notif.specs.Desk.{IsDeskOf};
+ghost use Rattle.notify_play.specs.NotifyPlay.{Drivers, NotifyPlay, after_item, goes_out};
+ghost use Rattle.notify_player.specs.Playing.{CanBeTaken, CanGoOut, Follows, IsPlayedTo};
+
+use core_machine::turns_are_taken;
+use native_tas::Natives;
+use notif::desks_keep_their_drivers;
+use notify_player::NotifyPlayer;
+use std::alloc::Global;
+use trace_text::Item;
+use word_parts::Stop;
+
+/// A processor goes out, behind the panic that it goes out with.
+fn go_out(
+    player: &mut NotifyPlayer,
+    alloc: Global,
+    natives: &Natives,
+    cpu: u8,
+    panic: &mut Option<u32>,
+    text: &mut Vec<u8>,
+) -> Result<(), Stop>
+    requires inside { CanGoOut player.old.machine cpu }
+    requires desk { IsDeskOf (drivers natives.now) player.old.desk }
+    ensures leaves { (boot : Booted) (told : NotifyPlay) → IsPlayedTo boot (drivers natives.now) told player.old
+        → Follows boot (drivers natives.now) told (goes_out boot (drivers natives.now) cpu told) result player.new
+        text.old.items text.new.items }
+    ensures panic { (boot : Booted) (ds : Drivers) (told : NotifyPlay) → IsPlayedTo boot ds told player.old
+        → panic.new ≡ panic_of told.play.kernel cpu }
+{
+    let leave = Item::Leave { cpu };
+    *panic = player.machine().panic(cpu);
+    player.play_item(alloc, natives, &leave, text)
+}
+
+/// Plays an item, and appends what it prints, as the player does; and tells the panic in which its call has ended, if it did. A
+/// call is played as its entry and then its exit.
+pub(crate) fn play_item(
+    player: &mut NotifyPlayer,
+    alloc: Global,
+    natives: &Natives,
+    item: &Item,
+    panic: &mut Option<u32>,
+    text: &mut Vec<u8>,
+) -> Result<(), Stop>
+    requires can { CanBeTaken player.old.machine item.now }
+    requires desk { IsDeskOf (drivers natives.now) player.old.desk }
+    requires played { (boot : Booted) × (told : NotifyPlay) × IsPlayedTo boot (drivers natives.now) told player.old }
+    ensures follows { (boot : Booted) (told : NotifyPlay) → IsPlayedTo boot (drivers natives.now) told player.old
+        → Follows boot (drivers natives.now) told (after_item boot (drivers natives.now) item.now told) result player.new
+        text.old.items text.new.items }
+    ensures panic { (boot : Booted) (told : NotifyPlay) → IsPlayedTo boot (drivers natives.now) told player.old
+        → OnOk result (panic.new ≡ panic_by boot told item.now) }
+{
+    turns_are_taken();
+    desks_keep_their_drivers();
+    match item {
+        Item::Smc { cpu, steps, regs } => {
+            let enter = Item::Enter {
+                cpu: *cpu,
+                steps: *steps,
+                regs: *regs,
+            };
+            player.play_item(alloc, natives, &enter, text)?;
+            go_out(player, alloc, natives, *cpu, panic, text)
+        }
+        Item::Leave { cpu } => go_out(player, alloc, natives, *cpu, panic, text),
+        Item::Enter { .. } | Item::Write { .. } | Item::Show { .. } => {
+            *panic = None;
+            player.play_item(alloc, natives, item, text)
+        }
+    }
+}
