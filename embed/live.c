@@ -266,9 +266,17 @@ static bool is_written(struct live *live, const char *line, unsigned cpu) {
     return *place == 0;
 }
 
-/* The first line behind those of what an exit has written, which stand in the copy then. */
-static const char *behind_writes(struct live *live, unsigned cpu) {
+/* Whether a line is `panic CODE`: then the code. */
+static bool is_panic(const char *line, uint32_t *code) {
+    const char *text = behind(line, "panic ");
+    return text && takes(&text, 8, code) && *text == 0;
+}
+
+/* The first line behind those of what an exit has written, which stand in the copy then, and before them behind that of a panic,
+ * which stands in the answer. */
+static const char *behind_exit(struct live *live, unsigned cpu, struct live_answer *answer) {
     const char *line = hear(live);
+    if (live->ram && line && is_panic(line, &answer->panic)) answer->has_panicked = true, line = hear(live);
     while (live->ram && cpu < MOST_CPUS && line && is_written(live, line, cpu)) line = hear(live);
     return line;
 }
@@ -280,12 +288,12 @@ static struct live_answer rest(struct live *live, const char *line, bool is_data
 }
 
 static struct live_answer hear_registers(struct live *live, unsigned cpu) {
-    uint32_t a[8] = {0};
+    struct live_answer told = {.end = LIVE_OK};
     const char *line = hear(live);
-    bool is_data = line && are_registers(line, cpu, a);
-    struct live_answer answer = rest(live, is_data ? behind_writes(live, cpu) : line, is_data);
-    memcpy(answer.a, a, sizeof a);
-    return answer;
+    bool is_data = line && are_registers(line, cpu, told.a);
+    if (is_data) line = behind_exit(live, cpu, &told);
+    struct live_answer answer = rest(live, line, is_data);
+    return answer.end == LIVE_OK ? told : answer;
 }
 
 /* ---- Calls. */

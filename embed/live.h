@@ -33,6 +33,9 @@ struct live_answer {
     enum live_end end;
     /* Of live_smc and live_leave, at LIVE_OK: a0 to a7. */
     uint32_t a[8];
+    /* Of the same, behind live_watch: whether the call has ended in a panic, and its code. */
+    bool has_panicked;
+    uint32_t panic;
     /* At LIVE_BAD: `range`, `cpu`, `inside` and others, by docs/formats.md, and `long`; of live_watch `memory` besides. */
     char kind[16];
     /* At LIVE_FULL. */

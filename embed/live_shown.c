@@ -1,5 +1,5 @@
-/* A bench that watches a core from its first exit on: it makes a call that waits, and behind each exit it prints what the core keeps,
- * and compares its copy of RAM with what the core shows.
+/* A bench that watches a core from its first exit on: it makes a call that waits and one that panics, prints what the core keeps behind
+ * them, and compares its copy of RAM with what the core shows.
  *
  * usage: live_shown PROGRAM FOLDER, that of the conversation, and the folder of the applications' images */
 #include "live.h"
@@ -37,6 +37,7 @@ static void print_slot(unsigned number, const struct live_slot *slot) {
 static void print_instance(const struct live_instance *instance) {
     printf("  instance %" PRIu32 " of %s, users %" PRIu32, instance->number, instance->uuid, instance->users);
     if (instance->is_held) printf(", held by slot %u", instance->holder);
+    if (instance->is_dead) printf(", dead");
     printf("\n");
 }
 
@@ -59,7 +60,29 @@ static void compare(const char *what, uint32_t address) {
 
 static void call(uint32_t function, uint32_t address, uint32_t cookie) {
     const uint32_t a[8] = {function, 0, address, 0, 0, cookie};
-    printf("answered %08" PRIx32 "\n", taken(live_smc(live, 0, STEPS, a)).a[0]);
+    struct live_answer answer = taken(live_smc(live, 0, STEPS, a));
+    printf("answered %08" PRIx32, answer.a[0]);
+    if (answer.has_panicked) printf(", panic %08" PRIx32, answer.panic);
+    printf("\n");
+}
+
+/* Makes a call whose argument has these bytes. */
+static void call_with(const uint8_t *argument, size_t length) {
+    taken(live_write(live, 0, ARGUMENT, argument, length));
+    call(CALL_WITH_ARG, ARGUMENT, 0);
+}
+
+/* Closes session 1, opens one of the application that panics, and lets it. */
+static void panic(void) {
+    static const uint8_t closes[32] = {[0] = 2, [8] = 1};
+    static const uint8_t opens[96] = {[28] = 2, [32] = 1, 1, [40] = 0x21, 0x11, 0x11, 0x11, 0x22, 0x22, 0x33, 0x33, 0x44, 0x44,
+                                      0x55, 0x55, 0x55, 0x55, 0x55, 0x55, [64] = 1, 1};
+    static const uint8_t panics[32] = {[0] = 1, [4] = 0xef, 0xbe, 0xad, 0xde, [8] = 2};
+    call_with(closes, sizeof closes);
+    call_with(opens, sizeof opens);
+    call_with(panics, sizeof panics);
+    compare("panicked", ARGUMENT);
+    print_state("panicked");
 }
 
 static char *image_in(const char *folder, const char *name) {
@@ -80,19 +103,18 @@ int main(int count, char **words) {
                                       0x55, 0x55, 0x55, 0x55, 0x55, 0x55, [64] = 1, 1};
     static const uint8_t waits[32] = {[0] = 1, [4] = 250, [8] = 1};
     if (count != 3) return fprintf(stderr, "usage: live_shown PROGRAM FOLDER\n"), 2;
-    char *image = image_in(words[2], "wait");
-    const struct live_application wait = {"11111111-2222-3333-4444-555555555555", image};
-    const struct live_core core = {.cpus = 1, .threads = 2, .frames = 1, .applications = &wait, .application_count = 1};
+    char *wait = image_in(words[2], "wait"), *panics = image_in(words[2], "panic");
+    const struct live_application applications[] = {{"11111111-2222-3333-4444-555555555555", wait},
+                                                    {"21111111-2222-3333-4444-555555555555", panics}};
+    const struct live_core core = {.cpus = 1, .threads = 2, .frames = 1, .applications = applications, .application_count = 2};
     live = live_open(words[1]);
     if (live == NULL) return perror("live_shown"), 1;
     taken(live_watch(live));
     taken(live_boot(live, &core));
     print_state("booted");
-    taken(live_write(live, 0, ARGUMENT, opens, sizeof opens));
-    call(CALL_WITH_ARG, ARGUMENT, 0);
+    call_with(opens, sizeof opens);
     compare("opened", ARGUMENT);
-    taken(live_write(live, 0, ARGUMENT, waits, sizeof waits));
-    call(CALL_WITH_ARG, ARGUMENT, 0);
+    call_with(waits, sizeof waits);
     print_state("asked for a buffer");
     call(RETURN_FROM_RPC, BUFFER, COOKIE);
     compare("asked for a wait", BUFFER);
@@ -102,6 +124,7 @@ int main(int count, char **words) {
     call(RETURN_FROM_RPC, 0, 0);
     compare("told", ARGUMENT);
     print_state("told");
-    free(image);
+    panic();
+    free(wait), free(panics);
     return live_close(live);
 }

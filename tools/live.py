@@ -70,10 +70,10 @@ class Over(Exception):
 class Conversation:
     """A conversation with a core of its own. `heard`, where it is given, is called with each line and its answer. With `watch` exits
     are watched, and `ram` has a copy of each processor's RAM, which is behind each answer what the core sees, up to a line
-    `watch off`; else it is None."""
+    `watch off`; else it is None. Meanwhile `panic` has the code of the panic in which the call of the last exit has ended, or None."""
 
     def __init__(self, file=None, heard=None, watch=False):
-        self.heard, self.ram = heard, None
+        self.heard, self.ram, self.panic = heard, None, None
         path = program.found("optee_live", file)
         self.process = subprocess.Popen([path], stdin=subprocess.PIPE, stdout=subprocess.PIPE)
         if watch:
@@ -123,10 +123,18 @@ class Conversation:
         elif word == "write":
             put(self.ram[int(words[0])], *words[1:])
         elif word in ("smc", "leave"):
-            for _, cpu, *written in (told.split(" ") for told in answer.lines[1:]):
-                put(self.ram[int(cpu)], *written)
+            self.panic = None
+            for told in answer.lines[1:]:
+                self.hear_exit(*told.split(" "))
         elif line == "watch off":
-            self.ram = None
+            self.ram, self.panic = None, None
+
+    def hear_exit(self, word, *words):
+        """What a line behind `ret` says."""
+        if word == "panic":
+            self.panic = int(words[0], 16)
+        elif word == "wrote":
+            put(self.ram[int(words[0])], *words[1:])
 
     def answer(self):
         """Reads an answer to the line that ends it."""
@@ -182,23 +190,26 @@ class Conversation:
 
 
 class Driver:
-    """Calls that are made to their end, with a supplicant that serves them."""
+    """Calls that are made to their end, with a supplicant that serves them. Where exits are watched, `panic` has the code of the panic
+    in which the last call has ended, or None."""
 
     def __init__(self, talk, supplicant=None):
-        self.talk, self.supplicant = talk, supplicant or Supplicant(talk)
+        self.talk, self.supplicant, self.panic = talk, supplicant or Supplicant(talk), None
 
     def call(self, cpu, registers, steps=MOST_STEPS):
         """A processor calls, and returns until the call has ended: the registers of its last answer. A call that sleeps is resumed
         at once, so the one that it waits for must not be left suspended."""
         answered = self.talk.smc(cpu, registers, steps)
+        self.panic = self.talk.panic
         self.supplicant.begins(cpu, registers)
         while served := self.supplicant.serves(cpu, answered):
             answered = self.talk.smc(cpu, served[0], steps)
+            self.panic = self.panic if self.talk.panic is None else self.talk.panic
         return answered
 
 
 def registers_of(lines):
-    """The registers of a line `ret`, which stands before all that the exit has written."""
+    """The registers of a line `ret`, which stands before all that is said of its exit where that is watched."""
     return [int(register, 16) for register in lines[0].split(" ")[2:]]
 
 
