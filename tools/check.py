@@ -359,12 +359,12 @@ def items(trace):
 
 
 def check_conversations(comparison):
-    """Answers to lines that don't ask are lines as others print them, but for what exits that are watched have written; files of a
+    """Answers to lines that don't ask are lines as others print them, but for what stands where exits are watched; files of a
     supplicant; a prompt's lines that aren't of their form."""
     for case in conversations.cases():
         turns = [(line, answer) for line, answer in case.turns if not conversations.asks(line)]
         lines = [line for line, answer in turns if answer[-1] == "ok"]
-        printed = [told for _, answer in turns for told in answer[:-1] if not told.startswith("wrote ")]
+        printed = [told for _, answer in turns for told in answer[:-1] if not conversations.is_watched(told)]
         entries = laid_out("".join(f"{line}\n" for line in lines), "".join(f"{line}\n" for line in printed))
         told = [entry.printed for entry in entries or () if entry.printed]
         comparison.same(f"annotate.py at the conversation {case.name}", told, printed)

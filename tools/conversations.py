@@ -17,10 +17,18 @@ ENDINGS = ("ok", "bad", "full")
 # The first words of lines that ask, which are none of a trace.
 QUESTIONS = ("watch", "state", "session", "buffer", "events")
 
+# The first words of lines that stand behind a `ret` where exits are watched.
+WATCHED = ("panic", "wrote")
+
 
 def asks(line):
     """Whether a line asks."""
     return line.split(" ")[0] in QUESTIONS
+
+
+def is_watched(told):
+    """Whether a line of an answer is one that stands where exits are watched alone."""
+    return told.split(" ")[0] in WATCHED
 
 
 class Reader:
