@@ -261,7 +261,7 @@ class Prompt:
         """What an answer says."""
         word, _, rest = answer.ending.partition(" ")
         if word == "bad":
-            return f"{rest}: {FAULTS.get(rest) or formats.FAULTS.get(rest, 'no known kind')}"
+            return f"{rest}: {fault_of(line, rest)}"
         if word == "full":
             return f"the entry would have read too much: {rest} bytes are read so far"
         self.number += 1
@@ -330,6 +330,13 @@ class Prompt:
         except BrokenPipeError:  # nobody reads what is printed
             os.dup2(os.open(os.devnull, os.O_WRONLY), sys.stdout.fileno())
         return self.talk.close()
+
+
+def fault_of(line, kind):
+    """What a fault of this kind is in a line, or usually is."""
+    if kind == "item" and line.split(" ")[0] == "watch":
+        return "neither on nor off stands behind watch"
+    return FAULTS.get(kind) or formats.FAULTS.get(kind, "no known kind")
 
 
 FAULTS = {
