@@ -59,8 +59,8 @@ struct live_core {
 /* Starts the program of this path. Null where that fails, with the cause in errno. */
 struct live *live_open(const char *program);
 
-/* Boots the core, once and before all other calls: first its sizes, then its applications one by one, then its key. Where one
- * of these isn't taken, those before it are, and nothing behind it is said. */
+/* Boots the core, once and before all calls but live_watch: first its sizes, then its applications one by one, then its key.
+ * Where one of these isn't taken, those before it are, and nothing behind it is said. */
 struct live_answer live_boot(struct live *live, const struct live_core *core);
 
 /* A processor enters with these registers, and is granted 1 to 1,000,000 steps. It stays inside. */
@@ -82,8 +82,8 @@ struct live_answer live_write(struct live *live, unsigned cpu, uint64_t address,
 /* The hardware signals this value, 1 to 63. */
 struct live_answer live_signal(struct live *live, unsigned value);
 
-/* Keeps a copy of each processor's RAM from now on, which behind each call is what the core sees, but behind LIVE_OVER. It comes before
- * live_boot. It is `memory` where there is no room for the copies, 4 MiB for each of eight processors. */
+/* Keeps a copy of each processor's RAM from now on, which behind each call is what the core sees, but behind LIVE_OVER. It is
+ * `memory` where there is no room for the copies, 4 MiB for each of eight processors. */
 struct live_answer live_watch(struct live *live);
 
 /* The copy of a processor's RAM, LIVE_RAM_BYTES from 40000000 (hexadecimal) on: it stands until live_close, and changes by each
@@ -135,6 +135,7 @@ enum { LIVE_UNKNOWN = 255 };
 /* The caller keeps to this, and nothing tests it:
  *   - no pointer is null but where it is said, and each points to as much as is said; a text ends with a zero;
  *   - one thread at a time makes calls of a conversation; those of several conversations are independent;
+ *   - live_watch comes before live_boot: a copy that begins later hasn't what was written before;
  *   - descriptors 0, 1 and 2 are open when a conversation is, and nobody else waits for its process.
  * A call waits until the program has answered. SIGPIPE isn't raised by it. */
 
