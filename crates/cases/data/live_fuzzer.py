@@ -15,7 +15,6 @@ ETHREAD_LIMIT, ERESUME = 1, 3
 IMAGE = pathlib.Path(__file__).parent / "applications/counter.hex"
 
 
-
 def number_at(talk, place):
     """The number of 32 bits that stands in the copy of RAM."""
     return int.from_bytes(talk.ram[0][place - live.RAM_START :][:4], "little")
