@@ -1,4 +1,4 @@
--- The panic in which granted steps end: which code it has shows in no answer. This project's own.
+-- The panic in which granted steps end: which code it has shows in no register of an exit. This project's own.
 use Rattle.std.specs.Prelude.{ℕ, Option, Some, None, slice_get}
 use Rattle.std.specs.Option.{option_and_then}
 use Rattle.job_model.specs.Steps.{Grant, Left, Stopped, grant_of}
