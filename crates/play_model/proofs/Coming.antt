@@ -1,14 +1,12 @@
 -- The next item of a sound trace can come, where all before it were taken.
-use Rattle.std.proofs.Common.{◌≡◌, ℕ, zero, suc, ◌+◌, ◌-◌, ◌<◌, ◌≤◌, Bool, true, false, List, [], ◌∷◌, ◌++◌, length}
-use Rattle.std.proofs.Common.{take, drop, replicate, Option, Some, None, refl, ap, subst, sym, ◌∙◌, arith, length-drop}
-use Rattle.std.proofs.Common.{map}
+use Rattle.std.proofs.Common.{◌≡◌, ℕ, zero, suc, ◌<◌, ◌≤◌, Bool, true, false, List, [], ◌∷◌, ◌++◌, length}
+use Rattle.std.proofs.Common.{replicate, Option, Some, None, refl, ap, subst, sym, ◌∙◌, arith}
 use Rattle.std.specs.Prelude.{IsSome, IsTrue, slice_get, slice_index_or, slice_set}
 use Rattle.std.specs.List.{AllByRecursion, fold}
 use Rattle.std.specs.Option.{option_and_then}
 use Rattle.std.proofs.lemmas.Bool.{not-true}
-use Rattle.std.proofs.lemmas.List.{get_or-set_other, get_or-set_same, length-append, length-replicate, length-set}
-use Rattle.std.proofs.lemmas.List.{length-take}
-use Rattle.std.proofs.lemmas.List.Elements.{All-get_or, All-replicate, All-set, recursion_from_All}
+use Rattle.std.proofs.lemmas.List.{get_or-set_other, get_or-set_same, length-set}
+use Rattle.std.proofs.lemmas.List.Elements.{All-get_or, All-set, recursion_from_All}
 use Rattle.std.proofs.lemmas.Option.{option_and_then_some, slice_get-get_or}
 use Rattle.event_journal.specs.declared.event.Event.{Event}
 use Rattle.event_journal.specs.declared.event.Event.TheVariants.{Exit}
@@ -21,7 +19,6 @@ use Rattle.kernel_model.proofs.Parts.{option_map_some, set_found, set_other, set
 use Rattle.kernel_model.proofs.Past.{after_events-append}
 use Rattle.kernel_model.proofs.SoundSlots.{by_number}
 use Rattle.kernel_model.proofs.SoundSteps.{as_many}
-use Rattle.ns_ram.specs.Lane.{bytes_put}
 use Rattle.ns_ram.specs.Writes.{Write, lane_after}
 use Rattle.ns_ram.specs.declared.read.Read.{Read}
 use Rattle.own_model.proofs.FixedAnswers as fixed
@@ -34,34 +31,15 @@ use Rattle.trace_text.specs.declared.item.Item.{Item}
 use Rattle.trace_text.specs.declared.item.Item.TheVariants as item
 use Rattle.trace_text.specs.declared.trace.Fill.{Fill}
 use Rattle.play_model.specs.Coming.{AreLanes, IsInside, IsReadyFor, IsWhole, ItemsCanCome}
-use Rattle.play_model.specs.Play.{Play, after_item, after_items, enters, entry_event, filled, first_play, leaves}
+use Rattle.play_model.specs.Play.{Play, after_item, after_items, enters, entry_event, first_play, leaves}
 use Rattle.play_model.specs.Play.{unless_refused, visit_of, with_event, with_writes}
 use Rattle.play_model.proofs.Adds.{Ended, GoesOn, Onward, goes_on}
 use Rattle.play_model.proofs.Entries.{CameIn, Entered, Left, WasRefused, entered, left}
 use Rattle.play_model.proofs.Items.{ended_stays}
 use Rattle.play_model.proofs.LinesStay.{some_is}
+use Rattle.play_model.proofs.RamKept.{first_lanes, still_whole}
 
 -- ---- RAM
-
--- no write makes a lane shorter
-put_longer : (lane : List ℕ) (addr : ℕ) (bytes : List ℕ) → length lane ≤ length (bytes_put lane addr bytes)
-put_longer lane addr bytes =
-    let offset = addr - 0x40000000 in
-    let front = length-take offset lane in
-    let back = length-drop (offset + length bytes) lane in
-    let written = length-append (take offset lane) bytes in
-    let whole = length-append (take offset lane ++ bytes) (drop (offset + length bytes) lane) in
-    omega (arith, front, back, written, whole)
-
-written_longer : (lane : List ℕ) (writes : List Write) → length lane ≤ length (lane_after lane writes)
-written_longer lane [] = omega arith
-written_longer lane (write ∷ writes) =
-    let first = put_longer lane write.addr write.bytes in
-    let others = written_longer (bytes_put lane write.addr write.bytes) writes in
-    omega (arith, first, others)
-
-still_whole : (lane : List ℕ) (writes : List Write) → IsWhole lane → IsWhole (lane_after lane writes)
-still_whole lane writes whole = let longer = written_longer lane writes in omega (arith, longer, whole)
 
 pub lanes_written : (cpus cpu : ℕ) (lanes : List (List ℕ)) (writes : List Write) → cpu < cpus → AreLanes cpus lanes
     → AreLanes cpus (slice_set lanes cpu (lane_after (slice_index_or lanes cpu []) writes))
@@ -362,11 +340,7 @@ first_stands ram boot fills whole = record {
   comes = refl;
   eight = refl;
   tells = none_inside boot.cpus;
-  lanes = record {
-    count = length-replicate boot.cpus (filled ram fills);
-    whole = All-replicate IsWhole boot.cpus (filled ram fills)
-        (still_whole ram (map (λ (fill : Fill). record { addr = fill.addr; bytes = fill.bytes }) fills) whole);
-  };
+  lanes = first_lanes ram boot fills whole;
 }
 
 pub few_cpus : (on : Booted) → IsBooted on → on.cpus ≤ 8

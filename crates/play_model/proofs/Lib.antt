@@ -3,6 +3,7 @@ pub mod LastAnswers
 pub mod Adds
 pub mod Entries
 pub mod LinesStay
+pub mod RamKept
 pub mod ExitsTold
 pub mod Items
 pub mod EventsCome

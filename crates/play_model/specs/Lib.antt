@@ -4,5 +4,6 @@ pub mod Text
 pub mod Order
 pub mod Laws
 pub mod Coming
+pub mod Ram
 pub mod Examples
 pub mod TrueToKernel

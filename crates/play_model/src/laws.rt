@@ -2,6 +2,7 @@
 ghost use Rattle.play_model.specs.Coming.{ItemsCanCome, TracesHavePlays};
 ghost use Rattle.play_model.specs.Examples.{Examples};
 ghost use Rattle.play_model.specs.Laws.{EntriesAreRead, ExitsCome, FixedAnswersPass, PlaysGoOn, TracesArePlayed};
+ghost use Rattle.play_model.specs.Ram.{RamIsKept};
 ghost use Rattle.play_model.specs.TrueToKernel.{PlaysAreTrue};
 
 /// The history of each play is legal and holds the items of each processor in their order. In it a return from RPC
@@ -39,6 +40,12 @@ pub fn fixed_answers_pass()
 /// A play goes on from where its first items end, and what they have printed stays at the front of its lines.
 pub fn plays_go_on()
     ensures { PlaysGoOn }
+{}
+
+/// No item makes the RAM of a processor shorter, wherever it writes: where RAM has each byte at first, there is RAM with each
+/// byte for each processor behind all items.
+pub fn ram_is_kept()
+    ensures { RamIsKept }
 {}
 
 /// Behind the first items of a sound trace, none of which was refused, the next one can come: its processor is outside
