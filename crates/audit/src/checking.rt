@@ -33,7 +33,7 @@ pub fn check(
     let mut replay = Replay::new(alloc, boot, natives)?;
     let events = journal.as_slice();
     for (at, event) in events.iter().enumerate() {
-        let can_be = replay.does(alloc, event)?;
+        let can_be = replay.redo(alloc, event)?;
         if !can_be {
             return Ok(Verdict::Illegal(at as u64));
         }

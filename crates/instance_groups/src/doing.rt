@@ -65,12 +65,12 @@ fn comes_in(
         (Entry visitor.cpu visitor.regs visitor.steps reads.now) }
     ensures app { notes.new.app ≡ notes.old.app }
 {
-    if !replay.awaits(&visitor, reads) {
+    if !replay.lay_for(&visitor, reads) {
         return Ok(false);
     }
     let before = &replay.at_work;
     let arrival = arrives(alloc, &before.core, &notes.app, &visitor.regs, &replay.lane)?;
-    let came = replay.enters(alloc, visitor, reads)?;
+    let came = replay.enter(alloc, visitor, reads)?;
     if !came {
         return Ok(false);
     }

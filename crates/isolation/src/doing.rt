@@ -65,12 +65,12 @@ fn comes_in(
         (Entry visitor.cpu visitor.regs visitor.steps reads.now) }
     ensures session { notes.new.session ≡ notes.old.session }
 {
-    if !replay.awaits(&visitor, reads) {
+    if !replay.lay_for(&visitor, reads) {
         return Ok(false);
     }
     let before = &replay.at_work;
     let arrival = arrives(alloc, &before.core, &visitor.regs, &replay.lane)?;
-    let came = replay.enters(alloc, visitor, reads)?;
+    let came = replay.enter(alloc, visitor, reads)?;
     if !came {
         return Ok(false);
     }

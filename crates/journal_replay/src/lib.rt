@@ -4,12 +4,10 @@
 //! the kernel reads. An entry that read something else, and an exit with other registers, can't have been. Nothing is assumed
 //! of a journal, which may come from anybody.
 //!
-//! `laying` lays reads into RAM, `comparing` compares what was done, and `replay` and `doing` have
-//! the core.
+//! `laying` lays reads into RAM, `comparing` compares what was done, and `replay` has the core.
 #![tactic(auto)]
 
 mod comparing;
-mod doing;
 mod laws;
 mod laying;
 mod replay;

@@ -14,8 +14,8 @@ use Rattle.audit.proofs.checking.check.Goals as goal
 pub loop-at-init : goal.loop-at-init
 loop-at-init g c = record { booted = c.in_ok-replay.ensures.booted; done = c.in_ok-replay.ensures.fresh }
 
-pub does-requires : goal.does-requires
-does-requires g c =
+pub redo-requires : goal.redo-requires
+redo-requires g c =
     few_with_next (booted c.args.boot.now (entries c.args.natives.now)) c.as_slice-events.result.now c.loop-at.at c.loop-at.replay c.loop-at.invariant
     c.index-events-at.result c.loop-at-test.true c.index-events-at.is
     (subst (λ (es : List Event). copied_bytes es ≤ 2 ^ 28) (sym c.as_slice-events.ensures) c.requires.few)
@@ -26,15 +26,15 @@ returns-then-not-can_be g c =
     subst (λ (es : List Event). IsIllegalAt boot es c.loop-at.at) c.as_slice-events.ensures
     (illegal_next boot c.as_slice-events.result.now c.loop-at.at c.loop-at.replay c.loop-at.invariant c.index-events-at.result c.loop-at-test.true
     c.index-events-at.is
-    (not_next c.loop-at.replay c.does.new.self c.index-events-at.result c.in_ok-can_be.can_be c.if-not-can_be.true
-    (subst (λ (r : Result Bool NoMemory). Does c.loop-at.replay c.does.new.self c.index-events-at.result r) c.in_ok-can_be.was c.does.ensures)))
+    (not_next c.loop-at.replay c.redo.new.self c.index-events-at.result c.in_ok-can_be.can_be c.if-not-can_be.true
+    (subst (λ (r : Result Bool NoMemory). Does c.loop-at.replay c.redo.new.self c.index-events-at.result r) c.in_ok-can_be.was c.redo.ensures)))
 
 pub loop-at-preserved : goal.loop-at-preserved
 loop-at-preserved g c =
     done_next (booted c.args.boot.now (entries c.args.natives.now)) c.as_slice-events.result.now c.loop-at.at c.loop-at.replay c.loop-at.invariant
-    c.index-events-at.result c.loop-at-test.true c.index-events-at.is c.does.new.self
-    (was_done c.loop-at.replay c.does.new.self c.index-events-at.result c.in_ok-can_be.can_be c.if-not-can_be.false
-    (subst (λ (r : Result Bool NoMemory). Does c.loop-at.replay c.does.new.self c.index-events-at.result r) c.in_ok-can_be.was c.does.ensures))
+    c.index-events-at.result c.loop-at-test.true c.index-events-at.is c.redo.new.self
+    (was_done c.loop-at.replay c.redo.new.self c.index-events-at.result c.in_ok-can_be.can_be c.if-not-can_be.false
+    (subst (λ (r : Result Bool NoMemory). Does c.loop-at.replay c.redo.new.self c.index-events-at.result r) c.in_ok-can_be.was c.redo.ensures))
 
 pub returns : goal.returns
 returns g c =

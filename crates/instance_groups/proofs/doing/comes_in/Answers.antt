@@ -22,29 +22,29 @@ answer b = Ok b
 as_is : (came is : Bool) → came ≡ is → answer came ≡ answer is
 as_is came is same = ap answer same
 
-pub returns-then-not-awaits-clause-does : goal.returns-then-not-awaits-clause-does
-returns-then-not-awaits-clause-does c can =
-    let may = c.awaits.ensures.can.1 (can_enter c.args.replay.now c.args.visitor c.args.reads.now can) in
+pub returns-then-not-lay_for-clause-does : goal.returns-then-not-lay_for-clause-does
+returns-then-not-lay_for-clause-does c can =
+    let may = c.lay_for.ensures.can.1 (can_enter c.args.replay.now c.args.visitor c.args.reads.now can) in
     absurd cc
 
-pub enters-requires-clause-can : goal.enters-requires-clause-can
-enters-requires-clause-can c =
-    subst (λ (at_work : CoreAtWork). CanEnter at_work.core (coming_of c.args.visitor)) (sym c.awaits.ensures.stays)
-    (c.awaits.ensures.can.0 c.if-not-awaits.false)
+pub enter-requires-clause-can : goal.enter-requires-clause-can
+enter-requires-clause-can c =
+    subst (λ (at_work : CoreAtWork). CanEnter at_work.core (coming_of c.args.visitor)) (sym c.lay_for.ensures.stays)
+    (c.lay_for.ensures.can.0 c.if-not-lay_for.false)
 
-pub enters-requires-clause-laid : goal.enters-requires-clause-laid
-enters-requires-clause-laid c = c.awaits.ensures.laid c.if-not-awaits.false
+pub enter-requires-clause-laid : goal.enter-requires-clause-laid
+enter-requires-clause-laid c = c.lay_for.ensures.laid c.if-not-lay_for.false
 
-pub enters-requires-clause-few : goal.enters-requires-clause-few
-enters-requires-clause-few c =
+pub enter-requires-clause-few : goal.enter-requires-clause-few
+enter-requires-clause-few c =
     subst (λ (at_work : CoreAtWork). copied_bytes (events_of at_work.core ++ entry_of c.args.visitor c.args.reads.now ∷ []) ≤ 2 ^ 28)
-    (sym c.awaits.ensures.stays) c.requires.few
+    (sym c.lay_for.ensures.stays) c.requires.few
 
 pub has_come-requires-clause-cpu : goal.has_come-requires-clause-cpu
-has_come-requires-clause-cpu c = few_processors c.args.replay.now.at_work.core c.args.visitor (c.awaits.ensures.can.0 c.if-not-awaits.false)
+has_come-requires-clause-cpu c = few_processors c.args.replay.now.at_work.core c.args.visitor (c.lay_for.ensures.can.0 c.if-not-lay_for.false)
 
 pub outgoing-ran-requires : goal.outgoing-ran-requires
-outgoing-ran-requires c = (c.enters.ensures.came (c.in_ok-came.was ∙ as_is c.in_ok-came.came true c.if-not-came.false)).inside
+outgoing-ran-requires c = (c.enter.ensures.came (c.in_ok-came.was ∙ as_is c.in_ok-came.came true c.if-not-came.false)).inside
 
 pub has_come-requires-clause-can : goal.has_come-requires-clause-can
 has_come-requires-clause-can c = c.outgoing-ran.ensures.can
@@ -55,28 +55,28 @@ has_come-requires-clause-own c = c.outgoing-ran.ensures.own
 pub returns-then-not-came-clause-does : goal.returns-then-not-came-clause-does
 returns-then-not-came-clause-does c =
     let event = entry_of c.args.visitor c.args.reads.now in
-    does_still c.args.replay.now c.awaits.new.self c.enters.new.self event (Ok false) c.awaits.ensures.stays
-    (subst (λ (r : Result Bool NoMemory). Does c.awaits.new.self c.enters.new.self event r) (c.in_ok-came.was ∙ as_is c.in_ok-came.came false c.if-not-came.true)
-    c.enters.ensures.does)
+    does_still c.args.replay.now c.lay_for.new.self c.enter.new.self event (Ok false) c.lay_for.ensures.stays
+    (subst (λ (r : Result Bool NoMemory). Does c.lay_for.new.self c.enter.new.self event r) (c.in_ok-came.was ∙ as_is c.in_ok-came.came false c.if-not-came.true)
+    c.enter.ensures.does)
 
 pub returns-clause-does : goal.returns-clause-does
 returns-clause-does c =
     let event = entry_of c.args.visitor c.args.reads.now in
-    does_still c.args.replay.now c.awaits.new.self c.enters.new.self event (Ok true) c.awaits.ensures.stays
-    (subst (λ (r : Result Bool NoMemory). Does c.awaits.new.self c.enters.new.self event r) (c.in_ok-came.was ∙ as_is c.in_ok-came.came true c.if-not-came.false)
-    c.enters.ensures.does)
+    does_still c.args.replay.now c.lay_for.new.self c.enter.new.self event (Ok true) c.lay_for.ensures.stays
+    (subst (λ (r : Result Bool NoMemory). Does c.lay_for.new.self c.enter.new.self event r) (c.in_ok-came.was ∙ as_is c.in_ok-came.came true c.if-not-came.false)
+    c.enter.ensures.does)
 
 pub returns-clause-noted : goal.returns-clause-noted
 returns-clause-noted c ok =
     let event = entry_of c.args.visitor c.args.reads.now in
     let was = c.in_ok-came.was ∙ as_is c.in_ok-came.came true c.if-not-came.false in
-    let before = c.awaits.new.self in
-    let after = c.enters.new.self in
-    let come = c.enters.ensures.came was in
-    let did : HasDone before after event = subst (λ (r : Result Bool NoMemory). Does before after event r) was c.enters.ensures.does in
+    let before = c.lay_for.new.self in
+    let after = c.enter.new.self in
+    let come = c.enter.ensures.came was in
+    let did : HasDone before after event = subst (λ (r : Result Bool NoMemory). Does before after event r) was c.enter.ensures.does in
     let same : come.ran ≡ c.outgoing-ran.result.now = (let both : Some come.ran ≡ Some c.outgoing-ran.result.now = sym come.kept ∙ c.outgoing-ran.ensures.kept in cc) in
     let has_run = subst (IsRanOf come.work) same come.has_run in
-    subst (λ (at_work : CoreAtWork). IsNoted at_work.core after.at_work.core c.args.notes.now c.has_come.new.notes event) c.awaits.ensures.stays
+    subst (λ (at_work : CoreAtWork). IsNoted at_work.core after.at_work.core c.args.notes.now c.has_come.new.notes event) c.lay_for.ensures.stays
     (entry_noted before.at_work.core after.at_work.core c.args.visitor before.lane c.args.reads.now come.work c.in_ok-arrival.arrival
     c.args.notes.now c.has_come.new.notes come.entered did.events c.in_ok-arrival.ensures
     (λ k next rs arrived b are. c.in_ok-has_come.ensures.noted (booted_of before.at_work.core) k next rs come.work has_run arrived b are))

@@ -2,7 +2,7 @@
 use Rattle.event_journal.specs.declared.event.Event.TheVariants.{Exit}
 use Rattle.journal_replay.proofs.Left.{is_in, left, same_regs}
 use Rattle.journal_replay.proofs.Next.{does_so}
-use Rattle.journal_replay.proofs.replay.Replay.goes_out.Goals as goal
+use Rattle.journal_replay.proofs.replay.Replay.go_out.Goals as goal
 
 pub returns-then-not-is_inside : goal.returns-then-not-is_inside
 returns-then-not-is_inside c can =

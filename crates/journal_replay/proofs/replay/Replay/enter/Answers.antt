@@ -3,7 +3,7 @@ use Rattle.std.proofs.Common.{◌∙◌}
 use Rattle.journal_replay.specs.Replaying.{done_by}
 use Rattle.journal_replay.proofs.Entered.{entered, entry_of, never_full, of_one_ram, same_reads}
 use Rattle.journal_replay.proofs.Next.{does_so}
-use Rattle.journal_replay.proofs.replay.Replay.enters.Goals as goal
+use Rattle.journal_replay.proofs.replay.Replay.enter.Goals as goal
 
 pub returns-in-Ok-clause-does : goal.returns-in-Ok-clause-does
 returns-in-Ok-clause-does c =
