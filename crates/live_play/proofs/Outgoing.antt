@@ -1,16 +1,14 @@
--- By which steps a processor goes out: its line `ret` is printed then, and the RAM of the others stays.
-use Rattle.std.proofs.Common.{◌≡◌, ℕ, List, [], ◌∷◌, ◌++◌, length, drop, Option, Some, None, refl, sym, ap, subst, ◌∙◌, append-nil}
+-- By which steps a processor goes out: its line `ret` is printed then, its RAM isn't shorter, and that of the others stays.
+use Rattle.std.proofs.Common.{◌≡◌, ℕ, ◌≤◌, List, [], ◌∷◌, ◌++◌, length, drop, Option, Some, None, refl, sym, ap, subst, ◌∙◌, append-nil, arith}
 use Rattle.std.specs.Prelude.{slice_index_or}
 use Rattle.std.specs.Option.{option_and_then, option_map_or}
 use Rattle.std.proofs.Math.Seq.{drop-append_seam, drop-nil}
 use Rattle.std.proofs.lemmas.List.{get_or-set_other}
 use Rattle.std.proofs.lemmas.Option.{option_and_then_some}
 use Rattle.event_journal.specs.declared.event.Event.{Event}
-use Rattle.event_journal.specs.declared.event.Event.TheVariants.{Entry, Exit}
+use Rattle.event_journal.specs.declared.event.Event.TheVariants.{Exit}
 use Rattle.kernel_model.specs.Application.{Booted, booted}
 use Rattle.kernel_model.specs.Exit.{Exited, exit}
-use Rattle.kernel_model.specs.History.{after_event}
-use Rattle.kernel_model.specs.Kernel.{Kernel, Visit}
 use Rattle.kernel_model.proofs.Parts.{option_map_some}
 use Rattle.notify_play.specs.Duty.{Duty, last_entry}
 use Rattle.notify_play.specs.NotifyPlay.{Drivers, NotifyPlay, after_item, after_step, comes_in, desk_of, duty_at, goes_out, goes_out_with, tells, unless_refused, visit_with, with_play}
@@ -21,7 +19,8 @@ use Rattle.ns_ram.specs.Lane.{bytes_at}
 use Rattle.ns_ram.specs.Writes.{Write, lane_after}
 use Rattle.play_model.specs.Line.{Line, Mem, Ret}
 use Rattle.play_model.specs.Play.{Play, enters, lane_of, with_event}
-use Rattle.play_model.proofs.Entries.{CameIn, Entered, WasRefused, entered}
+use Rattle.play_model.proofs.Entries.{entered}
+use Rattle.play_model.proofs.RamKept.{entry_lanes, event_lanes, writes_kept}
 use Rattle.ta_isa.specs.declared.boot.Boot.{Boot}
 use Rattle.trace_text.specs.declared.item.Item.{Item}
 use Rattle.trace_text.specs.declared.item.Item.TheVariants as item
@@ -36,6 +35,7 @@ use Rattle.live_play.proofs.Talking.{answer_unless, printed_by, refused_by}
 pub record GoesOut (cpu : ℕ) (before after : NotifyPlay) : Type 0 where
   pub regs : List ℕ
   pub lines : after.play.lines ≡ before.play.lines ++ Ret cpu regs ∷ []
+  pub longer : length (lane_of before.play cpu) ≤ length (lane_of after.play cpu)
   pub others : (other : ℕ) → (other ≡ cpu → ⊥) → lane_of after.play other ≡ lane_of before.play other
 
 -- none has: no line `ret` is printed
@@ -49,21 +49,6 @@ stays-not before after same = record { lines = []; are = same ∙ sym (append-ni
 
 -- ---- entries
 
--- an event changes no RAM
-event-lanes : (boot : Booted) (event : Event) (before gone : Play) → with_event boot event before ≡ Some gone
-    → gone.lanes ≡ before.lanes
-event-lanes boot event before gone e =
-    let came = option_map_some
-    (λ (next : Kernel). record before { kernel = next; history = before.history ++ event ∷ [] })
-    (after_event boot before.kernel event) gone e in
-    ap (λ (p : Play). p.lanes) (sym came.2)
-
-entry-lanes : (boot : Booted) (visit : Visit) (before after : Play) → Entered boot visit before after
-    → after.lanes ≡ before.lanes
-entry-lanes boot visit before after (CameIn reads few e) =
-    event-lanes boot (Entry visit.cpu (record { a = visit.regs }) visit.steps reads) before after e
-entry-lanes boot visit before after (WasRefused reads much is) = ap (λ (p : Play). p.lanes) (sym is)
-
 record ComesIn (before after : NotifyPlay) : Type 0 where
   lines : after.play.lines ≡ before.play.lines
   lanes : after.play.lanes ≡ before.play.lanes
@@ -76,7 +61,7 @@ comes boot cpu steps regs before after e =
     let entry = entered boot visit before.play came.0 came.1 in
     record {
       lines = ap (λ (n : NotifyPlay). n.play.lines) (sym came.2) ∙ entry-lines boot visit before.play came.0 entry;
-      lanes = ap (λ (n : NotifyPlay). n.play.lanes) (sym came.2) ∙ entry-lanes boot visit before.play came.0 entry;
+      lanes = ap (λ (n : NotifyPlay). n.play.lanes) (sym came.2) ∙ entry_lanes boot visit before.play came.0 entry;
     }
 
 -- ---- exits
@@ -92,15 +77,20 @@ goes boot drivers cpu before after e =
     let gone : Play = came.0 in
     let regs : List ℕ = told_regs (desk_of drivers before) (last_entry before.play.history cpu).regs exited.regs duty in
     let writes : List Write = exited.writes ++ told_writes drivers (desk_of drivers before) duty in
+    let made : NotifyPlay = tells drivers before cpu exited duty gone in
+    let wrote : length (lane_of gone cpu) ≤ length (lane_of made.play cpu) = (writes_kept cpu writes gone).bytes cpu in
+    let was = ap (λ (lanes : List (List ℕ)). length (slice_index_or lanes cpu [])) (event_lanes boot event before.play gone came.1) in
+    let is = ap (λ (n : NotifyPlay). length (lane_of n.play cpu)) came.2 in
     record {
       regs = regs;
       lines = ap (λ (n : NotifyPlay). n.play.lines) (sym came.2)
           ∙ ap (λ (l : List Line). l ++ Ret cpu regs ∷ []) (event-lines boot event before.play gone came.1);
+      longer = omega (arith, wrote, was, is);
       others = λ other apart.
           ap (λ (n : NotifyPlay). lane_of n.play other) (sym came.2)
           ∙ get_or-set_other gone.lanes cpu other (lane_after (lane_of gone cpu) writes) [] apart
           ∙ ap (λ (lanes : List (List ℕ)). slice_index_or lanes other [])
-          (event-lanes boot event before.play gone came.1);
+          (event_lanes boot event before.play gone came.1);
     })
 
 -- behind an entry, unless that was refused
@@ -110,9 +100,11 @@ goes-behind : (boot : Booted) (drivers : Drivers) (cpu : ℕ) (before between af
     → after.play.refused ≡ None → GoesOut cpu before after
 goes-behind boot drivers cpu before between after came None is e going =
     let out = goes boot drivers cpu between after e in
+    let was = ap (λ (lanes : List (List ℕ)). length (slice_index_or lanes cpu [])) came.lanes in
     record {
       regs = out.regs;
       lines = out.lines ∙ ap (λ (l : List Line). l ++ Ret cpu out.regs ∷ []) came.lines;
+      longer = omega (arith, was, out.longer);
       others = λ other apart.
           out.others other apart ∙ ap (λ (lanes : List (List ℕ)). slice_index_or lanes other []) came.lanes;
     }

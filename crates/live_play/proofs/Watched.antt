@@ -1,5 +1,5 @@
 -- What stands behind the line of an exit that is watched, and that it tells of all RAM.
-use Rattle.std.proofs.Common.{◌≡◌, ℕ, List, [], ◌∷◌, ◌++◌, length, drop, Option, Some, None, refl, sym, ap, ◌∙◌, append-nil}
+use Rattle.std.proofs.Common.{◌≡◌, ℕ, ◌≤◌, List, [], ◌∷◌, ◌++◌, length, drop, Option, Some, None, refl, sym, ap, subst, ◌∙◌, append-nil, arith}
 use Rattle.std.specs.Prelude.{slice_index_or}
 use Rattle.std.specs.List.{flat_map}
 use Rattle.std.specs.Option.{option_and_then, option_map_or}
@@ -12,19 +12,17 @@ use Rattle.notify_play.specs.NotifyPlay.{NotifyPlay, after_step}
 use Rattle.notify_text.specs.Rules.{NotifyFront, after_line, no_lines, told_in}
 use Rattle.notify_text.specs.Steps.{Signals, Step, Takes, steps_of}
 use Rattle.play_model.specs.Line.{Line, Mem, Ret, text_of_line}
-use Rattle.play_model.specs.Play.{lane_of}
 use Rattle.ta_isa.specs.declared.boot.Boot.{Boot}
 use Rattle.trace_text.specs.declared.fault.BadKind.{BadKind}
 use Rattle.trace_text.specs.declared.fault.BadKind.TheVariants as bad
 use Rattle.live_play.specs.Answer.{Answer, Bad, Done, Full, Setting, TooLong, after_heard, answer, copied_at, fault_at, play_at, printed_at, refused_at, text_of_ending, uuids_in}
-use Rattle.live_play.specs.Changes.{changes}
 use Rattle.live_play.specs.Conversation.{after_all}
 use Rattle.live_play.specs.Returns.{returns_in}
 use Rattle.live_play.specs.Showing.{lane_at, text_behind, watched_answer, watched_line}
 use Rattle.live_play.specs.ShowingLaws.{ExitsAreWatched, IsWatched, OthersStay, told_out}
 use Rattle.live_play.proofs.Changing.{changes_tell_all}
 use Rattle.live_play.proofs.Effects.{AddsItem, AddsSignal, Effect, Heads, Stays, effect}
-use Rattle.live_play.proofs.Outgoing.{cut_front, printed_more, step-goes, step-stays, step_on, step_out, stepped}
+use Rattle.live_play.proofs.Outgoing.{GoesOut, cut_front, printed_more, step-goes, step-stays, step_on, step_out, stepped}
 use Rattle.live_play.proofs.Talking.{IsStage, answer_by, answer_unless, counted, item_steps, more-played, printed_by, quiet, refused_by, signal_steps, stage-first, talked}
 
 -- ---- the text of lines
@@ -53,27 +51,31 @@ exit_watched : (on : Setting) (before : NotifyFront) (input : Input) (cpu : ℕ)
     → answer on before input ≡ told_out cpu regs → IsWatched on before input cpu regs
 exit_watched on before input cpu regs is =
     let after : NotifyFront = after_heard on before input in
-    record {
-      writes = changes (lane_at on before cpu) (lane_at on after cpu);
-      said = ap (watched_answer on before after) is
-          ∙ ap (λ (text : List ℕ). text ++ text_of_ending Done) (append-nil (watched_line on before after (Ret cpu regs)));
-      laid_over = λ count long still. changes_tell_all count (lane_at on before cpu) (lane_at on after cpu) long still;
-    }
+    ap (watched_answer on before after) is
+    ∙ ap (λ (text : List ℕ). text ++ text_of_ending Done) (append-nil (watched_line on before after (Ret cpu regs)))
 
--- ---- the others
+-- ---- RAM
+
+-- that of this processor is no shorter behind these lines than behind those, and that of every other one is the same
+record LeavesRam (on : Setting) (before after : NotifyFront) (cpu : ℕ) : Type 0 where
+  longer : length (lane_at on before cpu) ≤ length (lane_at on after cpu)
+  others : OthersStay on before after cpu
+
+ram_same : (on : Setting) (before after : NotifyFront) (cpu : ℕ) → after ≡ before → LeavesRam on before after cpu
+ram_same on before after cpu is =
+    let long = ap (λ (lines : NotifyFront). length (lane_at on lines cpu)) is in
+    record { longer = omega (arith, long); others = λ other apart. ap (λ (lines : NotifyFront). lane_at on lines other) is }
 
 abbrev lane_by : ℕ → Option NotifyPlay → List ℕ
 lane_by cpu o = slice_index_or (option_map_or (λ (told : NotifyPlay). told.play.lanes) o []) cpu []
 
 -- the step that prints the line is the one by which the processor goes out
-others_moved : (on : Setting) (boot : Boot) (step : Step) (told next : NotifyPlay) (cpu : ℕ) (regs : List ℕ)
+goes_by : (on : Setting) (boot : Boot) (step : Step) (told next : NotifyPlay) (cpu : ℕ) (regs : List ℕ)
     → after_step (booted boot on.natives) on.drivers step told ≡ Some next → next.play.refused ≡ None
-    → drop (length told.play.lines) next.play.lines ≡ Ret cpu regs ∷ []
-    → (other : ℕ) → (other ≡ cpu → ⊥) → lane_of next.play other ≡ lane_of told.play other
-others_moved on boot step told next cpu regs came going printed = by (step_out step) refl
+    → drop (length told.play.lines) next.play.lines ≡ Ret cpu regs ∷ [] → GoesOut cpu told next
+goes_by on boot step told next cpu regs came going printed = by (step_out step) refl
   where
-    by : (out : Option ℕ) → step_out step ≡ out
-        → (other : ℕ) → (other ≡ cpu → ⊥) → lane_of next.play other ≡ lane_of told.play other
+    by : (out : Option ℕ) → step_out step ≡ out → GoesOut cpu told next
     by None is =
         let stays = step-stays (booted boot on.natives) on.drivers step told next is came in
         let lines : stays.lines ≡ Ret cpu regs ∷ [] =
@@ -85,15 +87,15 @@ others_moved on boot step told next cpu regs came going printed = by (step_out s
         let line : Ret c goes.regs ∷ [] ≡ Ret cpu regs ∷ [] =
         sym (cut_front told.play.lines next.play.lines (Ret c goes.regs ∷ []) goes.lines) ∙ printed in
         let same : c ≡ cpu = cc in
-        λ other apart. goes.others other (λ is. apart (is ∙ same))
+        subst (λ (n : ℕ). GoesOut n told next) same goes
 
-others_step : (on : Setting) (boot : Boot) (step : Step) (before after : NotifyFront) (cpu : ℕ) (regs : List ℕ)
+ram_step : (on : Setting) (boot : Boot) (step : Step) (before after : NotifyFront) (cpu : ℕ) (regs : List ℕ)
     → play_at on after ≡ option_and_then (step_on on boot step) (play_at on before)
     → refused_at on before ≡ None → refused_at on after ≡ None
-    → drop (length (printed_at on before)) (printed_at on after) ≡ Ret cpu regs ∷ [] → OthersStay on before after cpu
-others_step on boot step before after cpu regs e going still printed = by (play_at on after) refl
+    → drop (length (printed_at on before)) (printed_at on after) ≡ Ret cpu regs ∷ [] → LeavesRam on before after cpu
+ram_step on boot step before after cpu regs e going still printed = by (play_at on after) refl
   where
-    by : (o : Option NotifyPlay) → play_at on after ≡ o → OthersStay on before after cpu
+    by : (o : Option NotifyPlay) → play_at on after ≡ o → LeavesRam on before after cpu
     by None is =
         let count : ℕ = length (printed_at on before) in
         let none : [] ≡ Ret cpu regs ∷ [] = sym (ap (drop count) (ap printed_by is) ∙ drop-nil count) ∙ printed in
@@ -102,72 +104,83 @@ others_step on boot step before after cpu regs e going still printed = by (play_
         let s = stepped on boot step before after next e going is in
         let went_on : next.play.refused ≡ None = sym (ap refused_by is) ∙ still in
         let lines = sym (printed_more on before after s.told next s.was is) ∙ printed in
-        λ other apart.
-        ap (lane_by other) is
-        ∙ others_moved on boot step s.told next cpu regs s.came went_on lines other apart
-        ∙ sym (ap (lane_by other) s.was)
+        let out = goes_by on boot step s.told next cpu regs s.came went_on lines in
+        let was = ap (λ (o : Option NotifyPlay). length (lane_by cpu o)) s.was in
+        let now = ap (λ (o : Option NotifyPlay). length (lane_by cpu o)) is in
+        record {
+          longer = omega (arith, was, now, out.longer);
+          others = λ other apart.
+              ap (lane_by other) is ∙ out.others other apart ∙ sym (ap (lane_by other) s.was);
+        }
 
-others_by : (on : Setting) (before after : NotifyFront) (cpu : ℕ) (regs : List ℕ) → IsStage on before
+ram_by : (on : Setting) (before after : NotifyFront) (cpu : ℕ) (regs : List ℕ) → IsStage on before
     → refused_at on after ≡ None → drop (length (printed_at on before)) (printed_at on after) ≡ Ret cpu regs ∷ []
-    → Effect before after → OthersStay on before after cpu
-others_by on before after cpu regs stage still printed (Stays is) =
-    λ other apart. ap (λ (lines : NotifyFront). lane_at on lines other) is
-others_by on before after cpu regs stage still printed (Heads was now stays there) =
+    → Effect before after → LeavesRam on before after cpu
+ram_by on before after cpu regs stage still printed (Stays is) = ram_same on before after cpu is
+ram_by on before after cpu regs stage still printed (Heads was now stays there) =
     let none : [] ≡ Ret cpu regs ∷ [] =
     sym (ap (λ (l : List Line). drop (length l) (printed_at on after)) (quiet on before was).printed
     ∙ ap (drop 0) (quiet on after now).printed) ∙ printed in
     absurd cc
-others_by on before after cpu regs stage still printed (AddsItem i there is) =
+ram_by on before after cpu regs stage still printed (AddsItem i there is) =
     let boot = some_of before.trace.boot there in
     let now : after.trace.boot ≡ Some boot.0 = ap (λ (f : NotifyFront). f.trace.boot) is ∙ boot.1 in
     let steps : steps_of (told_in after) ≡ steps_of (told_in before) ++ Takes i ∷ [] =
     ap (λ (f : NotifyFront). steps_of (told_in f)) is ∙ item_steps before i stage.orderly in
-    others_step on boot.0 (Takes i) before after cpu regs
+    ram_step on boot.0 (Takes i) before after cpu regs
     (more-played on boot.0 before after (Takes i) boot.1 now (ap (λ (f : NotifyFront). f.trace.fills) is) steps)
     stage.going still printed
-others_by on before after cpu regs stage still printed (AddsSignal value there is) =
+ram_by on before after cpu regs stage still printed (AddsSignal value there is) =
     let boot = some_of before.trace.boot there in
     let now : after.trace.boot ≡ Some boot.0 = ap (λ (f : NotifyFront). f.trace.boot) is ∙ boot.1 in
     let steps : steps_of (told_in after) ≡ steps_of (told_in before) ++ Signals value ∷ [] =
     ap (λ (f : NotifyFront). steps_of (told_in f)) is ∙ signal_steps before value in
-    others_step on boot.0 (Signals value) before after cpu regs
+    ram_step on boot.0 (Signals value) before after cpu regs
     (more-played on boot.0 before after (Signals value) boot.1 now (ap (λ (f : NotifyFront). f.trace.fills) is) steps)
     stage.going still printed
 
-others_between : (on : Setting) (before after : NotifyFront) (cpu : ℕ) (regs : List ℕ) → IsStage on before → Effect before after
+ram_between : (on : Setting) (before after : NotifyFront) (cpu : ℕ) (regs : List ℕ) → IsStage on before → Effect before after
     → (refused : Option ℕ) → refused_at on after ≡ refused → answer_unless on before after refused ≡ told_out cpu regs
-    → OthersStay on before (counted before after (answer_unless on before after refused).ending) cpu
-others_between on before after cpu regs stage effects (Some more) is told =
+    → LeavesRam on before (counted before after (answer_unless on before after refused).ending) cpu
+ram_between on before after cpu regs stage effects (Some more) is told =
     let no : Full (copied_at on before) ≡ Done = ap (λ (a : Answer). a.ending) told in
     absurd cc
-others_between on before after cpu regs stage effects None is told =
-    others_by on before after cpu regs stage is (ap (λ (a : Answer). a.lines) told) effects
+ram_between on before after cpu regs stage effects None is told =
+    ram_by on before after cpu regs stage is (ap (λ (a : Answer). a.lines) told) effects
 
-others_line : (on : Setting) (before : NotifyFront) (line : List ℕ) (cpu : ℕ) (regs : List ℕ) → IsStage on before
+ram_line : (on : Setting) (before : NotifyFront) (line : List ℕ) (cpu : ℕ) (regs : List ℕ) → IsStage on before
     → (fault : Option BadKind) → fault_at on before line ≡ fault → answer_by on before line fault ≡ told_out cpu regs
-    → OthersStay on before (counted before (after_line before line) (answer_by on before line fault).ending) cpu
-others_line on before line cpu regs stage (Some kind) is told =
+    → LeavesRam on before (counted before (after_line before line) (answer_by on before line fault).ending) cpu
+ram_line on before line cpu regs stage (Some kind) is told =
     let no : Bad kind ≡ Done = ap (λ (a : Answer). a.ending) told in
     absurd cc
-others_line on before line cpu regs stage None is told =
-    others_between on before (after_line before line) cpu regs stage (effect (uuids_in on) before line stage.orderly is)
+ram_line on before line cpu regs stage None is told =
+    ram_between on before (after_line before line) cpu regs stage (effect (uuids_in on) before line stage.orderly is)
     (refused_at on (after_line before line)) refl told
 
-others_stay : (on : Setting) (before : NotifyFront) (input : Input) (cpu : ℕ) (regs : List ℕ) → IsStage on before
-    → answer on before input ≡ told_out cpu regs → OthersStay on before (after_heard on before input) cpu
-others_stay on before (heard.Line line) cpu regs stage told =
-    others_line on before line cpu regs stage (fault_at on before line) refl told
-others_stay on before heard.Long cpu regs stage told =
+ram_left : (on : Setting) (before : NotifyFront) (input : Input) (cpu : ℕ) (regs : List ℕ) → IsStage on before
+    → answer on before input ≡ told_out cpu regs → LeavesRam on before (after_heard on before input) cpu
+ram_left on before (heard.Line line) cpu regs stage told =
+    ram_line on before line cpu regs stage (fault_at on before line) refl told
+ram_left on before heard.Long cpu regs stage told =
     let no : TooLong ≡ Done = ap (λ (a : Answer). a.ending) told in
     absurd cc
-others_stay on before heard.Cut cpu regs stage told =
+ram_left on before heard.Cut cpu regs stage told =
     let no : Bad bad.Cut ≡ Done = ap (λ (a : Answer). a.ending) told in
     absurd cc
+
+ram_behind : (on : Setting) (inputs : List Input) (input : Input) (cpu : ℕ) (regs : List ℕ)
+    → answer on (after_all on no_lines inputs) input ≡ told_out cpu regs
+    → LeavesRam on (after_all on no_lines inputs) (after_heard on (after_all on no_lines inputs) input) cpu
+ram_behind on inputs input cpu regs is =
+    ram_left on (after_all on no_lines inputs) input cpu regs (talked on no_lines inputs (stage-first on)).stage is
 
 pub exits_are_watched : ExitsAreWatched
 exits_are_watched = record {
   told = exit_watched;
-  others = λ on inputs input cpu regs is.
-      let stage = (talked on no_lines inputs (stage-first on)).stage in
-      others_stay on (after_all on no_lines inputs) input cpu regs stage is;
+  laid_over = λ on inputs input cpu regs is.
+      let before = after_all on no_lines inputs in
+      changes_tell_all (lane_at on before cpu) (lane_at on (after_heard on before input) cpu)
+      (ram_behind on inputs input cpu regs is).longer;
+  others = λ on inputs input cpu regs is. (ram_behind on inputs input cpu regs is).others;
 }

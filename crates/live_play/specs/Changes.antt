@@ -1,5 +1,5 @@
 -- What an exit changes in its processor's RAM, block by block, and the lines that say so. This project's own.
-use Rattle.std.specs.Prelude.{◌≡◌, ℕ, ◌+◌, ◌*◌, ◌/◌, List, [], ◌∷◌, ◌++◌, bytes_eq, codes, drop, length, take, if◌then◌else◌, zero, suc}
+use Rattle.std.specs.Prelude.{◌≡◌, ℕ, ◌+◌, ◌*◌, ◌/◌, ◌≤◌, List, [], ◌∷◌, ◌++◌, bytes_eq, codes, drop, length, take, if◌then◌else◌, zero, suc}
 use Rattle.std.specs.Fmt.{decimal}
 use Rattle.std.specs.List.{flat_map}
 use Rattle.hex.specs.Hex.{encode_lower}
@@ -23,9 +23,9 @@ unfoldable pub changes_below : ℕ → List ℕ → List ℕ → List Write
 changes_below zero before after = []
 changes_below (suc number) before after = changes_below number before after ++ change_at before after number
 
--- of all blocks
+-- of all blocks, of which the last one may be shorter
 abbrev pub changes : List ℕ → List ℕ → List Write
-changes before after = changes_below (length after / 64) before after
+changes before after = changes_below ((length after + 63) / 64) before after
 
 -- ---- their lines
 
@@ -39,7 +39,6 @@ text_of_changes cpu writes = flat_map (wrote_line cpu) writes
 
 -- ---- that they tell all
 
--- over RAM of so many blocks: who lays the lines over what the RAM was has what it is
+-- over RAM that is no shorter than it was: who lays the lines over what it was has what it is
 abbrev pub ChangesTellAll : Type 0
-ChangesTellAll = (count : ℕ) (before after : List ℕ) → length before ≡ 64 * count → length after ≡ 64 * count →
-    lane_after before (changes before after) ≡ after
+ChangesTellAll = (before after : List ℕ) → length before ≤ length after → lane_after before (changes before after) ≡ after

@@ -1,18 +1,16 @@
 -- What holds of each conversation in which lines may ask.
-use Rattle.std.specs.Prelude.{◌≡◌, ℕ, ◌*◌, List, [], ◌∷◌, ◌++◌, Bool, true, false, filter, is_none, length, None, Some}
+use Rattle.std.specs.Prelude.{◌≡◌, ℕ, List, [], ◌∷◌, ◌++◌, Bool, true, false, filter, is_none, None, Some}
 use Rattle.std.specs.List.{list_all}
 use Rattle.line_port.specs.History.{Event, Hears, Input, Says}
 use Rattle.live_text.specs.declared.question.QuestionKind.{QuestionKind}
 use Rattle.live_text.specs.declared.question.QuestionKind.TheVariants.{Watch}
 use Rattle.notify_text.specs.Rules.{NotifyFront, no_lines}
-use Rattle.ns_ram.specs.Writes.{Write, lane_after}
+use Rattle.ns_ram.specs.Writes.{lane_after}
 use Rattle.play_model.specs.Line.{Ret, text_of_line}
 use Rattle.live_play.specs.Answer.{Answer, Done, Setting, after_heard, answer, text_of_ending}
-use Rattle.live_play.specs.Changes.{text_of_changes}
+use Rattle.live_play.specs.Changes.{changes}
 use Rattle.live_play.specs.Conversation.{after_all, conversation}
-use Rattle.live_play.specs.Panicking.{panic_between, panic_line}
-use Rattle.live_play.specs.Showing.{Position, kind_asked_by, lane_at, position_after, position_behind, showing, shown_to, shown_to_other}
-use Rattle.live_play.specs.State.{text_if}
+use Rattle.live_play.specs.Showing.{Position, kind_asked_by, lane_at, position_after, position_behind, showing, shown_to, shown_to_other, text_behind}
 
 -- it asks nothing
 abbrev pub is_plain : Input → Bool
@@ -58,16 +56,17 @@ pub record PlainConversationsAreAsBefore : Type 0 where
 abbrev pub told_out : ℕ → List ℕ → Answer
 told_out cpu regs = record { lines = Ret cpu regs ∷ []; ending = Done }
 
--- behind the line of an exit stands the panic in which its call has ended, if it did, and then writes, which laid over what the
--- processor's RAM was give what it is, where it has whole blocks alone
-pub record IsWatched (on : Setting) (before : NotifyFront) (input : Input) (cpu : ℕ) (regs : List ℕ) : Type 0 where
-  pub writes : List Write
-  pub said : shown_to_other on (record { lines = before; is_watching = true }) input
-      ≡ text_of_line (Ret cpu regs)
-      ++ (text_if panic_line (panic_between on before (after_heard on before input)) ++ text_of_changes cpu writes) ++ text_of_ending Done
-  pub laid_over : (count : ℕ) → length (lane_at on before cpu) ≡ 64 * count →
-      length (lane_at on (after_heard on before input) cpu) ≡ 64 * count →
-      lane_after (lane_at on before cpu) writes ≡ lane_at on (after_heard on before input) cpu
+-- behind the line of an exit stands the panic in which its call has ended, if it did, and then what has changed in the processor's
+-- RAM
+abbrev pub IsWatched : Setting → NotifyFront → Input → ℕ → List ℕ → Type 0
+IsWatched on before input cpu regs =
+    shown_to_other on (record { lines = before; is_watching = true }) input
+    ≡ text_of_line (Ret cpu regs) ++ text_behind on before (after_heard on before input) cpu ++ text_of_ending Done
+
+-- what has changed in the processor's RAM, laid over what it is behind these lines, gives what it is behind those
+abbrev pub IsLaidOver : Setting → NotifyFront → NotifyFront → ℕ → Type 0
+IsLaidOver on before after cpu =
+    lane_after (lane_at on before cpu) (changes (lane_at on before cpu) (lane_at on after cpu)) ≡ lane_at on after cpu
 
 -- the RAM of every processor but this one is behind these lines what it is behind those
 abbrev pub OthersStay : Setting → NotifyFront → NotifyFront → ℕ → Type 0
@@ -76,7 +75,11 @@ OthersStay on before after cpu = (other : ℕ) → (other ≡ cpu → ⊥) → l
 pub record ExitsAreWatched : Type 0 where
   pub told : (on : Setting) (before : NotifyFront) (input : Input) (cpu : ℕ) (regs : List ℕ) →
       answer on before input ≡ told_out cpu regs → IsWatched on before input cpu regs
-  -- behind lines that count, the RAM of every other processor stays as it was
+  -- behind lines that count, what has changed tells what the processor's RAM is
+  pub laid_over : (on : Setting) (inputs : List Input) (input : Input) (cpu : ℕ) (regs : List ℕ) →
+      answer on (after_all on no_lines inputs) input ≡ told_out cpu regs →
+      IsLaidOver on (after_all on no_lines inputs) (after_heard on (after_all on no_lines inputs) input) cpu
+  -- and the RAM of every other processor stays as it was
   pub others : (on : Setting) (inputs : List Input) (input : Input) (cpu : ℕ) (regs : List ℕ) →
       answer on (after_all on no_lines inputs) input ≡ told_out cpu regs →
       OthersStay on (after_all on no_lines inputs) (after_heard on (after_all on no_lines inputs) input) cpu
