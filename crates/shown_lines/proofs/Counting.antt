@@ -16,45 +16,48 @@ use Rattle.kernel_state.specs.declared.parts.Parts.{Parts}
 use Rattle.session_table.specs.Session.{is_of}
 use Rattle.session_table.specs.declared.session.Session.{Session}
 
--- of the instance of this number
-abbrev pub sessions_at : NumberMap Session → ℕ → ℕ
-sessions_at kept number = count_by (λ entry. is_of number entry.1) kept
+-- how many are of the instance of this number
+abbrev pub sessions_of_instance : NumberMap Session → ℕ → ℕ
+sessions_of_instance kept number = count_by (λ entry. is_of number entry.1) kept
 
--- of those of the numbers below this one
-unfoldable pub sessions_below : ℕ → NumberMap Session → ℕ
-sessions_below zero kept = 0
-sessions_below (suc number) kept = sessions_below number kept + sessions_at kept number
+-- how many are of instances with lower numbers
+unfoldable pub sessions_of_lower_instances : ℕ → NumberMap Session → ℕ
+sessions_of_lower_instances zero kept = 0
+sessions_of_lower_instances (suc number) kept = sessions_of_lower_instances number kept + sessions_of_instance kept number
 
 -- the sessions of an instance more
 pub sessions_more : (number : ℕ) (kept : NumberMap Session) (old more : ℕ)
-    → old ≡ sessions_below number kept → more ≡ sessions_at kept number → old + more ≡ sessions_below (number + 1) kept
-unfolding sessions_below
+    → old ≡ sessions_of_lower_instances number kept → more ≡ sessions_of_instance kept number
+    → old + more ≡ sessions_of_lower_instances (number + 1) kept
+unfolding sessions_of_lower_instances
 sessions_more number kept old more so_far is =
     let next : number + 1 ≡ suc number = omega arith in
-    ap (λ n. n + more) so_far ∙ ap (λ n. sessions_below number kept + n) is ∙ ap (λ n. sessions_below n kept) (sym next)
+    ap (λ n. n + more) so_far
+    ∙ ap (λ n. sessions_of_lower_instances number kept + n) is
+    ∙ ap (λ n. sessions_of_lower_instances n kept) (sym next)
 
 -- ---- one session more in the table
 
 -- the session of another instance counts for nothing
 other_at : (entry : ℕ × Session) (kept : NumberMap Session) (number : ℕ) → (number ≡ entry.1.instance → ⊥)
-    → sessions_at (entry ∷ kept) number ≡ sessions_at kept number
+    → sessions_of_instance (entry ∷ kept) number ≡ sessions_of_instance kept number
 other_at entry kept number apart = by (entry.1.instance == number) refl
   where
-    by : (test : Bool) → (entry.1.instance == number) ≡ test → sessions_at (entry ∷ kept) number ≡ sessions_at kept number
+    by : (test : Bool) → (entry.1.instance == number) ≡ test → sessions_of_instance (entry ∷ kept) number ≡ sessions_of_instance kept number
     by true is = absurd (apart (sym (eqb-true entry.1.instance number is)))
     by false is = rw is refl
 
 own_at : (entry : ℕ × Session) (kept : NumberMap Session) (number : ℕ) → number ≡ entry.1.instance
-    → sessions_at (entry ∷ kept) number ≡ 1 + sessions_at kept number
+    → sessions_of_instance (entry ∷ kept) number ≡ 1 + sessions_of_instance kept number
 own_at entry kept number same =
     let is : (entry.1.instance == number) ≡ true = grind (arith, nat_tests) in
     sum_by-cons (λ (entry : ℕ × Session). cond (is_of number entry.1) 1 0) entry kept
-    ∙ ap (λ (test : Bool). cond test 1 0 + sessions_at kept number) is
+    ∙ ap (λ (test : Bool). cond test 1 0 + sessions_of_instance kept number) is
 
 -- it isn't met below the number of its instance
 unmet : (number : ℕ) (entry : ℕ × Session) (kept : NumberMap Session) → number ≤ entry.1.instance
-    → sessions_below number (entry ∷ kept) ≡ sessions_below number kept
-unfolding sessions_below
+    → sessions_of_lower_instances number (entry ∷ kept) ≡ sessions_of_lower_instances number kept
+unfolding sessions_of_lower_instances
 unmet zero entry kept low = refl
 unmet (suc number) entry kept low =
     let rest = unmet number entry kept (omega arith) in
@@ -63,11 +66,12 @@ unmet (suc number) entry kept low =
 
 -- and once above it
 abbrev IsMet : ℕ × Session → NumberMap Session → ℕ → Type 0
-IsMet entry kept number = entry.1.instance < number → sessions_below number (entry ∷ kept) ≡ 1 + sessions_below number kept
+IsMet entry kept number = entry.1.instance < number
+    → sessions_of_lower_instances number (entry ∷ kept) ≡ 1 + sessions_of_lower_instances number kept
 
 met_next : (number : ℕ) (entry : ℕ × Session) (kept : NumberMap Session) → IsMet entry kept number
     → (test : Bool) → (entry.1.instance == number) ≡ test → IsMet entry kept (suc number)
-unfolding sessions_below
+unfolding sessions_of_lower_instances
 met_next number entry kept before true is high =
     let same : entry.1.instance ≡ number = eqb-true entry.1.instance number is in
     let rest = unmet number entry kept (omega arith) in
@@ -85,8 +89,8 @@ met (suc number) entry kept high = met_next number entry kept (met number entry 
 
 -- ---- all sessions
 
-none_below : (number : ℕ) → sessions_below number [] ≡ 0
-unfolding sessions_below
+none_below : (number : ℕ) → sessions_of_lower_instances number [] ≡ 0
+unfolding sessions_of_lower_instances
 none_below zero = refl
 none_below (suc number) =
     let rest = none_below number in
@@ -94,7 +98,7 @@ none_below (suc number) =
 
 -- all are of instances of lower numbers
 all_below : (next : ℕ) (kept : NumberMap Session) → All (λ (entry : ℕ × Session). entry.1.instance < next) kept
-    → sessions_below next kept ≡ length kept
+    → sessions_of_lower_instances next kept ≡ length kept
 all_below next [] all = none_below next
 all_below next (entry ∷ kept) all =
     let P : ℕ × Session → Type 0 = λ entry. entry.1.instance < next in
@@ -104,10 +108,12 @@ all_below next (entry ∷ kept) all =
 
 -- each session of a core is
 pub all_counted : (parts : Parts) (so : Replays parts)
-    → sessions_below (tables_of parts.tables).next_instance (tables_of parts.tables).sessions ≡ length so.kernel.tables.sessions
+    → sessions_of_lower_instances (tables_of parts.tables).next_instance (tables_of parts.tables).sessions
+    ≡ length so.kernel.tables.sessions
 all_counted parts so =
     let tables : Tables = so.kernel.tables in
     let numbers = numbered (booted_with parts.setup) parts.journal.events so.kernel so.comes_to in
     let given = All-weaker (IsNumberedSession tables) (λ (entry : ℕ × Session). entry.1.instance < tables.next_instance)
     (λ entry is. is.1.1) tables.sessions numbers.sessions in
-    ap (λ (t : Tables). sessions_below t.next_instance t.sessions) so.stands.tables ∙ all_below tables.next_instance tables.sessions given
+    ap (λ (t : Tables). sessions_of_lower_instances t.next_instance t.sessions) so.stands.tables
+    ∙ all_below tables.next_instance tables.sessions given
