@@ -1,4 +1,4 @@
--- A call that is played as its entry and then its exit, and the panic that is told of it.
+-- A call that is played as its entry and then its exit, and the panic that is read of it.
 use Rattle.std.proofs.Common.{◌≡◌, ℕ, ◌<◌, Bool, true, false, List, [], ◌∷◌, ◌++◌, Option, Some, None, sym, ap, subst, ◌∙◌, append_assoc}
 use Rattle.std.specs.Prelude.{IsSomeAnd, OnOk, Result, Ok, Err, slice_get}
 use Rattle.std.specs.List.{flat_map}
@@ -16,7 +16,9 @@ use Rattle.kernel_model.specs.Kernel.{Kernel}
 use Rattle.kernel_model.proofs.Parts.{option_map_some, set_found}
 use Rattle.live_play.specs.Answer.{Setting, play_at}
 use Rattle.live_play.specs.Panicking.{item_between, panic_between, panic_by}
+use Rattle.live_player.specs.Panicking.{with_panic}
 use Rattle.live_player.specs.Standing.{IsPlayedBehind}
+use Rattle.live_player.specs.declared.panicking.PanicWatch.TheVariants as watch
 use Rattle.live_text.specs.Statement.{with_statement}
 use Rattle.live_text.specs.declared.statement.Statement.TheVariants as says
 use Rattle.notif.specs.Desk.{DeskState, IsDeskOf}
@@ -120,6 +122,12 @@ module _ (boot : Booted) (drivers : Drivers) (told : NotifyPlay) (cpu steps : �
 pub panics_on : {P : Type 0} (result : Result (Unit {0}) Stop) → P → OnOk result P
 panics_on (Ok done) p = p
 panics_on (Err stop) p = tt
+
+-- where panics are watched, it is the one that was read
+pub read_on : (result : Result (Unit {0}) Stop) (before read panic : Option ℕ) → OnOk result (read ≡ panic)
+    → OnOk result (watch.On read ≡ with_panic (watch.On before) panic)
+read_on (Ok done) before read panic same = ap (λ (o : Option ℕ). watch.On o) same
+read_on (Err stop) before read panic same = tt
 
 -- ---- in a conversation
 

@@ -16,6 +16,7 @@ use Rattle.live_player.specs.Panicking.{EndsIn}
 use Rattle.live_player.specs.Standing.{CanBegin, IsOpen, IsPlayedBehind, StageAt}
 use Rattle.live_player.specs.Taking.{Answers, IsNext, IsPlaced, PlaysOn, StagePlays, counted, played}
 use Rattle.live_player.specs.declared.header.Header.{Header}
+use Rattle.live_player.specs.declared.panicking.PanicWatch.{PanicWatch}
 use Rattle.live_player.specs.declared.stage.Stage.{Stage}
 use Rattle.live_player.specs.declared.stage.Stage.TheVariants as stage
 use Rattle.live_player.specs.declared.taken.Taken.{Taken}
@@ -262,20 +263,20 @@ pub waits : (on : Setting) (lines : NotifyFront) (said : Statement) (now : Stage
     → IsPlaced lines said → StageAt on lines now → StagePlays on lines said taken.Done now text text
 waits on lines said now text which placed at = waits_by on lines said now text (waiting said which) placed at
 
--- of which no panic is told
-untold_by : (on : Setting) (lines : NotifyFront) (said : Statement) (panic : Option ℕ) → IsWaiting said
-    → EndsIn on lines said taken.Done panic
-untold_by on lines says.Blank panic waiting = tt
-untold_by on lines (says.Boot size) panic waiting = tt
-untold_by on lines (says.App app) panic waiting = tt
-untold_by on lines (says.Fill fill) panic waiting = tt
-untold_by on lines (says.Key key) panic waiting = tt
-untold_by on lines (says.Item i) panic waiting = absurd waiting
-untold_by on lines (says.Signal value) panic waiting = tt
+-- of which no panic is read
+untold_by : (on : Setting) (lines : NotifyFront) (said : Statement) (was now : PanicWatch) → IsWaiting said
+    → EndsIn on lines said taken.Done was now
+untold_by on lines says.Blank was now waiting = tt
+untold_by on lines (says.Boot size) was now waiting = tt
+untold_by on lines (says.App app) was now waiting = tt
+untold_by on lines (says.Fill fill) was now waiting = tt
+untold_by on lines (says.Key key) was now waiting = tt
+untold_by on lines (says.Item i) was now waiting = absurd waiting
+untold_by on lines (says.Signal value) was now waiting = tt
 
-pub waits_untold : (on : Setting) (lines : NotifyFront) (said : Statement) (panic : Option ℕ) → Waits said
-    → EndsIn on lines said taken.Done panic
-waits_untold on lines said panic which = untold_by on lines said panic (waiting said which)
+pub waits_untold : (on : Setting) (lines : NotifyFront) (said : Statement) (was now : PanicWatch) → Waits said
+    → EndsIn on lines said taken.Done was now
+waits_untold on lines said was now which = untold_by on lines said was now (waiting said which)
 
 -- it is added there
 on_ok : {A E P Q : Type 0} (result : Result A E) → (P → Q) → OnOk result P → OnOk result Q

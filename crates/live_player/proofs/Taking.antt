@@ -1,6 +1,6 @@
 -- What a line says that keeps its rules, and where the player stands behind it.
 use Rattle.std.proofs.Common.{◌≡◌, ℕ, ◌≤◌, Bool, true, false, cond, List, [], ◌∷◌, ◌++◌, length, Option, Some, None, refl, sym, ap, subst, ◌∙◌, arith}
-use Rattle.std.specs.Prelude.{All, IfNone, IfSome, IsSome, Ok, Err, is_some}
+use Rattle.std.specs.Prelude.{All, IfNone, IfOk, IfSome, IsSome, Result, Ok, Err, is_some}
 use Rattle.std.specs.List.{list_all}
 use Rattle.std.specs.Option.{option_map}
 use Rattle.std.proofs.lemmas.Bool.{and_parts}
@@ -173,10 +173,42 @@ next_of on lines line said player stay stands kept adds place = record {
   placed = placed_next player.scene lines said stands.scene stands.within.sound.no_boot place;
 }
 
+-- ---- what a line says
+
+-- it keeps its rules and says this, which can come behind these lines
+pub record Says (on : Setting) (lines : NotifyFront) (line : List ℕ) (said : Statement) : Type 0 where
+  pub kept : fault_at on lines line ≡ None
+  pub leads : with_statement lines said ≡ after_line lines line
+  pub next : IsNext on lines said
+
+-- what was read of it: what it says, or which rule it breaks; of want of memory nothing is said
+abbrev pub Reads : Setting → NotifyFront → List ℕ → Result Statement LineFault → Type 0
+Reads on lines line (Ok said) = Says on lines line said
+Reads on lines line (Err (Broken kind)) = fault_at on lines line ≡ Some kind
+Reads on lines line (Err NoRoom) = Unit {0}
+
+-- beside the UUIDs of the applications, by a player that has come to the lines
+pub read_as : {on : Setting} {lines : NotifyFront} {player : LivePlayer} (uuids : List (List ℕ)) (line : List ℕ)
+    (result : Result Statement LineFault) → uuids ≡ uuids_in on → LinesStaySound
+    → ((front : NotifyFront) → IsSceneOf player.scene front → HasItsBoot front
+    → IsJudged result (line_rules uuids front true line) front (after_line front line))
+    → ((front : NotifyFront) → IsSceneOf player.scene front → HasItsBoot front → IfOk result (IsInPlace player.scene))
+    → HasCome on lines player → Reads on lines line result
+read_as {on} {lines} {player} uuids line (Ok said) same stay judged place come =
+    let no_boot = come.within.sound.no_boot in
+    let is = judged lines come.scene no_boot in
+    let kept : fault_at on lines line ≡ None =
+    subst (λ (us : List (List ℕ)). first_broken (line_rules us lines true line) ≡ None) same is.0 in
+    record { kept = kept; leads = is.1; next = next_of on lines line said player stay come kept is.1 (place lines come.scene no_boot) }
+read_as {on} {lines} {player} uuids line (Err (Broken kind)) same stay judged place come =
+    subst (λ (us : List (List ℕ)). first_broken (line_rules us lines true line) ≡ Some kind) same
+    (judged lines come.scene come.within.sound.no_boot)
+read_as {on} {lines} {player} uuids line (Err NoRoom) same stay judged place come = tt
+
 -- ---- what came of it
 
 -- the answer to a line that keeps its rules
-pub answer_kept : (on : Setting) (lines : NotifyFront) (line : List ℕ) → fault_at on lines line ≡ None
+answer_kept : (on : Setting) (lines : NotifyFront) (line : List ℕ) → fault_at on lines line ≡ None
     → answer_to_line on lines line ≡ answer_between on lines (after_line lines line)
 answer_kept on lines line kept =
     ap (answer_by on lines line) kept
@@ -188,13 +220,13 @@ answer_broken on lines line kind broken =
     ap (answer_by on lines line) broken
 
 -- the lines that count behind an answer that ends so
-pub behind_ending : (on : Setting) (lines : NotifyFront) (line : List ℕ) (ending : Ending)
+behind_ending : (on : Setting) (lines : NotifyFront) (line : List ℕ) (ending : Ending)
     → (answer_to_line on lines line).ending ≡ ending
     → after_heard on lines (heard.Line line) ≡ cond (is_done ending) (after_line lines line) lines
 behind_ending on lines line ending is =
     ap (λ (e : Ending). cond (is_done e) (after_line lines line) lines) is
 
-pub counted_so : (how : Taken) (before after : NotifyFront) → cond (is_done (ending_of how)) after before ≡ counted how before after
+counted_so : (how : Taken) (before after : NotifyFront) → cond (is_done (ending_of how)) after before ≡ counted how before after
 counted_so taken.Done before after = refl
 counted_so (taken.Full copied) before after = refl
 
@@ -220,32 +252,42 @@ staged natives drivers lines (stage.Core player) few apart inside at =
     subst P (sym at.0.there) (at.0.boots, ap (λ (o : Option NotifyPlay). is_some o) at.0.play)
 
 -- a player that has come to lines stands behind them, beside built-in applications that are few and apart
-pub stands_at : (natives : List Native) (drivers : Drivers) (lines : NotifyFront) (player : LivePlayer)
-    → length (uuids_of natives) ≤ 16 → AreApart (uuids_of natives) → HasCome (setting natives drivers) lines player
+pub stands_at : {lines : NotifyFront} {player : LivePlayer} (natives : List Native) (drivers : Drivers) (uuids : List (List ℕ))
+    → uuids ≡ uuids_of natives → length uuids ≤ 16 → AreApart uuids → HasCome (setting natives drivers) lines player
     → StandsAt (setting natives drivers) lines player
-stands_at natives drivers lines player few apart come =
-    record { come = come; has_play = staged natives drivers lines player.stage few apart come.within come.stage_at }
+stands_at {lines} {player} natives drivers uuids same few apart come =
+    let are_few : length (uuids_of natives) ≤ 16 = subst (λ (us : List (List ℕ)). length us ≤ 16) same few in
+    record {
+      come = come;
+      has_play = staged natives drivers lines player.stage are_few (subst AreApart same apart) come.within come.stage_at;
+    }
+
+-- ---- what came of the line
+
+-- to a line that keeps its rules and says this, and the lines that count behind it
+pub answer_said : (on : Setting) (lines : NotifyFront) (line : List ℕ) (said : Statement) → Says on lines line said
+    → answer_to_line on lines line ≡ answer_between on lines (with_statement lines said)
+answer_said on lines line said says = answer_kept on lines line says.kept ∙ ap (answer_between on lines) (sym says.leads)
+
+pub behind_said : (on : Setting) (lines : NotifyFront) (line : List ℕ) (said : Statement) (how : Taken) → Says on lines line said
+    → (answer_to_line on lines line).ending ≡ ending_of how
+    → after_heard on lines (heard.Line line) ≡ counted how lines (with_statement lines said)
+behind_said on lines line said how says ending =
+    behind_ending on lines line (ending_of how) ending ∙ counted_so how lines (after_line lines line)
+    ∙ ap (counted how lines) (sym says.leads)
 
 -- a line that was taken
-takes : (natives : List Native) (drivers : Drivers) (lines : NotifyFront) (line : List ℕ) (said : Statement) (how : Taken)
-    (player : LivePlayer) (old new : List ℕ) → length (uuids_of natives) ≤ 16 → AreApart (uuids_of natives)
-    → fault_at (setting natives drivers) lines line ≡ None → with_statement lines said ≡ after_line lines line
-    → TakesOn (setting natives drivers) lines said how player old new
-    → Takes (setting natives drivers) lines line how player old new
-takes natives drivers lines line said how player old new few apart kept adds t =
-    let on : Setting = setting natives drivers in
-    let P : NotifyFront → Type 0 = λ f. Answers (answer_between on lines f) how old new in
+pub takes : (on : Setting) (lines : NotifyFront) (line : List ℕ) (said : Statement) (how : Taken) (player : LivePlayer)
+    (old new : List ℕ) → Says on lines line said
+    → (HasCome on (after_heard on lines (heard.Line line)) player → StandsAt on (after_heard on lines (heard.Line line)) player)
+    → TakesOn on lines said how player old new → Takes on lines line how player old new
+takes on lines line said how player old new says plays t =
     let Q : Answer → Type 0 = λ a. Answers a how old new in
-    let answers : Answers (answer_to_line on lines line) how old new =
-    subst Q (sym (answer_kept on lines line kept)) (subst P adds t.answers) in
-    let behind : after_heard on lines (heard.Line line) ≡ counted how lines (with_statement lines said) =
-    behind_ending on lines line (ending_of how) answers.ending ∙ counted_so how lines (after_line lines line)
-    ∙ ap (counted how lines) (sym adds) in
+    let answers : Answers (answer_to_line on lines line) how old new = subst Q (sym (answer_said on lines line said says)) t.answers in
+    let behind = behind_said on lines line said how says answers.ending in
     record {
       answers = answers;
-      stands =
-          stands_at natives drivers (after_heard on lines (heard.Line line)) player few apart
-          (subst (λ (f : NotifyFront). HasCome on f player) (sym behind) t.come);
+      stands = plays (subst (λ (f : NotifyFront). HasCome on f player) (sym behind) t.come);
     }
 
 -- one that breaks a rule
@@ -261,35 +303,8 @@ breaks on lines line kind player text broken stands =
           (sym (behind_ending on lines line (ends.Bad kind) (ap (λ (a : Answer). a.ending) is))) stands;
     }
 
--- ---- what was read, beside the UUIDs of the applications
-
--- a line that was not read breaks a rule, or memory ran out
-pub not_read : (on : Setting) (uuids : List (List ℕ)) (lines : NotifyFront) (line : List ℕ) (fault : LineFault)
-    (player : LivePlayer) (text : List ℕ) → uuids ≡ uuids_in on → StandsAt on lines player
-    → IsJudged (Err fault) (line_rules uuids lines true line) lines (after_line lines line)
-    → Judges on lines line (Err fault) player text text
-not_read on uuids lines line (Broken kind) player text same stands judged =
-    breaks on lines line kind player text
-    (subst (λ (us : List (List ℕ)). first_broken (line_rules us lines true line) ≡ Some kind) same judged) stands
-not_read on uuids lines line NoRoom player text same stands judged = tt
-
--- one that was read keeps its rules, and what it says can come
-pub read_next : (on : Setting) (uuids : List (List ℕ)) (lines : NotifyFront) (line : List ℕ) (said : Statement)
-    (player : LivePlayer) → uuids ≡ uuids_in on → LinesStaySound → HasCome on lines player
-    → IsJudged (Ok said) (line_rules uuids lines true line) lines (after_line lines line)
-    → IsInPlace player.scene said → IsNext on lines said
-read_next on uuids lines line said player same stay come judged place =
-    next_of on lines line said player stay come
-    (subst (λ (us : List (List ℕ)). first_broken (line_rules us lines true line) ≡ None) same judged.0) judged.1 place
-
--- and once it has come, the line was taken
-pub read_takes : (natives : List Native) (drivers : Drivers) (uuids : List (List ℕ)) (lines : NotifyFront) (line : List ℕ)
-    (said : Statement) (how : Taken) (player : LivePlayer) (old new : List ℕ) → uuids ≡ uuids_of natives
-    → length uuids ≤ 16 → AreApart uuids
-    → IsJudged (Ok said) (line_rules uuids lines true line) lines (after_line lines line)
-    → TakesOn (setting natives drivers) lines said how player old new
-    → Takes (setting natives drivers) lines line how player old new
-read_takes natives drivers uuids lines line said how player old new same few apart judged t =
-    takes natives drivers lines line said how player old new
-    (subst (λ (us : List (List ℕ)). length us ≤ 16) same few) (subst AreApart same apart)
-    (subst (λ (us : List (List ℕ)). first_broken (line_rules us lines true line) ≡ None) same judged.0) judged.1 t
+-- one of which nothing was read breaks a rule, or memory ran out
+pub not_read : (on : Setting) (lines : NotifyFront) (line : List ℕ) (fault : LineFault) (player : LivePlayer) (text : List ℕ)
+    → StandsAt on lines player → Reads on lines line (Err fault) → Judges on lines line (Err fault) player text text
+not_read on lines line (Broken kind) player text stands broken = breaks on lines line kind player text broken stands
+not_read on lines line NoRoom player text stands broken = tt

@@ -1,5 +1,5 @@
 -- A line that is taken where exits are watched.
-use Rattle.std.proofs.Common.{◌≡◌, ℕ, ◌<◌, ◌≤◌, true, List, [], ◌∷◌, ◌++◌, length, drop, Option, Some, None, refl, sym, ap, subst, ◌∙◌, arith, append_assoc}
+use Rattle.std.proofs.Common.{◌≡◌, ℕ, ◌<◌, List, [], ◌∷◌, ◌++◌, length, drop, Option, Some, None, refl, sym, ap, subst, ◌∙◌, arith, append_assoc}
 use Rattle.std.specs.Prelude.{All, IfOk, Result, Ok, Err, slice_index_or}
 use Rattle.std.specs.List.{flat_map}
 use Rattle.std.specs.Option.{option_and_then, option_map_or}
@@ -14,7 +14,7 @@ use Rattle.core_machine.proofs.Lanes.{all_bytes}
 use Rattle.kernel_model.specs.Application.{Booted, Native, booted}
 use Rattle.kernel_model.proofs.Parts.{some_of}
 use Rattle.line_port.specs.History as heard
-use Rattle.live_play.specs.Answer.{Answer, Setting, after_heard, answer_between, answer_to_line, fault_at, play_at, printed_at, refused_at, setting}
+use Rattle.live_play.specs.Answer.{Answer, Setting, after_heard, answer_between, answer_to_line, play_at, printed_at, refused_at, setting}
 use Rattle.live_play.specs.Answer as ends
 use Rattle.live_play.specs.Changes.{changes, text_of_changes}
 use Rattle.live_play.specs.Returns.{returns_in}
@@ -25,10 +25,12 @@ use Rattle.live_play.proofs.Outgoing.{lines-done, none_returned, one_returned, s
 use Rattle.live_play.proofs.Talking.{answer_unless, item_steps, more-played, quiet, signal_steps, start}
 use Rattle.live_play.proofs.Watched.{unwatched-lines, watched-lines}
 use Rattle.live_player.specs.Asking.{AnswersWatched, CanWatch, TakesWatched, Watches, WatchesOn, cpu_going_out}
-use Rattle.live_player.specs.Panicking.{EndsIn}
-use Rattle.live_player.specs.Standing.{HasCome, IsOpen, IsPlayedBehind, IsWithin, StageAt}
-use Rattle.live_player.specs.Taking.{Answers, IsNext, Judges, TakesOn, counted, ending_of}
+use Rattle.live_player.specs.Panicking.{EndsIn, panic_in}
+use Rattle.live_player.specs.Standing.{HasCome, IsOpen, IsPlayedBehind, IsWithin, StageAt, StandsAt}
+use Rattle.live_player.specs.Taking.{Answers, IsNext, Judges, TakesOn, counted}
 use Rattle.live_player.specs.declared.header.Header.{Header}
+use Rattle.live_player.specs.declared.panicking.PanicWatch.{PanicWatch}
+use Rattle.live_player.specs.declared.panicking.PanicWatch.TheVariants as watch
 use Rattle.live_player.specs.declared.player.LivePlayer.{LivePlayer}
 use Rattle.live_player.specs.declared.stage.Stage.{Stage}
 use Rattle.live_player.specs.declared.stage.Stage.TheVariants as stage
@@ -36,23 +38,21 @@ use Rattle.live_player.specs.declared.taken.Taken.{Taken}
 use Rattle.live_player.specs.declared.taken.Taken.TheVariants as taken
 use Rattle.live_player.proofs.Playing.{orderly}
 use Rattle.live_player.proofs.Staging.{begun, boot_by, closed_item, closed_signal, header_of, stage_going}
-use Rattle.live_player.proofs.Taking.{answer_kept, behind_ending, counted_so, stands_at}
+use Rattle.live_player.proofs.Taking.{Says, answer_said, behind_said}
 use Rattle.live_player.proofs.Walking.{last_sound}
-use Rattle.live_text.specs.Statement.{IsJudged, with_statement}
+use Rattle.live_text.specs.Statement.{with_statement}
 use Rattle.live_text.specs.declared.statement.Statement.{Statement}
 use Rattle.live_text.specs.declared.statement.Statement.TheVariants as says
 use Rattle.notify_play.specs.NotifyPlay.{Drivers, NotifyPlay}
 use Rattle.notify_player.specs.Playing.{HasLane}
 use Rattle.notify_player.specs.declared.player.NotifyPlayer.{NotifyPlayer}
-use Rattle.notify_text.specs.Rules.{NotifyFront, after_line, line_rules}
+use Rattle.notify_text.specs.Rules.{NotifyFront}
 use Rattle.notify_text.specs.Steps.{Signals, Takes}
 use Rattle.ns_ram.specs.Lane.{bytes_at}
 use Rattle.play_model.specs.Line.{Line, Ret, text_of_line}
 use Rattle.play_model.specs.Play.{Play, filled, lane_of}
 use Rattle.ta_isa.specs.declared.boot.Boot.{Boot}
-use Rattle.trace_player.proofs.Booting.{AreApart}
-use Rattle.trace_player.specs.Starting.{uuids_of}
-use Rattle.trace_text.specs.Limits.{cpus_of, first_broken}
+use Rattle.trace_text.specs.Limits.{cpus_of}
 use Rattle.trace_text.specs.Sound.{IsSoundFill, IsSoundItem}
 use Rattle.trace_text.specs.declared.fault.LineFault.{LineFault}
 use Rattle.trace_text.specs.declared.fault.LineFault.TheVariants.{Broken, NoRoom}
@@ -347,16 +347,16 @@ watched_text on before after cpu regs copy old between panicked new panic line c
     }
 
 pub watches_done : (on : Setting) (lines : NotifyFront) (said : Statement) (cpu : ℕ) (was : Stage) (player : LivePlayer)
-    (copy old between panicked new : List ℕ) (panic : Option ℕ) → cpu_going_out said ≡ Some cpu → IsNext on lines said
+    (copy old between panicked new : List ℕ) (now : PanicWatch) → cpu_going_out said ≡ Some cpu → IsNext on lines said
     → StageAt on lines was → copy ≡ lane_at on lines cpu → TakesOn on lines said taken.Done player old between
-    → EndsIn on lines said taken.Done panic → panicked ≡ between ++ text_if panic_line panic
+    → EndsIn on lines said taken.Done (watch.On None) now → panicked ≡ between ++ text_if panic_line (panic_in now)
     → new ≡ panicked ++ text_of_changes cpu (changes copy (lane_at on (with_statement lines said) cpu))
     → WatchesOn on lines said taken.Done player old new
-watches_done on lines said cpu was player copy old between panicked new panic out next at copied takes ends told pushed =
+watches_done on lines said cpu was player copy old between panicked new now out next at copied takes ends told pushed =
     by said out next takes ends pushed
   where
     by : (said : Statement) → cpu_going_out said ≡ Some cpu → IsNext on lines said
-        → TakesOn on lines said taken.Done player old between → EndsIn on lines said taken.Done panic
+        → TakesOn on lines said taken.Done player old between → EndsIn on lines said taken.Done (watch.On None) now
         → new ≡ panicked ++ text_of_changes cpu (changes copy (lane_at on (with_statement lines said) cpu))
         → WatchesOn on lines said taken.Done player old new
     by says.Blank out next takes ends pushed = absurd cc
@@ -368,53 +368,33 @@ watches_done on lines said cpu was player copy old between panicked new panic ou
         let line = one_line on lines i cpu was player.stage out next at takes.come.stage_at takes.answers.ending in
         record {
           answers =
-              watched_text on lines (with_statement lines (says.Item i)) cpu line.0 copy old between panicked new panic line.1
-              copied takes.answers ends told pushed;
+              watched_text on lines (with_statement lines (says.Item i)) cpu line.0 copy old between panicked new (panic_in now) line.1
+              copied takes.answers (ap panic_in ends) told pushed;
           come = takes.come;
         }
     by (says.Signal value) out next takes ends pushed = absurd cc
 
 -- ---- a line
 
--- one that was not read breaks a rule, or memory ran out
+-- one of which nothing was read breaks a rule, or memory ran out
 pub as_watched : (on : Setting) (lines : NotifyFront) (line : List ℕ) (fault : LineFault) (player : LivePlayer) (old new : List ℕ)
     → Judges on lines line (Err fault) player old new → Watches on lines line (Err fault) player old new
 as_watched on lines line (Broken kind) player old new judged = judged
 as_watched on lines line NoRoom player old new judged = tt
 
-watches : (natives : List Native) (drivers : Drivers) (lines : NotifyFront) (line : List ℕ) (said : Statement) (how : Taken)
-    (player : LivePlayer) (old new : List ℕ) → length (uuids_of natives) ≤ 16 → AreApart (uuids_of natives)
-    → fault_at (setting natives drivers) lines line ≡ None → with_statement lines said ≡ after_line lines line
-    → WatchesOn (setting natives drivers) lines said how player old new
-    → TakesWatched (setting natives drivers) lines line how player old new
-watches natives drivers lines line said how player old new few apart kept adds w =
-    let on : Setting = setting natives drivers in
+-- and one that was read was taken
+pub watches : (on : Setting) (lines : NotifyFront) (line : List ℕ) (said : Statement) (how : Taken) (player : LivePlayer)
+    (old new : List ℕ) → Says on lines line said
+    → (HasCome on (after_heard on lines (heard.Line line)) player → StandsAt on (after_heard on lines (heard.Line line)) player)
+    → WatchesOn on lines said how player old new → TakesWatched on lines line how player old new
+watches on lines line said how player old new says plays w =
     let after : NotifyFront = with_statement lines said in
     let counts : NotifyFront = counted how lines after in
-    let given : answer_to_line on lines line ≡ answer_between on lines after =
-    answer_kept on lines line kept ∙ ap (answer_between on lines) (sym adds) in
-    let ending : (answer_to_line on lines line).ending ≡ ending_of how =
-    ap (λ (a : Answer). a.ending) given ∙ w.answers.ending in
-    let behind : after_heard on lines (heard.Line line) ≡ counts =
-    behind_ending on lines line (ending_of how) ending ∙ counted_so how lines (after_line lines line)
-    ∙ ap (counted how lines) (sym adds) in
+    let given = answer_said on lines line said says in
+    let behind = behind_said on lines line said how says (ap (λ (a : Answer). a.ending) given ∙ w.answers.ending) in
     let P : NotifyFront → Type 0 = λ f. AnswersWatched on lines f (answer_to_line on lines line) how old new in
     let Q : Answer → Type 0 = λ a. AnswersWatched on lines counts a how old new in
     record {
       answers = subst P (sym behind) (subst Q (sym given) w.answers);
-      stands =
-          stands_at natives drivers (after_heard on lines (heard.Line line)) player few apart
-          (subst (λ (f : NotifyFront). HasCome on f player) (sym behind) w.come);
+      stands = plays (subst (λ (f : NotifyFront). HasCome on f player) (sym behind) w.come);
     }
-
--- one that was read, beside the UUIDs of the applications, was taken
-pub read_watches : (natives : List Native) (drivers : Drivers) (uuids : List (List ℕ)) (lines : NotifyFront) (line : List ℕ)
-    (said : Statement) (how : Taken) (player : LivePlayer) (old new : List ℕ) → uuids ≡ uuids_of natives
-    → length uuids ≤ 16 → AreApart uuids
-    → IsJudged (Ok said) (line_rules uuids lines true line) lines (after_line lines line)
-    → WatchesOn (setting natives drivers) lines said how player old new
-    → TakesWatched (setting natives drivers) lines line how player old new
-read_watches natives drivers uuids lines line said how player old new same few apart judged w =
-    watches natives drivers lines line said how player old new
-    (subst (λ (us : List (List ℕ)). length us ≤ 16) same few) (subst AreApart same apart)
-    (subst (λ (us : List (List ℕ)). first_broken (line_rules us lines true line) ≡ None) same judged.0) judged.1 w

@@ -11,6 +11,7 @@ ghost use Rattle.notify_play.specs.NotifyPlay.{Drivers};
 ghost use Rattle.notify_text.specs.Rules.{NotifyFront, no_lines};
 
 use crate::header::Header;
+use crate::panicking::PanicWatch;
 use crate::stage::Stage;
 use crate::taken::Taken;
 use base::NoMemory;
@@ -39,13 +40,13 @@ impl LivePlayer {
         }
     }
 
-    /// Takes what a line says that keeps its rules. Of an item, it tells the panic in which its call has ended.
+    /// Takes what a line says that keeps its rules. Of an item, where panics are watched, it reads that in which its call has ended.
     pub(crate) fn take(
         &mut self,
         alloc: Global,
         natives: &Natives,
         said: Statement,
-        panic: &mut Option<u32>,
+        watch: &mut PanicWatch,
         text: &mut Vec<u8>,
     ) -> Result<Taken, NoMemory>
         requires few { HasFewCpus said }
@@ -60,9 +61,10 @@ impl LivePlayer {
         ensures panic { (lines : NotifyFront)
             → IsNext (setting (entries natives.now) (drivers natives.now)) lines said
             → HasCome (setting (entries natives.now) (drivers natives.now)) lines self.old
-            → IfOk result (λ taken. EndsIn (setting (entries natives.now) (drivers natives.now)) lines said taken panic.new) }
+            → IfOk result (λ taken. EndsIn (setting (entries natives.now) (drivers natives.now)) lines said taken
+            watch.old watch.new) }
     {
-        match self.stage.play(alloc, natives, &said, panic, text)? {
+        match self.stage.play(alloc, natives, &said, watch, text)? {
             Taken::Done => {
                 self.scene.take(&said)?;
                 self.stage.add(said)?;
@@ -89,7 +91,7 @@ impl LivePlayer {
     {
         lines_stay_sound();
         let said = read_line(alloc, natives.uuids().as_slice(), &self.scene, line)?;
-        match self.take(alloc, natives, said, &mut None, text) {
+        match self.take(alloc, natives, said, &mut PanicWatch::Off, text) {
             Ok(taken) => Ok(taken),
             Err(NoMemory) => Err(LineFault::NoRoom),
         }

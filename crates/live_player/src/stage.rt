@@ -15,7 +15,7 @@ ghost use Rattle.notify_player.specs.Playing.{IsPlayedTo};
 ghost use Rattle.notify_text.specs.Rules.{NotifyFront};
 
 use crate::header::Header;
-use crate::panicking;
+use crate::panicking::{self, PanicWatch};
 use crate::taken::Taken;
 use base::NoMemory;
 use core_machine::machines_stand;
@@ -37,13 +37,13 @@ pub(crate) enum Stage {
     Core(NotifyPlayer),
 }
 
-/// Plays an item, appends what it prints, and tells the panic in which its call has ended.
+/// Plays an item, appends what it prints, and where panics are watched reads that in which its call has ended.
 fn play_on(
     player: &mut NotifyPlayer,
     alloc: Global,
     natives: &Natives,
     item: &Item,
-    panic: &mut Option<u32>,
+    watch: &mut PanicWatch,
     text: &mut Vec<u8>,
 ) -> Result<Taken, NoMemory>
     requires { (lines : NotifyFront)
@@ -57,11 +57,11 @@ fn play_on(
     ensures panic { (lines : NotifyFront)
         → IsPlayedBehind (setting (entries natives.now) (drivers natives.now)) lines player.old
         → IfOk result (λ taken. ItemEndsIn (setting (entries natives.now) (drivers natives.now)) lines item.now taken
-        panic.new) }
+        watch.old watch.new) }
 {
     machines_stand();
     desks_keep_their_drivers();
-    match panicking::play_item(player, alloc, natives, item, panic, text) {
+    match panicking::play_item(player, alloc, natives, item, watch, text) {
         Ok(()) => Ok(Taken::Done),
         Err(Stop::Full) => Ok(Taken::Full(player.machine().core().journal().copied())),
         Err(Stop::Failed | Stop::Memory) => Err(NoMemory),
@@ -80,14 +80,14 @@ fn signal_on(player: &mut NotifyPlayer, value: u32)
 }
 
 impl Stage {
-    /// Plays an item, appends what it prints, and tells the panic in which its call has ended. A core that was booted for it stays
-    /// unless its entry is refused, since lines of the header may follow then.
+    /// Plays an item, appends what it prints, and where panics are watched reads that in which its call has ended. A core that was
+    /// booted for it stays unless its entry is refused, since lines of the header may follow then.
     fn play_item(
         &mut self,
         alloc: Global,
         natives: &Natives,
         item: &Item,
-        panic: &mut Option<u32>,
+        watch: &mut PanicWatch,
         text: &mut Vec<u8>,
     ) -> Result<Taken, NoMemory>
         requires { (lines : NotifyFront)
@@ -102,13 +102,13 @@ impl Stage {
             → IsNext (setting (entries natives.now) (drivers natives.now)) lines (says.Item item.now)
             → StageAt (setting (entries natives.now) (drivers natives.now)) lines self.old
             → IfOk result (λ taken. ItemEndsIn (setting (entries natives.now) (drivers natives.now)) lines item.now taken
-            panic.new) }
+            watch.old watch.new) }
     {
         match self {
-            Stage::Core(player) => play_on(player, alloc, natives, item, panic, text),
+            Stage::Core(player) => play_on(player, alloc, natives, item, watch, text),
             Stage::Header(header) => {
                 let mut player = header.first_player(alloc, natives)?;
-                let taken = play_on(&mut player, alloc, natives, item, panic, text)?;
+                let taken = play_on(&mut player, alloc, natives, item, watch, text)?;
                 match taken {
                     Taken::Done => {
                         *self = Stage::Core(player);
@@ -145,14 +145,14 @@ impl Stage {
         }
     }
 
-    /// Plays what a line says, where it is an item or a signal, and appends what it prints. Of an item, it tells the panic in which
-    /// its call has ended.
+    /// Plays what a line says, where it is an item or a signal, and appends what it prints. Of an item, where panics are watched, it
+    /// reads that in which its call has ended.
     pub(crate) fn play(
         &mut self,
         alloc: Global,
         natives: &Natives,
         said: &Statement,
-        panic: &mut Option<u32>,
+        watch: &mut PanicWatch,
         text: &mut Vec<u8>,
     ) -> Result<Taken, NoMemory>
         requires { (lines : NotifyFront)
@@ -167,10 +167,10 @@ impl Stage {
             → IsNext (setting (entries natives.now) (drivers natives.now)) lines said.now
             → StageAt (setting (entries natives.now) (drivers natives.now)) lines self.old
             → IfOk result (λ taken. EndsIn (setting (entries natives.now) (drivers natives.now)) lines said.now taken
-            panic.new) }
+            watch.old watch.new) }
     {
         match said {
-            Statement::Item(item) => self.play_item(alloc, natives, item, panic, text),
+            Statement::Item(item) => self.play_item(alloc, natives, item, watch, text),
             Statement::Signal(value) => {
                 self.signal(alloc, natives, *value)?;
                 Ok(Taken::Done)

@@ -12,6 +12,7 @@ ghost use Rattle.native_tas.specs.Table.{drivers, entries};
 ghost use Rattle.notify_player.specs.Playing.{HasLane};
 ghost use Rattle.notify_text.specs.Rules.{NotifyFront};
 
+use crate::panicking::PanicWatch;
 use crate::player::LivePlayer;
 use crate::stage::Stage;
 use crate::taken::Taken;
@@ -146,14 +147,14 @@ impl LivePlayer {
             → IfOk result (λ taken. WatchesOn (setting (entries natives.now) (drivers natives.now)) lines said taken
             self.new text.old.items text.new.items) }
     {
-        let mut panic = None;
+        let mut watch = PanicWatch::On(None);
         let Some(cpu) = cpu_going_out(&said) else {
-            return self.take(alloc, natives, said, &mut panic, text);
+            return self.take(alloc, natives, said, &mut watch, text);
         };
         self.stage.copy_ram(alloc, cpu, copy)?;
-        match self.take(alloc, natives, said, &mut panic, text)? {
+        match self.take(alloc, natives, said, &mut watch, text)? {
             Taken::Done => {
-                push_panic(alloc, text, panic)?;
+                push_panic(alloc, text, watch.panic())?;
                 self.stage.push_changes(alloc, cpu, copy.as_slice(), text)?;
                 Ok(Taken::Done)
             }

@@ -1,4 +1,4 @@
-use Rattle.std.proofs.Common.{subst, sym, ◌∙◌}
+use Rattle.std.proofs.Common.{ap, subst, sym, ◌∙◌}
 use Rattle.std.specs.Prelude.{Err}
 use Rattle.kernel_model.specs.Application.{booted}
 use Rattle.native_tas.specs.Table.{drivers, entries}
@@ -7,6 +7,7 @@ use Rattle.notify_player.specs.Playing.{Follows}
 use Rattle.word_parts.specs.declared.stop.Stop.{Stop}
 use Rattle.live_play.specs.Answer.{setting}
 use Rattle.live_player.proofs.Panics.{panic_told}
+use Rattle.live_player.specs.Panicking.{with_panic}
 use Rattle.live_player.proofs.Playing.{desk_is, item_can, item_done, item_full}
 use Rattle.live_player.proofs.stage.play_on.Goals as goal
 
@@ -44,4 +45,5 @@ play_item-requires-clause-played g c =
 pub returns-in-Ok-clause-panic : goal.returns-in-Ok-clause-panic
 returns-in-Ok-clause-panic g c = λ lines p.
     c.in-Ok.ensures.panic (booted p.boot (entries c.args.natives.now)) p.told p.stands
-    ∙ sym (panic_told (setting (entries c.args.natives.now) (drivers c.args.natives.now)) lines c.args.item.now c.args.player.now p)
+    ∙ ap (with_panic c.args.watch.now)
+    (sym (panic_told (setting (entries c.args.natives.now) (drivers c.args.natives.now)) lines c.args.item.now c.args.player.now p))

@@ -1,7 +1,9 @@
-use Rattle.std.proofs.Common.{List, ℕ, ◌++◌, ap, sym, ◌∙◌}
+use Rattle.std.proofs.Common.{List, ℕ, ◌++◌, Option, ap, sym, ◌∙◌}
 use Rattle.live_play.specs.Answer.{Setting, setting}
 use Rattle.live_play.specs.Changes.{changes, text_of_changes}
+use Rattle.live_play.specs.Panicking.{panic_line}
 use Rattle.live_play.specs.Showing.{lane_at}
+use Rattle.live_play.specs.State.{text_if}
 use Rattle.live_text.specs.Statement.{with_statement}
 use Rattle.native_tas.specs.Table.{drivers, entries}
 use Rattle.live_player.proofs.Watched.{can_still_watch, can_watch, not_open, watches_done, watches_full, watches_staying}
@@ -48,9 +50,10 @@ returns-in_ok-push_changes-in-Done g c = λ lines next come.
     (can_still_watch natives ds lines c.args.said cpu c.take-2.new.self.stage out next takes.come.stage_at)
     (not_open lines c.args.said cpu out) in
     watches_done on lines c.args.said cpu c.args.self.now.stage c.take-2.new.self c.copy_ram.new.copy.items
-    c.args.text.now.items c.take-2.new.text.items c.push_panic.new.text.items c.push_changes.new.text.items c.take-2.new.panic
+    c.args.text.now.items c.take-2.new.text.items c.push_panic.new.text.items c.push_changes.new.text.items c.take-2.new.watch
     out next come.stage_at copied takes (rw c.in-Done.is at (c.in_ok-take.ensures.panic lines next come))
-    c.in_ok-push_panic-in-Done.ensures
+    (c.in_ok-push_panic-in-Done.ensures
+    ∙ ap (λ (p : Option ℕ). c.take-2.new.text.items ++ text_if panic_line p) c.panic.ensures)
     (pushed ∙ ap (λ (copy : List ℕ). c.push_panic.new.text.items ++ text_of_changes cpu (changes copy (lane_at on after cpu)))
     c.as_slice.ensures.value)
 

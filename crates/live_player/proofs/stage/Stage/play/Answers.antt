@@ -53,24 +53,24 @@ returns-in_ok-signal-in-Signal-clause-panic g c = λ lines next stands. rw c.in-
 pub returns-in-Blank-clause-panic : goal.returns-in-Blank-clause-panic
 returns-in-Blank-clause-panic g c = λ lines next stands.
     let on : Setting = setting (entries c.args.natives.now) (drivers c.args.natives.now) in
-    waits_untold on lines c.args.said.now c.args.panic.now c.in-Blank.is
+    waits_untold on lines c.args.said.now c.args.watch.now c.args.watch.now c.in-Blank.is
 
 pub returns-in-Blank-2-clause-panic : goal.returns-in-Blank-2-clause-panic
 returns-in-Blank-2-clause-panic g c = λ lines next stands.
     let on : Setting = setting (entries c.args.natives.now) (drivers c.args.natives.now) in
-    waits_untold on lines c.args.said.now c.args.panic.now c.in-Blank.is
+    waits_untold on lines c.args.said.now c.args.watch.now c.args.watch.now c.in-Blank.is
 
 pub returns-in-Blank-3-clause-panic : goal.returns-in-Blank-3-clause-panic
 returns-in-Blank-3-clause-panic g c = λ lines next stands.
     let on : Setting = setting (entries c.args.natives.now) (drivers c.args.natives.now) in
-    waits_untold on lines c.args.said.now c.args.panic.now c.in-Blank.is
+    waits_untold on lines c.args.said.now c.args.watch.now c.args.watch.now c.in-Blank.is
 
 pub returns-in-Blank-4-clause-panic : goal.returns-in-Blank-4-clause-panic
 returns-in-Blank-4-clause-panic g c = λ lines next stands.
     let on : Setting = setting (entries c.args.natives.now) (drivers c.args.natives.now) in
-    waits_untold on lines c.args.said.now c.args.panic.now c.in-Blank.is
+    waits_untold on lines c.args.said.now c.args.watch.now c.args.watch.now c.in-Blank.is
 
 pub returns-in-Blank-5-clause-panic : goal.returns-in-Blank-5-clause-panic
 returns-in-Blank-5-clause-panic g c = λ lines next stands.
     let on : Setting = setting (entries c.args.natives.now) (drivers c.args.natives.now) in
-    waits_untold on lines c.args.said.now c.args.panic.now c.in-Blank.is
+    waits_untold on lines c.args.said.now c.args.watch.now c.args.watch.now c.in-Blank.is
