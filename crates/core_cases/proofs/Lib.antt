@@ -1,6 +1,7 @@
 pub mod Again
 pub mod Boots
 pub mod Fed
+pub mod Front
 pub mod GroupFed
 pub mod Journals
 pub mod Opened

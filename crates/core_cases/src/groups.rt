@@ -5,7 +5,7 @@ ghost use Rattle.native_tas.specs.Table.{entries};
 use crate::comparing::tell_replies;
 use crate::conditions::has_shared_app;
 use crate::events::tell_group_events;
-use crate::group_feeding::feed_group;
+use crate::feeding::feed;
 use crate::playing::{boot_again, played};
 use crate::reading::trace_of;
 use crate::replies::line_of;
@@ -34,7 +34,7 @@ fn replies_alone(
     let events = group_events(alloc, boot, natives, journal, uuid)?;
     tell_group_events(events.as_slice(), told)?;
     let mut machine = GroupSolo::new(alloc, boot, uuid)?;
-    feed_group(alloc, &mut machine, events.as_slice())
+    feed(alloc, &mut machine, events.as_slice())
 }
 
 /// What the group of the first application was answered.

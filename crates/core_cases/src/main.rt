@@ -46,7 +46,6 @@ mod conditions;
 mod drawn;
 mod events;
 mod feeding;
-mod group_feeding;
 mod groups;
 mod playing;
 mod replies;

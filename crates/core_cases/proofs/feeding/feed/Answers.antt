@@ -1,42 +1,20 @@
-use Rattle.std.proofs.Common.{◌+◌, ◌∷◌, ◌∙◌, ap, drop, subst, sym}
-use Rattle.std.proofs.Math.Logic.{∥∥₁_map}
+use Rattle.std.proofs.Common.{◌+◌, drop, subst}
+use Rattle.core_cases.proofs.Front.{front}
 use Rattle.core_cases.proofs.feeding.feed.Goals as goal
-use Rattle.own_model.specs.declared.own_event.OwnEvent.{OwnEvent}
-use Rattle.solo.proofs.Feeding.{fed_on, front, has_number, is_some_solo}
-use Rattle.solo.specs.Feeding.{IsFed}
 
-pub step-requires-clause-some : goal.step-requires-clause-some
-step-requires-clause-some c =
-    let s = c.loop-event.session in
+pub take-requires : goal.take-requires
+take-requires g c =
     let events = c.args.events.now in
-    let i = c.loop-event.event-index in
-    ∥∥₁_map c.loop-event.invariant
-    (λ (fed : IsFed s (drop i events)). is_some_solo s c.event-item.result (record {
-      events = drop (i + 1) events;
-      fed = subst (IsFed s)
-          (front events i c.event-item.result c.loop-event-test.true ∙ ap (λ (e : OwnEvent). e ∷ drop (i + 1) events) (sym c.event-item.is)) fed;
-    }))
-
-pub step-requires-clause-number : goal.step-requires-clause-number
-step-requires-clause-number c =
-    let s = c.loop-event.session in
-    let events = c.args.events.now in
-    let i = c.loop-event.event-index in
-    has_number s c.event-item.result
-    (∥∥₁_map c.loop-event.invariant
-    (λ (fed : IsFed s (drop i events)). record {
-      events = drop (i + 1) events;
-      fed = subst (IsFed s)
-          (front events i c.event-item.result c.loop-event-test.true ∙ ap (λ (e : OwnEvent). e ∷ drop (i + 1) events) (sym c.event-item.is)) fed;
-    }))
+    let i = c.loop-event.event-index in (
+      drop (i + 1) events,
+      subst (g.M.EventMachine.IsFed c.loop-event.machine) (front events i c.event-item.result c.loop-event-test.true c.event-item.is)
+          c.loop-event.invariant,
+    )
 
 pub loop-event-preserved : goal.loop-event-preserved
-loop-event-preserved c =
-    let s = c.loop-event.session in
+loop-event-preserved g c =
     let events = c.args.events.now in
     let i = c.loop-event.event-index in
-    ∥∥₁_map c.loop-event.invariant (λ (fed : IsFed s (drop i events)).
-    rw c.in_ok-step.was at (fed_on s c.step.new.self c.event-item.result (drop (i + 1) events) c.step.result
-    (subst (IsFed s)
-    (front events i c.event-item.result c.loop-event-test.true ∙ ap (λ (e : OwnEvent). e ∷ drop (i + 1) events) (sym c.event-item.is)) fed)
-    c.step.ensures.app c.step.ensures.ok))
+    c.in_ok-take.ensures (drop (i + 1) events)
+    (subst (g.M.EventMachine.IsFed c.loop-event.machine) (front events i c.event-item.result c.loop-event-test.true c.event-item.is)
+    c.loop-event.invariant)

@@ -8,8 +8,8 @@ use Rattle.kernel_model.specs.Instances.{app_of, is_single}
 use Rattle.native_tas.specs.Table.{entries}
 use Rattle.ta_isa.specs.declared.boot.App.{App}
 
-pub feed_group-requires : goal.feed_group-requires
-feed_group-requires g c =
+pub feed-requires : goal.feed-requires
+feed-requires g c =
     let boot = c.args.boot.now in
     let none = c.index-as_slice-0.result in
     let events = c.in_ok-events.events.items in
