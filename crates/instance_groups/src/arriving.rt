@@ -227,14 +227,20 @@ fn room_in(core: &Core, app: &Application, regs: &Regs) -> Option<bool>
 }
 
 /// What the call comes back as that these registers name, and that is given this.
-fn resumed_in(core: &Core, app: &Application, regs: &Regs, given: ResumeInput) -> Resumed
+fn resumed_in(
+    alloc: Global,
+    core: &Core,
+    app: &Application,
+    regs: &Regs,
+    given: ResumeInput,
+) -> Result<Resumed, NoMemory>
     requires { IsSuspended core.now.parts.slots regs.now.a }
-    ensures back { IsBackIn core.now.parts regs.now.a (given_as given) result.back }
-    ensures room { IsRoomIn core.now.parts (application_of app.now) regs.now.a result.room }
+    ensures back { IfOk result (λ resumed. IsBackIn core.now.parts regs.now.a (given_as given) resumed.back) }
+    ensures room { IfOk result (λ resumed. IsRoomIn core.now.parts (application_of app.now) regs.now.a resumed.room) }
 {
     let room = room_in(core, app, regs);
-    let back = back_in(core, regs, given);
-    Resumed { back, room }
+    let back = back_in(alloc, core, regs, given)?;
+    Ok(Resumed { back, room })
 }
 
 /// What a resume is.
@@ -253,7 +259,10 @@ fn back_arrival(
     let (setup, slots) = (&core.parts.setup, &core.parts.slots);
     let call = resumed_calls::decide(alloc, setup, slots, regs, lane, &mut reads)?;
     match call {
-        Some(decided) => Ok(Arrival::Back(resumed_in(core, app, regs, decided.given))),
+        Some(decided) => {
+            let resumed = resumed_in(alloc, core, app, regs, decided.given)?;
+            Ok(Arrival::Back(resumed))
+        }
         None => Ok(Arrival::Nothing),
     }
 }

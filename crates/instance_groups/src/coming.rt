@@ -18,6 +18,7 @@ use base::NoMemory;
 use isolation::errand_of;
 use kernel_entry::Visitor;
 use kernel_state::{Carried, Core, Errand, Ran};
+use std::alloc::Global;
 
 /// The kernel's session of the call that a processor carries.
 fn session_of(call: &Carried) -> u32
@@ -30,7 +31,13 @@ fn session_of(call: &Carried) -> u32
 }
 
 /// Notes a new call that has come into a slot.
-fn has_come_new(notes: &mut Notes, slot: u8, call: NewCall, ran: &Ran) -> Result<(), NoMemory>
+fn has_come_new(
+    alloc: Global,
+    notes: &mut Notes,
+    slot: u8,
+    call: NewCall,
+    ran: &Ran,
+) -> Result<(), NoMemory>
     requires slot { slot < 16 }
     requires few { HasNumbersLeft notes.old }
     ensures noted { (boot : Booted) (kernel next : Kernel) (visitor : AnyVisitor) (reads : List AnyRead) (work : AnyWork) → IsRanOf work ran.now
@@ -38,24 +45,30 @@ fn has_come_new(notes: &mut Notes, slot: u8, call: NewCall, ran: &Ran) -> Result
         → IsEntryNoted boot notes.old notes.new kernel next visitor reads result }
     ensures app { notes.new.app ≡ notes.old.app }
 {
-    notes.comes_in(slot, session_of(&ran.call), call)
+    notes.comes_in(alloc, slot, session_of(&ran.call), call)
 }
 
 /// Notes a call that has come back into its slot.
-fn has_come_back(notes: &mut Notes, slot: u8, came: Resumed) -> Result<(), NoMemory>
+fn has_come_back(alloc: Global, notes: &mut Notes, slot: u8, came: Resumed) -> Result<(), NoMemory>
     ensures noted { (boot : Booted) (kernel next : Kernel) (visitor : AnyVisitor) (reads : List AnyRead) (work : AnyWork)
         → HasArrivedIn (watch boot (application_of notes.old.app) kernel) next visitor reads (Arrival.Back came) work slot
         → IsEntryNoted boot notes.old notes.new kernel next visitor reads result }
     ensures app { notes.new.app ≡ notes.old.app }
 {
     match notes.number_in(slot) {
-        Some(number) => notes.comes_back(number, came),
+        Some(number) => notes.comes_back(alloc, number, came),
         None => Ok(()),
     }
 }
 
 /// Notes what has come into a slot.
-fn has_come_for(notes: &mut Notes, slot: u8, arrival: Arrival, ran: &Ran) -> Result<(), NoMemory>
+fn has_come_for(
+    alloc: Global,
+    notes: &mut Notes,
+    slot: u8,
+    arrival: Arrival,
+    ran: &Ran,
+) -> Result<(), NoMemory>
     requires slot { slot < 16 }
     requires few { HasNumbersLeft notes.old }
     ensures noted { (boot : Booted) (kernel next : Kernel) (visitor : AnyVisitor) (reads : List AnyRead) (work : AnyWork) → IsRanOf work ran.now
@@ -64,14 +77,15 @@ fn has_come_for(notes: &mut Notes, slot: u8, arrival: Arrival, ran: &Ran) -> Res
     ensures app { notes.new.app ≡ notes.old.app }
 {
     match arrival {
-        Arrival::New(call) => has_come_new(notes, slot, call, ran),
-        Arrival::Back(came) => has_come_back(notes, slot, came),
+        Arrival::New(call) => has_come_new(alloc, notes, slot, call, ran),
+        Arrival::Back(came) => has_come_back(alloc, notes, slot, came),
         Arrival::Nothing => Ok(()),
     }
 }
 
 /// Notes that a processor has come in, which goes out with this.
 pub(crate) fn has_come(
+    alloc: Global,
     notes: &mut Notes,
     core: &Core,
     visitor: Visitor,
@@ -88,7 +102,7 @@ pub(crate) fn has_come(
     ensures app { notes.new.app ≡ notes.old.app }
 {
     match errand_of(core.parts.processors.as_slice(), visitor.cpu) {
-        Some(Errand::InSlot(slot)) => has_come_for(notes, slot, arrival, ran),
+        Some(Errand::InSlot(slot)) => has_come_for(alloc, notes, slot, arrival, ran),
         Some(Errand::Fixed(_)) => Ok(()),
         None => unreachable!(),
     }

@@ -76,7 +76,7 @@ fn comes_in(
     }
     let at_work = &replay.at_work;
     let ran = at_work.outgoing(visitor.cpu);
-    has_come(notes, &at_work.core, visitor, arrival, ran)?;
+    has_come(alloc, notes, &at_work.core, visitor, arrival, ran)?;
     Ok(true)
 }
 

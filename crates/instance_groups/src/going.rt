@@ -9,6 +9,7 @@ ghost use Rattle.isolation.specs.Replaying.{errand_at};
 use crate::arriving::is_open;
 use crate::notes::Notes;
 use base::NoMemory;
+use boxed::Boxed;
 use core_at_work::CoreAtWork;
 use isolation::{errand_of, left_in, told_at_end};
 use job_model::CallKind;
@@ -39,14 +40,14 @@ fn opened_so(kind: CallKind, session: u32, told: &OwnReply) -> Option<u32>
 }
 
 /// The session that the call has opened that a processor carries, by what is told of it.
-fn opened_by(call: &Carried, told: &Option<OwnReply>) -> Option<u32>
+fn opened_by(call: &Carried, told: &Option<Boxed<OwnReply>>) -> Option<u32>
     ensures { result ≡ option_and_then (opened_by call.now) told.now }
 {
     let told = told.as_ref()?;
     match call {
         Carried::Nothing => None,
         Carried::Resting(cont) | Carried::Running(cont) => {
-            opened_so(cont.kind, cont.session, told)
+            opened_so(cont.kind, cont.session, told.get())
         }
     }
 }
@@ -76,7 +77,7 @@ fn goes_out_of(
     at_work.leave(cpu, lane);
     match (left_in(&at_work.core.parts.slots, slot), told) {
         (Some(cont), _) => notes.goes_out(alloc, slot, number, cont),
-        (None, Some(told)) => notes.finishes(slot, number, opened, told),
+        (None, Some(told)) => notes.finishes(alloc, slot, number, opened, told),
         (None, None) => unreachable!(),
     }
 }

@@ -12,8 +12,9 @@ ghost use Rattle.kernel_state.specs.Setup.{application_of};
 ghost use Rattle.own_model.specs.Own.{wake_kept};
 
 use crate::arriving::{NewCall, Resumed, SessionCall};
-use crate::group_log::Logged;
+use crate::group_log::Noted;
 use base::NoMemory;
+use boxed::Boxed;
 use frame_pool::Pages;
 use group_model::{GroupEvent, GroupReply};
 use isolation::{Numbering, reply_of, wakes};
@@ -34,7 +35,7 @@ pub(crate) struct Notes {
     /// The number of the next one.
     next_session: u32,
     numbering: Numbering,
-    log: Vec<Logged>,
+    log: Vec<Noted>,
 }
 
 /// The number that is kept for this one, if one is.
@@ -102,7 +103,7 @@ impl Notes {
     }
 
     /// Takes what was listed so far.
-    pub(crate) fn take_log(&mut self, alloc: Global) -> Vec<Logged>
+    pub(crate) fn take_log(&mut self, alloc: Global) -> Vec<Noted>
         ensures log { result.items ≡ self.old.log.items }
         ensures taken { self.new.log.items ≡ [] }
         ensures stays { self.new ≡ record self.old { log = self.new.log } }
@@ -118,7 +119,11 @@ impl Notes {
     }
 
     /// Lists an event of the group, with its reply, if it has one.
-    fn lists(&mut self, event: GroupEvent, reply: Option<GroupReply>) -> Result<(), NoMemory>
+    fn lists(
+        &mut self,
+        event: Boxed<GroupEvent>,
+        reply: Option<Boxed<GroupReply>>,
+    ) -> Result<(), NoMemory>
         ensures log { IfOk result (λ _. self.new.log.items ≡ self.old.log.items ++ (event, reply) ∷ []) }
         ensures stays { self.new ≡ record self.old { log = self.new.log } }
     {
@@ -166,6 +171,7 @@ impl Notes {
     /// This event of the group comes into a slot, by a call in the kernel's session of this number that gets it or not.
     fn takes_in(
         &mut self,
+        alloc: Global,
         slot: u8,
         session: u32,
         gets: bool,
@@ -177,7 +183,8 @@ impl Notes {
             → IfOk result (λ _. AreNoted self.new (has_called notes slot session gets event)) }
         ensures app { self.new.app ≡ self.old.app }
     {
-        self.lists(event, None)?;
+        let entry = Boxed::new(alloc, event)?;
+        self.lists(entry, None)?;
         if gets {
             self.adds(session)?;
         }
@@ -186,7 +193,13 @@ impl Notes {
     }
 
     /// A new call in the kernel's session of this number comes into a slot, and is noted where it is one of the group's.
-    pub(crate) fn comes_in(&mut self, slot: u8, session: u32, call: NewCall) -> Result<(), NoMemory>
+    pub(crate) fn comes_in(
+        &mut self,
+        alloc: Global,
+        slot: u8,
+        session: u32,
+        call: NewCall,
+    ) -> Result<(), NoMemory>
         requires slot { slot < 16 }
         requires few { HasNumbersLeft self.old }
         ensures noted { (notes : group.Notes) → AreNoted self.old notes
@@ -195,13 +208,13 @@ impl Notes {
     {
         let gets = gets_session(&call);
         match self.event_of(session, call) {
-            Some(event) => self.takes_in(slot, session, gets, event),
+            Some(event) => self.takes_in(alloc, slot, session, gets, event),
             None => Ok(()),
         }
     }
 
     /// The group's call of this number sees that it was cancelled, if it does.
-    fn sees(&mut self, number: u32, seen: Option<u128>) -> Result<(), NoMemory>
+    fn sees(&mut self, alloc: Global, number: u32, seen: Option<u128>) -> Result<(), NoMemory>
         ensures noted { (notes : group.Notes) → AreNoted self.old notes
             → IfOk result (λ _. AreNoted self.new (with_seen notes number seen)) }
         ensures app { self.new.app ≡ self.old.app }
@@ -211,13 +224,14 @@ impl Notes {
                 call: number,
                 steps,
             };
-            self.lists(event, None)?;
+            let entry = Boxed::new(alloc, event)?;
+            self.lists(entry, None)?;
         }
         Ok(())
     }
 
     /// The group's call of this number finds its instance gone, if it does, and pages for a new one or not.
-    fn finds(&mut self, number: u32, room: Option<bool>) -> Result<(), NoMemory>
+    fn finds(&mut self, alloc: Global, number: u32, room: Option<bool>) -> Result<(), NoMemory>
         ensures noted { (notes : group.Notes) → AreNoted self.old notes
             → IfOk result (λ _. AreNoted self.new (with_room notes number room)) }
         ensures app { self.new.app ≡ self.old.app }
@@ -227,13 +241,19 @@ impl Notes {
                 call: number,
                 enough,
             };
-            self.lists(event, None)?;
+            let entry = Boxed::new(alloc, event)?;
+            self.lists(entry, None)?;
         }
         Ok(())
     }
 
     /// The group's call of this number is given this, if it is given something.
-    fn gets(&mut self, number: u32, input: Option<BackInput>) -> Result<(), NoMemory>
+    fn gets(
+        &mut self,
+        alloc: Global,
+        number: u32,
+        input: Option<Boxed<BackInput>>,
+    ) -> Result<(), NoMemory>
         ensures noted { (notes : group.Notes) → AreNoted self.old notes
             → IfOk result (λ _. AreNoted self.new (with_input notes number input)) }
         ensures app { self.new.app ≡ self.old.app }
@@ -241,22 +261,28 @@ impl Notes {
         if let Some(input) = input {
             let event = GroupEvent::Back {
                 call: number,
-                input,
+                input: input.into_inner(),
             };
-            self.lists(event, None)?;
+            let entry = Boxed::new(alloc, event)?;
+            self.lists(entry, None)?;
         }
         Ok(())
     }
 
     /// The group's call of this number comes back.
-    pub(crate) fn comes_back(&mut self, number: u32, came: Resumed) -> Result<(), NoMemory>
+    pub(crate) fn comes_back(
+        &mut self,
+        alloc: Global,
+        number: u32,
+        came: Resumed,
+    ) -> Result<(), NoMemory>
         ensures noted { (notes : group.Notes) → AreNoted self.old notes
             → IfOk result (λ _. AreNoted self.new (with_resumed notes number came)) }
         ensures app { self.new.app ≡ self.old.app }
     {
-        self.sees(number, came.back.seen)?;
-        self.finds(number, came.room)?;
-        self.gets(number, came.back.input)
+        self.sees(alloc, number, came.back.seen)?;
+        self.finds(alloc, number, came.room)?;
+        self.gets(alloc, number, came.back.input)
     }
 
     /// The number of the call that the call in this slot wakes: that which was kept, or else that of the call in the slot
@@ -273,7 +299,7 @@ impl Notes {
     }
 
     /// The group's call of this number goes out with this reply, if something is told of it.
-    fn tells(&mut self, number: u32, told: Option<OwnReply>) -> Result<(), NoMemory>
+    fn tells(&mut self, alloc: Global, number: u32, told: Option<OwnReply>) -> Result<(), NoMemory>
         ensures log { IfOk result (λ _. self.new.log.items ≡ with_told self.old.log.items number told) }
         ensures stays { self.new ≡ record self.old { log = self.new.log } }
     {
@@ -282,7 +308,9 @@ impl Notes {
                 reply,
                 opened: None,
             };
-            self.lists(GroupEvent::Out { call: number }, Some(told))?;
+            let event = Boxed::new(alloc, GroupEvent::Out { call: number })?;
+            let reply = Boxed::new(alloc, told)?;
+            self.lists(event, Some(reply))?;
         }
         Ok(())
     }
@@ -302,7 +330,7 @@ impl Notes {
     {
         let woken = self.woken_in(slot, cont);
         let told = reply_of(alloc, cont, woken)?;
-        self.tells(number, told)?;
+        self.tells(alloc, number, told)?;
         self.numbering.with_wake(slot, woken);
         Ok(())
     }
@@ -321,10 +349,11 @@ impl Notes {
     /// this number or none.
     pub(crate) fn finishes(
         &mut self,
+        alloc: Global,
         slot: u8,
         number: u32,
         opened: Option<u32>,
-        ended: OwnReply,
+        ended: Boxed<OwnReply>,
     ) -> Result<(), NoMemory>
         requires { slot < 16 }
         ensures noted { (notes : group.Notes) (call : PendingCall) → AreNoted self.old notes
@@ -333,10 +362,12 @@ impl Notes {
         ensures app { self.new.app ≡ self.old.app }
     {
         let told = GroupReply {
-            reply: ended,
+            reply: ended.into_inner(),
             opened: self.number_of(opened),
         };
-        self.lists(GroupEvent::Out { call: number }, Some(told))?;
+        let event = Boxed::new(alloc, GroupEvent::Out { call: number })?;
+        let reply = Boxed::new(alloc, told)?;
+        self.lists(event, Some(reply))?;
         self.numbering.forget(slot);
         Ok(())
     }

@@ -22,6 +22,7 @@ use base::NoMemory;
 use kernel_entry::Visitor;
 use kernel_state::{Core, Errand, Processor, Ran, Tables};
 use smc_abi::{Answer, ETHREAD_LIMIT};
+use std::alloc::Global;
 
 /// What a processor that is inside came for.
 pub fn errand_of(processors: &[Processor], cpu: u8) -> Option<Errand>
@@ -93,20 +94,26 @@ fn has_come_new(notes: &mut Notes, slot: u8, came: NewEvent, ran: &Ran) -> Resul
 }
 
 /// Notes a call that has come back into its slot.
-fn has_come_back(notes: &mut Notes, slot: u8, back: Back) -> Result<(), NoMemory>
+fn has_come_back(alloc: Global, notes: &mut Notes, slot: u8, back: Back) -> Result<(), NoMemory>
     ensures noted { (kernel next : Kernel) (visitor : AnyVisitor) (reads : List AnyRead) (work : AnyWork)
         → HasArrivedIn kernel next visitor reads (Arrival.Back back) work slot
         → IsEntryNoted notes.old notes.new kernel next visitor reads result }
     ensures session { notes.new.session ≡ notes.old.session }
 {
     match notes.number_in(slot) {
-        Some(number) => notes.comes_back(number, back),
+        Some(number) => notes.comes_back(alloc, number, back),
         None => Ok(()),
     }
 }
 
 /// Notes what has come into a slot.
-fn has_come_for(notes: &mut Notes, slot: u8, arrival: Arrival, ran: &Ran) -> Result<(), NoMemory>
+fn has_come_for(
+    alloc: Global,
+    notes: &mut Notes,
+    slot: u8,
+    arrival: Arrival,
+    ran: &Ran,
+) -> Result<(), NoMemory>
     requires slot { slot < 16 }
     requires few { HasNumbersLeft notes.old }
     ensures noted { (kernel next : Kernel) (visitor : AnyVisitor) (reads : List AnyRead) (work : AnyWork) → IsRanOf work ran.now
@@ -116,13 +123,14 @@ fn has_come_for(notes: &mut Notes, slot: u8, arrival: Arrival, ran: &Ran) -> Res
 {
     match arrival {
         Arrival::New(came) => has_come_new(notes, slot, came, ran),
-        Arrival::Back(back) => has_come_back(notes, slot, back),
+        Arrival::Back(back) => has_come_back(alloc, notes, slot, back),
         Arrival::Nothing => Ok(()),
     }
 }
 
 /// Notes that a processor has come in, which goes out with this.
 pub(crate) fn has_come(
+    alloc: Global,
     notes: &mut Notes,
     core: &Core,
     visitor: Visitor,
@@ -143,7 +151,7 @@ pub(crate) fn has_come(
             has_come_answered(notes, &core.parts.tables, visitor, answer);
             Ok(())
         }
-        Some(Errand::InSlot(slot)) => has_come_for(notes, slot, arrival, ran),
+        Some(Errand::InSlot(slot)) => has_come_for(alloc, notes, slot, arrival, ran),
         None => unreachable!(),
     }
 }

@@ -49,7 +49,7 @@ fn goes_out_of(
     at_work.leave(cpu, lane);
     match (left_in(&at_work.core.parts.slots, slot), told) {
         (Some(cont), _) => notes.goes_out(alloc, slot, number, cont),
-        (None, Some(told)) => notes.finishes(slot, number, told),
+        (None, Some(told)) => notes.finishes(alloc, slot, number, told),
         (None, None) => unreachable!(),
     }
 }
@@ -70,7 +70,7 @@ pub(crate) fn goes_out(
         Some(Errand::InSlot(slot)) => goes_out_of(alloc, at_work, slot, cpu, lane, notes),
         Some(Errand::Fixed(_)) => {
             at_work.leave(cpu, lane);
-            notes.goes_out_answered(cpu)
+            notes.goes_out_answered(alloc, cpu)
         }
         None => unreachable!(),
     }

@@ -15,7 +15,7 @@ ghost use Rattle.own_model.specs.Own.{noted, own_app};
 
 use crate::doing::does;
 use crate::notes::Notes;
-use crate::session_log::Logged;
+use crate::session_log::{Logged, Noted};
 use base::NoMemory;
 use event_journal::Event;
 use journal_replay::Replay;
@@ -33,12 +33,23 @@ pub struct LogReader {
     pub(crate) notes: Notes,
 }
 
+/// The entry itself.
+fn logged_of(noted: Noted) -> Logged
+    ensures { result ≡ noted }
+{
+    let (event, reply) = noted;
+    match reply {
+        Some(reply) => (event.into_inner(), Some(reply.into_inner())),
+        None => (event.into_inner(), None),
+    }
+}
+
 /// Adds what is new to a log.
-fn add_all(log: &mut Vec<Logged>, news: Vec<Logged>) -> Result<(), NoMemory>
+fn add_all(log: &mut Vec<Logged>, news: Vec<Noted>) -> Result<(), NoMemory>
     ensures { IfOk result (λ _. log.new.items ≡ log.old.items ++ news.items) }
 {
-    for logged in news {
-        log.push(logged)?;
+    for noted in news {
+        log.push(logged_of(noted))?;
     }
     Ok(())
 }
@@ -72,7 +83,7 @@ impl LogReader {
 
     /// Reads an event: what it adds to the session's log; `None` where it can't have come next. After that, and after want of
     /// memory, the reader is of no further use.
-    pub fn reads(&mut self, alloc: Global, event: &Event) -> Result<Option<Vec<Logged>>, NoMemory>
+    pub fn reads(&mut self, alloc: Global, event: &Event) -> Result<Option<Vec<Noted>>, NoMemory>
         requires reading { IsReading self.old }
         requires few { copied_bytes (events_of self.old ++ event.now ∷ []) ≤ 2 ^ 28 }
         ensures { Reads self.old self.new event.now result }

@@ -10,8 +10,9 @@ ghost use Rattle.own_model.specs.Own as own;
 use crate::entering::NewEvent;
 use crate::leaving::{reply_of, wakes};
 use crate::numbering::Numbering;
-use crate::session_log::Logged;
+use crate::session_log::Noted;
 use base::NoMemory;
+use boxed::Boxed;
 use frame_pool::Pages;
 use own_model::{BackInput, OwnEvent, OwnReply};
 use rpc_cont::Cont;
@@ -28,7 +29,7 @@ pub struct Back {
     /// The steps that it had done, where it sees only now that it was cancelled.
     pub seen: Option<u128>,
     /// What it is given. None of a call that was interrupted, which had asked for nothing.
-    pub input: Option<BackInput>,
+    pub input: Option<Boxed<BackInput>>,
 }
 
 /// What is noted of a session.
@@ -41,7 +42,7 @@ pub(crate) struct Notes {
     /// By its number, whether a processor is inside whose new call, of the session's client, found no slot while the
     /// session was there.
     turned_away: [bool; MOST_CPUS],
-    log: Vec<Logged>,
+    log: Vec<Noted>,
 }
 
 impl Notes {
@@ -67,7 +68,7 @@ impl Notes {
     }
 
     /// Takes what was listed so far.
-    pub(crate) fn take_log(&mut self, alloc: Global) -> Vec<Logged>
+    pub(crate) fn take_log(&mut self, alloc: Global) -> Vec<Noted>
         ensures log { result.items ≡ self.old.log.items }
         ensures taken { self.new.log.items ≡ [] }
         ensures stays { self.new ≡ record self.old { log = self.new.log } }
@@ -83,7 +84,11 @@ impl Notes {
     }
 
     /// Lists an event of the session, with its reply, if it has one.
-    fn lists(&mut self, event: OwnEvent, reply: Option<OwnReply>) -> Result<(), NoMemory>
+    fn lists(
+        &mut self,
+        event: Boxed<OwnEvent>,
+        reply: Option<Boxed<OwnReply>>,
+    ) -> Result<(), NoMemory>
         ensures log { IfOk result (λ _. self.new.log.items ≡ self.old.log.items ++ (event, reply) ∷ []) }
         ensures stays { self.new ≡ record self.old { log = self.new.log } }
     {
@@ -107,7 +112,12 @@ impl Notes {
     }
 
     /// The session's call of this number comes back.
-    pub(crate) fn comes_back(&mut self, number: u32, back: Back) -> Result<(), NoMemory>
+    pub(crate) fn comes_back(
+        &mut self,
+        alloc: Global,
+        number: u32,
+        back: Back,
+    ) -> Result<(), NoMemory>
         ensures noted { (notes : own.Notes) → AreNoted self.old notes
             → IfOk result (λ _. AreNoted self.new (with_back notes number back.seen back.input)) }
         ensures session { self.new.session ≡ self.old.session }
@@ -117,18 +127,18 @@ impl Notes {
                 call: number,
                 steps,
             };
-            self.lists(seen, None)?;
+            let event = Boxed::new(alloc, seen)?;
+            self.lists(event, None)?;
         }
-        match back.input {
-            Some(input) => self.lists(
-                OwnEvent::Back {
-                    call: number,
-                    input,
-                },
-                None,
-            ),
-            None => Ok(()),
+        if let Some(input) = back.input {
+            let came = OwnEvent::Back {
+                call: number,
+                input: input.into_inner(),
+            };
+            let event = Boxed::new(alloc, came)?;
+            self.lists(event, None)?;
         }
+        Ok(())
     }
 
     /// A processor comes in with a call of the session's client, and is turned away.
@@ -141,7 +151,7 @@ impl Notes {
     }
 
     /// A processor whose answer was fixed goes out.
-    pub(crate) fn goes_out_answered(&mut self, cpu: u8) -> Result<(), NoMemory>
+    pub(crate) fn goes_out_answered(&mut self, alloc: Global, cpu: u8) -> Result<(), NoMemory>
         requires { cpu < 8 }
         ensures noted { (notes : own.Notes) → AreNoted self.old notes
             → IfOk result (λ _. AreNoted self.new (own.limit_noted notes cpu)) }
@@ -149,7 +159,9 @@ impl Notes {
     {
         if self.turned_away[usize::from(cpu)] {
             self.turned_away[usize::from(cpu)] = false;
-            self.lists(OwnEvent::Limited, Some(OwnReply::Limited))?;
+            let event = Boxed::new(alloc, OwnEvent::Limited)?;
+            let reply = Boxed::new(alloc, OwnReply::Limited)?;
+            self.lists(event, Some(reply))?;
         }
         Ok(())
     }
@@ -168,12 +180,14 @@ impl Notes {
     }
 
     /// The session's call of this number goes out with this reply, if something is told of it.
-    fn tells(&mut self, number: u32, told: Option<OwnReply>) -> Result<(), NoMemory>
+    fn tells(&mut self, alloc: Global, number: u32, told: Option<OwnReply>) -> Result<(), NoMemory>
         ensures log { IfOk result (λ _. self.new.log.items ≡ with_told self.old.log.items number told) }
         ensures stays { self.new ≡ record self.old { log = self.new.log } }
     {
         if let Some(reply) = told {
-            self.lists(OwnEvent::Out { call: number }, Some(reply))?;
+            let event = Boxed::new(alloc, OwnEvent::Out { call: number })?;
+            let reply = Boxed::new(alloc, reply)?;
+            self.lists(event, Some(reply))?;
         }
         Ok(())
     }
@@ -193,7 +207,7 @@ impl Notes {
     {
         let woken = self.woken_in(slot, cont);
         let told = reply_of(alloc, cont, woken)?;
-        self.tells(number, told)?;
+        self.tells(alloc, number, told)?;
         self.numbering.with_wake(slot, woken);
         Ok(())
     }
@@ -201,16 +215,18 @@ impl Notes {
     /// The session's call of this number goes out of its slot ended, with this reply.
     pub(crate) fn finishes(
         &mut self,
+        alloc: Global,
         slot: u8,
         number: u32,
-        ended: OwnReply,
+        ended: Boxed<OwnReply>,
     ) -> Result<(), NoMemory>
         requires { slot < 16 }
         ensures noted { (notes : own.Notes) (call : PendingCall) → AreNoted self.old notes → HasFinished slot call ended
             → IfOk result (λ _. AreNoted self.new (own.exit_noted notes slot call number)) }
         ensures session { self.new.session ≡ self.old.session }
     {
-        self.lists(OwnEvent::Out { call: number }, Some(ended))?;
+        let event = Boxed::new(alloc, OwnEvent::Out { call: number })?;
+        self.lists(event, Some(ended))?;
         self.numbering.forget(slot);
         Ok(())
     }

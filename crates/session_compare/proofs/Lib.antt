@@ -1,4 +1,3 @@
 pub mod Comparisons
-pub mod Differences
 pub mod ReadBoth
 pub mod Logs

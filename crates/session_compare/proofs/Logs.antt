@@ -10,31 +10,16 @@ use Rattle.compare_model.specs.declared.compared.Compared.{Compared}
 use Rattle.compare_model.specs.declared.compared.Compared.TheVariants.{Absent, Events, Illegal, Other, Same}
 use Rattle.compare_model.specs.declared.subject.Subject.{Subject}
 use Rattle.compare_model.specs.declared.subject.Subject.TheVariants.{Group, Session}
-use Rattle.audit_model.proofs.Prefixes.{prefixes_can_be}
-use Rattle.event_journal.specs.declared.event.Event.{Event}
-use Rattle.instance_groups.specs.Journals.{log_by}
-use Rattle.instance_groups.specs.declared.group_log.GroupLog.{GroupLog}
-use Rattle.isolation.specs.Journals.{IsJournal}
-use Rattle.journal_bytes.specs.declared.reading.ReadJournal.{ReadJournal}
+use Rattle.group_model.specs.Read as group
 use Rattle.group_model.specs.Read.{group_events, group_replies}
-use Rattle.kernel_model.specs.Application.{Application, Booted, Native, booted}
-use Rattle.kernel_model.specs.Instances.{app_of}
+use Rattle.kernel_model.specs.Application.{Application}
+use Rattle.kernel_model.specs.Instances.{app_of, is_single}
 use Rattle.kernel_state.specs.Setup.{application_of}
 use Rattle.kernel_state.specs.declared.setup.Application.{Application as AnyApplication}
 use Rattle.own_model.specs.Own.{Logged}
 use Rattle.session_compare.specs.Logs.{AreGroupLogsOf, AreLogsOf, AreToldApart, IsShownBy, events_in, replies_in}
 use Rattle.session_compare.specs.Comparisons.{Compares, ShowsEvents}
-use Rattle.session_compare.specs.Pairs.{CanBeCompared, CanBeRead}
 use Rattle.session_compare.specs.declared.differing.Comparison.{Comparison}
-
--- ---- a journal that can be
-
--- what `own_log` and `read_group_log` ask of it
-pub journal_of : (natives : List Native) (read : ReadJournal) → CanBeCompared natives read → CanBeRead natives read
-    → IsJournal (booted read.boot natives) read.journal.events
-journal_of natives read so can =
-    let is = prefixes_can_be (booted read.boot natives) read.journal.events can in
-    record { legal = is.legal; few = so.few; agree = is.steady }
 
 -- ---- a journal that can't be
 
@@ -135,50 +120,69 @@ module _ (pair : Pair) (session : ℕ) (app other kept other_kept : Option AnyAp
 
 -- ---- groups
 
--- the events of what is noted by an application, and the replies
-events_by : (boot : Booted) (history : List Event) (app : Option Application)
-    → option_map_or (group_events boot history) app [] ≡ events_in (log_by boot history app)
-events_by boot history None = refl
-events_by boot history (Some app) = refl
-
-replies_by : (boot : Booted) (history : List Event) (app : Option Application)
-    → option_map_or (group_replies boot history) app [] ≡ replies_in (log_by boot history app)
-replies_by boot history None = refl
-replies_by boot history (Some app) = refl
-
-module _ (pair : Pair) (uuid : List ℕ) (one two : GroupLog) (are : AreGroupLogsOf pair uuid one two) (app other : Option AnyApplication)
-    (kept : option_and_then if_shared (option_map application_of one.app) ≡ option_map application_of app)
-    (kept_too : option_and_then if_shared (option_map application_of two.app) ≡ option_map application_of other) where
-  one_grouped : IsLoggedAs (group_in pair uuid pair.one) app one.entries.items
+module _ (pair : Pair) (uuid : List ℕ) (app other : AnyApplication) (kept other_kept : Option AnyApplication) (one two : List group.Logged)
+    (are : AreGroupLogsOf pair uuid app other one two)
+    (shared : option_and_then if_shared (option_map application_of (Some app)) ≡ option_map application_of kept)
+    (shared_too : option_and_then if_shared (option_map application_of (Some other)) ≡ option_map application_of other_kept) where
+  one_grouped : IsLoggedAs (group_in pair uuid pair.one) kept one
   one_grouped =
       let core = core_of pair pair.one in
       record {
-        app_is = ap (λ (o : Option Application). option_and_then if_shared o) are.in_one.app ∙ kept;
-        events_are = events_by core pair.one.events (app_of core uuid) ∙ sym (ap events_in are.in_one.entries);
-        replies_are = replies_by core pair.one.events (app_of core uuid) ∙ sym (ap replies_in are.in_one.entries);
+        app_is = ap (λ (o : Option Application). option_and_then if_shared o) are.app_one ∙ shared;
+        events_are = ap (λ (o : Option Application). option_map_or (group_events core pair.one.events) o []) are.app_one
+            ∙ sym (ap events_in are.log_one);
+        replies_are = ap (λ (o : Option Application). option_map_or (group_replies core pair.one.events) o []) are.app_one
+            ∙ sym (ap replies_in are.log_one);
       }
 
-  two_grouped : IsLoggedAs (group_in pair uuid pair.two) other two.entries.items
+  two_grouped : IsLoggedAs (group_in pair uuid pair.two) other_kept two
   two_grouped =
       let core = core_of pair pair.two in
       record {
-        app_is = ap (λ (o : Option Application). option_and_then if_shared o) are.in_two.app ∙ kept_too;
-        events_are = events_by core pair.two.events (app_of core uuid) ∙ sym (ap events_in are.in_two.entries);
-        replies_are = replies_by core pair.two.events (app_of core uuid) ∙ sym (ap replies_in are.in_two.entries);
+        app_is = ap (λ (o : Option Application). option_and_then if_shared o) are.app_two ∙ shared_too;
+        events_are = ap (λ (o : Option Application). option_map_or (group_events core pair.two.events) o []) are.app_two
+            ∙ sym (ap events_in are.log_two);
+        replies_are = ap (λ (o : Option Application). option_map_or (group_replies core pair.two.events) o []) are.app_two
+            ∙ sym (ap replies_in are.log_two);
       }
 
   pub groups_apart : (told : Compared)
-      → AreToldApart pair (option_map application_of app) (option_map application_of other) (Some told)
+      → AreToldApart pair (option_map application_of kept) (option_map application_of other_kept) (Some told)
       → IsComparedAs pair (Group uuid) told
   groups_apart told is =
-      shown_apart pair (group_in pair uuid pair.one) (group_in pair uuid pair.two) are.can_be app other one.entries.items two.entries.items
+      shown_apart pair (group_in pair uuid pair.one) (group_in pair uuid pair.two) are.can_be kept other_kept one two
       one_grouped two_grouped told is
 
-  pub groups_alike : AreToldApart pair (option_map application_of app) (option_map application_of other) None → (told : Compared)
-      → IsShownBy one.entries.items two.entries.items told → IsComparedAs pair (Group uuid) told
+  pub groups_alike : AreToldApart pair (option_map application_of kept) (option_map application_of other_kept) None → (told : Compared)
+      → IsShownBy one two told → IsComparedAs pair (Group uuid) told
   groups_alike same told is =
-      shown_alike pair (group_in pair uuid pair.one) (group_in pair uuid pair.two) are.can_be app other one.entries.items two.entries.items
+      shown_alike pair (group_in pair uuid pair.one) (group_in pair uuid pair.two) are.can_be kept other_kept one two
       one_grouped two_grouped same told is
+
+-- the group isn't there
+pub absent_in_one : (pair : Pair) (uuid : List ℕ) → app_of (core_of pair pair.one) uuid ≡ None → CanBeBoth pair
+    → IsComparedAs pair (Group uuid) (Absent 1)
+absent_in_one pair uuid none can = (can, inl (refl, ap (λ (o : Option Application). option_and_then if_shared o) none))
+
+pub absent_in_two : (pair : Pair) (uuid : List ℕ) (app : Application) → app_of (core_of pair pair.one) uuid ≡ Some app
+    → app_of (core_of pair pair.two) uuid ≡ None → CanBeBoth pair
+    → IsComparedAs pair (Group uuid) (Absent (if is_single app then 2 else 1))
+absent_in_two pair uuid app there none can = (can, by (is_single app) refl)
+  where
+    by : (single : Bool) → is_single app ≡ single
+        → IsAbsentIn (option_and_then if_shared (app_of (core_of pair pair.one) uuid)) (option_and_then if_shared (app_of (core_of pair pair.two) uuid))
+        (if single then 2 else 1)
+    by true is = inr (
+      refl,
+      subst IsSome (sym (ap (λ (o : Option Application). option_and_then if_shared o) there
+          ∙ ap (λ (b : Bool). let o : Option Application = if b then Some app else None in o) is)) refl,
+      ap (λ (o : Option Application). option_and_then if_shared o) none,
+    )
+    by false is = inl (
+      refl,
+      ap (λ (o : Option Application). option_and_then if_shared o) there
+          ∙ ap (λ (b : Bool). let o : Option Application = if b then Some app else None in o) is,
+    )
 
 -- ---- a comparison that was made as the logs were read
 

@@ -2,4 +2,5 @@ pub mod Pairs
 pub mod Logs
 pub mod Comparisons
 pub mod Sessions
+pub mod Groups
 pub mod Examples

@@ -4,10 +4,9 @@ use Rattle.std.specs.Option.{option_map}
 use Rattle.compare_model.specs.Comparing.{AreOfOne, AreOfTwo, CanBeBoth, DifferFirstAt, IsAbsentIn, Pair, core_of}
 use Rattle.compare_model.specs.declared.compared.Compared.{Compared}
 use Rattle.compare_model.specs.declared.compared.Compared.TheVariants.{Absent, Events, Other, Same}
-use Rattle.instance_groups.specs.Journals.{IsLogOf as IsGroupLogOf}
-use Rattle.instance_groups.specs.declared.group_log.GroupLog.{GroupLog}
-use Rattle.journal_bytes.specs.declared.reading.ReadJournal.{ReadJournal}
-use Rattle.kernel_model.specs.Application.{Application, Native, booted}
+use Rattle.group_model.specs.Read as group
+use Rattle.kernel_model.specs.Application.{Application}
+use Rattle.kernel_model.specs.Instances.{app_of}
 use Rattle.kernel_state.specs.Setup.{application_of}
 use Rattle.kernel_state.specs.declared.setup.Application.{Application as AnyApplication}
 use Rattle.own_model.specs.Own.{Logged, noted, own_app}
@@ -29,15 +28,13 @@ pub record AreLogsOf (pair : Pair) (session : ℕ) (app other : Option AnyApplic
   pub log_one : one ≡ (noted (core_of pair pair.one) pair.one.events session).log
   pub log_two : two ≡ (noted (core_of pair pair.two) pair.two.events session).log
 
--- the log is that of the sessions of this UUID's application in the journal
-abbrev pub IsGroupLogIn : List Native → ReadJournal → List ℕ → GroupLog → Type 0
-IsGroupLogIn natives read uuid log = IsGroupLogOf (booted read.boot natives) read.journal.events uuid log
-
--- both journals can be, and the logs are those of its sessions in them
-pub record AreGroupLogsOf (pair : Pair) (uuid : List ℕ) (one two : GroupLog) : Type 0 where
+-- both journals can be, and these are the applications of this UUID in them, and the logs of their sessions
+pub record AreGroupLogsOf (pair : Pair) (uuid : List ℕ) (app other : AnyApplication) (one two : List group.Logged) : Type 0 where
   pub can_be : CanBeBoth pair
-  pub in_one : IsGroupLogOf (core_of pair pair.one) pair.one.events uuid one
-  pub in_two : IsGroupLogOf (core_of pair pair.two) pair.two.events uuid two
+  pub app_one : app_of (core_of pair pair.one) uuid ≡ Some (application_of app)
+  pub app_two : app_of (core_of pair pair.two) uuid ≡ Some (application_of other)
+  pub log_one : one ≡ (group.noted (core_of pair pair.one) pair.one.events (application_of app)).log
+  pub log_two : two ≡ (group.noted (core_of pair pair.two) pair.two.events (application_of other)).log
 
 -- ---- what they show
 

@@ -1,11 +1,10 @@
 -- Two journals that were read, as a pair that is compared.
 use Rattle.std.specs.Prelude.{◌≤◌, ◌^◌, List}
 use Rattle.audit.specs.Laws.{CanBeCheckedBeside}
-use Rattle.audit_model.specs.Verdicts.{CanBegin}
 use Rattle.compare_model.specs.Comparing.{Journaled, Pair}
 use Rattle.event_journal.specs.Journal.{copied_bytes}
 use Rattle.journal_bytes.specs.declared.reading.ReadJournal.{ReadJournal}
-use Rattle.kernel_model.specs.Application.{Native, booted}
+use Rattle.kernel_model.specs.Application.{Native}
 
 -- a journal that was read can be compared, beside these applications that are built in: its boot can be checked beside these, and
 -- its events have copied at most 2^28 bytes
@@ -18,7 +17,3 @@ journaled read = record { boot = read.boot; events = read.journal.events }
 
 abbrev pub pair_of : List Native → ReadJournal → ReadJournal → Pair
 pair_of natives one two = record { one = journaled one; two = journaled two; natives = natives }
-
--- a legal and steady history begins with its events
-abbrev pub CanBeRead : List Native → ReadJournal → Type 0
-CanBeRead natives read = CanBegin (booted read.boot natives) read.journal.events

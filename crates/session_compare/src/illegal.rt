@@ -1,6 +1,6 @@
-//! Two journals of which the second can't be.
+//! Two journals of which one can't be, or has no group to compare.
 ghost use Rattle.std.specs.Prelude.{IfOk};
-ghost use Rattle.compare_model.specs.Comparing.{IsComparedAs};
+ghost use Rattle.compare_model.specs.Comparing.{CanBeBoth, IsComparedAs};
 ghost use Rattle.compare_model.specs.declared.subject.Subject.{Subject as AnySubject};
 ghost use Rattle.audit_model.specs.Verdicts.{IsIllegalAt};
 ghost use Rattle.journal_bytes.specs.declared.reading.ReadJournal.{ReadJournal as AnyReadJournal};
@@ -31,5 +31,30 @@ pub(crate) fn illegal_two(
     match verdict {
         Verdict::Legal => Ok(Compared::Illegal { journal: 2, at }),
         Verdict::Illegal(at) => Ok(Compared::Illegal { journal: 1, at }),
+    }
+}
+
+/// Tells this, where it holds of two journals that can be; or which of them can't.
+pub(crate) fn unless_illegal(
+    alloc: Global,
+    one: &ReadJournal,
+    two: &ReadJournal,
+    natives: &Natives,
+    told: Compared,
+) -> Result<Compared, NoMemory>
+    requires one { CanBeCompared (entries natives.now) one.now }
+    requires two { CanBeCompared (entries natives.now) two.now }
+    ensures { (subject : AnySubject) → (CanBeBoth (pair_of (entries natives.now) one.now two.now)
+        → IsComparedAs (pair_of (entries natives.now) one.now two.now) subject told)
+        → IfOk result (IsComparedAs (pair_of (entries natives.now) one.now two.now) subject) }
+{
+    let verdict = check(alloc, &one.boot, natives, &one.journal)?;
+    let other = check(alloc, &two.boot, natives, &two.journal)?;
+    match verdict {
+        Verdict::Illegal(at) => Ok(Compared::Illegal { journal: 1, at }),
+        Verdict::Legal => match other {
+            Verdict::Illegal(at) => Ok(Compared::Illegal { journal: 2, at }),
+            Verdict::Legal => Ok(told),
+        },
     }
 }

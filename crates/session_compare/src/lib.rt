@@ -1,12 +1,11 @@
 //! What two journals show of a session, or of the sessions that share one instance: whether the same happened to it in both, or
 //! where that first differs.
 //!
-//! For a session each journal is done again once, which checks it and reads the log off it, and the two logs are compared as they are read:
-//! the second journal is read on while the first log is ahead, and of both only what the other lacks is kept. For a group each journal is
-//! checked, and then done again once for the whole log. `comparing` has the calls, `sessions` and `groups` read the logs, `differing` and
-//! `whole_logs` compare them, `apart` says what the two applications alone show, and `illegal` what is told where the second journal can't
-//! be. `same_events`, `same_group_events`, `same_inputs`, `same_params` and `same_apps` say when two events, what came with
-//! them, parameters and applications are the same.
+//! Each journal is done again once, which checks it and reads the log of the session or of the group off it. The two logs are compared
+//! as they are read: the second journal is read on while the first log is ahead, and of both only what the other lacks is kept.
+//! `comparing` has the calls, `sessions` and `groups` read the logs, `differing` compares them, `apart` says what the two applications
+//! alone show, and `illegal` what is told of journals that can't be. `same_events`, `same_group_events`, `same_inputs`, `same_params`
+//! and `same_apps` say when two events, what came with them, parameters and applications are the same.
 #![tactic(auto)]
 
 mod apart;
@@ -21,7 +20,6 @@ mod same_group_events;
 mod same_inputs;
 mod same_params;
 mod sessions;
-mod whole_logs;
 
 pub use base::NoMemory;
 pub use compare_model::{Compared, Subject};

@@ -5,6 +5,7 @@ ghost use Rattle.own_model.specs.declared.own_event.OwnEvent.TheVariants.{Back, 
 use crate::differing::SameEvent;
 use crate::same_inputs::{is_same_back, is_same_input};
 use crate::same_params::{are_same_params, is_same_login};
+use boxed::Boxed;
 use own_model::{BackInput, OwnEvent, OwnInput};
 use ta_params::{CopiedParams, Login};
 
@@ -102,8 +103,8 @@ fn is_same_event(one: &OwnEvent, other: &OwnEvent) -> bool
     }
 }
 
-impl SameEvent for OwnEvent {
-    fn is_same(&self, other: &OwnEvent) -> bool {
-        is_same_event(self, other)
+impl SameEvent for Boxed<OwnEvent> {
+    fn is_same(&self, other: &Boxed<OwnEvent>) -> bool {
+        is_same_event(self.get(), other.get())
     }
 }

@@ -5,6 +5,7 @@ ghost use Rattle.group_model.specs.declared.group_event.GroupEvent.TheVariants.{
 use crate::differing::SameEvent;
 use crate::same_inputs::{is_same_back, is_same_input};
 use crate::same_params::is_same_login;
+use boxed::Boxed;
 use instance_groups::GroupEvent;
 use own_model::{BackInput, OwnInput};
 use ta_params::Login;
@@ -147,8 +148,8 @@ fn is_same_event(one: &GroupEvent, other: &GroupEvent) -> bool
     }
 }
 
-impl SameEvent for GroupEvent {
-    fn is_same(&self, other: &GroupEvent) -> bool {
-        is_same_event(self, other)
+impl SameEvent for Boxed<GroupEvent> {
+    fn is_same(&self, other: &Boxed<GroupEvent>) -> bool {
+        is_same_event(self.get(), other.get())
     }
 }

@@ -16,6 +16,7 @@ use crate::differing::{Comparison, add_first, add_second};
 use crate::illegal::illegal_two;
 use crate::same_apps::unless_shared;
 use base::NoMemory;
+use boxed::Boxed;
 use compare_model::Compared;
 use event_journal::Event;
 use isolation::{LogReader, OwnEvent};
@@ -37,7 +38,7 @@ pub(crate) enum CaughtUp {
 #[derive(Drop)]
 pub(crate) enum ReadSo {
     /// Both were read, and their logs compare so.
-    Whole(Comparison<OwnEvent>),
+    Whole(Comparison<Boxed<OwnEvent>>),
     /// The event of this number can't be in the first.
     FirstEnds(u64),
     /// The event of this number can't be in the second.
@@ -50,7 +51,7 @@ fn catch_up(
     second: &mut LogReader,
     others: &[Event],
     next: usize,
-    comparison: &mut Comparison<OwnEvent>,
+    comparison: &mut Comparison<Boxed<OwnEvent>>,
     to_the_end: bool,
 ) -> Result<CaughtUp, NoMemory>
     requires reading { IsReadingOf (boot_of second.old) (take next others.now) second.old.notes.session second.old }
@@ -116,7 +117,7 @@ fn compare_logs(
     app: Option<Application>,
     other: Option<Application>,
     one_key: bool,
-    comparison: &Comparison<OwnEvent>,
+    comparison: &Comparison<Boxed<OwnEvent>>,
 ) -> Compared
     ensures { (pair : Pair) (session : ℕ) (one two : List Logged) → AreLogsOf pair session app other one two
         → Compares comparison.now one two → (IsTrue one_key ↔ (pair.one.boot.key ≡ pair.two.boot.key))

@@ -1,5 +1,5 @@
 use Rattle.std.proofs.Common.{◌≡◌, ◌++◌}
 use Rattle.instance_groups.proofs.log_reader.add_all.Given as goal
 
-abbrev pub invariant-loop-logged : goal.invariant-loop-logged
-invariant-loop-logged l = l.log.items ≡ l.fn.log.items ++ l.yielded
+abbrev pub invariant-loop-noted : goal.invariant-loop-noted
+invariant-loop-noted l = l.log.items ≡ l.fn.log.items ++ l.yielded

@@ -15,9 +15,9 @@ back_in-requires c =
 pub returns-in-Some : goal.returns-in-Some
 returns-in-Some c kernel stands =
     back_comes c.args.core.now.parts kernel c.args.regs.now.a c.args.lane.now c.decide.new.reads c.in-Some.decided
-    c.back_in.result stands
+    c.in_ok-back-in-Some.back stands
     (rw (c.in-Some.is, c.new-reads.ensures) at
-    (c.in_ok-call.ensures.ok c.args.core.now.parts.cancellations.items kernel.slots stands.slots)) c.back_in.ensures
+    (c.in_ok-call.ensures.ok c.args.core.now.parts.cancellations.items kernel.slots stands.slots)) c.in_ok-back-in-Some.ensures
 
 pub returns : goal.returns
 returns c kernel stands =

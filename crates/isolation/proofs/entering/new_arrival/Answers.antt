@@ -10,6 +10,6 @@ new_call-requires-clause-apps c = have_apps c.args.core.now.parts c.args.core.no
 
 pub returns : goal.returns
 returns c kernel stands =
-    rw c.arrival_by.ensures (new_arrives c.args.core.now.parts kernel c.args.regs.now.a c.args.lane.now c.new_call.new.reads
+    rw c.in_ok-arrival.ensures (new_arrives c.args.core.now.parts kernel c.args.regs.now.a c.args.lane.now c.new_call.new.reads
     c.in_ok-decided.decided c.lowest_free-free.result c.lowest_free-free.ensures.slot c.in_ok-decided.ensures.slot
     c.in_ok-decided.ensures.can_apply stands (rw c.new-reads.ensures at c.in_ok-decided.ensures.decides))

@@ -20,12 +20,12 @@ returns-clause-noted c notes are =
           (ap (λ (n : Notes). n.sessions.entries) w.self-is ∙ w.in_ok-adds.ensures.sessions
           ∙ ap (λ (n : Notes). insert n.sessions.entries c.args.session n.next_session) lists)
           (ap (λ (n : Notes). n.next_session) w.self-is ∙ w.in_ok-adds.ensures.next ∙ ap (λ (n : Notes). n.next_session + 1) lists)
-          (ap (λ (n : Notes). n.log.items) w.self-is ∙ ap (λ (n : Notes). n.log.items) adds ∙ c.in_ok-lists.ensures.log))
+          (ap (λ (n : Notes). n.log.items) w.self-is ∙ ap (λ (n : Notes). n.log.items) adds ∙ (rw c.in_ok-entry.ensures at c.in_ok-lists.ensures.log)))
       | else-gets w ↦
           (let numbering = ap (λ (n : Notes). n.numbering) w.self-is ∙ ap (λ (n : Notes). n.numbering) lists in
           call_listed c.args.self.now _ notes are c.args.slot c.args.session c.args.gets c.args.event w.if-gets.false
           (c.next_in.ensures notes.numbering (subst (λ (n : Numbering). AreNumbers n notes.numbering) (sym numbering) are.numbering))
           (ap (λ (n : Notes). n.sessions.entries) w.self-is ∙ ap (λ (n : Notes). n.sessions.entries) lists)
           (ap (λ (n : Notes). n.next_session) w.self-is ∙ ap (λ (n : Notes). n.next_session) lists)
-          (ap (λ (n : Notes). n.log.items) w.self-is ∙ c.in_ok-lists.ensures.log))
+          (ap (λ (n : Notes). n.log.items) w.self-is ∙ (rw c.in_ok-entry.ensures at c.in_ok-lists.ensures.log)))
     ]

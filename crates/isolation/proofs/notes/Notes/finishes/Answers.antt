@@ -11,4 +11,4 @@ returns-clause-noted c notes call are is =
     finished_noted c.args.self.now _ notes are c.args.slot c.args.number call c.args.ended is
     (c.forget.ensures notes.numbering
     (subst (λ (n : Numbering). AreNumbers n notes.numbering) (sym (ap (λ (n : Notes). n.numbering) stays)) are.numbering))
-    c.in_ok-lists.ensures.log (ap (λ (n : Notes). n.turned_away) stays) (ap (λ (n : Notes). n.uuid) stays)
+    (rw c.in_ok-event.ensures at c.in_ok-lists.ensures.log) (ap (λ (n : Notes). n.turned_away) stays) (ap (λ (n : Notes). n.uuid) stays)

@@ -15,7 +15,7 @@ returns-in_ok-lists-clause-noted c notes are =
     ∙ ap (λ (b : Bool). Some b) (ap (λ (n : ℕ). get_or old.turned_away n false) (sym c.from.ensures) ∙ c.if-self-from.true))
     (ap (λ (n : Notes). n.numbering) stays)
     (ap (λ (n : Notes). n.turned_away) stays ∙ ap (λ (n : ℕ). slice_set old.turned_away n false) c.from-then-self-from.ensures)
-    c.in_ok-lists.ensures.log (ap (λ (n : Notes). n.uuid) stays)
+    (rw (c.in_ok-event.ensures, c.in_ok-reply.ensures) at c.in_ok-lists.ensures.log) (ap (λ (n : Notes). n.uuid) stays)
 
 pub returns-else-self-from-clause-noted : goal.returns-else-self-from-clause-noted
 returns-else-self-from-clause-noted c notes are =
