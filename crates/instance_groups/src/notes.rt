@@ -5,11 +5,9 @@ ghost use Rattle.std.specs.Option.{option_and_then};
 ghost use Rattle.instance_groups.specs.Arriving.{event_as, event_in, gets_session};
 ghost use Rattle.instance_groups.specs.Noted.{AreNoted, HasFinishedAs, HasNumbersLeft, called_as, has_called, with_input, with_resumed, with_room, with_seen, with_told};
 ghost use Rattle.isolation.specs.Noted.{IsLeft};
-ghost use Rattle.isolation.specs.Telling.{wakes_as};
 ghost use Rattle.group_model.specs.Read as group;
 ghost use Rattle.kernel_model.specs.Kernel.{PendingCall};
 ghost use Rattle.kernel_state.specs.Setup.{application_of};
-ghost use Rattle.own_model.specs.Own.{wake_kept};
 
 use crate::arriving::{NewCall, Resumed, SessionCall};
 use crate::group_log::Noted;
@@ -17,7 +15,7 @@ use base::NoMemory;
 use boxed::Boxed;
 use frame_pool::Pages;
 use group_model::{GroupEvent, GroupReply};
-use isolation::{Numbering, reply_of, wakes};
+use isolation::{Numbering, reply_of, wake_of};
 use kernel_state::Application;
 use own_model::{BackInput, OwnReply};
 use rpc_cont::Cont;
@@ -285,19 +283,6 @@ impl Notes {
         self.gets(alloc, number, came.back.input)
     }
 
-    /// The number of the call that the call in this slot wakes: that which was kept, or else that of the call in the slot
-    /// now.
-    fn woken_in(&self, slot: u8, cont: &Cont<Pages>) -> Option<u32>
-        ensures { (notes : group.Notes) → AreNoted self.now notes
-            → result ≡ wake_kept notes.numbering slot (wakes_as cont.now) }
-    {
-        let woken = wakes(cont)?;
-        match self.numbering.woken_by(u32::from(slot)) {
-            Some(number) => Some(number),
-            None => self.numbering.in_slot(woken),
-        }
-    }
-
     /// The group's call of this number goes out with this reply, if something is told of it.
     fn tells(&mut self, alloc: Global, number: u32, told: Option<OwnReply>) -> Result<(), NoMemory>
         ensures log { IfOk result (λ _. self.new.log.items ≡ with_told self.old.log.items number told) }
@@ -328,7 +313,8 @@ impl Notes {
             → IfOk result (λ _. AreNoted self.new (group.exit_noted notes slot call number)) }
         ensures app { self.new.app ≡ self.old.app }
     {
-        let woken = self.woken_in(slot, cont);
+        let wake = wake_of(cont);
+        let woken = self.numbering.wake_kept(slot, wake);
         let told = reply_of(alloc, cont, woken)?;
         self.tells(alloc, number, told)?;
         self.numbering.with_wake(slot, woken);

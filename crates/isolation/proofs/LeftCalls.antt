@@ -21,7 +21,7 @@ use Rattle.rpc_msgs.specs.declared.request_place.RequestPlace.{RequestPlace}
 use Rattle.rpc_msgs.specs.declared.rpc.Rpc.TheVariants as rpc
 use Rattle.rpc_msgs.specs.declared.rpc_buffer.RpcBuffer.{RpcBuffer}
 use Rattle.isolation.specs.Noted.{HasFinished, IsLeft, ended_in, without_slot}
-use Rattle.isolation.specs.Telling.{asked_reply, asks_with_payload, has_place, told_behind, told_by, told_in, wakes_as, wakes_in}
+use Rattle.isolation.specs.Telling.{asked_reply, asks_with_payload, has_place, told_behind, told_by, told_in, wake_as, wake_at}
 
 -- ---- what a call goes out with, by its phase, its area and its buffer
 
@@ -125,8 +125,8 @@ has_place_so cont room request areas buffers paid =
     ∙ sym (placed_somewhere room.area room.buffer request.wanted)
 
 wakes_so : (cont : Cont (List ℕ)) (wakes : Option ℕ) → cont.phase ≡ phase.Ends
-    → option_and_then (λ (asked : Asked). woken_slot asked.rpc) cont.request ≡ wakes → wakes_as cont ≡ wakes
-wakes_so cont wakes is has = ap (λ (p : Phase). wakes_in p cont.request) is ∙ has
+    → option_and_then (λ (asked : Asked). woken_slot asked.rpc) cont.request ≡ wakes → wake_as cont ≡ wakes
+wakes_so cont wakes is has = ap (λ (p : Phase). wake_at p cont.request) is ∙ has
 
 -- the reply of a call, where it was left so
 abbrev TellsSo : ℕ → PendingCall → Cont (List ℕ) → Option ℕ → CallPhase → Room → Type 0
@@ -208,10 +208,10 @@ tells_so slot call cont woken (Ends result params told None) room left is has e 
 
 -- ---- whom it wakes
 
-wakes_told : (cont : Cont (List ℕ)) (phase : CallPhase) → PhaseAs cont phase → wakes_as cont ≡ wake_of phase
-wakes_told cont (Runs job) is = ap (λ (p : Phase). wakes_in p cont.request) is
-wakes_told cont (Asks job wanted payload) is = ap (λ (p : Phase). wakes_in p cont.request) is.0
-wakes_told cont (Waits params) is = ap (λ (p : Phase). wakes_in p cont.request) is
+wakes_told : (cont : Cont (List ℕ)) (phase : CallPhase) → PhaseAs cont phase → wake_as cont ≡ wake_of phase
+wakes_told cont (Runs job) is = ap (λ (p : Phase). wake_at p cont.request) is
+wakes_told cont (Asks job wanted payload) is = ap (λ (p : Phase). wake_at p cont.request) is.0
+wakes_told cont (Waits params) is = ap (λ (p : Phase). wake_at p cont.request) is
 wakes_told cont (Ends result params told wakes) is = wakes_so cont wakes is.0 is.1
 
 -- ---- a call that stays in its slot
@@ -241,12 +241,12 @@ left_noted notes slot number woken reply =
     record (option_map_or (with_reply number notes) reply notes) { numbering = with_wake notes.numbering slot woken }
 
 pub noted_left : (notes : Notes) (slot number : ℕ) (call : PendingCall) (cont : Cont (List ℕ)) → IsLeft slot call cont
-    → exit_noted notes slot call number ≡ left_noted notes slot number (wake_kept notes.numbering slot (wakes_as cont))
-    (told_by cont (wake_kept notes.numbering slot (wakes_as cont)))
+    → exit_noted notes slot call number ≡ left_noted notes slot number (wake_kept notes.numbering slot (wake_as cont))
+    (told_by cont (wake_kept notes.numbering slot (wake_as cont)))
 noted_left notes slot number call cont is =
     let leaving : Leaving = leaving_of slot call in
     let phase = left_phase slot call is.left leaving is.in_slot in
-    let wakes : wake_kept notes.numbering slot (wake_of call.phase) ≡ wake_kept notes.numbering slot (wakes_as cont) =
+    let wakes : wake_kept notes.numbering slot (wake_of call.phase) ≡ wake_kept notes.numbering slot (wake_as cont) =
     ap (wake_kept notes.numbering slot) (sym (wakes_told cont call.phase
     (subst (PhaseAs cont) phase (phase_as cont is.left.phase is.is.phase)))) in
     let at : leaving ≡ leaving_at slot call.phase (room_of call) = leaving_so slot call call.phase in
@@ -257,12 +257,12 @@ noted_left notes slot number call cont is =
     ap (λ (w : Option ℕ). (let after = option_map_or (with_reply number notes) (reply_of w call.phase leaving) notes in
     record after { numbering = slot_kept (with_wake notes.numbering slot w) slot leaving })) wakes
     ∙ ap (λ (numbers : Numbering). (let after = option_map_or (with_reply number notes)
-    (reply_of (wake_kept notes.numbering slot (wakes_as cont)) call.phase leaving) notes in
+    (reply_of (wake_kept notes.numbering slot (wake_as cont)) call.phase leaving) notes in
     record after { numbering = numbers }))
-    (kept_still (with_wake notes.numbering slot (wake_kept notes.numbering slot (wakes_as cont))) slot call is.left leaving
+    (kept_still (with_wake notes.numbering slot (wake_kept notes.numbering slot (wake_as cont))) slot call is.left leaving
     is.in_slot)
-    ∙ ap (λ (r : Option OwnReply). left_noted notes slot number (wake_kept notes.numbering slot (wakes_as cont)) r)
-    (told (wake_kept notes.numbering slot (wakes_as cont)))
+    ∙ ap (λ (r : Option OwnReply). left_noted notes slot number (wake_kept notes.numbering slot (wake_as cont)) r)
+    (told (wake_kept notes.numbering slot (wake_as cont)))
 
 -- ---- a call that has finished
 

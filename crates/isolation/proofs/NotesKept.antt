@@ -5,7 +5,7 @@ use Rattle.std.specs.Option.{option_map_or, option_or}
 use Rattle.base.specs.NumberMap.{get, insert}
 use Rattle.isolation.specs.Arriving.{NamesApp}
 use Rattle.isolation.specs.Noted.{AreNoted, AreNumbers, HasFinished, IsLeft, is_away, number_at, with_away, with_told, without_slot}
-use Rattle.isolation.specs.Telling.{told_by, wakes_as}
+use Rattle.isolation.specs.Telling.{told_by, wake_as}
 use Rattle.isolation.specs.declared.entering.NewEvent.{NewEvent}
 use Rattle.isolation.specs.declared.notes.Notes.{Notes}
 use Rattle.isolation.specs.declared.numbering.Numbering.{Numbering}
@@ -199,11 +199,11 @@ module _ (old new : Notes) (notes : own.Notes) (are : AreNoted old notes) where
   uuid_so (Some told) number = refl
 
   pub out_noted : (slot number : ℕ) (call : PendingCall) (cont : Cont (List ℕ)) → IsLeft slot call cont
-      → (let woken = own.wake_kept notes.numbering slot (wakes_as cont) in
+      → (let woken = own.wake_kept notes.numbering slot (wake_as cont) in
       AreNumbers new.numbering (own.with_wake notes.numbering slot woken) → LogsReply number (told_by cont woken)
       → new.turned_away ≡ old.turned_away → new.uuid ≡ old.uuid → AreNoted new (own.exit_noted notes slot call number))
   out_noted slot number call cont is numbers log away uuid =
-      let woken = own.wake_kept notes.numbering slot (wakes_as cont) in
+      let woken = own.wake_kept notes.numbering slot (wake_as cont) in
       let now : AreNoted new (left_noted notes slot number woken (told_by cont woken)) = record {
         uuid = uuid ∙ are.uuid ∙ sym (uuid_so (told_by cont woken) number);
         numbering = numbers;

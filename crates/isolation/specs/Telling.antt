@@ -15,12 +15,12 @@ use Rattle.rpc_cont.specs.declared.phase.Phase.TheVariants as phase
 use Rattle.rpc_msgs.specs.Request.{has_payload}
 
 -- the slot of the call that one in this phase wakes
-abbrev pub wakes_in : Phase → Option Asked → Option ℕ
-wakes_in phase.Ends request = option_and_then (λ (asked : Asked). woken_slot asked.rpc) request
-wakes_in _ request = None
+abbrev pub wake_at : Phase → Option Asked → Option ℕ
+wake_at phase.Ends request = option_and_then (λ (asked : Asked). woken_slot asked.rpc) request
+wake_at _ request = None
 
-abbrev pub wakes_as : Cont (List ℕ) → Option ℕ
-wakes_as cont = wakes_in cont.phase cont.request
+abbrev pub wake_as : Cont (List ℕ) → Option ℕ
+wake_as cont = wake_at cont.phase cont.request
 
 -- the request of an application
 abbrev pub asked_reply : Asked → OwnReply
@@ -51,7 +51,7 @@ told_in cont woken phase.Asks false = Some reply.Alloc
 told_in cont woken phase.Asks true = option_map asked_reply cont.request
 told_in cont woken phase.Waits false = Some reply.Alloc
 told_in cont woken phase.Waits true = Some reply.Sleep
-told_in cont woken phase.Ends placed = told_behind (is_some (wakes_as cont)) placed woken
+told_in cont woken phase.Ends placed = told_behind (is_some (wake_as cont)) placed woken
 
 abbrev pub told_by : Cont (List ℕ) → Option ℕ → Option OwnReply
 told_by cont woken = told_in cont woken cont.phase (has_place cont)

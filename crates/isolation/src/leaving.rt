@@ -1,7 +1,7 @@
 //! What is told of a call that goes out.
 ghost use Rattle.std.specs.Prelude.{◌≡◌, IfOk, is_some};
 ghost use Rattle.std.specs.Option.{option_and_then, option_map};
-ghost use Rattle.isolation.specs.Telling.{asked_reply, asks_with_payload, ended_as, has_place, told_at_end, told_behind, told_by, wakes_as};
+ghost use Rattle.isolation.specs.Telling.{asked_reply, asks_with_payload, ended_as, has_place, told_at_end, told_behind, told_by, wake_as};
 ghost use Rattle.kernel_state.specs.Calls.{woken_slot};
 
 use base::NoMemory;
@@ -16,7 +16,7 @@ use std::alloc::Global;
 use ta_params::Buf;
 
 /// The slot that is asked to be woken.
-fn slot_woken(request: &Option<Asked>) -> Option<u32>
+fn asked_wake(request: &Option<Asked>) -> Option<u32>
     ensures { result ≡ option_and_then (λ asked. woken_slot asked.rpc) request.now }
 {
     match request {
@@ -29,11 +29,11 @@ fn slot_woken(request: &Option<Asked>) -> Option<u32>
 }
 
 /// The slot of the call that a call which has ended wakes.
-pub fn wakes(cont: &Cont<Pages>) -> Option<u32>
-    ensures { result ≡ wakes_as cont.now }
+pub fn wake_of(cont: &Cont<Pages>) -> Option<u32>
+    ensures { result ≡ wake_as cont.now }
 {
     match cont.phase {
-        Phase::Ends => slot_woken(&cont.request),
+        Phase::Ends => asked_wake(&cont.request),
         Phase::Runs | Phase::Asks | Phase::Waits => None,
     }
 }
@@ -96,7 +96,7 @@ pub fn reply_of(
         (Phase::Asks | Phase::Waits, false) => Ok(Some(OwnReply::Alloc)),
         (Phase::Asks, true) => asked_reply(alloc, &cont.request),
         (Phase::Waits, true) => Ok(Some(OwnReply::Sleep)),
-        (Phase::Ends, has_place) => Ok(told_behind(wakes(cont).is_some(), has_place, woken)),
+        (Phase::Ends, has_place) => Ok(told_behind(wake_of(cont).is_some(), has_place, woken)),
     }
 }
 

@@ -24,7 +24,7 @@ pub use base::NoMemory;
 pub use coming::errand_of;
 pub use entering::{back_in, input_settled};
 pub use going::left_in;
-pub use leaving::{reply_of, told_at_end, wakes};
+pub use leaving::{reply_of, told_at_end, wake_of};
 pub use log_reader::LogReader;
 pub use notes::Back;
 pub use numbering::Numbering;

@@ -3,12 +3,11 @@ ghost use Rattle.std.specs.Prelude.{◌≡◌, ◌<◌, ◌∷◌, ◌++◌, [],
 ghost use Rattle.base.specs.NumberMap.{get};
 ghost use Rattle.isolation.specs.Arriving.{NamesApp};
 ghost use Rattle.isolation.specs.Noted.{AreNoted, HasFinished, HasNumbersLeft, IsLeft, with_away, with_back, with_told};
-ghost use Rattle.isolation.specs.Telling.{wakes_as};
 ghost use Rattle.kernel_model.specs.Kernel.{PendingCall};
 ghost use Rattle.own_model.specs.Own as own;
 
 use crate::entering::NewEvent;
-use crate::leaving::{reply_of, wakes};
+use crate::leaving::{reply_of, wake_of};
 use crate::numbering::Numbering;
 use crate::session_log::Noted;
 use base::NoMemory;
@@ -166,19 +165,6 @@ impl Notes {
         Ok(())
     }
 
-    /// The number of the call that the call in this slot wakes: that which was kept, or else that of the call in the slot
-    /// now.
-    fn woken_in(&self, slot: u8, cont: &Cont<Pages>) -> Option<u32>
-        ensures { (notes : own.Notes) → AreNoted self.now notes
-            → result ≡ own.wake_kept notes.numbering slot (wakes_as cont.now) }
-    {
-        let woken = wakes(cont)?;
-        match self.numbering.woken_by(u32::from(slot)) {
-            Some(number) => Some(number),
-            None => self.numbering.in_slot(woken),
-        }
-    }
-
     /// The session's call of this number goes out with this reply, if something is told of it.
     fn tells(&mut self, alloc: Global, number: u32, told: Option<OwnReply>) -> Result<(), NoMemory>
         ensures log { IfOk result (λ _. self.new.log.items ≡ with_told self.old.log.items number told) }
@@ -205,7 +191,8 @@ impl Notes {
             → IfOk result (λ _. AreNoted self.new (own.exit_noted notes slot call number)) }
         ensures session { self.new.session ≡ self.old.session }
     {
-        let woken = self.woken_in(slot, cont);
+        let wake = wake_of(cont);
+        let woken = self.numbering.wake_kept(slot, wake);
         let told = reply_of(alloc, cont, woken)?;
         self.tells(alloc, number, told)?;
         self.numbering.with_wake(slot, woken);

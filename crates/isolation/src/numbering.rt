@@ -48,10 +48,22 @@ impl Numbering {
     }
 
     /// The number of the call that the call in this slot wakes, if that was fixed.
-    pub fn woken_by(&self, slot: u32) -> Option<u32>
+    fn fixed_wake(&self, slot: u32) -> Option<u32>
         ensures { (numbers : own.Numbering) → AreNumbers self.now numbers → result ≡ get numbers.wakes slot }
     {
         number_at(&self.wakes, slot)
+    }
+
+    /// The number of the call that the call in this slot wakes, where it wakes that of the other slot: the one that was kept, or
+    /// else that of the call in the other slot now.
+    pub fn wake_kept(&self, slot: u8, wake: Option<u32>) -> Option<u32>
+        ensures { (numbers : own.Numbering) → AreNumbers self.now numbers → result ≡ own.wake_kept numbers slot wake }
+    {
+        let woken = wake?;
+        match self.fixed_wake(u32::from(slot)) {
+            Some(number) => Some(number),
+            None => self.in_slot(woken),
+        }
     }
 
     /// A call comes into a slot, and gets the next number.

@@ -3,7 +3,7 @@ use Rattle.instance_groups.specs.Noted.{with_told}
 use Rattle.instance_groups.specs.declared.notes.Notes.{Notes as AnyNotes}
 use Rattle.instance_groups.proofs.NotesKept.{out_noted}
 use Rattle.isolation.specs.Noted.{AreNumbers}
-use Rattle.isolation.specs.Telling.{told_by, wakes_as}
+use Rattle.isolation.specs.Telling.{told_by, wake_as}
 use Rattle.isolation.specs.declared.numbering.Numbering.{Numbering as AnyNumbering}
 use Rattle.own_model.specs.Own as own
 use Rattle.instance_groups.proofs.notes.Notes.goes_out.Goals as goal
@@ -12,8 +12,8 @@ pub returns-clause-noted : goal.returns-clause-noted
 returns-clause-noted c notes call are is =
     let old = c.args.self.now in
     let stays = c.tells.ensures.stays in
-    let woken : c.woken_in-woken.result ≡ own.wake_kept notes.numbering c.args.slot (wakes_as c.args.cont.now) =
-    c.woken_in-woken.ensures notes are in
+    let woken : c.wake_kept-woken.result ≡ own.wake_kept notes.numbering c.args.slot (wake_as c.args.cont.now) =
+    c.wake_kept-woken.ensures notes.numbering are.numbering ∙ ap (own.wake_kept notes.numbering c.args.slot) c.wake_of-wake.ensures in
     out_noted old _ notes are c.args.slot c.args.number call c.args.cont.now is
     (subst (λ (w : Option ℕ). AreNumbers c.with_wake.new.self (own.with_wake notes.numbering c.args.slot w)) woken
     (c.with_wake.ensures notes.numbering

@@ -1,6 +1,6 @@
 use Rattle.std.proofs.Common.{◌≡◌, ℕ, Option, ap, sym, subst, ◌∙◌}
 use Rattle.isolation.specs.Noted.{AreNumbers, with_told}
-use Rattle.isolation.specs.Telling.{told_by, wakes_as}
+use Rattle.isolation.specs.Telling.{told_by, wake_as}
 use Rattle.isolation.specs.declared.notes.Notes.{Notes as AnyNotes}
 use Rattle.isolation.specs.declared.numbering.Numbering.{Numbering as AnyNumbering}
 use Rattle.isolation.proofs.NotesKept.{out_noted}
@@ -11,8 +11,8 @@ pub returns-clause-noted : goal.returns-clause-noted
 returns-clause-noted c notes call are is =
     let old = c.args.self.now in
     let stays = c.tells.ensures.stays in
-    let woken : c.woken_in-woken.result ≡ own.wake_kept notes.numbering c.args.slot (wakes_as c.args.cont.now) =
-    c.woken_in-woken.ensures notes are in
+    let woken : c.wake_kept-woken.result ≡ own.wake_kept notes.numbering c.args.slot (wake_as c.args.cont.now) =
+    c.wake_kept-woken.ensures notes.numbering are.numbering ∙ ap (own.wake_kept notes.numbering c.args.slot) c.wake_of-wake.ensures in
     out_noted old _ notes are c.args.slot c.args.number call c.args.cont.now is
     (subst (λ (w : Option ℕ). AreNumbers c.with_wake.new.self (own.with_wake notes.numbering c.args.slot w)) woken
     (c.with_wake.ensures notes.numbering
