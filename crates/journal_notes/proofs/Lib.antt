@@ -1,0 +1,4 @@
+pub mod Exits
+pub mod Logs
+pub mod Processors
+pub mod ReadOn
