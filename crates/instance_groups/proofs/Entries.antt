@@ -3,13 +3,14 @@ use Rattle.std.proofs.Common.{◌≡◌, ℕ, List, [], ◌∷◌, ◌++◌, Opt
 use Rattle.std.proofs.Math.Logic.{∥∥₁_elim, ∥∥₁_map, ∥∥₁_prop}
 use Rattle.std.proofs.lemmas.Option.{some_pair_parts}
 use Rattle.std.proofs.lemmas.List.{append_cancel_left}
-use Rattle.std.specs.Prelude.{IsSomeAnd, slice_get}
+use Rattle.std.specs.Prelude.{IfOk, IsSomeAnd, Result, Ok, Err, slice_get}
+use Rattle.base.specs.declared.no_memory.NoMemory.{NoMemory}
 use Rattle.event_journal.specs.declared.event.Event.{Event}
 use Rattle.event_journal.specs.declared.event.Event.TheVariants.{Entry}
 use Rattle.group_model.specs.Read as group
 use Rattle.instance_groups.specs.Arriving.{IsArrival, IsArrivalBy, IsArrivalIn, Watch, watch}
 use Rattle.instance_groups.specs.Noted.{AreNoted}
-use Rattle.instance_groups.specs.Replaying.{HasArrived, HasArrivedIn, IsNoted}
+use Rattle.instance_groups.specs.Replaying.{HasArrived, HasArrivedIn, IsEntryNoted, IsNoted}
 use Rattle.instance_groups.specs.declared.arriving.Arrival.{Arrival}
 use Rattle.instance_groups.specs.declared.notes.Notes.{Notes}
 use Rattle.instance_groups.proofs.GoneOut.{noted_prop}
@@ -137,7 +138,7 @@ module _ (old new : Core) (visitor : Visitor) (lane : List ℕ) (reads : List Re
       append_cancel_left (events_of old) (Entry visitor.cpu visitor.regs visitor.steps has.reads ∷ []) (event ∷ []) (sym has.events ∙ done) in
       cc
 
-  pub entry_noted : ((k : Kernel) → StandsFor old.parts k → IsArrival (watch (booted_of old) app_before k) visitor.regs.a lane came)
+  entry_noted : ((k : Kernel) → StandsFor old.parts k → IsArrival (watch (booted_of old) app_before k) visitor.regs.a lane came)
       → ((k next : Kernel) (rs : List Read) → HasArrived new.parts (watch (booted_of old) app_before k) next visitor rs came work
       → (b : group.Notes) → AreNoted before b
       → AreNoted after (group.event_noted (booted_of old) app_before k next b (Entry visitor.cpu visitor.regs visitor.steps rs)))
@@ -152,3 +153,12 @@ module _ (old new : Core) (visitor : Visitor) (lane : List ℕ) (reads : List Re
       (noted_prop after (group.event_noted (booted_of old) app_before kernel next notes event))
       (λ (arrived : HasArrived new.parts (watch (booted_of old) app_before kernel) next visitor reads came work).
       comes kernel next reads arrived notes are))
+
+  -- or memory was wanting
+  pub entry_noted_then : (result : Result (Unit {0}) NoMemory)
+      → ((k : Kernel) → StandsFor old.parts k → IsArrival (watch (booted_of old) app_before k) visitor.regs.a lane came)
+      → ((k next : Kernel) (rs : List Read) → HasArrived new.parts (watch (booted_of old) app_before k) next visitor rs came work
+      → IsEntryNoted (booted_of old) before after k next visitor rs result)
+      → IfOk result (λ _. IsNoted old new before after event)
+  entry_noted_then (Ok unit) arrives comes = entry_noted arrives comes
+  entry_noted_then (Err error) arrives comes = tt

@@ -10,7 +10,7 @@ use Rattle.base.specs.declared.no_memory.NoMemory.{NoMemory}
 use Rattle.event_journal.specs.declared.event.Event.TheVariants.{Exit}
 use Rattle.group_model.specs.Read as group
 use Rattle.instance_groups.specs.Noted.{AreNoted, HasFinishedAs, opened_by, opened_so}
-use Rattle.instance_groups.specs.Replaying.{IsExitNoted}
+use Rattle.instance_groups.specs.Meaning.{IsExitNoted}
 use Rattle.instance_groups.specs.declared.notes.Notes.{Notes}
 use Rattle.instance_groups.proofs.Decided.{noted_out, noted_out_answered}
 use Rattle.isolation.specs.Noted.{IsLeft}
@@ -26,7 +26,7 @@ use Rattle.kernel_model.specs.Exit.{progress_of}
 use Rattle.kernel_model.specs.Kernel.{Kernel, PendingCall, Progress, Tables}
 use Rattle.kernel_model.specs.Kernel as model
 use Rattle.kernel_state.specs.Leaving.{CanLeave, HasLeft}
-use Rattle.kernel_state.specs.Meaning.{kernel_of}
+use Rattle.kernel_state.specs.Meaning.{booted_of, kernel_of}
 use Rattle.kernel_state.specs.Setup.{application_of}
 use Rattle.kernel_state.specs.declared.carried.Carried.{Carried}
 use Rattle.kernel_state.specs.declared.carried.Carried.TheVariants.{Nothing, Resting, Running}
@@ -142,8 +142,8 @@ module _ (old new : Core) (ran : Ran) (lane now : List ℕ) (told : Regs) (has :
     its_own = refl;
     told = told;
     has_left = has;
-    noted = λ boot kernel next notes before after are.
-        noted_of_other kernel next before after boot (application_of code.app) notes code are (number notes are);
+    noted = λ kernel next notes before after are.
+        noted_of_other kernel next before after (booted_of old) (application_of code.app) notes code are (number notes are);
   }
 
   pub exit_waiting : (code later : Notes) (result : Result (Unit {0}) NoMemory) (number : ℕ) (cont : Cont (List ℕ)) → HasNumber code (Some number)
@@ -157,8 +157,8 @@ module _ (old new : Core) (ran : Ran) (lane now : List ℕ) (told : Regs) (has :
     its_own = refl;
     told = told;
     has_left = has;
-    noted = λ boot kernel next notes before after are.
-        noted_of_own kernel next before after boot (application_of code.app) notes later number (has_number notes are)
+    noted = λ kernel next notes before after are.
+        noted_of_own kernel next before after (booted_of old) (application_of code.app) notes later number (has_number notes are)
         (λ g. is notes g.exits.progress.call are (is_left (slice_get new.parts.slots slot) (slice_get new.parts.cancellations.items slot) slot
         g.exits.progress.call g.left cont left));
   }
@@ -175,8 +175,8 @@ module _ (old new : Core) (ran : Ran) (lane now : List ℕ) (told : Regs) (has :
     its_own = refl;
     told = told;
     has_left = has;
-    noted = λ boot kernel next notes before after are.
-        noted_of_own kernel next before after boot (application_of code.app) notes later number (has_number notes are)
+    noted = λ kernel next notes before after are.
+        noted_of_own kernel next before after (booted_of old) (application_of code.app) notes later number (has_number notes are)
         (λ g. is notes g.exits.progress.call are (record {
           finished = record {
             free = finished old new ran lane now told has can slot for kernel next before after g left;
@@ -196,8 +196,8 @@ exit_answered old new ran lane now told answer code has for = record {
   its_own = refl;
   told = told;
   has_left = has;
-  noted = λ boot kernel next notes before after are.
+  noted = λ kernel next notes before after are.
       (let at = inside_for old kernel ran.cpu (Fixed answer) before for in
       subst (λ (n : group.Notes). AreNoted code n)
-      (sym (noted_out_answered boot (application_of code.app) kernel next ran.cpu at.steps at.came told notes answer at.inside)) are);
+      (sym (noted_out_answered (booted_of old) (application_of code.app) kernel next ran.cpu at.steps at.came told notes answer at.inside)) are);
 }

@@ -3,7 +3,6 @@ pub mod Arrived
 pub mod CallsRead
 pub mod Decided
 pub mod Entries
-pub mod Exits
 pub mod FewCalls
 pub mod FedEvents
 pub mod FedAlong

@@ -1,7 +1,6 @@
 -- What is told of a group by its notes.
-use Rattle.std.proofs.Common.{◌≡◌, ℕ, List, [], ◌∷◌, ◌++◌, Option, Some, None, refl, ap, ◌∙◌}
-use Rattle.std.proofs.lemmas.List.Elements.{filter_map-append}
-use Rattle.std.specs.Option.{option_map_or, option_to_list}
+use Rattle.std.proofs.Common.{◌≡◌, ℕ, List, [], Option, Some, None, refl, ap, ◌∙◌}
+use Rattle.std.specs.Option.{option_map_or}
 use Rattle.std.specs.Prelude.{IfOk, Result, Ok, Err}
 use Rattle.base.specs.declared.no_memory.NoMemory.{NoMemory}
 use Rattle.event_journal.specs.declared.event.Event.{Event}
@@ -11,16 +10,6 @@ use Rattle.group_model.specs.declared.group_reply.GroupReply.{GroupReply}
 use Rattle.instance_groups.specs.Journals.{events_in, group_events_of, group_replies_of, log_by, replies_in}
 use Rattle.kernel_model.specs.Application.{Application, Booted}
 use Rattle.kernel_model.specs.Instances.{app_of}
-
--- with one event more there is its reply more, if it has one
-pub replies_more : (log : List group.Logged) (logged : group.Logged)
-    → replies_in (log ++ logged ∷ []) ≡ replies_in log ++ option_to_list logged.1
-replies_more log logged = filter_map-append (λ (one : group.Logged). one.1) log (logged ∷ [])
-    ∙ ap (λ (rest : List GroupReply). replies_in log ++ rest) (its logged.0 logged.1)
-  where
-    its : (event : GroupEvent) (told : Option GroupReply) → replies_in ((event, told) ∷ []) ≡ option_to_list told
-    its event None = refl
-    its event (Some reply) = refl
 
 -- the events of the log by an application, and its replies
 events_by : (boot : Booted) (history : List Event) (app : Option Application)

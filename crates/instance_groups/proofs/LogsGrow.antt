@@ -12,7 +12,7 @@ use Rattle.group_model.specs.Read.{with_event, with_reply}
 use Rattle.group_model.specs.declared.group_event.GroupEvent.{GroupEvent}
 use Rattle.group_model.specs.declared.group_event.GroupEvent.TheVariants.{Back, Out, Room, Seen}
 use Rattle.group_model.specs.declared.group_reply.GroupReply.{GroupReply}
-use Rattle.instance_groups.specs.Reading.{listing}
+use Rattle.instance_groups.specs.Noted.{listing}
 use Rattle.job_model.specs.declared.call_kind.CallKind.{CallKind}
 use Rattle.job_model.specs.declared.call_kind.CallKind.TheVariants as kind
 use Rattle.kernel_model.specs.Application.{Application, Booted}

@@ -11,7 +11,6 @@ use Rattle.instance_groups.specs.declared.notes.Notes.{Notes}
 use Rattle.instance_groups.proofs.WentOut.{gone_noted, group_finished, group_left}
 use Rattle.isolation.specs.Noted.{AreNumbers, IsLeft, without_slot}
 use Rattle.isolation.specs.Telling.{told_by, wake_as}
-use Rattle.isolation.specs.declared.numbering.Numbering.{Numbering}
 use Rattle.kernel_model.specs.Kernel.{PendingCall}
 use Rattle.own_model.specs.Own as own
 use Rattle.own_model.specs.declared.own_reply.OwnReply.{OwnReply}

@@ -1,18 +1,15 @@
 -- What the code's notes of a group stand for, and what is noted of a call that comes in, comes back or goes out.
 use Rattle.std.specs.Prelude.{◌≡◌, ℕ, ◌+◌, ◌^◌, ◌<◌, ◌==◌, ◌&&◌, Bool, false, if◌then◌else◌, List, [], ◌∷◌, ◌++◌, Option, Some, None}
-use Rattle.std.specs.Option.{option_and_then, option_map_or}
-use Rattle.base.specs.NumberMap.{get}
+use Rattle.std.specs.Option.{option_map_or}
 use Rattle.group_model.specs.Read as group
 use Rattle.group_model.specs.declared.group_event.GroupEvent.{GroupEvent}
 use Rattle.group_model.specs.declared.group_event.GroupEvent.TheVariants.{Back, Out, Room, Seen}
-use Rattle.group_model.specs.declared.group_reply.GroupReply.{GroupReply}
 use Rattle.instance_groups.specs.Arriving.{event_as, gets_session, is_open, with_session}
 use Rattle.instance_groups.specs.declared.arriving.NewCall.{NewCall}
 use Rattle.instance_groups.specs.declared.arriving.Resumed.{Resumed}
 use Rattle.instance_groups.specs.declared.notes.Notes.{Notes}
 use Rattle.isolation.specs.Noted.{AreNumbers, HasFinished}
 use Rattle.job_model.specs.declared.call_kind.CallKind.{CallKind}
-use Rattle.job_model.specs.declared.call_kind.CallKind.TheVariants as kind
 use Rattle.kernel_model.specs.Application.{Application}
 use Rattle.kernel_model.specs.Codes.{success}
 use Rattle.kernel_model.specs.Kernel.{PendingCall}
@@ -22,7 +19,6 @@ use Rattle.own_model.specs.Own as own
 use Rattle.own_model.specs.declared.own_event.BackInput.{BackInput}
 use Rattle.own_model.specs.declared.own_reply.OwnReply.{OwnReply}
 use Rattle.own_model.specs.declared.own_reply.OwnReply.TheVariants as reply
-use Rattle.rpc_cont.specs.declared.cont.Cont.{Cont}
 
 -- ---- notes
 
@@ -32,6 +28,10 @@ pub record AreNoted (code : Notes) (notes : group.Notes) : Type 0 where
   pub next_session : code.next_session ≡ notes.next_session
   pub numbering : AreNumbers code.numbering notes.numbering
   pub log : code.log.items ≡ notes.log
+
+-- notes with another log
+abbrev pub listing : group.Notes → List group.Logged → group.Notes
+listing notes log = record notes { log = log }
 
 -- the next call and the next session of the group get numbers of 32 bits, and so would those behind them
 pub record HasNumbersLeft (notes : Notes) : Type 0 where

@@ -6,7 +6,7 @@ use Rattle.base.specs.declared.no_memory.NoMemory.{NoMemory}
 use Rattle.event_journal.specs.declared.event.Event.{Event}
 use Rattle.group_model.specs.Read as group
 use Rattle.group_model.specs.Read.{noted}
-use Rattle.instance_groups.specs.Noted.{AreNoted}
+use Rattle.instance_groups.specs.Noted.{AreNoted, listing}
 use Rattle.instance_groups.specs.declared.log_reader.LogReader.{LogReader}
 use Rattle.journal_replay.specs.Replaying as replay
 use Rattle.kernel_model.specs.Application.{Application, Booted}
@@ -30,10 +30,6 @@ noted_by reader = noted (boot_of reader) (events_of reader) (group_app reader)
 
 abbrev pub log_of : LogReader → List group.Logged
 log_of reader = (noted_by reader).log
-
--- notes with another log
-abbrev pub listing : group.Notes → List group.Logged → group.Notes
-listing notes log = record notes { log = log }
 
 -- that stands in the reader, but for the log, which was told event by event: a bare fact, as the one that a core keeps
 abbrev pub IsReading : LogReader → Type 0

@@ -2,7 +2,7 @@
 use Rattle.std.specs.Prelude.{◌≡◌, ℕ, List, IfOk, Result, Some, slice_get}
 use Rattle.base.specs.declared.no_memory.NoMemory.{NoMemory}
 use Rattle.event_journal.specs.declared.event.Event.{Event}
-use Rattle.event_journal.specs.declared.event.Event.TheVariants.{Entry, Exit}
+use Rattle.event_journal.specs.declared.event.Event.TheVariants.{Entry}
 use Rattle.group_model.specs.Read as group
 use Rattle.instance_groups.specs.Arriving.{IsArrivalIn, Watch}
 use Rattle.instance_groups.specs.Noted.{AreNoted}
@@ -11,17 +11,14 @@ use Rattle.instance_groups.specs.declared.notes.Notes.{Notes}
 use Rattle.kernel_entry.specs.declared.visitor.Visitor.{Visitor}
 use Rattle.kernel_model.specs.Application.{Booted}
 use Rattle.kernel_model.specs.Kernel as model
-use Rattle.kernel_state.specs.Leaving.{HasLeft}
 use Rattle.kernel_state.specs.Meaning.{booted_of, kernel_of}
 use Rattle.kernel_state.specs.Setup.{application_of}
 use Rattle.kernel_state.specs.StandsFor.{StandsFor}
 use Rattle.kernel_state.specs.Work.{IsCarriedAs}
 use Rattle.kernel_state.specs.declared.kernel_core.Core.{Core}
 use Rattle.kernel_state.specs.declared.parts.Parts.{Parts}
-use Rattle.kernel_state.specs.declared.work.Ran.{Ran}
 use Rattle.kernel_state.specs.declared.work.Work.{Work}
 use Rattle.ns_ram.specs.declared.read.Read.{Read}
-use Rattle.smc_abi.specs.declared.regs.Regs.{Regs}
 
 -- where so much was noted of what came before it, what was noted of an event that was done is too
 abbrev pub IsNoted : Core → Core → Notes → Notes → Event → Type 0
@@ -59,15 +56,3 @@ abbrev pub IsEntryNoted : Booted → Notes → Notes → model.Kernel → model.
 IsEntryNoted boot old new kernel next visitor reads result = (before : group.Notes) → AreNoted old before →
     IfOk result (λ _. AreNoted new
     (group.event_noted boot (application_of old.app) kernel next before (Entry visitor.cpu visitor.regs visitor.steps reads)))
-
--- ---- an exit
-
--- a processor has gone out with what it carried, and that is noted
-pub record IsExitNoted (old new : Core) (before after : Notes) (cpu : ℕ) (lane now : List ℕ) : Type 0 where
-  pub ran : Ran
-  pub its_own : ran.cpu ≡ cpu
-  pub told : Regs
-  pub has_left : HasLeft old new ran lane now told
-  pub noted : (boot : Booted) (kernel next : model.Kernel) (notes : group.Notes) → kernel_of old ≡ Some kernel →
-      kernel_of new ≡ Some next → AreNoted before notes →
-      AreNoted after (group.event_noted boot (application_of before.app) kernel next notes (Exit cpu told))

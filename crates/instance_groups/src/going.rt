@@ -3,17 +3,18 @@ ghost use Rattle.std.specs.Prelude.{◌≡◌, ◌<◌, IfOk, Some, slice_get};
 ghost use Rattle.std.specs.Option.{option_and_then};
 ghost use Rattle.core_at_work.specs.Insides.{IsInside};
 ghost use Rattle.instance_groups.specs.Noted.{has_succeeded, opened_by, opened_so};
-ghost use Rattle.instance_groups.specs.Replaying.{IsExitNoted};
+ghost use Rattle.instance_groups.specs.Meaning.{IsExitNoted};
 ghost use Rattle.isolation.specs.Replaying.{errand_at};
+ghost use Rattle.kernel_state.specs.declared.processor.Errand.TheVariants.{InSlot};
 
 use crate::arriving::is_open;
 use crate::notes::Notes;
 use base::NoMemory;
 use boxed::Boxed;
 use core_at_work::CoreAtWork;
-use isolation::{errand_of, left_in, told_at_end};
+use isolation::{left_in, told_at_end};
 use job_model::CallKind;
-use kernel_state::{Carried, Errand};
+use kernel_state::Carried;
 use ns_ram::Lane;
 use own_model::OwnReply;
 use std::alloc::Global;
@@ -53,7 +54,7 @@ fn opened_by(call: &Carried, told: &Option<Boxed<OwnReply>>) -> Option<u32>
 }
 
 /// A processor goes out from the call of a slot.
-fn goes_out_of(
+pub(crate) fn goes_out_of(
     alloc: Global,
     at_work: &mut CoreAtWork,
     slot: u8,
@@ -63,7 +64,7 @@ fn goes_out_of(
 ) -> Result<(), NoMemory>
     requires slot { slot < 16 }
     requires inside { IsInside at_work.old.core cpu }
-    requires errand { errand_at (slice_get at_work.old.core.parts.processors.items cpu) ≡ Some (Errand.InSlot slot) }
+    requires errand { errand_at (slice_get at_work.old.core.parts.processors.items cpu) ≡ Some (InSlot slot) }
     ensures noted { IfOk result (λ _. IsExitNoted at_work.old.core at_work.new.core notes.old notes.new cpu lane.old lane.new) }
     ensures app { notes.new.app ≡ notes.old.app }
 {
@@ -79,27 +80,5 @@ fn goes_out_of(
         (Some(cont), _) => notes.goes_out(alloc, slot, number, cont),
         (None, Some(told)) => notes.finishes(alloc, slot, number, opened, told),
         (None, None) => unreachable!(),
-    }
-}
-
-/// A processor that is inside goes out.
-pub(crate) fn goes_out(
-    alloc: Global,
-    at_work: &mut CoreAtWork,
-    cpu: u8,
-    lane: &mut Lane,
-    notes: &mut Notes,
-) -> Result<(), NoMemory>
-    requires { IsInside at_work.old.core cpu }
-    ensures noted { IfOk result (λ _. IsExitNoted at_work.old.core at_work.new.core notes.old notes.new cpu lane.old lane.new) }
-    ensures app { notes.new.app ≡ notes.old.app }
-{
-    match errand_of(at_work.core.parts.processors.as_slice(), cpu) {
-        Some(Errand::InSlot(slot)) => goes_out_of(alloc, at_work, slot, cpu, lane, notes),
-        Some(Errand::Fixed(_)) => {
-            at_work.leave(cpu, lane);
-            Ok(())
-        }
-        None => unreachable!(),
     }
 }

@@ -1,19 +1,19 @@
 //! What happened to the sessions of an application, and what they were answered.
-ghost use Rattle.std.specs.Prelude.{◌≡◌, ◌++◌, IfOk, Some};
-ghost use Rattle.std.specs.Option.{option_to_list};
+ghost use Rattle.std.specs.Prelude.{◌≡◌, IfOk, Some};
 ghost use Rattle.group_model.specs.Group.{group_machine_replies, nobody_there};
 ghost use Rattle.group_solo.specs.Feeding.{CanBeFed};
-ghost use Rattle.instance_groups.specs.Journals.{IsLogOf, IsSharedApp, events_in, group_events_of, group_replies_of, replies_in};
+ghost use Rattle.instance_groups.specs.Journals.{IsLogOf, IsSharedApp, group_events_of, group_replies_of};
 ghost use Rattle.isolation.specs.Journals.{IsJournal};
 ghost use Rattle.kernel_model.specs.Application.{Application, booted};
 ghost use Rattle.native_tas.specs.Table.{entries};
 ghost use Rattle.own_model.specs.Isolation.{steps_in};
 
-use crate::group_log::{GroupLog, Logged};
+use crate::group_log::GroupLog;
 use crate::log_reader::LogReader;
 use base::NoMemory;
 use event_journal::Journal;
 use group_model::{GroupEvent, GroupReply};
+use journal_notes::{events_in, read_all, replies_in};
 use native_tas::Natives;
 use std::alloc::Global;
 use ta_isa::Boot;
@@ -35,7 +35,8 @@ pub fn read_group_log(
     let made = LogReader::new(alloc, boot, natives, uuid)?;
     match made {
         Some(mut reader) => {
-            let entries = reader.reads_all(alloc, journal.as_slice())?;
+            let events = journal.as_slice();
+            let entries = read_all(alloc, &mut reader.replay, &mut reader.notes, events)?;
             Ok(GroupLog {
                 app: Some(reader.into_app()),
                 entries,
@@ -46,52 +47,6 @@ pub fn read_group_log(
             entries: Vec::new(alloc),
         }),
     }
-}
-
-/// The event itself.
-fn event_of(logged: Logged) -> GroupEvent
-    ensures { result ≡ logged.0 }
-{
-    logged.0
-}
-
-/// The events of a log.
-fn events_in(alloc: Global, log: Vec<Logged>) -> Result<Vec<GroupEvent>, NoMemory>
-    ensures { IfOk result (λ events. events.items ≡ events_in log.items) }
-{
-    let mut events = Vec::with_capacity(alloc, log.len())?;
-    for logged in log {
-        events.push(event_of(logged))?;
-    }
-    Ok(events)
-}
-
-/// The reply of an event, if it has one.
-fn reply_of(logged: Logged) -> Option<GroupReply>
-    ensures { result ≡ logged.1 }
-{
-    logged.1
-}
-
-/// Adds a reply, if there is one.
-fn add(replies: &mut Vec<GroupReply>, told: Option<GroupReply>) -> Result<(), NoMemory>
-    ensures { IfOk result (λ _. replies.new.items ≡ replies.old.items ++ option_to_list told) }
-{
-    if let Some(reply) = told {
-        replies.push(reply)?;
-    }
-    Ok(())
-}
-
-/// The replies of a log.
-fn replies_in(alloc: Global, log: Vec<Logged>) -> Result<Vec<GroupReply>, NoMemory>
-    ensures { IfOk result (λ replies. replies.items ≡ replies_in log.items) }
-{
-    let mut replies = Vec::with_capacity(alloc, log.len())?;
-    for logged in log {
-        add(&mut replies, reply_of(logged))?;
-    }
-    Ok(replies)
 }
 
 /// What has happened to the sessions of the application of this UUID, by the journal of a core of this boot that is legal, whose

@@ -1,12 +1,11 @@
-use boxed::Boxed;
 use group_model::{GroupEvent, GroupReply};
 use kernel_state::Application;
 
 /// An event of a group, with its reply, if it has one.
-pub type Logged = (GroupEvent, Option<GroupReply>);
+pub type Logged = journal_notes::Logged<GroupEvent, GroupReply>;
 
-/// The same, each of both on the heap: they take 7,400 bytes.
-pub type Noted = (Boxed<GroupEvent>, Option<Boxed<GroupReply>>);
+/// The same, each of both on the heap.
+pub type Noted = journal_notes::Noted<GroupEvent, GroupReply>;
 
 /// What happened to the sessions of an application, and what they were answered.
 #[derive(Drop)]

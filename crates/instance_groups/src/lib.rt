@@ -5,16 +5,16 @@
 //! be fed with the events.
 //!
 //! `group_log` has what is read off, `notes` what is noted, `arriving` what is seen of an entry and `coming` what is noted of
-//! one, and `going` what is noted of a call that goes out. `doing` does an event again and notes it, `log_reader` reads a log event by
-//! event, and `group` reads that of a whole journal.
+//! one, and `going` what is noted of a call that goes out. `group_notes` has the notes as those that `journal_notes` takes,
+//! `log_reader` reads a log event by event, and `group` reads that of a whole journal.
 #![tactic(auto)]
 
 mod arriving;
 mod coming;
-mod doing;
 mod going;
 mod group;
 mod group_log;
+mod group_notes;
 mod log_reader;
 mod notes;
 

@@ -2,19 +2,17 @@
 ghost use Rattle.std.specs.Prelude.{◌≡◌, ◌≤◌, ◌^◌, [], ◌∷◌, ◌++◌, IfOk};
 ghost use Rattle.core_at_work.specs.Booting.{IsApart};
 ghost use Rattle.event_journal.specs.Journal.{copied_bytes};
-ghost use Rattle.group_model.specs.Read.{noted};
 ghost use Rattle.instance_groups.specs.Reading.{IsReader, IsReading, IsReadingOf, Reads, boot_of, events_of};
-ghost use Rattle.isolation.specs.Journals.{IsJournal};
 ghost use Rattle.kernel_model.specs.Application.{booted};
 ghost use Rattle.kernel_state.specs.Booting.{IsWithinLimits};
 ghost use Rattle.kernel_state.specs.Setup.{application_of};
 ghost use Rattle.native_tas.specs.Table.{entries};
 
-use crate::doing::does;
-use crate::group_log::{Logged, Noted};
+use crate::group_log::Noted;
 use crate::notes::Notes;
 use base::NoMemory;
 use event_journal::Event;
+use journal_notes::read;
 use journal_replay::Replay;
 use kernel_state::Application;
 use native_tas::Natives;
@@ -28,27 +26,6 @@ use uuid::Uuid;
 pub struct LogReader {
     pub(crate) replay: Replay,
     pub(crate) notes: Notes,
-}
-
-/// The entry itself.
-fn logged_of(noted: Noted) -> Logged
-    ensures { result ≡ noted }
-{
-    let (event, reply) = noted;
-    match reply {
-        Some(reply) => (event.into_inner(), Some(reply.into_inner())),
-        None => (event.into_inner(), None),
-    }
-}
-
-/// Adds what is new to a log.
-fn add_all(log: &mut Vec<Logged>, news: Vec<Noted>) -> Result<(), NoMemory>
-    ensures { IfOk result (λ _. log.new.items ≡ log.old.items ++ news.items) }
-{
-    for noted in news {
-        log.push(logged_of(noted))?;
-    }
-    Ok(())
 }
 
 impl LogReader {
@@ -82,34 +59,7 @@ impl LogReader {
         requires few { copied_bytes (events_of self.old ++ event.now ∷ []) ≤ 2 ^ 28 }
         ensures { Reads self.old self.new event.now result }
     {
-        let can_be = does(alloc, &mut self.replay, event, &mut self.notes)?;
-        if can_be {
-            Ok(Some(self.notes.take_log(alloc)))
-        } else {
-            Ok(None)
-        }
-    }
-
-    /// Reads the events of a journal, of which nothing is read so far: the whole log.
-    pub(crate) fn reads_all(
-        &mut self,
-        alloc: Global,
-        events: &[Event],
-    ) -> Result<Vec<Logged>, NoMemory>
-        requires journal { IsJournal (boot_of self.old) events.now }
-        requires reading { IsReadingOf (boot_of self.old) [] (application_of self.old.notes.app) self.old }
-        ensures log { IfOk result (λ log. log.items ≡ (noted (boot_of self.old) events.now (application_of self.old.notes.app)).log) }
-        ensures app { IfOk result (λ _. self.new.notes.app ≡ self.old.notes.app) }
-    {
-        let mut log = Vec::new(alloc);
-        for event in events {
-            let read = self.reads(alloc, event)?;
-            match read {
-                Some(news) => add_all(&mut log, news)?,
-                None => unreachable!(),
-            }
-        }
-        Ok(log)
+        read(alloc, &mut self.replay, &mut self.notes, event)
     }
 
     /// The group's application.

@@ -1,20 +1,19 @@
 -- An entry that is done again is noted.
-use Rattle.std.proofs.Common.{◌≡◌, ℕ, ◌<◌, List, [], ◌∷◌, ◌++◌, Option, Some, None, refl, ap, sym, subst, ◌∙◌, arith}
+use Rattle.std.proofs.Common.{◌≡◌, ℕ, List, [], ◌∷◌, ◌++◌, Option, Some, None, refl, ap, sym, subst, ◌∙◌}
 use Rattle.std.proofs.Math.Logic.{∥∥₁_elim, ∥∥₁_map, ∥∥₁_prop}
-use Rattle.std.proofs.Props.{props}
 use Rattle.std.proofs.lemmas.List.{append_cancel_left}
 use Rattle.std.proofs.lemmas.Option.{some_pair_parts}
-use Rattle.std.specs.Prelude.{IsSomeAnd, slice_get}
+use Rattle.std.specs.Prelude.{IfOk, IsSomeAnd, Result, Ok, Err, slice_get}
+use Rattle.base.specs.declared.no_memory.NoMemory.{NoMemory}
 use Rattle.event_journal.specs.declared.event.Event.{Event}
 use Rattle.event_journal.specs.declared.event.Event.TheVariants.{Entry}
 use Rattle.isolation.specs.Arriving.{IsArrival, IsArrivalBy, IsArrivalIn}
 use Rattle.isolation.specs.Noted.{AreNoted}
-use Rattle.isolation.specs.Replaying.{HasArrived, HasArrivedIn, IsNoted}
+use Rattle.isolation.specs.Replaying.{HasArrived, HasArrivedIn, IsEntryNoted, IsNoted}
 use Rattle.isolation.specs.declared.entering.Arrival.{Arrival}
 use Rattle.isolation.specs.declared.notes.Notes.{Notes}
 use Rattle.isolation.proofs.Further.{goes_on}
 use Rattle.isolation.proofs.GoneOut.{noted_prop}
-use Rattle.kernel_entry.proofs.Arrived.{cpu_there}
 use Rattle.kernel_entry.specs.Visiting.{coming_of}
 use Rattle.kernel_entry.specs.declared.visitor.Visitor.{Visitor}
 use Rattle.kernel_model.proofs.FixedAnswer.{inside_for, processors_after}
@@ -25,7 +24,7 @@ use Rattle.kernel_model.specs.Entry.{after_decision, decision_of, entry}
 use Rattle.kernel_model.specs.History.{after_event}
 use Rattle.kernel_model.specs.Kernel.{Active, Fixed, Free, InSlot, Inside, Kernel, Outside, PendingCall, Processor, Suspended, ThreadSlot, Visit, cancelled_slots}
 use Rattle.kernel_state.proofs.CoreEvents.{came_in, journals_legal, some_kernel}
-use Rattle.kernel_state.specs.Entering.{CanEnter, HasEntered, visit_of}
+use Rattle.kernel_state.specs.Entering.{HasEntered, visit_of}
 use Rattle.kernel_state.specs.Laws.{CoreEntry}
 use Rattle.kernel_state.specs.Meaning.{booted_of, events_of, kernel_of}
 use Rattle.kernel_state.specs.Replay.{Replays}
@@ -39,17 +38,6 @@ use Rattle.ns_ram.specs.Reads.{HoldsReads}
 use Rattle.ns_ram.specs.declared.read.Read.{Read}
 use Rattle.own_model.specs.Own as own
 use Rattle.smc_abi.specs.Call.{call_of}
-
--- ---- that it can come in
-
--- there are eight processors at most
-pub few_processors : (core : Core) (visitor : Visitor) → CanEnter core (coming_of visitor) → visitor.cpu < 8
-few_processors core visitor can =
-    let there = cpu_there core.parts visitor.cpu core.replay can.outside in
-    ∥∥₁_elim core.replay (Prim.hlevel props) (λ (so : Replays core.parts).
-    let few = so.is_boot.few_processors in
-    let cpus = so.stands.cpus in
-    omega (arith, there, few, cpus))
 
 -- ---- what it reads and what it comes to
 
@@ -177,7 +165,7 @@ module _ (old new : Core) (visitor : Visitor) (lane : List ℕ) (reads : List Re
       append_cancel_left (events_of old) (Entry visitor.cpu visitor.regs visitor.steps has.reads ∷ []) (event ∷ []) (sym has.events ∙ done) in
       cc
 
-  pub entry_noted : ((k : Kernel) → StandsFor old.parts k → IsArrival (booted_of old) k visitor.regs.a lane came)
+  entry_noted : ((k : Kernel) → StandsFor old.parts k → IsArrival (booted_of old) k visitor.regs.a lane came)
       → ((k next : Kernel) (rs : List Read) → HasArrived new.parts k next visitor rs came work → (b : own.Notes) → AreNoted before b
       → AreNoted after (own.event_noted before.session k next b (Entry visitor.cpu visitor.regs visitor.steps rs)))
       → IsNoted old new before after event
@@ -190,3 +178,11 @@ module _ (old new : Core) (visitor : Visitor) (lane : List ℕ) (reads : List Re
       (subst (HoldsReads lane) has_read has.from_lane) new work has came is)
       (noted_prop after (own.event_noted before.session kernel next notes event))
       (λ (arrived : HasArrived new.parts kernel next visitor reads came work). comes kernel next reads arrived notes are))
+
+  -- or memory was wanting
+  pub entry_noted_then : (result : Result (Unit {0}) NoMemory)
+      → ((k : Kernel) → StandsFor old.parts k → IsArrival (booted_of old) k visitor.regs.a lane came)
+      → ((k next : Kernel) (rs : List Read) → HasArrived new.parts k next visitor rs came work → IsEntryNoted before after k next visitor rs result)
+      → IfOk result (λ _. IsNoted old new before after event)
+  entry_noted_then (Ok unit) arrives comes = entry_noted arrives comes
+  entry_noted_then (Err error) arrives comes = tt

@@ -9,7 +9,8 @@ use Rattle.base.specs.NumberMap.{get}
 use Rattle.base.specs.declared.no_memory.NoMemory.{NoMemory}
 use Rattle.event_journal.specs.declared.event.Event.TheVariants.{Exit}
 use Rattle.isolation.specs.Noted.{AreNoted, HasFinished, IsLeft, ended_in}
-use Rattle.isolation.specs.Replaying.{IsExitNoted, errand_at, left_at}
+use Rattle.isolation.specs.Meaning.{IsExitNoted}
+use Rattle.isolation.specs.Replaying.{errand_at, left_at}
 use Rattle.isolation.specs.Telling.{told_at_end}
 use Rattle.isolation.specs.declared.notes.Notes.{Notes}
 use Rattle.isolation.proofs.Decided.{noted_out, noted_out_answered}

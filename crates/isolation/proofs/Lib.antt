@@ -4,7 +4,6 @@ pub mod Away
 pub mod Boots
 pub mod Decided
 pub mod Entries
-pub mod Exits
 pub mod Further
 pub mod GoneOut
 pub mod HasCome

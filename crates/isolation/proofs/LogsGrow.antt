@@ -7,7 +7,7 @@ use Rattle.std.specs.Option.{option_map_or}
 use Rattle.base.specs.NumberMap.{get}
 use Rattle.event_journal.specs.declared.event.Event.{Event}
 use Rattle.event_journal.specs.declared.event.Event.TheVariants.{Entry, Exit}
-use Rattle.isolation.specs.Reading.{listing}
+use Rattle.isolation.specs.Noted.{listing}
 use Rattle.kernel_model.specs.Exit.{progress_in_slot}
 use Rattle.kernel_model.specs.Given.{Given, given_to}
 use Rattle.kernel_model.specs.Kernel.{Active, Fixed, Free, InSlot, Inside, Kernel, Outside, PendingCall, Processor, Progress, Suspended, ThreadSlot, Visit}

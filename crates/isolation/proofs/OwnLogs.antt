@@ -1,14 +1,13 @@
 -- What is told of a session by its notes.
-use Rattle.std.proofs.Common.{◌≡◌, ℕ, List, [], ◌∷◌, ◌++◌, Option, Some, None, refl, ap, sym, ◌∙◌}
+use Rattle.std.proofs.Common.{◌≡◌, ℕ, List, [], Option, Some, ap, sym, ◌∙◌}
 use Rattle.std.proofs.Math.Logic.{∥∥₁_elim}
 use Rattle.std.proofs.Props.{props}
-use Rattle.std.proofs.lemmas.List.Elements.{filter_map-append}
-use Rattle.std.specs.Option.{option_and_then, option_map, option_to_list}
+use Rattle.std.specs.Option.{option_and_then, option_map}
 use Rattle.std.specs.Prelude.{IfOk, Result, Ok, Err}
 use Rattle.base.specs.declared.no_memory.NoMemory.{NoMemory}
 use Rattle.event_journal.specs.declared.event.Event.{Event}
-use Rattle.isolation.specs.Noted.{AreNoted}
-use Rattle.isolation.specs.Reading.{IsReading, IsReadingOf, boot_of, events_of, listing, noted_by}
+use Rattle.isolation.specs.Noted.{AreNoted, listing}
+use Rattle.isolation.specs.Reading.{IsReading, IsReadingOf, boot_of, events_of, noted_by}
 use Rattle.isolation.specs.declared.log_reader.LogReader.{LogReader}
 use Rattle.kernel_model.specs.Application.{Application, Booted}
 use Rattle.kernel_model.specs.Instances.{app_of}
@@ -18,7 +17,6 @@ use Rattle.own_model.proofs.WholeHistories.{answered_as_alone}
 use Rattle.own_model.specs.Isolation.{IsSessionOf, steps_in}
 use Rattle.own_model.specs.Own as own
 use Rattle.own_model.specs.Solo.{solo_replies}
-use Rattle.own_model.specs.declared.own_event.OwnEvent.{OwnEvent}
 use Rattle.own_model.specs.declared.own_reply.OwnReply.{OwnReply}
 
 uuid_prop : (one other : Option (List ℕ)) → IsProp (one ≡ other)
@@ -55,13 +53,3 @@ alone_so (Ok x) items log boot history session app same is e =
     answered_as_alone boot history session app is
     ∙ ap (λ (rs : List OwnReply). Some rs) (sym (e ∙ ap own.replies_in same))
 alone_so (Err error) items log boot history session app same is e = tt
-
--- with one event more there is its reply more, if it has one
-pub replies_more : (log : List own.Logged) (logged : own.Logged)
-    → own.replies_in (log ++ logged ∷ []) ≡ own.replies_in log ++ option_to_list logged.1
-replies_more log logged = filter_map-append (λ (one : own.Logged). one.1) log (logged ∷ [])
-    ∙ ap (λ (rest : List OwnReply). own.replies_in log ++ rest) (its logged.0 logged.1)
-  where
-    its : (event : OwnEvent) (told : Option OwnReply) → own.replies_in ((event, told) ∷ []) ≡ option_to_list told
-    its event None = refl
-    its event (Some reply) = refl

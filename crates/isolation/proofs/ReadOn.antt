@@ -1,29 +1,34 @@
--- A reader that has read one event more.
-use Rattle.std.proofs.Common.{◌≡◌, ℕ, ◌+◌, ◌<◌, ◌≤◌, ◌^◌, Bool, List, [], ◌∷◌, ◌++◌, take, drop, length, get_or, refl, ap, sym, subst, ◌∙◌, arith}
+-- What is taken of notes, and a reader that has read on.
+use Rattle.std.proofs.Common.{◌≡◌, ℕ, Bool, List, [], ◌++◌, Option, Some, None, ap, sym, subst, ◌∙◌}
 use Rattle.std.proofs.Math.Logic.{∥∥₁_elim, ∥∥₁_map}
 use Rattle.std.proofs.Props.{props}
-use Rattle.std.proofs.lemmas.List.{append-nil, take-append-drop, take_more}
-use Rattle.std.proofs.lemmas.List.Sums.{sum_by-append}
-use Rattle.audit_model.proofs.Prefixes.{prefixes_can_be, taken_can_begin}
+use Rattle.std.proofs.lemmas.List.{append-nil}
+use Rattle.std.specs.Global.{Vec}
+use Rattle.std.specs.Prelude.{Result, Ok, Err}
 use Rattle.audit_model.specs.Verdicts.{CanBegin, IsFaultless}
-use Rattle.event_journal.specs.Event.{copied_by}
-use Rattle.event_journal.specs.Journal.{copied_bytes}
+use Rattle.base.specs.declared.no_memory.NoMemory.{NoMemory}
 use Rattle.event_journal.specs.declared.event.Event.{Event}
 use Rattle.isolation.proofs.Further.{noted_more}
 use Rattle.isolation.proofs.GoneOut.{logged_set}
 use Rattle.isolation.proofs.LogsGrow.{Adds, event_adds}
 use Rattle.isolation.proofs.NotesKept.{AreAway}
 use Rattle.isolation.specs.Journals.{IsJournal}
-use Rattle.isolation.specs.Noted.{AreNoted, AreNumbers}
-use Rattle.isolation.specs.Reading.{HasRead, IsReading, IsReadingOf, boot_of, events_of, listing, log_of, noted_by}
+use Rattle.isolation.specs.Noted.{AreNoted, AreNumbers, listing}
+use Rattle.isolation.specs.Meaning.{meaning}
+use Rattle.isolation.specs.Reading.{IsReadingOf, Reads, boot_of, events_of, log_of}
 use Rattle.isolation.specs.Replaying.{IsNoted}
 use Rattle.isolation.specs.declared.log_reader.LogReader.{LogReader}
 use Rattle.isolation.specs.declared.notes.Notes.{Notes}
 use Rattle.isolation.specs.declared.numbering.Numbering.{Numbering}
-use Rattle.journal_replay.specs.Replaying.{HasDone}
+use Rattle.journal_notes.specs.Meaning.{Goes, HasTaken}
+use Rattle.journal_notes.specs.Reading.{Reader}
+use Rattle.journal_notes.specs.Reading as reading
 use Rattle.kernel_model.specs.Application.{Booted}
 use Rattle.kernel_model.specs.Kernel.{Kernel}
 use Rattle.kernel_state.proofs.CoreEvents.{some_kernel}
+use Rattle.kernel_state.specs.Meaning.{booted_of}
+use Rattle.kernel_state.specs.Meaning as core
+use Rattle.kernel_state.specs.declared.kernel_core.Core.{Core}
 use Rattle.own_model.specs.Own as own
 
 -- ---- an event
@@ -41,50 +46,70 @@ taken_noted code taken notes log are same none = record {
 log_prop : (xs ys : List own.Logged) → IsProp (xs ≡ ys)
 log_prop xs ys = Prim.hlevel (props, logged_set)
 
-module _ (old new : LogReader) (code : Notes) (event : Event) (news : List own.Logged) (done : HasDone old.replay new.replay event)
-    (is_noted : IsNoted old.replay.at_work.core new.replay.at_work.core old.notes code event) (session : code.session ≡ old.notes.session)
-    (same : new.notes ≡ record code { log = new.notes.log }) (none : new.notes.log.items ≡ []) (told : news ≡ code.log.items) where
-  abbrev before : own.Notes
-  before = noted_by old
+module _ (old new : Core) (before code taken : Notes) (event : Event) (news : List own.Logged) (goes : Goes old new event)
+    (is_noted : IsNoted old new before code event) (session : code.session ≡ before.session)
+    (same : taken ≡ record code { log = taken.log }) (none : taken.log.items ≡ []) (told : news ≡ code.log.items) where
+  -- what is noted by what the old core has done
+  abbrev noted : own.Notes
+  noted = own.noted (booted_of old) (core.events_of old) before.session
 
   abbrev kernel : Kernel
-  kernel = (some_kernel old.replay.at_work.core).0
+  kernel = (some_kernel old).0
 
   abbrev next : Kernel
-  next = (some_kernel new.replay.at_work.core).0
+  next = (some_kernel new).0
 
   abbrev after : own.Notes
-  after = own.event_noted old.notes.session kernel next before event
+  after = own.event_noted before.session kernel next noted event
 
-  abbrev adds : Adds (λ log. own.event_noted old.notes.session kernel next (listing before log) event) after
-  adds = event_adds before old.notes.session kernel next event
+  abbrev adds : Adds (λ log. own.event_noted before.session kernel next (listing noted log) event) after
+  adds = event_adds noted before.session kernel next event
 
-  noted_now : AreNoted old.notes (listing before []) → AreNoted code (listing after adds.more)
+  noted_now : AreNoted before (listing noted []) → AreNoted code (listing after adds.more)
   noted_now are = subst (λ (n : own.Notes). AreNoted code n) (adds.so [])
-      (is_noted kernel next (listing before []) (some_kernel old.replay.at_work.core).1 (some_kernel new.replay.at_work.core).1 are)
+      (is_noted kernel next (listing noted []) (some_kernel old).1 (some_kernel new).1 are)
 
-  its_session : new.notes.session ≡ old.notes.session
+  its_session : taken.session ≡ before.session
   its_session = ap (λ (n : Notes). n.session) same ∙ session
 
-  noted_is : noted_by new ≡ after
-  noted_is = ap (λ (n : ℕ). own.noted (boot_of new) (events_of new) n) its_session
-      ∙ noted_more old.replay.at_work.core new.replay.at_work.core event done.boot done.events old.notes.session kernel next
-      (some_kernel old.replay.at_work.core).1 (some_kernel new.replay.at_work.core).1
+  noted_is : own.noted (booted_of new) (core.events_of new) taken.session ≡ after
+  noted_is = ap (λ (n : ℕ). own.noted (booted_of new) (core.events_of new) n) its_session
+      ∙ noted_more old new event goes.boot goes.events before.session kernel next (some_kernel old).1 (some_kernel new).1
 
-  grown : after.log ≡ before.log ++ adds.more
-  grown = ap (λ (n : own.Notes). n.log) (adds.so before.log)
+  grown : after.log ≡ noted.log ++ adds.more
+  grown = ap (λ (n : own.Notes). n.log) (adds.so noted.log)
 
-  pub read_on : IsReading old → HasRead old new event news
-  read_on reading = record {
-    boot = done.boot;
-    events = done.events;
-    session = its_session;
-    reading = ∥∥₁_map reading (λ (are : AreNoted old.notes (listing before [])).
-        subst (λ (n : own.Notes). AreNoted new.notes (listing n [])) (sym noted_is) (taken_noted code new.notes after adds.more (noted_now are) same none));
-    log = ∥∥₁_elim reading (log_prop (log_of new) (log_of old ++ news)) (λ (are : AreNoted old.notes (listing before [])).
-        ap (λ (n : own.Notes). n.log) noted_is ∙ grown
-        ∙ ap (λ (more : List own.Logged). before.log ++ more) (sym (told ∙ (noted_now are).log)));
+  pub has_taken : HasTaken meaning old new before taken news
+  has_taken = record {
+    subject = its_session;
+    grown = λ (on : ∥ AreNoted before (listing noted []) ∥₁). record {
+      on = ∥∥₁_map on (λ (are : AreNoted before (listing noted [])).
+          subst (λ (n : own.Notes). AreNoted taken (listing n [])) (sym noted_is) (taken_noted code taken after adds.more (noted_now are) same none));
+      log = ∥∥₁_elim on (log_prop (own.noted (booted_of new) (core.events_of new) taken.session).log (noted.log ++ news))
+          (λ (are : AreNoted before (listing noted [])).
+          ap (λ (n : own.Notes). n.log) noted_is ∙ grown
+          ∙ ap (λ (more : List own.Logged). noted.log ++ more) (sym (told ∙ (noted_now are).log)));
+    };
   }
+
+-- ---- a reader
+
+-- the replay and the notes of a reader
+abbrev pub reader_of : LogReader → Reader Notes
+reader_of reader = record { replay = reader.replay; notes = reader.notes }
+
+-- by the answer
+pub reads_so : (old new : LogReader) (event : Event) (result : Result (Option (Vec own.Logged)) NoMemory)
+    → reading.Reads meaning (reader_of old) (reader_of new) event result → Reads old new event result
+reads_so old new event (Ok (Some news)) has = record {
+  boot = has.done.boot;
+  events = has.done.events;
+  session = has.subject;
+  reading = has.grown.on;
+  log = has.grown.log;
+}
+reads_so old new event (Ok None) never = never
+reads_so old new event (Err error) so = tt
 
 -- ---- the events of a journal
 
@@ -106,34 +131,3 @@ journal_can_begin boot events journal = record {
   more = [];
   faultless = subst (IsFaultless boot) (sym (append-nil events)) (record { legal = journal.legal; steady = journal.agree });
 }
-
-module _ (boot : Booted) (events : List Event) (place : ℕ) (event : Event) (below : place < length events) (is : event ≡ get_or events place event)
-    (session : ℕ) (reader : LogReader) (read : IsReadingOf boot (take place events) session reader) (journal : IsJournal boot events) where
-  taken_more : take (place + 1) events ≡ take place events ++ event ∷ []
-  taken_more = take_more events place event below ∙ ap (λ (e : Event). take place events ++ e ∷ []) (sym is)
-
-  read_more : events_of reader ++ event ∷ [] ≡ take (place + 1) events
-  read_more = ap (λ (h : List Event). h ++ event ∷ []) read.events ∙ sym taken_more
-
-  pub few_with_next : copied_bytes (events_of reader ++ event ∷ []) ≤ 2 ^ 28
-  few_with_next =
-      let few = journal.few in
-      let next = ap copied_bytes read_more in
-      let whole = sum_by-append copied_by (take (place + 1) events) (drop (place + 1) events) in
-      let parts = ap copied_bytes (take-append-drop (place + 1) events) in
-      omega (arith, few, next, whole, parts)
-
-  pub can_be_next : IsFaultless (boot_of reader) (events_of reader ++ event ∷ [])
-  can_be_next =
-      subst (λ (b : Booted). IsFaultless b (events_of reader ++ event ∷ [])) (sym read.booted)
-      (subst (IsFaultless boot) (sym read_more)
-      (prefixes_can_be boot (take (place + 1) events) (taken_can_begin boot events (place + 1) (journal_can_begin boot events journal))))
-
-  pub reading_more : (new : LogReader) (news : List own.Logged) → HasRead reader new event news
-      → IsReadingOf boot (take (place + 1) events) session new
-  reading_more new news has = record {
-    booted = has.boot ∙ read.booted;
-    events = has.events ∙ read_more;
-    of_session = has.session ∙ read.of_session;
-    reading = has.reading;
-  }

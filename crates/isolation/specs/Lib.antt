@@ -1,6 +1,7 @@
 pub mod Arriving
 pub mod Journals
 pub mod Logs
+pub mod Meaning
 pub mod Noted
 pub mod Reading
 pub mod Replaying

@@ -49,6 +49,10 @@ pub record AreNoted (code : Notes) (notes : own.Notes) : Type 0 where
   pub turned_away : (cpu : ℕ) → cpu < 8 → slice_get code.turned_away cpu ≡ Some (is_away notes.turned_away cpu)
   pub log : code.log.items ≡ notes.log
 
+-- notes with another log
+abbrev pub listing : own.Notes → List own.Logged → own.Notes
+listing notes log = record notes { log = log }
+
 -- a processor is turned away
 abbrev pub with_away : own.Notes → ℕ → own.Notes
 with_away notes cpu = record notes { turned_away = cpu ∷ notes.turned_away }

@@ -4,7 +4,7 @@ use Rattle.std.specs.Global.{Vec}
 use Rattle.audit_model.specs.Verdicts.{IsFaultless}
 use Rattle.base.specs.declared.no_memory.NoMemory.{NoMemory}
 use Rattle.event_journal.specs.declared.event.Event.{Event}
-use Rattle.isolation.specs.Noted.{AreNoted}
+use Rattle.isolation.specs.Noted.{AreNoted, listing}
 use Rattle.isolation.specs.declared.log_reader.LogReader.{LogReader}
 use Rattle.journal_replay.specs.Replaying as replay
 use Rattle.kernel_model.specs.Application.{Booted}
@@ -24,10 +24,6 @@ noted_by reader = noted (boot_of reader) (events_of reader) reader.notes.session
 
 abbrev pub log_of : LogReader → List own.Logged
 log_of reader = (noted_by reader).log
-
--- notes with another log
-abbrev pub listing : own.Notes → List own.Logged → own.Notes
-listing notes log = record notes { log = log }
 
 -- that stands in the reader, but for the log, which was told event by event: a bare fact, as the one that a core keeps
 abbrev pub IsReading : LogReader → Type 0

@@ -3,14 +3,13 @@ use Rattle.std.specs.Prelude.{◌≡◌, ℕ, ◌&&◌, Bool, List, IfOk, Result
 use Rattle.std.specs.Global.{Box}
 use Rattle.base.specs.declared.no_memory.NoMemory.{NoMemory}
 use Rattle.event_journal.specs.declared.event.Event.{Event}
-use Rattle.event_journal.specs.declared.event.Event.TheVariants.{Entry, Exit}
+use Rattle.event_journal.specs.declared.event.Event.TheVariants.{Entry}
 use Rattle.isolation.specs.Arriving.{IsArrivalIn}
 use Rattle.isolation.specs.Noted.{AreNoted}
 use Rattle.isolation.specs.declared.entering.Arrival.{Arrival}
 use Rattle.isolation.specs.declared.notes.Notes.{Notes}
 use Rattle.kernel_entry.specs.declared.visitor.Visitor.{Visitor}
 use Rattle.kernel_model.specs.Kernel as model
-use Rattle.kernel_state.specs.Leaving.{HasLeft}
 use Rattle.kernel_state.specs.Meaning.{kernel_of}
 use Rattle.kernel_state.specs.StandsFor.{StandsFor}
 use Rattle.kernel_state.specs.Work.{IsCarriedAs}
@@ -19,13 +18,11 @@ use Rattle.kernel_state.specs.declared.parts.Parts.{Parts}
 use Rattle.kernel_state.specs.declared.processor.Errand.{Errand}
 use Rattle.kernel_state.specs.declared.processor.Processor.{Processor}
 use Rattle.kernel_state.specs.declared.processor.Processor.TheVariants.{Outside, Inside}
-use Rattle.kernel_state.specs.declared.work.Ran.{Ran}
 use Rattle.kernel_state.specs.declared.work.Work.{Work}
 use Rattle.ns_ram.specs.declared.read.Read.{Read}
 use Rattle.own_model.specs.Own as own
 use Rattle.rpc_cont.specs.declared.cont.Cont.{Cont}
 use Rattle.smc_abi.specs.declared.answer.Answer.{Answer}
-use Rattle.smc_abi.specs.declared.regs.Regs.{Regs}
 use Rattle.thread_slots.specs.declared.slot.Slot.{Slot}
 use Rattle.thread_slots.specs.declared.slot.Slot.TheVariants.{Suspended}
 
@@ -82,13 +79,3 @@ abbrev pub IsEntryNoted : Notes → Notes → model.Kernel → model.Kernel → 
 IsEntryNoted old new kernel next visitor reads result = (before : own.Notes) → AreNoted old before →
     IfOk result (λ _. AreNoted new
     (own.event_noted old.session kernel next before (Entry visitor.cpu visitor.regs visitor.steps reads)))
-
--- ---- an exit
-
--- a processor has gone out with what it carried, and that is noted
-pub record IsExitNoted (old new : Core) (before after : Notes) (cpu : ℕ) (lane now : List ℕ) : Type 0 where
-  pub ran : Ran
-  pub its_own : ran.cpu ≡ cpu
-  pub told : Regs
-  pub has_left : HasLeft old new ran lane now told
-  pub noted : IsNoted old new before after (Exit cpu told)

@@ -2,15 +2,15 @@
 ghost use Rattle.std.specs.Prelude.{◌≡◌, ◌<◌, IfOk, Some, slice_get};
 ghost use Rattle.std.specs.Option.{option_copied};
 ghost use Rattle.core_at_work.specs.Insides.{IsInside};
-ghost use Rattle.isolation.specs.Replaying.{IsExitNoted, errand_at, left_at};
+ghost use Rattle.isolation.specs.Meaning.{IsExitNoted};
+ghost use Rattle.isolation.specs.Replaying.{errand_at, left_at};
+ghost use Rattle.kernel_state.specs.declared.processor.Errand.TheVariants.{InSlot};
 
-use crate::coming::errand_of;
 use crate::leaving::told_at_end;
 use crate::notes::Notes;
 use base::NoMemory;
 use core_at_work::CoreAtWork;
 use frame_pool::Pages;
-use kernel_state::Errand;
 use ns_ram::Lane;
 use rpc_cont::Cont;
 use std::alloc::Global;
@@ -27,7 +27,7 @@ pub fn left_in(slots: &Slots<Box<Cont<Pages>>>, slot: u8) -> Option<&Cont<Pages>
 }
 
 /// A processor goes out from the call of a slot.
-fn goes_out_of(
+pub(crate) fn goes_out_of(
     alloc: Global,
     at_work: &mut CoreAtWork,
     slot: u8,
@@ -37,7 +37,7 @@ fn goes_out_of(
 ) -> Result<(), NoMemory>
     requires slot { slot < 16 }
     requires inside { IsInside at_work.old.core cpu }
-    requires errand { errand_at (slice_get at_work.old.core.parts.processors.items cpu) ≡ Some (Errand.InSlot slot) }
+    requires errand { errand_at (slice_get at_work.old.core.parts.processors.items cpu) ≡ Some (InSlot slot) }
     ensures noted { IfOk result (λ _. IsExitNoted at_work.old.core at_work.new.core notes.old notes.new cpu lane.old lane.new) }
     ensures session { notes.new.session ≡ notes.old.session }
 {
@@ -51,27 +51,5 @@ fn goes_out_of(
         (Some(cont), _) => notes.goes_out(alloc, slot, number, cont),
         (None, Some(told)) => notes.finishes(alloc, slot, number, told),
         (None, None) => unreachable!(),
-    }
-}
-
-/// A processor that is inside goes out.
-pub(crate) fn goes_out(
-    alloc: Global,
-    at_work: &mut CoreAtWork,
-    cpu: u8,
-    lane: &mut Lane,
-    notes: &mut Notes,
-) -> Result<(), NoMemory>
-    requires { IsInside at_work.old.core cpu }
-    ensures noted { IfOk result (λ _. IsExitNoted at_work.old.core at_work.new.core notes.old notes.new cpu lane.old lane.new) }
-    ensures session { notes.new.session ≡ notes.old.session }
-{
-    match errand_of(at_work.core.parts.processors.as_slice(), cpu) {
-        Some(Errand::InSlot(slot)) => goes_out_of(alloc, at_work, slot, cpu, lane, notes),
-        Some(Errand::Fixed(_)) => {
-            at_work.leave(cpu, lane);
-            notes.goes_out_answered(alloc, cpu)
-        }
-        None => unreachable!(),
     }
 }

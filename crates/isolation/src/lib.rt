@@ -5,12 +5,11 @@
 //! definitions of `own_model` read it off the kernel, and noted.
 //!
 //! `session_log` has what is read off, `notes` what is noted, `entering` what is seen of an entry and `coming` what is noted of
-//! one, `leaving` what is told of a call that goes out and `going` what is noted of that. `doing` does an event again and notes it,
-//! `log_reader` reads a log event by event, and `own` reads that of a whole journal.
+//! one, `leaving` what is told of a call that goes out and `going` what is noted of that. `session_notes` has the notes as those that
+//! `journal_notes` takes, `log_reader` reads a log event by event, and `own` reads that of a whole journal.
 #![tactic(auto)]
 
 mod coming;
-mod doing;
 mod entering;
 mod going;
 mod leaving;
@@ -19,6 +18,7 @@ mod notes;
 mod numbering;
 mod own;
 mod session_log;
+mod session_notes;
 
 pub use base::NoMemory;
 pub use coming::errand_of;

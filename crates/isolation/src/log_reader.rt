@@ -3,7 +3,6 @@ ghost use Rattle.std.specs.Prelude.{◌≡◌, ◌≤◌, ◌^◌, [], ◌∷◌
 ghost use Rattle.std.specs.Option.{option_and_then, option_map};
 ghost use Rattle.core_at_work.specs.Booting.{IsApart};
 ghost use Rattle.event_journal.specs.Journal.{copied_bytes};
-ghost use Rattle.isolation.specs.Journals.{IsJournal};
 ghost use Rattle.isolation.specs.Reading.{IsReading, IsReadingOf, Reads, boot_of, events_of};
 ghost use Rattle.kernel_model.specs.Application.{booted};
 ghost use Rattle.kernel_model.specs.Instances.{app_of};
@@ -11,13 +10,13 @@ ghost use Rattle.kernel_state.specs.Booting.{IsWithinLimits};
 ghost use Rattle.kernel_state.specs.Meaning.{booted_of};
 ghost use Rattle.kernel_state.specs.Setup.{application_of};
 ghost use Rattle.native_tas.specs.Table.{entries};
-ghost use Rattle.own_model.specs.Own.{noted, own_app};
+ghost use Rattle.own_model.specs.Own.{own_app};
 
-use crate::doing::does;
 use crate::notes::Notes;
-use crate::session_log::{Logged, Noted};
+use crate::session_log::Noted;
 use base::NoMemory;
 use event_journal::Event;
+use journal_notes::read;
 use journal_replay::Replay;
 use kernel_state::Application;
 use native_tas::Natives;
@@ -31,27 +30,6 @@ use uuid::Uuid;
 pub struct LogReader {
     pub(crate) replay: Replay,
     pub(crate) notes: Notes,
-}
-
-/// The entry itself.
-fn logged_of(noted: Noted) -> Logged
-    ensures { result ≡ noted }
-{
-    let (event, reply) = noted;
-    match reply {
-        Some(reply) => (event.into_inner(), Some(reply.into_inner())),
-        None => (event.into_inner(), None),
-    }
-}
-
-/// Adds what is new to a log.
-fn add_all(log: &mut Vec<Logged>, news: Vec<Noted>) -> Result<(), NoMemory>
-    ensures { IfOk result (λ _. log.new.items ≡ log.old.items ++ news.items) }
-{
-    for noted in news {
-        log.push(logged_of(noted))?;
-    }
-    Ok(())
 }
 
 /// The application of this UUID, if there is one.
@@ -88,34 +66,7 @@ impl LogReader {
         requires few { copied_bytes (events_of self.old ++ event.now ∷ []) ≤ 2 ^ 28 }
         ensures { Reads self.old self.new event.now result }
     {
-        let can_be = does(alloc, &mut self.replay, event, &mut self.notes)?;
-        if can_be {
-            Ok(Some(self.notes.take_log(alloc)))
-        } else {
-            Ok(None)
-        }
-    }
-
-    /// Reads the events of a journal, of which nothing is read so far: the whole log.
-    pub(crate) fn reads_all(
-        &mut self,
-        alloc: Global,
-        events: &[Event],
-    ) -> Result<Vec<Logged>, NoMemory>
-        requires journal { IsJournal (boot_of self.old) events.now }
-        requires reading { IsReadingOf (boot_of self.old) [] self.old.notes.session self.old }
-        ensures log { IfOk result (λ log. log.items ≡ (noted (boot_of self.old) events.now self.old.notes.session).log) }
-        ensures reading { IfOk result (λ _. IsReadingOf (boot_of self.old) events.now self.old.notes.session self.new) }
-    {
-        let mut log = Vec::new(alloc);
-        for event in events {
-            let read = self.reads(alloc, event)?;
-            match read {
-                Some(news) => add_all(&mut log, news)?,
-                None => unreachable!(),
-            }
-        }
-        Ok(log)
+        read(alloc, &mut self.replay, &mut self.notes, event)
     }
 
     /// The session's application, once its open has come in.

@@ -67,7 +67,7 @@ impl Notes {
     }
 
     /// Takes what was listed so far.
-    pub(crate) fn take_log(&mut self, alloc: Global) -> Vec<Noted>
+    pub(crate) fn take_list(&mut self, alloc: Global) -> Vec<Noted>
         ensures log { result.items ≡ self.old.log.items }
         ensures taken { self.new.log.items ≡ [] }
         ensures stays { self.new ≡ record self.old { log = self.new.log } }

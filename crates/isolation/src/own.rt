@@ -1,19 +1,19 @@
 //! What happened to a session, and what it was answered.
-ghost use Rattle.std.specs.Prelude.{◌≡◌, ◌++◌, IfOk, Some};
-ghost use Rattle.std.specs.Option.{option_to_list};
+ghost use Rattle.std.specs.Prelude.{◌≡◌, IfOk, Some};
 ghost use Rattle.isolation.specs.Journals.{IsJournal};
 ghost use Rattle.isolation.specs.Logs.{IsLogOf};
 ghost use Rattle.kernel_model.specs.Application.{Application, booted};
 ghost use Rattle.native_tas.specs.Table.{entries};
 ghost use Rattle.own_model.specs.Isolation.{IsSessionOf, steps_in};
-ghost use Rattle.own_model.specs.Own.{events_in, own_events, own_replies, replies_in};
+ghost use Rattle.own_model.specs.Own.{own_events, own_replies};
 ghost use Rattle.own_model.specs.Solo.{solo_replies, unopened};
 ghost use Rattle.solo.specs.Feeding.{CanBeFed};
 
 use crate::log_reader::LogReader;
-use crate::session_log::{Logged, OwnLog};
+use crate::session_log::OwnLog;
 use base::NoMemory;
 use event_journal::Journal;
+use journal_notes::{events_in, read_all, replies_in};
 use native_tas::Natives;
 use own_model::{OwnEvent, OwnReply};
 use std::alloc::Global;
@@ -33,55 +33,10 @@ pub fn own_log(
     ensures { IfOk result (IsLogOf (booted boot.now (entries natives.now)) journal.now.events session) }
 {
     let mut reader = LogReader::new(alloc, boot, natives, session)?;
-    let entries = reader.reads_all(alloc, journal.as_slice())?;
+    let events = journal.as_slice();
+    let entries = read_all(alloc, &mut reader.replay, &mut reader.notes, events)?;
     let app = reader.app()?;
     Ok(OwnLog { app, entries })
-}
-
-/// The event itself.
-fn event_of(logged: Logged) -> OwnEvent
-    ensures { result ≡ logged.0 }
-{
-    logged.0
-}
-
-/// The events of a log.
-fn events_in(alloc: Global, log: Vec<Logged>) -> Result<Vec<OwnEvent>, NoMemory>
-    ensures { IfOk result (λ events. events.items ≡ events_in log.items) }
-{
-    let mut events = Vec::with_capacity(alloc, log.len())?;
-    for logged in log {
-        events.push(event_of(logged))?;
-    }
-    Ok(events)
-}
-
-/// The reply of an event, if it has one.
-fn reply_of(logged: Logged) -> Option<OwnReply>
-    ensures { result ≡ logged.1 }
-{
-    logged.1
-}
-
-/// Adds a reply, if there is one.
-fn add(replies: &mut Vec<OwnReply>, told: Option<OwnReply>) -> Result<(), NoMemory>
-    ensures { IfOk result (λ _. replies.new.items ≡ replies.old.items ++ option_to_list told) }
-{
-    if let Some(reply) = told {
-        replies.push(reply)?;
-    }
-    Ok(())
-}
-
-/// The replies of a log.
-fn replies_in(alloc: Global, log: Vec<Logged>) -> Result<Vec<OwnReply>, NoMemory>
-    ensures { IfOk result (λ replies. replies.items ≡ replies_in log.items) }
-{
-    let mut replies = Vec::with_capacity(alloc, log.len())?;
-    for logged in log {
-        add(&mut replies, reply_of(logged))?;
-    }
-    Ok(replies)
 }
 
 /// What has happened to a session, by the journal of a core of this boot that is legal, whose entries have read at most

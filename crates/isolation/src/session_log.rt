@@ -1,12 +1,11 @@
-use boxed::Boxed;
 use kernel_state::Application;
 use own_model::{OwnEvent, OwnReply};
 
 /// An event of a session, with its reply, if it has one.
-pub type Logged = (OwnEvent, Option<OwnReply>);
+pub type Logged = journal_notes::Logged<OwnEvent, OwnReply>;
 
-/// The same, each of both on the heap: they take 7,400 bytes.
-pub type Noted = (Boxed<OwnEvent>, Option<Boxed<OwnReply>>);
+/// The same, each of both on the heap.
+pub type Noted = journal_notes::Noted<OwnEvent, OwnReply>;
 
 /// What happened to a session, and what it was answered.
 #[derive(Drop)]

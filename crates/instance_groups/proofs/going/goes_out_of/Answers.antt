@@ -4,7 +4,7 @@ use Rattle.std.specs.Prelude.{IfOk}
 use Rattle.std.specs.Option.{option_and_then}
 use Rattle.isolation.specs.Telling.{told_at_end}
 use Rattle.instance_groups.specs.Noted.{opened_by}
-use Rattle.instance_groups.specs.Replaying.{IsExitNoted}
+use Rattle.instance_groups.specs.Meaning.{IsExitNoted}
 use Rattle.instance_groups.proofs.GoneOut.{exit_ended, exit_of_other, exit_waiting}
 use Rattle.isolation.proofs.GoneOut.{came_for, must_tell}
 use Rattle.kernel_state.specs.declared.processor.Errand.TheVariants.{InSlot}

@@ -1,10 +1,12 @@
-use Rattle.std.proofs.Common.{◌≡◌, List, Some, refl, ap, sym, subst, ◌∙◌}
+use Rattle.std.proofs.Common.{◌≤◌, ◌^◌, List, Some, ap, sym, subst, ◌∙◌}
+use Rattle.audit_model.specs.Verdicts.{CanBegin}
+use Rattle.event_journal.specs.Journal.{copied_bytes}
 use Rattle.event_journal.specs.declared.event.Event.{Event}
 use Rattle.group_model.specs.Read.{noted}
 use Rattle.instance_groups.proofs.ReadOn.{log_named}
 use Rattle.instance_groups.specs.Journals.{log_by}
 use Rattle.instance_groups.specs.Reading.{group_app}
-use Rattle.isolation.specs.Journals.{IsJournal}
+use Rattle.isolation.proofs.ReadOn.{journal_can_begin}
 use Rattle.isolation.proofs.Boots.{apart_booted, within_limits}
 use Rattle.kernel_model.specs.Application.{Booted, booted}
 use Rattle.kernel_state.specs.Setup.{application_of}
@@ -18,27 +20,32 @@ new-requires-clause-limits g c = within_limits c.args.boot.now (entries c.args.n
 pub new-requires-clause-apart : goal.new-requires-clause-apart
 new-requires-clause-apart g c = apart_booted c.args.boot.now (entries c.args.natives.now) c.requires.legal.boots
 
-pub reads_all-requires-clause-journal : goal.reads_all-requires-clause-journal
-reads_all-requires-clause-journal g c =
+pub read_all-requires-clause-can : goal.read_all-requires-clause-can
+read_all-requires-clause-can g c =
     let has = rw c.in-Some.is at c.in_ok-made.ensures in
-    subst (λ (b : Booted). IsJournal b c.as_slice.result.now) (sym has.1.booted)
-    (subst (IsJournal (booted c.args.boot.now (entries c.args.natives.now))) (sym c.as_slice.ensures) c.requires)
+    subst (λ (b : Booted). CanBegin b c.as_slice-events.result.now) (sym has.1.booted)
+    (subst (CanBegin (booted c.args.boot.now (entries c.args.natives.now))) (sym c.as_slice-events.ensures) (journal_can_begin _ _ c.requires))
 
-pub reads_all-requires-clause-reading : goal.reads_all-requires-clause-reading
-reads_all-requires-clause-reading g c =
-    let has = rw c.in-Some.is at c.in_ok-made.ensures in
-    record { booted = refl; events = has.1.events; of_app = refl; reading = has.1.reading }
+pub read_all-requires-clause-few : goal.read_all-requires-clause-few
+read_all-requires-clause-few g c = subst (λ (events : List Event). copied_bytes events ≤ 2 ^ 28) (sym c.as_slice-events.ensures) c.requires.few
+
+pub read_all-requires-clause-nothing : goal.read_all-requires-clause-nothing
+read_all-requires-clause-nothing g c = (rw c.in-Some.is at c.in_ok-made.ensures).1.events
+
+pub read_all-requires-clause-on : goal.read_all-requires-clause-on
+read_all-requires-clause-on g c = (rw c.in-Some.is at c.in_ok-made.ensures).1.reading
 
 pub returns-in_ok-entries-in-Some : goal.returns-in_ok-entries-in-Some
 returns-in_ok-entries-in-Some g c =
     let boot = booted c.args.boot.now (entries c.args.natives.now) in
     let app = group_app c.in-Some.reader in
     let has = rw c.in-Some.is at c.in_ok-made.ensures in
+    let all = c.in_ok-entries-in-Some.ensures in
     record {
-      app = has.0 ∙ ap (λ (a : CodeApp). Some (application_of a)) (sym (c.into_app.ensures ∙ c.in_ok-entries-in-Some.ensures.app));
-      entries = c.in_ok-entries-in-Some.ensures.log
-          ∙ ap (λ (b : Booted). (noted b c.as_slice.result.now app).log) has.1.booted
-          ∙ ap (λ (h : List Event). (noted boot h app).log) c.as_slice.ensures
+      app = has.0 ∙ ap (λ (a : CodeApp). Some (application_of a)) (sym (c.into_app.ensures ∙ all.subject));
+      entries = all.whole
+          ∙ ap (λ (b : Booted). (noted b c.as_slice-events.result.now app).log) has.1.booted
+          ∙ ap (λ (h : List Event). (noted boot h app).log) c.as_slice-events.ensures
           ∙ log_named boot c.args.journal.now.events c.args.uuid app has.0;
     }
 

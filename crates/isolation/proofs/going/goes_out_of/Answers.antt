@@ -1,7 +1,7 @@
 -- What the exit made of the core, and what was seen of its slot.
 use Rattle.std.proofs.Common.{◌≡◌, ℕ, Some, ap, subst, sym, ◌∙◌}
 use Rattle.std.specs.Prelude.{IfOk}
-use Rattle.isolation.specs.Replaying.{IsExitNoted}
+use Rattle.isolation.specs.Meaning.{IsExitNoted}
 use Rattle.isolation.specs.Telling.{told_at_end}
 use Rattle.isolation.proofs.GoneOut.{came_for, exit_ended, exit_of_other, exit_waiting, must_tell}
 use Rattle.kernel_state.specs.declared.processor.Errand.TheVariants.{InSlot}

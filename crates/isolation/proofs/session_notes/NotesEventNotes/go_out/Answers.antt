@@ -3,11 +3,12 @@ use Rattle.std.proofs.Common.{◌≡◌, ℕ, Some, None, subst, sym}
 use Rattle.std.specs.Prelude.{IfOk, slice_get}
 use Rattle.core_at_work.proofs.Worked.{kept_in}
 use Rattle.isolation.specs.Noted.{AreNoted}
-use Rattle.isolation.specs.Replaying.{IsExitNoted, errand_at}
+use Rattle.isolation.specs.Meaning.{IsExitNoted}
+use Rattle.isolation.specs.Replaying.{errand_at}
 use Rattle.isolation.proofs.GoneOut.{came_for, comes_for, exit_answered, few_processors, few_slots}
 use Rattle.kernel_state.specs.declared.processor.Errand.TheVariants.{Fixed, InSlot}
 use Rattle.own_model.specs.Own as own
-use Rattle.isolation.proofs.going.goes_out.Goals as goal
+use Rattle.isolation.proofs.session_notes.NotesEventNotes.go_out.Goals as goal
 
 pub goes_out_of-requires-clause-slot : goal.goes_out_of-requires-clause-slot
 goes_out_of-requires-clause-slot c =
@@ -50,9 +51,9 @@ returns-in-Some-Fixed-clause-noted c =
     let answer = c.in-Some-Fixed.field-0-0 in
     let is : errand_at (slice_get items c.args.cpu) ≡ Some (Fixed answer) =
     cc (c.errand_of.ensures, c.as_slice.ensures.value, c.in-Some-Fixed.is, c.in-Some-Fixed.field-0-is) in
-    subst (λ (n : ℕ). IfOk c.goes_out_answered.result (λ _. IsExitNoted old new c.args.notes.now c.goes_out_answered.new.self n lane now))
+    subst (λ (n : ℕ). IfOk c.goes_out_answered.result (λ _. IsExitNoted old new c.args.self.now c.goes_out_answered.new.self n lane now))
     out.its_own
-    (exit_answered old new out.ran lane now c.leave.result.regs answer c.args.notes.now c.goes_out_answered.new.self
+    (exit_answered old new out.ran lane now c.leave.result.regs answer c.args.self.now c.goes_out_answered.new.self
     c.goes_out_answered.result out.has_left
     (came_for old out.ran c.args.cpu (Some (Fixed answer)) out.its_own is)
     (λ notes are. subst (λ (n : ℕ). IfOk c.goes_out_answered.result (λ _. AreNoted c.goes_out_answered.new.self (own.limit_noted notes n)))

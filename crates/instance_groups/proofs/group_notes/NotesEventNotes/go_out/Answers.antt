@@ -2,12 +2,12 @@
 use Rattle.std.proofs.Common.{◌≡◌, ℕ, Some, None, subst}
 use Rattle.std.specs.Prelude.{slice_get}
 use Rattle.core_at_work.proofs.Worked.{kept_in}
-use Rattle.instance_groups.specs.Replaying.{IsExitNoted}
+use Rattle.instance_groups.specs.Meaning.{IsExitNoted}
 use Rattle.instance_groups.proofs.GoneOut.{exit_answered}
 use Rattle.isolation.specs.Replaying.{errand_at}
 use Rattle.isolation.proofs.GoneOut.{came_for, comes_for, few_slots}
 use Rattle.kernel_state.specs.declared.processor.Errand.TheVariants.{Fixed, InSlot}
-use Rattle.instance_groups.proofs.going.goes_out.Goals as goal
+use Rattle.instance_groups.proofs.group_notes.NotesEventNotes.go_out.Goals as goal
 
 pub goes_out_of-requires-clause-slot : goal.goes_out_of-requires-clause-slot
 goes_out_of-requires-clause-slot c =
@@ -41,6 +41,6 @@ returns-in-Some-Fixed-clause-noted c =
     let answer = c.in-Some-Fixed.field-0-0 in
     let is : errand_at (slice_get items c.args.cpu) ≡ Some (Fixed answer) =
     cc (c.errand_of.ensures, c.as_slice.ensures.value, c.in-Some-Fixed.is, c.in-Some-Fixed.field-0-is) in
-    subst (λ (n : ℕ). IsExitNoted old new c.args.notes.now c.args.notes.now n c.args.lane.now c.leave.new.lane) out.its_own
-    (exit_answered old new out.ran c.args.lane.now c.leave.new.lane c.leave.result.regs answer c.args.notes.now out.has_left
+    subst (λ (n : ℕ). IsExitNoted old new c.args.self.now c.args.self.now n c.args.lane.now c.leave.new.lane) out.its_own
+    (exit_answered old new out.ran c.args.lane.now c.leave.new.lane c.leave.result.regs answer c.args.self.now out.has_left
     (came_for old out.ran c.args.cpu (Some (Fixed answer)) out.its_own is))

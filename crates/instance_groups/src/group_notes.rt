@@ -1,0 +1,73 @@
+//! A group's notes, taken as events are done again.
+ghost use Rattle.std.specs.Prelude.{◌≡◌};
+ghost use Rattle.instance_groups.specs.Meaning.{IsArrivalOn, meaning};
+
+use crate::arriving::{Arrival, arrives};
+use crate::coming::has_come;
+use crate::going::goes_out_of;
+use crate::group_log::Noted;
+use crate::notes::Notes;
+use base::NoMemory;
+use core_at_work::CoreAtWork;
+use group_model::{GroupEvent, GroupReply};
+use isolation::errand_of;
+use journal_notes::EventNotes;
+use kernel_entry::Visitor;
+use kernel_state::{Core, Errand, Ran};
+use ns_ram::Lane;
+use smc_abi::Regs;
+use std::alloc::Global;
+
+impl EventNotes for Notes {
+    type Arrival = Arrival;
+
+    type Event = GroupEvent;
+
+    type Reply = GroupReply;
+
+    ghost meaning = { meaning };
+
+    ghost IsArrival = { λ notes core regs lane came. IsArrivalOn notes core regs lane came };
+
+    fn arrival(
+        &self,
+        alloc: Global,
+        core: &Core,
+        regs: &Regs,
+        lane: &Lane,
+    ) -> Result<Arrival, NoMemory> {
+        arrives(alloc, core, &self.app, regs, lane)
+    }
+
+    fn come_in(
+        &mut self,
+        alloc: Global,
+        core: &Core,
+        visitor: Visitor,
+        arrival: Arrival,
+        ran: &Ran,
+    ) -> Result<(), NoMemory> {
+        has_come(alloc, self, core, visitor, arrival, ran)
+    }
+
+    fn go_out(
+        &mut self,
+        alloc: Global,
+        at_work: &mut CoreAtWork,
+        cpu: u8,
+        lane: &mut Lane,
+    ) -> Result<(), NoMemory> {
+        match errand_of(at_work.core.parts.processors.as_slice(), cpu) {
+            Some(Errand::InSlot(slot)) => goes_out_of(alloc, at_work, slot, cpu, lane, self),
+            Some(Errand::Fixed(_)) => {
+                at_work.leave(cpu, lane);
+                Ok(())
+            }
+            None => unreachable!(),
+        }
+    }
+
+    fn take_log(&mut self, alloc: Global) -> Vec<Noted> {
+        self.take_list(alloc)
+    }
+}
