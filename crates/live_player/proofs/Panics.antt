@@ -24,7 +24,7 @@ use Rattle.live_text.specs.declared.statement.Statement.TheVariants as says
 use Rattle.notif.specs.Desk.{DeskState, IsDeskOf}
 use Rattle.notif.specs.Laws.{DesksKeepTheirDrivers}
 use Rattle.notify_play.specs.NotifyPlay.{Drivers, NotifyPlay, after_item, comes_in, goes_out, unless_refused, visit_with, with_play}
-use Rattle.notify_player.specs.Playing.{CanComeIn, CanGoOut, Follows, IsPlayedTo, refused_at}
+use Rattle.notify_player.specs.Playing.{Follows, IsPlayedTo, refused_at}
 use Rattle.notify_player.specs.declared.player.NotifyPlayer.{NotifyPlayer}
 use Rattle.notify_player.proofs.Coming.{gone_same, unless_none, went_out}
 use Rattle.notify_text.specs.Rules.{NotifyFront}
@@ -32,6 +32,7 @@ use Rattle.play_model.specs.Line.{Line, text_of_line}
 use Rattle.play_model.specs.Play.{enters}
 use Rattle.smc_abi.specs.declared.regs.Regs.{Regs}
 use Rattle.ta_isa.specs.declared.boot.Boot.{Boot}
+use Rattle.trace_player.specs.Playing.{CanComeIn, CanGoOut}
 use Rattle.trace_text.specs.declared.item.Item.{Item}
 use Rattle.trace_text.specs.declared.item.Item.TheVariants as item
 use Rattle.trace_text.specs.declared.item.Reg.{Reg}
@@ -42,25 +43,25 @@ use Rattle.word_parts.specs.declared.stop.Stop.TheVariants.{Full, Failed, Memory
 
 -- the processor can go out
 pub came_can : (boot : Booted) (drivers : Drivers) (told next : NotifyPlay) (cpu steps : ℕ) (regs : List Reg)
-    (before after : NotifyPlayer) → TurnsAreTaken → CanComeIn before.machine cpu steps regs → IsPlayedTo boot drivers told before
-    → comes_in boot cpu steps regs told ≡ Some next → IsPlayedTo boot drivers next after → CanGoOut after.machine cpu
+    (before after : NotifyPlayer) → TurnsAreTaken → CanComeIn before.player.machine cpu steps regs → IsPlayedTo boot drivers told before
+    → comes_in boot cpu steps regs told ≡ Some next → IsPlayedTo boot drivers next after → CanGoOut after.player.machine cpu
 came_can boot drivers told next cpu steps regs before after turns can stands came behind =
     let visit = visit_with told cpu steps regs in
     let none : Regs = record { a = [] } in
     let entry = option_map_some (with_play told) (enters boot told.play visit) next came in
     let outside : slice_get (insides told.play.kernel) cpu ≡ Some false =
     (subst (λ (o : Option Kernel). IsSomeAnd o (λ (k : Kernel). MayCome (insides k)
-    (Comes (record { cpu = cpu; regs = none; steps = steps })))) stands.machine.kernel (can.comes none)).0 in
+    (Comes (record { cpu = cpu; regs = none; steps = steps })))) stands.at.machine.kernel (can.comes none)).0 in
     let inside : slice_get (insides next.play.kernel) cpu ≡ Some true =
     ap (λ (l : List Bool). slice_get l cpu)
-    (turns.entry boot told.play next.play visit (entry.1 ∙ ap (λ (n : NotifyPlay). Some n.play) entry.2) behind.machine.goes_on)
+    (turns.entry boot told.play next.play visit (entry.1 ∙ ap (λ (n : NotifyPlay). Some n.play) entry.2) behind.at.machine.goes_on)
     ∙ set_found (insides told.play.kernel) cpu true false outside in
     record {
       few = can.few;
-      lane = subst (λ (on : Booted). cpu < on.cpus) (stands.machine.booted ∙ sym behind.machine.booted) can.lane;
+      lane = subst (λ (on : Booted). cpu < on.cpus) (stands.at.machine.booted ∙ sym behind.at.machine.booted) can.lane;
       leaves =
           subst (λ (o : Option Kernel). IsSomeAnd o (λ (k : Kernel). MayCome (insides k) (Leaves cpu)))
-          (sym behind.machine.kernel) inside;
+          (sym behind.at.machine.kernel) inside;
     }
 
 pub came_desk : (boot : Booted) (drivers : Drivers) (next : NotifyPlay) (after : NotifyPlayer) → DesksKeepTheirDrivers
@@ -99,7 +100,7 @@ module _ (boot : Booted) (drivers : Drivers) (told : NotifyPlay) (cpu steps : �
       let then = out.3 in (
         out.0,
         ap (option_and_then (unless_refused (goes_out boot drivers cpu))) came.1
-            ∙ unless_none (goes_out boot drivers cpu) came.0 came.2.machine.goes_on ∙ out.1,
+            ∙ unless_none (goes_out boot drivers cpu) came.0 came.2.at.machine.goes_on ∙ out.1,
         out.2,
         (
           first.0 ++ then.0,
@@ -110,7 +111,7 @@ module _ (boot : Booted) (drivers : Drivers) (told : NotifyPlay) (cpu steps : �
         ),
       )
   call_follows (Err Full) between player old middle new came out =
-      absurd (never_full came.0 out.0 came.2.machine.goes_on out.1)
+      absurd (never_full came.0 out.0 came.2.at.machine.goes_on out.1)
   call_follows (Err Failed) between player old middle new came out = absurd out
   call_follows (Err Memory) between player old middle new came out = tt
 

@@ -25,10 +25,10 @@ use Rattle.notif.specs.Desk.{DeskState, IsDeskOf}
 use Rattle.notif.specs.History as desk
 use Rattle.notif.specs.Laws.{DesksKeepTheirDrivers}
 use Rattle.notify_play.specs.NotifyPlay.{Drivers, NotifyPlay, after_item, after_step, unless_refused}
-use Rattle.notify_player.specs.Playing.{CanBeTaken, Follows, IsPlayedTo}
+use Rattle.notify_player.specs.Playing.{Follows, IsPlayedTo}
 use Rattle.notify_player.specs.Playing as playing
 use Rattle.notify_player.specs.declared.player.NotifyPlayer.{NotifyPlayer}
-use Rattle.notify_player.proofs.Coming.{can_take, ready, unless_none}
+use Rattle.notify_player.proofs.Coming.{ready, unless_none}
 use Rattle.notify_text.specs.Rules.{NotifyFront}
 use Rattle.notify_text.specs.Sound.{IsSoundSignal}
 use Rattle.notify_text.specs.Steps.{Signals, Takes}
@@ -36,6 +36,8 @@ use Rattle.notify_text.specs.declared.notify_trace.Signal.{Signal}
 use Rattle.play_model.specs.Line.{Line}
 use Rattle.play_model.proofs.Coming.{few_cpus}
 use Rattle.ta_isa.specs.declared.boot.Boot.{Boot}
+use Rattle.trace_player.specs.Playing.{CanBeTaken}
+use Rattle.trace_player.proofs.Playable.{can_take}
 use Rattle.trace_text.specs.Limits.{cpus_of, inside_after, outside}
 use Rattle.trace_text.specs.Sound.{IsSoundItem, can_come}
 use Rattle.trace_text.specs.declared.item.Item.{Item}
@@ -80,10 +82,10 @@ module _ (natives : List Native) (drivers : Drivers) (lines : NotifyFront) where
       more-played on p.boot lines (with_item i) (Takes i) p.there p.there refl
       (item_steps lines i (orderly on lines next.within))
       ∙ ap (option_and_then (unless_refused (after_step kernel drivers (Takes i)))) p.play
-      ∙ unless_none (after_step kernel drivers (Takes i)) p.told p.stands.machine.goes_on
+      ∙ unless_none (after_step kernel drivers (Takes i)) p.told p.stands.at.machine.goes_on
 
   pub item_can : (i : Item) (player : NotifyPlayer) → MachinesStand → IsNext on lines (says.Item i)
-      → IsPlayedBehind on lines player → CanBeTaken player.machine i
+      → IsPlayedBehind on lines player → CanBeTaken player.player.machine i
   unfolding inside_after
   item_can i player stand next p =
       let kernel : Booted = booted p.boot natives in
@@ -95,8 +97,8 @@ module _ (natives : List Native) (drivers : Drivers) (lines : NotifyFront) where
       let can : IsTrue (can_come (inside_after lines.trace.items) i) =
       last_turn outside lines.trace.items i next.next.sound.in_turn in
       let there = lines_stand natives drivers lines p.boot p.told p.there p.boots next.within.sound p.play
-      p.stands.machine.goes_on in
-      can_take kernel p.told.play player.machine i stand few p.stands.machine
+      p.stands.at.machine.goes_on in
+      can_take kernel p.told.play player.player.machine i stand few p.stands.at.machine
       (ready kernel drivers p.boots few i (inside_after lines.trace.items) p.told there sound can) sound
 
   pub desk_is : (player : NotifyPlayer) → DesksKeepTheirDrivers → IsPlayedBehind on lines player
@@ -113,7 +115,7 @@ module _ (natives : List Native) (drivers : Drivers) (lines : NotifyFront) where
       let prints = follows.3 in
       record {
         answers =
-            answers-done on lines (with_item i) prints.0 old new (ap refused_by is ∙ follows.2.machine.goes_on)
+            answers-done on lines (with_item i) prints.0 old new (ap refused_by is ∙ follows.2.at.machine.goes_on)
             (ap printed_by is ∙ prints.1 ∙ ap (λ (l : List Line). l ++ prints.0) (sym (ap printed_by p.play))) prints.2;
         stands = record {
           boot = p.boot;
@@ -129,14 +131,14 @@ module _ (natives : List Native) (drivers : Drivers) (lines : NotifyFront) where
   pub item_full : (i : Item) (before after : NotifyPlayer) (copied : ℕ) (old new : List ℕ) → IsNext on lines (says.Item i)
       → (p : IsPlayedBehind on lines before)
       → Follows (booted p.boot natives) drivers p.told (after_item (booted p.boot natives) drivers i p.told) (Err Full) after old new
-      → copied ≡ copied_bytes (events_of after.machine.at_work.core)
+      → copied ≡ copied_bytes (events_of after.player.machine.at_work.core)
       → PlaysOn on lines (says.Item i) (taken.Full copied) after old new
   item_full i before after copied old new next p follows read =
       let is : play_at on (with_item i) ≡ Some (playing.refused_at follows.0 p.told) = item_played i before next p ∙ follows.1 in
       record {
         answers =
             answers-full on lines (with_item i) follows.0 copied old new (ap refused_by is)
-            (read ∙ ap (λ (events : List Event). copied_bytes events) follows.3.machine.history
+            (read ∙ ap (λ (events : List Event). copied_bytes events) follows.3.at.machine.history
             ∙ sym (ap copied_by p.play)) follows.2;
         stands = record {
           boot = p.boot;
@@ -162,7 +164,7 @@ module _ (natives : List Native) (drivers : Drivers) (lines : NotifyFront) where
       let kernel : Booted = booted p.boot natives in
       more-played on p.boot lines (with_value value) (Signals value) p.there p.there refl (signal_steps lines value)
       ∙ ap (option_and_then (unless_refused (after_step kernel drivers (Signals value)))) p.play
-      ∙ unless_none (after_step kernel drivers (Signals value)) p.told p.stands.machine.goes_on
+      ∙ unless_none (after_step kernel drivers (Signals value)) p.told p.stands.at.machine.goes_on
 
   pub signal_done : (value : ℕ) (before after : NotifyPlayer) → (p : IsPlayedBehind on lines before)
       → IsPlayedTo (booted p.boot natives) drivers (signalled value p.told) after

@@ -179,7 +179,7 @@ core_signal natives drivers lines value before after text p stands =
     record {
       answers =
           answers-nothing (setting natives drivers) lines (with_statement lines (says.Signal value)) text
-          (ap refused_by is ∙ stands.machine.goes_on) (ap printed_by is ∙ sym (ap printed_by p.play));
+          (ap refused_by is ∙ stands.at.machine.goes_on) (ap printed_by is ∙ sym (ap printed_by p.play));
       stands = (signal_done natives drivers lines value before after p stands, closed_signal lines value);
     }
 
@@ -207,7 +207,7 @@ one_sound value least most =
 
 pub stage_going : (on : Setting) (lines : NotifyFront) (now : Stage) → StageAt on lines now → refused_at on lines ≡ None
 stage_going on lines (stage.Header header) at = (quiet on lines (header_of lines at.1)).going
-stage_going on lines (stage.Core player) at = ap refused_by at.0.play ∙ at.0.stands.machine.goes_on
+stage_going on lines (stage.Core player) at = ap refused_by at.0.play ∙ at.0.stands.at.machine.goes_on
 
 -- neither an item nor a signal is said
 abbrev pub Waits : Statement → Type 0

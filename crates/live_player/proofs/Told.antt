@@ -32,12 +32,12 @@ told_in_play on lines boot told question there play =
 pub told_behind : {E : Type 0} (result : Result (Unit {0}) E) (on : Setting) (lines : NotifyFront) (player : NotifyPlayer)
     (question : Question) (old new : List ℕ) → IsPlayedBehind on lines player
     → OnOk result (option_map (λ (kernel : Kernel).
-    old ++ told_by (booted_of player.machine.at_work.core) kernel (events_of player.machine.at_work.core) question)
-    (kernel_of player.machine.at_work.core) ≡ Some new)
+    old ++ told_by (booted_of player.player.machine.at_work.core) kernel (events_of player.player.machine.at_work.core) question)
+    (kernel_of player.player.machine.at_work.core) ≡ Some new)
     → OnOk result (new ≡ old ++ told_at on lines question)
 told_behind (Ok done) on lines player question old new behind tells =
-    let machine = behind.stands.machine in
-    let core = player.machine.at_work.core in
+    let machine = behind.stands.at.machine in
+    let core = player.player.machine.at_work.core in
     let ask = λ (kernel : Kernel). old ++ told_by (booted_of core) kernel (events_of core) question in
     some_text new (ask behind.told.play.kernel) (sym tells ∙ ap (option_map ask) machine.kernel)
     ∙ ap₂ (λ (boot : Booted) (events : List Event). old ++ told_by boot behind.told.play.kernel events question) machine.booted
@@ -48,7 +48,7 @@ told_behind (Err fault) on lines player question old new behind tells = tt
 
 -- the core that is read is the player's
 pub told_of_core : {E : Type 0} (result : Result (Unit {0}) E) (on : Setting) (lines : NotifyFront) (player : NotifyPlayer)
-    (core : Core) (question : Question) (old new : List ℕ) → core ≡ player.machine.at_work.core → IsPlayedBehind on lines player
+    (core : Core) (question : Question) (old new : List ℕ) → core ≡ player.player.machine.at_work.core → IsPlayedBehind on lines player
     → OnOk result (option_map (λ (kernel : Kernel). old ++ told_by (booted_of core) kernel (events_of core) question)
     (kernel_of core) ≡ Some new)
     → OnOk result (new ≡ old ++ told_at on lines question)

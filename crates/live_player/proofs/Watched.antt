@@ -44,7 +44,6 @@ use Rattle.live_text.specs.Statement.{with_statement}
 use Rattle.live_text.specs.declared.statement.Statement.{Statement}
 use Rattle.live_text.specs.declared.statement.Statement.TheVariants as says
 use Rattle.notify_play.specs.NotifyPlay.{Drivers, NotifyPlay}
-use Rattle.notify_player.specs.Playing.{HasLane}
 use Rattle.notify_player.specs.declared.player.NotifyPlayer.{NotifyPlayer}
 use Rattle.notify_text.specs.Rules.{NotifyFront}
 use Rattle.notify_text.specs.Steps.{Signals, Takes}
@@ -52,7 +51,10 @@ use Rattle.ns_ram.specs.Lane.{bytes_at}
 use Rattle.play_model.specs.Line.{Line, Ret, text_of_line}
 use Rattle.play_model.specs.Play.{Play, filled, lane_of}
 use Rattle.ta_isa.specs.declared.boot.Boot.{Boot}
-use Rattle.trace_text.specs.Limits.{cpus_of}
+use Rattle.trace_player.proofs.Booting.{AreApart}
+use Rattle.trace_player.specs.Playing.{HasLane}
+use Rattle.trace_player.specs.Starting.{uuids_of}
+use Rattle.trace_text.specs.Limits.{cpus_of, first_broken}
 use Rattle.trace_text.specs.Sound.{IsSoundFill, IsSoundItem}
 use Rattle.trace_text.specs.declared.fault.LineFault.{LineFault}
 use Rattle.trace_text.specs.declared.fault.LineFault.TheVariants.{Broken, NoRoom}
@@ -70,19 +72,19 @@ lane_played on lines cpu told play =
 
 -- a player has that of the processor
 pub core_lane : (on : Setting) (lines : NotifyFront) (cpu : ℕ) (player : NotifyPlayer)
-    → CanWatch on lines cpu (stage.Core player) → HasLane player.machine cpu
+    → CanWatch on lines cpu (stage.Core player) → HasLane player.player.machine cpu
 core_lane on lines cpu player can =
     let p = can.stage_at.0 in
     let few : cpu < p.boot.cpus = subst (λ (o : Option Boot). cpu < cpus_of o) p.there can.there in
-    subst (λ (b : Booted). cpu < b.cpus) (sym p.stands.machine.booted) few
+    subst (λ (b : Booted). cpu < b.cpus) (sym p.stands.at.machine.booted) few
 
 -- and lends it
 pub ram_lent : (on : Setting) (lines : NotifyFront) (cpu : ℕ) (player : NotifyPlayer) (machine : Machine) (ram : List ℕ)
-    → machine ≡ player.machine → ((boot : Booted) (play : Play) → IsAt boot play machine → ram ≡ lane_of play cpu)
+    → machine ≡ player.player.machine → ((boot : Booted) (play : Play) → IsAt boot play machine → ram ≡ lane_of play cpu)
     → IsPlayedBehind on lines player → ram ≡ lane_at on lines cpu
 ram_lent on lines cpu player machine ram is lent behind =
     let boot : Booted = booted behind.boot on.natives in
-    lent boot behind.told.play (subst (IsAt boot behind.told.play) (sym is) behind.stands.machine)
+    lent boot behind.told.play (subst (IsAt boot behind.told.play) (sym is) behind.stands.at.machine)
     ∙ sym (lane_played on lines cpu behind.told behind.play)
 
 -- and before the first item it is that of the fills
@@ -307,7 +309,7 @@ core_behind : (on : Setting) (lines : NotifyFront) (i : Item) (now : Stage)
     → StageAt on (with_statement lines (says.Item i)) now
     → (told : NotifyPlay) × (play_at on (with_statement lines (says.Item i)) ≡ Some told) × (told.play.refused ≡ None)
 core_behind on lines i (stage.Header header) at = absurd (closed_item lines i at.1)
-core_behind on lines i (stage.Core player) at = (at.0.told, at.0.play, at.0.stands.machine.goes_on)
+core_behind on lines i (stage.Core player) at = (at.0.told, at.0.play, at.0.stands.at.machine.goes_on)
 
 -- a processor goes out by it: that is its one line
 one_line : (on : Setting) (lines : NotifyFront) (i : Item) (cpu : ℕ) (was now : Stage) → cpu_out_by i ≡ Some cpu

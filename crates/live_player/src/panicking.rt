@@ -9,7 +9,8 @@ ghost use Rattle.live_player.specs.Panicking.{panic_in, with_panic};
 ghost use Rattle.native_tas.specs.Table.{drivers};
 ghost use Rattle.notif.specs.Desk.{IsDeskOf};
 ghost use Rattle.notify_play.specs.NotifyPlay.{Drivers, NotifyPlay, after_item, goes_out};
-ghost use Rattle.notify_player.specs.Playing.{CanBeTaken, CanGoOut, Follows, IsPlayedTo};
+ghost use Rattle.notify_player.specs.Playing.{Follows, IsPlayedTo};
+ghost use Rattle.trace_player.specs.Playing.{CanBeTaken, CanGoOut};
 
 use core_machine::turns_are_taken;
 use native_tas::Natives;
@@ -48,7 +49,7 @@ fn go_out(
     panic: &mut Option<u32>,
     text: &mut Vec<u8>,
 ) -> Result<(), Stop>
-    requires inside { CanGoOut player.old.machine cpu }
+    requires inside { CanGoOut player.old.player.machine cpu }
     requires desk { IsDeskOf (drivers natives.now) player.old.desk }
     ensures leaves { (boot : Booted) (told : NotifyPlay) → IsPlayedTo boot (drivers natives.now) told player.old
         → Follows boot (drivers natives.now) told (goes_out boot (drivers natives.now) cpu told) result player.new
@@ -71,7 +72,7 @@ fn play_watched(
     panic: &mut Option<u32>,
     text: &mut Vec<u8>,
 ) -> Result<(), Stop>
-    requires can { CanBeTaken player.old.machine item.now }
+    requires can { CanBeTaken player.old.player.machine item.now }
     requires desk { IsDeskOf (drivers natives.now) player.old.desk }
     requires played { (boot : Booted) × (told : NotifyPlay) × IsPlayedTo boot (drivers natives.now) told player.old }
     ensures follows { (boot : Booted) (told : NotifyPlay) → IsPlayedTo boot (drivers natives.now) told player.old

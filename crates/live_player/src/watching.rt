@@ -9,8 +9,8 @@ ghost use Rattle.live_player.specs.Standing.{HasCome, IsOpen, IsPlayedBehind, St
 ghost use Rattle.live_player.specs.Taking.{IsNext};
 ghost use Rattle.live_text.specs.Statement.{HasFewCpus};
 ghost use Rattle.native_tas.specs.Table.{drivers, entries};
-ghost use Rattle.notify_player.specs.Playing.{HasLane};
 ghost use Rattle.notify_text.specs.Rules.{NotifyFront};
+ghost use Rattle.trace_player.specs.Playing.{HasLane};
 
 use crate::panicking::PanicWatch;
 use crate::player::LivePlayer;
@@ -52,7 +52,7 @@ pub(crate) fn cpu_going_out(said: &Statement) -> Option<u8>
 
 /// All of the RAM that a processor of a player sees.
 fn ram_of(player: &NotifyPlayer, cpu: u8) -> &[u8]
-    requires { HasLane player.now.machine cpu }
+    requires { HasLane player.now.player.machine cpu }
     ensures lane { (on : Setting) (lines : NotifyFront) → IsPlayedBehind on lines player.now
         → result.now ≡ lane_at on lines cpu }
     ensures len { length result.now ≡ 0x400000 }

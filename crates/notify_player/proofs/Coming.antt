@@ -1,14 +1,11 @@
--- Who is inside behind the steps of a trace with signals, and that what can come can be taken, and comes.
-use Rattle.std.proofs.Common.{◌≡◌, ℕ, ◌<◌, ◌≤◌, Bool, true, false, List, [], ◌∷◌, ◌++◌, arith, length}
+-- Who is inside behind the steps of a trace with signals, and that what can come comes.
+use Rattle.std.proofs.Common.{◌≡◌, ℕ, ◌<◌, ◌≤◌, Bool, true, false, List, [], ◌∷◌, ◌++◌, length}
 use Rattle.std.proofs.Common.{Option, Some, None, refl, ap, subst, sym, ◌∙◌}
 use Rattle.std.specs.Prelude.{IsSome, IsTrue, slice_index_or, slice_set}
 use Rattle.std.specs.Option.{option_and_then, option_map, option_map_or}
 use Rattle.std.proofs.lemmas.Bool.{not-true}
 use Rattle.std.proofs.lemmas.List.{get_or-set_same}
 use Rattle.std.proofs.lemmas.Option.{option_and_then_some, slice_get-get_or}
-use Rattle.core_machine.specs.Laws.{MachinesStand}
-use Rattle.core_machine.specs.Standing.{IsAt}
-use Rattle.core_machine.specs.declared.machine.Machine.{Machine}
 use Rattle.event_journal.specs.declared.event.Event.{Event}
 use Rattle.event_journal.specs.declared.event.Event.TheVariants.{Exit}
 use Rattle.kernel_model.specs.Application.{Booted, IsBooted}
@@ -20,7 +17,6 @@ use Rattle.kernel_model.proofs.SoundSteps.{as_many}
 use Rattle.notify_play.specs.NotifyPlay.{Drivers, NotifyPlay, after_item, comes_in, duty_at, goes_out, goes_out_with, tells, unless_refused, visit_with, with_play}
 use Rattle.notify_play.specs.Told.{told_writes}
 use Rattle.notify_play.specs.NotifyPlay.{desk_of}
-use Rattle.notify_player.specs.Playing.{CanBeTaken}
 use Rattle.play_model.specs.Coming.{AreLanes, IsInside, IsReadyFor}
 use Rattle.play_model.specs.Line.{Ret}
 use Rattle.play_model.specs.Play.{Play, enters, leaves, leaves_with, with_event, with_line, with_writes}
@@ -221,32 +217,3 @@ module _ (boot : Booted) (drivers : Drivers) (boots : IsBooted boot) (few : boot
       subst (λ (n : NotifyPlay). Stands boot inside n.play) came.2
       (item_stands boot (item.Show cpu addr len) inside before.play came.0 few sound can stands came.1
       (ap (λ (n : NotifyPlay). n.play.refused) came.2 ∙ still))
-
--- ---- what can be taken
-
--- a machine can take an item whose processor is ready for it
-pub can_take : (boot : Booted) (play : Play) (machine : Machine) (i : Item) → MachinesStand → boot.cpus ≤ 8
-    → IsAt boot play machine → IsReadyFor play.kernel i → IsSoundItem boot.cpus i → CanBeTaken machine i
-can_take boot play machine (item.Smc cpu steps regs) stand few at ready sound = record {
-  few = let there = sound.processor in omega (arith, there, few);
-  lane = subst (λ (on : Booted). cpu < on.cpus) (sym at.booted) sound.processor;
-  comes = λ given. stand.can_come boot play machine (record { cpu = cpu; regs = given; steps = steps }) at
-      ready sound.some_step sound.few_steps;
-  sound = sound.registers;
-}
-can_take boot play machine (item.Enter cpu steps regs) stand few at ready sound = record {
-  few = let there = sound.processor in omega (arith, there, few);
-  lane = subst (λ (on : Booted). cpu < on.cpus) (sym at.booted) sound.processor;
-  comes = λ given. stand.can_come boot play machine (record { cpu = cpu; regs = given; steps = steps }) at
-      ready sound.some_step sound.few_steps;
-  sound = sound.registers;
-}
-can_take boot play machine (item.Leave cpu) stand few at ready sound = record {
-  few = omega (arith, sound, few);
-  lane = subst (λ (on : Booted). cpu < on.cpus) (sym at.booted) sound;
-  leaves = stand.can_leave boot play machine cpu ready.regs ready.steps ready.errand at ready.inside;
-}
-can_take boot play machine (item.Write cpu addr bytes) stand few at ready sound =
-    (subst (λ (on : Booted). cpu < on.cpus) (sym at.booted) sound.0, sound.1)
-can_take boot play machine (item.Show cpu addr len) stand few at ready sound =
-    (subst (λ (on : Booted). cpu < on.cpus) (sym at.booted) sound.0, sound.1)

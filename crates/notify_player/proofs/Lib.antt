@@ -3,7 +3,8 @@ pub mod HeadsFirst
 pub mod Asked
 pub mod Wrote
 pub mod Signals
-pub mod Moved
+pub mod Answered
+pub mod OfSignals
 pub mod Left
 pub mod Coming
 pub mod Stepping

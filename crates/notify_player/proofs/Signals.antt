@@ -3,14 +3,14 @@ use Rattle.std.proofs.Common.{◌≡◌, ℕ, suc, ◌-◌, ◌<◌, ◌≤◌, 
 use Rattle.std.specs.Prelude.{◌==◌, All, if◌then◌else◌}
 use Rattle.std.proofs.lemmas.Bool.Decides.{Decides-eqb}
 use Rattle.std.proofs.lemmas.List.{take_all}
-use Rattle.core_machine.specs.Standing.{IsAt}
-use Rattle.core_machine.specs.declared.machine.Machine.{Machine}
 use Rattle.kernel_model.specs.Application.{Booted}
 use Rattle.notif.specs.Desk.{after_signal}
 use Rattle.notif.specs.History as desk
 use Rattle.notify_play.specs.NotifyPlay.{Drivers, NotifyPlay}
 use Rattle.notify_text.specs.declared.notify_trace.Signal.{Signal}
-use Rattle.notify_player.specs.Playing.{AreLastEntries, AreTold, IsPlayedTo}
+use Rattle.trace_player.specs.Position.{StandsAt}
+use Rattle.trace_player.specs.declared.player.Player.{Player}
+use Rattle.notify_player.specs.Playing.{AreLastEntries, IsPlayedTo, position_in}
 use Rattle.notify_player.specs.Signalling.{behind_at, front_at}
 use Rattle.notify_player.specs.declared.player.NotifyPlayer.{NotifyPlayer}
 
@@ -43,13 +43,12 @@ behind-elsewhere at signal signals apart =
 
 -- the player after one signal
 pub signalled : (boot : Booted) (drivers : Drivers) (told : NotifyPlay) (value : ℕ) (before after : NotifyPlayer)
-    → IsPlayedTo boot drivers told before → after.machine ≡ before.machine → after.answers ≡ before.answers
-    → after.entries ≡ before.entries → after.desk ≡ after_signal before.desk value
+    → IsPlayedTo boot drivers told before → after.player ≡ before.player → after.entries ≡ before.entries
+    → after.desk ≡ after_signal before.desk value
     → IsPlayedTo boot drivers (record told { calls = desk.Signal value ∷ told.calls }) after
-signalled boot drivers told value before after stands machine answers entries is = record {
-  machine = subst (λ (m : Machine). IsAt boot told.play m) (sym machine) stands.machine;
+signalled boot drivers told value before after stands player entries is = record {
+  at = subst (λ (p : Player). StandsAt boot (position_in told) p) (sym player) stands.at;
   count = stands.count;
-  answers = subst (AreTold told.answers) (sym answers) stands.answers;
   entries = subst (AreLastEntries told.play.history) (sym entries) stands.entries;
   desk = is ∙ ap (λ d. after_signal d value) stands.desk;
 }

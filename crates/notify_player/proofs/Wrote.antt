@@ -12,6 +12,8 @@ use Rattle.notify_play.specs.Told.{result_in}
 use Rattle.ns_ram.proofs.WriteList.{lane_after-append}
 use Rattle.ns_ram.specs.Writes.{Write, lane_after}
 use Rattle.play_model.specs.Play.{Play, with_writes}
+use Rattle.trace_player.specs.Position.{Position, StandsAt}
+use Rattle.trace_player.specs.declared.player.Player.{Player}
 
 set-again : {X : Type 0} (xs : List X) (i : ℕ) (x y : X) → slice_set (slice_set xs i x) i y ≡ slice_set xs i y
 set-again [] i x y = refl
@@ -31,18 +33,23 @@ lanes-twice lanes cpu first second within =
     ∙ ap (slice_set lanes cpu) (sym (lane_after-append (slice_index_or lanes cpu []) first second))
 
 -- no writes at all
-pub wrote-none : (boot : Booted) (play : Play) (cpu : ℕ) (machine : Machine)
-    → IsAt boot play machine → IsAt boot (with_writes cpu [] play) machine
-wrote-none boot play cpu machine at = record {
-  booted = at.booted;
-  history = at.history;
-  kernel = at.kernel;
-  lanes = at.lanes ∙ sym (set-get_or play.lanes cpu []);
-  goes_on = at.goes_on;
-}
+pub wrote-none : (boot : Booted) (at : Position) (cpu : ℕ) (player : Player)
+    → StandsAt boot at player → StandsAt boot (record at { play = with_writes cpu [] at.play }) player
+wrote-none boot at cpu player stands =
+    let machine = stands.machine in
+    record {
+      machine = record {
+        booted = machine.booted;
+        history = machine.history;
+        kernel = machine.kernel;
+        lanes = machine.lanes ∙ sym (set-get_or at.play.lanes cpu []);
+        goes_on = machine.goes_on;
+      };
+      answers = stands.answers;
+    }
 
 -- one write behind others
-pub wrote-more : (boot : Booted) (play : Play) (cpu : ℕ) (first second : List Write) (machine : Machine)
+wrote-more : (boot : Booted) (play : Play) (cpu : ℕ) (first second : List Write) (machine : Machine)
     → cpu < length play.lanes → IsAt boot (with_writes cpu second (with_writes cpu first play)) machine
     → IsAt boot (with_writes cpu (first ++ second) play) machine
 wrote-more boot play cpu first second machine within at = record {
@@ -63,18 +70,24 @@ same-write addr number to bytes there is =
     ap (λ (a : ℕ). write_to a bytes) there ∙ ap (λ (b : List ℕ). write_to addr b) is
 
 -- a result and its origin
-pub wrote-both : (boot : Booted) (play : Play) (cpu arg ret to_ret to_origin : ℕ) (ret_bytes origin_bytes : List ℕ)
-    (machine : Machine) → to_ret ≡ ret_at arg → ret_bytes ≡ to_le_bytes w32 ret → to_origin ≡ origin_at arg
-    → origin_bytes ≡ to_le_bytes w32 3 → cpu < length play.lanes
-    → IsAt boot (with_writes cpu (write_to to_origin origin_bytes ∷ [])
-    (with_writes cpu (write_to to_ret ret_bytes ∷ []) play)) machine
-    → IsAt boot (with_writes cpu (result_in arg ret) play) machine
-wrote-both boot play cpu arg ret to_ret to_origin ret_bytes origin_bytes machine ret_there ret_is origin_there origin_is within
-    at =
+pub wrote-both : (boot : Booted) (at : Position) (cpu arg ret to_ret to_origin : ℕ) (ret_bytes origin_bytes : List ℕ)
+    (player : Player) → to_ret ≡ ret_at arg → ret_bytes ≡ to_le_bytes w32 ret → to_origin ≡ origin_at arg
+    → origin_bytes ≡ to_le_bytes w32 3 → cpu < length at.play.lanes
+    → StandsAt boot (record at {
+      play = with_writes cpu (write_to to_origin origin_bytes ∷ [])
+          (with_writes cpu (write_to to_ret ret_bytes ∷ []) at.play);
+    }) player
+    → StandsAt boot (record at { play = with_writes cpu (result_in arg ret) at.play }) player
+wrote-both boot at cpu arg ret to_ret to_origin ret_bytes origin_bytes player ret_there ret_is origin_there origin_is within
+    stands =
     let one = write_to to_ret ret_bytes in
     let two = write_to to_origin origin_bytes in
-    subst (λ (w : Write). IsAt boot (with_writes cpu (word32 (ret_at arg) ret ∷ w ∷ []) play) machine)
-    (same-write (origin_at arg) 3 to_origin origin_bytes origin_there origin_is)
-    (subst (λ (w : Write). IsAt boot (with_writes cpu (w ∷ two ∷ []) play) machine)
-    (same-write (ret_at arg) ret to_ret ret_bytes ret_there ret_is)
-    (wrote-more boot play cpu (one ∷ []) (two ∷ []) machine within at))
+    record {
+      machine =
+          subst (λ (w : Write). IsAt boot (with_writes cpu (word32 (ret_at arg) ret ∷ w ∷ []) at.play) player.machine)
+          (same-write (origin_at arg) 3 to_origin origin_bytes origin_there origin_is)
+          (subst (λ (w : Write). IsAt boot (with_writes cpu (w ∷ two ∷ []) at.play) player.machine)
+          (same-write (ret_at arg) ret to_ret ret_bytes ret_there ret_is)
+          (wrote-more boot at.play cpu (one ∷ []) (two ∷ []) player.machine within stands.machine));
+      answers = stands.answers;
+    }

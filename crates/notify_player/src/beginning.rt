@@ -11,11 +11,11 @@ ghost use Rattle.trace_text.specs.Sound.{IsSoundBoot, IsSoundFill};
 
 use crate::player::NotifyPlayer;
 use base::NoMemory;
-use core_machine::Machine;
 use native_tas::Natives;
 use notif::Desk;
 use std::alloc::Global;
 use ta_isa::Boot;
+use trace_player::Player;
 use trace_text::Fill;
 
 impl NotifyPlayer {
@@ -35,8 +35,8 @@ impl NotifyPlayer {
             (first_play (zeros 0x400000) (booted boot (entries natives.now)) fills.now)) player) }
         ensures boots { IfOk result (λ player. IsBooted (booted boot (entries natives.now))) }
     {
-        let machine = Machine::booted(alloc, boot, natives, fills)?;
+        let player = Player::booted(alloc, boot, natives, fills)?;
         let desk = Desk::new(alloc, natives)?;
-        Ok(NotifyPlayer::new(machine, desk))
+        Ok(NotifyPlayer::new(player, desk))
     }
 }

@@ -15,7 +15,7 @@ use Rattle.notif.specs.Desk.{DeskState, IsDeskOf}
 use Rattle.notif.specs.Laws.{DesksKeepTheirDrivers}
 use Rattle.notify_play.specs.NotifyPlay.{Drivers, NotifyPlay, after_item, after_steps, first_notify_play, notify_played}
 use Rattle.notify_play.specs.Text.{notify_text_by, notify_text_of, notify_text_of_play}
-use Rattle.notify_player.specs.Playing.{CanBeTaken, Follows, IsPlayedTo, refused_at}
+use Rattle.notify_player.specs.Playing.{Follows, IsPlayedTo, refused_at}
 use Rattle.notify_player.specs.Signalling.{behind_at, front_at, signalled_by}
 use Rattle.notify_player.specs.declared.player.NotifyPlayer.{NotifyPlayer}
 use Rattle.notify_text.specs.Sound.{IsSoundSignal, IsSoundTold}
@@ -32,10 +32,12 @@ use Rattle.trace_text.specs.Sound.{ComeInTurn, IsSoundItem, can_come}
 use Rattle.trace_text.specs.declared.item.Item.{Item}
 use Rattle.trace_text.specs.declared.trace.Fill.{Fill}
 use Rattle.word_parts.specs.declared.stop.Stop.TheVariants.{Full}
+use Rattle.trace_player.proofs.Playable.{can_take}
+use Rattle.trace_player.specs.Playing.{CanBeTaken}
 use Rattle.trace_player.specs.Starting.{uuids_of}
 use Rattle.notify_runner.specs.Run.{refused_by, refused_in}
 use Rattle.notify_runner.specs.Starting.{IsAtStart}
-use Rattle.notify_player.proofs.Coming.{can_take, item_comes, items_stand, ready}
+use Rattle.notify_player.proofs.Coming.{item_comes, items_stand, ready}
 use Rattle.notify_player.proofs.Stepping.{ended-steps, item-step, signalled-play, signalled-steps, taken_by}
 use Rattle.notify_runner.proofs.Printed.{steps_add}
 use Rattle.notify_runner.proofs.Stepped.{AreBehind, are-behind, behind-next, signals-front, sound-behind, steps-first}
@@ -231,7 +233,7 @@ playing-signalled natives drivers told items at i signals before after text lt i
       whole =
           p.whole
           ∙ ap (λ (l : List Item). after_steps on drivers (steps_from at l signals) p.now) left
-          ∙ one-step on drivers at i (drop (at + 1) items) signals p.now p.behind p.stands.machine.goes_on;
+          ∙ one-step on drivers at i (drop (at + 1) items) signals p.now p.behind p.stands.at.machine.goes_on;
       printed = p.printed ∙ ap (λ (play : Play). flat_map text_of_line play.lines) (sym same);
       behind = behind-next at signals p.behind;
       values = sound-behind (length items) at signals p.values;
@@ -246,11 +248,11 @@ playing-signalled natives drivers told items at i signals before after text lt i
 -- the player can take the item
 pub taking-takes : (natives : List Native) (drivers : Drivers) (told : NotifyTrace) (items : List Item) (at : ℕ) (i : Item)
     (signals : List Signal) (player : NotifyPlayer) (text : List ℕ) → MachinesStand
-    → Taking natives drivers told items at i signals player text → CanBeTaken player.machine i
+    → Taking natives drivers told items at i signals player text → CanBeTaken player.player.machine i
 taking-takes natives drivers told items at i signals player text stand t =
     let on = booted t.boot natives in
     let few = few_cpus on t.boots in
-    can_take on t.now.play player.machine i stand few t.stands.machine
+    can_take on t.now.play player.player.machine i stand few t.stands.at.machine
     (ready on drivers t.boots few i t.inside t.now t.within t.sound t.can) t.sound
 
 pub taking-desk : (natives : List Native) (drivers : Drivers) (told : NotifyTrace) (items : List Item) (at : ℕ) (i : Item)
@@ -299,7 +301,7 @@ taking-more natives drivers told items at i signals before after text old new t 
       each = t.each;
       within =
           items_stand on drivers t.boots (few_cpus on t.boots) i t.inside t.now next.0 t.sound t.can t.within
-          t.stands.machine.goes_on next.1 next.2.machine.goes_on;
+          t.stands.at.machine.goes_on next.1 next.2.at.machine.goes_on;
     }
 
 -- an item whose entry is refused ends the play
@@ -336,7 +338,7 @@ playing-part natives drivers told items at signals player text p =
     let steps = steps_from at (drop at items) signals in
     let final = there (after_steps on drivers steps p.now)
     (steps-come on drivers at (drop at items) signals p.inside p.now p.boots p.behind p.each p.turn
-    p.stands.machine.goes_on p.within) in
+    p.stands.at.machine.goes_on p.within) in
     let more = steps_add on drivers steps p.now final.0 final.1 in (
       flat_map text_of_line more.0,
       text-played natives drivers told p.boot final.0 p.is (p.whole ∙ final.1)
@@ -359,10 +361,10 @@ taking-part natives drivers told items at i signals player text t =
     let final = there (after_steps on drivers steps here.0)
     (others-come on drivers steps here.0 here.0.play.refused refl (λ still.
     steps-come on drivers (at + 1) (drop (at + 1) items) signals (moved t.inside i) here.0 t.boots t.behind t.each t.turn
-    still (items_stand on drivers t.boots few i t.inside t.now here.0 t.sound t.can t.within t.stands.machine.goes_on
+    still (items_stand on drivers t.boots few i t.inside t.now here.0 t.sound t.can t.within t.stands.at.machine.goes_on
     here.1 still))) in
     let whole : after_steps on drivers (Takes i ∷ steps) t.now ≡ Some final.0 =
-    item-step on drivers i steps t.now t.stands.machine.goes_on
+    item-step on drivers i steps t.now t.stands.at.machine.goes_on
     ∙ ap (λ (o : Option NotifyPlay). option_and_then (λ (n : NotifyPlay). after_steps on drivers steps n) o) here.1
     ∙ final.1 in
     let more = steps_add on drivers (Takes i ∷ steps) t.now final.0 whole in (
@@ -385,7 +387,7 @@ playing-ended natives drivers told items at signals player text all p =
     let on = booted p.boot natives in
     let end = signalled_by (front_at at signals) p.now in
     let same = signalled-play (front_at at signals) p.now in
-    let going = p.stands.machine.goes_on in
+    let going = p.stands.at.machine.goes_on in
     let final : notify_played natives drivers p.boot told ≡ Some end =
     p.whole ∙ ap (λ (l : List Item). after_steps on drivers (steps_from at l signals) p.now) all
     ∙ last-step on drivers at signals p.now p.behind going in (

@@ -1,5 +1,6 @@
 pub mod Answers
 pub mod Played
 pub mod Moved
+pub mod OfTraces
 pub mod Playable
 pub mod Booting

@@ -1,30 +1,28 @@
 -- From a sound trace to a player that can play it, and from its play to what was told.
 use Rattle.std.proofs.Common.{◌≡◌, ℕ, ◌+◌, ◌<◌, ◌≤◌, List, [], ◌++◌, length, take, drop, get_or, Option, Some, None, refl, sym, ap, subst, ◌∙◌, append_assoc, arith}
-use Rattle.std.specs.Prelude.{replicate, Ok, Err, IfSome, IsSome}
+use Rattle.std.specs.Prelude.{Ok, Err, IfSome, IsSome}
 use Rattle.std.specs.Option.{option_and_then, option_map}
 use Rattle.std.proofs.lemmas.List.{take_all}
 use Rattle.base.specs.Zeros.{zeros}
 use Rattle.kernel_model.specs.Application.{Booted, IsBooted, Native, booted}
-use Rattle.kernel_state.specs.Meaning.{booted_of}
-use Rattle.kernel_state.specs.declared.kernel_core.Core.{Core}
 use Rattle.play_model.specs.Coming as coming
-use Rattle.play_model.specs.Play.{Play, after_item, after_items, filled, first_play, played}
+use Rattle.play_model.specs.Play.{Play, after_item, after_items, first_play, played}
 use Rattle.play_model.specs.Text.{text_by, text_of, text_of_play}
 use Rattle.play_model.proofs.Coming.{items_can_come}
 use Rattle.play_model.proofs.PlaysThere.{traces_have_plays}
 use Rattle.play_model.proofs.WholeLanes.{zeros-whole}
 use Rattle.ta_isa.specs.declared.boot.Boot.{Boot}
-use Rattle.trace_text.specs.Sound.{IsSound, IsSoundBoot}
+use Rattle.trace_text.specs.Sound.{IsSound, IsSoundBoot, IsSoundItem}
 use Rattle.trace_text.specs.declared.item.Item.{Item}
 use Rattle.trace_text.specs.declared.item.Item.TheVariants as item
 use Rattle.trace_text.specs.declared.trace.Fill.{Fill}
 use Rattle.trace_text.specs.declared.trace.Trace.{Trace}
 use Rattle.core_machine.specs.Laws.{MachinesStand}
 use Rattle.trace_player.specs.Refused.{refused_by, refused_in}
-use Rattle.trace_player.specs.Playing.{AreLast, CanBeTaken, CanTake, Follows, IsPlayedTo, Prints, text_of_lines}
+use Rattle.trace_player.specs.Playing.{CanBeTaken, CanTake, Follows, IsPlayedTo, Prints, text_of_lines}
 use Rattle.trace_player.specs.Starting.{uuids_of}
 use Rattle.trace_player.specs.Starting.{IsAtStart, trace_of}
-use Rattle.core_machine.specs.Standing.{IsAt, begun}
+use Rattle.core_machine.specs.Standing.{IsAt}
 use Rattle.core_machine.specs.declared.machine.Machine.{Machine}
 use Rattle.trace_player.specs.declared.player.Player.{Player}
 use Rattle.word_parts.specs.declared.stop.Stop.TheVariants.{Full}
@@ -47,44 +45,34 @@ refused-played natives trace boot play is e =
 
 -- ---- what can be taken
 
--- a machine can take an item that can come
-pub can-take : (boot : Booted) (play : Play) (machine : Machine) (i : Item) → MachinesStand → boot.cpus ≤ 8
-    → IsAt boot play machine → coming.CanCome boot i play → CanBeTaken machine i
-can-take boot play machine (item.Smc cpu steps regs) stand few at can = record {
-  few = let there = can.sound.processor in omega (arith, there, few);
+-- a machine can take an item whose processor is ready for it
+pub can_take : (boot : Booted) (play : Play) (machine : Machine) (i : Item) → MachinesStand → boot.cpus ≤ 8
+    → IsAt boot play machine → coming.IsReadyFor play.kernel i → IsSoundItem boot.cpus i → CanBeTaken machine i
+can_take boot play machine (item.Smc cpu steps regs) stand few at ready sound = record {
+  few = let there = sound.processor in omega (arith, there, few);
+  lane = subst (λ (on : Booted). cpu < on.cpus) (sym at.booted) sound.processor;
   comes = λ given. stand.can_come boot play machine (record { cpu = cpu; regs = given; steps = steps }) at
-      can.ready can.sound.some_step can.sound.few_steps;
-  sound = can.sound.registers;
+      ready sound.some_step sound.few_steps;
+  sound = sound.registers;
 }
-can-take boot play machine (item.Enter cpu steps regs) stand few at can = record {
-  few = let there = can.sound.processor in omega (arith, there, few);
+can_take boot play machine (item.Enter cpu steps regs) stand few at ready sound = record {
+  few = let there = sound.processor in omega (arith, there, few);
+  lane = subst (λ (on : Booted). cpu < on.cpus) (sym at.booted) sound.processor;
   comes = λ given. stand.can_come boot play machine (record { cpu = cpu; regs = given; steps = steps }) at
-      can.ready can.sound.some_step can.sound.few_steps;
-  sound = can.sound.registers;
+      ready sound.some_step sound.few_steps;
+  sound = sound.registers;
 }
-can-take boot play machine (item.Leave cpu) stand few at can = (
-  let there = can.sound in omega (arith, there, few),
-  stand.can_leave boot play machine cpu can.ready.regs can.ready.steps can.ready.errand at can.ready.inside,
-)
-can-take boot play machine (item.Write cpu addr bytes) stand few at can =
-    (subst (λ (on : Booted). cpu < on.cpus) (sym at.booted) can.sound.0, can.sound.1)
-can-take boot play machine (item.Show cpu addr len) stand few at can =
-    (subst (λ (on : Booted). cpu < on.cpus) (sym at.booted) can.sound.0, can.sound.1)
+can_take boot play machine (item.Leave cpu) stand few at ready sound = record {
+  few = omega (arith, sound, few);
+  lane = subst (λ (on : Booted). cpu < on.cpus) (sym at.booted) sound;
+  leaves = stand.can_leave boot play machine cpu ready.regs ready.steps ready.errand at ready.inside;
+}
+can_take boot play machine (item.Write cpu addr bytes) stand few at ready sound =
+    (subst (λ (on : Booted). cpu < on.cpus) (sym at.booted) sound.0, sound.1)
+can_take boot play machine (item.Show cpu addr len) stand few at ready sound =
+    (subst (λ (on : Booted). cpu < on.cpus) (sym at.booted) sound.0, sound.1)
 
 -- ---- the beginning
-
-pub first-stands : (boot : Boot) (natives : List Native) (core : Core) (lanes : List (List ℕ)) (fills : List Fill)
-    (player : Player) → booted_of core ≡ booted boot natives
-    → lanes ≡ replicate boot.cpus (filled (zeros 0x400000) fills)
-    → IsAt (booted_of core) (begun (booted_of core) lanes) player.machine → AreLast [] player.answers
-    → IsPlayedTo (booted boot natives) (first_play (zeros 0x400000) (booted boot natives) fills) player
-first-stands boot natives core lanes fills player same filled_so at last = record {
-  machine =
-      subst (λ (ls : List (List ℕ)). IsAt (booted boot natives) (begun (booted boot natives) ls) player.machine)
-      filled_so
-      (subst (λ (on : Booted). IsAt on (begun on lanes) player.machine) same at);
-  answers = last;
-}
 
 module _ (natives : List Native) (uuids : List (List ℕ)) (boot : Boot) (trace : Trace)
     (boots : IsBooted (booted boot natives)) (sound : IsSound uuids trace)
@@ -102,10 +90,10 @@ module _ (natives : List Native) (uuids : List (List ℕ)) (boot : Boot) (trace 
       → at < length trace.items → i ≡ get_or trace.items at i
       → (w : Written (booted boot natives) start trace.items at player text) → CanTake player i
   next-taken at i player text stand few lt same w =
-      can-take (booted boot natives) w.play player.machine i stand few w.stands.machine
-      (items_can_come (zeros 0x400000) natives uuids boot trace (take at trace.items)
+      let can = items_can_come (zeros 0x400000) natives uuids boot trace (take at trace.items)
       (drop (at + 1) trace.items) i w.play zeros-whole boots sound is
-      (sym (items-split trace.items at i lt same)) w.taken w.stands.machine.goes_on)
+      (sym (items-split trace.items at i lt same)) w.taken w.stands.machine.goes_on in
+      can_take (booted boot natives) w.play player.machine i stand few w.stands.machine can.ready can.sound
 
   there : (o : Option Play) → played natives boot trace ≡ o → IsSome o → (play : Play)
       × (played natives boot trace ≡ Some play)
@@ -247,7 +235,7 @@ playing-refused natives trace items at i before after text old new lt is p follo
     let there = in-trace items trace.items at i p.same lt is in
     let f = follows (booted p.boot natives) p.written.play p.written.stands in
     refused natives (uuids_of natives) p.boot trace p.boots p.sound p.is at i before after text text there.0 there.1
-    p.written (f.0, f.1, refl)
+    p.written (f.0, f.1, refl, f.3)
 
 pub playing-part : (natives : List Native) (trace : Trace) (items : List Item) (at : ℕ) (player : Player)
     (text : List ℕ) → Playing natives trace items at player text

@@ -1,44 +1,23 @@
 -- From one item to the next, and from the items to the play of a trace.
-use Rattle.std.proofs.Common.{◌≡◌, ℕ, suc, ◌+◌, ◌<◌, List, [], ◌∷◌, ◌++◌, length, take, drop, get_or, Option, Some, None, refl, sym, ap, subst, ◌∙◌, add-one}
+use Rattle.std.proofs.Common.{◌≡◌, ℕ, suc, ◌+◌, ◌<◌, List, [], ◌∷◌, ◌++◌, length, take, drop, get_or, Option, Some, None, refl, sym, ap, ◌∙◌, add-one}
 use Rattle.std.proofs.Common.{drop-cons}
-use Rattle.std.specs.Prelude.{IsSomeAnd, slice_set}
 use Rattle.std.specs.Option.{option_and_then, option_map_or}
 use Rattle.std.proofs.lemmas.Grind.{flat_map-append}
 use Rattle.std.proofs.Math.Seq.{take-suc}
-use Rattle.std.proofs.lemmas.List.{append_cancel_left, append-nil, take-append-drop}
-use Rattle.event_journal.specs.declared.event.Event.{Event}
-use Rattle.event_journal.specs.declared.event.Event.TheVariants.{Entry, Exit}
+use Rattle.std.proofs.lemmas.List.{append-nil, take-append-drop}
+use Rattle.event_journal.specs.declared.event.Event.TheVariants.{Entry}
 use Rattle.kernel_model.specs.Application.{Booted}
 use Rattle.kernel_model.specs.Kernel.{Visit}
-use Rattle.play_model.specs.Line.{Line, Ret, text_of_line}
-use Rattle.play_model.specs.Play.{Play, after_item, after_items, enters, leaves}
+use Rattle.play_model.specs.Line.{Line, text_of_line}
+use Rattle.play_model.specs.Play.{Play, after_item, after_items, enters}
 use Rattle.play_model.specs.Text.{text_of_play}
-use Rattle.play_model.proofs.Entries.{CameIn, Entered, Left, WasRefused, entered, event_made, left}
+use Rattle.play_model.proofs.Entries.{CameIn, Entered, WasRefused, entered}
 use Rattle.play_model.proofs.LinesStay.{event_prints, plays_go_on}
-use Rattle.smc_abi.specs.declared.regs.Regs.{Regs}
 use Rattle.trace_text.specs.declared.item.Item.{Item}
-use Rattle.trace_player.specs.Playing.{AreLast, IsPlayedTo, Prints, text_of_lines}
+use Rattle.trace_player.specs.Playing.{IsPlayedTo, Prints, text_of_lines}
 use Rattle.trace_player.specs.declared.player.Player.{Player}
-use Rattle.trace_player.proofs.Answers.{last-entry, last-exit}
-use Rattle.word_parts.proofs.Worded.{some-and}
 
--- ---- entries and exits
-
-entered-last : (boot : Booted) (visit : Visit) (play next : Play) (answers : List Regs) → Entered boot visit play next
-    → next.refused ≡ None
-    → AreLast play.history answers → AreLast next.history answers
-entered-last boot visit play next answers (CameIn reads few came) going last =
-    let made = event_made boot (Entry visit.cpu (record { a = visit.regs }) visit.steps reads) play next came in
-    subst (λ (h : List Event). AreLast h answers) (sym made.0)
-    (last-entry play.history visit.cpu (record { a = visit.regs }) visit.steps reads answers last)
-entered-last boot visit play next answers (WasRefused reads much is) going last =
-    let none : None ≡ Some _ = sym going ∙ ap (λ (p : Play). p.refused) (sym is) in absurd cc
-
--- an entry that came in leaves the last answers
-pub enters-last : (boot : Booted) (visit : Visit) (play next : Play) (answers : List Regs)
-    → enters boot play visit ≡ Some next → next.refused ≡ None
-    → AreLast play.history answers → AreLast next.history answers
-enters-last boot visit play next answers e = entered-last boot visit play next answers (entered boot visit play next e)
+-- ---- entries
 
 entered-lines : (boot : Booted) (visit : Visit) (play next : Play) → Entered boot visit play next
     → next.lines ≡ play.lines
@@ -46,34 +25,10 @@ entered-lines boot visit play next (CameIn reads few came) =
     event_prints boot (Entry visit.cpu (record { a = visit.regs }) visit.steps reads) play next came
 entered-lines boot visit play next (WasRefused reads much is) = ap (λ (p : Play). p.lines) (sym is)
 
--- and prints nothing
+-- an entry prints nothing
 pub enters-lines : (boot : Booted) (visit : Visit) (play next : Play) → enters boot play visit ≡ Some next
     → next.lines ≡ play.lines
 enters-lines boot visit play next e = entered-lines boot visit play next (entered boot visit play next e)
-
-left-last : (boot : Booted) (cpu : ℕ) (play next : Play) (told : Regs) (answers : List Regs) → Left boot cpu play next
-    → next.lines ≡ play.lines ++ Ret cpu told.a ∷ [] → AreLast play.history answers
-    → AreLast next.history (slice_set answers cpu told)
-left-last boot cpu play next told answers out lines last =
-    let event : Event = Exit cpu (record { a = out.exited.regs }) in
-    let gone = event_prints boot event play out.gone out.came in
-    let here : play.lines ++ Ret cpu out.exited.regs ∷ [] ≡ next.lines =
-    ap (λ (ls : List Line). ls ++ Ret cpu out.exited.regs ∷ []) (sym gone) ∙ ap (λ (p : Play). p.lines) out.is in
-    let cut = append_cancel_left play.lines (Ret cpu out.exited.regs ∷ []) (Ret cpu told.a ∷ []) (here ∙ lines) in
-    let same : out.exited.regs ≡ told.a = cc in
-    let made = event_made boot event play out.gone out.came in
-    let history : next.history ≡ play.history ++ Exit cpu told ∷ [] =
-    ap (λ (p : Play). p.history) (sym out.is) ∙ made.0
-    ∙ ap (λ (a : List ℕ). play.history ++ Exit cpu (record { a = a }) ∷ []) same in
-    subst (λ (h : List Event). AreLast h (slice_set answers cpu told)) (sym history)
-    (last-exit play.history cpu told answers last)
-
--- an exit is its processor's last answer
-pub leaves-last : (boot : Booted) (cpu : ℕ) (play next : Play) (told : Regs) (answers : List Regs)
-    → leaves boot cpu play ≡ Some next
-    → next.lines ≡ play.lines ++ Ret cpu told.a ∷ [] → AreLast play.history answers
-    → AreLast next.history (slice_set answers cpu told)
-leaves-last boot cpu play next told answers e = left-last boot cpu play next told answers (left boot cpu play next e)
 
 -- ---- what is printed
 

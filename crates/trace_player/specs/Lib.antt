@@ -1,3 +1,5 @@
+pub mod Position
 pub mod Playing
+pub mod Items
 pub mod Starting
 pub mod Refused

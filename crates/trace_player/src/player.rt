@@ -1,19 +1,21 @@
-//! Playing items: their entries and exits on a core, and the lines that they print, each behind those before it.
-ghost use Rattle.std.specs.Prelude.{◌≡◌, ◌<◌, [], All, Err, IfOk, OnErr, OnOk, Some, slice_get};
+//! A core with its processors, and what each of them was last told.
+ghost use Rattle.std.specs.Prelude.{◌≡◌, ◌<◌, ◌++◌, [], ◌∷◌, All, Err, IfErr, IfOk, IfSome, OnOk, Some, length, slice_get};
 ghost use Rattle.base.specs.Zeros.{zeros};
 ghost use Rattle.kernel_model.specs.Application.{Booted, IsBooted, booted};
+ghost use Rattle.kernel_state.specs.Meaning.{booted_of};
 ghost use Rattle.native_tas.specs.Table.{entries};
-ghost use Rattle.trace_text.specs.declared.item.Item.TheVariants as item;
-ghost use Rattle.play_model.specs.Play.{Play, after_item, first_play, visit_of};
+ghost use Rattle.ns_ram.specs.Lane.{IsInRam, bytes_at};
+ghost use Rattle.play_model.specs.Line.{mem_line, ret_line};
+ghost use Rattle.play_model.specs.Play.{Play, after_item, first_play, lane_of, last_answer, with_writes};
 ghost use Rattle.trace_text.specs.Sound.{IsPartOfRam, IsSoundBoot, IsSoundFill};
-ghost use Rattle.trace_player.specs.Playing.{AreLast, CanComeIn, CanTake, ComesIn, Follows, GoesOut, HasLane, IsPlayedTo, StaysAt, history_of};
+ghost use Rattle.trace_player.specs.Items.{Begins, ComesIn, GoesOut};
+ghost use Rattle.trace_player.specs.Playing.{CanBeTold, CanComeIn, CanGoOut, CanTake, Follows, HasLane, IsPlayedTo, StaysAt, history_of};
+ghost use Rattle.trace_player.specs.Position.{AreTold, Position, StandsAt, told_too, visit_at};
 ghost use Rattle.trace_player.specs.Starting.{uuids_of};
-ghost use Rattle.core_machine.specs.Standing.{CanCome};
-ghost use Rattle.core_machine.specs.declared.smc.Smc.TheVariants.{Leaves};
 
 use answer_lines::{push_mem, push_ret, registers};
 use base::NoMemory;
-use core_machine::{Machine, machines_stand, turns_are_taken};
+use core_machine::{Machine, Told, machines_stand, turns_are_taken};
 use event_journal::{Event, Journal};
 use kernel_entry::Visitor;
 use native_tas::Natives;
@@ -26,7 +28,7 @@ use word_parts::Stop;
 /// The most processors that there are.
 const MAX_CPUS: usize = 8;
 
-/// A core with its processors, and what each of them was last answered: zeros before any.
+/// A core with its processors, and what each of them was last told: zeros before any.
 #[derive(Drop)]
 pub struct Player {
     machine: Machine,
@@ -51,15 +53,22 @@ impl Player {
         Ok(Player::new(Machine::booted(alloc, boot, natives, fills)?))
     }
 
-    /// Nobody was answered yet.
+    /// Nobody was told anything yet.
     fn new(machine: Machine) -> Player
         ensures machine { result.machine ≡ machine }
-        ensures answers { AreLast [] result.answers }
+        ensures answers { AreTold 8 (last_answer []) result.answers }
     {
         Player {
             machine,
             answers: [Regs { a: [0; 8] }; MAX_CPUS],
         }
+    }
+
+    /// The core with its processors.
+    pub fn machine(&self) -> &Machine
+        ensures { result.now ≡ self.now.machine }
+    {
+        &self.machine
     }
 
     /// All entries and exits so far.
@@ -76,7 +85,7 @@ impl Player {
         self.machine.core().journal()
     }
 
-    /// What a processor was last answered.
+    /// What a processor was last told.
     fn answer_to(&self, cpu: u8) -> Regs
         requires { cpu < 8 }
         ensures { slice_get self.now.answers cpu ≡ Some result }
@@ -87,10 +96,9 @@ impl Player {
     /// A processor comes in.
     fn enter(&mut self, alloc: Global, cpu: u8, steps: u32, regs: &[Reg; 8]) -> Result<(), Stop>
         requires { CanComeIn self.old.machine cpu steps regs.now }
-        ensures comes { (boot : Booted) (play : Play) → IsPlayedTo boot play self.old
-            → ComesIn boot play (visit_of play.history cpu steps regs.now) result self.new }
-        ensures inside { OnOk result (CanCome self.new.machine (Leaves cpu)) }
-        ensures stays { OnErr result (StaysAt self.old self.new) }
+        ensures comes { (boot : Booted) (at : Position) → StandsAt boot at self.old
+            → ComesIn boot at (visit_at at cpu steps regs.now) result self.new }
+        ensures inside { OnOk result (CanGoOut self.new.machine cpu) }
         ensures never_fails { result ≡ Err Stop.Failed → ⊥ }
     {
         machines_stand();
@@ -100,18 +108,44 @@ impl Player {
         Ok(())
     }
 
-    /// A processor goes out, and its answer is printed.
-    fn leave(&mut self, cpu: u8, lines: &mut Vec<u8>) -> Result<(), Stop>
-        requires inside { CanCome self.old.machine (Leaves cpu) }
-        requires few { cpu < 8 }
-        ensures leaves { (boot : Booted) (play : Play) → IsPlayedTo boot play self.old
-            → GoesOut boot play cpu result self.new lines.old.items lines.new.items }
-        ensures never_fails { result ≡ Err Stop.Failed → ⊥ }
+    /// A processor goes out of the core, and is told nothing yet.
+    fn leave(&mut self, cpu: u8) -> Told
+        requires { CanGoOut self.old.machine cpu }
+        ensures leaves { (boot : Booted) (at : Position) → StandsAt boot at self.old → GoesOut boot at result self.new }
+        ensures told { CanBeTold self.new.machine cpu }
+        ensures cpu { result.cpu ≡ cpu }
     {
-        let told = self.machine.leave(cpu);
-        self.answers[usize::from(cpu)] = told;
-        push_ret(lines, cpu, &told)?;
+        machines_stand();
+        Told {
+            cpu,
+            regs: self.machine.leave(cpu),
+        }
+    }
+
+    /// A processor that has gone out is told these registers, and their line is appended. Want of memory is all that stops it: a
+    /// part of the line may stand behind the lines then.
+    pub fn tell(&mut self, cpu: u8, regs: Regs, lines: &mut Vec<u8>) -> Result<(), Stop>
+        requires { CanBeTold self.old.machine cpu }
+        ensures tells { (boot : Booted) (at : Position) → StandsAt boot at self.old
+            → StandsAt boot (told_too cpu regs.a at) self.new }
+        ensures line { OnOk result (lines.new.items ≡ lines.old.items ++ ret_line cpu regs.a) }
+        ensures memory { IfErr result (λ stop. stop ≡ Stop.Memory) }
+    {
+        self.answers[usize::from(cpu)] = regs;
+        push_ret(lines, cpu, &regs)?;
         Ok(())
+    }
+
+    /// Writes bytes to the RAM that a processor sees.
+    pub fn write(&mut self, cpu: u8, addr: u64, bytes: &[u8])
+        requires cpu { HasLane self.old.machine cpu }
+        requires ram { IsInRam addr (length bytes.now) }
+        ensures writes { (boot : Booted) (at : Position) → StandsAt boot at self.old → StandsAt boot
+            (record at { play = with_writes cpu (record { addr = addr; bytes = bytes.now } ∷ []) at.play }) self.new }
+        ensures boot { booted_of self.new.machine.at_work.core ≡ booted_of self.old.machine.at_work.core }
+    {
+        machines_stand();
+        self.machine.write(cpu, addr, bytes);
     }
 
     /// Prints bytes of a processor's RAM.
@@ -125,37 +159,54 @@ impl Player {
     ) -> Result<(), Stop>
         requires lane { HasLane self.now.machine cpu }
         requires part { IsPartOfRam addr len }
-        ensures shows { (boot : Booted) (play : Play) → IsPlayedTo boot play self.now
-            → Follows boot play (after_item boot (item.Show cpu addr len) play) result self.now lines.old.items lines.new.items }
-        ensures never_fails { result ≡ Err Stop.Failed → ⊥ }
+        ensures shows { (boot : Booted) (at : Position) → StandsAt boot at self.now
+            → OnOk result (lines.new.items ≡ lines.old.items ++ mem_line cpu addr (bytes_at (lane_of at.play cpu) addr len)) }
+        ensures memory { IfErr result (λ stop. stop ≡ Stop.Memory) }
     {
         let bytes = self.machine.show(cpu, addr, u64::from(len));
         push_mem(alloc, lines, cpu, addr, bytes)?;
         Ok(())
     }
 
-    /// An item that makes a processor come in and go out.
-    fn call(
+    /// Plays an item up to where a processor goes out of the core by it, if one does: that one is told nothing yet, and `tell` is to
+    /// follow. Where an entry is refused, nothing is printed, and the player is as it was; at want of memory a part of a line may
+    /// stand behind the lines.
+    pub fn begin_item(
         &mut self,
         alloc: Global,
-        cpu: u8,
-        steps: u32,
-        regs: &[Reg; 8],
+        item: &Item,
         lines: &mut Vec<u8>,
-    ) -> Result<(), Stop>
-        requires { CanComeIn self.old.machine cpu steps regs.now }
-        ensures calls { (boot : Booted) (play : Play) → IsPlayedTo boot play self.old
-            → Follows boot play (after_item boot (item.Smc cpu steps regs.now) play) result self.new
-            lines.old.items lines.new.items }
-        ensures refused { result ≡ Err Stop.Full → StaysAt self.old self.new }
+    ) -> Result<Option<Told>, Stop>
+        requires { CanTake self.old item.now }
+        ensures begins { (boot : Booted) (at : Position) → StandsAt boot at self.old
+            → Begins boot at item.now result self.new lines.old.items lines.new.items }
+        ensures told { IfOk result (λ out. IfSome out (λ told. CanBeTold self.new.machine told.cpu)) }
         ensures never_fails { result ≡ Err Stop.Failed → ⊥ }
     {
-        self.enter(alloc, cpu, steps, regs)?;
-        self.leave(cpu, lines)
+        match item {
+            Item::Smc { cpu, steps, regs } => {
+                self.enter(alloc, *cpu, *steps, regs)?;
+                Ok(Some(self.leave(*cpu)))
+            }
+            Item::Enter { cpu, steps, regs } => {
+                self.enter(alloc, *cpu, *steps, regs)?;
+                Ok(None)
+            }
+            Item::Leave { cpu } => Ok(Some(self.leave(*cpu))),
+            Item::Write { cpu, addr, bytes } => {
+                self.write(*cpu, *addr, bytes.as_slice());
+                Ok(None)
+            }
+            Item::Show { cpu, addr, len } => {
+                self.show(alloc, *cpu, *addr, *len, lines)?;
+                Ok(None)
+            }
+        }
     }
 
-    /// Plays an item, and appends what it prints to the lines. Where an entry is refused, nothing is printed, and the player is as
-    /// it was; at want of memory a part of a line may stand behind the lines.
+    /// Plays an item, of which a processor that goes out is told the kernel's answer, and appends what it prints to the lines. Where
+    /// an entry is refused, nothing is printed, and the player is as it was; at want of memory a part of a line may stand behind the
+    /// lines.
     pub fn play_item(&mut self, alloc: Global, item: &Item, lines: &mut Vec<u8>) -> Result<(), Stop>
         requires { CanTake self.old item.now }
         ensures follows { (boot : Booted) (play : Play) → IsPlayedTo boot play self.old
@@ -163,15 +214,9 @@ impl Player {
         ensures refused { result ≡ Err Stop.Full → StaysAt self.old self.new }
         ensures never_fails { result ≡ Err Stop.Failed → ⊥ }
     {
-        match item {
-            Item::Smc { cpu, steps, regs } => self.call(alloc, *cpu, *steps, regs, lines),
-            Item::Enter { cpu, steps, regs } => self.enter(alloc, *cpu, *steps, regs),
-            Item::Leave { cpu } => self.leave(*cpu, lines),
-            Item::Write { cpu, addr, bytes } => {
-                self.machine.write(*cpu, *addr, bytes.as_slice());
-                Ok(())
-            }
-            Item::Show { cpu, addr, len } => self.show(alloc, *cpu, *addr, *len, lines),
+        match self.begin_item(alloc, item, lines)? {
+            Some(told) => self.tell(told.cpu, told.regs, lines),
+            None => Ok(()),
         }
     }
 }

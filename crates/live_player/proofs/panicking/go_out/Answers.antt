@@ -9,4 +9,4 @@ panic-requires g c = subst (λ (m : Machine). CanCome m (Leaves c.args.cpu)) (sy
 
 pub returns-clause-panic : goal.returns-clause-panic
 returns-clause-panic g c = λ boot ds told stands.
-    c.panic.ensures boot told.play (subst (IsAt boot told.play) (sym c.machine.ensures) stands.machine)
+    c.panic.ensures boot told.play (subst (IsAt boot told.play) (sym c.machine.ensures) stands.at.machine)

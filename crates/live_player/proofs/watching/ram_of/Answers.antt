@@ -1,6 +1,6 @@
 use Rattle.std.proofs.Common.{subst, sym}
 use Rattle.core_machine.specs.declared.machine.Machine.{Machine}
-use Rattle.notify_player.specs.Playing.{HasLane}
+use Rattle.trace_player.specs.Playing.{HasLane}
 use Rattle.live_player.proofs.Watched.{ram_lent}
 use Rattle.live_player.proofs.watching.ram_of.Goals as goal
 

@@ -1,31 +1,56 @@
-use Rattle.std.proofs.Common.{ℕ, List, [], ◌∷◌, refl, subst}
-use Rattle.core_machine.specs.Standing.{IsAt}
+-- An item up to its exit, and then what is told at that.
+use Rattle.std.proofs.Common.{ℕ, List, Option, ap, length, subst, sym, ◌∙◌}
+use Rattle.std.specs.Prelude.{Ok}
+use Rattle.std.proofs.lemmas.Result.{err_from_is_err_and}
+use Rattle.core_machine.specs.declared.smc.Told.{Told}
+use Rattle.event_journal.specs.declared.event.Event.{Event}
 use Rattle.native_tas.specs.Table.{drivers}
-use Rattle.play_model.specs.Play.{with_writes}
-use Rattle.notify_player.proofs.Moved.{came-follows, went-follows, wrote-follows}
+use Rattle.notify_play.specs.NotifyPlay.{after_item, with_play}
+use Rattle.trace_player.specs.Items.{Begins}
+use Rattle.notify_player.specs.Playing.{Follows, HasGone, places_behind, position_in}
+use Rattle.notify_player.specs.declared.player.NotifyPlayer.{NotifyPlayer}
+use Rattle.notify_player.proofs.OfSignals.{alone-follows, exit-follows, has-gone, has-place, stop-follows}
 use Rattle.notify_player.proofs.player.NotifyPlayer.play_item.Goals as goal
 
-pub returns-in-Smc-clause-follows : goal.returns-in-Smc-clause-follows
-returns-in-Smc-clause-follows g c = λ boot told stands. rw c.in-Smc.is (c.call.ensures.calls boot told stands)
+pub returns-in_err-out-clause-follows : goal.returns-in_err-out-clause-follows
+returns-in_err-out-clause-follows g c = λ boot told stands.
+    let failed = err_from_is_err_and c.from_residual.result c.from_residual.ensures.1 in
+    rw (failed.1, failed.2) (stop-follows boot (drivers c.args.natives.now) told c.args.item.now c.in_err-out.field-0.0
+    c.args.self.now c.begin_item.new.self c.args.lines.now.items c.begin_item.new.lines.items stands
+    (c.in_err-out.ensures.begins boot (position_in told) stands.at))
 
-pub returns-in-Enter-clause-follows : goal.returns-in-Enter-clause-follows
-returns-in-Enter-clause-follows g c = λ boot told stands.
-    rw c.in-Enter.is (came-follows boot (drivers c.args.natives.now) told _ c.enter.result c.enter.new.self
-    c.args.lines.now.items (c.enter.ensures.comes boot (drivers c.args.natives.now) told stands))
+pub keep_entry-requires : goal.keep_entry-requires
+keep_entry-requires g c = has-place c.args.self.now.player.machine c.args.item.now c.requires.can
 
-pub returns-in-Leave-clause-follows : goal.returns-in-Leave-clause-follows
-returns-in-Leave-clause-follows g c = λ boot told stands.
-    rw c.in-Leave.is (went-follows boot (drivers c.args.natives.now) told _ c.leave.result c.leave.new.self _ _
-    (c.leave.ensures.leaves boot told stands))
+pub returns-in-None-clause-follows : goal.returns-in-None-clause-follows
+returns-in-None-clause-follows g c = λ boot told stands.
+    let ds = drivers c.args.natives.now in
+    let before = c.args.self.now in
+    let i = c.args.item.now in
+    let count = ap (λ (h : List Event). length h) (c.history-place.ensures ∙ stands.at.machine.history) in
+    let kept = c.keep_entry.ensures
+    ∙ ap (λ (n : ℕ). record before { player = c.begin_item.new.self; entries = places_behind i n before.entries }) count in
+    subst (λ (p : NotifyPlayer). Follows boot ds told (after_item boot ds i told) (Ok tt) p c.args.lines.now.items
+    c.begin_item.new.lines.items) (sym kept)
+    (alone-follows boot ds told i before c.begin_item.new.self c.args.lines.now.items c.begin_item.new.lines.items
+    (has-place before.player.machine i c.requires.can) stands
+    (subst (λ (out : Option Told). Begins boot (position_in told) i (Ok out) c.begin_item.new.self
+    c.args.lines.now.items c.begin_item.new.lines.items) c.in-None.is
+    (c.in_ok-out.ensures.begins boot (position_in told) stands.at)))
 
-pub returns-in-Write-clause-follows : goal.returns-in-Write-clause-follows
-returns-in-Write-clause-follows g c = λ boot told stands.
-    let at = subst (λ (bytes : List ℕ). IsAt boot
-    (with_writes c.in-Write.cpu (record { addr = c.in-Write.addr; bytes = bytes } ∷ []) told.play) c.write.new.self)
-    c.as_slice.ensures (c.write.ensures boot told.play stands.machine) in
-    rw c.in-Write.is (wrote-follows boot (drivers c.args.natives.now) told c.in-Write.cpu c.in-Write.addr c.in-Write.bytes
-    c.args.self.now (record c.args.self.now { machine = c.write.new.self }) c.args.lines.now.items at stands refl refl refl)
-
-pub returns-in-Show-clause-follows : goal.returns-in-Show-clause-follows
-returns-in-Show-clause-follows g c = λ boot told stands.
-    rw c.in-Show.is (c.show.ensures.shows boot (drivers c.args.natives.now) told stands)
+pub returns-in-Some-clause-follows : goal.returns-in-Some-clause-follows
+returns-in-Some-clause-follows g c = λ boot told stands.
+    let ds = drivers c.args.natives.now in
+    let before = c.args.self.now in
+    let i = c.args.item.now in
+    let begun = subst (λ (out : Option Told). Begins boot (position_in told) i (Ok out) c.begin_item.new.self
+    c.args.lines.now.items c.begin_item.new.lines.items) c.in-Some.is (c.in_ok-out.ensures.begins boot (position_in told) stands.at) in
+    let count = ap (λ (h : List Event). length h) (c.history-place.ensures ∙ stands.at.machine.history) in
+    let kept = c.keep_entry.ensures
+    ∙ ap (λ (n : ℕ). record before { player = c.begin_item.new.self; entries = places_behind i n before.entries }) count in
+    let gone = subst (λ (p : NotifyPlayer). HasGone boot ds (with_play told begun.between) c.in-Some.answered p) (sym kept)
+    (has-gone boot ds told i c.in-Some.answered before c.begin_item.new.self c.args.lines.now.items
+    c.begin_item.new.lines.items (has-place before.player.machine i c.requires.can) stands begun) in
+    exit-follows boot ds told i c.in-Some.answered c.answer.result c.begin_item.new.self c.answer.new.self
+    c.args.lines.now.items c.begin_item.new.lines.items c.answer.new.lines.items begun
+    (c.answer.ensures.follows boot (with_play told begun.between) gone) c.answer.ensures.memory

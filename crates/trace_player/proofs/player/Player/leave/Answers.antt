@@ -1,11 +1,11 @@
-use Rattle.std.proofs.Common.{ℕ, ap}
-use Rattle.std.specs.Prelude.{slice_set}
-use Rattle.trace_player.proofs.Moved.{went-out}
+use Rattle.trace_player.proofs.Moved.{can-tell, went-out}
 use Rattle.trace_player.proofs.player.Player.leave.Goals as goal
 
 pub returns-clause-leaves : goal.returns-clause-leaves
-returns-clause-leaves c = λ boot play stands.
-    went-out boot play c.args.cpu c.leave-told.result _ c.args.self.now.answers _ _
-    (c.leave-told.ensures boot play stands.machine) stands.answers
-    (ap (λ (place : ℕ). slice_set c.args.self.now.answers place c.leave-told.result) c.from.ensures)
-    c.in_ok-push_ret.ensures.told
+returns-clause-leaves c = λ boot at stands.
+    went-out boot at (record { cpu = c.args.cpu; regs = c.leave.result }) c.leave.new.self c.args.self.now
+    (c.leave.ensures boot at.play stands.machine) stands
+
+pub returns-clause-told : goal.returns-clause-told
+returns-clause-told c =
+    can-tell c.args.self.now.machine c.leave.new.self c.args.cpu c.leave.result c.machines_stand.ensures c.requires c.leave.ensures

@@ -1,41 +1,34 @@
-use Rattle.std.proofs.Common.{ℕ, List, [], ◌∷◌, subst}
-use Rattle.play_model.specs.Play.{visit_of, with_writes}
-use Rattle.core_machine.specs.Standing.{IsAt}
-use Rattle.trace_player.specs.Playing.{StaysAt}
-use Rattle.trace_player.specs.declared.player.Player.{Player}
-use Rattle.trace_player.proofs.Moved.{at-full, came-follows, never-full, went-follows, wrote-follows}
+-- An item up to its exit, and then the kernel's answer.
+use Rattle.std.proofs.Common.{Option, subst}
+use Rattle.std.specs.Prelude.{Ok}
+use Rattle.std.proofs.lemmas.Result.{err_from_is_err_and}
+use Rattle.core_machine.specs.declared.smc.Told.{Told}
+use Rattle.trace_player.specs.Items.{Begins}
+use Rattle.trace_player.specs.Position.{position_of}
+use Rattle.trace_player.proofs.OfTraces.{alone-follows, exit-follows, stays, stop-follows}
 use Rattle.trace_player.proofs.player.Player.play_item.Goals as goal
 
-pub returns-in-Smc-clause-follows : goal.returns-in-Smc-clause-follows
-returns-in-Smc-clause-follows c = λ boot play stands. rw c.in-Smc.is (c.call.ensures.calls boot play stands)
+pub returns-in_err-told-clause-follows : goal.returns-in_err-told-clause-follows
+returns-in_err-told-clause-follows c = λ boot play stands.
+    let failed = err_from_is_err_and c.from_residual.result c.from_residual.ensures.1 in
+    rw (failed.1, failed.2) (stop-follows boot play c.args.item.now c.in_err-told.field-0.0 c.begin_item.new.self
+    c.args.lines.now.items c.begin_item.new.lines.items stands.machine.goes_on
+    (c.in_err-told.ensures.begins boot (position_of play) stands))
 
-pub returns-in-Enter-clause-follows : goal.returns-in-Enter-clause-follows
-returns-in-Enter-clause-follows c = λ boot play stands.
-    rw c.in-Enter.is (came-follows boot play
-    (visit_of play.history c.in-Enter.cpu c.in-Enter.steps c.in-Enter.regs) c.enter.result c.enter.new.self
-    c.args.lines.now.items
-    (c.enter.ensures.comes boot play stands))
+pub returns-in_err-told-clause-refused : goal.returns-in_err-told-clause-refused
+returns-in_err-told-clause-refused c = λ e boot play stands.
+    stays boot play _ c.from_residual.result c.begin_item.new.self _ _ e (returns-in_err-told-clause-follows c boot play stands)
 
-pub returns-in-Leave-clause-follows : goal.returns-in-Leave-clause-follows
-returns-in-Leave-clause-follows c = λ boot play stands.
-    rw c.in-Leave.is (went-follows boot play c.in-Leave.cpu c.leave.result c.leave.new.self _ _
-    (c.leave.ensures.leaves boot play stands))
+pub returns-in-Some-clause-follows : goal.returns-in-Some-clause-follows
+returns-in-Some-clause-follows c = λ boot play stands.
+    let begun = subst (λ (out : Option Told). Begins boot (position_of play) c.args.item.now (Ok out) c.begin_item.new.self
+    c.args.lines.now.items c.begin_item.new.lines.items) c.in-Some.is (c.in_ok-told.ensures.begins boot (position_of play) stands) in
+    exit-follows boot play c.args.item.now c.in-Some.told c.tell.result c.begin_item.new.self c.tell.new.self
+    c.args.lines.now.items c.begin_item.new.lines.items c.tell.new.lines.items begun
+    (c.tell.ensures.tells boot _ begun.goes.stands) c.tell.ensures.line c.tell.ensures.memory
 
-pub returns-in-Write-clause-follows : goal.returns-in-Write-clause-follows
-returns-in-Write-clause-follows c = λ boot play stands.
-    let player : Player = record { machine = c.write.new.self; answers = c.args.self.now.answers } in
-    let at = subst (λ (bytes : List ℕ). IsAt boot
-    (with_writes c.in-Write.cpu (record { addr = c.in-Write.addr; bytes = bytes } ∷ []) play) c.write.new.self)
-    c.as_slice.ensures
-    (c.write.ensures boot play stands.machine) in
-    rw c.in-Write.is (wrote-follows boot play c.in-Write.cpu c.in-Write.addr c.in-Write.bytes player
-    c.args.lines.now.items at stands.answers)
-
--- ---- a refused entry
-
-pub returns-in-Enter-clause-refused : goal.returns-in-Enter-clause-refused
-returns-in-Enter-clause-refused c = λ e. at-full (StaysAt c.args.self.now c.enter.new.self) c.enter.result e c.enter.ensures.stays
-
-pub returns-in-Leave-clause-refused : goal.returns-in-Leave-clause-refused
-returns-in-Leave-clause-refused c = λ e boot play stands.
-    absurd (never-full boot play c.in-Leave.cpu c.leave.result c.leave.new.self _ _ e (c.leave.ensures.leaves boot play stands))
+pub returns-in-None-clause-follows : goal.returns-in-None-clause-follows
+returns-in-None-clause-follows c = λ boot play stands.
+    alone-follows boot play c.args.item.now c.begin_item.new.self c.args.lines.now.items c.begin_item.new.lines.items
+    (subst (λ (out : Option Told). Begins boot (position_of play) c.args.item.now (Ok out) c.begin_item.new.self
+    c.args.lines.now.items c.begin_item.new.lines.items) c.in-None.is (c.in_ok-told.ensures.begins boot (position_of play) stands))
