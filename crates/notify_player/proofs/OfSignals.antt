@@ -1,25 +1,26 @@
 -- The play of a trace with signals: an item up to its exit, and then what is told at that.
-use Rattle.std.proofs.Common.{◌≡◌, ℕ, List, [], ◌∷◌, ◌++◌, length, Option, Some, None, sym, ap, subst, ◌∙◌}
+use Rattle.std.proofs.Common.{◌≡◌, ℕ, List, [], ◌∷◌, length, Option, None, Some, refl, ap, subst}
 use Rattle.std.specs.Prelude.{Result, Ok, Err, IfErr}
-use Rattle.std.specs.Option.{option_and_then, option_map, option_map_or}
+use Rattle.std.specs.Option.{option_map}
 use Rattle.core_machine.specs.declared.machine.Machine.{Machine}
 use Rattle.core_machine.specs.declared.smc.Told.{Told}
 use Rattle.event_journal.specs.declared.event.Event.{Event}
 use Rattle.kernel_model.specs.Application.{Booted}
-use Rattle.notify_play.specs.NotifyPlay.{Drivers, NotifyPlay, after_item, goes_out, unless_refused, visit_with, with_play}
-use Rattle.play_model.proofs.Entries.{entered}
+use Rattle.notify_play.specs.NotifyPlay.{Drivers, NotifyPlay, after_item, goes_out, visit_with, with_play}
 use Rattle.ns_ram.specs.Lane.{bytes_at}
-use Rattle.play_model.specs.Line.{Line, Mem}
+use Rattle.play_model.proofs.Entries.{entered}
+use Rattle.play_model.specs.Line.{Mem}
 use Rattle.play_model.specs.Play.{Play, enters, lane_of, with_line, with_writes}
-use Rattle.trace_player.specs.Items.{Begins, HasExit, HasNoExit, goes_out_by, up_to_exit}
-use Rattle.trace_player.specs.Playing.{CanBeTaken, text_of_lines}
+use Rattle.trace_player.proofs.Items.{plays-alone, plays-exit, plays-stop, then-exit, then-nothing}
+use Rattle.trace_player.specs.Items.{Begins, HasExit, HasNoExit, after_item_of, up_to_exit}
+use Rattle.trace_player.specs.Kinds.{IsKind}
+use Rattle.trace_player.specs.Playing.{CanBeTaken}
 use Rattle.trace_player.specs.declared.player.Player.{Player}
 use Rattle.trace_text.specs.declared.item.Item.{Item}
 use Rattle.trace_text.specs.declared.item.Item.TheVariants as item
-use Rattle.trace_text.specs.declared.item.Reg.{Reg}
 use Rattle.word_parts.specs.declared.stop.Stop.{Stop}
-use Rattle.word_parts.specs.declared.stop.Stop.TheVariants.{Full, Failed, Memory}
-use Rattle.notify_player.specs.Playing.{AreLastEntries, Follows, HasGone, HasPlace, IsPlayedTo, places_behind, position_in, refused_at}
+use Rattle.word_parts.specs.declared.stop.Stop.TheVariants.{Memory}
+use Rattle.notify_player.specs.Playing.{AreLastEntries, Follows, HasGone, HasPlace, IsPlayedTo, of_signals, places_behind, position_in}
 use Rattle.notify_player.specs.declared.player.NotifyPlayer.{NotifyPlayer}
 use Rattle.notify_player.proofs.Entries.{entries-came}
 
@@ -31,59 +32,24 @@ has-place machine (item.Leave cpu) can = tt
 has-place machine (item.Write cpu addr bytes) can = tt
 has-place machine (item.Show cpu addr len) can = tt
 
+is-kind : (boot : Booted) (drivers : Drivers) → IsKind (of_signals boot drivers)
+is-kind boot drivers = record { over = λ told next. refl }
+
 module _ (boot : Booted) (drivers : Drivers) (told : NotifyPlay) where
-  -- ---- an item with no exit
+  -- its items are those of the kind
+  same-item : (i : Item) → told.play.refused ≡ None → after_item_of (of_signals boot drivers) i told ≡ after_item boot drivers i told
+  same-item (item.Smc cpu steps regs) going = refl
+  same-item (item.Enter cpu steps regs) going =
+      then-nothing (of_signals boot drivers) (option_map (with_play told) (enters boot told.play (visit_with told cpu steps regs)))
+  same-item (item.Leave cpu) going = then-exit (of_signals boot drivers) cpu told going
+  same-item (item.Write cpu addr bytes) going = refl
+  same-item (item.Show cpu addr len) going = refl
 
-  after-alone : (i : Item) (next : Play) → goes_out_by i ≡ None → up_to_exit boot (position_in told) i ≡ Some next
-      → after_item boot drivers i told ≡ Some (with_play told next)
-  after-alone (item.Smc cpu steps regs) next none e = absurd cc
-  after-alone (item.Enter cpu steps regs) next none e = ap (option_map (with_play told)) e
-  after-alone (item.Leave cpu) next none e = absurd cc
-  after-alone (item.Write cpu addr bytes) next none e = ap (option_map (with_play told)) e
-  after-alone (item.Show cpu addr len) next none e = ap (option_map (with_play told)) e
-
-  -- ---- one with an exit
-
-  smc-exit : (cpu steps : ℕ) (regs : List Reg) (between : Play)
-      → enters boot told.play (visit_with told cpu steps regs) ≡ Some between → between.refused ≡ None
-      → after_item boot drivers (item.Smc cpu steps regs) told ≡ goes_out boot drivers cpu (with_play told between)
-  smc-exit cpu steps regs between e going =
-      let next = with_play told between in
-      ap (option_and_then (unless_refused (goes_out boot drivers cpu))) (ap (option_map (with_play told)) e)
-      ∙ ap (λ (o : Option ℕ). option_map_or (λ (more : ℕ). Some next) o (goes_out boot drivers cpu next)) going
-
-  after-exit : (i : Item) (cpu : ℕ) (between : Play) → goes_out_by i ≡ Some cpu
-      → up_to_exit boot (position_in told) i ≡ Some between → between.refused ≡ None
-      → after_item boot drivers i told ≡ goes_out boot drivers cpu (with_play told between)
-  after-exit (item.Smc own steps regs) cpu between out e going =
-      let same : own ≡ cpu = cc in
-      smc-exit own steps regs between e going ∙ ap (λ (n : ℕ). goes_out boot drivers n (with_play told between)) same
-  after-exit (item.Enter own steps regs) cpu between out e going = absurd cc
-  after-exit (item.Leave own) cpu between out e going =
-      let same : own ≡ cpu = cc in
-      let here : told.play ≡ between = cc in
-      ap (λ (n : ℕ). goes_out boot drivers n told) same
-      ∙ ap (λ (p : Play). goes_out boot drivers cpu (with_play told p)) here
-  after-exit (item.Write own addr bytes) cpu between out e going = absurd cc
-  after-exit (item.Show own addr len) cpu between out e going = absurd cc
-
-  -- ---- one whose entry is refused
-
-  not-refused : (more : ℕ) → told.play.refused ≡ None → Some told.play ≡ Some (record told.play { refused = Some more }) → ⊥
-  not-refused more going e =
-      let is : told.play ≡ record told.play { refused = Some more } = cc in
-      let no : None ≡ Some more = sym going ∙ ap (λ (p : Play). p.refused) is in
-      absurd cc
-
-  after-refused : (i : Item) (more : ℕ) → told.play.refused ≡ None
-      → up_to_exit boot (position_in told) i ≡ Some (record told.play { refused = Some more })
-      → after_item boot drivers i told ≡ Some (refused_at more told)
-  after-refused (item.Smc cpu steps regs) more going e =
-      ap (option_and_then (unless_refused (goes_out boot drivers cpu))) (ap (option_map (with_play told)) e)
-  after-refused (item.Enter cpu steps regs) more going e = ap (option_map (with_play told)) e
-  after-refused (item.Leave cpu) more going e = absurd (not-refused more going e)
-  after-refused (item.Write cpu addr bytes) more going e = ap (option_map (with_play told)) e
-  after-refused (item.Show cpu addr len) more going e = ap (option_map (with_play told)) e
+  follows-so : (i : Item) (result : Result (Unit {0}) Stop) (player : NotifyPlayer) (old new : List ℕ) → told.play.refused ≡ None
+      → Follows boot drivers told (after_item_of (of_signals boot drivers) i told) result player old new
+      → Follows boot drivers told (after_item boot drivers i told) result player old new
+  follows-so i result player old new going follows =
+      subst (λ (o : Option NotifyPlay). Follows boot drivers told o result player old new) (same-item i going) follows
 
   -- ---- where entries stand
 
@@ -121,17 +87,16 @@ module _ (boot : Booted) (drivers : Drivers) (told : NotifyPlay) where
   pub alone-follows : (i : Item) (before : NotifyPlayer) (player : Player) (old new : List ℕ) → HasPlace i
       → IsPlayedTo boot drivers told before → HasNoExit boot (position_in told) i player old new
       → Follows boot drivers told (after_item boot drivers i told) (Ok tt) (begun i before player) old new
-  alone-follows i before player old new few stands alone = (
-    with_play told alone.next,
-    after-alone i alone.next alone.no_exit alone.comes,
-    record {
-      at = alone.stands;
-      count = stands.count;
-      entries = up-to-entries i alone.next before.entries few alone.comes alone.stands.machine.goes_on stands.entries;
-      desk = stands.desk;
-    },
-    alone.prints,
-  )
+  alone-follows i before player old new few stands alone =
+      follows-so i (Ok tt) (begun i before player) old new stands.at.machine.goes_on
+      (plays-alone (of_signals boot drivers) (is-kind boot drivers) (λ p. IsPlayedTo boot drivers p (begun i before player)) told i
+      player old new alone
+      (record {
+        at = alone.stands;
+        count = stands.count;
+        entries = up-to-entries i alone.next before.entries few alone.comes alone.stands.machine.goes_on stands.entries;
+        desk = stands.desk;
+      }))
 
   pub has-gone : (i : Item) (answered : Told) (before : NotifyPlayer) (player : Player) (old new : List ℕ) → HasPlace i
       → IsPlayedTo boot drivers told before → (out : HasExit boot (position_in told) i answered player old new)
@@ -145,35 +110,21 @@ module _ (boot : Booted) (drivers : Drivers) (told : NotifyPlay) where
 
   -- what is told follows on that
   pub exit-follows : (i : Item) (answered : Told) (result : Result (Unit {0}) Stop) (player : Player) (after : NotifyPlayer)
-      (old middle new : List ℕ) → (out : HasExit boot (position_in told) i answered player old middle)
+      (old middle new : List ℕ) → told.play.refused ≡ None → (out : HasExit boot (position_in told) i answered player old middle)
       → Follows boot drivers (with_play told out.between) (goes_out boot drivers answered.cpu (with_play told out.between))
       result after middle new
-      → IfErr result (λ stop. stop ≡ Memory)
-      → Follows boot drivers told (after_item boot drivers i told) result after old new
-  exit-follows i answered (Ok done) player after old middle new out follows memory =
-      let prints = follows.3 in (
-        follows.0,
-        after-exit i answered.cpu out.between out.cpu out.comes out.goes_on ∙ follows.1,
-        follows.2,
-        (
-          prints.0,
-          prints.1 ∙ ap (λ (ls : List Line). ls ++ prints.0) out.lines,
-          subst (λ (t : List ℕ). new ≡ t ++ text_of_lines prints.0) out.prints prints.2,
-        ),
-      )
-  exit-follows i answered (Err Full) player after old middle new out follows memory = absurd cc
-  exit-follows i answered (Err Failed) player after old middle new out follows memory = absurd cc
-  exit-follows i answered (Err Memory) player after old middle new out follows memory = tt
+      → IfErr result (λ stop. stop ≡ Memory) → Follows boot drivers told (after_item boot drivers i told) result after old new
+  exit-follows i answered result player after old middle new going out follows memory =
+      follows-so i result after old new going
+      (plays-exit (of_signals boot drivers) (is-kind boot drivers) (λ p. IsPlayedTo boot drivers p after) told i answered result player
+      old middle new out follows memory)
 
   -- it is not begun
   pub stop-follows : (i : Item) (stop : Stop) (before : NotifyPlayer) (player : Player) (old new : List ℕ)
       → IsPlayedTo boot drivers told before → Begins boot (position_in told) i (Err stop) player old new
       → Follows boot drivers told (after_item boot drivers i told) (Err stop) (record before { player = player }) old new
-  stop-follows i Full before player old new stands stopped = (
-    stopped.more,
-    after-refused i stopped.more stands.at.machine.goes_on stopped.comes,
-    stopped.prints,
-    record { at = stopped.stands; count = stands.count; entries = stands.entries; desk = stands.desk },
-  )
-  stop-follows i Failed before player old new stands stopped = absurd stopped
-  stop-follows i Memory before player old new stands stopped = tt
+  stop-follows i stop before player old new stands stopped =
+      let now : NotifyPlayer = record before { player = player } in
+      follows-so i (Err stop) now old new stands.at.machine.goes_on
+      (plays-stop (of_signals boot drivers) (is-kind boot drivers) (λ p. IsPlayedTo boot drivers p now) told i stop player old new
+      stopped (λ at. record { at = at; count = stands.count; entries = stands.entries; desk = stands.desk }))

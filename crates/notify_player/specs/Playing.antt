@@ -4,8 +4,9 @@ use Rattle.core_machine.specs.declared.smc.Told.{Told}
 use Rattle.event_journal.specs.declared.event.Event.{Event}
 use Rattle.kernel_model.specs.Application.{Booted}
 use Rattle.notify_play.specs.Duty.{last_entry}
-use Rattle.notify_play.specs.NotifyPlay.{Drivers, NotifyPlay, desk_of}
+use Rattle.notify_play.specs.NotifyPlay.{Drivers, NotifyPlay, desk_of, goes_out, with_play}
 use Rattle.trace_player.specs.Items.{GoesOut}
+use Rattle.trace_player.specs.Kinds.{Kind}
 use Rattle.trace_player.specs.Playing.{Plays}
 use Rattle.trace_player.specs.Position.{Position, StandsAt}
 use Rattle.trace_text.specs.declared.item.Item.{Item}
@@ -19,6 +20,15 @@ use Rattle.notify_player.specs.declared.player.NotifyPlayer.{NotifyPlayer}
 -- the play of the kernel as the desk changed it, and what each processor was told
 abbrev pub position_in : NotifyPlay → Position
 position_in told = record { play = told.play; told = λ cpu. slice_index_or told.answers cpu [] }
+
+-- as plays of a kind
+abbrev pub of_signals : Booted → Drivers → Kind NotifyPlay
+of_signals boot drivers = record {
+  boot = boot;
+  position = position_in;
+  over = with_play;
+  goes_out = λ cpu told. goes_out boot drivers cpu told;
+}
 
 -- of each processor, its entry at the place that is kept came in with what its last entry of this history came in with, the same
 -- registers and reads; where it has none, with nothing
@@ -73,5 +83,4 @@ refused_at more told = record told { play = record told.play { refused = Some mo
 abbrev pub Follows : Booted → Drivers → NotifyPlay → Option NotifyPlay → Result (Unit {0}) Stop → NotifyPlayer → List ℕ
     → List ℕ → Type 0
 Follows boot drivers told after result player old new =
-    Plays (λ (p : NotifyPlay). p.play) (λ (p : NotifyPlay). IsPlayedTo boot drivers p player) (λ more. refused_at more told) told
-    after result old new
+    Plays (of_signals boot drivers) (λ told. IsPlayedTo boot drivers told player) told after result old new

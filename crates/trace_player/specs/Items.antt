@@ -1,5 +1,6 @@
--- An item up to where a processor goes out by it: what a play comes to then, before that processor is told anything.
+-- An item, and the same up to where a processor goes out by it: what a play comes to then, before that processor is told anything.
 use Rattle.std.specs.Prelude.{◌≡◌, ℕ, List, [], ◌∷◌, ◌++◌, Option, None, Some, Result, Ok, Err}
+use Rattle.std.specs.Option.{option_and_then, option_map, option_map_or}
 use Rattle.core_machine.specs.Serving.{line_of}
 use Rattle.core_machine.specs.declared.smc.Told.{Told}
 use Rattle.kernel_model.specs.Application.{Booted}
@@ -9,6 +10,7 @@ use Rattle.play_model.specs.Line.{Mem}
 use Rattle.play_model.specs.Play.{Play, enters, lane_of, leaves, with_line, with_writes}
 use Rattle.trace_text.specs.declared.item.Item.{Item}
 use Rattle.trace_text.specs.declared.item.Item.TheVariants as item
+use Rattle.trace_player.specs.Kinds.{Kind, play_in}
 use Rattle.trace_player.specs.Playing.{Prints}
 use Rattle.trace_player.specs.Position.{Position, StandsAt, visit_at}
 use Rattle.trace_player.specs.declared.player.Player.{Player}
@@ -31,6 +33,18 @@ goes_out_by (item.Enter cpu steps regs) = None
 goes_out_by (item.Leave cpu) = Some cpu
 goes_out_by (item.Write cpu addr bytes) = None
 goes_out_by (item.Show cpu addr len) = None
+
+-- the exit of a processor, where one goes out, unless an entry was refused
+abbrev pub exit_by : {P : Type 0} → Kind P → Option ℕ → P → Option P
+exit_by kind None before = Some before
+exit_by kind (Some cpu) before =
+    option_map_or (λ more. Some before) (play_in kind before).refused (kind.goes_out cpu before)
+
+-- the play of a kind after an item: what comes up to its exit, and then that
+abbrev pub after_item_of : {P : Type 0} → Kind P → Item → P → Option P
+after_item_of kind i before =
+    option_and_then (exit_by kind (goes_out_by i))
+    (option_map (kind.over before) (up_to_exit kind.boot (kind.position before) i))
 
 -- ---- an entry, an exit
 

@@ -1,4 +1,5 @@
 pub mod Position
+pub mod Kinds
 pub mod Playing
 pub mod Items
 pub mod Starting

@@ -14,6 +14,7 @@ use Rattle.kernel_state.specs.Meaning.{booted_of, events_of}
 use Rattle.core_machine.specs.Standing.{CanCome}
 use Rattle.core_machine.specs.declared.machine.Machine.{Machine}
 use Rattle.core_machine.specs.declared.smc.Smc.TheVariants.{Comes, Leaves}
+use Rattle.trace_player.specs.Kinds.{Kind, of_trace, play_in}
 use Rattle.trace_player.specs.Position.{StandsAt, position_of}
 use Rattle.trace_player.specs.declared.player.Player.{Player}
 use Rattle.word_parts.specs.declared.stop.Stop.{Stop}
@@ -80,18 +81,16 @@ Prints before after old new =
 
 -- ---- what a play comes to
 
--- something that a play of whatever kind comes to, where it can come, and the player with it, by what has come to a play; a refused
--- entry, which would have read so many bytes, prints nothing, and leaves the player at the play before
-abbrev pub Plays : {P : Type 0} → (P → Play) → (P → Type 0) → (ℕ → P) → P → Option P → Result (Unit {0}) Stop → List ℕ
-    → List ℕ → Type 0
-Plays {P} play_of HasCome refused before after (Ok done) old new =
-    (next : P) × (after ≡ Some next) × HasCome next × Prints (play_of before) (play_of next) old new
-Plays {P} play_of HasCome refused before after (Err Full) old new =
-    (more : ℕ) × (after ≡ Some (refused more)) × (new ≡ old) × HasCome before
-Plays {P} play_of HasCome refused before after (Err Failed) old new = ⊥
-Plays {P} play_of HasCome refused before after (Err Memory) old new = Unit {0}
+-- something that a play of a kind comes to, where it can come, and the player with it, by what has come to a play; a refused entry,
+-- which would have read so many bytes, prints nothing, and leaves the player at the play before
+abbrev pub Plays : {P : Type 0} → Kind P → (P → Type 0) → P → Option P → Result (Unit {0}) Stop → List ℕ → List ℕ → Type 0
+Plays {P} kind HasCome before after (Ok done) old new =
+    (next : P) × (after ≡ Some next) × HasCome next × Prints (play_in kind before) (play_in kind next) old new
+Plays {P} kind HasCome before after (Err Full) old new =
+    (more : ℕ) × (after ≡ Some (kind.over before (record (play_in kind before) { refused = Some more }))) × (new ≡ old) × HasCome before
+Plays {P} kind HasCome before after (Err Failed) old new = ⊥
+Plays {P} kind HasCome before after (Err Memory) old new = Unit {0}
 
 -- that of a trace
 abbrev pub Follows : Booted → Play → Option Play → Result (Unit {0}) Stop → Player → List ℕ → List ℕ → Type 0
-Follows boot play after result player old new =
-    Plays (λ p. p) (λ p. IsPlayedTo boot p player) (λ more. record play { refused = Some more }) play after result old new
+Follows boot play after result player old new = Plays (of_trace boot) (λ p. IsPlayedTo boot p player) play after result old new

@@ -52,5 +52,5 @@ returns-in-Some-clause-follows g c = λ boot told stands.
     (has-gone boot ds told i c.in-Some.answered before c.begin_item.new.self c.args.lines.now.items
     c.begin_item.new.lines.items (has-place before.player.machine i c.requires.can) stands begun) in
     exit-follows boot ds told i c.in-Some.answered c.answer.result c.begin_item.new.self c.answer.new.self
-    c.args.lines.now.items c.begin_item.new.lines.items c.answer.new.lines.items begun
+    c.args.lines.now.items c.begin_item.new.lines.items c.answer.new.lines.items stands.at.machine.goes_on begun
     (c.answer.ensures.follows boot (with_play told begun.between) gone) c.answer.ensures.memory

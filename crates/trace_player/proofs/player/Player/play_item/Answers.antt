@@ -24,11 +24,12 @@ returns-in-Some-clause-follows c = λ boot play stands.
     let begun = subst (λ (out : Option Told). Begins boot (position_of play) c.args.item.now (Ok out) c.begin_item.new.self
     c.args.lines.now.items c.begin_item.new.lines.items) c.in-Some.is (c.in_ok-told.ensures.begins boot (position_of play) stands) in
     exit-follows boot play c.args.item.now c.in-Some.told c.tell.result c.begin_item.new.self c.tell.new.self
-    c.args.lines.now.items c.begin_item.new.lines.items c.tell.new.lines.items begun
+    c.args.lines.now.items c.begin_item.new.lines.items c.tell.new.lines.items stands.machine.goes_on begun
     (c.tell.ensures.tells boot _ begun.goes.stands) c.tell.ensures.line c.tell.ensures.memory
 
 pub returns-in-None-clause-follows : goal.returns-in-None-clause-follows
 returns-in-None-clause-follows c = λ boot play stands.
     alone-follows boot play c.args.item.now c.begin_item.new.self c.args.lines.now.items c.begin_item.new.lines.items
+    stands.machine.goes_on
     (subst (λ (out : Option Told). Begins boot (position_of play) c.args.item.now (Ok out) c.begin_item.new.self
     c.args.lines.now.items c.begin_item.new.lines.items) c.in-None.is (c.in_ok-told.ensures.begins boot (position_of play) stands))
