@@ -1,9 +1,9 @@
 //! Playing items whose lines are gathered before they are put.
 
-ghost use Rattle.std.specs.Prelude.{◌≡◌, ◌≢◌, ◌≤◌, List, [], Err};
+ghost use Rattle.std.specs.Prelude.{List};
 ghost use Rattle.kernel_model.specs.Application.{Native};
-ghost use Rattle.ports.specs.Port.{Rose};
 ghost use Rattle.trace_text.specs.declared.trace.Trace.{Trace};
+ghost use Rattle.word_parts.specs.Faults.{StopTellsFaults};
 ghost use Rattle.word_parts.specs.Gathering.{EndsAs, PutsLines, PutsOrKeeps};
 ghost use Rattle.alone_runner.specs.Run.{IsToldOf};
 ghost use Rattle.trace_player.specs.Starting.{IsAtStart};
@@ -27,9 +27,7 @@ pub fn play_items<K: Sink>(
     requires { (natives : List Native) × (trace : Trace) × IsAtStart natives trace items.now player.old }
     ensures told { (natives : List Native) (trace : Trace) → IsAtStart natives trace items.now player.old
         → IsToldOf natives trace result (K.held out.old) (K.held out.new) }
-    ensures failed { result ≡ Err Stop.Failed → Rose (K.faults out.old) (K.faults out.new) }
-    ensures count { K.faults out.old ≤ K.faults out.new }
-    ensures stays { result ≢ Err Stop.Failed → K.faults out.new ≡ K.faults out.old }
+    ensures faults { StopTellsFaults result (K.faults out.old) (K.faults out.new) }
 {
     machines_stand();
     let mut lines = Vec::new(alloc);

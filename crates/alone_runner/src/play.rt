@@ -1,9 +1,8 @@
 //! Playing a trace: its boot, its fills, and then its items in their order.
-ghost use Rattle.std.specs.Prelude.{◌≡◌, ◌≢◌, ◌≤◌, Err};
 ghost use Rattle.native_tas.specs.Table.{entries};
-ghost use Rattle.ports.specs.Port.{Rose};
 ghost use Rattle.trace_player.specs.Starting.{uuids_of};
 ghost use Rattle.trace_text.specs.Sound.{IsSound};
+ghost use Rattle.word_parts.specs.Faults.{StopTellsFaults};
 ghost use Rattle.alone_runner.specs.Run.{IsToldOf};
 
 use crate::gathering::play_items;
@@ -23,9 +22,7 @@ pub fn play<K: Sink>(
 ) -> Result<(), Stop>
     requires { IsSound (uuids_of (entries natives.now)) trace }
     ensures told { IsToldOf (entries natives.now) trace result (K.held out.old) (K.held out.new) }
-    ensures failed { result ≡ Err Stop.Failed → Rose (K.faults out.old) (K.faults out.new) }
-    ensures count { K.faults out.old ≤ K.faults out.new }
-    ensures stays { result ≢ Err Stop.Failed → K.faults out.new ≡ K.faults out.old }
+    ensures faults { StopTellsFaults result (K.faults out.old) (K.faults out.new) }
 {
     let Trace { boot, fills, items } = trace;
     let Some(boot) = boot else {

@@ -1,13 +1,13 @@
 //! Playing a script: its boot, its fills, and then its calls in their order.
-ghost use Rattle.std.specs.Prelude.{◌≡◌, ◌≢◌, ◌≤◌, List, Err};
+ghost use Rattle.std.specs.Prelude.{◌≡◌, List};
 ghost use Rattle.client_runner.specs.Playing.{IsAtStart, player_of, script_of};
 ghost use Rattle.client_runner.specs.Told.{IsToldOf};
 ghost use Rattle.client_text.specs.Sound.{IsSoundScript};
 ghost use Rattle.client_text.specs.declared.script.Script.{Script as AnyScript};
 ghost use Rattle.kernel_model.specs.Application.{Native, booted};
 ghost use Rattle.native_tas.specs.Table.{entries};
-ghost use Rattle.ports.specs.Port.{Rose};
 ghost use Rattle.trace_player.specs.Starting.{uuids_of};
+ghost use Rattle.word_parts.specs.Faults.{StopTellsFaults};
 
 use crate::player::ScriptPlayer;
 use client_text::{Script, ScriptCall};
@@ -34,9 +34,7 @@ fn play_calls<B: OfBoot, K: Sink>(
     ensures told { (natives : List Native) (script : AnyScript)
         → IsAtStart B.booted natives script calls.now (player_of player.old.client player.old.names)
         → IsToldOf natives script result (K.held out.old) (K.held out.new) }
-    ensures failed { result ≡ Err Stop.Failed → Rose (K.faults out.old) (K.faults out.new) }
-    ensures count { K.faults out.old ≤ K.faults out.new }
-    ensures stays { result ≢ Err Stop.Failed → K.faults out.new ≡ K.faults out.old }
+    ensures faults { StopTellsFaults result (K.faults out.old) (K.faults out.new) }
 {
     let mut lines = Vec::new(alloc);
     for call in calls {
@@ -60,9 +58,7 @@ fn play_booted<B: OfBoot, K: Sink>(
     requires of { booted boot (entries natives.now) ≡ B.booted }
     requires sound { IsSoundScript (uuids_of (entries natives.now)) (script_of boot fills.now calls.now) }
     ensures told { IsToldOf (entries natives.now) (script_of boot fills.now calls.now) result (K.held out.old) (K.held out.new) }
-    ensures failed { result ≡ Err Stop.Failed → Rose (K.faults out.old) (K.faults out.new) }
-    ensures count { K.faults out.old ≤ K.faults out.new }
-    ensures stays { result ≢ Err Stop.Failed → K.faults out.new ≡ K.faults out.old }
+    ensures faults { StopTellsFaults result (K.faults out.old) (K.faults out.new) }
 {
     let Ok(port) = CorePort::<B>::booted(alloc, boot, natives, fills) else {
         return Err(Stop::Memory);
@@ -80,9 +76,7 @@ pub(crate) fn play<K: Sink>(
 ) -> Result<(), Stop>
     requires { IsSoundScript (uuids_of (entries natives.now)) script }
     ensures told { IsToldOf (entries natives.now) script result (K.held out.old) (K.held out.new) }
-    ensures failed { result ≡ Err Stop.Failed → Rose (K.faults out.old) (K.faults out.new) }
-    ensures count { K.faults out.old ≤ K.faults out.new }
-    ensures stays { result ≢ Err Stop.Failed → K.faults out.new ≡ K.faults out.old }
+    ensures faults { StopTellsFaults result (K.faults out.old) (K.faults out.new) }
 {
     let Script { boot, fills, calls } = script;
     let Some(boot) = boot else {

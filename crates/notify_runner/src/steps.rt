@@ -1,10 +1,10 @@
 //! Playing the steps of a trace, whose lines are gathered before they are put.
 
-ghost use Rattle.std.specs.Prelude.{◌≡◌, ◌≢◌, ◌≤◌, List, Err};
+ghost use Rattle.std.specs.Prelude.{List};
 ghost use Rattle.kernel_model.specs.Application.{Native};
 ghost use Rattle.native_tas.specs.Table.{drivers};
 ghost use Rattle.notify_text.specs.declared.notify_trace.NotifyTrace.{NotifyTrace};
-ghost use Rattle.ports.specs.Port.{Rose};
+ghost use Rattle.word_parts.specs.Faults.{StopTellsFaults};
 ghost use Rattle.notify_runner.specs.Run.{IsToldOf};
 ghost use Rattle.notify_runner.specs.Starting.{IsAtStart};
 
@@ -34,9 +34,7 @@ pub fn play_steps<K: Sink>(
     ensures told { (apps : List Native) (told : NotifyTrace)
         → IsAtStart apps (drivers natives.now) told items.now signals.now player.old
         → IsToldOf apps (drivers natives.now) told result (K.held out.old) (K.held out.new) }
-    ensures failed { result ≡ Err Stop.Failed → Rose (K.faults out.old) (K.faults out.new) }
-    ensures count { K.faults out.old ≤ K.faults out.new }
-    ensures stays { result ≢ Err Stop.Failed → K.faults out.new ≡ K.faults out.old }
+    ensures faults { StopTellsFaults result (K.faults out.old) (K.faults out.new) }
 {
     machines_stand();
     desks_keep_their_drivers();

@@ -1,10 +1,9 @@
 //! The word `notify`.
 
-ghost use Rattle.std.specs.Prelude.{◌≡◌, ◌≢◌, ◌≤◌, Err};
 ghost use Rattle.native_tas.specs.Table.{drivers, entries};
 ghost use Rattle.notify_text.specs.Sound.{IsSoundTold};
-ghost use Rattle.ports.specs.Port.{Rose};
 ghost use Rattle.trace_player.specs.Starting.{uuids_of};
+ghost use Rattle.word_parts.specs.Faults.{StopTellsFaults};
 ghost use Rattle.notify_runner.specs.Run.{IsToldOf};
 
 use crate::steps::play_steps;
@@ -25,9 +24,7 @@ fn play<K: Sink>(
 ) -> Result<(), Stop>
     requires { IsSoundTold (uuids_of (entries natives.now)) told }
     ensures told { IsToldOf (entries natives.now) (drivers natives.now) told result (K.held out.old) (K.held out.new) }
-    ensures failed { result ≡ Err Stop.Failed → Rose (K.faults out.old) (K.faults out.new) }
-    ensures count { K.faults out.old ≤ K.faults out.new }
-    ensures stays { result ≢ Err Stop.Failed → K.faults out.new ≡ K.faults out.old }
+    ensures faults { StopTellsFaults result (K.faults out.old) (K.faults out.new) }
 {
     let NotifyTrace { trace, signals } = told;
     let Trace { boot, fills, items } = trace;

@@ -1,11 +1,10 @@
 -- From what a word does with what was read to what it answers.
-use Rattle.std.proofs.Common.{◌≡◌, ◌≢◌, ◌↔◌, ℕ, ◌≤◌, Bool, true, false, inl, inr, List, Option, refl, sym, subst}
+use Rattle.std.proofs.Common.{◌≡◌, ◌↔◌, ℕ, Bool, true, false, inl, inr, List, Option, refl, sym, subst}
 use Rattle.std.specs.Prelude.{IsTrue, Result, Ok, Err}
-use Rattle.ports.specs.Port.{Rose}
 use Rattle.ports.specs.PortLaws.{Appends-nil}
 use Rattle.trace_text.specs.declared.item.Item.{Item}
 use Rattle.word_parts.specs.Answer.{IsTold, status_of}
-use Rattle.word_parts.specs.Faults.{TellsFaults}
+use Rattle.word_parts.specs.Faults.{StopTellsFaults, TellsFaults}
 use Rattle.word_parts.specs.Limits.{HasTooMany}
 use Rattle.word_parts.specs.Word.{Answered, Word}
 use Rattle.word_parts.proofs.Answering.{failed-only, not-usage}
@@ -57,13 +56,13 @@ answered-told word input content stopped result old new is spelled known few tol
 
 -- a play tells of the faults of its sink by the status that it stands for
 pub faults-told : (stopped : Result (Unit {0}) Stop) (result : Status) (old new : ℕ) → result ≡ status_of stopped
-    → (stopped ≡ Err Failed → Rose old new) → old ≤ new → (stopped ≢ Err Failed → new ≡ old) → TellsFaults result old new
-faults-told stopped result old new is failed count stays =
+    → StopTellsFaults stopped old new → TellsFaults result old new
+faults-told stopped result old new is tells =
     subst (λ (s : Status). TellsFaults s old new) (sym is) (record {
       words = not-usage stopped;
-      write_fault = λ e. failed (failed-only stopped e);
-      count = count;
-      stays = λ other. stays (λ e. other (at-failed stopped e));
+      write_fault = λ e. tells.failed (failed-only stopped e);
+      count = tells.count;
+      stays = λ other. tells.stays (λ e. other (at-failed stopped e));
     })
   where
     at-failed : (stopped : Result (Unit {0}) Stop) → stopped ≡ Err Failed → status_of stopped ≡ WriteFault
@@ -71,3 +70,8 @@ faults-told stopped result old new is failed count stays =
     at-failed (Err Full) e = absurd cc
     at-failed (Err Failed) e = refl
     at-failed (Err stop.Memory) e = absurd cc
+
+-- a play tells of all faults since its beginning, where the sink had counted none before the last lines
+pub faults-since : (stopped : Result (Unit {0}) Stop) (old before new : ℕ) → before ≡ old → StopTellsFaults stopped before new
+    → StopTellsFaults stopped old new
+faults-since stopped old before new same tells = subst (λ (count : ℕ). StopTellsFaults stopped count new) same tells

@@ -1,7 +1,7 @@
 //! Lines that are gathered before they are put.
 
-ghost use Rattle.std.specs.Prelude.{◌≡◌, ◌≢◌, ◌≤◌, Err};
-ghost use Rattle.ports.specs.Port.{Rose};
+ghost use Rattle.std.specs.Prelude.{◌≢◌, Err};
+ghost use Rattle.word_parts.specs.Faults.{StopTellsFaults};
 ghost use Rattle.word_parts.specs.Gathering.{EndsAs, PutsLines, PutsOrKeeps};
 
 use crate::output::put_text;
@@ -14,9 +14,7 @@ const GATHERED: usize = 1 << 16;
 /// Puts lines by one call of the sink.
 pub fn put_lines<K: Sink>(lines: &[u8], out: &mut K) -> Result<(), Stop>
     ensures lines { PutsLines lines.now result (K.held out.old) (K.held out.new) }
-    ensures failed { result ≡ Err Stop.Failed → Rose (K.faults out.old) (K.faults out.new) }
-    ensures count { K.faults out.old ≤ K.faults out.new }
-    ensures stays { result ≢ Err Stop.Failed → K.faults out.new ≡ K.faults out.old }
+    ensures faults { StopTellsFaults result (K.faults out.old) (K.faults out.new) }
 {
     match put_text(out, lines) {
         Put::Done => Ok(()),
@@ -28,9 +26,7 @@ pub fn put_lines<K: Sink>(lines: &[u8], out: &mut K) -> Result<(), Stop>
 /// Puts the lines and lets them go, if there are enough of them.
 pub fn put_if_many<K: Sink>(lines: &mut Vec<u8>, out: &mut K) -> Result<(), Stop>
     ensures lines { PutsOrKeeps lines.old.items result lines.new.items (K.held out.old) (K.held out.new) }
-    ensures failed { result ≡ Err Stop.Failed → Rose (K.faults out.old) (K.faults out.new) }
-    ensures count { K.faults out.old ≤ K.faults out.new }
-    ensures stays { result ≢ Err Stop.Failed → K.faults out.new ≡ K.faults out.old }
+    ensures faults { StopTellsFaults result (K.faults out.old) (K.faults out.new) }
 {
     if lines.len() < GATHERED {
         return Ok(());
@@ -44,9 +40,7 @@ pub fn put_if_many<K: Sink>(lines: &mut Vec<u8>, out: &mut K) -> Result<(), Stop
 pub fn end_at<K: Sink>(stop: Stop, lines: &[u8], out: &mut K) -> Stop
     requires { stop ≢ Stop.Failed }
     ensures ends { EndsAs stop lines.now result (K.held out.old) (K.held out.new) }
-    ensures failed { result ≡ Stop.Failed → Rose (K.faults out.old) (K.faults out.new) }
-    ensures count { K.faults out.old ≤ K.faults out.new }
-    ensures stays { result ≢ Stop.Failed → K.faults out.new ≡ K.faults out.old }
+    ensures faults { StopTellsFaults (Err result) (K.faults out.old) (K.faults out.new) }
 {
     if stop != Stop::Full {
         return stop;

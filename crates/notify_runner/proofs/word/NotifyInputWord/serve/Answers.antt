@@ -22,5 +22,4 @@ returns-clause-answered g c = λ input read.
 
 pub returns-clause-faults : goal.returns-clause-faults
 returns-clause-faults g c =
-    let e = c.play.ensures in
-    faults-told c.play.result c.status_of.result _ _ c.status_of.ensures e.failed e.count e.stays
+    faults-told c.play.result c.status_of.result _ _ c.status_of.ensures c.play.ensures.faults
