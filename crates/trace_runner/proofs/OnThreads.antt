@@ -1,7 +1,7 @@
 -- From the play of a trace on threads to what the top call says.
-use Rattle.std.proofs.Common.{◌≡◌, ℕ, ◌^◌, ◌≤◌, ◌⊎◌, inl, inr, Bool, true, false, List, [], ◌∷◌, ◌++◌, length, Option, Some, None, refl, sym, ap, subst, ◌∙◌, arith}
+use Rattle.std.proofs.Common.{◌≡◌, ℕ, ◌⊎◌, inl, inr, Bool, true, false, List, [], ◌∷◌, length, Option, Some, None, refl, sym, ap, subst, ◌∙◌, arith}
 use Rattle.std.specs.Prelude.{IfNone, IfSome, replicate}
-use Rattle.std.proofs.lemmas.List.{append-nil, length-replicate}
+use Rattle.std.proofs.lemmas.List.{length-replicate}
 use Rattle.base.specs.Zeros.{zeros}
 use Rattle.event_journal.specs.declared.event.Event.{Event}
 use Rattle.kernel_model.specs.Application.{Booted, IsBooted, Native, booted}
@@ -15,7 +15,7 @@ use Rattle.ordered_play.proofs.PartsOfPlay.{plays_have_parts}
 use Rattle.ordered_play.proofs.PlacesOfPlays.{places_are_each_once}
 use Rattle.play_model.specs.Play.{filled}
 use Rattle.play_model.proofs.Returns.{alone_in, no_call_in, no_slot_in, returns_in, together_in}
-use Rattle.ports.specs.Port.{Appends, Moves, Rose}
+use Rattle.ports.specs.Port.{Appends, Rose}
 use Rattle.ta_isa.specs.declared.boot.Boot.{Boot}
 use Rattle.threads_play.specs.InTurn.{AreInTurn}
 use Rattle.threads_play.specs.Played.{IsOfTrace, TakeTurns, WasPlayed}
@@ -26,13 +26,14 @@ use Rattle.trace_text.specs.declared.trace.Trace.{Trace}
 use Rattle.alone_runner.specs.Commands.{DoesAlone}
 use Rattle.alone_runner.specs.Content.{Spells}
 use Rattle.alone_runner.specs.Plays.{IsUnplayed}
-use Rattle.alone_runner.specs.Run.{reading}
-use Rattle.word_parts.specs.Word.{CanBeRefused, IsBad, IsRefusedWhole}
+use Rattle.alone_runner.specs.Run.{WasRead, reading}
+use Rattle.word_parts.specs.Word.{CanBeRefused, IsBad, IsRefusedWhole, IsUnservedAs, RanAs}
 use Rattle.trace_player.specs.Starting.{trace_of, uuids_of}
 use Rattle.trace_runner.specs.Commands.{Does, DoesOnThreads}
 use Rattle.trace_runner.specs.Threads.{AnsweredOnThreads, AreBlocks, BlocksOf, CanBePlayedOnThreads, IsPlayedInOrder, IsPlayedOnThreads, IsServedByThreads, IsTrueInOrder, PrintsBlocks, RanOnThreads, ThreadStatuses, WritesPartOnThreads, status_where}
 use Rattle.alone_runner.specs.declared.command.Command.{Command}
 use Rattle.alone_runner.specs.declared.command.Command.TheVariants.{Serve, Threads, Record, Audit, Compare, Notify, Client, Work}
+use Rattle.alone_runner.specs.declared.content.Content.{Content}
 use Rattle.alone_runner.specs.declared.content.Content.TheVariants as content
 use Rattle.alone_runner.specs.declared.command.Grammar.TheVariants.{Text}
 use Rattle.word_parts.specs.declared.status.Status.{Status}
@@ -43,10 +44,11 @@ use Rattle.alone_runner.proofs.Readings.{one_meaning}
 use Rattle.word_parts.specs.Answer.{Writes}
 use Rattle.word_parts.specs.BuiltIn.{BuiltIn}
 use Rattle.word_parts.specs.Call.{Call}
-use Rattle.word_parts.specs.Input.{IsAtEnd, IsTooLong, IsUnreadAs}
+use Rattle.word_parts.specs.Input.{IsReadWhole, IsTooLong}
 use Rattle.word_parts.specs.Limits.{HasTooMany}
 use Rattle.word_parts.specs.Line.{bad_trace_line}
 use Rattle.word_parts.proofs.Answering.{is-short, writes-named, writes-part}
+use Rattle.word_parts.proofs.Worded.{ran-read, told-answered}
 
 -- ---- a play
 
@@ -123,11 +125,6 @@ of-trace natives boot fills items on lanes is same = record { boots = refl; core
 
 -- ---- answering
 
--- nothing was put
-pub none-put : (held : Option (List ℕ)) → Appends held held []
-none-put None = tt
-none-put (Some bytes) = sym (append-nil bytes)
-
 -- without a boot there are no items, and nothing is printed
 none-items : (P : Type 0) (boot : Option Boot) → boot ≡ None → IfNone boot P → P
 none-items P None is given = given
@@ -170,26 +167,30 @@ served-some natives trace same boot text refused result old new is has few playe
 
 -- ---- reading
 
--- an input that was read to its end is the bytes that were read
-pub threads-read : (natives : List Native) (left_old left_new : Option (List ℕ)) (bytes : List ℕ) (result : Status)
-    (old new : Option (List ℕ)) → Moves left_old left_new bytes → IsAtEnd left_new → length bytes ≤ 2 ^ 24
-    → AnsweredOnThreads natives bytes result old new
-    → IfSome left_old (λ input. RanOnThreads natives input left_new result old new)
-threads-read natives (Some l) (Some r) bytes result old new moved ended short answered =
-    let same : bytes ≡ l = sym (append-nil bytes) ∙ ap (λ (x : List ℕ). bytes ++ x) (sym ended) ∙ sym moved in
-    subst (λ (x : List ℕ). RanOnThreads natives x (Some r) result old new) same
-    (inr (inr (short, ap (λ (x : List ℕ). Some x) ended, answered)))
-threads-read natives None None bytes result old new moved ended short answered = tt
-threads-read natives (Some l) None bytes result old new moved ended short answered = absurd moved
-threads-read natives None (Some r) bytes result old new moved ended short answered = absurd moved
+-- an input that was read whole is served
+pub threads-served : (natives : List Native) (told left : Option (List ℕ)) (bytes : List ℕ) (read : Content) (trace : Trace)
+    (result : Status) (old new : Option (List ℕ)) → IsReadWhole bytes told left → WasRead Text natives bytes read
+    → read ≡ content.Trace trace → IsServedByThreads natives trace result old new
+    → IfSome told (λ input. RanOnThreads natives input left result old new)
+threads-served natives told left bytes read trace result old new whole was is served =
+    ran-read (λ input. AnsweredOnThreads natives input result old new) told left bytes result old new whole (inr (inr (record {
+      trace = trace;
+      spelled = subst (Spells Text (uuids_of natives) bytes) is was.spelled;
+      served = served;
+    })))
 
--- an input that wasn't read whole
-pub threads-unread : (natives : List Native) (told left : Option (List ℕ)) (result : Status) (held : Option (List ℕ))
-    → IfSome told (IsUnreadAs result) → IfSome told (λ input. RanOnThreads natives input left result held held)
-threads-unread natives (Some input) left result held (inl fault) = inl (inl fault, none-put held)
-threads-unread natives (Some input) left result held (inr (inl want)) = inl (inr want, none-put held)
-threads-unread natives (Some input) left result held (inr (inr long)) = inr (inl (long.0, long.1, none-put held))
-threads-unread natives None left result held unread = tt
+-- one that isn't served is answered as without threads
+pub threads-unserved : (natives : List Native) (told left : Option (List ℕ)) (result : Status) (old new : Option (List ℕ))
+    → IfSome told (λ input. RanAs input (IsUnservedAs (reading Text natives) input result old new) left result old new)
+    → IfSome told (λ input. RanOnThreads natives input left result old new)
+threads-unserved natives told left result old new ran =
+    told-answered (λ input. IsUnservedAs (reading Text natives) input result old new)
+    (λ input. AnsweredOnThreads natives input result old new) told left result old new by_answer ran
+  where
+    by_answer : (input : List ℕ) → IsUnservedAs (reading Text natives) input result old new
+        → AnsweredOnThreads natives input result old new
+    by_answer input (inl want) = inl want
+    by_answer input (inr refused) = inr (inl refused)
 
 -- ---- each status
 

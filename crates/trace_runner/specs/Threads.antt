@@ -1,6 +1,6 @@
 -- The word `threads`: each processor of a trace plays its items in a thread of its own. What is written then, and when each
 -- status comes.
-use Rattle.std.specs.Prelude.{◌≡◌, ℕ, ◌^◌, ◌<◌, ◌≤◌, ◌⊎◌, Bool, true, false, List, [], length, Option, Some, None}
+use Rattle.std.specs.Prelude.{◌≡◌, ℕ, ◌^◌, ◌<◌, ◌⊎◌, Bool, true, false, List, [], length, Option, Some, None}
 use Rattle.kernel_model.specs.Application.{Native, booted}
 use Rattle.kernel_model.specs.Laws.{FindsNoCall, FindsNoSlot}
 use Rattle.ordered_play.specs.Blocks.{blocks_in, has_refused}
@@ -19,12 +19,12 @@ use Rattle.alone_runner.specs.Run.{reading}
 use Rattle.trace_player.specs.Starting.{uuids_of}
 use Rattle.alone_runner.specs.declared.content.Content.TheVariants as content
 use Rattle.alone_runner.specs.declared.command.Grammar.TheVariants.{Text}
-use Rattle.word_parts.specs.Answer.{IsUnread, Writes}
+use Rattle.word_parts.specs.Answer.{Writes}
 use Rattle.word_parts.specs.Input.{IsTooLong}
 use Rattle.word_parts.specs.Limits.{HasTooMany}
 use Rattle.word_parts.specs.Line.{bad_trace_line}
 use Rattle.word_parts.specs.Output.{AppendsPart}
-use Rattle.word_parts.specs.Word.{IsBad, IsRefused}
+use Rattle.word_parts.specs.Word.{IsBad, IsRefused, RanAs}
 use Rattle.word_parts.specs.declared.status.Status.{Status}
 use Rattle.word_parts.specs.declared.status.Status.TheVariants.{BadTrace, WriteFault, Memory, TooLong}
 use Rattle.word_parts.specs.declared.status.Status.TheVariants as status
@@ -117,9 +117,7 @@ AnsweredOnThreads natives input result old new =
 -- what the call comes to over an input that the source tells, and what the source has left
 abbrev pub RanOnThreads : List Native → List ℕ → Option (List ℕ) → Status → Option (List ℕ) → Option (List ℕ) → Type 0
 RanOnThreads natives input left result old new =
-    IsUnread result old new
-    ⊎ ((result ≡ TooLong) × IsTooLong input × Appends old new [])
-    ⊎ ((length input ≤ 2 ^ 24) × (left ≡ Some []) × AnsweredOnThreads natives input result old new)
+    RanAs input (AnsweredOnThreads natives input result old new) left result old new
 
 -- ---- each status
 

@@ -1,14 +1,15 @@
 //! The word `threads`: each processor of a trace plays its items in a thread of its own.
 
-ghost use Rattle.std.specs.Prelude.{◌≡◌, ◌≢◌, ◌≤◌, ◌+◌, ◌^◌, IfOk, IfSome, [], length};
+ghost use Rattle.std.specs.Prelude.{◌≡◌, ◌≢◌, ◌≤◌, ◌+◌, ◌^◌, IfOk, IfSome, []};
 ghost use Rattle.native_tas.specs.Table.{entries};
 ghost use Rattle.ports.specs.Port.{Appends, Rose};
 ghost use Rattle.trace_text.specs.Sound.{IsSound};
 ghost use Rattle.trace_player.specs.Starting.{trace_of, uuids_of};
 ghost use Rattle.word_parts.specs.Faults.{TellsFaults};
 ghost use Rattle.word_parts.specs.Input.{TakesAtMost};
-ghost use Rattle.trace_runner.specs.Threads.{AnsweredOnThreads, IsPlayedInOrder, IsServedByThreads, RanOnThreads, status_where};
+ghost use Rattle.trace_runner.specs.Threads.{IsPlayedInOrder, IsServedByThreads, RanOnThreads, status_where};
 
+use alone_runner::{Content, Grammar};
 use base::NoMemory;
 use core_at_work::core_of;
 use core_machine::first_lanes;
@@ -19,8 +20,8 @@ use std::sync::Wait;
 use std::thread::Threads;
 use ta_isa::Boot;
 use threads_play::{play_on_threads, sound_traces_are_in_turn};
-use trace_text::{Fill, Item, Trace, read_trace};
-use word_parts::{Status, answer_fault, answer_line, has_too_many, read_whole};
+use trace_text::{Fill, Item, Trace};
+use word_parts::{Status, answer_line, has_too_many, read_input};
 
 /// What the processors of a trace have printed together.
 #[derive(Drop)]
@@ -97,28 +98,6 @@ fn answer_trace<R: Threads + Wait + Sync, K: Sink, G: Pace + Sync>(
     }
 }
 
-/// Serves an input that was read whole. Its bytes are free before it is played.
-fn answer_input<R: Threads + Wait + Sync, K: Sink, G: Pace + Sync>(
-    rt: &R,
-    alloc: Global,
-    input: Vec<u8>,
-    out: &mut K,
-    natives: &Natives,
-    pace: &G,
-) -> Status
-    requires { length input.items ≤ 2 ^ 24 }
-    ensures answered { AnsweredOnThreads (entries natives.now) input.items result (K.held out.old) (K.held out.new) }
-    ensures memory { result ≡ Status.Memory → K.held out.new ≡ K.held out.old }
-    ensures faults { TellsFaults result (K.faults out.old) (K.faults out.new) }
-{
-    let read = read_trace(alloc, input.as_slice(), natives.uuids().as_slice());
-    drop(input);
-    match read {
-        Ok(trace) => answer_trace(rt, alloc, natives, trace, out, pace),
-        Err(fault) => answer_fault(alloc, fault, out),
-    }
-}
-
 /// Reads an input as a text of a trace, and plays it with a thread for each processor.
 pub fn run_on_threads<R: Threads + Wait + Sync, S: Source, K: Sink, G: Pace + Sync>(
     rt: &R,
@@ -138,8 +117,10 @@ pub fn run_on_threads<R: Threads + Wait + Sync, S: Source, K: Sink, G: Pace + Sy
     ensures input_count { S.faults input.old ≤ S.faults input.new }
     ensures input_stays { result ≢ Status.ReadFault → S.faults input.new ≡ S.faults input.old }
 {
-    match read_whole(alloc, input) {
-        Ok(bytes) => answer_input(rt, alloc, bytes, out, natives, pace),
+    match read_input(alloc, Grammar::Text, input, out, natives) {
+        Ok(Content::Trace(trace)) => answer_trace(rt, alloc, natives, trace, out, pace),
+        // No text of a trace spells an image.
+        Ok(Content::Image(_)) => unreachable!(),
         Err(status) => status,
     }
 }

@@ -1,11 +1,11 @@
 -- From what a call has read and answered to what it keeps to and shows.
-use Rattle.std.proofs.Common.{◌≡◌, ℕ, ◌^◌, ◌≤◌, List, length, Option, Some, None, subst}
+use Rattle.std.proofs.Common.{◌≡◌, ℕ, List, Option, Some, None}
 use Rattle.std.specs.Prelude.{IfSome}
-use Rattle.ports.specs.Port.{Moves, Rose}
+use Rattle.ports.specs.Port.{Rose}
 use Rattle.word_parts.specs.Call.{Call, KeepsOver, KeepsTo}
-use Rattle.word_parts.specs.Input.{IsAtEnd, IsUnreadAs}
-use Rattle.word_parts.specs.Word.{Answered, HasOneMeaning, Word}
-use Rattle.word_parts.proofs.Worded.{keeps-read, keeps-unread}
+use Rattle.word_parts.specs.Input.{IsReadWhole}
+use Rattle.word_parts.specs.Word.{Answered, HasOneMeaning, IsUnservedAs, RanAs, Word}
+use Rattle.word_parts.proofs.Worded.{answer-not-read, keeps, ran-read, told-answered, unserved-answered}
 use Rattle.word_parts.specs.declared.status.Status.TheVariants.{ReadFault, WriteFault}
 
 -- what keeps to the word shows it besides
@@ -19,21 +19,27 @@ and-shown word Shows call None shown kept = tt
 pub shown-read : (word : Word) (Shows : List ℕ → Call → Type 0) (call : Call) (bytes : List ℕ)
     → ((input : List ℕ) → HasOneMeaning word input)
     → ((input : List ℕ) (other : Call) → KeepsOver word input other → Shows input other)
-    → (call.result ≡ WriteFault → Rose call.sink_old call.sink_new) → Moves call.told call.left bytes → IsAtEnd call.left
-    → length bytes ≤ 2 ^ 24 → Answered word bytes call.result call.old call.new → KeepsTo word Shows call
-shown-read word Shows call bytes every shown write moved ended short answered =
+    → (call.result ≡ WriteFault → Rose call.sink_old call.sink_new) → IsReadWhole bytes call.told call.left
+    → Answered word bytes call.result call.old call.new → KeepsTo word Shows call
+shown-read word Shows call bytes every shown write whole answered =
     and-shown word Shows call call.told (λ input. shown input call)
-    (keeps-read word call.told call.left bytes call.result call.old call.new call.source_old call.source_new call.sink_old
-    call.sink_new every write moved ended short answered)
+    (keeps word call.told call.left call.result call.old call.new call.source_old call.source_new call.sink_old call.sink_new every
+    (λ e. absurd (answer-not-read word bytes call.result call.old call.new answered e)) write
+    (ran-read (λ input. Answered word input call.result call.old call.new) call.told call.left bytes call.result call.old call.new
+    whole answered))
 
--- where it wasn't, and nothing was put
-pub shown-unread : (word : Word) (Shows : List ℕ → Call → Type 0) (call : Call)
+-- where it wasn't served
+pub shown-unserved : (word : Word) (Shows : List ℕ → Call → Type 0) (call : Call)
     → ((input : List ℕ) → HasOneMeaning word input)
     → ((input : List ℕ) (other : Call) → KeepsOver word input other → Shows input other)
-    → (call.result ≡ ReadFault → Rose call.source_old call.source_new) → (call.result ≡ WriteFault → ⊥)
-    → call.old ≡ call.new → IfSome call.told (IsUnreadAs call.result) → KeepsTo word Shows call
-shown-unread word Shows call every shown read write same unread =
+    → (call.result ≡ ReadFault → Rose call.source_old call.source_new) → (call.result ≡ WriteFault → Rose call.sink_old call.sink_new)
+    → IfSome call.told (λ input. RanAs input (IsUnservedAs word input call.result call.old call.new) call.left call.result call.old
+    call.new)
+    → KeepsTo word Shows call
+shown-unserved word Shows call every shown read write ran =
     and-shown word Shows call call.told (λ input. shown input call)
-    (subst (λ (held : Option (List ℕ)). IfSome call.told (λ input. KeepsOver word input (record call { new = held }))) same
-    (keeps-unread word call.told call.left call.result call.old call.source_old call.source_new call.sink_old call.sink_new every read write
-    unread))
+    (keeps word call.told call.left call.result call.old call.new call.source_old call.source_new call.sink_old call.sink_new every
+    read write
+    (told-answered (λ input. IsUnservedAs word input call.result call.old call.new)
+    (λ input. Answered word input call.result call.old call.new) call.told call.left call.result call.old call.new
+    (λ input unserved. unserved-answered word input call.result call.old call.new unserved) ran))

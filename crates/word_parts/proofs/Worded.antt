@@ -1,18 +1,18 @@
 -- From what was read, played and answered to what a word says of it.
-use Rattle.std.proofs.Common.{◌≡◌, ℕ, ◌^◌, ◌≤◌, ◌⊎◌, inl, inr, List, [], ◌++◌, length, Option, Some, None, refl, sym, ap, subst, ◌∙◌, arith}
+use Rattle.std.proofs.Common.{◌≡◌, ℕ, ◌⊎◌, inl, inr, List, [], ◌++◌, Option, Some, None, refl, sym, ap, subst, ◌∙◌, arith}
 use Rattle.std.specs.Prelude.{IfSome, IsSomeAnd, Result, Ok, Err}
 use Rattle.std.proofs.lemmas.List.{append-nil}
-use Rattle.ports.specs.Port.{Appends, Moves, Rose}
+use Rattle.ports.specs.Port.{Appends, Rose}
 use Rattle.ports.specs.PortLaws.{Appends-nil}
 use Rattle.trace_text.specs.declared.fault.BadKind.{BadKind}
 use Rattle.trace_text.specs.declared.fault.TraceFault.{TraceFault}
 use Rattle.trace_text.specs.declared.fault.TraceFault.TheVariants as fault
 use Rattle.word_parts.specs.Answer.{AnswersFault, IsTold, Writes, status_of, status_of_play}
-use Rattle.word_parts.specs.Input.{IsAtEnd, IsTooLong, IsUnreadAs}
+use Rattle.word_parts.specs.Input.{IsReadWhole, IsTooLong, IsUnreadAs}
 use Rattle.word_parts.specs.Line.{bad_trace_line}
 use Rattle.word_parts.specs.Output.{AppendsPart}
 use Rattle.word_parts.specs.Keeping.{Keeps}
-use Rattle.word_parts.specs.Word.{Answered, CanBeRefused, CanBeServed, HasOneMeaning, IsBad, IsDone, IsRefused, IsRefusedWhole, IsServedBy, IsServedWhole, IsTooMuch, Ran, Statuses, Word, WritesPart, WritesText}
+use Rattle.word_parts.specs.Word.{Answered, CanBeRefused, CanBeServed, HasOneMeaning, IsBad, IsDone, IsRefusedWhole, IsServedBy, IsServedWhole, IsTooMuch, IsUnservedAs, Ran, RanAs, Statuses, Word, WritesPart, WritesText}
 use Rattle.word_parts.proofs.Answering.{is-short, long-refused, ok-refused, other-status, refused-status, writes-named, writes-part, writes-whole}
 use Rattle.word_parts.specs.declared.stop.Stop.{Stop}
 use Rattle.word_parts.specs.declared.stop.Stop.TheVariants.{Full, Failed}
@@ -24,34 +24,51 @@ use Rattle.word_parts.specs.declared.status.Status.{Status}
 -- ---- reading
 
 -- an input that was read to its end is the bytes that were read
-pub Ran-read : (word : Word) (left_old left_new : Option (List ℕ)) (bytes : List ℕ) (result : Status)
-    (old new : Option (List ℕ)) → Moves left_old left_new bytes → IsAtEnd left_new → length bytes ≤ 2 ^ 24
-    → Answered word bytes result old new → IfSome left_old (λ input. Ran word input left_new result old new)
-Ran-read word (Some l) (Some r) bytes result old new moved ended short answered =
-    let same : bytes ≡ l = sym (append-nil bytes) ∙ ap (λ (x : List ℕ). bytes ++ x) (sym ended) ∙ sym moved in
-    subst (λ (x : List ℕ). Ran word x (Some r) result old new) same
-    (inr (inr (short, ap (λ (x : List ℕ). Some x) ended, answered)))
-Ran-read word None None bytes result old new moved ended short answered = tt
-Ran-read word (Some l) None bytes result old new moved ended short answered = absurd moved
-Ran-read word None (Some r) bytes result old new moved ended short answered = absurd moved
+pub ran-read : (IsAnswered : List ℕ → Type 0) (told left : Option (List ℕ)) (bytes : List ℕ) (result : Status)
+    (old new : Option (List ℕ)) → IsReadWhole bytes told left → IsAnswered bytes
+    → IfSome told (λ input. RanAs input (IsAnswered input) left result old new)
+ran-read IsAnswered (Some l) (Some r) bytes result old new whole answered =
+    let same : bytes ≡ l = sym (append-nil bytes) ∙ ap (λ (x : List ℕ). bytes ++ x) (sym whole.ended) ∙ sym whole.moved in
+    subst (λ (x : List ℕ). RanAs x (IsAnswered x) (Some r) result old new) same
+    (inr (inr (whole.short, ap (λ (x : List ℕ). Some x) whole.ended, answered)))
+ran-read IsAnswered None None bytes result old new whole answered = tt
+ran-read IsAnswered (Some l) None bytes result old new whole answered = absurd whole.moved
+ran-read IsAnswered None (Some r) bytes result old new whole answered = absurd whole.moved
 
 -- an input that wasn't read whole
-pub Ran-unread : (word : Word) (told left : Option (List ℕ)) (result : Status) (held : Option (List ℕ))
-    → IfSome told (IsUnreadAs result) → IfSome told (λ input. Ran word input left result held held)
-Ran-unread word (Some input) left result held (inl fault) = inl (inl fault, Appends-nil held)
-Ran-unread word (Some input) left result held (inr (inl want)) = inl (inr want, Appends-nil held)
-Ran-unread word (Some input) left result held (inr (inr long)) = inr (inl (long.0, long.1, Appends-nil held))
-Ran-unread word None left result held unread = tt
+pub ran-unread : (IsAnswered : List ℕ → Type 0) (told left : Option (List ℕ)) (result : Status) (held : Option (List ℕ))
+    → IfSome told (IsUnreadAs result) → IfSome told (λ input. RanAs input (IsAnswered input) left result held held)
+ran-unread IsAnswered (Some input) left result held (inl fault) = inl (inl fault, Appends-nil held)
+ran-unread IsAnswered (Some input) left result held (inr (inl want)) = inl (inr want, Appends-nil held)
+ran-unread IsAnswered (Some input) left result held (inr (inr long)) = inr (inl (long.0, long.1, Appends-nil held))
+ran-unread IsAnswered None left result held unread = tt
+
+-- what says how an input within the limit was answered says it of each
+pub told-answered : (IsAnswered Says : List ℕ → Type 0) (told left : Option (List ℕ)) (result : Status) (old new : Option (List ℕ))
+    → ((input : List ℕ) → IsAnswered input → Says input)
+    → IfSome told (λ input. RanAs input (IsAnswered input) left result old new)
+    → IfSome told (λ input. RanAs input (Says input) left result old new)
+told-answered IsAnswered Says (Some input) left result old new says (inl unread) = inl unread
+told-answered IsAnswered Says (Some input) left result old new says (inr (inl long)) = inr (inl long)
+told-answered IsAnswered Says (Some input) left result old new says (inr (inr (short, ended, answered))) =
+    inr (inr (short, ended, says input answered))
+told-answered IsAnswered Says None left result old new says ran = tt
 
 -- ---- answering
 
 -- a fault that was answered is the input's first in the word's grammar, or memory ran out
 pub fault-refused : (word : Word) (input : List ℕ) (why : TraceFault) (result : Status) (old new : Option (List ℕ))
     → ((place : ℕ) (kind : BadKind) → why ≡ fault.Bad place kind → word.IsFirstFault input place kind)
-    → AnswersFault why result old new → ((result ≡ Memory) × Appends old new []) ⊎ IsRefused word input result old new
+    → AnswersFault why result old new → IsUnservedAs word input result old new
 fault-refused word input (fault.Bad place kind) result old new first line =
     inr (record { place = place; kind = kind; first = first place kind refl; line = line })
 fault-refused word input fault.Memory result old new first want = inl want
+
+-- what isn't served is answered so
+pub unserved-answered : (word : Word) (input : List ℕ) (result : Status) (old new : Option (List ℕ))
+    → IsUnservedAs word input result old new → Answered word input result old new
+unserved-answered word input result old new (inl want) = inl want
+unserved-answered word input result old new (inr refused) = inr (inl refused)
 
 -- an option that has something has this
 pub some-and : {X : Type 0} (P : X → Type 0) (o : Option X) → IsSomeAnd o P → (x : X) × (o ≡ Some x) × P x
@@ -315,7 +332,7 @@ play-not-read : (o : Option ℕ) → status_of_play o ≡ ReadFault → ⊥
 play-not-read None e = absurd cc
 play-not-read (Some more) e = absurd cc
 
-answer-not-read : (word : Word) (input : List ℕ) (result : Status) (old new : Option (List ℕ))
+pub answer-not-read : (word : Word) (input : List ℕ) (result : Status) (old new : Option (List ℕ))
     → Answered word input result old new → result ≡ ReadFault → ⊥
 answer-not-read word input result old new (inl want) e = let is = sym want.0 ∙ e in absurd cc
 answer-not-read word input result old new (inr (inl refused)) e =
@@ -331,7 +348,7 @@ answer-not-read word input result old new (inr (inr served)) e = by_content serv
         (play-not-read (word.refused_for content)) text.2 e
 
 -- over an input that the source tells, where the counts of its faults and of the sink's were these before and after
-keeps : (word : Word) (told left : Option (List ℕ)) (result : Status) (old new : Option (List ℕ)) (a b c d : ℕ)
+pub keeps : (word : Word) (told left : Option (List ℕ)) (result : Status) (old new : Option (List ℕ)) (a b c d : ℕ)
     → ((input : List ℕ) → HasOneMeaning word input) → (result ≡ ReadFault → Rose a b) → (result ≡ WriteFault → Rose c d)
     → IfSome told (λ input. Ran word input left result old new)
     → IfSome told (λ input. Keeps word input left result old new ((Rose a b → ⊥) × (Rose c d → ⊥)))
@@ -344,22 +361,3 @@ keeps word (Some input) left result old new a b c d every read write ran = recor
       told-refused word (Some input) left result old new a b c d read write ran can no_fault.0 no_fault.1;
 }
 keeps word None left result old new a b c d every read write ran = tt
-
--- where the input was read whole and answered
-pub keeps-read : (word : Word) (told left : Option (List ℕ)) (bytes : List ℕ) (result : Status) (old new : Option (List ℕ))
-    (a b c d : ℕ) → ((input : List ℕ) → HasOneMeaning word input) → (result ≡ WriteFault → Rose c d)
-    → Moves told left bytes → IsAtEnd left → length bytes ≤ 2 ^ 24 → Answered word bytes result old new
-    → IfSome told (λ input. Keeps word input left result old new ((Rose a b → ⊥) × (Rose c d → ⊥)))
-keeps-read word told left bytes result old new a b c d every write moved ended short answered =
-    keeps word told left result old new a b c d every
-    (λ e. absurd (answer-not-read word bytes result old new answered e)) write
-    (Ran-read word told left bytes result old new moved ended short answered)
-
--- where it wasn't
-pub keeps-unread : (word : Word) (told left : Option (List ℕ)) (result : Status) (held : Option (List ℕ)) (a b c d : ℕ)
-    → ((input : List ℕ) → HasOneMeaning word input) → (result ≡ ReadFault → Rose a b) → (result ≡ WriteFault → ⊥)
-    → IfSome told (IsUnreadAs result)
-    → IfSome told (λ input. Keeps word input left result held held ((Rose a b → ⊥) × (Rose c d → ⊥)))
-keeps-unread word told left result held a b c d every read write unread =
-    keeps word told left result held held a b c d every read (λ e. absurd (write e))
-    (Ran-unread word told left result held unread)

@@ -10,6 +10,12 @@ use Rattle.word_parts.specs.declared.status.Status.TheVariants.{ReadFault, Memor
 abbrev pub IsAtEnd : Option (List ℕ) → Type 0
 IsAtEnd left = IfSome left (λ rest. rest ≡ [])
 
+-- the input was read to its end: these bytes are all that the source had, at most as many as an input may have
+pub record IsReadWhole (bytes : List ℕ) (old left : Option (List ℕ)) : Type 0 where
+  pub short : length bytes ≤ 2 ^ 24
+  pub moved : Moves old left bytes
+  pub ended : IsAtEnd left
+
 -- at most so many bytes were taken from the front of what was left
 abbrev pub TakesAtMost : ℕ → Option (List ℕ) → Option (List ℕ) → Type 0
 TakesAtMost most old new = (bytes : List ℕ) × (length bytes ≤ most) × Moves old new bytes

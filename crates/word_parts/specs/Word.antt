@@ -68,6 +68,10 @@ pub record IsServed (word : Word) (input : List ℕ) (result : Status) (old new 
   pub known : word.IsKnown content
   pub served : IsServedBy word content result old new
 
+-- what an input within the limit is answered that isn't served: memory ran out, or it leaves its grammar
+abbrev pub IsUnservedAs : Word → List ℕ → Status → Option (List ℕ) → Option (List ℕ) → Type 0
+IsUnservedAs word input result old new = ((result ≡ Memory) × Appends old new []) ⊎ IsRefused word input result old new
+
 -- what an input within the limit is answered, and what is written for it
 abbrev pub Answered : Word → List ℕ → Status → Option (List ℕ) → Option (List ℕ) → Type 0
 Answered word input result old new =
@@ -75,12 +79,17 @@ Answered word input result old new =
     ⊎ IsRefused word input result old new
     ⊎ IsServed word input result old new
 
--- what a call comes to, over an input that the source tells, and what the source has left
-abbrev pub Ran : Word → List ℕ → Option (List ℕ) → Status → Option (List ℕ) → Option (List ℕ) → Type 0
-Ran word input left result old new =
+-- what a call comes to, over an input that the source tells, and what the source has left, where one within the limit is
+-- answered so
+abbrev pub RanAs : List ℕ → Type 0 → Option (List ℕ) → Status → Option (List ℕ) → Option (List ℕ) → Type 0
+RanAs input IsAnswered left result old new =
     IsUnread result old new
     ⊎ ((result ≡ TooLong) × IsTooLong input × Appends old new [])
-    ⊎ ((length input ≤ 2 ^ 24) × (left ≡ Some []) × Answered word input result old new)
+    ⊎ ((length input ≤ 2 ^ 24) × (left ≡ Some []) × IsAnswered)
+
+-- what a call of the word comes to
+abbrev pub Ran : Word → List ℕ → Option (List ℕ) → Status → Option (List ℕ) → Option (List ℕ) → Type 0
+Ran word input left result old new = RanAs input (Answered word input result old new) left result old new
 
 -- ---- each status
 

@@ -1,10 +1,10 @@
-//! Reading the whole input.
+//! Reading the whole input of a word.
 
-ghost use Rattle.std.specs.Prelude.{◌≡◌, ◌≢◌, ◌+◌, ◌<◌, ◌≤◌, length, vec_len, IfOk, IfSome, Ok, Err};
-ghost use Rattle.ports.specs.Port.{Moves, Rose};
-ghost use Rattle.word_parts.specs.Input.{IsAtEnd, TakesAtMost, TakesSome};
-ghost use Rattle.word_parts.specs.declared.input.InputFault.TheVariants.{Memory};
+ghost use Rattle.std.specs.Prelude.{◌≡◌, ◌≢◌, ◌+◌, ◌≤◌, ◌^◌, length, vec_len, IfErr, IfOk, IfSome, Ok, Err};
+ghost use Rattle.ports.specs.Port.{Rose};
+ghost use Rattle.word_parts.specs.Input.{IsReadWhole, IsUnreadAs, TakesAtMost, TakesSome};
 
+use crate::status::Status;
 use ports::{Source, Taken};
 use std::alloc::{AllocError, Global};
 
@@ -13,25 +13,6 @@ pub const LONGEST_INPUT: usize = 1 << 24;
 
 /// How many bytes are asked for at once.
 const CHUNK_BYTES: usize = 1 << 16;
-
-/// Why an input was not read to its end.
-#[derive(Clone, Copy)]
-pub enum InputFault {
-    /// The source counted a fault.
-    Failed,
-    /// There are more bytes than an input may have; one more than these were taken.
-    TooLong,
-    /// Want of memory.
-    Memory,
-}
-
-impl From<AllocError> for InputFault {
-    ghost from_gives = { λ _ e. e ≡ Memory };
-
-    fn from(_refused: AllocError) -> InputFault {
-        InputFault::Memory
-    }
-}
 
 /// A buffer of so many bytes.
 fn buffer_of(alloc: Global, count: usize) -> Result<Vec<u8>, AllocError>
@@ -59,15 +40,17 @@ fn take_some<S: Source>(
     Ok(taken)
 }
 
-/// Reads the input to its end, in which each turn takes at least one byte.
-pub fn read_input<S: Source>(alloc: Global, input: &mut S) -> Result<Vec<u8>, InputFault>
-    ensures taken { TakesAtMost 16777217 (S.left input.old) (S.left input.new) }
-    ensures whole { IfOk result (λ bytes. (vec_len bytes ≤ 16777216)
-        × Moves (S.left input.old) (S.left input.new) bytes.items × IsAtEnd (S.left input.new)) }
-    ensures failed { result ≡ Err InputFault.Failed → Rose (S.faults input.old) (S.faults input.new) }
-    ensures too_long { result ≡ Err InputFault.TooLong → IfSome (S.left input.old) (λ bytes. 16777216 < length bytes) }
+/// Reads the input to its end, in which each turn takes at least one byte, or answers the status that a word ends with where it isn't
+/// read whole: of an input that is too long one byte more than it may have was taken.
+pub fn read_whole<S: Source>(alloc: Global, input: &mut S) -> Result<Vec<u8>, Status>
+    ensures whole { IfOk result (λ bytes. IsReadWhole bytes.items (S.left input.old) (S.left input.new)) }
+    ensures unread { IfErr result (λ status. IfSome (S.left input.old) (IsUnreadAs status)) }
+    ensures words { result ≡ Err Status.Usage → ⊥ }
+    ensures writes { result ≡ Err Status.WriteFault → ⊥ }
+    ensures read_fault { result ≡ Err Status.ReadFault → Rose (S.faults input.old) (S.faults input.new) }
+    ensures taken { TakesAtMost (2 ^ 24 + 1) (S.left input.old) (S.left input.new) }
     ensures count { S.faults input.old ≤ S.faults input.new }
-    ensures stays { result ≢ Err InputFault.Failed → S.faults input.new ≡ S.faults input.old }
+    ensures stays { result ≢ Err Status.ReadFault → S.faults input.new ≡ S.faults input.old }
 {
     let mut bytes = Vec::new(alloc);
     let mut chunk = buffer_of(alloc, CHUNK_BYTES)?;
@@ -76,8 +59,8 @@ pub fn read_input<S: Source>(alloc: Global, input: &mut S) -> Result<Vec<u8>, In
         match take_some(input, &mut chunk[..room], &mut bytes)? {
             Taken::Bytes(_) => {}
             Taken::End => return Ok(bytes),
-            Taken::Failed => return Err(InputFault::Failed),
+            Taken::Failed => return Err(Status::ReadFault),
         }
     }
-    Err(InputFault::TooLong)
+    Err(Status::TooLong)
 }

@@ -1,15 +1,15 @@
 //! A word that reads an input: how that is read and served, and the call of a word.
 
-ghost use Rattle.std.specs.Prelude.{◌≡◌, ◌≢◌, ◌≤◌, ◌+◌, ◌^◌, ℕ, List, [], IfErr, IfOk, length};
+ghost use Rattle.std.specs.Prelude.{◌≡◌, ◌≢◌, ◌≤◌, ◌+◌, ◌^◌, ℕ, List, [], Err, IfErr, IfOk, IfSome, OnOk, length};
 ghost use Rattle.ports.specs.Port.{Appends, Rose};
 ghost use Rattle.word_parts.specs.BuiltIn.{BuiltIn, built_in};
 ghost use Rattle.word_parts.specs.Call.{Call, KeepsOver, KeepsTo};
 ghost use Rattle.word_parts.specs.Faults.{TellsFaults};
-ghost use Rattle.word_parts.specs.Input.{TakesAtMost};
-ghost use Rattle.word_parts.specs.Word.{Answered, HasOneMeaning, IsFaultOf, Word};
+ghost use Rattle.word_parts.specs.Input.{IsReadWhole, TakesAtMost};
+ghost use Rattle.word_parts.specs.Word.{Answered, HasOneMeaning, IsFaultOf, IsUnservedAs, RanAs, Word};
 
 use crate::answer::answer_fault;
-use crate::reading::read_whole;
+use crate::input::read_whole;
 use crate::status::Status;
 use native_tas::Natives;
 use ports::{Sink, Source};
@@ -63,23 +63,38 @@ pub trait InputWord: Copy {
         ensures faults { TellsFaults result (K.faults out.old) (K.faults out.new) };
 }
 
-/// Serves an input that was read whole, and writes what it is answered with. Its bytes are free before it is served.
-fn answer<W: InputWord, K: Sink>(
+/// What the input spells in the word's grammar: it is read to its end, and then in the grammar. One that isn't read whole, or that leaves
+/// the grammar, is answered, and the status is the `Err`. Its bytes are free at the return.
+pub fn read_input<W: InputWord, S: Source, K: Sink>(
     alloc: Global,
     word: W,
-    input: Vec<u8>,
+    input: &mut S,
     out: &mut K,
     natives: &Natives,
-) -> Status
-    requires { length input.items ≤ 2 ^ 24 }
-    ensures answered { Answered (W.word word (built_in natives.now)) input.items result (K.held out.old) (K.held out.new) }
-    ensures faults { TellsFaults result (K.faults out.old) (K.faults out.new) }
+) -> Result<W::Content, Status>
+    // ---- An input that was read: nothing is written yet.
+    ensures read { IfOk result (λ content. (bytes : List ℕ) × IsReadWhole bytes (S.left input.old) (S.left input.new)
+        × W.IsRead word (built_in natives.now) bytes content) }
+    ensures unwritten { OnOk result ((K.held out.new ≡ K.held out.old) × (K.faults out.new ≡ K.faults out.old)) }
+
+    // ---- Any other.
+    ensures unserved { IfErr result (λ status. IfSome (S.left input.old) (λ bytes.
+        RanAs bytes (IsUnservedAs (W.word word (built_in natives.now)) bytes status (K.held out.old) (K.held out.new))
+        (S.left input.new) status (K.held out.old) (K.held out.new))) }
+    ensures memory { result ≡ Err Status.Memory → K.held out.new ≡ K.held out.old }
+    ensures read_fault { result ≡ Err Status.ReadFault →
+        Rose (S.faults input.old) (S.faults input.new) × Appends (K.held out.old) (K.held out.new) [] }
+    ensures faults { IfErr result (λ status. TellsFaults status (K.faults out.old) (K.faults out.new)) }
+
+    // ---- Reading ends, and counts of faults never fall.
+    ensures taken { TakesAtMost (2 ^ 24 + 1) (S.left input.old) (S.left input.new) }
+    ensures input_count { S.faults input.old ≤ S.faults input.new }
+    ensures input_stays { result ≢ Err Status.ReadFault → S.faults input.new ≡ S.faults input.old }
 {
-    let read = word.read(alloc, input.as_slice(), natives);
-    drop(input);
-    match read {
-        Ok(content) => word.serve(alloc, content, out, natives),
-        Err(fault) => answer_fault(alloc, fault, out),
+    let bytes = read_whole(alloc, input)?;
+    match word.read(alloc, bytes.as_slice(), natives) {
+        Ok(content) => Ok(content),
+        Err(fault) => Err(answer_fault(alloc, fault, out)),
     }
 }
 
@@ -116,8 +131,8 @@ pub fn run_word<W: InputWord, S: Source, K: Sink>(
     ensures input_stays { result ≢ Status.ReadFault → S.faults input.new ≡ S.faults input.old }
 {
     word.laws();
-    match read_whole(alloc, input) {
-        Ok(bytes) => answer(alloc, word, bytes, out, natives),
+    match read_input(alloc, word, input, out, natives) {
+        Ok(content) => word.serve(alloc, content, out, natives),
         Err(status) => status,
     }
 }

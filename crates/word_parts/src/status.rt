@@ -1,6 +1,8 @@
 ghost use Rattle.std.specs.Prelude.{◌≡◌};
 ghost use Rattle.word_parts.specs.Status.{number_of};
 
+use std::alloc::AllocError;
+
 /// How a call of the program ends.
 #[derive(Clone, Copy)]
 pub enum Status {
@@ -35,5 +37,15 @@ impl Status {
             Status::Memory => 6,
             Status::TooLong => 7,
         }
+    }
+}
+
+impl From<AllocError> for Status {
+    ghost use Rattle.word_parts.specs.declared.status.Status.TheVariants.{Memory};
+
+    ghost from_gives = { λ _ status. status ≡ Memory };
+
+    fn from(_refused: AllocError) -> Status {
+        Status::Memory
     }
 }

@@ -1,12 +1,13 @@
 -- What is written of a trace is its blocks, or nothing where it has no boot.
 use Rattle.std.proofs.Common.{List, ℕ, refl, subst}
 use Rattle.native_tas.specs.Table.{entries}
+use Rattle.ports.specs.PortLaws.{Appends-nil}
 use Rattle.trace_player.specs.Starting.{trace_of, uuids_of}
 use Rattle.trace_runner.specs.Threads.{status_where}
 use Rattle.word_parts.proofs.Serving.{few-items}
 use Rattle.word_parts.specs.Answer.{Writes}
 use Rattle.word_parts.specs.declared.status.Status.{Status}
-use Rattle.trace_runner.proofs.OnThreads.{none-put, served-none, served-some}
+use Rattle.trace_runner.proofs.OnThreads.{served-none, served-some}
 use Rattle.trace_player.proofs.Playable.{same-trace}
 use Rattle.trace_runner.proofs.threads.answer_trace.Goals as goal
 
@@ -16,7 +17,7 @@ returns-in_default-clause-served g c =
     (g.K.Sink.held c.args.out.now) (g.K.Sink.held c.args.out.now) c.requires c.in_default.is
     (few-items c.args.trace.items c.as_slice.result.now c.has_too_many.result c.as_slice.ensures c.has_too_many.ensures
     c.if-has_too_many.false)
-    (none-put (g.K.Sink.held c.args.out.now))
+    (Appends-nil (g.K.Sink.held c.args.out.now))
 
 pub returns-in-Ok-clause-served : goal.returns-in-Ok-clause-served
 returns-in-Ok-clause-served g c =

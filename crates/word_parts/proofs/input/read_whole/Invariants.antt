@@ -1,7 +1,7 @@
 use Rattle.std.proofs.Common.{◌≡◌, ◌+◌, ◌-◌, ◌≤◌, vec_len}
 use Rattle.ports.specs.Port.{Moves}
 use Rattle.word_parts.specs.declared.input.TheConstants.{LONGEST_INPUT, CHUNK_BYTES}
-use Rattle.word_parts.proofs.input.read_input.Given as goal
+use Rattle.word_parts.proofs.input.read_whole.Given as goal
 
 -- the bytes so far were taken from the front of what was left
 abbrev pub invariant-loop-bytes : goal.invariant-loop-bytes

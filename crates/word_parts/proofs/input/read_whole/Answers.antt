@@ -1,6 +1,6 @@
 use Rattle.std.proofs.Common.{ℕ, arith, length-take, sym, ◌∙◌}
 use Rattle.word_parts.proofs.ReadingLemmas.{TakesAtMost-then, TakesSome-then}
-use Rattle.word_parts.proofs.input.read_input.Goals as goal
+use Rattle.word_parts.proofs.input.read_whole.Goals as goal
 
 pub loop-bytes-preserved : goal.loop-bytes-preserved
 loop-bytes-preserved g c =
