@@ -10,14 +10,15 @@ use Rattle.trace_player.specs.Starting.{uuids_of}
 use Rattle.trace_text.specs.declared.fault.TraceFault.{TraceFault}
 use Rattle.trace_text.specs.declared.fault.TraceFault.TheVariants.{Bad}
 use Rattle.trace_text.specs.declared.fault.TraceFault.TheVariants as fault
+use Rattle.word_parts.specs.Answer.{Writes}
 use Rattle.word_parts.specs.Input.{IsTooLong}
 use Rattle.word_parts.specs.Keeping.{Keeps}
 use Rattle.word_parts.specs.Word.{Answered, HasOneMeaning, IsFaultOf, IsRefusedWhole, IsServedWhole}
 use Rattle.word_parts.specs.declared.status.Status.{Status}
 use Rattle.word_parts.specs.declared.status.Status.TheVariants.{Memory}
 use Rattle.word_parts.specs.declared.status.Status.TheVariants as status
-use Rattle.journal_runner.specs.Auditing.{Audited, IsVerdictOn, SpellsAudited, auditing}
-use Rattle.journal_runner.specs.Audits.{Audits, IsAnsweredFor}
+use Rattle.journal_runner.specs.Auditing.{Audited, IsVerdictOn, SpellsAudited, auditing, line_for}
+use Rattle.journal_runner.specs.Audits.{Audits}
 use Rattle.journal_runner.specs.Reading.{IsFaultAlone, IsFaultAloneOf, KeepsLimits, SpellsAlone, WasReadAlone}
 use Rattle.journal_runner.proofs.Ending.{ok_or_memory}
 use Rattle.journal_runner.proofs.Meanings.{not_both_alone, same_alone}
@@ -41,19 +42,16 @@ was_refused natives uuids input (Err (Bad place kind)) same bad =
     subst (λ (us : List (List ℕ)). IsFaultAlone us input place kind) same bad
 was_refused natives uuids input (Err fault.Memory) same bad = tt
 
--- what is written for a journal that stands alone is what the word answers
-pub answered_alone : (natives : List Native) (input : List ℕ) (whole : Whole) (result : Status) (old new : Option (List ℕ))
-    → SpellsAlone (uuids_of natives) input whole → IsAnsweredFor natives whole result old new
+-- the line of the verdict on a journal that stands alone is what the word answers
+pub answered_alone : (natives : List Native) (input : List ℕ) (audited : Audited) (result : Status) (old new : Option (List ℕ))
+    → SpellsAudited natives input audited → Writes status.Ok (line_for audited) result old new
     → Answered (auditing natives) input result old new
-answered_alone natives input whole result old new alone (inl want) = inl want
-answered_alone natives input whole result old new alone (inr told) =
-    let audited : Audited = record { whole = whole; verdict = told.0 } in
-    inr (inr (record {
-      content = audited;
-      spelled = record { alone = alone; is_verdict = told.1 };
-      known = tt;
-      served = inr (λ never. never, inr told.2);
-    }))
+answered_alone natives input audited result old new spelled written = inr (inr (record {
+  content = audited;
+  spelled = spelled;
+  known = tt;
+  served = inr (λ never. never, inr written);
+}))
 
 -- ---- what was kept
 

@@ -12,14 +12,15 @@ use Rattle.trace_player.specs.Starting.{uuids_of}
 use Rattle.trace_text.specs.declared.fault.TraceFault.{TraceFault}
 use Rattle.trace_text.specs.declared.fault.TraceFault.TheVariants.{Bad}
 use Rattle.trace_text.specs.declared.fault.TraceFault.TheVariants as fault
+use Rattle.word_parts.specs.Answer.{Writes}
 use Rattle.word_parts.specs.Keeping.{Keeps}
 use Rattle.word_parts.specs.Input.{IsTooLong}
 use Rattle.word_parts.specs.Word.{Answered, HasOneMeaning, IsFaultOf, IsRefusedWhole, IsServedWhole}
 use Rattle.word_parts.specs.declared.status.Status.{Status}
 use Rattle.word_parts.specs.declared.status.Status.TheVariants.{Memory}
 use Rattle.word_parts.specs.declared.status.Status.TheVariants as status
-use Rattle.journal_runner.specs.Compares.{Compares, IsAnsweredForPair}
-use Rattle.journal_runner.specs.Comparing.{Comparison, SpellsCompared, comparing, pair_of}
+use Rattle.journal_runner.specs.Compares.{Compares}
+use Rattle.journal_runner.specs.Comparing.{Comparison, SpellsCompared, compared_line, comparing, pair_of}
 use Rattle.journal_runner.specs.Reading.{IsFaultOfPair, IsFaultOfPairOf, KeepsLimits, SpellsPair, WasReadPair}
 use Rattle.journal_runner.specs.declared.reading.ReadPair.{ReadPair}
 use Rattle.journal_runner.proofs.Ending.{ok_or_memory}
@@ -47,18 +48,15 @@ was_refused natives subject uuids input (Err (Bad place kind)) same bad =
 was_refused natives subject uuids input (Err fault.Memory) same bad = tt
 
 -- what is written for two journals is what the word answers
-pub answered_pair : (natives : List Native) (subject : Subject) (input : List ℕ) (one two : Whole) (result : Status)
-    (old new : Option (List ℕ)) → SpellsPair (uuids_of natives) input one two
-    → IsAnsweredForPair natives subject one two result old new → Answered (comparing natives subject) input result old new
-answered_pair natives subject input one two result old new pair (inl want) = inl want
-answered_pair natives subject input one two result old new pair (inr told) =
-    let comparison : Comparison = record { one = one; two = two; compared = told.0 } in
-    inr (inr (record {
-      content = comparison;
-      spelled = record { pair = pair; is_compared = told.1 };
-      known = tt;
-      served = inr (λ never. never, inr told.2);
-    }))
+pub answered_pair : (natives : List Native) (subject : Subject) (input : List ℕ) (comparison : Comparison) (result : Status)
+    (old new : Option (List ℕ)) → SpellsCompared natives subject input comparison
+    → Writes status.Ok (compared_line comparison.compared) result old new → Answered (comparing natives subject) input result old new
+answered_pair natives subject input comparison result old new spelled written = inr (inr (record {
+  content = comparison;
+  spelled = spelled;
+  known = tt;
+  served = inr (λ never. never, inr written);
+}))
 
 -- ---- what was kept
 

@@ -1,13 +1,14 @@
 -- From what was answered to the play whose journal was written; and that a text has one meaning.
-use Rattle.std.proofs.Common.{◌≡◌, ℕ, ◌≤◌, ◌⊎◌, inl, inr, List, [], length, Option, Some, None, refl, subst}
+use Rattle.std.proofs.Common.{◌≡◌, ℕ, ◌≤◌, ◌⊎◌, inl, inr, List, [], length, Option, Some, None, refl, sym, subst}
 use Rattle.std.specs.Option.{option_and_then, option_map}
-use Rattle.std.specs.Prelude.{Err, IfErr, IfOk, Ok, Result}
+use Rattle.std.specs.Prelude.{Err, IfErr, IfOk, IsSomeAnd, Ok, Result}
 use Rattle.audit.proofs.SteadyPlays.{plays_are_faultless}
 use Rattle.base.specs.Zeros.{zeros}
 use Rattle.kernel_model.specs.Application.{IsBooted, Native, booted}
 use Rattle.play_model.specs.Play.{Play, played}
 use Rattle.play_model.proofs.TrueToKernel.{plays_are_true}
 use Rattle.ports.specs.Port.{Appends}
+use Rattle.ports.specs.PortLaws.{Appends-nil}
 use Rattle.ta_isa.specs.declared.boot.Boot.{Boot}
 use Rattle.trace_player.proofs.Booting.{AreApart}
 use Rattle.trace_player.specs.Refused.{refused_by}
@@ -19,10 +20,12 @@ use Rattle.trace_text.specs.declared.fault.TraceFault.{TraceFault}
 use Rattle.trace_text.specs.declared.fault.TraceFault.TheVariants.{Bad}
 use Rattle.trace_text.specs.declared.fault.TraceFault.TheVariants as fault
 use Rattle.trace_text.specs.declared.trace.Trace.{Trace}
-use Rattle.word_parts.specs.Answer.{status_of_play}
+use Rattle.word_parts.specs.Answer.{Writes, status_of_play}
 use Rattle.word_parts.specs.Limits.{HasTooMany}
-use Rattle.word_parts.specs.Word.{Answered, HasOneMeaning, IsFaultOf, IsServedBy, Ran}
+use Rattle.word_parts.specs.Word.{Answered, HasOneMeaning, IsDone, IsFaultOf, IsServedBy, Ran}
 use Rattle.word_parts.specs.declared.status.Status.{Status}
+use Rattle.word_parts.specs.declared.status.Status.TheVariants.{TooLong}
+use Rattle.word_parts.specs.declared.status.Status.TheVariants as status
 use Rattle.word_parts.proofs.Ended.{IsUnserved, WasServed, ran-served, ran-served-or-not}
 use Rattle.journal_runner.proofs.Booting.{can_boot}
 use Rattle.journal_runner.specs.Known.{CanBoot, CanBootWith}
@@ -76,7 +79,7 @@ spelled_unless natives trace (inl many) few = absurd (few many)
 spelled_unless natives trace (inr spelled) few = spelled
 
 -- what is written for a trace is what the word answers
-pub answered_for : (natives : List Native) (input : List ℕ) (trace : Trace) (result : Status) (old new : Option (List ℕ))
+answered_for : (natives : List Native) (input : List ℕ) (trace : Trace) (result : Status) (old new : Option (List ℕ))
     → Spells (uuids_of natives) input trace → CanBoot natives trace → IsServedBy (recording natives) trace result old new
     → IsSpelledIfPlayed natives trace result old new → Answered (recording natives) input result old new
 answered_for natives input trace result old new spelled boots served (inl want) = inl want
@@ -86,6 +89,38 @@ answered_for natives input trace result old new spelled boots served (inr journa
   known = record { boots = boots; spelled = spelled_unless natives trace journal };
   served = served;
 }))
+
+-- a trace of too many SMC items isn't played
+pub answered_many : (natives : List Native) (input : List ℕ) (trace : Trace) (held : Option (List ℕ))
+    → Spells (uuids_of natives) input trace → CanBoot natives trace → HasTooMany trace.items
+    → Answered (recording natives) input TooLong held held
+answered_many natives input trace held spelled boots many =
+    answered_for natives input trace TooLong held held spelled boots (inl (many, refl, Appends-nil held)) (inr (inl many))
+
+-- one without a boot has no journal
+pub answered_unbooted : (natives : List Native) (input : List ℕ) (trace : Trace) (held : Option (List ℕ))
+    → Spells (uuids_of natives) input trace → CanBoot natives trace → (HasTooMany trace.items → ⊥) → trace.boot ≡ None
+    → Answered (recording natives) input status.Ok held held
+answered_unbooted natives input trace held spelled boots few none =
+    answered_for natives input trace status.Ok held held spelled boots (inr (few, inr nothing))
+    (inr (inr (record { alone = λ boot play is made. absurd cc })))
+  where
+    nothing : IsSomeAnd (journal_with natives trace trace.boot)
+        (λ text. Writes (status_of_play (refused_by natives trace trace.boot)) text status.Ok held held)
+    nothing =
+        subst (λ (boot : Option Boot). IsSomeAnd (journal_with natives trace boot)
+        (λ text. Writes (status_of_play (refused_by natives trace boot)) text status.Ok held held)) (sym none)
+        (inl (refl, Appends-nil held))
+
+-- one that was played by its boot, its fills and its items
+pub answered_booted : (natives : List Native) (input : List ℕ) (trace same : Trace) (result : Status) (old new : Option (List ℕ))
+    → same ≡ trace → Spells (uuids_of natives) input trace → CanBoot natives trace → (HasTooMany trace.items → ⊥)
+    → IsDone (recording natives) same result old new → IsSpelledIfPlayed natives same result old new
+    → Answered (recording natives) input result old new
+answered_booted natives input trace same result old new is spelled boots few done journal =
+    answered_for natives input trace result old new spelled boots
+    (inr (few, subst (λ (t : Trace). IsDone (recording natives) t result old new) is done))
+    (subst (λ (t : Trace). IsSpelledIfPlayed natives t result old new) is journal)
 
 -- ---- an input
 

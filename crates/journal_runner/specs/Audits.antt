@@ -1,24 +1,15 @@
--- What is written for a journal that was read, and what it says where `audit` ends with 0.
-use Rattle.std.specs.Prelude.{◌≡◌, ◌⊎◌, ℕ, List, [], length, Option}
-use Rattle.audit_model.specs.declared.verdict.Verdict.{Verdict}
+-- What is written where `audit` ends with 0, and what it says.
+use Rattle.std.specs.Prelude.{◌≡◌, ◌⊎◌, ℕ, List, Option}
 use Rattle.journal_bytes.specs.Grammar.{Whole}
 use Rattle.kernel_model.specs.Application.{Native}
 use Rattle.ports.specs.Port.{Appends}
 use Rattle.trace_player.specs.Starting.{uuids_of}
-use Rattle.word_parts.specs.Answer.{Writes}
 use Rattle.word_parts.specs.Input.{IsTooLong}
 use Rattle.word_parts.specs.declared.status.Status.{Status}
 use Rattle.word_parts.specs.declared.status.Status.TheVariants.{Memory}
 use Rattle.word_parts.specs.declared.status.Status.TheVariants as status
-use Rattle.journal_runner.specs.Auditing.{Audited, IsVerdictOn, SpellsAudited, line_for, verdict_line}
+use Rattle.journal_runner.specs.Auditing.{Audited, SpellsAudited, line_for}
 use Rattle.journal_runner.specs.Reading.{SpellsAlone}
-
--- the verdict on it, or a part of its line where the sink failed or memory ran out; or nothing for want of memory
-abbrev pub IsAnsweredFor : List Native → Whole → Status → Option (List ℕ) → Option (List ℕ) → Type 0
-IsAnsweredFor natives whole result old new =
-    ((result ≡ Memory) × Appends old new [])
-    ⊎ ((verdict : Verdict) × IsVerdictOn natives whole verdict
-    × Writes status.Ok (verdict_line (length whole.events) verdict) result old new)
 
 -- there is a journal that the input spells alone, and just the line of the verdict on it was written
 pub record WasAudited (natives : List Native) (input : List ℕ) (old new : Option (List ℕ)) : Type 0 where

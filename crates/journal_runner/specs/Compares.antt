@@ -1,26 +1,17 @@
--- What is written for two journals that were read, and what it says where `compare` ends with 0.
-use Rattle.std.specs.Prelude.{◌≡◌, ◌⊎◌, ℕ, List, [], Option}
-use Rattle.compare_model.specs.Comparing.{HaveSameReplies, IsAnsweredAlone, IsComparedAs, IsHistory, Journaled, Pair}
-use Rattle.compare_model.specs.declared.compared.Compared.{Compared}
+-- What is written where `compare` ends with 0, and what it says.
+use Rattle.std.specs.Prelude.{◌≡◌, ◌⊎◌, ℕ, List, Option}
+use Rattle.compare_model.specs.Comparing.{HaveSameReplies, IsAnsweredAlone, IsHistory, Journaled, Pair}
 use Rattle.compare_model.specs.declared.subject.Subject.{Subject}
 use Rattle.journal_bytes.specs.Grammar.{Whole}
 use Rattle.kernel_model.specs.Application.{Native}
 use Rattle.ports.specs.Port.{Appends}
 use Rattle.trace_player.specs.Starting.{uuids_of}
-use Rattle.word_parts.specs.Answer.{Writes}
 use Rattle.word_parts.specs.Input.{IsTooLong}
 use Rattle.word_parts.specs.declared.status.Status.{Status}
 use Rattle.word_parts.specs.declared.status.Status.TheVariants.{Memory}
 use Rattle.word_parts.specs.declared.status.Status.TheVariants as status
 use Rattle.journal_runner.specs.Comparing.{Comparison, SpellsCompared, compared_line, pair_of}
 use Rattle.journal_runner.specs.Reading.{SpellsPair}
-
--- what they show of the session or of the group, or a part of its line where the sink failed or memory ran out; or nothing for want of memory
-abbrev pub IsAnsweredForPair : List Native → Subject → Whole → Whole → Status → Option (List ℕ) → Option (List ℕ) → Type 0
-IsAnsweredForPair natives subject one two result old new =
-    ((result ≡ Memory) × Appends old new [])
-    ⊎ ((compared : Compared) × IsComparedAs (pair_of natives one two) subject compared
-    × Writes status.Ok (compared_line compared) result old new)
 
 -- where the journal's events are a legal history, the session or the group was answered in it as the machine that has its events
 -- alone answers

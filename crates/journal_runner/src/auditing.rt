@@ -1,17 +1,10 @@
 //! The word `audit`.
 ghost use Rattle.std.specs.Prelude.{◌≡◌, ◌++◌, IfOk, OnOk};
-ghost use Rattle.journal_bytes.specs.Grammar.{whole_of};
-ghost use Rattle.native_tas.specs.Table.{entries};
-ghost use Rattle.trace_player.specs.Starting.{uuids_of};
-ghost use Rattle.word_parts.specs.Faults.{TellsFaults};
-ghost use Rattle.journal_runner.specs.Auditing.{IsVerdictOn, verdict_line, verdict_words};
-ghost use Rattle.journal_runner.specs.Audits.{IsAnsweredFor};
-ghost use Rattle.journal_runner.specs.Reading.{KeepsLimits};
+ghost use Rattle.journal_runner.specs.Auditing.{verdict_line, verdict_words};
 
 use crate::reading::read_alone;
 use answer_lines::push_numbered;
 use audit::{Verdict, check, read_boots_can_be_checked};
-use base::NoMemory;
 use journal_bytes::{ReadJournal, TraceFault};
 use native_tas::Natives;
 use ports::Sink;
@@ -38,35 +31,6 @@ fn verdict_line(alloc: Global, count: u64, verdict: Verdict) -> Result<Vec<u8>, 
     Ok(line)
 }
 
-/// Checks a journal that was read.
-fn verdict_on(alloc: Global, natives: &Natives, read: &ReadJournal) -> Result<Verdict, NoMemory>
-    requires { KeepsLimits (uuids_of (entries natives.now)) read.now }
-    ensures { IfOk result (IsVerdictOn (entries natives.now) (whole_of read.now)) }
-{
-    read_boots_can_be_checked();
-    check(alloc, &read.boot, natives, &read.journal)
-}
-
-/// Writes the verdict on a journal that was read.
-fn audit_journal<K: Sink>(
-    alloc: Global,
-    natives: &Natives,
-    read: &ReadJournal,
-    out: &mut K,
-) -> Status
-    requires { KeepsLimits (uuids_of (entries natives.now)) read.now }
-    ensures answered { IsAnsweredFor (entries natives.now) (whole_of read.now) result (K.held out.old) (K.held out.new) }
-    ensures faults { TellsFaults result (K.faults out.old) (K.faults out.new) }
-{
-    let Ok(verdict) = verdict_on(alloc, natives, read) else {
-        return Status::Memory;
-    };
-    match verdict_line(alloc, read.journal.len(), verdict) {
-        Ok(line) => answer_line(out, Status::Ok, line.as_slice()),
-        Err(_) => Status::Memory,
-    }
-}
-
 /// The word that reads the bytes of a journal ([`journal_bytes`]), behind which nothing stands, and writes the verdict on it beside the
 /// applications that are built in: `legal N`, where a legal and steady history of its boot begins with its N events, or
 /// `illegal AT`, where the event `AT`, counted from 0, is the first with which none begins. Bytes behind its end are
@@ -78,6 +42,7 @@ fn audit_journal<K: Sink>(
 pub struct Audit;
 
 impl InputWord for Audit {
+    ghost use Rattle.trace_player.specs.Starting.{uuids_of};
     ghost use Rattle.word_parts.specs.Call.{HasNoFault};
     ghost use Rattle.journal_runner.specs.Auditing.{auditing};
     ghost use Rattle.journal_runner.specs.Audits.{Audits};
@@ -109,6 +74,13 @@ impl InputWord for Audit {
         out: &mut K,
         natives: &Natives,
     ) -> Status {
-        audit_journal(alloc, natives, &read, out)
+        read_boots_can_be_checked();
+        let Ok(verdict) = check(alloc, &read.boot, natives, &read.journal) else {
+            return Status::Memory;
+        };
+        match verdict_line(alloc, read.journal.len(), verdict) {
+            Ok(line) => answer_line(out, Status::Ok, line.as_slice()),
+            Err(_) => Status::Memory,
+        }
     }
 }

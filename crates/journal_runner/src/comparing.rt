@@ -1,22 +1,15 @@
 //! The word `compare`.
 ghost use Rattle.std.specs.Prelude.{◌≡◌, ◌++◌, IfOk, OnOk};
-ghost use Rattle.compare_model.specs.Comparing.{IsComparedAs};
-ghost use Rattle.journal_bytes.specs.Grammar.{whole_of};
-ghost use Rattle.native_tas.specs.Table.{entries};
-ghost use Rattle.trace_player.specs.Starting.{uuids_of};
-ghost use Rattle.word_parts.specs.Faults.{TellsFaults};
-ghost use Rattle.journal_runner.specs.Compares.{IsAnsweredForPair};
-ghost use Rattle.journal_runner.specs.Comparing.{compared_line, compared_words, pair_of};
-ghost use Rattle.journal_runner.specs.Reading.{KeepsLimits};
+ghost use Rattle.journal_runner.specs.Comparing.{compared_line, compared_words};
 
 use crate::reading::{ReadPair, read_pair};
 use answer_lines::push_numbered;
 use audit::read_boots_can_be_checked;
-use base::NoMemory;
 use compare_model::{Compared, Subject};
 use journal_bytes::TraceFault;
 use native_tas::Natives;
 use ports::Sink;
+use session_compare::compare_on;
 use std::alloc::{AllocError, Global};
 use word_parts::{InputWord, Status, answer_line};
 
@@ -46,44 +39,6 @@ fn compared_line(alloc: Global, compared: Compared) -> Result<Vec<u8>, AllocErro
     Ok(line)
 }
 
-/// What the two journals show of the session or of the group.
-fn shown_by(
-    alloc: Global,
-    natives: &Natives,
-    subject: Subject,
-    read: &ReadPair,
-) -> Result<Compared, NoMemory>
-    requires one { KeepsLimits (uuids_of (entries natives.now)) read.now.one }
-    requires two { KeepsLimits (uuids_of (entries natives.now)) read.now.two }
-    ensures { IfOk result (IsComparedAs (pair_of (entries natives.now) (whole_of read.now.one) (whole_of read.now.two)) subject) }
-{
-    read_boots_can_be_checked();
-    session_compare::compare_on(alloc, &read.one, &read.two, natives, subject)
-}
-
-/// Writes what two journals that were read show of the session or of the group.
-fn compare_journals<K: Sink>(
-    alloc: Global,
-    natives: &Natives,
-    subject: Subject,
-    read: &ReadPair,
-    out: &mut K,
-) -> Status
-    requires one { KeepsLimits (uuids_of (entries natives.now)) read.now.one }
-    requires two { KeepsLimits (uuids_of (entries natives.now)) read.now.two }
-    ensures answered { IsAnsweredForPair (entries natives.now) subject (whole_of read.now.one) (whole_of read.now.two)
-        result (K.held out.old) (K.held out.new) }
-    ensures faults { TellsFaults result (K.faults out.old) (K.faults out.new) }
-{
-    let Ok(compared) = shown_by(alloc, natives, subject, read) else {
-        return Status::Memory;
-    };
-    match compared_line(alloc, compared) {
-        Ok(line) => answer_line(out, Status::Ok, line.as_slice()),
-        Err(_) => Status::Memory,
-    }
-}
-
 /// The word that reads the bytes of two journals ([`journal_bytes`]), the second right behind the end of the first, and writes what they
 /// show of a session, or of the group of sessions that share one instance, beside the applications that are built in: the first event
 /// of one of them that can't be, as `illegal J AT`; or that the number stands for no session there whose application has an instance
@@ -100,6 +55,7 @@ pub struct Compare {
 }
 
 impl InputWord for Compare {
+    ghost use Rattle.trace_player.specs.Starting.{uuids_of};
     ghost use Rattle.word_parts.specs.Call.{HasNoFault};
     ghost use Rattle.journal_runner.specs.Compares.{Compares};
     ghost use Rattle.journal_runner.specs.Comparing.{comparing};
@@ -127,6 +83,13 @@ impl InputWord for Compare {
         out: &mut K,
         natives: &Natives,
     ) -> Status {
-        compare_journals(alloc, natives, self.subject, &read, out)
+        read_boots_can_be_checked();
+        let Ok(compared) = compare_on(alloc, &read.one, &read.two, natives, self.subject) else {
+            return Status::Memory;
+        };
+        match compared_line(alloc, compared) {
+            Ok(line) => answer_line(out, Status::Ok, line.as_slice()),
+            Err(_) => Status::Memory,
+        }
     }
 }

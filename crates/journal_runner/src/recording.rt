@@ -3,7 +3,7 @@ ghost use Rattle.native_tas.specs.Table.{entries};
 ghost use Rattle.trace_player.specs.Starting.{trace_of, uuids_of};
 ghost use Rattle.trace_text.specs.Sound.{IsSound};
 ghost use Rattle.word_parts.specs.Faults.{TellsFaults};
-ghost use Rattle.word_parts.specs.Word.{IsDone, IsServedBy};
+ghost use Rattle.word_parts.specs.Word.{IsDone};
 ghost use Rattle.journal_runner.specs.Recorded.{IsSpelledIfPlayed};
 ghost use Rattle.journal_runner.specs.Recording.{recording};
 
@@ -35,30 +35,6 @@ fn record_booted<K: Sink>(
     }
 }
 
-/// Plays a trace, where it doesn't have too many SMC items, and writes its journal.
-fn record_trace<K: Sink>(alloc: Global, natives: &Natives, trace: Trace, out: &mut K) -> Status
-    requires { IsSound (uuids_of (entries natives.now)) trace }
-    ensures served { IsServedBy (recording (entries natives.now)) trace result (K.held out.old) (K.held out.new) }
-    ensures spelled { IsSpelledIfPlayed (entries natives.now) trace result (K.held out.old) (K.held out.new) }
-    ensures faults { TellsFaults result (K.faults out.old) (K.faults out.new) }
-{
-    if has_too_many(trace.items.as_slice()) {
-        return Status::TooLong;
-    }
-    let Trace { boot, fills, items } = trace;
-    match boot {
-        Some(boot) => record_booted(
-            alloc,
-            natives,
-            boot,
-            fills.as_slice(),
-            items.as_slice(),
-            out,
-        ),
-        None => Status::Ok,
-    }
-}
-
 /// The word that reads a trace as text, plays it as the word `run` does, and writes the bytes of its journal ([`journal_bytes`]) in
 /// place of its lines: its boot, and all events of its play, or those before an entry that was refused, at which the status is
 /// [`Status::TooLong`]. Of a trace without a boot nothing is written.
@@ -86,6 +62,20 @@ impl InputWord for Record {
     }
 
     fn serve<K: Sink>(self, alloc: Global, trace: Trace, out: &mut K, natives: &Natives) -> Status {
-        record_trace(alloc, natives, trace, out)
+        if has_too_many(trace.items.as_slice()) {
+            return Status::TooLong;
+        }
+        let Trace { boot, fills, items } = trace;
+        match boot {
+            Some(boot) => record_booted(
+                alloc,
+                natives,
+                boot,
+                fills.as_slice(),
+                items.as_slice(),
+                out,
+            ),
+            None => Status::Ok,
+        }
     }
 }
