@@ -7,16 +7,15 @@ ghost use Rattle.trace_text.specs.Sound.{IsSound};
 ghost use Rattle.trace_text.specs.declared.trace.Trace.{Trace};
 ghost use Rattle.trace_player.specs.Refused.{refused_in};
 ghost use Rattle.alone_runner.specs.Digesting.{IsDigested};
-ghost use Rattle.trace_player.specs.Starting.{IsAtStart, trace_of, uuids_of};
+ghost use Rattle.trace_player.specs.Starting.{IsAtStart, uuids_of};
 
 use crate::summary::AnswerCounts;
 use core_machine::machines_stand;
 use native_tas::Natives;
 use sha2::{Digest, Sha256};
 use std::alloc::Global;
-use ta_isa::Boot;
 use trace_player::Player;
-use trace_text::{Fill, Item, Trace};
+use trace_text::{Item, Trace};
 use word_parts::Stop;
 
 /// What is known of a play at its end: how many answers were of each kind, and the SHA-256 of the lines that were printed.
@@ -50,25 +49,6 @@ fn digest_items(alloc: Global, player: &mut Player, items: &[Item]) -> Result<Di
     })
 }
 
-/// Plays the trace of this boot, with these fills and items.
-fn digest_booted(
-    alloc: Global,
-    natives: &Natives,
-    boot: Boot,
-    fills: &[Fill],
-    items: &[Item],
-) -> Result<Digested, Stop>
-    requires { IsSound (uuids_of (entries natives.now)) (trace_of boot fills.now items.now) }
-    ensures told { IfOk result (IsDigested (entries natives.now) (trace_of boot fills.now items.now)) }
-    ensures full { result ≡ Err Stop.Full → IsSome (refused_in (entries natives.now) (trace_of boot fills.now items.now)) }
-    ensures failed { result ≡ Err Stop.Failed → ⊥ }
-{
-    let Ok(mut player) = Player::booted(alloc, boot, natives, fills) else {
-        return Err(Stop::Memory);
-    };
-    digest_items(alloc, &mut player, items)
-}
-
 /// Plays a trace that has a boot, up to a refused entry or want of memory.
 pub fn digest_play(alloc: Global, natives: &Natives, trace: Trace) -> Result<Digested, Stop>
     requires sound { IsSound (uuids_of (entries natives.now)) trace }
@@ -79,5 +59,8 @@ pub fn digest_play(alloc: Global, natives: &Natives, trace: Trace) -> Result<Dig
 {
     let Trace { boot, fills, items } = trace;
     let Some(boot) = boot else { unreachable!() };
-    digest_booted(alloc, natives, boot, fills.as_slice(), items.as_slice())
+    let Ok(mut player) = Player::booted(alloc, boot, natives, fills.as_slice()) else {
+        return Err(Stop::Memory);
+    };
+    digest_items(alloc, &mut player, items.as_slice())
 }
