@@ -1,12 +1,12 @@
 -- What holds of each entry of a map, and how many there are, after a change.
-use Rattle.std.proofs.Common.{◌≡◌, ℕ, zero, suc, ◌+◌, ◌<◌, ◌≤◌, Bool, true, false, not, cond, List, [], ◌∷◌, length, get_or, set, Option, Some, None, IsSome, refl, sym, ap, ◌∙◌, arith}
+use Rattle.std.proofs.Common.{◌≡◌, ℕ, suc, ◌+◌, ◌<◌, ◌≤◌, Bool, true, false, not, cond, List, [], ◌∷◌, length, get_or, set, Some, None, refl, sym, ap, ◌∙◌, arith}
 use Rattle.std.specs.List.{All, filter}
 use Rattle.std.specs.Ordering.{nat_cmp, eq_by_cmp}
 use Rattle.std.specs.declared.cmp.Ordering.TheVariants.{Less, Equal, Greater}
 use Rattle.std.specs.FinMap.Entries as Entries
 use Rattle.std.proofs.lemmas.Bool.Decides.{nat_tests}
 use Rattle.std.proofs.lemmas.List.Elements.{All-cons, All-filter, All-head, All-nil, All-tail}
-use Rattle.base.specs.NumberMap.{NumberMap, get, insert, remove, IsRising, IsRising-insert}
+use Rattle.base.specs.NumberMap.{NumberMap, get, insert, remove}
 use Rattle.base.specs.Places.{IsAt}
 
 -- ---- at the place of a number
@@ -14,10 +14,6 @@ use Rattle.base.specs.Places.{IsAt}
 -- the entry at the place has the number
 pub number_at : {X : Type 0} (m : NumberMap X) (k i : ℕ) (entry : ℕ × X) → IsAt X m k i → entry ≡ get_or m i entry → entry.0 ≡ k
 number_at {X} m k i entry at is = ap (λ (e : ℕ × X). e.0) is ∙ at.numbered entry
-
--- and its value
-pub value_at : {X : Type 0} (m : NumberMap X) (k i : ℕ) (entry : ℕ × X) → IsAt X m k i → entry ≡ get_or m i entry → get m k ≡ Some entry.1
-value_at {X} m k i entry at is = at.value entry ∙ ap (λ (e : ℕ × X). Some e.1) (sym is)
 
 -- another value there is the map with it
 pub changed_at : {X : Type 0} (m : NumberMap X) (k i : ℕ) (entry : ℕ × X) (v : X) → IsAt X m k i → entry ≡ get_or m i entry →

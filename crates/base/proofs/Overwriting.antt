@@ -4,7 +4,7 @@ use Rattle.std.proofs.Common.{◌≡◌, ℕ, suc, ◌+◌, ◌-◌, ◌<◌, �
 use Rattle.std.specs.Prelude.{if◌then◌else◌, nat_le}
 use Rattle.std.proofs.Math.Seq.{set-append_seam}
 use Rattle.std.proofs.lemmas.Bool.{leb-true}
-use Rattle.std.proofs.lemmas.List.{length-set, length-take, take-append-drop, take_at, drop_at, set_split, set-append_left, set-append_right, drop_more, take_more, drop-take, take-take}
+use Rattle.std.proofs.lemmas.List.{length-set, length-take, take-append-drop, take_at, drop_at, set_split, set-append_left, set-append_right, drop_more, take_more}
 use Rattle.base.specs.Bytes.{has_bytes, overwritten, written}
 
 length-front : (xs : List ℕ) (place count : ℕ) → place + count ≤ length xs → length (take place xs) ≡ place
@@ -35,28 +35,6 @@ pub before-overwritten : (xs : List ℕ) (place : ℕ) (new : List ℕ) → plac
 before-overwritten xs place new le =
     ap (take place) (append_assoc (take place xs) new (drop (place + length new) xs))
     ∙ take_at (take place xs) (new ++ drop (place + length new) xs) place (length-front xs place (length new) le)
-
--- a part behind it, and one before it, stay
-pub part_behind-overwritten : (xs : List ℕ) (place : ℕ) (new : List ℕ) (at : ℕ) → place + length new ≤ length xs → place + length new ≤ at
-    → drop at (overwritten xs place new) ≡ drop at xs
-part_behind-overwritten xs place new at le behind =
-    let more = at - (place + length new) in
-    let there : place + length new + more ≡ at = omega arith in
-    ap (λ (k : ℕ). drop k (overwritten xs place new)) (sym there)
-    ∙ sym (drop-drop more (place + length new) (overwritten xs place new))
-    ∙ ap (drop more) (behind-overwritten xs place new le)
-    ∙ drop-drop more (place + length new) xs
-    ∙ ap (λ (k : ℕ). drop k xs) there
-
-pub part_before-overwritten : (xs : List ℕ) (place : ℕ) (new : List ℕ) (at count : ℕ) → place + length new ≤ length xs → at + count ≤ place
-    → take count (drop at (overwritten xs place new)) ≡ take count (drop at xs)
-part_before-overwritten xs place new at count le before =
-    let same : take (at + count) (overwritten xs place new) ≡ take (at + count) xs =
-    sym (take-take (at + count) place (overwritten xs place new) before)
-    ∙ ap (take (at + count)) (before-overwritten xs place new le)
-    ∙ take-take (at + count) place xs before
-    in
-    sym (drop-take at count (overwritten xs place new)) ∙ ap (drop at) same ∙ drop-take at count xs
 
 -- of two writes of as many bytes the last one counts
 pub overwritten-twice : (xs : List ℕ) (place : ℕ) (first new : List ℕ) → length first ≡ length new → place + length new ≤ length xs

@@ -1,25 +1,21 @@
 -- A line that is gathered part by part.
-use Rattle.std.proofs.Common.{◌≡◌, ℕ, ◌<◌, ◌≤◌, Bool, true, false, List, [], ◌∷◌, ◌++◌, length, Option, Some, None, take, drop, ◌+◌, ◌-◌, take-append-drop, refl, sym, ap, subst, ◌∙◌, append_assoc, append-nil, inl, inr, arith, eqb}
+use Rattle.std.proofs.Common.{◌≡◌, ℕ, ◌≤◌, Bool, true, false, List, [], ◌∷◌, ◌++◌, length, Option, Some, None, take, drop, ◌+◌, ◌-◌, take-append-drop, refl, sym, ap, subst, ◌∙◌, append_assoc, append-nil, inl, inr, arith, eqb}
 use Rattle.std.specs.Io.KnownBytes.{prepend_known}
 use Rattle.std.proofs.lemmas.Bool.{eqb-true}
 use Rattle.std.proofs.lemmas.List.{drop-drop, drop-take, length-take, take_all}
 use Rattle.std.proofs.Math.Seq.{take-append-add}
-use Rattle.std.proofs.lemmas.List.Elements.{All-append, All-nil}
-use Rattle.std.specs.Io.KnownBytes.{Consumes, IsAtEnd, Keeps}
-use Rattle.std.proofs.KnownBytes.{Consumes-kept, Consumes-nil, Consumes-trans}
+use Rattle.std.proofs.lemmas.List.Elements.{All-append}
+use Rattle.std.specs.Io.KnownBytes.{Consumes, IsAtEnd}
+use Rattle.std.proofs.KnownBytes.{Consumes-trans}
 use Rattle.line_port.specs.declared.line_reader.Part.{Part}
 use Rattle.line_port.specs.declared.line_reader.Part.TheVariants as part
 use Rattle.line_port.specs.declared.port.Heard.{Heard}
 use Rattle.line_port.specs.declared.port.Heard.TheVariants as heard
-use Rattle.line_port.specs.Gathering.{Gathers, IsGathered, IsSoFar, IsTaken, MOST, TakesLine, TakesPart}
+use Rattle.line_port.specs.Gathering.{Gathers, IsGathered, IsSoFar, IsTaken, TakesLine, TakesPart}
 use Rattle.text_lines.specs.Lines.{IsCutAt, Lacks}
 
 abbrev is_other : ℕ → Type 0
 is_other b = eqb b 10 ≡ false
-
--- before the first part
-pub so_far-first : (left : Option (List ℕ)) → IsSoFar left left false []
-so_far-first left = record { text = []; lacks = All-nil is_other; consumed = Consumes-nil left; gathered = (refl, omega arith) }
 
 -- a part more, with no line feed
 pub so_far-more : (a b c : Option (List ℕ)) (was_long is_long : Bool) (old new : List ℕ)
@@ -154,33 +150,6 @@ taken-pending remaining chunk at end count taken was_long is_long old new in_ord
       (take (end - (at + count)) (drop (at + count) chunk)) (pending-split chunk at end count in_order few);
   took = took;
   ended = λ e. absurd (some e);
-}
-
--- nothing is taken where nothing is left
-pub none-taken : (before after : Option (List ℕ)) (is_long : Bool) (line : List ℕ) → Keeps before after → IsAtEnd after
-    → TakesPart part.None before after is_long line is_long line
-none-taken before after is_long line kept ended = record {
-  bytes = [];
-  consumed = Consumes-kept before before after [] (Consumes-nil before) kept;
-  took = record {
-    text = [];
-    lacks = All-nil is_other;
-    bytes_are = refl;
-    gathers = λ text gathered. subst (IsGathered is_long line) (sym (append-nil text)) gathered;
-  };
-  ended = λ e. ended;
-}
-
--- what is taken behind a read that gave bytes
-pub kept-taken : (before between after : Option (List ℕ)) (taken : Part) (was_long is_long : Bool) (old new : List ℕ)
-    → Keeps before between → TakesPart taken between after was_long old is_long new
-    → TakesPart taken before after was_long old is_long new
-kept-taken before between after taken was_long is_long old new kept takes = record {
-  bytes = takes.bytes;
-  consumed = Consumes-trans before between after [] takes.bytes
-      (Consumes-kept before before between [] (Consumes-nil before) kept) takes.consumed;
-  took = takes.took;
-  ended = takes.ended;
 }
 
 -- where a whole line was pending, no part comes before the last one

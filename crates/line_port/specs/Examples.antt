@@ -1,8 +1,8 @@
 -- The definitions of this crate at small values.
-use Rattle.std.specs.Prelude.{◌≡◌, ℕ, List, [], ◌∷◌, ◌++◌, codes, length, false, Option, Some, None}
+use Rattle.std.specs.Prelude.{◌≡◌, ℕ, List, [], ◌∷◌, ◌++◌, codes, length, false, Some, None}
 use Rattle.line_port.specs.Finish.{finish_of_heard, finish_of_said}
 use Rattle.line_port.specs.Gathering.{IsGathered, MOST, TakesLine}
-use Rattle.line_port.specs.History.{Adds, Event, Hears, Line, Long, Says, heard_events}
+use Rattle.line_port.specs.History.{Adds, Hears, Line, Long, Says, heard_events}
 use Rattle.line_port.specs.declared.finish.Finish.TheVariants as finish
 use Rattle.line_port.specs.declared.gathering.TheConstants.{LONGEST_LINE}
 use Rattle.line_port.specs.declared.port.Heard.TheVariants as heard

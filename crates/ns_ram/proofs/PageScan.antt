@@ -1,5 +1,5 @@
 -- The words of a list, scanned one by one up to the first that is no page.
-use Rattle.std.proofs.Common.{◌≡◌, ℕ, suc, ◌+◌, ◌-◌, ◌*◌, ◌/◌, ◌<◌, ◌≤◌, true, false, List, [], ◌∷◌, ◌++◌, length, take, drop, Option, Some, None, refl, sym, ◌∙◌, ap, arith, append_assoc, append-nil, length-append, cond}
+use Rattle.std.proofs.Common.{◌≡◌, ℕ, suc, ◌+◌, ◌-◌, ◌*◌, ◌/◌, ◌<◌, ◌≤◌, true, false, List, [], ◌∷◌, ◌++◌, length, take, drop, Option, Some, None, refl, sym, ◌∙◌, ap, arith, append_assoc, length-append, cond}
 use Rattle.std.proofs.lemmas.List.{drop-drop, take-take, take-append-drop, length-drop}
 use Rattle.std.specs.Option.{option_map}
 use Rattle.std.specs.Int.{from_le_bytes, w64}
@@ -20,16 +20,6 @@ rest_of bytes count i = up_to_failing is_page (words_of (count - i) (drop (8 * i
 pub record Scanned (bytes : List ℕ) (count i : ℕ) (got : List ℕ) : Type 0 where
   pub whole : up_to_failing is_page (words_of count bytes) count ≡ option_map (λ more. got ++ more) (rest_of bytes count i)
   pub many : length got ≡ i
-
-same : (o : Option (List ℕ)) → o ≡ option_map (λ more. [] ++ more) o
-same None = refl
-same (Some more) = refl
-
-pub Scanned-none : (bytes : List ℕ) (count : ℕ) → Scanned bytes count 0 []
-Scanned-none bytes count =
-    let n : count - 0 ≡ count = omega arith in
-    let m : 8 * 0 ≡ 0 = omega arith in
-    record { whole = rw (m, n) (same (up_to_failing is_page (words_of count bytes) count)); many = refl }
 
 -- the first of them, and the others
 rest_of-next : (bytes : List ℕ) (count i w : ℕ) → i < count → w ≡ from_le_bytes w64 (take 8 (drop (8 * i) bytes)) →
@@ -55,11 +45,6 @@ pub Scanned-fails : (bytes : List ℕ) (count i w : ℕ) (got : List ℕ) → Sc
     w ≡ from_le_bytes w64 (take 8 (drop (8 * i) bytes)) → is_page w ≡ false →
     up_to_failing is_page (words_of count bytes) count ≡ Some (got ++ w ∷ [])
 Scanned-fails bytes count i w got s h e fails = s.whole ∙ rw (rest_of-next bytes count i w h e, fails) refl
-
-pub Scanned-all : (bytes : List ℕ) (count : ℕ) (got : List ℕ) → Scanned bytes count count got →
-    up_to_failing is_page (words_of count bytes) count ≡ Some got
-Scanned-all bytes count got s =
-    let n : count - count ≡ 0 = omega arith in s.whole ∙ rw (n, append-nil got) refl
 
 -- a word of a back part of the bytes, up to their end
 pub word_from : (bytes : List ℕ) (at w : ℕ) → at + 8 ≤ length bytes →

@@ -127,10 +127,6 @@ pub record Walked (lane : List ℕ) (chain count : ℕ) (before : List Read) (li
   pub more : length found < count
   pub added : AppendsReads lane before reads
 
-pub Walked-none : (lane : List ℕ) (chain count : ℕ) (before : List Read) → 0 < count → Walked lane chain count before chain [] before
-Walked-none lane chain count before h =
-    let left : count - 0 ≡ count = omega arith in record { whole = rw left refl; more = h; added = AppendsReads-none lane before }
-
 pub Walked-bad_list : (lane : List ℕ) (chain count : ℕ) (before : List Read) (list : ℕ) (found : List ℕ) (reads : List Read) →
     Walked lane chain count before list found reads → is_page list ≡ false →
     over_lane (walk chain count) lane before ≡ Some (Err (length found), reads)

@@ -1,14 +1,12 @@
 -- Where a request is written.
 use Rattle.std.proofs.Common.{◌≡◌, ℕ, ◌≤◌, Bool, true, false, nat_eq, List, [], ◌∷◌, Option, Some, None, IsTrue, IsSome, unwrap_or, length, refl, sym, subst, inl, inr, arith}
 use Rattle.std.specs.List.{AllByRecursion}
-use Rattle.std.proofs.lemmas.Bool.{eqb-true}
 use Rattle.msg_args.specs.Spelling.{spelling}
-use Rattle.ns_ram.specs.Lane.{bytes_put}
-use Rattle.ns_ram.specs.Writes.{Write, lane_after}
+use Rattle.ns_ram.specs.Writes.{Write}
 use Rattle.rpc_msgs.specs.declared.rpc.Rpc.{Rpc}
 use Rattle.rpc_msgs.specs.declared.rpc.Rpc.TheVariants.{Time, Sleep, Wake, Suspend, FsOpen, FsCreate, FsClose, FsRead, FsWrite, FsRemove}
 use Rattle.rpc_msgs.specs.Place.{IsWithin, IsWithinPlaces}
-use Rattle.rpc_msgs.specs.Request.{IsPayloadOf, has_payload, payload_at, payload_writes, request_arg, request_writes}
+use Rattle.rpc_msgs.specs.Request.{IsPayloadOf, has_payload, payload_writes, request_arg, request_writes}
 
 pub length-spelling : (buffer cookie : ℕ) (rpc : Rpc) → length (spelling (request_arg buffer cookie rpc)) ≤ 128
 length-spelling buffer cookie Time = omega arith
@@ -64,14 +62,3 @@ pub request_writes-within : (at : ℕ) (buffer : Option (ℕ × ℕ)) (rpc : Rpc
 request_writes-within at buffer rpc payload few is placed =
     let there : ℕ × ℕ = unwrap_or buffer (0, 0) in
     (argument-within at buffer _ (omega arith, omega (arith, length-spelling there.0 there.1 rpc)), behind-within at buffer rpc payload few is placed)
-
--- a payload is one write, and an empty one none
-pub payload_written : (lane : List ℕ) (buffer : ℕ) (payload : List ℕ) → nat_eq (length payload) 0 ≡ false →
-    lane_after lane (payload_writes buffer payload) ≡ bytes_put lane (payload_at buffer) payload
-payload_written lane buffer [] some = absurd cc
-payload_written lane buffer (byte ∷ bytes) some = refl
-
-pub nothing_written : (lane : List ℕ) (buffer : ℕ) (payload : List ℕ) → nat_eq (length payload) 0 ≡ true →
-    lane_after lane (payload_writes buffer payload) ≡ lane
-nothing_written lane buffer [] none = refl
-nothing_written lane buffer (byte ∷ bytes) none = let no_byte : length (byte ∷ bytes) ≡ 0 = eqb-true _ _ none in absurd (omega arith)

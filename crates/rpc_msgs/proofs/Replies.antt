@@ -3,8 +3,7 @@ use Rattle.std.proofs.Common.{◌≡◌, ℕ, Bool, true, false, cond, nat_le, L
 use Rattle.std.proofs.lemmas.Option.{option_and_then_some}
 use Rattle.std.specs.Int.{from_le_bytes, w32, w64}
 use Rattle.ns_ram.specs.declared.read.Read.{Read}
-use Rattle.ns_ram.specs.Reader.{Reader, done, want_bytes, want_words, ◌>>=◌, take_bytes, over_reads, over_lane, next_bytes, next_words, reading, if_used_up}
-use Rattle.ns_ram.proofs.ReaderLaws.{over_lane-reading}
+use Rattle.ns_ram.specs.Reader.{Reader, done, want_bytes, want_words, ◌>>=◌, take_bytes, over_reads, next_bytes, next_words, reading, if_used_up}
 use Rattle.ns_ram.proofs.ReaderSteps.{next_bytes-some}
 use Rattle.rpc_msgs.specs.declared.rpc.Rpc.{Rpc}
 use Rattle.rpc_msgs.specs.declared.rpc.Rpc.TheVariants.{Time, Sleep, Wake, Suspend, FsOpen, FsCreate, FsClose, FsRead, FsWrite, FsRemove}
@@ -71,10 +70,3 @@ readings-replies at buffer rpc reads reply e =
     (λ (end : RpcReply × List Read) there ended.
     let given = over_reads-gives (IsReplyTo rpc) (reply_reader at buffer rpc) reads end.1 end.0 (reply_reader-gives at buffer rpc) there in
     rw (used_up-value end reply ended) at given)
-
--- so what it makes of a lane is one
-pub over_lane-reply : (at : ℕ) (buffer : Option ℕ) (rpc : Rpc) (lane : List ℕ) (reads : List Read) (reply : RpcReply) →
-    over_lane (reply_reader at buffer rpc) lane [] ≡ Some (reply, reads) → IsReplyTo rpc reply
-over_lane-reply at buffer rpc lane reads reply e =
-    let read = (over_lane-reading (reply_reader at buffer rpc) lane reads reply).0 e in
-    readings-replies at buffer rpc reads reply read.0

@@ -1,4 +1,3 @@
-pub mod Answering
 pub mod Arguments
 pub mod Candidates
 pub mod Comparing

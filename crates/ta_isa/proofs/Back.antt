@@ -1,5 +1,5 @@
 -- Bytes without a fault spell the image that they are read as, and it is valid.
-use Rattle.std.proofs.Common.{◌≡◌, ℕ, zero, suc, ◌+◌, ◌*◌, ◌-◌, ◌/◌, ◌≤◌, true, false, eqb, List, [], ◌∷◌, ◌++◌, length, drop, map, Option, Some, None, Result, inl, inr, refl, sym, ap, subst, ◌∙◌, arith, length-drop}
+use Rattle.std.proofs.Common.{◌≡◌, ℕ, zero, suc, ◌+◌, ◌*◌, ◌-◌, ◌/◌, ◌≤◌, true, false, eqb, List, ◌++◌, length, drop, map, Option, Some, None, Result, inl, inr, refl, sym, ap, subst, ◌∙◌, arith, length-drop}
 use Rattle.std.specs.Prelude.{nat_eq, not, position, nat_le, IfOk}
 use Rattle.std.specs.List.{flat_map, range_with_len, starts_with}
 use Rattle.std.specs.Option.{option_map}
@@ -27,10 +27,6 @@ instructions-back bytes a (suc n) fits len =
     let next : drop (36 + 8 * (a + 1)) bytes ≡ drop 8 (drop (36 + 8 * a) bytes) = ap (λ (k : ℕ). drop k bytes) (omega arith) ∙ sym (drop-drop 8 (36 + 8 * a) bytes) in
     ap (λ (ys : List ℕ). instruction (instruction_at bytes a) ++ ys) (rest ∙ next)
     ∙ instruction-front (drop (36 + 8 * a) bytes) (IsBytes-drop (36 + 8 * a) bytes fits) (omega (arith, length-drop (36 + 8 * a) bytes))
-
--- the parts of a spelling, one behind the other
-parts : (f p n a b c d e : ℕ) (rest : List ℕ) → magic_bytes ++ word f ++ word p ++ word n ++ flat_map word (a ∷ b ∷ c ∷ d ∷ e ∷ []) ++ rest ≡ magic_bytes ++ (word f ++ (word p ++ (word n ++ (word a ++ (word b ++ (word c ++ (word d ++ (word e ++ rest))))))))
-parts f p n a b c d e rest = refl
 
 above_zero : (n : ℕ) → eqb n 0 ≡ false → 1 ≤ n
 above_zero zero e = absurd cc

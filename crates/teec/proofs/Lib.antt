@@ -6,5 +6,4 @@ pub mod Going
 pub mod Sending
 pub mod SentParams
 pub mod Stages
-pub mod Stopping
 pub mod Trying

@@ -68,8 +68,3 @@ pub tries_left : (limits : Limits) (refused : ℕ) → suc refused < limits.retr
 tries_left limits refused less =
     let other : eqb (suc refused) limits.retries ≡ false = grind (arith, nat_tests) in
     ap (λ b. cond b (Failed (Retried limits.retries)) (Calls (suc refused))) other
-
-pub last_try : (limits : Limits) (refused : ℕ) → suc refused ≡ limits.retries → after_refusal limits refused ≡ Failed (Retried limits.retries)
-last_try limits refused same =
-    let all : eqb (suc refused) limits.retries ≡ true = grind (arith, nat_tests) in
-    ap (λ b. cond b (Failed (Retried limits.retries)) (Calls (suc refused))) all

@@ -1,19 +1,18 @@
 -- A call that is made as often as no thread is free.
-use Rattle.std.proofs.Common.{◌≡◌, ℕ, zero, suc, ◌+◌, ◌<◌, ◌≤◌, Bool, List, Some, refl, sym, ap, ◌∙◌, subst, arith, add-one}
+use Rattle.std.proofs.Common.{◌≡◌, ℕ, zero, suc, ◌+◌, ◌<◌, Bool, List, Some, refl, sym, ap, ◌∙◌, subst, add-one}
 use Rattle.smc_abi.specs.declared.regs.Regs.{Regs}
 use Rattle.smc_port.specs.Smc.{Makes, Smc}
 use Rattle.teec.specs.declared.answer.Said.{Said}
 use Rattle.teec.specs.declared.answer.Said.TheVariants.{NoThread}
 use Rattle.teec.specs.declared.fault.TeecFault.{TeecFault}
-use Rattle.teec.specs.declared.fault.TeecFault.TheVariants.{Retried}
 use Rattle.teec.specs.declared.limits.Limits.{Limits}
 use Rattle.teec.specs.Answers.{call_with_arg, said}
 use Rattle.teec.specs.Calls.{Call}
 use Rattle.teec.specs.Places.{argument_at}
-use Rattle.teec.specs.Rounds.{Calls, Failed, Stage, after_call, after_refusal, after_resume, regs_at}
+use Rattle.teec.specs.Rounds.{Calls, Stage, after_call, after_refusal, after_resume, regs_at}
 use Rattle.teec.specs.Runs.{IsStop, Prepares, Scene, Stopped, Went, moment}
 use Rattle.teec.proofs.Going.{stopped_at, stopped_then, went_one, went_then}
-use Rattle.teec.proofs.Stages.{first_taken, last_try, tries_left}
+use Rattle.teec.proofs.Stages.{first_taken, tries_left}
 
 -- a call that stands written in this scene: how it was made so often and no thread was free, and what stands now
 abbrev pub HasTried : Limits → Call → Scene → Scene → List Smc → ℕ → Scene → List Smc → Type 0
@@ -71,12 +70,3 @@ tried_stopped limits call old start start_made (suc refused) now now_made new ne
     stopped_then limits call (moment old.ram start_made old.storage (Calls 0)) (moment now.ram now_made now.storage (Calls (suc refused))) new new_made has_room fault before
     (stopped_at limits call (moment now.ram now_made now.storage (Calls (suc refused))) new new_made has_room fault (sym unmade) (stops (Calls (suc refused)) refl)
     (λ spent. unchanged))
-
--- no thread was free, as often as the client tries
-pub tried_enough : (limits : Limits) (call : Call) (old start : Scene) (start_made : List Smc) (refused : ℕ) (now : Scene) (now_made : List Smc) (has_room : Regs → Bool)
-    → refused ≡ limits.retries → 1 ≤ limits.retries → HasTried limits call old start start_made refused now now_made
-    → Stopped limits call (moment old.ram start_made old.storage (Calls 0)) now now_made has_room (Retried limits.retries)
-tried_enough limits call old start start_made zero now now_made has_room all one tried = absurd (omega arith)
-tried_enough limits call old start start_made (suc refused) now now_made has_room all one tried =
-    let before = subst (λ (stage : Stage). Went limits call (moment old.ram start_made old.storage (Calls 0)) (moment now.ram now_made now.storage stage)) (last_try limits refused all) tried in
-    record { last = moment now.ram now_made now.storage (Failed (Retried limits.retries)); went = before; all_made = refl; stop = refl; prepared = λ wrong. absurd cc }

@@ -1,4 +1,4 @@
-use Rattle.std.proofs.Common.{◌≤◌, length, length-set, arith}
+use Rattle.std.proofs.Common.{length-set, arith}
 use Rattle.base.specs.NumberMap.{IsRising-insert}
 use Rattle.base.specs.Places.{IsAt}
 use Rattle.base.proofs.MapLemmas.{changed_at}

@@ -1,6 +1,6 @@
 use Rattle.std.proofs.Common.{◌≡◌, ◌<◌, ◌++◌, ◌∷◌, take, drop, length, length-append, length-drop, arith}
 use Rattle.std.proofs.lemmas.List.{length-take-le}
-use Rattle.base.specs.NumberMap.{NumberMap, IsRising-insert}
+use Rattle.base.specs.NumberMap.{IsRising-insert}
 use Rattle.base.specs.Places.{IsBefore}
 use Rattle.base.proofs.number_table.NumberTable.insert.Goals as goal
 
