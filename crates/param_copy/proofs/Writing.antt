@@ -1,7 +1,7 @@
 -- Writes to a lane, one after the other.
-use Rattle.std.proofs.Common.{◌≡◌, ℕ, zero, suc, ◌+◌, ◌<◌, ◌≤◌, Bool, true, false, nat_le, List, [], ◌∷◌, length, take, drop, get_or, Some, refl, sym, ◌∙◌, cond, arith}
+use Rattle.std.proofs.Common.{◌≡◌, ℕ, zero, suc, ◌+◌, ◌<◌, ◌≤◌, Bool, true, false, nat_le, List, [], ◌∷◌, length, take, drop, get_or, Some, refl, ◌∙◌, cond, arith}
 use Rattle.std.proofs.lemmas.List.{length-take}
-use Rattle.std.proofs.Math.Seq.{drop-cons, drop-length}
+use Rattle.std.proofs.Math.Seq.{drop-cons}
 use Rattle.std.specs.Prelude.{slice_get}
 use Rattle.std.specs.List.{AllByRecursion}
 use Rattle.msg_args.specs.Layout.{param_place, q_at}
@@ -24,25 +24,12 @@ pub record PiecesPut (pieces : List Piece) (bytes before : List ℕ) (index : �
   pub whole : lane_after before (bytes_to pieces bytes) ≡ lane_after lane (bytes_to (drop index pieces) left)
   pub in_ram : AllByRecursion IsPieceOfRam (drop index pieces)
 
-pub PiecesPut-none : (pieces : List Piece) (bytes before : List ℕ) → AllByRecursion IsPieceOfRam pieces → PiecesPut pieces bytes before 0 bytes before
-PiecesPut-none pieces bytes before h = record { whole = refl; in_ram = h }
-
 -- ---- one parameter after the other
 
 -- so far the parameters before this index are written
 pub record PlacesPut (arg : ℕ) (places : List Place) (params : List GpParam) (before : List ℕ) (index : ℕ) (lane : List ℕ) : Type 0 where
   pub whole : lane_after before (writes_of arg places params) ≡ lane_after lane (writes_of arg (drop index places) (drop index params))
   pub writable : AllByRecursion (IsWritable arg) (drop index places)
-
-pub PlacesPut-none : (arg : ℕ) (places : List Place) (params : List GpParam) (before : List ℕ) → AllByRecursion (IsWritable arg) places →
-    PlacesPut arg places params before 0 before
-PlacesPut-none arg places params before h = record { whole = refl; writable = h }
-
-pub PlacesPut-writable : (arg : ℕ) (places : List Place) (params : List GpParam) (before : List ℕ) (index : ℕ) (lane : List ℕ) (place d : Place) →
-    PlacesPut arg places params before index lane → index < length places → place ≡ get_or places index d → IsWritable arg place
-PlacesPut-writable arg places params before index lane place d p inside e =
-    let all : AllByRecursion (IsWritable arg) (get_or places index d ∷ drop (suc index) places) = rw (drop-cons places index d inside) at p.writable in
-    rw e all.0
 
 drop-slice_get : {A : Type 0} (xs : List A) (index : ℕ) (x : A) → slice_get xs index ≡ Some x → drop index xs ≡ x ∷ drop (suc index) xs
 drop-slice_get [] zero x e = absurd (cc)
@@ -63,10 +50,6 @@ PlacesPut-next arg places params before index lane place d param after p inside 
       whole = p.whole ∙ rw (here, there) (lane_after-append lane (param_writes arg place param) (writes_of arg (drop (suc index) places) (drop (suc index) params)));
       writable = all.1;
     }
-
-pub PlacesPut-all : (arg : ℕ) (places : List Place) (params : List GpParam) (before : List ℕ) (lane : List ℕ) →
-    PlacesPut arg places params before (length places) lane → lane ≡ lane_after before (writes_of arg places params)
-PlacesPut-all arg places params before lane p = sym (p.whole ∙ rw (drop-length places) refl)
 
 -- ---- where the writes lie
 

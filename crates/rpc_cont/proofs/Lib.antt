@@ -7,5 +7,4 @@ pub mod Runs
 pub mod Asking
 pub mod Pending
 pub mod Answered
-pub mod Beginning
 pub mod Shaped

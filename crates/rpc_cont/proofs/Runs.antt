@@ -1,5 +1,5 @@
 -- A call taken on by one run of its machine after the other.
-use Rattle.std.proofs.Common.{◌≡◌, ℕ, ◌+◌, ◌-◌, List, Option, Some, None, refl, ap, sym, subst, ◌∙◌, arith, add_assoc}
+use Rattle.std.proofs.Common.{◌≡◌, ℕ, ◌+◌, ◌-◌, List, Option, Some, None, refl, ap, sym, subst, ◌∙◌, add_assoc}
 use Rattle.std.specs.Prelude.{option_and_then, IsSomeAnd}
 use Rattle.std.specs.Option.{option_map}
 use Rattle.job_model.specs.Owner.{Owner}
@@ -12,7 +12,6 @@ use Rattle.rpc_cont.specs.Running.{HasReady, IsRun, IsRunning, IsStop, IsTurn}
 use Rattle.rpc_cont.specs.declared.cont.Cont.{Cont}
 use Rattle.job_model.specs.declared.entry_point.EntryPoint.{EntryPoint}
 use Rattle.rpc_cont.specs.declared.stop.ContStop.{ContStop}
-use Rattle.rpc_cont.specs.declared.stop.ContStop.TheVariants as stop
 use Rattle.ta_isa.specs.declared.image.Image.{Image}
 use Rattle.ta_step.specs.Machine.{state_of}
 use Rattle.ta_step.specs.Runs.{Ran, runs}
@@ -20,11 +19,6 @@ use Rattle.ta_step.specs.State.{State}
 use Rattle.ta_step.specs.declared.machine.Machine.{Machine as AnyMachine}
 
 -- ---- one turn of a job
-
--- what a turn has made of a grant
-abbrev Granted : Option Grant → ℕ → ℕ → Option (ℕ × Advance) → Type 0
-Granted grant n used None = Unit {0}
-Granted grant n used (Some turn) = grant ≡ grant_after turn.0 (n - turn.0) turn.1
 
 turn_after : (job : Job) (image : Image) (here : EntryPoint) (n : ℕ) (ran : Ran) (grant : Option Grant) (turn : ℕ × Advance) (o : Option Advance)
     → grant ≡ option_and_then (grant_after ran.steps (n - ran.steps)) o
@@ -126,21 +120,8 @@ later-later m n (Some (Stopped k why)) = ap (λ (i : ℕ). Some (Stopped i why))
 abbrev pub Rests : Option Grant → ℕ → Option Grant → Type 0
 Rests all used rest = all ≡ option_map (later used) rest
 
-pub rests-zero : (grant : Option Grant) → Rests grant 0 grant
-rests-zero None = refl
-rests-zero (Some (Left job)) = refl
-rests-zero (Some (Stopped n why)) = ap (λ (k : ℕ). Some (Stopped k why)) (omega arith)
-
 pub rests-more : (all middle rest : Option Grant) (m n : ℕ) → Rests all m middle → Rests middle n rest → Rests all (m + n) rest
 rests-more all middle rest m n first second = first ∙ ap (option_map (later m)) second ∙ later-later m n rest
-
--- a grant of which all steps are used
-pub run_over : {M : Type 0} (bytes : M → List ℕ) (owner : Owner) (image : Image) (cont : Cont M) (before steps : ℕ) (all : Option Grant)
-    → Rests all steps (run_for 0 (job_at bytes owner image cont)) → IsRunning bytes cont → cont.steps ≡ before + steps
-    → IsSomeAnd all (λ grant. IsRun bytes owner image cont before steps grant stop.Interrupted)
-run_over bytes owner image cont before steps all rests running used =
-    subst (λ (g : Option Grant). IsSomeAnd g (λ grant. IsRun bytes owner image cont before steps grant stop.Interrupted)) (sym rests)
-    (refl, refl, running, used)
 
 stopped_later : {M : Type 0} (bytes : M → List ℕ) (owner : Owner) (image : Image) (cont : Cont M) (before steps m used : ℕ) (answer : ContStop) (rest : Option Grant)
     → IsSomeAnd rest (IsStopped bytes owner image used cont answer) → cont.steps ≡ before + (m + used)

@@ -11,7 +11,7 @@ use Rattle.job_model.proofs.Ranges.{inside, is_range-fits, length-bytes_at}
 use Rattle.job_model.specs.Asking.{bytes_at}
 use Rattle.rpc_cont.specs.Spans.{rest_of}
 use Rattle.rpc_cont.proofs.Spans.{bytes_at-store, is_range-store, next_place, same_range, store-twice}
-use Rattle.ta_step.specs.Addresses.{is_inside, range_at, ranges, store, with_range}
+use Rattle.ta_step.specs.Addresses.{range_at, ranges, store, with_range}
 use Rattle.ta_step.specs.Bytes.{has_bytes, overwritten, written}
 use Rattle.ta_step.specs.State.{State}
 use Rattle.ta_step.specs.SystemCalls.{is_range}
@@ -79,19 +79,6 @@ written-part xs place count at new e within =
     ∙ sym (written-there xs place (overwritten part at new) there)
 
 -- ---- in a machine
-
--- a part of a span is all there
-pub is_inside-part : (s : State) (addr count at n : ℕ) → is_range s addr count ≡ true → 0 < n → at + n ≤ count → is_inside s (addr + at) n ≡ true
-is_inside-part s addr zero at n e some within = absurd (omega arith)
-is_inside-part s addr (suc count) at n e some within =
-    let fits = is_range-fits s addr (suc count) e in
-    let less : at < suc count = omega arith in
-    let xs = range_at s addr in
-    let there = leb-true (addr % 0x10000000 + suc count) (length xs) (inside s addr count e) in
-    let part : has_bytes xs (addr % 0x10000000 + at) n ≡ true = grind (arith, nat_tests, there) in
-    ap (λ (k : ℕ). has_bytes (slice_index_or (ranges s) k []) ((addr + at) % 0x10000000) n) (same_range addr (suc count) at fits less)
-    ∙ ap (λ (k : ℕ). has_bytes xs k n) (next_place addr (suc count) at fits less)
-    ∙ part
 
 pub bytes_at-part : (s : State) (addr count at n : ℕ) → is_range s addr count ≡ true → 0 < n → at + n ≤ count
     → take n (drop ((addr + at) % 0x10000000) (range_at s (addr + at))) ≡ take n (drop at (bytes_at s addr count))

@@ -1,8 +1,6 @@
 -- How a call begins on its instance.
 use Rattle.std.specs.Prelude.{◌≡◌, ℕ, Bool, false, List, [], Some, None}
 use Rattle.job_model.specs.Beginning.{OfImage, OfRelation, Beginning}
-use Rattle.job_model.specs.declared.entry_point.EntryPoint.{EntryPoint}
-use Rattle.job_model.specs.declared.entry_point.EntryPoint.TheVariants as entry
 use Rattle.rpc_cont.specs.Running.{IsIdle}
 use Rattle.rpc_cont.specs.declared.call_entry.CallEntry.{CallEntry}
 use Rattle.rpc_cont.specs.declared.cont.Cont.{Cont}

@@ -1,5 +1,5 @@
 -- Pieces of pages, one after the other: where they lie, and how many bytes they have.
-use Rattle.std.proofs.Common.{◌≡◌, ℕ, zero, suc, ◌+◌, ◌-◌, ◌*◌, ◌/◌, ◌%◌, ◌<◌, ◌≤◌, Bool, true, false, IsTrue, ◌&&◌, List, [], ◌∷◌, ◌++◌, Some, length, drop, take, get_or, min, sum_by, refl, sym, ◌∙◌, arith, append_assoc, append-nil, add-one, drop-cons, length-drop, inl, inr}
+use Rattle.std.proofs.Common.{◌≡◌, ℕ, zero, suc, ◌+◌, ◌-◌, ◌*◌, ◌/◌, ◌%◌, ◌<◌, ◌≤◌, Bool, true, false, IsTrue, ◌&&◌, List, [], ◌∷◌, ◌++◌, Some, length, drop, take, get_or, min, sum_by, refl, ◌∙◌, arith, append-nil, add-one, drop-cons, length-drop, inl, inr}
 use Rattle.std.proofs.lemmas.List.{take_all, drop_all}
 use Rattle.std.proofs.lemmas.List.Sums.{sum_by-cons}
 use Rattle.std.specs.Prelude.{slice_get}
@@ -84,31 +84,10 @@ Cut-none pages start size h =
     take_all (length pages - start / 4096) (drop (start / 4096) pages) (omega (arith, length-drop (start / 4096) pages)) in
     rw all record { whole = refl; offset_in = omega arith; good = good_behind (start / 4096) pages (truth _ h) }
 
-pub Cut-page : (pages : List ℕ) (start size : ℕ) (others : List ℕ) (index offset left : ℕ) (got : List Piece) (page d : ℕ) →
-    Cut pages start size others index offset left got → index < length others → page ≡ get_or others index d →
-    IsInRam page 4096
-Cut-page pages start size others index offset left got page d c h e =
-    is_page-inside page (rw (← e) at (good_at index others d c.good h))
-
 one_page : (page : ℕ) (pages : List ℕ) (offset left : ℕ) → 0 < left → pieces_at (page ∷ pages) offset left
     ≡ record { addr = page + offset; len = min left (4096 - offset) } ∷ pieces_at pages 0 (left - min left (4096 - offset))
 one_page page pages offset zero h = absurd (omega arith)
 one_page page pages offset (suc more) h = refl
-
-pub Cut-next : (pages : List ℕ) (start size : ℕ) (others : List ℕ) (index offset left : ℕ) (got : List Piece) (page d : ℕ) →
-    Cut pages start size others index offset left got → index < length others → page ≡ get_or others index d → 0 < left →
-    Cut pages start size others (index + 1) 0 (left - min left (4096 - offset)) (got ++ record { addr = page + offset; len = min left (4096 - offset) } ∷ [])
-Cut-next pages start size others index offset left got page d c h e some =
-    let first : drop index others ≡ page ∷ drop (index + 1) others = rw (add-one, e) (drop-cons others index d h) in
-    let len : ℕ = min left (4096 - offset) in
-    let piece : Piece = record { addr = page + offset; len = len } in
-    record {
-      whole = c.whole
-          ∙ rw (first, one_page page (drop (index + 1) others) offset left some)
-          (sym (append_assoc got (piece ∷ []) (pieces_at (drop (index + 1) others) 0 (left - len))));
-      offset_in = omega arith;
-      good = c.good;
-    }
 
 pub Cut-done : (pages : List ℕ) (start size : ℕ) (others : List ℕ) (index offset left : ℕ) (got : List Piece) →
     Cut pages start size others index offset left got → left ≡ 0 → pieces_from pages start size ≡ got

@@ -1,5 +1,5 @@
 -- Each change keeps what holds of each registry.
-use Rattle.std.proofs.Common.{◌≡◌, ℕ, zero, suc, ◌+◌, ◌*◌, ◌<◌, ◌≤◌, Bool, true, false, not, ◌&&◌, ◌||◌, ◌==◌, cond, List, [], ◌∷◌, ◌++◌, length, map, filter, get_or, take, drop, Option, Some, None, IsSome, IsNone, refl, sym, ◌∙◌, ap, arith, inl, inr, length-append, length-drop}
+use Rattle.std.proofs.Common.{◌≡◌, ℕ, zero, suc, ◌+◌, ◌*◌, ◌<◌, ◌≤◌, Bool, true, false, not, ◌&&◌, ◌||◌, ◌==◌, cond, List, [], ◌∷◌, ◌++◌, length, map, filter, Some, None, IsSome, refl, sym, ◌∙◌, ap, arith, inl, inr, length-append}
 use Rattle.std.proofs.lemmas.List.{length-map}
 use Rattle.std.specs.Ordering.{nat_cmp, eq_by_cmp}
 use Rattle.std.specs.List.{AllByRecursion, IsDistinct, list_any}
@@ -69,10 +69,6 @@ lowest_kept m (pin ∷ pins) k slot h e =
       | inl p ↦ let same : pin.cookie ≡ k = eqb-true pin.cookie k p in rw same at h.0.cookie
       | inr p ↦ lowest_kept m pins k slot h.1 (rw p at e)
     ]
-
-pub some_or_none : {X : Type 0} (o : Option X) → IsSome o → IsNone o → ⊥
-some_or_none None some none = absurd (cc)
-some_or_none (Some x) some none = absurd (cc)
 
 kept_without : (m : NumberMap PageBuffer) (k q : ℕ) → (q == k) ≡ false → IsSome (get m q) → IsSome (get (remove m k) q)
 kept_without m k q apart h =

@@ -1,4 +1,4 @@
-use Rattle.std.proofs.Common.{◌≡◌, ℕ, ◌<◌, ◌+◌, ◌-◌, length, Some, sym, ap, ◌∙◌, arith}
+use Rattle.std.proofs.Common.{◌≡◌, ℕ, ◌+◌, ◌-◌, Some, sym, ap, ◌∙◌, arith}
 use Rattle.std.specs.Prelude.{List, slice_get}
 use Rattle.std.specs.List.{All}
 use Rattle.std.specs.Option.{option_and_then}

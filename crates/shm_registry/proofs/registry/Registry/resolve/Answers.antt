@@ -1,4 +1,4 @@
-use Rattle.std.proofs.Common.{◌≡◌, ℕ, ◌<◌, length, Some, sym, arith}
+use Rattle.std.proofs.Common.{◌≡◌, ℕ, Some, sym, arith}
 use Rattle.std.specs.List.{All}
 use Rattle.base.specs.NumberMap.{NumberMap, get}
 use Rattle.base.proofs.MapLemmas.{All-get}
