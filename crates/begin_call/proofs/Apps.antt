@@ -1,5 +1,5 @@
 -- Applications by their UUIDs.
-use Rattle.std.proofs.Common.{◌≡◌, ℕ, ◌≤◌, Bool, true, false, cond, List, [], ◌∷◌, ◌++◌, map, Option, Some, refl, ap, subst, arith, lit≤}
+use Rattle.std.proofs.Common.{◌≡◌, ℕ, Bool, true, false, cond, List, [], ◌∷◌, ◌++◌, map, Option, Some, refl, ap, subst, arith}
 use Rattle.std.specs.List.{All, find}
 use Rattle.std.specs.Option.{option_map_or}
 use Rattle.std.specs.Str.{bytes_eq}
@@ -64,11 +64,6 @@ pub valid_app : (boot : Boot) (natives : List Native) (uuid : List ℕ) (app : A
     app_of (booted boot natives) uuid ≡ Some app → IsValidApp app
 valid_app boot natives uuid app is_boot found =
     valid_apps (λ (one : Application). bytes_eq (uuid_of one) uuid) boot.apps natives app is_boot.valid found
-
--- and has few pages
-pub few_pages : (app : Application) → IsValidApp app → pages_in app ≤ 64
-few_pages (OfImage app) valid = valid.most_pages
-few_pages (BuiltIn uuid relation) valid = lit≤ tt
 
 pub pages_found : (boot : Booted) (uuid : List ℕ) (app : Application) → app_of boot uuid ≡ Some app → pages_of boot uuid ≡ pages_in app
 pages_found boot uuid app found = ap (λ (app : Option Application). option_map_or pages_in app 0) found

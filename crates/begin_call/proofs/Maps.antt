@@ -16,9 +16,6 @@ both false b e = absurd (cc)
 same_number : (a : ℕ) → nat_cmp a a ≡ Equal
 same_number a = grind (arith, nat_tests)
 
-equal_numbers : (a b : ℕ) → nat_cmp a b ≡ Equal → a ≡ b
-equal_numbers a b equal = grind (arith, nat_tests)
-
 test_same : (a : ℕ) → eq_by_cmp nat_cmp a a ≡ true
 test_same a = grind (arith, nat_tests)
 

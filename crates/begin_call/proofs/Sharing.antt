@@ -53,9 +53,6 @@ shares_none m app none =
     none_if (is_single app) (find (λ (kept : ℕ × Instance). bytes_eq kept.1.uuid (uuid_of app)) (kept_as m))
     (first_seen m (uuid_of app) ∙ ap (option_map seen_entry) (none_least m (uuid_of app) none))
 
-pub shares_not : (m : NumberMap CodeInstance) (app : Application) → is_single app ≡ false → shared_instance (kept_as m) app ≡ None
-shares_not m app several = rw several refl
-
 -- ---- one is
 
 least_found : (m : NumberMap CodeInstance) (uuid : List ℕ) (number : ℕ) (o : Option (ℕ × CodeInstance)) → IsRising m → find (has_uuid uuid) m ≡ o →

@@ -1,19 +1,17 @@
 -- A call that starts on what it finds runs its job.
-use Rattle.std.proofs.Common.{◌≡◌, ℕ, ◌*◌, ◌≤◌, List, [], ◌∷◌, length, Option, Some, None, refl, sym, ap, ◌∙◌, arith}
+use Rattle.std.proofs.Common.{◌≡◌, ℕ, ◌*◌, ◌≤◌, List, [], length, Option, Some, None, refl, sym, ap, ◌∙◌, arith}
 use Rattle.base.specs.NumberMap.{NumberMap}
-use Rattle.job_model.specs.Beginning.{Beginning, OfImage, OfRelation, Program, begun_job, job_starting_at}
+use Rattle.job_model.specs.Beginning.{Beginning, begun_job}
 use Rattle.job_model.specs.Job.{Job, Nothing, idle_job}
 use Rattle.job_model.specs.declared.entry_point.EntryPoint.{EntryPoint}
-use Rattle.job_model.specs.declared.entry_point.EntryPoint.TheVariants.{Create, Open, Invoke, Close, Destroy}
 use Rattle.job_model.specs.Owner.{Owner, owner_of}
 use Rattle.tee_storage.specs.declared.handle.Handle.{Handle}
 use Rattle.kernel_model.specs.Application.{pages_in}
 use Rattle.rpc_cont.specs.Beginning.{beginning_on, held_uuid}
-use Rattle.rpc_cont.specs.Conts.{job_of, job_with, kept_memory, kept_params, uuid_of}
-use Rattle.rpc_cont.specs.declared.app.ContApp.{ContApp}
+use Rattle.rpc_cont.specs.Conts.{job_of, job_with, kept_memory, kept_params}
 use Rattle.rpc_cont.specs.declared.cont.Cont.{Cont}
 use Rattle.rpc_cont.specs.declared.held.Held.{Held}
-use Rattle.kernel_state.specs.Calls.{IsAppOf, bytes_of}
+use Rattle.kernel_state.specs.Calls.{bytes_of}
 use Rattle.kernel_state.specs.Setup.{application_of}
 use Rattle.kernel_state.specs.declared.setup.Application.{Application}
 use Rattle.kernel_state.specs.declared.setup.Application.TheVariants as app
@@ -27,30 +25,6 @@ use Rattle.kernel_model.specs.Application.{uuid_of as uuid_in}
 pub idle : (cont : Cont (List ℕ)) (owner : Owner) (objects : NumberMap Handle) → CanBegin cont →
     record (job_with Nothing owner cont) { objects = objects } ≡ idle_job owner cont.login cont.context objects (kept_params cont.params)
 idle cont owner objects can = rw (can.result, can.fresh.points) refl
-
--- a job stays of its application
-owner_at : (from : Beginning) (program : Option Program) (job : Job) (first : EntryPoint) (behind : List EntryPoint) →
-    (job_starting_at from program job first behind).owner ≡ job.owner
-owner_at from None job first behind = refl
-owner_at from (Some (OfImage image)) job first behind = refl
-owner_at from (Some (OfRelation relation)) job Create behind = refl
-owner_at from (Some (OfRelation relation)) job Open behind = refl
-owner_at from (Some (OfRelation relation)) job (Invoke func) behind = refl
-owner_at from (Some (OfRelation relation)) job Close behind = refl
-owner_at from (Some (OfRelation relation)) job Destroy behind = refl
-
-pub begun_owner : (from : Beginning) (job : Job) (points : List EntryPoint) → (begun_job from job points).owner ≡ job.owner
-begun_owner from job [] = refl
-begun_owner from job (first ∷ behind) = owner_at from from.program job first behind
-
-app_with : (app : Option (ContApp)) (uuid : List ℕ) → uuid_of app ≡ uuid → IsAppOf app (Some uuid)
-app_with None uuid is = tt
-app_with (Some app) uuid is = ap (λ (u : List ℕ). Some u) (sym is)
-
-pub app_begun : (cont : Cont (List ℕ)) (from : Beginning) (job : Job) (points : List EntryPoint) →
-    job_of bytes_of cont ≡ begun_job from job points → IsAppOf cont.app (Some job.owner.uuid)
-app_begun cont from job points begun =
-    app_with cont.app job.owner.uuid (ap (λ (owner : Owner). owner.uuid) (ap (λ (job : Job). job.owner) begun ∙ begun_owner from job points))
 
 -- the job of a call that begins on what it holds is the one on what it finds
 pub job_starts : (cont new : Cont (List ℕ)) (held : Held (List ℕ)) (from : Beginning) (uuid : List ℕ) (objects : NumberMap Handle) (points : List EntryPoint) →

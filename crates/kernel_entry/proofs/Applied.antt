@@ -39,7 +39,3 @@ in_session_taken c session app entered after cont begins there is =
 pub found_there : (c : model.NewCall) (session : Session) (app : Application) (there : IsInSession c session app) →
     get c.tables.instances session.instance ≡ Some there.instance
 found_there c session app there = (named_is c (session, there.instance) there.named).instance
-
-pub kept_there : (c : model.NewCall) (session : Session) (app : Application) → IsInSession c session app →
-    get c.tables.sessions c.head.session ≡ Some session
-kept_there c session app there = (named_is c (session, there.instance) there.named).kept

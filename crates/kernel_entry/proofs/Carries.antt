@@ -7,7 +7,7 @@ use Rattle.rpc_cont.specs.declared.phase.Phase.{Phase}
 use Rattle.rpc_cont.specs.declared.phase.Phase.TheVariants as phase
 use Rattle.kernel_state.specs.Calls.{IsCall, IsInPhase}
 use Rattle.kernel_state.specs.Work.{IsCarriedAs}
-use Rattle.kernel_state.specs.declared.carried.Carried.TheVariants.{Resting, Running}
+use Rattle.kernel_state.specs.declared.carried.Carried.TheVariants.{Running}
 
 other_phase : (a b : Phase) (cont : Cont (List ℕ)) → cont.phase ≡ a → cont.phase ≡ b → a ≡ b
 other_phase a b cont one other = sym one ∙ other
@@ -22,14 +22,3 @@ runs_alone (Ends result params told wakes) cont call runs is so = let never = ot
 pub carried_running : (cont : Box (Cont (List ℕ))) (call : PendingCall) → cont.value.phase ≡ phase.Runs → IsCall cont.value call →
     IsCarriedAs (Running cont) call call.phase
 carried_running cont call runs is = runs_alone call.phase cont call runs is.phase is
-
-rests_alone : (of : CallPhase) (cont : Box (Cont (List ℕ))) (call : PendingCall) → (cont.value.phase ≡ phase.Runs → ⊥) → IsInPhase cont.value of →
-    IsCall cont.value call → IsCarriedAs (Resting cont) call of
-rests_alone (Runs job) cont call rests is so = absurd (rests is.1.phase)
-rests_alone (Asks job wanted payload) cont call rests is so = so
-rests_alone (Waits params) cont call rests is so = so
-rests_alone (Ends result params told wakes) cont call rests is so = so
-
-pub carried_resting : (cont : Box (Cont (List ℕ))) (call : PendingCall) → (cont.value.phase ≡ phase.Runs → ⊥) → IsCall cont.value call →
-    IsCarriedAs (Resting cont) call call.phase
-carried_resting cont call rests is = rests_alone call.phase cont call rests is.phase is

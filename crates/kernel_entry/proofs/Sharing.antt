@@ -18,10 +18,6 @@ use Rattle.kernel_entry.specs.Applying.{CanShare, Came, HasCome, began, open_com
 abbrev pub IsKept : NumberMap Instance → Option (ℕ × Instance) → Type 0
 IsKept instances shared = (number : ℕ) (instance : Instance) → shared ≡ Some (number, instance) → get instances number ≡ Some instance
 
-pub can_make : (shared : Option (ℕ × Instance)) (tables : Tables) (app : Application) → None ≡ option_map shown shared → CanShare tables app shared → CanShare tables app None
-can_make None tables app is can = can
-can_make (Some kept) tables app is can = absurd cc
-
 pub ready_shared : (shared : Option (ℕ × Instance)) (tables : Tables) (app : Application) (found : SharedInstance) (instances : NumberMap Instance) →
     Some found ≡ option_map shown shared → IsKept instances shared → CanShare tables app shared → found.holder ≡ None →
     IsSomeAnd (get instances found.number) (IsReadyFor app)

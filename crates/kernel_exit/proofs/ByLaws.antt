@@ -32,7 +32,7 @@ use Rattle.kernel_state.specs.Work.{HasRun}
 use Rattle.ns_ram.specs.Lane.{IsInRam}
 use Rattle.param_copy.specs.Places.{IsWritable}
 use Rattle.rpc_cont.specs.Advancing.{IsAdvance, IsRunnable, phase_after}
-use Rattle.rpc_cont.specs.Conts.{body_of, job_of, kept_memory, memory_size}
+use Rattle.rpc_cont.specs.Conts.{body_of, job_of, kept_memory}
 use Rattle.rpc_cont.specs.Conts as conts
 use Rattle.rpc_cont.specs.declared.app.ContApp.{ContApp}
 use Rattle.rpc_cont.specs.declared.app.ContApp.TheVariants as app

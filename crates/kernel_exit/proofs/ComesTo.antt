@@ -1,12 +1,12 @@
 -- What a call comes to is what the kernel's comes to.
-use Rattle.std.proofs.Common.{◌≡◌, ℕ, ◌+◌, true, List, [], Option, Some, None, refl, sym, ap, subst, ◌∙◌}
+use Rattle.std.proofs.Common.{◌≡◌, ℕ, ◌+◌, true, List, [], Option, Some, None, sym, ap, subst, ◌∙◌}
 use Rattle.std.specs.Prelude.{IsSomeAnd}
 use Rattle.std.specs.Option.{option_and_then}
 use Rattle.job_model.specs.Job.{Job, of_tee}
 use Rattle.job_model.specs.Steps.{End, Grant, Left, Stopped, grant_of}
 use Rattle.job_model.specs.Steps as job
 use Rattle.kernel_model.specs.Exit.{after_grant, tables_after_end, tables_after_panic, woken_by}
-use Rattle.kernel_model.specs.Kernel.{CallPhase, Runs, Asks, Ends, PendingCall, Tables}
+use Rattle.kernel_model.specs.Kernel.{CallPhase, Runs, Ends, PendingCall, Tables}
 use Rattle.kernel_state.specs.Calls.{IsAppOf, IsCall, IsInPhase, bytes_of, woken_slot}
 use Rattle.kernel_state.specs.Tables.{tables_of}
 use Rattle.kernel_state.specs.Work.{HasRun}
@@ -124,38 +124,6 @@ by_grant tables ran shown new why comes before call its steps is at run =
     (comes before call steps is run) run.advances)
 
 -- ---- by why it stopped
-
--- its steps are used
-pub left_so : (tables : CoreTables) (ran : Cont (List ℕ)) → ComesOfGrant (tables_of tables) ran stop.Interrupted ran tables
-left_so tables ran = by_grant (tables_of tables) ran ran tables stop.Interrupted by
-  where
-    by : (before : Cont (List ℕ)) (call : PendingCall) (steps : ℕ) → IsCall before call → HasRun steps before ran stop.Interrupted →
-        (grant : Grant) → IsAdvance bytes_of ran.app ran before.steps steps grant stop.Interrupted →
-        HasComeTo (after_grant (tables_of tables) call steps grant) ran tables
-    by before call steps is run (Left left) so = record {
-      call = still before ran call (call.steps + steps) (Runs left) (kept_by_run steps before ran stop.Interrupted run) is
-          (so.3 ∙ ap (λ n. n + steps) is.steps) (so.1, record { phase = run.phase; runs = so.2 });
-      with = refl;
-    }
-    by before call steps is run (Stopped used (job.Ends end)) so = absurd (cc (so.0.0))
-    by before call steps is run (Stopped used (job.Panics code)) so = absurd (cc (so.0.0))
-    by before call steps is run (Stopped used (job.Asks wanted payload left)) so = absurd (cc (so.0.0))
-
--- it asks for something
-pub asks_so : (tables : CoreTables) (ran : Cont (List ℕ)) → ComesOfGrant (tables_of tables) ran stop.Asks ran tables
-asks_so tables ran = by_grant (tables_of tables) ran ran tables stop.Asks by
-  where
-    by : (before : Cont (List ℕ)) (call : PendingCall) (steps : ℕ) → IsCall before call → HasRun steps before ran stop.Asks →
-        (grant : Grant) → IsAdvance bytes_of ran.app ran before.steps steps grant stop.Asks →
-        HasComeTo (after_grant (tables_of tables) call steps grant) ran tables
-    by before call steps is run (Left left) so = absurd (cc (so.0))
-    by before call steps is run (Stopped used (job.Ends end)) so = absurd (cc (so.0.0))
-    by before call steps is run (Stopped used (job.Panics code)) so = absurd (cc (so.0.0))
-    by before call steps is run (Stopped used (job.Asks wanted payload left)) so = record {
-      call = still before ran call (call.steps + used) (Asks left wanted payload) (kept_by_run steps before ran stop.Asks run) is
-          (so.1 ∙ ap (λ n. n + used) is.steps) (run.phase, so.0.1, run.asks refl);
-      with = refl;
-    }
 
 -- it shows this result, with these tables
 result_so : (before ran shown : Cont (List ℕ)) (call : PendingCall) (steps used : ℕ) (why : ContStop) (new : CoreTables) (its : Tables)

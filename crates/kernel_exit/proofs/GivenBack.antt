@@ -194,22 +194,3 @@ given_away tables call number is_last change same goes kept =
     by (Some i) goes kept =
         remove_insert tables.instances number (change i)
         ∙ sym (ap (λ b. cond {A = NumberMap Instance} b (remove tables.instances number) (insert tables.instances number (change i))) goes)
-
--- one that stays
-pub given_to_stay : (tables : Tables) (call : PendingCall) (number : ℕ) (is_last : Bool) (change : Instance → Instance) →
-    call.instance ≡ number →
-    (is_last || (option_map_or (λ (i : Instance). (change i).dead) (get tables.instances number) false && not (has_opened tables.sessions number))) ≡ false →
-    with_changed tables number change ≡ gives_back tables call tables.sessions is_last change
-given_to_stay tables call number is_last change same stays =
-    ap (λ m. record tables { instances = m }) (by (get tables.instances number) stays ∙ ap after (sym same))
-  where
-    after : ℕ → NumberMap Instance
-    after n = option_map_or (λ (i : Instance). instances_after tables.sessions tables.instances n is_last (change i)) (get tables.instances n) tables.instances
-
-    by : (found : Option Instance) →
-        (is_last || (option_map_or (λ (i : Instance). (change i).dead) found false && not (has_opened tables.sessions number))) ≡ false →
-        option_map_or (λ (i : Instance). insert tables.instances number (change i)) found tables.instances
-        ≡ option_map_or (λ (i : Instance). instances_after tables.sessions tables.instances number is_last (change i)) found tables.instances
-    by None stays = refl
-    by (Some i) stays =
-        sym (ap (λ b. cond {A = NumberMap Instance} b (remove tables.instances number) (insert tables.instances number (change i))) stays)

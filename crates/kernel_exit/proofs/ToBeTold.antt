@@ -24,7 +24,7 @@ use Rattle.rpc_msgs.specs.declared.request_place.RequestPlace.{RequestPlace}
 use Rattle.kernel_state.specs.declared.tables.Tables.{Tables as CoreTables}
 use Rattle.kernel_state.specs.Tables.{HasFreePages, tables_of}
 use Rattle.kernel_state.specs.declared.setup.Setup.{Setup}
-use Rattle.kernel_exit.specs.Ending.{ComesOfGrant, ComesOfRest, HasComeTo}
+use Rattle.kernel_exit.specs.Ending.{ComesOfGrant, HasComeTo}
 use Rattle.kernel_state.specs.StandsFor.{IsBeside}
 use Rattle.kernel_state.specs.declared.cancellation.Cancellation.{Cancellation}
 use Rattle.kernel_state.specs.declared.parts.Parts.{Parts}
@@ -47,12 +47,6 @@ ran_comes tables ran new why after comes call steps out =
     subst (λ (phase : CallPhase). IsSomeAnd (progress_in tables call steps phase) (λ progress. HasComeTo progress new after)) (sym out.runs)
     (mapped (after_grant tables call steps) (λ progress. HasComeTo progress new after) (grant_of steps out.job)
     (comes out.before call out.job steps out.is out.runs out.ran))
-
--- of one that rested
-pub rested_comes : (tables : Tables) (rested new : Cont (List ℕ)) (after : CoreTables) → ComesOfRest tables rested new after →
-    (call : PendingCall) (steps : ℕ) → IsCarriedOut rested None call steps →
-    IsSomeAnd (progress_in tables call steps call.phase) (λ progress. HasComeTo progress new after)
-rested_comes tables rested new after comes call steps out = comes call steps out.0 out.1
 
 -- ---- what can be told
 
