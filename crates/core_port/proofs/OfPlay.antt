@@ -1,11 +1,9 @@
 -- An SMC that the play refuses at which a port stands.
-use Rattle.std.proofs.Common.{◌≡◌, ◌⊎◌, inl, inr, ℕ, ◌+◌, ◌≤◌, Bool, true, false, List, [], ◌∷◌, ◌++◌, length, Option, Some, None, refl, sym, ap, ◌∙◌}
-use Rattle.std.specs.Prelude.{◌^◌, nat_lt, not, ◌&&◌, slice_get, if◌then◌else◌, ◌==◌}
+use Rattle.std.proofs.Common.{◌≡◌, ◌⊎◌, inl, inr, ℕ, ◌+◌, ◌≤◌, Bool, true, false, List, [], ◌∷◌, length, Option, Some, None, refl, sym, ap, ◌∙◌}
+use Rattle.std.specs.Prelude.{◌^◌, nat_lt, not, ◌&&◌, slice_get, if◌then◌else◌}
 use Rattle.std.specs.Option.{option_and_then, option_map, option_map_or}
 use Rattle.std.proofs.lemmas.Bool.{ltb-false}
 use Rattle.event_journal.specs.Journal.{copied_bytes}
-use Rattle.event_journal.specs.declared.event.Event.{Event}
-use Rattle.event_journal.specs.declared.event.Event.TheVariants.{Entry, Exit}
 use Rattle.kernel_model.specs.Entry.{entry}
 use Rattle.kernel_model.specs.Kernel.{Kernel}
 use Rattle.kernel_model.proofs.Parts.{option_map_some}

@@ -19,7 +19,7 @@ use Rattle.kernel_model.specs.History.{exit_after}
 use Rattle.kernel_model.specs.Kernel.{Kernel, Outside, Processor}
 use Rattle.kernel_model.proofs.Parts.{set_found}
 use Rattle.kernel_model.proofs.StandingBy.{exit_sets}
-use Rattle.kernel_state.specs.Entering.{IsTooMuch, bytes_read}
+use Rattle.kernel_state.specs.Entering.{bytes_read}
 use Rattle.kernel_state.specs.Laws.{CoreEntry, CoreExit}
 use Rattle.kernel_state.specs.Meaning.{booted_of, events_of, kernel_of}
 use Rattle.kernel_state.specs.declared.kernel_core.Core.{Core}
@@ -242,26 +242,3 @@ module _ (old new : Core) (lane now : List ℕ) (regs answer : Regs) (so : GoesT
       (lt-ltb (length (smcs_of old)) 32768 (subst (λ (n : ℕ). n < 32768) (sym port.counted) few))
       ∙ ap (λ (o : Option ℕ). not (option_map_or (λ more. nat_lt (2 ^ 28) (copied_bytes (events_of old) + more)) o false)) wanted
       ∙ ap not (le-ltb (2 ^ 28) (copied_bytes (events_of old) + total_bytes so.entered.reads) few_read)
-
--- ---- one that was not
-
--- as many were made as there can be
-pub none_left : (boot : Booted) (core : Core) (lane : List ℕ) (made : ℕ) (regs : Regs) → IsPort boot core lane made → made ≡ 32768
-    → has_room (view_of core lane) regs ≡ false
-none_left boot core lane made regs port all =
-    ap (λ (b : Bool). b && not (is_full (view_of core lane) regs))
-    (le-ltb (length (smcs_of core)) 32768 (subst (λ (n : ℕ). 32768 ≤ n) (sym (port.counted ∙ all)) (omega arith)))
-
-and_false : (b : Bool) → (b && false) ≡ false
-and_false true = refl
-and_false false = refl
-
--- the entry was refused
-pub too_much : (core : Core) (lane : List ℕ) (regs : Regs) (copied more : ℕ) → IsTooMuch core (coming_with regs) lane copied more
-    → has_room (view_of core lane) regs ≡ false
-too_much core lane regs copied more much =
-    let above : 2 ^ 28 < copied_bytes (events_of core) + more = subst (λ (n : ℕ). 2 ^ 28 < n + more) much.so_far much.above in
-    ap (λ (o : Option ℕ). nat_lt (length (smcs_of core)) 32768
-    && not (option_map_or (λ more. nat_lt (2 ^ 28) (copied_bytes (events_of core) + more)) o false)) much.of_entry
-    ∙ ap (λ (b : Bool). nat_lt (length (smcs_of core)) 32768 && not b) (lt-ltb (2 ^ 28) (copied_bytes (events_of core) + more) above)
-    ∙ and_false (nat_lt (length (smcs_of core)) 32768)

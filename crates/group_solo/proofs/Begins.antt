@@ -49,25 +49,13 @@ pub is_session : (s : GroupSolo) (g : Group) (call : KeptCall) (b : Beginner) (s
 is_session s g call b session can is =
     let found : Some (session_of session) ≡ Some b.session = own_session s g call b (Some (session_of session)) can is in cc
 
-pub no_session : (s : GroupSolo) (g : Group) (call : KeptCall) (b : Beginner) → CanFind s g call b →
-    None ≡ get (sessions_of s.sessions.items) call.session → ⊥
-no_session s g call b can is =
-    let found : None ≡ Some b.session = own_session s g call b None can is in absurd cc
-
 -- the instance is there
 pub kept_there : (s : GroupSolo) (g : Group) (call : KeptCall) (b : Beginner) → CanFind s g call b → (without_calls s).instance ≡ Some b.there
 kept_there s g call b can = sym (ap (λ (base : Group). base.instance) can.beside) ∙ can.there
 
-none_there : {A B : Type 0} (f : A → B) (found : Option A) (b : B) → found ≡ None → option_map f found ≡ Some b → ⊥
-none_there f None b none e = absurd cc
-none_there f (Some a) b none e = absurd cc
-
 some_there : {A B : Type 0} (f : A → B) (found : Option A) (a : A) (b : B) → found ≡ Some a → option_map f found ≡ Some b → f a ≡ b
 some_there f None a b is e = absurd cc
 some_there f (Some c) a b is e = let same : c ≡ a = cc in ap f (sym same) ∙ cc
-
-pub no_instance : (s : GroupSolo) (g : Group) (call : KeptCall) (b : Beginner) → CanFind s g call b → s.instance ≡ None → ⊥
-no_instance s g call b can none = none_there (shared_of (uuid_of (app_in s))) s.instance b.there none (kept_there s g call b can)
 
 pub is_dead : (s : GroupSolo) (g : Group) (call : KeptCall) (b : Beginner) (shared : Shared) → CanFind s g call b → s.instance ≡ Some shared →
     shared.kept.dead ≡ b.there.1.dead

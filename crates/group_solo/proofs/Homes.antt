@@ -89,13 +89,6 @@ some_home s g number found some beside = by (home (without_calls s) number) refl
           held = ap (λ (f : code.Home). f.found.held) same;
         }
 
-pub none_home : (s : GroupSolo) (g : Group) (number : ℕ) → None ≡ option_map found_home (home (without_calls s) number) → IsBeside s g → home g number ≡ None
-none_home s g number none beside = by (home (without_calls s) number) refl none
-  where
-    by : (o : Option Home) → home (without_calls s) number ≡ o → None ≡ option_map found_home o → home g number ≡ None
-    by None e is = sym (home_is s g number beside) ∙ e
-    by (Some at) e is = absurd cc
-
 -- ---- it works there, or waits
 
 -- who begins there
@@ -126,11 +119,6 @@ works_free app g coming at params points held same is = sym (by_holder app g com
 
 found_then : {A B : Type 0} (f : A → Option B) (o : Option A) (a : A) (b : B) → o ≡ Some a → option_and_then f o ≡ Some b → f a ≡ Some b
 found_then f o a b is e = sym (ap (option_and_then f) is) ∙ e
-
-pub invoked_nowhere : (app : Application) (g next : Group) (number func : ℕ) (input : OwnInput) (area : Bool) → home g number ≡ None →
-    option_and_then (invokes app g func input area) (home g number) ≡ Some next → ⊥
-invoked_nowhere app g next number func input area none e =
-    let no : None ≡ Some next = sym (ap (option_and_then (invokes app g func input area)) none) ∙ e in absurd cc
 
 invoked_as : (app : Application) (g next : Group) (func : ℕ) (input : OwnInput) (area : Bool) (at : Home) (dead : Bool) → at.instance.dead ≡ dead →
     invokes app g func input area at ≡ Some next → (if dead then Some (settles g area target_dead) else invokes_with app g func input area at) ≡ Some next

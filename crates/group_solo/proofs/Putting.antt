@@ -53,20 +53,6 @@ pub found_call : (s : GroupSolo) (g : Group) (number : ℕ) (cont : Box KeptCall
 found_call s g number cont own stands at is =
     is_call_at cont own (slice_get s.calls.items number) (get g.calls number) at is (stands.calls number)
 
-none_at : (own : GroupCall) (found : Option Kept) (there : Option GroupCall) → option_and_then (λ (call : Kept). call) found ≡ None → there ≡ Some own →
-    IsCallAt found there → ⊥
-none_at own None None none is stands = absurd cc
-none_at own None (Some other) none is stands = stands
-none_at own (Some None) None none is stands = absurd cc
-none_at own (Some None) (Some other) none is stands = stands
-none_at own (Some (Some cont)) there none is stands = absurd cc
-
--- where none is taken the machine has none
-pub not_found : (s : GroupSolo) (g : Group) (number : ℕ) (own : GroupCall) → StandsFor s g →
-    option_and_then (λ (call : Kept). call) (slice_get s.calls.items number) ≡ None → get g.calls number ≡ Some own → ⊥
-not_found s g number own stands none is =
-    none_at own (slice_get s.calls.items number) (get g.calls number) none is (stands.calls number)
-
 -- the others stand as they did
 pub aside : (s new : GroupSolo) (g : Group) (number : ℕ) (cont : Box KeptCall) → StandsFor s g →
     slice_get s.calls.items number ≡ Some (Some cont) → new ≡ record s { calls = new.calls } →

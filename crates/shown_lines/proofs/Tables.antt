@@ -3,29 +3,25 @@ use Rattle.std.proofs.Common.{◌≡◌, ℕ, ◌<◌, List, [], ◌∷◌, ◌+
 use Rattle.std.proofs.Math.Logic.{∥∥₁_elim}
 use Rattle.std.proofs.Props.{props}
 use Rattle.std.proofs.lemmas.Option.{get_or_from_slice_get, slice_get-map, slice_get_cases, slice_get_read}
-use Rattle.std.specs.Prelude.{OnOk, codes, slice_get}
-use Rattle.std.specs.Fmt.{decimal}
+use Rattle.std.specs.Prelude.{OnOk, slice_get}
 use Rattle.std.specs.Global.{Box}
 use Rattle.std.specs.Option.{option_map}
 use Rattle.event_journal.specs.declared.event.Event.{Event}
 use Rattle.kernel_model.specs.Application.{Booted}
 use Rattle.kernel_model.specs.History.{kernel_after}
-use Rattle.kernel_model.specs.Kernel.{Kernel, PendingCall, ThreadSlot}
-use Rattle.kernel_model.specs.Kernel as model
-use Rattle.kernel_state.specs.Calls.{IsCall}
+use Rattle.kernel_model.specs.Kernel.{Kernel, ThreadSlot}
 use Rattle.kernel_state.specs.Processors.{processor_of}
 use Rattle.kernel_state.specs.Replay.{Replays}
 use Rattle.kernel_state.specs.Setup.{booted_with}
-use Rattle.kernel_state.specs.StandsFor.{AreSlots, IsBeside, IsSlot, IsSlotAt}
+use Rattle.kernel_state.specs.StandsFor.{AreSlots, IsSlotAt}
 use Rattle.kernel_state.specs.declared.cancellation.Cancellation.{Cancellation}
 use Rattle.kernel_state.specs.declared.processor.Processor.{Processor}
 use Rattle.kernel_state.specs.declared.parts.Parts.{Parts}
 use Rattle.live_play.specs.Showing.{told_by}
-use Rattle.live_play.specs.State.{call_text, count_lines, inside_lines, instance_lines, slot_line, slot_lines, slot_text, state_text, text_if, texts_below}
+use Rattle.live_play.specs.State.{count_lines, inside_lines, instance_lines, slot_line, slot_lines, state_text, text_if, texts_below}
 use Rattle.live_text.specs.declared.question.Question.{Question}
 use Rattle.rpc_cont.specs.declared.cont.Cont.{Cont}
 use Rattle.thread_slots.specs.declared.slot.Slot.{Slot}
-use Rattle.thread_slots.specs.declared.slot.Slot.TheVariants.{Free, Active, Suspended}
 
 -- ---- slots
 
@@ -58,35 +54,6 @@ all_slots slots besides held number start text all are so_far =
     so_far
     ∙ ap (λ n. start ++ texts_below n (λ number. text_if (slot_line number) (slice_get held number)))
     (all ∙ sym (as_long slots besides held are))
-
-pub free_told : (beside : Cancellation) (held : ThreadSlot) → IsSlot Free beside held → slot_text held ≡ codes "free"
-free_told beside model.Free is = refl
-free_told beside (model.Active worker call) is = absurd is
-free_told beside (model.Suspended owner call) is = absurd is
-
-pub active_told : (cpu : ℕ) (beside : Cancellation) (held : ThreadSlot) → IsSlot (Active cpu) beside held
-    → slot_text held ≡ codes "active " ++ decimal cpu
-active_told cpu beside model.Free is = absurd is
-active_told cpu beside (model.Active worker call) is = ap (λ n. codes "active " ++ decimal n) (sym is.0)
-active_told cpu beside (model.Suspended owner call) is = absurd is
-
--- the call of a slot that is suspended
-pub record IsHeldCall (client : ℕ) (cont : Cont (List ℕ)) (beside : Cancellation) (held : ThreadSlot) : Type 0 where
-  pub call : PendingCall
-  pub beside_is : IsBeside beside call
-  pub call_is : IsCall cont call
-  pub text : slot_text held ≡ call_text client call
-
-pub suspended_told : (client : ℕ) (cont : Box (Cont (List ℕ))) (beside : Cancellation) (held : ThreadSlot)
-    → IsSlot (Suspended client cont) beside held → IsHeldCall client cont.value beside held
-suspended_told client cont beside model.Free is = absurd is
-suspended_told client cont beside (model.Active worker call) is = absurd is
-suspended_told client cont beside (model.Suspended owner call) is = record {
-  call = call;
-  beside_is = is.1;
-  call_is = is.2;
-  text = ap (λ n. call_text n call) (sym is.0);
-}
 
 -- ---- processors
 

@@ -1,5 +1,5 @@
 -- Texts to which a line more is appended.
-use Rattle.std.proofs.Common.{◌≡◌, ℕ, ◌+◌, ◌-◌, ◌*◌, ◌<◌, ◌≤◌, true, false, List, [], ◌∷◌, ◌++◌, take, drop, get_or, Option, Some, None, refl, suc, sym, ap, ap₂, ◌∙◌, append_assoc, append-nil, arith, inl, inr}
+use Rattle.std.proofs.Common.{◌≡◌, ℕ, ◌+◌, ◌-◌, ◌*◌, ◌<◌, ◌≤◌, false, List, [], ◌∷◌, ◌++◌, take, drop, get_or, Option, Some, None, refl, suc, sym, ap, ap₂, ◌∙◌, append_assoc, append-nil, arith, inl, inr}
 use Rattle.std.specs.Prelude.{OnOk, Result, Ok, Err, codes, slice_get}
 use Rattle.std.specs.Fmt.{decimal}
 use Rattle.std.specs.Str.{bytes_eq}
@@ -49,12 +49,6 @@ texts_more number text start old new so_far more =
     ∙ append_assoc start (texts_below number text) (text number)
     ∙ ap (λ n. start ++ texts_below n text) (sym next)
 
--- where there is nothing to be told
-pub texts_same : (number : ℕ) (text : ℕ → List ℕ) (start old : List ℕ)
-    → old ≡ start ++ texts_below number text → text number ≡ [] → old ≡ start ++ texts_below (number + 1) text
-texts_same number text start old so_far none =
-    texts_more number text start old old so_far (sym (ap (λ (l : List ℕ). old ++ l) none ∙ append-nil old))
-
 -- ---- the pages of a buffer
 
 abbrev piece_by : ℕ → Registered → ℕ → ℕ → Option Piece → List ℕ
@@ -98,13 +92,6 @@ unfolding piece_lines
 pieces_full registered cookie offset old total so_far = sym (append-nil old) ∙ so_far
 
 -- ---- blocks
-
-pub same_block : (cpu number : ℕ) (before after was is old : List ℕ) → was ≡ block_at before number → is ≡ block_at after number
-    → bytes_eq was is ≡ true → old ≡ old ++ text_of_changes cpu (change_at before after number)
-same_block cpu number before after was is old there here same =
-    let so : bytes_eq (block_at before number) (block_at after number) ≡ true =
-    ap₂ bytes_eq (sym there) (sym here) ∙ same in
-    rw so (sym (append-nil old))
 
 pub other_block : (cpu number : ℕ) (before after was is old new : List ℕ) → was ≡ block_at before number → is ≡ block_at after number
     → bytes_eq was is ≡ false → new ≡ old ++ wrote_line cpu (record { addr = 0x40000000 + 64 * number; bytes = is })

@@ -11,7 +11,6 @@ use Rattle.kernel_model.specs.Resume.{phase_on_answer}
 use Rattle.kernel_state.specs.Calls.{IsInPhase, bytes_of, woken_slot}
 use Rattle.own_model.specs.Solo.{OwnCall, Solo, comes_back_in, phase_back, wake_left, with_call}
 use Rattle.own_model.specs.declared.own_event.BackInput.{BackInput}
-use Rattle.own_model.specs.declared.own_event.BackInput.TheVariants as back
 use Rattle.rpc_cont.specs.Answering.{IsAnswered}
 use Rattle.rpc_cont.specs.Conts.{call_owner, job_of, kept_params}
 use Rattle.rpc_cont.specs.Running.{IsWaiting, worked}
@@ -52,41 +51,6 @@ in_phase old new call at kind seen did area buffer is here = record {
   buffer = ap (λ (b : Option RpcBuffer). is_some b) buffer ∙ is.buffer;
   phase = here;
 }
-
--- ---- nothing that answers
-
--- what it is given answers nothing
-pub record AnswersNothing (input : BackInput) : Type 0 where
-  pub asks : (before : CallPhase) (job : Job) → phase_back before job input ≡ before
-  pub wakes : (wakes : Option ℕ) → wake_left wakes input ≡ wakes
-
-pub nothing_answers : AnswersNothing back.Nothing
-nothing_answers = record { asks = λ before job. refl; wakes = λ wakes. refl }
-
-pub buffer_answers : AnswersNothing back.Buffer
-buffer_answers = record { asks = λ before job. refl; wakes = λ wakes. refl }
-
-unchanged_in : (app : Application) (solo next : Solo) (number : ℕ) (input : BackInput) (cont : Cont (List ℕ)) (call : OwnCall) (at : CallPhase) →
-    call.phase ≡ at → (cont.phase ≡ phase.Waits → ⊥) → AnswersNothing input → IsCall cont call → IsInPhase cont at →
-    comes_back_in app solo number call input at ≡ Some next → HasCall cont number solo next
-unchanged_in app solo next number input cont call (Runs job) same works nothing is at e = absurd cc
-unchanged_in app solo next number input cont call (Asks job wanted payload) same works nothing is at e =
-    let so : with_call solo number (record call { phase = phase_back call.phase job input }) ≡ next = cc in
-    record { call = call; is = is; has = sym so ∙ ap (λ (p : CallPhase). with_call solo number (record call { phase = p })) (nothing.asks call.phase job) }
-unchanged_in app solo next number input cont call (Waits params) same works nothing is at e = absurd (works at.phase)
-unchanged_in app solo next number input cont call (Ends result params told wakes) same works nothing is at e =
-    let so : with_call solo number (record call { phase = Ends result params told (wake_left wakes input) }) ≡ next = cc in record {
-      call = call;
-      is = is;
-      has = sym so ∙ ap (λ (p : CallPhase). with_call solo number (record call { phase = p }))
-          (ap (λ (w : Option ℕ). Ends result params told w) (nothing.wakes wakes) ∙ sym same);
-    }
-
-pub unchanged : (app : Application) (solo next : Solo) (number : ℕ) (input : BackInput) (cont : Cont (List ℕ)) (call : OwnCall) →
-    (cont.phase ≡ phase.Waits → ⊥) → AnswersNothing input → IsCall cont call →
-    comes_back_in app solo number call input call.phase ≡ Some next → HasCall cont number solo next
-unchanged app solo next number input cont call works nothing is e =
-    unchanged_in app solo next number input cont call call.phase refl works nothing is is.phase e
 
 -- ---- an answer
 

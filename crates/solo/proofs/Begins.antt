@@ -38,19 +38,9 @@ kept_home s solo at beside e =
     let both = at_home solo at e in
     (sym (ap (λ (base : Solo). base.session) beside) ∙ both.0, sym (ap (λ (base : Solo). base.instance) beside) ∙ both.1)
 
-none_there : {A B : Type 0} (f : A → B) (found : Option A) (b : B) → found ≡ None → option_map f found ≡ Some b → ⊥
-none_there f None b none e = absurd cc
-none_there f (Some a) b none e = absurd cc
-
 some_there : {A B : Type 0} (f : A → B) (found : Option A) (a : A) (b : B) → found ≡ Some a → option_map f found ≡ Some b → f a ≡ b
 some_there f None a b is e = absurd cc
 some_there f (Some c) a b is e = let same : c ≡ a = cc in ap f (sym same) ∙ cc
-
-pub no_session : (s : SoloSession) (solo : Solo) (at : OwnSession × Instance) → s.session ≡ None → IsBeside s solo → home solo ≡ Some at → ⊥
-no_session s solo at none beside e = none_there session_of s.session at.0 none (kept_home s solo at beside e).0
-
-pub no_instance : (s : SoloSession) (solo : Solo) (at : OwnSession × Instance) → s.instance ≡ None → IsBeside s solo → home solo ≡ Some at → ⊥
-no_instance s solo at none beside e = none_there (instance_of _) s.instance at.1 none (kept_home s solo at beside e).1
 
 -- ---- what it begins with
 

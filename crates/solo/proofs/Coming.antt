@@ -139,11 +139,6 @@ held_so s solo at held beside e says =
 found_then : {A B : Type 0} (f : A → Option B) (o : Option A) (a : A) (b : B) → o ≡ Some a → option_and_then f o ≡ Some b → f a ≡ Some b
 found_then f o a b is e = sym (ap (option_and_then f) is) ∙ e
 
-pub invoked_nowhere : (app : Application) (solo next : Solo) (func : ℕ) (input : OwnInput) (area : Bool) → home solo ≡ None →
-    option_and_then (invokes app solo func input area) (home solo) ≡ Some next → ⊥
-invoked_nowhere app solo next func input area none e =
-    let no : None ≡ Some next = sym (ap (option_and_then (invokes app solo func input area)) none) ∙ e in absurd cc
-
 invoked_as : (app : Application) (solo next : Solo) (func : ℕ) (input : OwnInput) (area : Bool) (at : OwnSession × Instance) (dead : Bool) → at.1.dead ≡ dead →
     invokes app solo func input area at ≡ Some next → (if dead then Some (settles solo area target_dead) else invokes_with app solo func input area at) ≡ Some next
 invoked_as app solo next func input area at dead is e =
