@@ -164,14 +164,6 @@ three_kept false two three rules e = absurd cc
 three_kept true false three rules e = absurd cc
 three_kept true true false rules e = absurd cc
 
-pub three_broken : (one two three : Bool) (rules : List (BadKind × Bool)) (kind : BadKind)
-    → first_broken ((bad.Item, one) ∷ (bad.Count, two) ∷ (bad.Place, three) ∷ []) ≡ Some kind
-    → first_broken ((bad.Item, one) ∷ (bad.Count, two) ∷ (bad.Place, three) ∷ rules) ≡ Some kind
-three_broken true true true rules kind e = absurd cc
-three_broken false two three rules kind e = e
-three_broken true false three rules kind e = e
-three_broken true true false rules kind e = e
-
 -- where a line of the header breaks none of them, its rules are those of the same line of a trace, and the limit of threads
 pub trace_by_kind : (natives : List (List ℕ)) (before : Front) (line : List ℕ) (kind : LineKind)
     → list_all is_text_byte line ≡ true → is_skipped line ≡ false → kind_named (word (words_of line) 0) ≡ Some kind
@@ -338,22 +330,6 @@ none_inside items e =
 
 pub no_end : (front : ScriptFront) → front.header.items ≡ [] → end_fault front.header ≡ None
 no_end front e = none_inside front.header.items e
-
--- a line that is told by no word
-pub header_unnamed : (natives : List (List ℕ)) (before : ScriptFront) (line : List ℕ)
-    → kind_named (word (words_of line) 0) ≡ None
-    → first_broken (header_rules (kind_named (word (words_of line) 0)) natives before (words_of line)) ≡ Some bad.Item
-header_unnamed natives before line named =
-    ap (λ (o : Option LineKind). first_broken (header_rules o natives before (words_of line))) named
-
--- one that has a fault before its words are read
-pub header_late : (natives : List (List ℕ)) (before : ScriptFront) (line : List ℕ) (kind : LineKind) (fault : BadKind)
-    → kind_named (word (words_of line) 0) ≡ Some kind → header_fault kind before (words_of line) ≡ Some fault
-    → first_broken (header_rules (kind_named (word (words_of line) 0)) natives before (words_of line)) ≡ Some fault
-header_late natives before line kind fault named late =
-    ap (λ (o : Option LineKind). first_broken (header_rules o natives before (words_of line))) named
-    ∙ three_broken (is_header kind) (counts (words_behind kind) (words_of line)) (has_no_call before.calls)
-    (rules_behind kind natives before.header (drop 1 (words_of line)) ++ thread_limits kind (words_of line)) fault late
 
 -- what is known of a line of a kind of the header that has none
 pub record IsHeaderLine (before : ScriptFront) (line : List ℕ) (kind : LineKind) : Type 0 where

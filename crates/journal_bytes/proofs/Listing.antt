@@ -1,7 +1,6 @@
 -- Reads taken one after the other: those that are there already, and those that are still to come.
-use Rattle.std.proofs.Common.{◌≡◌, ℕ, zero, suc, ◌+◌, ◌<◌, Bool, true, false, cond, List, [], ◌∷◌, ◌++◌, append_assoc, Option, Some, None, refl, sym, ap, ◌∙◌, arith, add-one}
+use Rattle.std.proofs.Common.{◌≡◌, ℕ, suc, ◌+◌, Bool, true, cond, List, [], ◌∷◌, ◌++◌, append_assoc, Option, Some, None, refl, sym, ap, ◌∙◌, add-one}
 use Rattle.std.specs.Option.{option_map}
-use Rattle.std.proofs.lemmas.List.{append-nil}
 use Rattle.ns_ram.specs.declared.read.Read.{Read}
 use Rattle.trace_bin.specs.declared.record_kind.RecordKind.TheVariants as trace
 use Rattle.trace_bin.specs.Record.{is_whole as is_whole_body}
@@ -12,19 +11,9 @@ abbrev pub behind_done : List Read → Option (List Read × List ℕ) → Option
 behind_done done None = None
 behind_done done (Some (reads, rest)) = Some (done ++ reads, rest)
 
-pub none_done : (coming : Option (List Read × List ℕ)) → coming ≡ behind_done [] coming
-none_done None = refl
-none_done (Some (reads, rest)) = refl
-
 one_done : (done : List Read) (read : Read) (coming : Option (List Read × List ℕ)) → behind_done done (option_map (with_read read) coming) ≡ behind_done (done ++ read ∷ []) coming
 one_done done read None = refl
 one_done done read (Some (reads, rest)) = ap (λ (all : List Read). Some (all, rest)) (sym (append_assoc done (read ∷ []) reads))
-
--- the next read ends behind the bytes
-pub stops : (count left : ℕ) (bytes rest : List ℕ) (done : List Read) → reads_at count bytes ≡ behind_done done (reads_at left rest) → 0 < left → is_whole_body trace.Mem rest ≡ false → reads_at count bytes ≡ None
-stops count zero bytes rest done so_far some cut = absurd (omega arith)
-stops count (suc left) bytes rest done so_far some cut =
-    so_far ∙ ap (λ (b : Bool). behind_done done (cond b (option_map (with_read (read_in rest)) (reads_at left (behind_read rest))) None)) cut
 
 next_done : (left : ℕ) (rest : List ℕ) (done : List Read) → is_whole_body trace.Mem rest ≡ true → behind_done done (reads_at (suc left) rest) ≡ behind_done (done ++ read_in rest ∷ []) (reads_at left (behind_read rest))
 next_done left rest done whole =
@@ -40,10 +29,3 @@ goes_on count left fewer bytes rest behind done more so_far one whole put cut =
     ∙ next_done fewer rest done whole
     ∙ ap (λ (reads : List Read). behind_done reads (reads_at fewer (behind_read rest))) (sym put)
     ∙ ap (λ (b : List ℕ). behind_done more (reads_at fewer b)) (sym cut)
-
--- no read is left
-pub all_done : (count left : ℕ) (bytes rest : List ℕ) (done : List Read) → reads_at count bytes ≡ behind_done done (reads_at left rest) → left ≡ 0 → reads_at count bytes ≡ Some (done, rest)
-all_done count left bytes rest done so_far none =
-    so_far
-    ∙ ap (λ (n : ℕ). behind_done done (reads_at n rest)) none
-    ∙ ap (λ (reads : List Read). Some (reads, rest)) (append-nil done)

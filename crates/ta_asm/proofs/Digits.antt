@@ -1,10 +1,10 @@
 -- Numbers that words write.
-use Rattle.std.proofs.Common.{◌≡◌, ℕ, zero, suc, ◌+◌, ◌*◌, ◌<◌, ◌≤◌, min, Bool, true, false, List, [], ◌∷◌, length, get_or, take, Some, None, refl, sym, ap, ◌∙◌, ◌⊎◌, inl, inr, arith}
+use Rattle.std.proofs.Common.{◌≡◌, ℕ, ◌+◌, ◌*◌, ◌<◌, ◌≤◌, min, Bool, true, List, [], ◌∷◌, length, get_or, take, Some, None, refl, sym, ap, ◌∙◌, ◌⊎◌, inl, inr, arith}
 use Rattle.std.specs.Prelude.{nat_lt}
 use Rattle.std.specs.List.{list_all}
 use Rattle.std.specs.Char.{digit_value}
 use Rattle.std.specs.Str.Parse.{AllDigits, digits_value}
-use Rattle.std.proofs.lemmas.Bool.{lt-ltb, le-ltb, and_from, and_left, and_right, cond-true, cond-false}
+use Rattle.std.proofs.lemmas.Bool.{lt-ltb, le-ltb, and_from, and_right, cond-true, cond-false}
 use Rattle.std.proofs.lemmas.Int.Digits.{digits_value_more, digits_more}
 use Rattle.std.proofs.lemmas.List.{take_all}
 use Rattle.std.proofs.Math.Nat.{le-mul_of_pos_right}
@@ -16,24 +16,6 @@ tests radix word = list_all (λ c. nat_lt (digit_value c) radix) word
 tests_from_digits : (radix : ℕ) (word : List ℕ) → AllDigits radix word → tests radix word ≡ true
 tests_from_digits radix [] d = refl
 tests_from_digits radix (c ∷ cs) d = and_from _ _ (lt-ltb _ _ d.0) (tests_from_digits radix cs d.1)
-
--- a byte that is no digit
-missed : (radix : ℕ) (word : List ℕ) (i : ℕ) → i < length word → radix ≤ digit_value (get_or word i 0) → tests radix word ≡ false
-missed radix [] i lt far = absurd (omega arith)
-missed radix (c ∷ cs) zero lt far = and_left _ _ (le-ltb _ _ far)
-missed radix (c ∷ cs) (suc i) lt far = and_right _ _ (missed radix cs i (omega arith) far)
-
-none_from : (radix : ℕ) (word : List ℕ) → are_digits radix word ≡ false → digits_at radix word ≡ None
-unfolding digits_at
-none_from radix word e = cond-false _ (Some (digits_value radix word)) None (and_left _ _ e)
-
-pub no_digits : (radix : ℕ) (word : List ℕ) (i byte : ℕ) → i < length word → byte ≡ get_or word i 0 → radix ≤ digit_value byte → digits_at radix word ≡ None
-no_digits radix word i byte lt is far =
-    let there : radix ≤ digit_value (get_or word i 0) = omega (arith, far, ap digit_value is) in
-    none_from radix word (and_right _ _ (missed radix word i lt there))
-
-pub no_word : (radix : ℕ) (word : List ℕ) → length word ≡ 0 → digits_at radix word ≡ None
-no_word radix word e = none_from radix word (and_left _ _ (le-ltb 0 (length word) (omega arith)))
 
 pub one_more : (radix : ℕ) (word : List ℕ) (i byte digit : ℕ) → i < length word → AllDigits radix (take i word) → byte ≡ get_or word i 0 → (digit_value byte < radix) × (digit ≡ digit_value byte)
     → AllDigits radix (take (i + 1) word) × (digits_value radix (take (i + 1) word) ≡ digits_value radix (take i word) * radix + digit)

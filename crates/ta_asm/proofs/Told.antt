@@ -170,10 +170,6 @@ target_labelled image i instr rest row left has is =
 
 -- ---- the lines of instructions keep their rules, and add up
 
--- every code from here on is that of the image
-abbrev Behind : Image → ℕ → List Instr → Type 0
-Behind image place code = drop place image.code ≡ code
-
 kept_two : (f g : AsmFault) (a b : Bool) → a ≡ true → b ≡ true → first_broken ((f, a) ∷ (g, b) ∷ []) ≡ None
 kept_two f g a b p q = rw (p, q) refl
 
