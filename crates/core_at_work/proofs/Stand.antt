@@ -157,17 +157,6 @@ module _ (core : Core) (outgoing : Outgoing) (have : ∥ HaveTheirOwn core outgo
       ∙ ap (λ (state : Option Processor). option_map_or is_in state false)
       (kernel_has core (λ kernel. slice_get kernel.processors cpu ≡ Some Outside) outside)
 
--- whether one is inside
-pub inside_iff : (core : Core) (cpu : ℕ) (answer : Bool) → option_map (is_inside cpu) (kernel_of core) ≡ Some answer →
-    (answer ≡ true) ↔ IsInside core cpu
-inside_iff core cpu answer e =
-    let same : Some (is_inside cpu (some_kernel core).0) ≡ Some answer =
-    sym (ap (option_map (is_inside cpu)) (some_kernel core).1) ∙ e in
-    let is : is_inside cpu (some_kernel core).0 ≡ answer = cc in (
-      λ yes. has_kernel core (λ kernel. is_inside cpu kernel ≡ true) (is ∙ yes),
-      λ inside. sym is ∙ kernel_has core (λ kernel. is_inside cpu kernel ≡ true) inside,
-    )
-
 -- whether one of those that are there is outside
 pub outside_iff : (core : Core) (outgoing : Outgoing) → ∥ HaveTheirOwn core outgoing ∥₁ → (cpu : ℕ) →
     cpu < (booted_of core).cpus → (answer : Bool) → option_map (is_inside cpu) (kernel_of core) ≡ Some answer →

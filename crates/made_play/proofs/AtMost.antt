@@ -58,19 +58,6 @@ then_nothing lane (want_bytes addr len next) onward most at rest =
     (at.0, then_nothing lane (next (bytes_at lane addr len)) onward (most - len) at.1 rest)
 then_nothing lane (want_words addr count test next) onward most at rest = absurd at
 
--- one that wants nothing, and then the second
-pub nothing_then : {A B : Type 0} (lane : List ℕ) (first : Reader A) (onward : A → Reader B) (most : ℕ)
-    → AtMost lane first 0 → ((value : A) → AtMost lane (onward value) most) → AtMost lane (read_then first onward) most
-nothing_then lane (done value) onward most at rest = rest value
-nothing_then lane (want_bytes addr len next) onward most at rest =
-    let none : len ≡ 0 = omega (arith, at.0) in (
-      omega (arith, none),
-      few_more lane (read_then (next (bytes_at lane addr len)) onward) most (most - len) (omega (arith, none))
-          (nothing_then lane (next (bytes_at lane addr len)) onward most
-          (few_more lane (next (bytes_at lane addr len)) (0 - len) 0 (omega arith) at.1) rest),
-    )
-nothing_then lane (want_words addr count test next) onward most at rest = absurd at
-
 -- ---- tests
 
 pub need_then : {F A : Type 0} (lane : List ℕ) (test : Bool) (refusal : F) (onward : Unit {0} → Attempt F A) (most : ℕ)

@@ -77,9 +77,6 @@ pub length-flat_map_params : (ms : List MsgParam) → length (flat_map param_byt
 length-flat_map_params [] = refl
 length-flat_map_params (m ∷ ms) = let rest = length-flat_map_params ms in omega (arith, length-append (param_bytes m) (flat_map param_bytes ms))
 
-pieces_cons : (n : ℕ) (m : MsgParam) (rest : List ℕ) → first_chunks 32 (suc n) (param_bytes m ++ rest) ≡ param_bytes m ∷ first_chunks 32 n rest
-pieces_cons n m rest = refl
-
 -- parameters are read from their spelling, and all are good
 pub pieces_again : (ms : List MsgParam) → All IsAllowed ms → All FitsParam ms → (map param_at (first_chunks 32 (length ms) (flat_map param_bytes ms)) ≡ ms) × (good_len (first_chunks 32 (length ms) (flat_map param_bytes ms)) ≡ length ms)
 pieces_again [] allowed fits = (refl, refl)

@@ -10,7 +10,7 @@ use Rattle.ta_step.specs.Outcome.{Outcome, Goes, Returns, Panics, Asks, Leads}
 use Rattle.ta_step.specs.Operations.{Effect, effect_of}
 use Rattle.ta_step.specs.Step.{step, outcome_of}
 use Rattle.ta_step.specs.Runs.{Ran, later, continued, runs}
-use Rattle.ta_step.proofs.Grants.{later-zero, later-later}
+use Rattle.ta_step.proofs.Grants.{later-later}
 
 abbrev Led : {Done : Type 0} → State → Option Outcome → Result Done Stop → State → Type 0
 Led old o answer new = IsSomeAnd o (λ outcome. Leads old outcome answer new)
@@ -53,12 +53,6 @@ stops Done rest old new (Some (Asks request)) why h = let e = h.0 in let same : 
 
 one_less : (steps used : ℕ) → used < steps → steps - used ≡ suc (steps - (used + 1))
 one_less steps used lt = omega arith
-
--- nothing was used of the grant
-pub run-init : (code : List Instr) (steps : ℕ) (s : State) → runs code steps s ≡ option_map (later 0) (runs code (steps - 0) s)
-run-init code steps s =
-    let none : steps - 0 ≡ steps = omega arith in
-    sym (ap (λ (n : ℕ). option_map (later 0) (runs code n s)) none ∙ later-zero (runs code steps s))
 
 -- one step more
 pub run-more : {Done : Type 0} (code : List Instr) (steps used : ℕ) (first old new : State) (done : Done) → used < steps
