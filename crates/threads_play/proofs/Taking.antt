@@ -59,18 +59,6 @@ turn_inside acts player (Ok done) inside turn = subst (λ (is : Bool). AreInTurn
 turn_inside acts player (Err (Full copied more)) inside turn = inside
 turn_inside acts player (Err Memory) inside turn = tt
 
--- what is said of the items of one number holds of those of the same
-pub turn_of : (cpu other : ℕ) (items : List Item) (player : CpuPlayer) (result : Result (Unit {0}) EnterRefusal) → cpu ≡ other
-    → StaysInTurn (acts_for cpu items) player result → StaysInTurn (acts_for other items) player result
-turn_of cpu other items player result same turn =
-    subst (λ (n : ℕ). StaysInTurn (acts_for n items) player result) same turn
-
-pub leads_of : (boot : Booted) (all : List Item) (lane : List ℕ) (one other : List Act) (player : CpuPlayer)
-    (result : Result (Unit {0}) EnterRefusal) → one ≡ other → LeadsTo boot all lane one player result
-    → LeadsTo boot all lane other player result
-leads_of boot all lane one other player result same leads =
-    subst (λ (acts : List Act). LeadsTo boot all lane acts player result) same leads
-
 -- what is said of an answer that isn't Ok doesn't speak of the acts to come
 pub err_turn : (one other : List Act) (player : CpuPlayer) (why : EnterRefusal) → StaysInTurn one player (Err why)
     → StaysInTurn other player (Err why)
