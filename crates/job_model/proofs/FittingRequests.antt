@@ -1,5 +1,5 @@
 -- What a job asks for fits a message, at its stop and behind each answer.
-use Rattle.std.proofs.Common.{◌≡◌, ℕ, zero, suc, ◌+◌, ◌-◌, ◌/◌, ◌%◌, ◌^◌, ◌≤◌, Bool, true, false, List, [], ◌∷◌, ◌++◌, length, take, drop, min, Option, Some, None, refl, ap, sym, subst, ◌∙◌, arith}
+use Rattle.std.proofs.Common.{◌≡◌, ℕ, zero, suc, ◌+◌, ◌-◌, ◌/◌, ◌%◌, ◌^◌, ◌≤◌, Bool, true, false, List, [], ◌∷◌, ◌++◌, length, take, drop, min, Option, Some, None, refl, ap, subst, arith}
 use Rattle.std.specs.Prelude.{◌==◌, ◌&&◌, ◌||◌, not, if◌then◌else◌, nat_lt}
 use Rattle.std.specs.Option.{option_map, option_and_then}
 use Rattle.std.proofs.lemmas.List.{length-append, length-take, length-drop}
@@ -30,7 +30,7 @@ use Rattle.ta_step.proofs.Kept.{runs-names}
 use Rattle.tee_storage.specs.declared.object_file.Header.{Header}
 use Rattle.tee_storage.specs.Handles.{lowest_free}
 use Rattle.tee_storage.specs.KeptData.{Storing, reading_data, storing_none}
-use Rattle.tee_storage.specs.ObjectCalls.{program_of, serving, shown}
+use Rattle.tee_storage.specs.ObjectCalls.{program_of, shown}
 use Rattle.tee_storage.specs.ObjectFiles.{Piece, bytes_of, cut, file_name, header, is_id_length, offset_of, pieces}
 use Rattle.tee_storage.specs.OpenObjects.{all_read, new_length, new_tag, on_found, read_checked, read_some, readable, reading, removing, storing_read, without, write_checked, write_some, writing, writing_header}
 use Rattle.tee_storage.specs.Opening.{creating, first_bytes, header_in, opened_as, opening, with_handle, with_number}
@@ -41,7 +41,7 @@ use Rattle.tee_storage.specs.declared.handle.Handle.{Handle}
 use Rattle.tee_storage.specs.declared.object_file.TheConstants.{MAX_LENGTH}
 use Rattle.tee_storage.specs.declared.step.StorageStep.TheVariants as storage
 use Rattle.job_model.specs.Owner.{Owner}
-use Rattle.job_model.specs.Asking.{Ask, Asking, Bad, Gives, Needs, PendingRequest, ask, ask_unchanged, asks_time, asks_wait, comes_to, object_ask, range_of, told_time}
+use Rattle.job_model.specs.Asking.{Ask, Asking, Bad, Gives, Needs, PendingRequest, ask, ask_unchanged, asks_time, asks_wait, comes_to, object_ask}
 use Rattle.job_model.specs.Fitting.{AsksFittingly, HasRange, RequestsFit}
 use Rattle.job_model.specs.Job.{Body, Job, Machine, Native, Nothing}
 use Rattle.job_model.specs.Steps.{Advance, Goes, JobStop, Stops, advance, advance_by, advance_of, advance_on_answer_in, advance_on_answers, job_after_return, new_request, on_from, on_to_next, still_to_come, stop_at, stop_at_once, stop_behind, with_bytes}

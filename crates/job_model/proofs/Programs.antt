@@ -150,10 +150,6 @@ calls-calm (Delete handle) uuid key now =
 
 -- ---- after answers
 
-none_stays : (answers : List RpcAnswer) → after None answers ≡ None
-none_stays [] = refl
-none_stays (answer ∷ answers) = refl
-
 -- what is left after one answer
 pub one_calm : (program left : Program) (answer : RpcAnswer) → IsCalm program → after_one program answer ≡ Some left → ComesToResult left
 one_calm (Asks rpc payload now onward) left (Replied reply) calm e =

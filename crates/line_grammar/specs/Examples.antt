@@ -1,5 +1,5 @@
 -- A small grammar, and texts in it.
-use Rattle.std.specs.Prelude.{ℕ, ◌+◌, List, [], ◌∷◌, length, nat_le, ◌==◌, if◌then◌else◌, Option, None, Some}
+use Rattle.std.specs.Prelude.{ℕ, ◌+◌, [], ◌∷◌, length, nat_le, ◌==◌, if◌then◌else◌, None, Some}
 use Rattle.line_grammar.specs.Grammar.{IsFirstFault, LineGrammar, Spells}
 
 pub data Fault : Type 0 where

@@ -1,4 +1,4 @@
-use Rattle.std.proofs.Common.{◌≡◌, ℕ, ◌+◌, ◌<◌, ◌≤◌, List, length, refl, ap, sym, ◌∙◌, arith}
+use Rattle.std.proofs.Common.{◌≡◌, ℕ, ◌+◌, ◌<◌, List, length, refl, ap, sym, ◌∙◌, arith}
 use Rattle.base.specs.Bytes.{overwritten}
 use Rattle.tee_storage.specs.ObjectFiles.{Piece, pieces_from}
 use Rattle.tee_storage.specs.OpenObjects.{reading}
