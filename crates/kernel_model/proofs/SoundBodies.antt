@@ -6,7 +6,7 @@ use Rattle.base.specs.NumberMap.{get}
 use Rattle.event_journal.specs.declared.event.Event.{Event}
 use Rattle.job_model.specs.Beginning.{Program}
 use Rattle.job_model.specs.Job.{Body, Job}
-use Rattle.job_model.specs.Steps.{Advance, Goes, Left, Stopped, Stops, advance_on_answer, grant_of}
+use Rattle.job_model.specs.Steps.{Advance, Goes, Left, Stopped, Stops}
 use Rattle.job_model.specs.Steps as steps
 use Rattle.job_model.specs.declared.entry_point.EntryPoint.TheVariants.{Close, Invoke}
 use Rattle.rpc_msgs.specs.declared.rpc.Rpc.{Rpc}

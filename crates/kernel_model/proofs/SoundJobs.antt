@@ -9,7 +9,7 @@ use Rattle.base.specs.NumberMap.{NumberMap}
 use Rattle.base.proofs.Overwriting.{length-written}
 use Rattle.job_model.specs.Asking.{Ask, Asking, Bad, Gives, Needs, PendingRequest, ask, comes_to}
 use Rattle.job_model.specs.Job.{Body, Job, Machine, Native, Nothing, body_with_cancel_seen, with_cancel_seen}
-use Rattle.job_model.specs.Steps.{Advance, End, Goes, Grant, JobStop, Left, Stopped, Stops, advance, advance_by, advance_of, advance_on_answer, advance_on_answer_in, advance_on_answers, ends_instance, grant_behind, grant_of, has_destroy, job_after_return, native_end, new_request, on_from, on_to_next, one_later, run_for, still_to_come, stop_at_once, with_bytes, with_machine}
+use Rattle.job_model.specs.Steps.{Advance, End, Goes, Grant, JobStop, Left, Stopped, Stops, advance, advance_by, advance_of, advance_on_answer, advance_on_answer_in, ends_instance, grant_behind, grant_of, has_destroy, job_after_return, native_end, new_request, on_from, on_to_next, one_later, run_for, still_to_come, stop_at_once, with_bytes}
 use Rattle.job_model.specs.Steps as steps
 use Rattle.job_model.specs.declared.entry_point.EntryPoint.{EntryPoint}
 use Rattle.job_model.specs.declared.entry_point.EntryPoint.TheVariants.{Create, Open, Invoke, Close, Destroy}

@@ -7,7 +7,6 @@ use Rattle.std.specs.Option.{option_map}
 use Rattle.std.proofs.lemmas.Option.{option_and_then_some}
 use Rattle.event_journal.specs.declared.event.Event.{Event}
 use Rattle.event_journal.specs.declared.event.Event.TheVariants as event
-use Rattle.smc_abi.specs.declared.answer.Answer.{Answer}
 use Rattle.kernel_model.specs.Application.{Booted}
 use Rattle.kernel_model.specs.Argument.{client_in, thread_in}
 use Rattle.kernel_model.specs.Decision.{Taken, Takes}
@@ -70,9 +69,6 @@ same_inside regs other steps more slot from e = cc
 
 same_active : (cpu other : ℕ) (call another : PendingCall) → Active cpu call ≡ Active other another → cpu ≡ other
 same_active cpu other call another e = cc
-
-fixed_inside : (regs other : List ℕ) (steps more slot : ℕ) (answer : Answer) → Inside regs steps (Fixed answer) ≡ Inside other more (InSlot slot) → ⊥
-fixed_inside regs other steps more slot answer e = cc
 
 outside_inside : (processors : List Processor) (cpu steps slot : ℕ) (regs : List ℕ) → slice_get processors cpu ≡ Some Outside
     → slice_get processors cpu ≡ Some (Inside regs steps (InSlot slot)) → ⊥

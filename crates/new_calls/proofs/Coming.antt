@@ -4,7 +4,7 @@ use Rattle.std.specs.Prelude.{IsSome}
 use Rattle.std.specs.Option.{ForSome, option_map}
 use Rattle.base.specs.NumberMap.{NumberMap, get}
 use Rattle.kernel_model.specs.Application.{Booted}
-use Rattle.kernel_model.specs.Codes.{ebadaddr, ebadcmd, ethread_limit}
+use Rattle.kernel_model.specs.Codes.{ebadaddr, ebadcmd}
 use Rattle.kernel_model.specs.Decision.{Answers, Takes, Taken, Tested, decided_by, decision_in, taken_by, taken_in}
 use Rattle.kernel_model.specs.Kernel.{Tables}
 use Rattle.kernel_model.specs.Argument.{reg}
@@ -40,10 +40,6 @@ taken_by_test tests lane before after taken e = onward tests (λ result. done (t
 decides : (attempt : Attempt Answer (ℕ × Taken)) (lane : List ℕ) (before after : List Read) (result : Result (ℕ × Taken) Answer) →
     over_lane attempt lane before ≡ Some (result, after) → over_lane (decided_by attempt) lane before ≡ Some (decision_in result, after)
 decides attempt lane before after result e = onward attempt (λ result. done (decision_in result)) lane before after result e
-
-pub without_slot : (boot : Booted) (tables : Tables) (regs lane : List ℕ) (before : List Read) (free : Option ℕ) → free ≡ None →
-    over_lane (decided_by (new_call_with boot tables regs free)) lane before ≡ Some (Answers ethread_limit, before)
-without_slot boot tables regs lane before free none = rw none refl
 
 pub is_answered : (boot : Booted) (tables : Tables) (regs : List ℕ) (free : Option ℕ) (slot : ℕ) (lane : List ℕ) (before after : List Read) (answer : Answer) →
     free ≡ Some slot → over_lane (new_call_in boot tables regs slot) lane before ≡ Some (Err answer, after) →

@@ -12,7 +12,7 @@ use Rattle.kernel_model.specs.Decision.{Taken, Tested}
 use Rattle.kernel_model.specs.Kernel as kernel
 use Rattle.kernel_model.specs.Located.{with_argument_pinned}
 use Rattle.kernel_model.specs.NewCall as model
-use Rattle.kernel_model.specs.NewCall.{cancels, closes, drops_buffer, invokes, keeps_buffers, opens_or_waits, settles, settles_invoke, settles_open}
+use Rattle.kernel_model.specs.NewCall.{cancels, closes, invokes, keeps_buffers, opens_or_waits, settles, settles_invoke, settles_open}
 use Rattle.kernel_state.specs.Setup.{application_of, booted_with}
 use Rattle.kernel_state.specs.Tables.{tables_of}
 use Rattle.msg_args.specs.declared.param.MsgParam.{MsgParam}

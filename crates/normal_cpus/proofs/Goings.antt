@@ -1,5 +1,5 @@
 -- An exit under a turn.
-use Rattle.std.proofs.Common.{◌≡◌, ℕ, false, List, [], ◌∷◌, ◌++◌, length, refl, ap, sym, subst, ◌∙◌, append_assoc}
+use Rattle.std.proofs.Common.{◌≡◌, ℕ, false, List, [], ◌∷◌, ◌++◌, length, ap, sym, subst, ◌∙◌, append_assoc}
 use Rattle.std.specs.List.{AllByRecursion}
 use Rattle.core_lock.specs.Passes.{made, number, seen}
 use Rattle.event_journal.specs.declared.event.Event.{Event}
@@ -14,14 +14,13 @@ use Rattle.kernel_state.specs.declared.kernel_core.Core.{Core}
 use Rattle.kernel_state.specs.declared.work.Ran.{Ran}
 use Rattle.kernel_state.proofs.CoreEvents.{core_is_legal}
 use Rattle.kernel_state.proofs.Others.{work_stays_onward}
-use Rattle.smc_abi.specs.declared.regs.Regs.{Regs}
 use Rattle.normal_cpus.specs.Laws.{WorksGoOut}
 use Rattle.normal_cpus.specs.Leaving.{CanGoOut, GoesOut}
 use Rattle.normal_cpus.specs.Seeing.{IsOpenAt}
 use Rattle.normal_cpus.specs.Sharing.{CpuPass, is_inside}
 use Rattle.normal_cpus.specs.declared.cpu_answer.CpuAnswer.{CpuAnswer}
 use Rattle.normal_cpus.proofs.OwnEvents.{ends_by}
-use Rattle.normal_cpus.proofs.Turns.{Adds, IsFound, IsGivenBack, adds_one, has_made, others_since}
+use Rattle.normal_cpus.proofs.Turns.{IsFound, IsGivenBack, has_made, others_since}
 
 -- ---- before it
 
@@ -58,12 +57,6 @@ open_still boot pass core place found was = record {
 }
 
 -- ---- behind it
-
--- what it has added is its processor's
-pub left_adds : (before after : Core) (ran : Ran) (lane now : List ℕ) (told : Regs) → HasLeft before after ran lane now told →
-    Adds ran.cpu (events_of before) (events_of after)
-left_adds before after ran lane now told has =
-    adds_one ran.cpu (events_of before) (events_of after) (Exit ran.cpu told) refl has.events
 
 pub goes_out : (boot : Booted) (old new : CpuPass) (before after : Core) (ran : Ran) (lane now : List ℕ) (answer : CpuAnswer) →
     IsFound boot old before → IsGivenBack old new before after → CanGoOut boot old ran → HasLeft before after ran lane now answer.regs →
