@@ -3,8 +3,7 @@ use Rattle.std.proofs.Common.{◌≡◌, ℕ, true, Option, refl}
 use Rattle.std.specs.Prelude.{◌||◌}
 use Rattle.base.specs.NumberMap.{NumberMap}
 use Rattle.kernel_model.specs.Given.{Buffer, Given, NoBuffer, Nothing, Reply, call_given}
-use Rattle.kernel_model.specs.Kernel.{PendingCall, Progress}
-use Rattle.kernel_model.specs.Resume.{Resumed}
+use Rattle.kernel_model.specs.Kernel.{PendingCall}
 use Rattle.kernel_model.specs.Resume.{phase_seen, sees}
 use Rattle.kernel_model.proofs.Parts.{if-both}
 use Rattle.own_model.specs.Own.{input_of}
@@ -55,8 +54,3 @@ given_same (Buffer buffer) call =
     record { session = seen.session; instance = seen.instance; kinds = seen.kinds; uuid = seen.uuid }
 given_same NoBuffer call = sees_same call
 given_same (Reply reply) call = sees_same call
-
--- ---- a resume changes nothing of what the call has seen
-
-abbrev SeenAs : Resumed → Progress → Type 0
-SeenAs r progress = progress.call.seen ≡ r.call.seen

@@ -10,7 +10,7 @@ use Rattle.job_model.specs.declared.call_kind.CallKind.{CallKind}
 use Rattle.job_model.specs.declared.call_kind.CallKind.TheVariants as kind
 use Rattle.job_model.specs.Job.{Job, of_tee}
 use Rattle.job_model.specs.Point.{no_params}
-use Rattle.job_model.specs.Steps.{End, Grant, JobStop, Left, Stopped, after, grant_of}
+use Rattle.job_model.specs.Steps.{Grant, JobStop, Left, Stopped, grant_of}
 use Rattle.job_model.specs.Steps as steps
 use Rattle.kernel_model.specs.Application.{Application}
 use Rattle.kernel_model.specs.Codes.{bad_parameters, out_of_memory, success, target_dead}

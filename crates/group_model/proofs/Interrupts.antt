@@ -1,6 +1,6 @@
 -- An exit from a call of the group that is an interrupt leaves kernel and machine tied: its job is further ahead.
-use Rattle.std.proofs.Common.{◌≡◌, ℕ, ◌+◌, ◌-◌, ◌≤◌, Option, Some, None, refl, ap, subst, sym}
-use Rattle.std.proofs.Common.{◌∙◌, arith}
+use Rattle.std.proofs.Common.{◌≡◌, ℕ, Option, Some, None, refl, ap, subst, sym}
+use Rattle.std.proofs.Common.{◌∙◌}
 use Rattle.std.specs.Prelude.{slice_get}
 use Rattle.std.specs.Option.{option_map, option_map_or, option_and_then}
 use Rattle.std.proofs.lemmas.Option.{option_and_then_some}
@@ -24,11 +24,6 @@ use Rattle.group_model.specs.Laws.{About, AreTied, GoesAlong, names_of}
 use Rattle.group_model.specs.Tied.{CallsAlike, Names, Tied}
 use Rattle.group_model.proofs.CallChanges.{calls_stay, others_changed}
 use Rattle.group_model.proofs.OtherExits.{goes_silently}
-
--- ---- the job, further ahead
-
-sums : (now then granted : ℕ) → then ≤ now → (now - then) + granted ≡ (now + granted) - then
-sums now then granted le = omega arith
 
 -- ---- the exit
 

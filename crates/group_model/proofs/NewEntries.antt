@@ -26,9 +26,6 @@ use Rattle.own_model.specs.Own.{Entering}
 use Rattle.group_model.specs.Read.{Notes, Watched, call_noted, entry_noted, event_noted, slot_noted}
 use Rattle.group_model.proofs.NewForms.{NewForms, call_ends}
 
-same_call : (cpu : ℕ) (call now : PendingCall) → Active cpu call ≡ Active cpu now → call ≡ now
-same_call cpu call now e = cc
-
 -- whichever free slot it takes, it holds of each form of the call
 abbrev pub OfAllForms : (ℕ → Taken → Type 0) → Booted → Kernel → List ℕ → Type 0
 OfAllForms P boot kernel regs = (slot : ℕ) → slice_get kernel.slots slot ≡ Some Free → (at : Located) (bytes : List ℕ) →

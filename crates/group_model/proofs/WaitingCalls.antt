@@ -25,7 +25,7 @@ use Rattle.kernel_model.specs.Codes.{busy, out_of_memory, target_dead}
 use Rattle.kernel_model.specs.Decision.{Taken}
 use Rattle.kernel_model.specs.Instances.{app_of, is_held, is_multi_session, is_single}
 use Rattle.kernel_model.specs.Kernel.{Free, Instance, PendingCall, Runs, ThreadSlot, Waits}
-use Rattle.kernel_model.specs.NewCall.{NewCall, call_about, named_session, no_copies, shared_by, shares_one, with_pins}
+use Rattle.kernel_model.specs.NewCall.{NewCall, named_session, no_copies, shared_by, shares_one, with_pins}
 use Rattle.kernel_model.specs.NewCall as new
 use Rattle.kernel_model.specs.Sessions as kept_sessions
 use Rattle.kernel_model.proofs.Parts.{option_map_some, some_of}
@@ -40,7 +40,7 @@ use Rattle.own_model.specs.Tied.{FoundAlike, InstancesAlike, call_at}
 use Rattle.own_model.specs.declared.own_event.OwnInput.{OwnInput}
 use Rattle.own_model.specs.declared.own_event.OwnInput.TheVariants.{Copied}
 use Rattle.group_model.specs.Group.{Coming, Group, GroupSession, Home, Opener, about_home, about_open, fresh_call, home}
-use Rattle.group_model.specs.Group.{home_of, instance_at, invokes_with, is_dead, is_taken, open_begins, opens, opens_kept, opens_made}
+use Rattle.group_model.specs.Group.{home_of, invokes_with, is_dead, is_taken, open_begins, opens_kept, opens_made}
 use Rattle.group_model.specs.Group.{opens_there, opens_with, settles, silent, start_of_open, step, waits, works_or_waits}
 use Rattle.group_model.specs.Group as machine
 use Rattle.group_model.specs.Read.{Notes, event_of, invoke_event, numbered, open_event, with_event}

@@ -17,7 +17,7 @@ use Rattle.kernel_model.specs.Instances.{is_held}
 use Rattle.kernel_model.specs.Kernel.{PendingCall, Tables}
 use Rattle.own_model.proofs.OwnWakes.{held_alike}
 use Rattle.own_model.specs.Tied.{HoldersAlike}
-use Rattle.group_model.specs.Group.{Group, GroupCall, GroupWaiter, instance_at}
+use Rattle.group_model.specs.Group.{Group, GroupCall, GroupWaiter}
 use Rattle.group_model.specs.Group as machine
 use Rattle.group_model.specs.Tied.{AreTiedInstances, AreTiedWaiters, HomesAlike, IsOfGroup, found_at, waiting_of}
 

@@ -34,8 +34,8 @@ use Rattle.own_model.proofs.OwnTaken.{calls_taken, others_taken, with_next}
 use Rattle.own_model.proofs.BelowNumbers.{AreBelow, IsBelow}
 use Rattle.own_model.specs.Own.{no_notes}
 use Rattle.own_model.specs.Parameters.{params_of}
-use Rattle.own_model.specs.Solo.{Solo, Start, OwnSession, counted, fresh_call, job_of, made, points_of, start_with}
-use Rattle.own_model.specs.Solo.{unopened, begins}
+use Rattle.own_model.specs.Solo.{Solo, Start, fresh_call, job_of, made, start_with}
+use Rattle.own_model.specs.Solo.{unopened}
 use Rattle.own_model.specs.Solo as solo
 use Rattle.own_model.specs.Tied.{FoundAlike, IsOnlySession, IsOther, Tied, Whose, shown, waiting_for}
 

@@ -9,7 +9,7 @@ use Rattle.job_model.specs.declared.call_kind.CallKind.TheVariants as kind
 use Rattle.job_model.specs.Flag.{HasSeenCancel}
 use Rattle.job_model.specs.Job.{Job, of_tee, with_cancel_seen}
 use Rattle.job_model.specs.Point.{no_params}
-use Rattle.job_model.specs.Steps.{End, Grant, JobStop, Left, Stop, Stopped, grant_of, stop_at}
+use Rattle.job_model.specs.Steps.{End, Grant, JobStop, Left, Stop, Stopped, grant_of}
 use Rattle.job_model.specs.Steps as steps
 use Rattle.job_model.proofs.JobSteps.{granted-IsGrant, stop-granted, stop_at-sum}
 use Rattle.job_model.proofs.SeenCancel.{cancel_stays_seen}

@@ -1,6 +1,6 @@
 -- What becomes of RAM in a play: no item makes that of a processor shorter. This project's own.
 use Rattle.std.specs.Prelude.{◌≡◌, ℕ, ◌≤◌, List, length, Some}
-use Rattle.kernel_model.specs.Application.{Booted, Native, booted}
+use Rattle.kernel_model.specs.Application.{Booted, Native}
 use Rattle.ta_isa.specs.declared.boot.Boot.{Boot}
 use Rattle.trace_text.specs.declared.item.Item.{Item}
 use Rattle.trace_text.specs.declared.trace.Trace.{Trace}

@@ -49,9 +49,6 @@ open_agrees = two_agree (read_of 0x40000000 (head 0 0 0 2)) (read_of 0x40000020 
 adds_agrees : (number : ℕ) → AllPairs Agree (adds number 7)
 adds_agrees number = two_agree (read_of 0x40000000 (head 1 0 1 1)) (read_of 0x40000020 (param 3 number 7 0)) (lit≤ tt)
 
-nothing_can : CanBegin adder []
-nothing_can = record { more = []; faultless = record { legal = record { boots = adder_boots; follows = refl }; steady = tt } }
-
 asked_can : CanBegin adder (asks ∷ [])
 asked_can = record { more = []; faultless = record { legal = record { boots = adder_boots; follows = refl }; steady = (none_agrees, tt) } }
 
