@@ -291,18 +291,6 @@ broken_answered on here line NoRoom booted before talk (Ok done) is judged none 
     absurd (not_so (no_room refl))
 broken_answered on here line NoRoom booted before talk (Err e) is judged none stands player watching ends no_room = tt
 
--- a line that asks nothing
-pub plain_shown : {E : Type 0} (on : Setting) (here : Position) (line : List ℕ) (talk : Talk) (result : Result (Unit {0}) E)
-    → kind_of_line line ≡ None → OnOk result (HasAnswered on here line talk)
-    → OnOk result (HasShown on here (history.Line line) talk)
-plain_shown on here line talk (Ok done) none answered =
-    let P : Position → Type 0 = λ p. StandsIn on p talk in
-    record {
-      said = answered.said ∙ sym (shown_by on here (history.Line line) None none);
-      stands = subst P (sym (after_question on here (history.Line line) None none)) answered.stands;
-    }
-plain_shown on here line talk (Err e) none answered = tt
-
 -- ---- the answer to what was heard
 
 -- one input alone was heard
