@@ -25,8 +25,3 @@ pub record IsFed (s : GroupSolo) (events : List GroupEvent) : Type 0 where
   pub is : IsGroup s group
   pub most : ℕ
   pub can : CanBeFed most (app_in s) group events
-
--- with this one, and then with others
-pub record IsFedWith (s : GroupSolo) (event : GroupEvent) : Type 0 where
-  pub events : List GroupEvent
-  pub fed : IsFed s (event ∷ events)

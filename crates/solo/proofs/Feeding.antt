@@ -1,44 +1,17 @@
 -- A session's code is fed with one event after the other.
-use Rattle.std.proofs.Common.{◌≡◌, ◌∙◌, ℕ, ◌+◌, ◌<◌, List, ◌∷◌, Option, Some, length, drop, get_or, sym, ap, subst, add-one}
-use Rattle.std.proofs.Math.Logic.{∥∥₁_elim}
-use Rattle.std.proofs.Math.Seq.{drop-cons}
-use Rattle.std.proofs.Props.{props}
+use Rattle.std.proofs.Common.{◌≡◌, ℕ, List, ◌∷◌, Option, Some, sym, subst}
 use Rattle.std.specs.Prelude.{IfOk, Result}
 use Rattle.std.proofs.lemmas.Result.{IfOk-weaker}
 use Rattle.base.specs.declared.no_memory.NoMemory.{NoMemory}
 use Rattle.kernel_model.specs.Application.{Application}
 use Rattle.own_model.specs.Solo.{Answered, Solo, step}
 use Rattle.own_model.specs.declared.own_event.OwnEvent.{OwnEvent}
-use Rattle.own_model.specs.declared.own_event.OwnEvent.TheVariants.{Open, Invoke, Close, Cancel, Seen, Back, Out, Limited}
 use Rattle.own_model.specs.declared.own_reply.OwnReply.{OwnReply}
 use Rattle.rpc_cont.proofs.Asking.{from_there}
-use Rattle.solo.specs.Feeding.{CanBeFed, IsFed, IsFedWith}
-use Rattle.solo.specs.Standing.{IsSolo, IsSomeSolo, app_in, entered_in}
-use Rattle.solo.specs.Stepping.{HasNumber, HasRoom, HasStepped}
+use Rattle.solo.specs.Feeding.{CanBeFed, IsFed}
+use Rattle.solo.specs.Standing.{IsSolo, app_in}
+use Rattle.solo.specs.Stepping.{HasRoom, HasStepped}
 use Rattle.solo.specs.declared.solo_session.SoloSession.{SoloSession}
-
--- ---- what a step asks for
-
-number_prop : (entered : ℕ) (event : OwnEvent) → IsProp (HasNumber entered event)
-number_prop entered (Open params login area) = Prim.hlevel props
-number_prop entered (Invoke func input area) = Prim.hlevel props
-number_prop entered (Close area) = Prim.hlevel props
-number_prop entered Cancel = Prim.hlevel props
-number_prop entered (Seen number steps) = Prim.hlevel props
-number_prop entered (Back number input) = Prim.hlevel props
-number_prop entered (Out number) = Prim.hlevel props
-number_prop entered Limited = Prim.hlevel props
-
-pub has_number : (s : SoloSession) (event : OwnEvent) → ∥ IsFedWith s event ∥₁ → HasNumber (entered_in s) event
-has_number s event fact =
-    ∥∥₁_elim fact (number_prop (entered_in s) event)
-    (λ (with : IsFedWith s event).
-    subst (λ entered. HasNumber entered event) (ap (λ (z : Solo). z.entered) with.fed.is.stands.beside) with.fed.can.0.number)
-
-pub is_some_solo : (s : SoloSession) (event : OwnEvent) → IsFedWith s event → IsSomeSolo s
-is_some_solo s event with = record { solo = with.fed.solo; is = with.fed.is }
-
--- ---- what it leaves
 
 -- what is said of a step
 abbrev pub Steps : SoloSession → SoloSession → OwnEvent → Result (Option OwnReply) NoMemory → Type 0
@@ -60,9 +33,3 @@ fed_on s new event events result fed same steps =
       can = subst (λ (app : Application). CanBeFed fed.most app answered.0 events) (sym same) can;
     })
     (steps fed.most fed.solo answered.0 answered.1 fed.is fed.can.0.room does))
-
--- some events, from one of them on
-pub front : (events : List OwnEvent) (i : ℕ) (none : OwnEvent) → i < length events
-    → drop i events ≡ get_or events i none ∷ drop (i + 1) events
-front events i none below =
-    drop-cons events i none below ∙ ap (λ k. get_or events i none ∷ drop k events) (sym (add-one i))

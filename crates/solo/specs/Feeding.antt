@@ -25,8 +25,3 @@ pub record IsFed (session : SoloSession) (events : List OwnEvent) : Type 0 where
   pub is : IsSolo session solo
   pub most : ℕ
   pub can : CanBeFed most (app_in session) solo events
-
--- with this one, and then with others
-pub record IsFedWith (session : SoloSession) (event : OwnEvent) : Type 0 where
-  pub events : List OwnEvent
-  pub fed : IsFed session (event ∷ events)
