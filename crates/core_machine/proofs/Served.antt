@@ -8,7 +8,7 @@ use Rattle.std.proofs.Math.Seq.{drop-cons}
 use Rattle.core_machine.specs.Moving.{EntersAt, LeavesAt}
 use Rattle.core_machine.specs.Serving.{Extends, HasCome, IsWhy, Serves, ServesOne, item_of}
 use Rattle.core_machine.specs.Serving.{line_of}
-use Rattle.core_machine.specs.Standing.{CanAllCome, CanCome, IsAt, play_of}
+use Rattle.core_machine.specs.Standing.{CanAllCome, IsAt, play_of}
 use Rattle.core_at_work.specs.Insides.{insides}
 use Rattle.core_machine.specs.Turns.{ComeInTurn, MayCome, inside_after}
 use Rattle.core_machine.specs.declared.machine.Machine.{Machine}
@@ -194,15 +194,6 @@ can_next : (now : Machine) (smcs : List Smc) (count : ℕ) (smc : Smc) → IsNex
     IsSomeAnd (kernel_of now.at_work.core) (λ kernel. MayCome (insides kernel) smc × ComeInTurn
     (inside_after (insides kernel) smc) (drop (count + 1) smcs))
 can_next now smcs count smc is can = subst (λ (rest : List Smc). CanAllCome now rest) is.left can
-
-pub next_can : (now : Machine) (smcs : List Smc) (count : ℕ) (smc : Smc) → IsNext smcs count smc →
-    CanAllCome now (drop count smcs) → CanCome now smc
-next_can now smcs count smc is can =
-    let kernel = some_kernel now.at_work.core in
-    let both = subst (λ (o : Option Kernel). IsSomeAnd o (λ k. MayCome (insides k) smc × ComeInTurn
-    (inside_after (insides k) smc) (drop (count + 1) smcs)))
-    kernel.1 (can_next now smcs count smc is can) in
-    subst (λ (o : Option Kernel). IsSomeAnd o (λ k. MayCome (insides k) smc)) (sym kernel.1) both.0
 
 rest_can : (now new : Machine) (smcs : List Smc) (count : ℕ) (smc : Smc) → IsNext smcs count smc →
     CanAllCome now (drop count smcs) → Onward now new smc →

@@ -74,10 +74,6 @@ stayed-out boot at visit visitor machine player (refusal.Full copied more) same 
 )
 stayed-out boot at visit visitor machine player refusal.Memory same entered stands = tt
 
-pub never-failed : (refused : EnterRefusal) → stop_of refused ≡ Failed → ⊥
-never-failed (refusal.Full copied more) e = absurd cc
-never-failed refusal.Memory e = absurd cc
-
 kernel-there : (machine : Machine) (o : Option Kernel) → kernel_of machine.at_work.core ≡ o → IsSome o → (kernel : Kernel)
     × (kernel_of machine.at_work.core ≡ Some kernel)
 kernel-there machine (Some kernel) is some = (kernel, is)

@@ -1,7 +1,6 @@
 -- How the lines of a text join as they are written.
 use Rattle.std.proofs.Common.{◌≡◌, ℕ, List, [], ◌++◌, take, drop, Option, refl, sym, ap, subst, ◌∙◌, append_assoc}
 use Rattle.std.proofs.lemmas.List.{take-append-drop}
-use Rattle.std.proofs.lemmas.List.{append-nil}
 use Rattle.ports.specs.Port.{Appends}
 use Rattle.ports.specs.declared.sink.Put.{Put}
 use Rattle.ports.specs.declared.sink.Put.TheVariants.{Done, Failed, Memory}
@@ -33,17 +32,7 @@ Puts-of text Done a b done failed memory = done refl
 Puts-of text Failed a b done failed memory = let p = failed refl in AppendsPart-take a b text p.0 p.1
 Puts-of text Memory a b done failed memory = subst (λ (x : Option (List ℕ)). AppendsPart a x text) (sym (memory refl)) (AppendsPart-nothing a text)
 
--- a line that stopped the writing leaves a part of the whole
-pub Puts-stopped : (line whole : List ℕ) (r : Put) (a b c : Option (List ℕ)) → (r ≡ Done → ⊥) → Puts line r b c → (AppendsPart b c line → AppendsPart a c whole) → Puts whole r a c
-Puts-stopped line whole Done a b c stopped put part = absurd (stopped refl)
-Puts-stopped line whole Failed a b c stopped put part = part put
-Puts-stopped line whole Memory a b c stopped put part = part put
-
 -- ---- gathered lines
-
--- all lines were put
-pub put-all : (lines : List ℕ) (old new : Option (List ℕ)) → Appends old new lines → PutsBut [] old new lines
-put-all lines old new put = record { part = lines; cut = sym (append-nil lines); put = put }
 
 -- none was
 pub put-none : (lines : List ℕ) (a : Option (List ℕ)) → PutsBut lines a a lines
