@@ -1,5 +1,5 @@
 -- Numbers among words, and which command words ask for.
-use Rattle.std.proofs.Common.{◌≡◌, ◌↔◌, ℕ, ◌^◌, ◌<◌, ◌≤◌, ◌==◌, Bool, false, List, [], ◌∷◌, length, get_or, refl, sym, ap, subst, ◌∙◌, arith}
+use Rattle.std.proofs.Common.{◌≡◌, ◌↔◌, ℕ, ◌^◌, ◌<◌, ◌≤◌, ◌==◌, Bool, false, List, [], ◌∷◌, length, get_or, refl, sym, ap, ◌∙◌, arith}
 use Rattle.std.specs.Prelude.{IsTrue, codes}
 use Rattle.std.specs.Fmt.{decimal}
 use Rattle.std.specs.Str.{bytes_eq}
@@ -44,28 +44,6 @@ too_large word number none below large is (Session n) small named =
     let same = decimal_injective number n below (omega (arith, small)) (sym is ∙ named) in
     omega (arith, same, small, large)
 too_large word number none below large is (Group id) numbered named = let yes = named.0 in absurd cc
-
--- neither a number nor a UUID
-pub nothing_named : (word : List ℕ) → is_uuid word ≡ false → ((number : ℕ) → number < 2 ^ 64 → word ≡ decimal number → ⊥)
-    → (subject : Subject) → IsNumbered subject → Names subject word → ⊥
-nothing_named word none no_number (Session n) small named = no_number n (omega (arith, small)) named
-nothing_named word none no_number (Group id) numbered named = let yes = named.0 in absurd cc
-
--- two words of which the second names nothing, or the first is another
-pub nothing_compared : (word name : List ℕ)
-    → ((subject : Subject) → IsNumbered subject → Names subject name → word ≡ codes "compare" → ⊥) → SayNothing (word ∷ name ∷ [])
-nothing_compared word name nothing (Serve grammar) say = let e = say.words in absurd cc
-nothing_compared word name nothing Threads say = let e = say.words in absurd cc
-nothing_compared word name nothing Record say = let e = say.words in absurd cc
-nothing_compared word name nothing Audit say = let e = say.words in absurd cc
-nothing_compared word name nothing Notify say = let e = say.words in absurd cc
-nothing_compared word name nothing Client say = let e = say.words in absurd cc
-nothing_compared word name nothing (Compare subject) say =
-    let e = say.words.2 in
-    let first : word ≡ codes "compare" = cc in
-    let second : say.words.0 ≡ name = cc in
-    nothing subject say.within (subst (Names subject) second say.words.1) first
-nothing_compared word name nothing (Work s n) say = let e = say.words in absurd cc
 
 -- digits alone are no UUID
 pub no_uuid : (number : ℕ) (word : List ℕ) → number < 2 ^ 32 → word ≡ decimal number → is_uuid word ≡ false

@@ -1,30 +1,22 @@
 -- Items played one after the other, whose lines go to a digest and aren't kept.
-use Rattle.std.proofs.Common.{◌≡◌, ℕ, ◌+◌, ◌<◌, ◌≤◌, List, [], ◌∷◌, ◌++◌, length, get_or, Option, Some, None, refl, sym, ap, subst, ◌∙◌}
-use Rattle.std.specs.Fmt.{decimal}
-use Rattle.std.specs.Prelude.{IsSome, IsSomeAnd, Ok, Err, codes}
-use Rattle.std.specs.Option.{option_and_then, option_map}
+use Rattle.std.proofs.Common.{◌≡◌, ℕ, ◌+◌, ◌<◌, ◌≤◌, List, [], ◌++◌, length, get_or, sym, ap, subst, ◌∙◌}
+use Rattle.std.specs.Prelude.{IsSome, Ok, Err}
 use Rattle.std.proofs.lemmas.List.{append-nil, take_all}
 use Rattle.kernel_model.specs.Application.{Booted, Native, booted}
-use Rattle.hex.specs.Hex.{encode_lower}
-use Rattle.made_play.specs.Summary.{answer_counts, made_play, summary_line, summary_of, summary_of_play}
-use Rattle.made_play.proofs.Ends.{law as made_plays_end}
-use Rattle.play_model.specs.Play.{Play, after_item, after_items, first_play, played}
+use Rattle.play_model.specs.Play.{Play, after_item, after_items, first_play}
 use Rattle.base.specs.Zeros.{zeros}
 use Rattle.event_journal.specs.declared.event.Event.{Event}
 use Rattle.sha2.specs.Hashers.{Holds256}
 use Rattle.sha2.specs.Sha256.{sha256}
 use Rattle.sha2.specs.declared.Sha256.{Sha256}
-use Rattle.ta_isa.specs.declared.boot.Boot.{Boot}
 use Rattle.trace_text.specs.declared.item.Item.{Item}
 use Rattle.trace_text.specs.declared.trace.Trace.{Trace}
-use Rattle.workload.specs.Work.{made_boot, made_trace}
 use Rattle.trace_player.specs.Refused.{refused_in}
-use Rattle.alone_runner.specs.Counts.{AreCounts, counts_text, line_with}
+use Rattle.alone_runner.specs.Counts.{AreCounts}
 use Rattle.alone_runner.specs.Digesting.{IsDigested}
 use Rattle.trace_player.specs.Playing.{Follows, IsPlayedTo, history_of}
 use Rattle.trace_player.specs.Starting.{IsAtStart}
 use Rattle.alone_runner.specs.declared.digesting.Digested.{Digested}
-use Rattle.alone_runner.specs.declared.summary.AnswerCounts.{AnswerCounts}
 use Rattle.trace_player.specs.declared.player.Player.{Player}
 use Rattle.word_parts.specs.declared.stop.Stop.{Stop}
 use Rattle.word_parts.specs.declared.stop.Stop.TheVariants.{Full}
@@ -99,40 +91,3 @@ digesting-ended natives trace items at player hasher held digested whole d count
       counts = subst (λ (history : List Event). AreCounts history digested.counts) w.stands.machine.history counts;
       digest = told d.text d.holds ∙ ap sha256 w.printed;
     }
-
--- ---- made traces
-
--- their play refuses no entry
-never-refused : (o : Option Play) → IsSomeAnd o (λ play. play.refused ≡ None)
-    → IsSome (option_and_then (λ (play : Play). play.refused) o) → ⊥
-never-refused (Some play) none some = let is = none in absurd cc
-never-refused None none some = absurd none
-
-pub made-goes-on : (seed count : ℕ) (natives : List Native) (trace : Trace) → count ≤ 65536 → natives ≡ []
-    → trace ≡ made_trace seed count → IsSome (refused_in natives trace) → ⊥
-made-goes-on seed count natives trace few none made some =
-    let here = subst (λ (ns : List Native). IsSome (refused_in ns (made_trace seed count))) none
-    (subst (λ (t : Trace). IsSome (refused_in natives t)) made some) in
-    never-refused (made_play seed count) (made_plays_end.ends seed count few) here
-
--- the counts of a history, as its summary has them
-counts-told : (history : List Event) (counts : AnswerCounts) → AreCounts history counts
-    → counts_text counts ≡ answer_counts history
-counts-told history counts are = rw (are.ok, are.limit, are.resume, are.rpc) refl
-
-pub made-summary : (seed count : ℕ) (natives : List Native) (trace : Trace) (digested : Digested) (line : List ℕ)
-    → natives ≡ [] → trace ≡ made_trace seed count → (d : IsDigested natives trace digested)
-    → line ≡ line_with seed count digested.counts digested.digest → summary_of seed count ≡ Some line
-made-summary seed count natives trace digested line none made d is =
-    let boots : Some made_boot ≡ Some d.boot = ap (λ (t : Trace). t.boot) (sym made) ∙ d.has_boot in
-    let boot : d.boot ≡ made_boot = cc in
-    let play : made_play seed count ≡ Some d.play =
-    subst (λ (b : Boot). played [] b (made_trace seed count) ≡ Some d.play) boot
-    (subst (λ (ns : List Native). played ns d.boot (made_trace seed count) ≡ Some d.play) none
-    (subst (λ (t : Trace). played natives d.boot t ≡ Some d.play) made d.is_play)) in
-    let whole : line ≡ summary_of_play seed count d.play =
-    is
-    ∙ ap (λ (counts : List ℕ). codes "work " ++ decimal seed ++ 32 ∷ decimal count ++ counts ++ codes " sha256 " ++ encode_lower digested.digest ++ 10 ∷ [])
-    (counts-told d.play.history digested.counts d.counts)
-    ∙ ap (λ (bytes : List ℕ). summary_line seed count d.play.history bytes) d.digest in
-    ap (option_map (summary_of_play seed count)) play ∙ ap (λ (l : List ℕ). Some l) (sym whole)

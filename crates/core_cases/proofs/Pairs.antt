@@ -1,14 +1,13 @@
 -- Two processors, as they begin and end.
-use Rattle.std.proofs.Common.{◌≡◌, ℕ, List, [], ◌∷◌, Option, None, ap, ap₂, sym, subst, ◌∙◌}
+use Rattle.std.proofs.Common.{◌≡◌, List, [], ◌∷◌, Option, None, ap, sym, subst, ◌∙◌}
 use Rattle.std.specs.Prelude.{map}
-use Rattle.std.proofs.lemmas.List.Elements.{All-cons, All-head, All-nil, All-tail}
+use Rattle.std.proofs.lemmas.List.Elements.{All-head, All-tail}
 use Rattle.core_cases.specs.Cpus.{HasItsWork, IsCpuOf, IsPairOf}
 use Rattle.core_cases.specs.declared.cpu.Cpu.{Cpu}
 use Rattle.core_cases.specs.declared.pair.Pair.{Pair}
-use Rattle.core_lock.specs.Counts.{numbers_from, times}
 use Rattle.kernel_state.specs.declared.work.Work.{Work}
 use Rattle.core_lock.specs.Passes.{AreUnused, made, number, seen}
-use Rattle.normal_cpus.specs.Sharing.{AreAllCpusOf, AreCpusOf, CpuPass, boot_of, end_inside}
+use Rattle.normal_cpus.specs.Sharing.{AreCpusOf, CpuPass, boot_of, end_inside}
 use Rattle.normal_cpus.specs.Sharing as pass
 use Rattle.normal_cpus.specs.declared.shared_core.SharedCore.{SharedCore}
 
@@ -39,16 +38,3 @@ pair_begins shared pair passes are own numbers one two =
       first_is = cc;
       second_is = cc;
     }
-
--- ---- their passes, once they give them back
-
-pub passes_own : (shared : SharedCore) (pair : Pair) → IsPairOf shared pair → AreCpusOf shared (pair.first.pass ∷ pair.second.pass ∷ [])
-passes_own shared pair are =
-    All-cons (pass.IsCpuOf shared) pair.first.pass (pair.second.pass ∷ []) are.first.own
-    (All-cons (pass.IsCpuOf shared) pair.second.pass [] are.second.own (All-nil (pass.IsCpuOf shared)))
-
-pub passes_all : (shared : SharedCore) (pair : Pair) → IsPairOf shared pair → (boot_of shared).cpus ≡ 2 →
-    AreAllCpusOf shared (pair.first.pass ∷ pair.second.pass ∷ [])
-passes_all shared pair are two n =
-    ap₂ (λ (one other : ℕ). times n (one ∷ other ∷ [])) are.first_is are.second_is
-    ∙ ap (λ (count : ℕ). times n (numbers_from 0 count)) (sym two)

@@ -1,7 +1,7 @@
 -- What was read beside built-in applications can be booted beside them.
 use Rattle.std.proofs.Common.{◌≡◌, ℕ, ◌≤◌, List, [], length, Option, Some, None, sym, subst}
 use Rattle.std.specs.Prelude.{IfNone, IfSome}
-use Rattle.kernel_model.specs.Application.{Native, booted}
+use Rattle.kernel_model.specs.Application.{Native}
 use Rattle.ta_isa.specs.declared.boot.Boot.{Boot}
 use Rattle.trace_player.proofs.Booting.{AreApart, sound_boots}
 use Rattle.trace_player.specs.Starting.{uuids_of}

@@ -17,7 +17,6 @@ use Rattle.own_model.specs.declared.own_event.OwnEvent.TheVariants.{Open, Invoke
 use Rattle.own_model.specs.declared.own_event.OwnInput.{OwnInput}
 use Rattle.own_model.specs.declared.own_event.OwnInput.TheVariants.{Copied, Faulty, Unread}
 use Rattle.rpc_msgs.specs.declared.rpc.RpcReply.{RpcReply}
-use Rattle.ta_isa.specs.declared.boot.App.{App}
 use Rattle.ta_isa.specs.declared.image.Image.{Image}
 use Rattle.ta_isa.specs.declared.image.Instr.{Instr}
 use Rattle.ta_params.specs.declared.copied_params.CopiedParams.{CopiedParams}

@@ -1,5 +1,5 @@
 -- From a player at the end of a trace to the bytes of its journal, and to what is written of them.
-use Rattle.std.proofs.Common.{◌≡◌, ℕ, inl, inr, List, [], Option, None, Some, refl, sym, ap, subst, ◌∙◌}
+use Rattle.std.proofs.Common.{◌≡◌, ℕ, inr, List, Option, None, Some, refl, sym, ap, subst, ◌∙◌}
 use Rattle.std.specs.Option.{option_map}
 use Rattle.std.specs.Prelude.{IsSomeAnd}
 use Rattle.audit.specs.Laws.{CoreJournalsAreSound}
@@ -9,10 +9,9 @@ use Rattle.journal_bytes.specs.Sound.{IsSoundJournal}
 use Rattle.journal_bytes.specs.Spelling.{SpellsBack, spelling, whole_with}
 use Rattle.kernel_model.specs.Application.{Booted, Native}
 use Rattle.play_model.specs.Play.{Play, played}
-use Rattle.ports.specs.PortLaws.{Appends-nil}
 use Rattle.ta_isa.specs.declared.boot.Boot.{Boot}
 use Rattle.trace_player.specs.Playing.{history_of}
-use Rattle.trace_player.specs.Refused.{refused_by, refused_in}
+use Rattle.trace_player.specs.Refused.{refused_in}
 use Rattle.trace_player.specs.Starting.{uuids_of}
 use Rattle.trace_player.specs.declared.player.Player.{Player}
 use Rattle.trace_player.proofs.Playable.{refused-played}
@@ -82,13 +81,6 @@ done_with natives trace named result bytes old new is same writes =
     inr (subst (λ (o : Option (List ℕ)).
     IsSomeAnd o (λ text. Writes (status_of_play (refused_in natives trace)) text result old new)) (sym is)
     (subst (λ (s : Status). Writes s bytes result old new) same writes))
-
--- a trace without a boot is served with nothing
-pub done_without : (natives : List Native) (trace : Trace) (held : Option (List ℕ)) → trace.boot ≡ None
-    → IsDone (recording natives) trace status.Ok held held
-done_without natives trace held none =
-    done_with natives trace status.Ok status.Ok [] held held (ap (journal_with natives trace) none)
-    (sym (ap (λ (boot : Option Boot). status_of_play (refused_by natives trace boot)) none)) (inl (refl, Appends-nil held))
 
 -- ---- statuses that don't come
 

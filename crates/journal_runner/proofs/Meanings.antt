@@ -1,23 +1,9 @@
 -- Bytes spell one journal with nothing behind it, or one pair of journals, or they have a fault, and not both.
 use Rattle.std.proofs.Common.{◌≡◌, ℕ, inl, inr, List, drop, ap, subst, sym, arith}
 use Rattle.journal_bytes.proofs.GrammarLaws.{meaning}
-use Rattle.journal_bytes.specs.Grammar.{IsFaultOf, Spells, Whole}
+use Rattle.journal_bytes.specs.Grammar.{Spells, Whole}
 use Rattle.trace_text.specs.declared.fault.BadKind.{BadKind}
-use Rattle.trace_text.specs.declared.fault.TraceFault.{TraceFault}
-use Rattle.trace_text.specs.declared.fault.TraceFault.TheVariants.{Bad, Memory}
-use Rattle.journal_runner.specs.Reading.{IsFaultAlone, IsFaultAloneOf, IsFaultOfPair, IsFaultOfPairOf, SpellsAlone, SpellsPair}
-
--- a fault of the journal is one of the bytes
-pub fault_alone : (natives : List (List ℕ)) (bytes : List ℕ) (fault : TraceFault) → IsFaultOf natives bytes fault
-    → IsFaultAloneOf natives bytes fault
-fault_alone natives bytes (Bad place kind) is = inl is
-fault_alone natives bytes Memory is = tt
-
--- a fault of the first of two journals likewise
-pub fault_in_first : (natives : List (List ℕ)) (bytes : List ℕ) (fault : TraceFault) → IsFaultOf natives bytes fault
-    → IsFaultOfPairOf natives bytes fault
-fault_in_first natives bytes (Bad place kind) is = inl is
-fault_in_first natives bytes Memory is = tt
+use Rattle.journal_runner.specs.Reading.{IsFaultAlone, IsFaultOfPair, SpellsAlone, SpellsPair}
 
 module _ (natives : List (List ℕ)) (bytes : List ℕ) where
   same_whole : (one other : Whole) → Spells natives bytes one → Spells natives bytes other → one ≡ other

@@ -25,7 +25,7 @@ use Rattle.trace_text.specs.declared.fault.TraceFault.{TraceFault}
 use Rattle.trace_text.specs.declared.fault.TraceFault.TheVariants.{Bad}
 use Rattle.trace_text.specs.declared.fault.TraceFault.TheVariants as fault
 use Rattle.word_parts.specs.Answer.{status_of_play}
-use Rattle.word_parts.specs.Word.{Answered, HasOneMeaning, IsFaultOf, IsServedBy, Ran}
+use Rattle.word_parts.specs.Word.{HasOneMeaning, IsFaultOf, Ran}
 use Rattle.word_parts.specs.declared.status.Status.{Status}
 use Rattle.word_parts.proofs.Ended.{IsUnserved, WasServed, ran-served, ran-served-or-not}
 use Rattle.notify_runner.specs.Notified.{HoldsBehind, IsPrinted, IsPrintedWith, IsUnplayed, Notifies, WasNotified, start_of}
@@ -183,14 +183,3 @@ was_refused natives drivers uuids input (Ok told) same bad = tt
 was_refused natives drivers uuids input (Err (Bad place kind)) same bad =
     subst (λ (us : List (List ℕ)). IsFirstFault us input place kind) same bad
 was_refused natives drivers uuids input (Err fault.Memory) same bad = tt
-
--- and what is served of it is what the word answers
-pub answered : (natives : List Native) (drivers : Drivers) (input : List ℕ) (told : NotifyTrace) (result : Status)
-    (old new : Option (List ℕ)) → WasRead natives input told → IsServedBy (notifying natives drivers) told result old new
-    → Answered (notifying natives drivers) input result old new
-answered natives drivers input told result old new read served = inr (inr (record {
-  content = told;
-  spelled = read.spelled;
-  known = read.boots;
-  served = served;
-}))
