@@ -12,16 +12,18 @@ use Rattle.live_play.specs.Answer.{Setting, answer_between, play_at, refused_at,
 use Rattle.live_play.proofs.Effects.{IsHeader}
 use Rattle.live_play.proofs.Talking.{no_steps, printed_by, quiet, refused_by, start, with_boot}
 use Rattle.live_player.specs.Header.{IsHeaderOf, boot_in}
-use Rattle.live_player.specs.Panicking.{EndsIn}
+use Rattle.live_player.specs.Panicking.{EndsIn, taken_as}
 use Rattle.live_player.specs.Standing.{CanBegin, IsOpen, IsPlayedBehind, StageAt}
 use Rattle.live_player.specs.Taking.{Answers, IsNext, IsPlaced, PlaysOn, StagePlays, counted, played}
 use Rattle.live_player.specs.declared.header.Header.{Header}
-use Rattle.live_player.specs.declared.panicking.PanicWatch.{PanicWatch}
 use Rattle.live_player.specs.declared.stage.Stage.{Stage}
 use Rattle.live_player.specs.declared.stage.Stage.TheVariants as stage
+use Rattle.live_player.specs.declared.taken.Played.{Played}
+use Rattle.live_player.specs.declared.taken.Played.TheVariants as outcome
 use Rattle.live_player.specs.declared.taken.Taken.{Taken}
 use Rattle.live_player.specs.declared.taken.Taken.TheVariants as taken
 use Rattle.live_player.proofs.Answering.{answers-nothing}
+use Rattle.live_player.proofs.Panics.{no_panic}
 use Rattle.live_player.proofs.Playing.{signal_done, signal_played}
 use Rattle.live_text.specs.Scene.{HasItsBoot, IsEmpty}
 use Rattle.live_text.specs.Statement.{with_statement}
@@ -150,11 +152,11 @@ core_item : (on : Setting) (lines : NotifyFront) (i : Item) (how : Taken) (playe
 core_item on lines i taken.Done player closed p = (p, closed_item lines i)
 core_item on lines i (taken.Full copied) player closed p = (p, closed)
 
-pub core_plays : (on : Setting) (lines : NotifyFront) (i : Item) (result : Result Taken NoMemory) (player : NotifyPlayer)
-    (old new : List ℕ) → (IsOpen lines → ⊥) → IfOk result (λ how. PlaysOn on lines (says.Item i) how player old new)
-    → IfOk result (λ how. StagePlays on lines (says.Item i) how (stage.Core player) old new)
+pub core_plays : (on : Setting) (lines : NotifyFront) (i : Item) (result : Result Played NoMemory) (player : NotifyPlayer)
+    (old new : List ℕ) → (IsOpen lines → ⊥) → IfOk result (λ how. PlaysOn on lines (says.Item i) (taken_as how) player old new)
+    → IfOk result (λ how. StagePlays on lines (says.Item i) (taken_as how) (stage.Core player) old new)
 core_plays on lines i (Ok how) player old new closed p =
-    record { answers = p.answers; stands = core_item on lines i how player closed p.stands }
+    record { answers = p.answers; stands = core_item on lines i (taken_as how) player closed p.stands }
 core_plays on lines i (Err e) player old new closed p = tt
 
 -- one that was booted for it
@@ -263,20 +265,18 @@ pub waits : (on : Setting) (lines : NotifyFront) (said : Statement) (now : Stage
     → IsPlaced lines said → StageAt on lines now → StagePlays on lines said taken.Done now text text
 waits on lines said now text which placed at = waits_by on lines said now text (waiting said which) placed at
 
--- of which no panic is read
-untold_by : (on : Setting) (lines : NotifyFront) (said : Statement) (was now : PanicWatch) → IsWaiting said
-    → EndsIn on lines said taken.Done was now
-untold_by on lines says.Blank was now waiting = tt
-untold_by on lines (says.Boot size) was now waiting = tt
-untold_by on lines (says.App app) was now waiting = tt
-untold_by on lines (says.Fill fill) was now waiting = tt
-untold_by on lines (says.Key key) was now waiting = tt
-untold_by on lines (says.Item i) was now waiting = absurd waiting
-untold_by on lines (says.Signal value) was now waiting = tt
+-- by which no call ends
+unended_by : (on : Setting) (lines : NotifyFront) (said : Statement) → IsWaiting said → EndsIn on lines said (outcome.Done None)
+unended_by on lines says.Blank waiting = no_panic on lines lines refl
+unended_by on lines (says.Boot size) waiting = no_panic on lines (with_statement lines (says.Boot size)) refl
+unended_by on lines (says.App app) waiting = no_panic on lines (with_statement lines (says.App app)) refl
+unended_by on lines (says.Fill fill) waiting = no_panic on lines (with_statement lines (says.Fill fill)) refl
+unended_by on lines (says.Key key) waiting = no_panic on lines (with_statement lines (says.Key key)) refl
+unended_by on lines (says.Item i) waiting = absurd waiting
+unended_by on lines (says.Signal value) waiting = absurd waiting
 
-pub waits_untold : (on : Setting) (lines : NotifyFront) (said : Statement) (was now : PanicWatch) → Waits said
-    → EndsIn on lines said taken.Done was now
-waits_untold on lines said was now which = untold_by on lines said was now (waiting said which)
+pub waits_unended : (on : Setting) (lines : NotifyFront) (said : Statement) → Waits said → EndsIn on lines said (outcome.Done None)
+waits_unended on lines said which = unended_by on lines said (waiting said which)
 
 -- it is added there
 on_ok : {A E P Q : Type 0} (result : Result A E) → (P → Q) → OnOk result P → OnOk result Q

@@ -1,13 +1,12 @@
 -- A line that is taken where exits are watched.
 use Rattle.std.proofs.Common.{◌≡◌, ℕ, ◌<◌, List, [], ◌∷◌, ◌++◌, length, drop, Option, Some, None, refl, sym, ap, subst, ◌∙◌, arith, append_assoc}
-use Rattle.std.specs.Prelude.{All, IfOk, Result, Ok, Err, slice_index_or}
+use Rattle.std.specs.Prelude.{All, Err, slice_index_or}
 use Rattle.std.specs.List.{flat_map}
 use Rattle.std.specs.Option.{option_and_then, option_map_or}
 use Rattle.std.proofs.Math.Seq.{drop-length}
 use Rattle.std.proofs.lemmas.List.{get_or-replicate}
 use Rattle.std.proofs.lemmas.List.Elements.{recursion_from_All}
 use Rattle.base.specs.Zeros.{zeros}
-use Rattle.base.specs.declared.no_memory.NoMemory.{NoMemory}
 use Rattle.core_machine.specs.Standing.{IsAt}
 use Rattle.core_machine.specs.declared.machine.Machine.{Machine}
 use Rattle.core_machine.proofs.Lanes.{all_bytes}
@@ -25,15 +24,14 @@ use Rattle.live_play.proofs.Outgoing.{lines-done, none_returned, one_returned, s
 use Rattle.live_play.proofs.Talking.{answer_unless, item_steps, more-played, quiet, signal_steps, start}
 use Rattle.live_play.proofs.Watched.{unwatched-lines, watched-lines}
 use Rattle.live_player.specs.Asking.{AnswersWatched, CanWatch, TakesWatched, Watches, WatchesOn, cpu_going_out}
-use Rattle.live_player.specs.Panicking.{EndsIn, panic_in}
+use Rattle.live_player.specs.Panicking.{EndsIn}
 use Rattle.live_player.specs.Standing.{HasCome, IsOpen, IsPlayedBehind, IsWithin, StageAt, StandsAt}
 use Rattle.live_player.specs.Taking.{Answers, IsNext, Judges, TakesOn, counted}
 use Rattle.live_player.specs.declared.header.Header.{Header}
-use Rattle.live_player.specs.declared.panicking.PanicWatch.{PanicWatch}
-use Rattle.live_player.specs.declared.panicking.PanicWatch.TheVariants as watch
 use Rattle.live_player.specs.declared.player.LivePlayer.{LivePlayer}
 use Rattle.live_player.specs.declared.stage.Stage.{Stage}
 use Rattle.live_player.specs.declared.stage.Stage.TheVariants as stage
+use Rattle.live_player.specs.declared.taken.Played.TheVariants as outcome
 use Rattle.live_player.specs.declared.taken.Taken.{Taken}
 use Rattle.live_player.specs.declared.taken.Taken.TheVariants as taken
 use Rattle.live_player.proofs.Playing.{orderly}
@@ -293,16 +291,14 @@ watches_none on lines said taken.Done now player old new none next at takes =
 watches_none on lines said (taken.Full copied) now player old new none next at takes =
     watches_full on lines said copied player old new takes
 
-pub watches_staying : (on : Setting) (lines : NotifyFront) (said : Statement) (result : Result Taken NoMemory) (now : Stage)
-    (player : LivePlayer) (old new : List ℕ) → ((cpu : ℕ) → cpu_going_out said ≡ Some cpu → ⊥) → IsNext on lines said
-    → StageAt on lines now → IfOk result (λ (how : Taken). TakesOn on lines said how player old new)
-    → IfOk result (λ (how : Taken). WatchesOn on lines said how player old new)
-watches_staying on lines said (Ok how) now player old new stays next at takes = by (cpu_going_out said) refl
+pub watches_staying : (on : Setting) (lines : NotifyFront) (said : Statement) (how : Taken) (now : Stage) (player : LivePlayer)
+    (old new : List ℕ) → ((cpu : ℕ) → cpu_going_out said ≡ Some cpu → ⊥) → IsNext on lines said → StageAt on lines now
+    → TakesOn on lines said how player old new → WatchesOn on lines said how player old new
+watches_staying on lines said how now player old new stays next at takes = by (cpu_going_out said) refl
   where
     by : (out : Option ℕ) → cpu_going_out said ≡ out → WatchesOn on lines said how player old new
     by None is = watches_none on lines said how now player old new is next at takes
     by (Some cpu) is = absurd (stays cpu is)
-watches_staying on lines said (Err fault) now player old new stays next at takes = tt
 
 -- a core has played an item
 core_behind : (on : Setting) (lines : NotifyFront) (i : Item) (now : Stage)
@@ -349,16 +345,16 @@ watched_text on before after cpu regs copy old between panicked new panic line c
     }
 
 pub watches_done : (on : Setting) (lines : NotifyFront) (said : Statement) (cpu : ℕ) (was : Stage) (player : LivePlayer)
-    (copy old between panicked new : List ℕ) (now : PanicWatch) → cpu_going_out said ≡ Some cpu → IsNext on lines said
+    (copy old between panicked new : List ℕ) (panic : Option ℕ) → cpu_going_out said ≡ Some cpu → IsNext on lines said
     → StageAt on lines was → copy ≡ lane_at on lines cpu → TakesOn on lines said taken.Done player old between
-    → EndsIn on lines said taken.Done (watch.On None) now → panicked ≡ between ++ text_if panic_line (panic_in now)
+    → EndsIn on lines said (outcome.Done panic) → panicked ≡ between ++ text_if panic_line panic
     → new ≡ panicked ++ text_of_changes cpu (changes copy (lane_at on (with_statement lines said) cpu))
     → WatchesOn on lines said taken.Done player old new
-watches_done on lines said cpu was player copy old between panicked new now out next at copied takes ends told pushed =
+watches_done on lines said cpu was player copy old between panicked new panic out next at copied takes ends told pushed =
     by said out next takes ends pushed
   where
     by : (said : Statement) → cpu_going_out said ≡ Some cpu → IsNext on lines said
-        → TakesOn on lines said taken.Done player old between → EndsIn on lines said taken.Done (watch.On None) now
+        → TakesOn on lines said taken.Done player old between → EndsIn on lines said (outcome.Done panic)
         → new ≡ panicked ++ text_of_changes cpu (changes copy (lane_at on (with_statement lines said) cpu))
         → WatchesOn on lines said taken.Done player old new
     by says.Blank out next takes ends pushed = absurd cc
@@ -370,8 +366,8 @@ watches_done on lines said cpu was player copy old between panicked new now out 
         let line = one_line on lines i cpu was player.stage out next at takes.come.stage_at takes.answers.ending in
         record {
           answers =
-              watched_text on lines (with_statement lines (says.Item i)) cpu line.0 copy old between panicked new (panic_in now) line.1
-              copied takes.answers (ap panic_in ends) told pushed;
+              watched_text on lines (with_statement lines (says.Item i)) cpu line.0 copy old between panicked new panic line.1
+              copied takes.answers ends told pushed;
           come = takes.come;
         }
     by (says.Signal value) out next takes ends pushed = absurd cc

@@ -2,7 +2,7 @@ ghost use Rattle.std.specs.Prelude.{◌≡◌, ◌++◌, List, IfOk, OnOk, is_so
 ghost use Rattle.kernel_model.specs.Application.{Native};
 ghost use Rattle.live_play.specs.Answer.{Setting, setting};
 ghost use Rattle.live_play.specs.Showing.{told_at};
-ghost use Rattle.live_player.specs.Panicking.{EndsIn};
+ghost use Rattle.live_player.specs.Panicking.{EndsIn, taken_as};
 ghost use Rattle.live_player.specs.Standing.{HasCome, StandsAt};
 ghost use Rattle.live_player.specs.Taking.{IsNext, Judges, TakesOn};
 ghost use Rattle.live_text.specs.Statement.{HasFewCpus};
@@ -11,9 +11,8 @@ ghost use Rattle.notify_play.specs.NotifyPlay.{Drivers};
 ghost use Rattle.notify_text.specs.Rules.{NotifyFront, no_lines};
 
 use crate::header::Header;
-use crate::panicking::PanicWatch;
 use crate::stage::Stage;
-use crate::taken::Taken;
+use crate::taken::{Played, Taken};
 use base::NoMemory;
 use live_text::{Question, Scene, Statement, lines_stay_sound, read_line};
 use native_tas::Natives;
@@ -40,15 +39,14 @@ impl LivePlayer {
         }
     }
 
-    /// Takes what a line says that keeps its rules. Of an item, where panics are watched, it reads that in which its call has ended.
+    /// Takes what a line says that keeps its rules, and tells the panic in which the call of its exit has ended, if it did.
     pub(crate) fn take(
         &mut self,
         alloc: Global,
         natives: &Natives,
         said: Statement,
-        watch: &mut PanicWatch,
         text: &mut Vec<u8>,
-    ) -> Result<Taken, NoMemory>
+    ) -> Result<Played, NoMemory>
         requires few { HasFewCpus said }
         requires next { (lines : NotifyFront)
             × IsNext (setting (entries natives.now) (drivers natives.now)) lines said
@@ -56,21 +54,20 @@ impl LivePlayer {
         ensures takes { (lines : NotifyFront)
             → IsNext (setting (entries natives.now) (drivers natives.now)) lines said
             → HasCome (setting (entries natives.now) (drivers natives.now)) lines self.old
-            → IfOk result (λ taken. TakesOn (setting (entries natives.now) (drivers natives.now)) lines said taken
+            → IfOk result (λ how. TakesOn (setting (entries natives.now) (drivers natives.now)) lines said (taken_as how)
             self.new text.old.items text.new.items) }
         ensures panic { (lines : NotifyFront)
             → IsNext (setting (entries natives.now) (drivers natives.now)) lines said
             → HasCome (setting (entries natives.now) (drivers natives.now)) lines self.old
-            → IfOk result (λ taken. EndsIn (setting (entries natives.now) (drivers natives.now)) lines said taken
-            watch.old watch.new) }
+            → IfOk result (λ how. EndsIn (setting (entries natives.now) (drivers natives.now)) lines said how) }
     {
-        match self.stage.play(alloc, natives, &said, watch, text)? {
-            Taken::Done => {
+        match self.stage.play(alloc, natives, &said, text)? {
+            Played::Done(panic) => {
                 self.scene.take(&said)?;
                 self.stage.add(said)?;
-                Ok(Taken::Done)
+                Ok(Played::Done(panic))
             }
-            Taken::Full(copied) => Ok(Taken::Full(copied)),
+            Played::Full(copied) => Ok(Played::Full(copied)),
         }
     }
 
@@ -91,8 +88,8 @@ impl LivePlayer {
     {
         lines_stay_sound();
         let said = read_line(alloc, natives.uuids().as_slice(), &self.scene, line)?;
-        match self.take(alloc, natives, said, &mut PanicWatch::Off, text) {
-            Ok(taken) => Ok(taken),
+        match self.take(alloc, natives, said, text) {
+            Ok(how) => Ok(how.taken()),
             Err(NoMemory) => Err(LineFault::NoRoom),
         }
     }

@@ -1,11 +1,12 @@
 //! What the lines so far have come to: a header, or what a core has played.
 
-ghost use Rattle.std.specs.Prelude.{◌≡◌, ℕ, ◌≤◌, List, ◌∷◌, IfOk, OnOk};
+ghost use Rattle.std.specs.Prelude.{ℕ, ◌≤◌, List, ◌∷◌, IfOk, OnOk};
 ghost use Rattle.kernel_model.specs.Application.{Booted};
 ghost use Rattle.live_play.specs.Answer.{Setting, setting};
-ghost use Rattle.live_player.specs.Panicking.{EndsIn, ItemEndsIn};
+ghost use Rattle.live_player.specs.Panicking.{EndsIn, taken_as};
 ghost use Rattle.live_player.specs.Standing.{IsPlayedBehind, StageAt};
 ghost use Rattle.live_player.specs.Taking.{IsNext, IsPlaced, PlaysOn, StagePlays, played};
+ghost use Rattle.live_player.specs.declared.taken.Taken.TheVariants as taken;
 ghost use Rattle.live_text.specs.Statement.{with_statement};
 ghost use Rattle.live_text.specs.declared.statement.Statement.TheVariants as says;
 ghost use Rattle.native_tas.specs.Table.{drivers, entries};
@@ -15,8 +16,7 @@ ghost use Rattle.notify_player.specs.Playing.{IsPlayedTo};
 ghost use Rattle.notify_text.specs.Rules.{NotifyFront};
 
 use crate::header::Header;
-use crate::panicking::{self, PanicWatch};
-use crate::taken::Taken;
+use crate::taken::Played;
 use base::NoMemory;
 use core_machine::machines_stand;
 use live_text::Statement;
@@ -37,33 +37,31 @@ pub(crate) enum Stage {
     Core(NotifyPlayer),
 }
 
-/// Plays an item, appends what it prints, and where panics are watched reads that in which its call has ended.
+/// Plays an item, appends what it prints, and tells the panic in which the call of its exit has ended, if it did.
 fn play_on(
     player: &mut NotifyPlayer,
     alloc: Global,
     natives: &Natives,
     item: &Item,
-    watch: &mut PanicWatch,
     text: &mut Vec<u8>,
-) -> Result<Taken, NoMemory>
+) -> Result<Played, NoMemory>
     requires { (lines : NotifyFront)
         × IsNext (setting (entries natives.now) (drivers natives.now)) lines (says.Item item.now)
         × IsPlayedBehind (setting (entries natives.now) (drivers natives.now)) lines player.old }
     ensures plays { (lines : NotifyFront)
         → IsNext (setting (entries natives.now) (drivers natives.now)) lines (says.Item item.now)
         → IsPlayedBehind (setting (entries natives.now) (drivers natives.now)) lines player.old
-        → IfOk result (λ taken. PlaysOn (setting (entries natives.now) (drivers natives.now)) lines (says.Item item.now)
-        taken player.new text.old.items text.new.items) }
+        → IfOk result (λ how. PlaysOn (setting (entries natives.now) (drivers natives.now)) lines (says.Item item.now)
+        (taken_as how) player.new text.old.items text.new.items) }
     ensures panic { (lines : NotifyFront)
         → IsPlayedBehind (setting (entries natives.now) (drivers natives.now)) lines player.old
-        → IfOk result (λ taken. ItemEndsIn (setting (entries natives.now) (drivers natives.now)) lines item.now taken
-        watch.old watch.new) }
+        → IfOk result (λ how. EndsIn (setting (entries natives.now) (drivers natives.now)) lines (says.Item item.now) how) }
 {
     machines_stand();
     desks_keep_their_drivers();
-    match panicking::play_item(player, alloc, natives, item, watch, text) {
-        Ok(()) => Ok(Taken::Done),
-        Err(Stop::Full) => Ok(Taken::Full(player.machine().core().journal().copied())),
+    match player.play_item(alloc, natives, item, text) {
+        Ok(panic) => Ok(Played::Done(panic)),
+        Err(Stop::Full) => Ok(Played::Full(player.machine().core().journal().copied())),
         Err(Stop::Failed | Stop::Memory) => Err(NoMemory),
     }
 }
@@ -80,41 +78,40 @@ fn signal_on(player: &mut NotifyPlayer, value: u32)
 }
 
 impl Stage {
-    /// Plays an item, appends what it prints, and where panics are watched reads that in which its call has ended. A core that was
-    /// booted for it stays unless its entry is refused, since lines of the header may follow then.
+    /// Plays an item, appends what it prints, and tells the panic in which the call of its exit has ended, if it did. A core that
+    /// was booted for it stays unless its entry is refused, since lines of the header may follow then.
     fn play_item(
         &mut self,
         alloc: Global,
         natives: &Natives,
         item: &Item,
-        watch: &mut PanicWatch,
         text: &mut Vec<u8>,
-    ) -> Result<Taken, NoMemory>
+    ) -> Result<Played, NoMemory>
         requires { (lines : NotifyFront)
             × IsNext (setting (entries natives.now) (drivers natives.now)) lines (says.Item item.now)
             × StageAt (setting (entries natives.now) (drivers natives.now)) lines self.old }
         ensures plays { (lines : NotifyFront)
             → IsNext (setting (entries natives.now) (drivers natives.now)) lines (says.Item item.now)
             → StageAt (setting (entries natives.now) (drivers natives.now)) lines self.old
-            → IfOk result (λ taken. StagePlays (setting (entries natives.now) (drivers natives.now)) lines
-            (says.Item item.now) taken self.new text.old.items text.new.items) }
+            → IfOk result (λ how. StagePlays (setting (entries natives.now) (drivers natives.now)) lines
+            (says.Item item.now) (taken_as how) self.new text.old.items text.new.items) }
         ensures panic { (lines : NotifyFront)
             → IsNext (setting (entries natives.now) (drivers natives.now)) lines (says.Item item.now)
             → StageAt (setting (entries natives.now) (drivers natives.now)) lines self.old
-            → IfOk result (λ taken. ItemEndsIn (setting (entries natives.now) (drivers natives.now)) lines item.now taken
-            watch.old watch.new) }
+            → IfOk result (λ how. EndsIn (setting (entries natives.now) (drivers natives.now)) lines
+            (says.Item item.now) how) }
     {
         match self {
-            Stage::Core(player) => play_on(player, alloc, natives, item, watch, text),
+            Stage::Core(player) => play_on(player, alloc, natives, item, text),
             Stage::Header(header) => {
                 let mut player = header.first_player(alloc, natives)?;
-                let taken = play_on(&mut player, alloc, natives, item, watch, text)?;
-                match taken {
-                    Taken::Done => {
+                let how = play_on(&mut player, alloc, natives, item, text)?;
+                match how {
+                    Played::Done(_) => {
                         *self = Stage::Core(player);
-                        Ok(taken)
+                        Ok(how)
                     }
-                    Taken::Full(_) => Ok(taken),
+                    Played::Full(_) => Ok(how),
                 }
             }
         }
@@ -129,7 +126,7 @@ impl Stage {
             → IsNext (setting (entries natives.now) (drivers natives.now)) lines (says.Signal value)
             → StageAt (setting (entries natives.now) (drivers natives.now)) lines self.old
             → OnOk result (StagePlays (setting (entries natives.now) (drivers natives.now)) lines (says.Signal value)
-            Taken.Done self.new text text) }
+            taken.Done self.new text text) }
     {
         match self {
             Stage::Core(player) => {
@@ -145,41 +142,39 @@ impl Stage {
         }
     }
 
-    /// Plays what a line says, where it is an item or a signal, and appends what it prints. Of an item, where panics are watched, it
-    /// reads that in which its call has ended.
+    /// Plays what a line says, where it is an item or a signal, appends what it prints, and tells the panic in which the call of its
+    /// exit has ended, if it did.
     pub(crate) fn play(
         &mut self,
         alloc: Global,
         natives: &Natives,
         said: &Statement,
-        watch: &mut PanicWatch,
         text: &mut Vec<u8>,
-    ) -> Result<Taken, NoMemory>
+    ) -> Result<Played, NoMemory>
         requires { (lines : NotifyFront)
             × IsNext (setting (entries natives.now) (drivers natives.now)) lines said.now
             × StageAt (setting (entries natives.now) (drivers natives.now)) lines self.old }
         ensures plays { (lines : NotifyFront)
             → IsNext (setting (entries natives.now) (drivers natives.now)) lines said.now
             → StageAt (setting (entries natives.now) (drivers natives.now)) lines self.old
-            → IfOk result (λ taken. StagePlays (setting (entries natives.now) (drivers natives.now)) lines said.now
-            taken self.new text.old.items text.new.items) }
+            → IfOk result (λ how. StagePlays (setting (entries natives.now) (drivers natives.now)) lines said.now
+            (taken_as how) self.new text.old.items text.new.items) }
         ensures panic { (lines : NotifyFront)
             → IsNext (setting (entries natives.now) (drivers natives.now)) lines said.now
             → StageAt (setting (entries natives.now) (drivers natives.now)) lines self.old
-            → IfOk result (λ taken. EndsIn (setting (entries natives.now) (drivers natives.now)) lines said.now taken
-            watch.old watch.new) }
+            → IfOk result (λ how. EndsIn (setting (entries natives.now) (drivers natives.now)) lines said.now how) }
     {
         match said {
-            Statement::Item(item) => self.play_item(alloc, natives, item, watch, text),
+            Statement::Item(item) => self.play_item(alloc, natives, item, text),
             Statement::Signal(value) => {
                 self.signal(alloc, natives, *value)?;
-                Ok(Taken::Done)
+                Ok(Played::Done(None))
             }
             Statement::Blank
             | Statement::Boot(_)
             | Statement::App(_)
             | Statement::Fill(_)
-            | Statement::Key(_) => Ok(Taken::Done),
+            | Statement::Key(_) => Ok(Played::Done(None)),
         }
     }
 

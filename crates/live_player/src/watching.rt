@@ -12,10 +12,9 @@ ghost use Rattle.native_tas.specs.Table.{drivers, entries};
 ghost use Rattle.notify_text.specs.Rules.{NotifyFront};
 ghost use Rattle.trace_player.specs.Playing.{HasLane};
 
-use crate::panicking::PanicWatch;
 use crate::player::LivePlayer;
 use crate::stage::Stage;
-use crate::taken::Taken;
+use crate::taken::{Played, Taken};
 use base::NoMemory;
 use live_text::{Statement, lines_stay_sound, read_line};
 use native_tas::Natives;
@@ -147,18 +146,17 @@ impl LivePlayer {
             → IfOk result (λ taken. WatchesOn (setting (entries natives.now) (drivers natives.now)) lines said taken
             self.new text.old.items text.new.items) }
     {
-        let mut watch = PanicWatch::On(None);
         let Some(cpu) = cpu_going_out(&said) else {
-            return self.take(alloc, natives, said, &mut watch, text);
+            return Ok(self.take(alloc, natives, said, text)?.taken());
         };
         self.stage.copy_ram(alloc, cpu, copy)?;
-        match self.take(alloc, natives, said, &mut watch, text)? {
-            Taken::Done => {
-                push_panic(alloc, text, watch.panic())?;
+        match self.take(alloc, natives, said, text)? {
+            Played::Done(panic) => {
+                push_panic(alloc, text, panic)?;
                 self.stage.push_changes(alloc, cpu, copy.as_slice(), text)?;
                 Ok(Taken::Done)
             }
-            Taken::Full(copied) => Ok(Taken::Full(copied)),
+            Played::Full(copied) => Ok(Taken::Full(copied)),
         }
     }
 }

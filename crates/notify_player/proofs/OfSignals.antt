@@ -3,7 +3,6 @@ use Rattle.std.proofs.Common.{◌≡◌, ℕ, List, [], ◌∷◌, length, Optio
 use Rattle.std.specs.Prelude.{Result, Ok, Err, IfErr}
 use Rattle.std.specs.Option.{option_map}
 use Rattle.core_machine.specs.declared.machine.Machine.{Machine}
-use Rattle.core_machine.specs.declared.smc.Told.{Told}
 use Rattle.event_journal.specs.declared.event.Event.{Event}
 use Rattle.kernel_model.specs.Application.{Booted}
 use Rattle.notify_play.specs.NotifyPlay.{Drivers, NotifyPlay, after_item, goes_out, visit_with, with_play}
@@ -15,6 +14,7 @@ use Rattle.trace_player.proofs.Items.{plays-alone, plays-exit, plays-stop, then-
 use Rattle.trace_player.specs.Items.{Begins, HasExit, HasNoExit, after_item_of, up_to_exit}
 use Rattle.trace_player.specs.Kinds.{IsKind}
 use Rattle.trace_player.specs.Playing.{CanBeTaken}
+use Rattle.trace_player.specs.declared.exit.Exit.{Exit}
 use Rattle.trace_player.specs.declared.player.Player.{Player}
 use Rattle.trace_text.specs.declared.item.Item.{Item}
 use Rattle.trace_text.specs.declared.item.Item.TheVariants as item
@@ -98,10 +98,10 @@ module _ (boot : Booted) (drivers : Drivers) (told : NotifyPlay) where
         desk = stands.desk;
       }))
 
-  pub has-gone : (i : Item) (answered : Told) (before : NotifyPlayer) (player : Player) (old new : List ℕ) → HasPlace i
-      → IsPlayedTo boot drivers told before → (out : HasExit boot (position_in told) i answered player old new)
-      → HasGone boot drivers (with_play told out.between) answered (begun i before player)
-  has-gone i answered before player old new few stands out = record {
+  pub has-gone : (i : Item) (exit : Exit) (before : NotifyPlayer) (player : Player) (old new : List ℕ) → HasPlace i
+      → IsPlayedTo boot drivers told before → (out : HasExit boot (position_in told) i exit player old new)
+      → HasGone boot drivers (with_play told out.between) exit.answer (begun i before player)
+  has-gone i exit before player old new few stands out = record {
     goes = out.goes;
     count = stands.count;
     entries = up-to-entries i out.between before.entries few out.comes out.goes_on stands.entries;
@@ -109,14 +109,14 @@ module _ (boot : Booted) (drivers : Drivers) (told : NotifyPlay) where
   }
 
   -- what is told follows on that
-  pub exit-follows : (i : Item) (answered : Told) (result : Result (Unit {0}) Stop) (player : Player) (after : NotifyPlayer)
-      (old middle new : List ℕ) → told.play.refused ≡ None → (out : HasExit boot (position_in told) i answered player old middle)
-      → Follows boot drivers (with_play told out.between) (goes_out boot drivers answered.cpu (with_play told out.between))
+  pub exit-follows : (i : Item) (exit : Exit) (result : Result (Unit {0}) Stop) (player : Player) (after : NotifyPlayer)
+      (old middle new : List ℕ) → told.play.refused ≡ None → (out : HasExit boot (position_in told) i exit player old middle)
+      → Follows boot drivers (with_play told out.between) (goes_out boot drivers exit.answer.cpu (with_play told out.between))
       result after middle new
       → IfErr result (λ stop. stop ≡ Memory) → Follows boot drivers told (after_item boot drivers i told) result after old new
-  exit-follows i answered result player after old middle new going out follows memory =
+  exit-follows i exit result player after old middle new going out follows memory =
       follows-so i result after old new going
-      (plays-exit (of_signals boot drivers) (is-kind boot drivers) (λ p. IsPlayedTo boot drivers p after) told i answered result player
+      (plays-exit (of_signals boot drivers) (is-kind boot drivers) (λ p. IsPlayedTo boot drivers p after) told i exit result player
       old middle new out follows memory)
 
   -- it is not begun

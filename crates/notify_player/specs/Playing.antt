@@ -1,5 +1,5 @@
 -- What the play of a trace with signals comes to in the code, step by step.
-use Rattle.std.specs.Prelude.{◌≡◌, ℕ, ◌<◌, List, [], length, Option, Some, Result, slice_get, slice_index_or, slice_set}
+use Rattle.std.specs.Prelude.{◌≡◌, ℕ, ◌<◌, List, [], length, Option, Some, Result, Ok, Err, slice_get, slice_index_or, slice_set}
 use Rattle.core_machine.specs.declared.smc.Told.{Told}
 use Rattle.event_journal.specs.declared.event.Event.{Event}
 use Rattle.kernel_model.specs.Application.{Booted}
@@ -78,6 +78,11 @@ HasPlace (item.Show cpu addr len) = Unit {0}
 -- the play, of which the next entry was refused, which would have read so many bytes
 abbrev pub refused_at : ℕ → NotifyPlay → NotifyPlay
 refused_at more told = record told { play = record told.play { refused = Some more } }
+
+-- what came of an item, but for the panic in which its call has ended
+abbrev pub without_panic : Result (Option ℕ) Stop → Result (Unit {0}) Stop
+without_panic (Ok panic) = Ok tt
+without_panic (Err stop) = Err stop
 
 -- something that a play comes to so, where it can come; a refused entry prints nothing, and the player is where it was
 abbrev pub Follows : Booted → Drivers → NotifyPlay → Option NotifyPlay → Result (Unit {0}) Stop → NotifyPlayer → List ℕ

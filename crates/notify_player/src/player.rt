@@ -1,15 +1,16 @@
 //! A core with its processors and a desk of signals, which are moved step by step.
 
-ghost use Rattle.std.specs.Prelude.{◌≡◌, ℕ, ◌<◌, [], All, Err, IfErr, Some, slice_get};
+ghost use Rattle.std.specs.Prelude.{◌≡◌, ℕ, ◌<◌, [], All, Err, IfErr, IfOk, Some, slice_get};
 ghost use Rattle.kernel_model.specs.Application.{Booted};
 ghost use Rattle.native_tas.specs.Table.{drivers};
 ghost use Rattle.notif.specs.Desk.{IsDeskOf, new_desk};
 ghost use Rattle.notify_play.specs.NotifyPlay.{Drivers, NotifyPlay, after_item, first_notify_play, goes_out};
 ghost use Rattle.notify_text.specs.Sound.{IsSoundSignal};
 ghost use Rattle.play_model.specs.Play.{Play};
+ghost use Rattle.trace_player.specs.Items.{panic_at_exit};
 ghost use Rattle.trace_player.specs.Playing.{CanBeTaken, CanBeTold};
 ghost use Rattle.trace_player.specs.Position.{StandsAt, position_of};
-ghost use Rattle.notify_player.specs.Playing.{Follows, HasGone, HasPlace, IsPlayedTo, places_behind};
+ghost use Rattle.notify_player.specs.Playing.{Follows, HasGone, HasPlace, IsPlayedTo, places_behind, position_in, without_panic};
 ghost use Rattle.notify_player.specs.Signalling.{behind_at, front_at, signalled_by};
 
 use crate::entered::asked_at;
@@ -21,12 +22,9 @@ use native_tas::Natives;
 use notif::Desk;
 use notify_text::Signal;
 use std::alloc::Global;
-use trace_player::Player;
+use trace_player::{MAX_CPUS, Player};
 use trace_text::Item;
 use word_parts::Stop;
-
-/// The most processors that there are.
-const MAX_CPUS: usize = 8;
 
 /// A player, and the desk that answers above its core.
 #[derive(Drop)]
@@ -115,28 +113,34 @@ impl NotifyPlayer {
         self.player.tell(cpu, told.regs, lines)
     }
 
-    /// Plays an item, and appends what it prints to the lines. The natives are those of the desk's `new`. Where an entry is refused,
-    /// nothing is printed, and the player is as it was; at want of memory a part of a line may stand behind the lines.
+    /// Plays an item, and appends what it prints to the lines. Gives the code of the panic in which the call has ended of a processor
+    /// that goes out by it, if it did. The natives are those of the desk's `new`. Where an entry is refused, nothing is printed, and
+    /// the player is as it was; at want of memory a part of a line may stand behind the lines.
     pub fn play_item(
         &mut self,
         alloc: Global,
         natives: &Natives,
         item: &Item,
         lines: &mut Vec<u8>,
-    ) -> Result<(), Stop>
+    ) -> Result<Option<u32>, Stop>
         requires can { CanBeTaken self.old.player.machine item.now }
         requires desk { IsDeskOf (drivers natives.now) self.old.desk }
         ensures follows { (boot : Booted) (told : NotifyPlay) → IsPlayedTo boot (drivers natives.now) told self.old
-            → Follows boot (drivers natives.now) told (after_item boot (drivers natives.now) item.now told) result self.new
-            lines.old.items lines.new.items }
+            → Follows boot (drivers natives.now) told (after_item boot (drivers natives.now) item.now told)
+            (without_panic result) self.new lines.old.items lines.new.items }
+        ensures panic { (boot : Booted) (told : NotifyPlay) → IsPlayedTo boot (drivers natives.now) told self.old
+            → IfOk result (λ panic. panic ≡ panic_at_exit boot (position_in told) item.now) }
         ensures never_fails { result ≡ Err Stop.Failed → ⊥ }
     {
         let place = self.player.history().len();
         let out = self.player.begin_item(alloc, item, lines)?;
         self.keep_entry(item, place);
         match out {
-            Some(answered) => self.answer(natives, answered, lines),
-            None => Ok(()),
+            Some(exit) => {
+                self.answer(natives, exit.answer, lines)?;
+                Ok(exit.panic)
+            }
+            None => Ok(None),
         }
     }
 }

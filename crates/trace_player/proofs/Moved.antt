@@ -25,9 +25,11 @@ use Rattle.trace_player.specs.Position.{Position, StandsAt, visit_at}
 use Rattle.word_parts.specs.Stop.{stop_of}
 use Rattle.core_machine.specs.Standing.{CanCome, IsAt, play_of}
 use Rattle.core_at_work.specs.Insides.{insides}
+use Rattle.core_at_work.specs.Panics.{panic_of}
 use Rattle.core_machine.specs.Turns.{ComeInTurn, MayCome}
 use Rattle.kernel_entry.specs.Visiting.{coming_of}
 use Rattle.core_machine.specs.declared.machine.Machine.{Machine}
+use Rattle.trace_player.specs.declared.exit.Exit.{Exit}
 use Rattle.trace_player.specs.declared.player.Player.{Player}
 use Rattle.word_parts.specs.declared.stop.Stop.{Stop}
 use Rattle.word_parts.specs.declared.stop.Stop.TheVariants.{Full, Failed, Memory}
@@ -163,16 +165,33 @@ enter-alone boot at cpu steps regs player text came = record {
 }
 
 -- an exit behind an entry
-pub smc-exit : (boot : Booted) (at : Position) (cpu steps : ℕ) (regs : List Reg) (told : Told) (between player : Player)
-    (text : List ℕ) → told.cpu ≡ cpu → (came : ComesIn boot at (visit_at at cpu steps regs) (Ok tt) between)
-    → GoesOut boot (record at { play = came.0 }) told player → HasExit boot at (item.Smc cpu steps regs) told player text text
-smc-exit boot at cpu steps regs told between player text own came goes = record {
+pub smc-exit : (boot : Booted) (at : Position) (cpu steps : ℕ) (regs : List Reg) (exit : Exit) (between player : Player)
+    (text : List ℕ) → exit.answer.cpu ≡ cpu → (came : ComesIn boot at (visit_at at cpu steps regs) (Ok tt) between)
+    → GoesOut boot (record at { play = came.0 }) exit.answer player → exit.panic ≡ panic_of came.0.kernel cpu
+    → HasExit boot at (item.Smc cpu steps regs) exit player text text
+smc-exit boot at cpu steps regs exit between player text own came goes panics = record {
   cpu = ap (λ (n : ℕ). Some n) (sym own);
   between = came.0;
   comes = came.1;
   goes_on = came.2.machine.goes_on;
   lines = enters-lines boot (visit_at at cpu steps regs) at.play came.0 came.1;
   goes = goes;
+  panic = panics ∙ ap (panic_of came.0.kernel) (sym own);
+  prints = refl;
+}
+
+-- an exit alone
+pub leave-exit : (boot : Booted) (at : Position) (cpu : ℕ) (exit : Exit) (before player : Player) (text : List ℕ)
+    → exit.answer.cpu ≡ cpu → StandsAt boot at before → GoesOut boot at exit.answer player
+    → exit.panic ≡ panic_of at.play.kernel cpu → HasExit boot at (item.Leave cpu) exit player text text
+leave-exit boot at cpu exit before player text own stands goes panics = record {
+  cpu = ap (λ (n : ℕ). Some n) (sym own);
+  between = at.play;
+  comes = refl;
+  goes_on = stands.machine.goes_on;
+  lines = refl;
+  goes = goes;
+  panic = panics ∙ ap (panic_of at.play.kernel) (sym own);
   prints = refl;
 }
 

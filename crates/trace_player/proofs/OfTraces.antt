@@ -3,7 +3,6 @@ use Rattle.std.proofs.Common.{◌≡◌, ℕ, List, [], ◌∷◌, ◌++◌, Opt
 use Rattle.std.specs.Prelude.{◌==◌, if◌then◌else◌, OnOk, Result, Ok, Err, IfErr}
 use Rattle.std.specs.Option.{option_and_then, option_map}
 use Rattle.core_machine.specs.Serving.{line_of}
-use Rattle.core_machine.specs.declared.smc.Told.{Told}
 use Rattle.kernel_model.specs.Application.{Booted}
 use Rattle.ns_ram.specs.Lane.{bytes_at}
 use Rattle.play_model.specs.Line.{Mem, ret_line}
@@ -14,6 +13,7 @@ use Rattle.trace_player.specs.Items.{Begins, HasExit, HasNoExit, after_item_of, 
 use Rattle.trace_player.specs.Kinds.{IsKind, of_trace}
 use Rattle.trace_player.specs.Playing.{Follows, IsPlayedTo}
 use Rattle.trace_player.specs.Position.{StandsAt, position_of, told_too}
+use Rattle.trace_player.specs.declared.exit.Exit.{Exit}
 use Rattle.trace_player.specs.declared.player.Player.{Player}
 use Rattle.word_parts.specs.declared.stop.Stop.{Stop}
 use Rattle.word_parts.specs.declared.stop.Stop.TheVariants.{Full, Failed, Memory}
@@ -65,11 +65,12 @@ module _ (boot : Booted) (play : Play) where
       ap (λ (p : Play). last_answer p.history cpu) here
 
   -- the processor that went out was told the kernel's answer
-  told-so : (i : Item) (told : Told) (between player : Player) (old middle : List ℕ)
-      → (out : HasExit boot (position_of play) i told between old middle)
-      → StandsAt boot (told_too told.cpu told.regs.a (record { play = out.goes.next; told = last_answer play.history })) player
+  told-so : (i : Item) (exit : Exit) (between player : Player) (old middle : List ℕ)
+      → (out : HasExit boot (position_of play) i exit between old middle)
+      → StandsAt boot (told_too exit.answer.cpu exit.answer.regs.a (record { play = out.goes.next; told = last_answer play.history })) player
       → IsPlayedTo boot out.goes.next player
-  told-so i told between player old middle out stands =
+  told-so i exit between player old middle out stands =
+      let told = exit.answer in
       same-told boot out.goes.next
       (λ other. if told.cpu == other then told.regs.a else last_answer play.history other)
       (last_answer out.goes.next.history) player
@@ -88,29 +89,29 @@ module _ (boot : Booted) (play : Play) where
       (same-told boot alone.next (last_answer play.history) (last_answer alone.next.history) player
       (λ cpu below. up-to-told i alone.next cpu alone.comes alone.stands.machine.goes_on) alone.stands))
 
-  exit-told : (i : Item) (told : Told) (result : Result (Unit {0}) Stop) (between player : Player) (old middle new : List ℕ)
-      → (out : HasExit boot (position_of play) i told between old middle) → IsPlayedTo boot out.goes.next player
-      → OnOk result (new ≡ middle ++ ret_line told.cpu told.regs.a) → IfErr result (λ stop. stop ≡ Memory)
-      → Follows boot out.between (leaves boot told.cpu out.between) result player middle new
-  exit-told i told (Ok done) between player old middle new out stands put memory = (
+  exit-told : (i : Item) (exit : Exit) (result : Result (Unit {0}) Stop) (between player : Player) (old middle new : List ℕ)
+      → (out : HasExit boot (position_of play) i exit between old middle) → IsPlayedTo boot out.goes.next player
+      → OnOk result (new ≡ middle ++ ret_line exit.answer.cpu exit.answer.regs.a) → IfErr result (λ stop. stop ≡ Memory)
+      → Follows boot out.between (leaves boot exit.answer.cpu out.between) result player middle new
+  exit-told i exit (Ok done) between player old middle new out stands put memory = (
     out.goes.next,
     out.goes.leaves,
     stands,
-    (line_of told ∷ [], out.goes.line, put ∙ ap (λ (t : List ℕ). middle ++ t) (sym (one-line (line_of told)))),
+    (line_of exit.answer ∷ [], out.goes.line, put ∙ ap (λ (t : List ℕ). middle ++ t) (sym (one-line (line_of exit.answer)))),
   )
-  exit-told i told (Err Full) between player old middle new out stands put memory = absurd cc
-  exit-told i told (Err Failed) between player old middle new out stands put memory = absurd cc
-  exit-told i told (Err Memory) between player old middle new out stands put memory = tt
+  exit-told i exit (Err Full) between player old middle new out stands put memory = absurd cc
+  exit-told i exit (Err Failed) between player old middle new out stands put memory = absurd cc
+  exit-told i exit (Err Memory) between player old middle new out stands put memory = tt
 
-  pub exit-follows : (i : Item) (told : Told) (result : Result (Unit {0}) Stop) (between player : Player)
-      (old middle new : List ℕ) → play.refused ≡ None → (out : HasExit boot (position_of play) i told between old middle)
-      → StandsAt boot (told_too told.cpu told.regs.a (record { play = out.goes.next; told = last_answer play.history })) player
-      → OnOk result (new ≡ middle ++ ret_line told.cpu told.regs.a) → IfErr result (λ stop. stop ≡ Memory)
+  pub exit-follows : (i : Item) (exit : Exit) (result : Result (Unit {0}) Stop) (between player : Player)
+      (old middle new : List ℕ) → play.refused ≡ None → (out : HasExit boot (position_of play) i exit between old middle)
+      → StandsAt boot (told_too exit.answer.cpu exit.answer.regs.a (record { play = out.goes.next; told = last_answer play.history })) player
+      → OnOk result (new ≡ middle ++ ret_line exit.answer.cpu exit.answer.regs.a) → IfErr result (λ stop. stop ≡ Memory)
       → Follows boot play (after_item boot i play) result player old new
-  exit-follows i told result between player old middle new going out stands put memory =
+  exit-follows i exit result between player old middle new going out stands put memory =
       follows-so i result player old new going
-      (plays-exit (of_trace boot) (is-kind boot) (λ p. IsPlayedTo boot p player) play i told result between old middle new out
-      (exit-told i told result between player old middle new out (told-so i told between player old middle out stands) put memory)
+      (plays-exit (of_trace boot) (is-kind boot) (λ p. IsPlayedTo boot p player) play i exit result between old middle new out
+      (exit-told i exit result between player old middle new out (told-so i exit between player old middle out stands) put memory)
       memory)
 
   pub stop-follows : (i : Item) (stop : Stop) (player : Player) (old new : List ℕ) → play.refused ≡ None

@@ -1,6 +1,7 @@
 -- An item, and the same up to where a processor goes out by it: what a play comes to then, before that processor is told anything.
 use Rattle.std.specs.Prelude.{◌≡◌, ℕ, List, [], ◌∷◌, ◌++◌, Option, None, Some, Result, Ok, Err}
 use Rattle.std.specs.Option.{option_and_then, option_map, option_map_or}
+use Rattle.core_at_work.specs.Panics.{panic_of}
 use Rattle.core_machine.specs.Serving.{line_of}
 use Rattle.core_machine.specs.declared.smc.Told.{Told}
 use Rattle.kernel_model.specs.Application.{Booted}
@@ -13,6 +14,7 @@ use Rattle.trace_text.specs.declared.item.Item.TheVariants as item
 use Rattle.trace_player.specs.Kinds.{Kind, play_in}
 use Rattle.trace_player.specs.Playing.{Prints}
 use Rattle.trace_player.specs.Position.{Position, StandsAt, visit_at}
+use Rattle.trace_player.specs.declared.exit.Exit.{Exit}
 use Rattle.trace_player.specs.declared.player.Player.{Player}
 use Rattle.word_parts.specs.declared.stop.Stop.{Stop}
 use Rattle.word_parts.specs.declared.stop.Stop.TheVariants.{Full, Failed, Memory}
@@ -33,6 +35,11 @@ goes_out_by (item.Enter cpu steps regs) = None
 goes_out_by (item.Leave cpu) = Some cpu
 goes_out_by (item.Write cpu addr bytes) = None
 goes_out_by (item.Show cpu addr len) = None
+
+-- the panic in which the call has ended of that processor, if it did: of the kernel as it goes out
+abbrev pub panic_at_exit : Booted → Position → Item → Option ℕ
+panic_at_exit boot at i =
+    option_and_then (λ (cpu : ℕ). option_and_then (λ (inside : Play). panic_of inside.kernel cpu) (up_to_exit boot at i)) (goes_out_by i)
 
 -- the exit of a processor, where one goes out, unless an entry was refused
 abbrev pub exit_by : {P : Type 0} → Kind P → Option ℕ → P → Option P
@@ -75,13 +82,14 @@ pub record HasNoExit (boot : Booted) (at : Position) (i : Item) (player : Player
   pub prints : Prints at.play next old new
 
 -- a processor has gone out by it, behind its entry if that is a part of the item
-pub record HasExit (boot : Booted) (at : Position) (i : Item) (told : Told) (player : Player) (old new : List ℕ) : Type 0 where
-  pub cpu : goes_out_by i ≡ Some told.cpu
+pub record HasExit (boot : Booted) (at : Position) (i : Item) (exit : Exit) (player : Player) (old new : List ℕ) : Type 0 where
+  pub cpu : goes_out_by i ≡ Some exit.answer.cpu
   pub between : Play
   pub comes : up_to_exit boot at i ≡ Some between
   pub goes_on : between.refused ≡ None
   pub lines : between.lines ≡ at.play.lines
-  pub goes : GoesOut boot (record at { play = between }) told player
+  pub goes : GoesOut boot (record at { play = between }) exit.answer player
+  pub panic : exit.panic ≡ panic_of between.kernel exit.answer.cpu
   pub prints : new ≡ old
 
 -- its entry is refused
@@ -92,9 +100,9 @@ pub record IsNotBegun (boot : Booted) (at : Position) (i : Item) (player : Playe
   pub prints : new ≡ old
 
 -- by what came of it; of want of memory nothing is said
-abbrev pub Begins : Booted → Position → Item → Result (Option Told) Stop → Player → List ℕ → List ℕ → Type 0
+abbrev pub Begins : Booted → Position → Item → Result (Option Exit) Stop → Player → List ℕ → List ℕ → Type 0
 Begins boot at i (Ok None) player old new = HasNoExit boot at i player old new
-Begins boot at i (Ok (Some told)) player old new = HasExit boot at i told player old new
+Begins boot at i (Ok (Some exit)) player old new = HasExit boot at i exit player old new
 Begins boot at i (Err Full) player old new = IsNotBegun boot at i player old new
 Begins boot at i (Err Failed) player old new = ⊥
 Begins boot at i (Err Memory) player old new = Unit {0}

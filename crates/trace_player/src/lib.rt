@@ -5,6 +5,8 @@
 //! `play_model` it has come to. What is done with the lines, and what is made of a refused entry, is its caller's.
 #![tactic(auto)]
 
+mod exit;
 mod player;
 
-pub use player::Player;
+pub use exit::Exit;
+pub use player::{MAX_CPUS, Player};

@@ -1,6 +1,7 @@
 //! A core with its processors, and what each of them was last told.
 ghost use Rattle.std.specs.Prelude.{◌≡◌, ◌<◌, ◌++◌, [], ◌∷◌, All, Err, IfErr, IfOk, IfSome, OnOk, Some, length, slice_get};
 ghost use Rattle.base.specs.Zeros.{zeros};
+ghost use Rattle.core_at_work.specs.Panics.{panic_of};
 ghost use Rattle.kernel_model.specs.Application.{Booted, IsBooted, booted};
 ghost use Rattle.kernel_state.specs.Meaning.{booted_of};
 ghost use Rattle.native_tas.specs.Table.{entries};
@@ -13,6 +14,7 @@ ghost use Rattle.trace_player.specs.Playing.{CanBeTold, CanComeIn, CanGoOut, Can
 ghost use Rattle.trace_player.specs.Position.{AreTold, Position, StandsAt, told_too, visit_at};
 ghost use Rattle.trace_player.specs.Starting.{uuids_of};
 
+use crate::exit::Exit;
 use answer_lines::{push_mem, push_ret, registers};
 use base::NoMemory;
 use core_machine::{Machine, Told, machines_stand, turns_are_taken};
@@ -26,7 +28,7 @@ use trace_text::{Fill, Item, Reg};
 use word_parts::Stop;
 
 /// The most processors that there are.
-const MAX_CPUS: usize = 8;
+pub const MAX_CPUS: usize = 8;
 
 /// A core with its processors, and what each of them was last told: zeros before any.
 #[derive(Drop)]
@@ -109,16 +111,19 @@ impl Player {
     }
 
     /// A processor goes out of the core, and is told nothing yet.
-    fn leave(&mut self, cpu: u8) -> Told
+    fn leave(&mut self, cpu: u8) -> Exit
         requires { CanGoOut self.old.machine cpu }
-        ensures leaves { (boot : Booted) (at : Position) → StandsAt boot at self.old → GoesOut boot at result self.new }
+        ensures leaves { (boot : Booted) (at : Position) → StandsAt boot at self.old → GoesOut boot at result.answer self.new }
+        ensures panic { (boot : Booted) (at : Position) → StandsAt boot at self.old → result.panic ≡ panic_of at.play.kernel cpu }
         ensures told { CanBeTold self.new.machine cpu }
-        ensures cpu { result.cpu ≡ cpu }
+        ensures cpu { result.answer.cpu ≡ cpu }
     {
         machines_stand();
-        Told {
-            cpu,
-            regs: self.machine.leave(cpu),
+        let panic = self.machine.panic(cpu);
+        let regs = self.machine.leave(cpu);
+        Exit {
+            answer: Told { cpu, regs },
+            panic,
         }
     }
 
@@ -169,18 +174,18 @@ impl Player {
     }
 
     /// Plays an item up to where a processor goes out of the core by it, if one does: that one is told nothing yet, and `tell` is to
-    /// follow. Where an entry is refused, nothing is printed, and the player is as it was; at want of memory a part of a line may
+    /// follow. Gives its exit. Where an entry is refused, nothing is printed, and the player is as it was; at want of memory a part of a line may
     /// stand behind the lines.
     pub fn begin_item(
         &mut self,
         alloc: Global,
         item: &Item,
         lines: &mut Vec<u8>,
-    ) -> Result<Option<Told>, Stop>
+    ) -> Result<Option<Exit>, Stop>
         requires { CanTake self.old item.now }
         ensures begins { (boot : Booted) (at : Position) → StandsAt boot at self.old
             → Begins boot at item.now result self.new lines.old.items lines.new.items }
-        ensures told { IfOk result (λ out. IfSome out (λ told. CanBeTold self.new.machine told.cpu)) }
+        ensures told { IfOk result (λ out. IfSome out (λ exit. CanBeTold self.new.machine exit.answer.cpu)) }
         ensures never_fails { result ≡ Err Stop.Failed → ⊥ }
     {
         match item {
@@ -215,7 +220,7 @@ impl Player {
         ensures never_fails { result ≡ Err Stop.Failed → ⊥ }
     {
         match self.begin_item(alloc, item, lines)? {
-            Some(told) => self.tell(told.cpu, told.regs, lines),
+            Some(exit) => self.tell(exit.answer.cpu, exit.answer.regs, lines),
             None => Ok(()),
         }
     }

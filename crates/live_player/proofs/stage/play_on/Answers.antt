@@ -1,4 +1,4 @@
-use Rattle.std.proofs.Common.{ap, subst, sym, ◌∙◌}
+use Rattle.std.proofs.Common.{subst}
 use Rattle.std.specs.Prelude.{Err}
 use Rattle.kernel_model.specs.Application.{booted}
 use Rattle.native_tas.specs.Table.{drivers, entries}
@@ -6,8 +6,7 @@ use Rattle.notify_play.specs.NotifyPlay.{after_item}
 use Rattle.notify_player.specs.Playing.{Follows}
 use Rattle.word_parts.specs.declared.stop.Stop.{Stop}
 use Rattle.live_play.specs.Answer.{setting}
-use Rattle.live_player.proofs.Panics.{panic_told}
-use Rattle.live_player.specs.Panicking.{with_panic}
+use Rattle.live_player.proofs.Panics.{item_ends}
 use Rattle.live_player.proofs.Playing.{desk_is, item_can, item_done, item_full}
 use Rattle.live_player.proofs.stage.play_on.Goals as goal
 
@@ -24,26 +23,22 @@ play_item-requires-clause-desk g c =
 pub returns-in-Ok-clause-plays : goal.returns-in-Ok-clause-plays
 returns-in-Ok-clause-plays g c = λ lines next p.
     item_done (entries c.args.natives.now) (drivers c.args.natives.now) lines c.args.item.now c.args.player.now
-    c.play_item.new.player c.args.text.now.items c.play_item.new.text.items next p
+    c.play_item.new.self c.args.text.now.items c.play_item.new.lines.items next p
     (c.in-Ok.ensures.follows (booted p.boot (entries c.args.natives.now)) p.told p.stands)
 
 pub returns-in-Err-Full-clause-plays : goal.returns-in-Err-Full-clause-plays
 returns-in-Err-Full-clause-plays g c = λ lines next p.
     let natives = entries c.args.natives.now in
     let ds = drivers c.args.natives.now in
-    item_full natives ds lines c.args.item.now c.args.player.now c.play_item.new.player c.copied.result
-    c.args.text.now.items c.play_item.new.text.items next p
+    item_full natives ds lines c.args.item.now c.args.player.now c.play_item.new.self c.copied.result
+    c.args.text.now.items c.play_item.new.lines.items next p
     (subst (λ (stop : Stop). Follows (booted p.boot natives) ds p.told (after_item (booted p.boot natives) ds c.args.item.now p.told)
-    (Err stop) c.play_item.new.player c.args.text.now.items c.play_item.new.text.items) c.in-Err-Full.field-0-is
+    (Err stop) c.play_item.new.self c.args.text.now.items c.play_item.new.lines.items) c.in-Err-Full.field-0-is
     (c.in-Err-Full.ensures.follows (booted p.boot natives) p.told p.stands))
     (cc)
 
-pub play_item-requires-clause-played : goal.play_item-requires-clause-played
-play_item-requires-clause-played g c =
-    let p = c.requires.2 in (booted p.boot (entries c.args.natives.now), p.told, p.stands)
-
 pub returns-in-Ok-clause-panic : goal.returns-in-Ok-clause-panic
 returns-in-Ok-clause-panic g c = λ lines p.
-    c.in-Ok.ensures.panic (booted p.boot (entries c.args.natives.now)) p.told p.stands
-    ∙ ap (with_panic c.args.watch.now)
-    (sym (panic_told (setting (entries c.args.natives.now) (drivers c.args.natives.now)) lines c.args.item.now c.args.player.now p))
+    let natives = entries c.args.natives.now in
+    item_ends (setting natives (drivers c.args.natives.now)) lines c.args.item.now c.args.player.now c.in-Ok.panic p
+    (c.in-Ok.ensures.panic (booted p.boot natives) p.told p.stands)

@@ -3,6 +3,7 @@ use Rattle.std.specs.Prelude.{Ok, Err}
 use Rattle.std.proofs.lemmas.Result.{err_from_is_err_and}
 use Rattle.live_play.specs.Answer.{Setting, setting}
 use Rattle.native_tas.specs.Table.{drivers, entries}
+use Rattle.live_player.specs.Panicking.{taken_as}
 use Rattle.live_player.proofs.Taking.{not_read, read_as, stands_at, takes}
 use Rattle.live_player.proofs.player.LivePlayer.take_line.Goals as goal
 
@@ -28,6 +29,6 @@ returns-in-Ok g c = λ lines stands.
     let same = c.as_slice.ensures.value ∙ c.uuids.ensures.order in
     let says = read_as c.as_slice.result.now c.args.line.now (Ok c.in_ok-said.said) same c.lines_stay_sound.ensures
     c.in_ok-said.ensures.judged c.in_ok-said.ensures.in_place stands.come in
-    takes (setting natives ds) lines c.args.line.now c.in_ok-said.said c.in-Ok.taken c.take.new.self _ _ says
+    rw c.taken.ensures (takes (setting natives ds) lines c.args.line.now c.in_ok-said.said (taken_as c.in-Ok.how) c.take.new.self _ _ says
     (stands_at natives ds c.as_slice.result.now same c.as_slice.ensures.fits (rw c.as_slice.ensures.value c.uuids.ensures.apart))
-    (c.in-Ok.ensures.takes lines says.next stands.come)
+    (c.in-Ok.ensures.takes lines says.next stands.come))

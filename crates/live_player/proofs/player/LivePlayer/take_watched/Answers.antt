@@ -1,20 +1,19 @@
-use Rattle.std.proofs.Common.{List, ℕ, ◌++◌, Option, ap, sym, ◌∙◌}
+use Rattle.std.proofs.Common.{List, ℕ, ◌++◌, ap, sym, ◌∙◌}
 use Rattle.live_play.specs.Answer.{Setting, setting}
 use Rattle.live_play.specs.Changes.{changes, text_of_changes}
-use Rattle.live_play.specs.Panicking.{panic_line}
 use Rattle.live_play.specs.Showing.{lane_at}
-use Rattle.live_play.specs.State.{text_if}
 use Rattle.live_text.specs.Statement.{with_statement}
 use Rattle.native_tas.specs.Table.{drivers, entries}
+use Rattle.live_player.specs.Panicking.{taken_as}
 use Rattle.live_player.proofs.Watched.{can_still_watch, can_watch, not_open, watches_done, watches_full, watches_staying}
 use Rattle.live_player.proofs.player.LivePlayer.take_watched.Goals as goal
 
 pub returns-in_default : goal.returns-in_default
 returns-in_default g c = λ lines next come.
     let on : Setting = setting (entries c.args.natives.now) (drivers c.args.natives.now) in
-    watches_staying on lines c.args.said c.take.result c.args.self.now.stage c.take.new.self c.args.text.now.items
-    c.take.new.text.items (λ cpu out. c.in_default.not-Some cpu (c.cpu_going_out.ensures ∙ out)) next come.stage_at
-    (c.take.ensures.takes lines next come)
+    rw c.taken.ensures (watches_staying on lines c.args.said (taken_as c.in_ok-take.field-0) c.args.self.now.stage c.take.new.self
+    c.args.text.now.items c.take.new.text.items (λ cpu out. c.in_default.not-Some cpu (c.cpu_going_out.ensures ∙ out)) next
+    come.stage_at (c.in_ok-take.ensures.takes lines next come))
 
 pub copy_ram-requires : goal.copy_ram-requires
 copy_ram-requires g c =
@@ -28,7 +27,7 @@ copy_ram-requires g c =
 pub push_changes-requires-clause-watched : goal.push_changes-requires-clause-watched
 push_changes-requires-clause-watched g c =
     let next = c.requires.next in
-    let takes = rw c.in-Done.is at (c.in_ok-take.ensures.takes next.0 next.1 next.2) in (
+    let takes = rw c.in-Done.is at (c.in_ok-panic.ensures.takes next.0 next.1 next.2) in (
       setting (entries c.args.natives.now) (drivers c.args.natives.now),
       with_statement next.0 c.args.said,
       can_still_watch (entries c.args.natives.now) (drivers c.args.natives.now) next.0 c.args.said c.in-Some.cpu
@@ -42,7 +41,7 @@ returns-in_ok-push_changes-in-Done g c = λ lines next come.
     let on : Setting = setting natives ds in
     let cpu = c.in-Some.cpu in
     let out = sym c.cpu_going_out.ensures ∙ c.in-Some.is in
-    let takes = rw c.in-Done.is at (c.in_ok-take.ensures.takes lines next come) in
+    let takes = rw c.in-Done.is at (c.in_ok-panic.ensures.takes lines next come) in
     let after = with_statement lines c.args.said in
     let copied = c.in_ok-copy_ram.ensures.lane on lines
     (can_watch natives ds lines c.args.said cpu c.args.self.now.stage out next come.stage_at) in
@@ -50,10 +49,9 @@ returns-in_ok-push_changes-in-Done g c = λ lines next come.
     (can_still_watch natives ds lines c.args.said cpu c.take-2.new.self.stage out next takes.come.stage_at)
     (not_open lines c.args.said cpu out) in
     watches_done on lines c.args.said cpu c.args.self.now.stage c.take-2.new.self c.copy_ram.new.copy.items
-    c.args.text.now.items c.take-2.new.text.items c.push_panic.new.text.items c.push_changes.new.text.items c.take-2.new.watch
-    out next come.stage_at copied takes (rw c.in-Done.is at (c.in_ok-take.ensures.panic lines next come))
-    (c.in_ok-push_panic-in-Done.ensures
-    ∙ ap (λ (p : Option ℕ). c.take-2.new.text.items ++ text_if panic_line p) c.panic.ensures)
+    c.args.text.now.items c.take-2.new.text.items c.push_panic.new.text.items c.push_changes.new.text.items c.in-Done.panic
+    out next come.stage_at copied takes (rw c.in-Done.is at (c.in_ok-panic.ensures.panic lines next come))
+    c.in_ok-push_panic-in-Done.ensures
     (pushed ∙ ap (λ (copy : List ℕ). c.push_panic.new.text.items ++ text_of_changes cpu (changes copy (lane_at on after cpu)))
     c.as_slice.ensures.value)
 
@@ -61,4 +59,4 @@ pub returns-in-Full : goal.returns-in-Full
 returns-in-Full g c = λ lines next come.
     let on : Setting = setting (entries c.args.natives.now) (drivers c.args.natives.now) in
     watches_full on lines c.args.said c.in-Full.copied c.take-2.new.self c.args.text.now.items c.take-2.new.text.items
-    (rw c.in-Full.is at (c.in_ok-take.ensures.takes lines next come))
+    (rw c.in-Full.is at (c.in_ok-panic.ensures.takes lines next come))

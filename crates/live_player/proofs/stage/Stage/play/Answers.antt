@@ -1,5 +1,9 @@
+use Rattle.std.proofs.Common.{refl}
 use Rattle.live_play.specs.Answer.{Setting, setting}
-use Rattle.live_player.proofs.Staging.{waits, waits_untold}
+use Rattle.live_player.proofs.Panics.{no_panic}
+use Rattle.live_player.proofs.Staging.{waits, waits_unended}
+use Rattle.live_text.specs.Statement.{with_statement}
+use Rattle.live_text.specs.declared.statement.Statement.TheVariants as says
 use Rattle.native_tas.specs.Table.{drivers, entries}
 use Rattle.live_player.proofs.stage.Stage.play.Goals as goal
 
@@ -48,29 +52,31 @@ returns-in-Item-clause-panic g c = λ lines next stands.
 
 pub returns-in_ok-signal-in-Signal-clause-panic :
     goal.returns-in_ok-signal-in-Signal-clause-panic
-returns-in_ok-signal-in-Signal-clause-panic g c = λ lines next stands. rw c.in-Signal.is tt
+returns-in_ok-signal-in-Signal-clause-panic g c = λ lines next stands.
+    let on : Setting = setting (entries c.args.natives.now) (drivers c.args.natives.now) in
+    rw c.in-Signal.is (no_panic on lines (with_statement lines (says.Signal c.in-Signal.value)) refl)
 
 pub returns-in-Blank-clause-panic : goal.returns-in-Blank-clause-panic
 returns-in-Blank-clause-panic g c = λ lines next stands.
     let on : Setting = setting (entries c.args.natives.now) (drivers c.args.natives.now) in
-    waits_untold on lines c.args.said.now c.args.watch.now c.args.watch.now c.in-Blank.is
+    waits_unended on lines c.args.said.now c.in-Blank.is
 
 pub returns-in-Blank-2-clause-panic : goal.returns-in-Blank-2-clause-panic
 returns-in-Blank-2-clause-panic g c = λ lines next stands.
     let on : Setting = setting (entries c.args.natives.now) (drivers c.args.natives.now) in
-    waits_untold on lines c.args.said.now c.args.watch.now c.args.watch.now c.in-Blank.is
+    waits_unended on lines c.args.said.now c.in-Blank.is
 
 pub returns-in-Blank-3-clause-panic : goal.returns-in-Blank-3-clause-panic
 returns-in-Blank-3-clause-panic g c = λ lines next stands.
     let on : Setting = setting (entries c.args.natives.now) (drivers c.args.natives.now) in
-    waits_untold on lines c.args.said.now c.args.watch.now c.args.watch.now c.in-Blank.is
+    waits_unended on lines c.args.said.now c.in-Blank.is
 
 pub returns-in-Blank-4-clause-panic : goal.returns-in-Blank-4-clause-panic
 returns-in-Blank-4-clause-panic g c = λ lines next stands.
     let on : Setting = setting (entries c.args.natives.now) (drivers c.args.natives.now) in
-    waits_untold on lines c.args.said.now c.args.watch.now c.args.watch.now c.in-Blank.is
+    waits_unended on lines c.args.said.now c.in-Blank.is
 
 pub returns-in-Blank-5-clause-panic : goal.returns-in-Blank-5-clause-panic
 returns-in-Blank-5-clause-panic g c = λ lines next stands.
     let on : Setting = setting (entries c.args.natives.now) (drivers c.args.natives.now) in
-    waits_untold on lines c.args.said.now c.args.watch.now c.args.watch.now c.in-Blank.is
+    waits_unended on lines c.args.said.now c.in-Blank.is

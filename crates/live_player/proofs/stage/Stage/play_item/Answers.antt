@@ -43,7 +43,7 @@ returns-in-Done-clause-plays g c = λ lines next stands.
     (closed_item lines c.args.item.now) refl in
     rw c.in-Done.is (begun_plays on lines c.args.item.now c.play_on-in-Header.new.player c.args.text.now.items
     c.play_on-in-Header.new.text.items
-    (rw c.in-Done.is at (c.in_ok-taken-in-Header.ensures.plays lines next (c.in_ok-player-in-Header.ensures lines can))))
+    (rw c.in-Done.is at (c.in_ok-how-in-Header.ensures.plays lines next (c.in_ok-player-in-Header.ensures lines can))))
 
 pub returns-in-Full-clause-plays : goal.returns-in-Full-clause-plays
 returns-in-Full-clause-plays g c = λ lines next stands.
@@ -53,7 +53,7 @@ returns-in-Full-clause-plays g c = λ lines next stands.
     (closed_item lines c.args.item.now) refl in
     rw c.in-Full.is (refused_plays on lines c.args.item.now _ c.play_on-in-Header.new.player _ c.args.text.now.items
     c.play_on-in-Header.new.text.items
-    (rw c.in-Full.is at (c.in_ok-taken-in-Header.ensures.plays lines next (c.in_ok-player-in-Header.ensures lines can))) there)
+    (rw c.in-Full.is at (c.in_ok-how-in-Header.ensures.plays lines next (c.in_ok-player-in-Header.ensures lines can))) there)
 
 pub returns-in-Core-clause-panic : goal.returns-in-Core-clause-panic
 returns-in-Core-clause-panic g c = λ lines next stands.
@@ -65,7 +65,7 @@ returns-in-Done-clause-panic g c = λ lines next stands.
     let there = rw c.in-Header.is at stands in
     let can = can_begin on lines (says.Item c.args.item.now) c.in-Header.header there.0 there.1 next
     (closed_item lines c.args.item.now) refl in
-    c.in_ok-taken-in-Header.ensures.panic lines (c.in_ok-player-in-Header.ensures lines can)
+    c.in_ok-how-in-Header.ensures.panic lines (c.in_ok-player-in-Header.ensures lines can)
 
 pub returns-in-Full-clause-panic : goal.returns-in-Full-clause-panic
 returns-in-Full-clause-panic g c = λ lines next stands.
@@ -73,4 +73,4 @@ returns-in-Full-clause-panic g c = λ lines next stands.
     let there = rw c.in-Header.is at stands in
     let can = can_begin on lines (says.Item c.args.item.now) c.in-Header.header there.0 there.1 next
     (closed_item lines c.args.item.now) refl in
-    c.in_ok-taken-in-Header.ensures.panic lines (c.in_ok-player-in-Header.ensures lines can)
+    c.in_ok-how-in-Header.ensures.panic lines (c.in_ok-player-in-Header.ensures lines can)

@@ -3,7 +3,7 @@ use Rattle.std.proofs.lemmas.Result.{err_from_is_err_and}
 use Rattle.play_model.specs.Play.{with_writes}
 use Rattle.trace_player.specs.Items.{up_to_exit}
 use Rattle.trace_player.specs.Position.{StandsAt, visit_at}
-use Rattle.trace_player.proofs.Moved.{enter-alone, entry-refused, show-alone, smc-exit, write-alone}
+use Rattle.trace_player.proofs.Moved.{enter-alone, entry-refused, leave-exit, show-alone, smc-exit, write-alone}
 use Rattle.trace_player.proofs.player.Player.begin_item.Goals as goal
 
 -- ---- an entry and its exit
@@ -19,7 +19,8 @@ pub returns-in_ok-enter-in-Smc-clause-begins : goal.returns-in_ok-enter-in-Smc-c
 returns-in_ok-enter-in-Smc-clause-begins c = λ boot at stands.
     let came = c.in_ok-enter-in-Smc.ensures.comes boot at stands in
     rw c.in-Smc.is (smc-exit boot at c.in-Smc.cpu c.in-Smc.steps c.in-Smc.regs c.leave.result c.enter.new.self c.leave.new.self
-    c.args.lines.now.items c.leave.ensures.cpu came (c.leave.ensures.leaves boot _ came.2))
+    c.args.lines.now.items c.leave.ensures.cpu came (c.leave.ensures.leaves boot _ came.2)
+    (c.leave.ensures.panic boot _ came.2))
 
 -- ---- an entry
 
@@ -34,6 +35,14 @@ pub returns-in_ok-enter-in-Enter-clause-begins : goal.returns-in_ok-enter-in-Ent
 returns-in_ok-enter-in-Enter-clause-begins c = λ boot at stands.
     rw c.in-Enter.is (enter-alone boot at c.in-Enter.cpu c.in-Enter.steps c.in-Enter.regs c.enter-in-Enter.new.self
     c.args.lines.now.items (c.in_ok-enter-in-Enter.ensures.comes boot at stands))
+
+-- ---- an exit
+
+pub returns-in-Leave-clause-begins : goal.returns-in-Leave-clause-begins
+returns-in-Leave-clause-begins c = λ boot at stands.
+    rw c.in-Leave.is (leave-exit boot at c.in-Leave.cpu c.leave-in-Leave.result c.args.self.now c.leave-in-Leave.new.self
+    c.args.lines.now.items c.leave-in-Leave.ensures.cpu stands (c.leave-in-Leave.ensures.leaves boot at stands)
+    (c.leave-in-Leave.ensures.panic boot at stands))
 
 -- ---- a write, a show
 
