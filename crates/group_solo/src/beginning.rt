@@ -32,7 +32,7 @@ use tee_storage::Handles;
 
 /// Starts a call that has waited on what it holds, at these entry points.
 #[tactic(auto, using(crate::proofs::Starting::starts_so))]
-fn starts(cont: &mut Cont<Plain>, held: Held<Plain>, objects: Handles, points: Points)
+fn start_call(cont: &mut Cont<Plain>, held: Held<Plain>, objects: Handles, points: Points)
     requires fresh { CanBegin cont.old }
     requires image { HasValidImage held }
     ensures runs { (app : AnyApplication) (start : Start) (instance : AnyInstance)
@@ -61,7 +61,7 @@ impl GroupSolo {
     }
 
     /// The call of this number holds the instance: its memory and its open objects are moved out.
-    fn holds(&mut self, number: u32) -> (Option<Plain>, Handles)
+    fn hold(&mut self, number: u32) -> (Option<Plain>, Handles)
         ensures holds { (at : ℕ) (instance : AnyInstance) → (without_calls self.old).instance ≡ Some (at, instance)
             → (without_calls self.new).instance ≡ Some (at, held_by number instance) }
         ensures memory { (at : ℕ) (instance : AnyInstance) → (without_calls self.old).instance ≡ Some (at, instance)
@@ -81,7 +81,7 @@ impl GroupSolo {
     }
 
     /// A call that has waited, of this number, begins these entry points: it holds the instance and runs.
-    pub(crate) fn begins(&mut self, number: u32, call: &mut KeptCall, ready: Ready, points: Points)
+    pub(crate) fn begin(&mut self, number: u32, call: &mut KeptCall, ready: Ready, points: Points)
         requires valid { IsValidApp (app_in self.old) }
         requires app { application_of ready.app ≡ app_in self.old }
         requires empty { ready.empty ≡ [] }
@@ -103,8 +103,8 @@ impl GroupSolo {
         call.cont.login = session.login;
         call.cont.context = session.context;
         call.cont.key = self.key;
-        let (memory, objects) = self.holds(number);
-        starts(
+        let (memory, objects) = self.hold(number);
+        start_call(
             &mut call.cont,
             held_of(ready, dead, memory),
             objects,

@@ -28,8 +28,7 @@ use job_model::{CallKind, EntryPoint};
 use own_model::BackInput;
 use rpc_cont::Phase;
 use solo::{
-    KeptInstance, Ready, ends_with, is_close, is_no_buffer, made_instance, takes_answer,
-    takes_buffer,
+    KeptInstance, Ready, end_with, is_close, is_no_buffer, made_instance, take_answer, take_buffer,
 };
 use std::alloc::Global;
 use ta_params::codes::{TEE_ERROR_BAD_PARAMETERS, TEE_ERROR_OUT_OF_MEMORY, TEE_ERROR_TARGET_DEAD};
@@ -64,19 +63,19 @@ fn is_held(found: Option<Found>) -> bool
 
 impl GroupSolo {
     /// A call that has waited gives up with this result.
-    fn gives_up(&mut self, number: u32, call: &mut KeptCall, code: u32)
+    fn give_up(&mut self, number: u32, call: &mut KeptCall, code: u32)
         requires { CanBegin call.old.cont }
         ensures gives_up { (g : AnyGroup) (w : AnyWaiting) → IsBeside self.old g → IsGroupCall call.old w.call
             → w.number ≡ number → ComesTo self.new call.new number g (gives_up g w code) }
         ensures app { self.new.app ≡ self.old.app }
         ensures calls { self.new.calls ≡ self.old.calls }
     {
-        self.leaves_line(number);
-        ends_with(&mut call.cont, code);
+        self.leave_line(number);
+        end_with(&mut call.cont, code);
     }
 
     /// Another call holds its instance: it waits on, unless it has come back without a buffer that it needs for that.
-    fn waits_on(&mut self, number: u32, call: &mut KeptCall, input: &BackInput)
+    fn wait_on(&mut self, number: u32, call: &mut KeptCall, input: &BackInput)
         requires { CanBegin call.old.cont }
         ensures waits { (g : AnyGroup) (w : AnyWaiting) → IsBeside self.old g → IsGroupCall call.old w.call
             → w.number ≡ number → w.input ≡ input.now → ComesTo self.new call.new number g (waits_on g w) }
@@ -84,12 +83,12 @@ impl GroupSolo {
         ensures calls { self.new.calls ≡ self.old.calls }
     {
         if is_no_buffer(input) {
-            self.gives_up(number, call, TEE_ERROR_OUT_OF_MEMORY);
+            self.give_up(number, call, TEE_ERROR_OUT_OF_MEMORY);
         }
     }
 
     /// It waits no more, and begins these entry points.
-    fn goes_on(&mut self, number: u32, call: &mut KeptCall, ready: Ready, points: Points)
+    fn go_on(&mut self, number: u32, call: &mut KeptCall, ready: Ready, points: Points)
         requires valid { IsValidApp (app_in self.old) }
         requires app { application_of ready.app ≡ app_in self.old }
         requires empty { ready.empty ≡ [] }
@@ -102,12 +101,12 @@ impl GroupSolo {
         ensures app { self.new.app ≡ self.old.app }
         ensures calls { self.new.calls ≡ self.old.calls }
     {
-        self.leaves_line(number);
-        self.begins(number, call, ready, points);
+        self.leave_line(number);
+        self.begin(number, call, ready, points);
     }
 
     /// An open whose instance is gone begins on a new one of the same number, where there are pages for it.
-    fn opens_again(&mut self, number: u32, call: &mut KeptCall, spare: Spare)
+    fn open_again(&mut self, number: u32, call: &mut KeptCall, spare: Spare)
         requires valid { IsValidApp (app_in self.old) }
         requires app { application_of spare.ready.app ≡ app_in self.old }
         requires empty { spare.ready.empty ≡ [] }
@@ -124,15 +123,15 @@ impl GroupSolo {
         match instance {
             Some(kept) => {
                 let points = Points::opening(true, self.destroys(call.instance));
-                self.places(call.instance, kept);
-                self.goes_on(number, call, ready, points);
+                self.place(call.instance, kept);
+                self.go_on(number, call, ready, points);
             }
-            None => self.gives_up(number, call, TEE_ERROR_OUT_OF_MEMORY),
+            None => self.give_up(number, call, TEE_ERROR_OUT_OF_MEMORY),
         }
     }
 
     /// Its instance is gone: an open makes it again, and a call of a session has lost its session with it.
-    fn begins_anew(&mut self, number: u32, call: &mut KeptCall, spare: Spare)
+    fn begin_anew(&mut self, number: u32, call: &mut KeptCall, spare: Spare)
         requires valid { IsValidApp (app_in self.old) }
         requires app { application_of spare.ready.app ≡ app_in self.old }
         requires empty { spare.ready.empty ≡ [] }
@@ -147,15 +146,15 @@ impl GroupSolo {
         ensures calls { self.new.calls ≡ self.old.calls }
     {
         match call.cont.kind {
-            CallKind::Open => self.opens_again(number, call, spare),
+            CallKind::Open => self.open_again(number, call, spare),
             CallKind::Invoke { .. } | CallKind::Close | CallKind::Settled => {
-                self.gives_up(number, call, TEE_ERROR_BAD_PARAMETERS);
+                self.give_up(number, call, TEE_ERROR_BAD_PARAMETERS);
             }
         }
     }
 
     /// Its instance is there, and no call holds it: it begins, by its kind.
-    fn begins_there(&mut self, number: u32, call: &mut KeptCall, ready: Ready)
+    fn begin_there(&mut self, number: u32, call: &mut KeptCall, ready: Ready)
         requires valid { IsValidApp (app_in self.old) }
         requires app { application_of ready.app ≡ app_in self.old }
         requires empty { ready.empty ≡ [] }
@@ -172,22 +171,22 @@ impl GroupSolo {
         match call.cont.kind {
             CallKind::Open => {
                 let points = Points::opening(false, self.destroys(call.instance));
-                self.goes_on(number, call, ready, points);
+                self.go_on(number, call, ready, points);
             }
             CallKind::Invoke { func } => {
                 let points = Points::only(EntryPoint::Invoke { func });
-                self.goes_on(number, call, ready, points);
+                self.go_on(number, call, ready, points);
             }
             CallKind::Close => {
                 let points = Points::closing(self.destroys_beside(call.session, call.instance));
-                self.goes_on(number, call, ready, points);
+                self.go_on(number, call, ready, points);
             }
-            CallKind::Settled => self.gives_up(number, call, TEE_ERROR_BAD_PARAMETERS),
+            CallKind::Settled => self.give_up(number, call, TEE_ERROR_BAD_PARAMETERS),
         }
     }
 
     /// It begins, where its instance is there and where that is gone.
-    fn begins_again(&mut self, number: u32, call: &mut KeptCall, spare: Spare, found: Option<Found>)
+    fn begin_again(&mut self, number: u32, call: &mut KeptCall, spare: Spare, found: Option<Found>)
         requires valid { IsValidApp (app_in self.old) }
         requires app { application_of spare.ready.app ≡ app_in self.old }
         requires empty { spare.ready.empty ≡ [] }
@@ -203,13 +202,13 @@ impl GroupSolo {
         ensures calls { self.new.calls ≡ self.old.calls }
     {
         match found {
-            None => self.begins_anew(number, call, spare),
-            Some(_) => self.begins_there(number, call, spare.ready),
+            None => self.begin_anew(number, call, spare),
+            Some(_) => self.begin_there(number, call, spare.ready),
         }
     }
 
     /// It is tested again: its session may be gone, its instance dead, or held.
-    fn retests(&mut self, number: u32, call: &mut KeptCall, input: &BackInput, spare: Spare)
+    fn retest(&mut self, number: u32, call: &mut KeptCall, input: &BackInput, spare: Spare)
         requires valid { IsValidApp (app_in self.old) }
         requires app { application_of spare.ready.app ≡ app_in self.old }
         requires empty { spare.ready.empty ≡ [] }
@@ -223,21 +222,21 @@ impl GroupSolo {
     {
         let found = self.at(call.instance);
         match session_at(self.sessions.as_slice(), call.session) {
-            None => self.gives_up(number, call, TEE_ERROR_BAD_PARAMETERS),
+            None => self.give_up(number, call, TEE_ERROR_BAD_PARAMETERS),
             Some(_) => {
                 if is_lost(found, call.cont.kind) {
-                    self.gives_up(number, call, TEE_ERROR_TARGET_DEAD);
+                    self.give_up(number, call, TEE_ERROR_TARGET_DEAD);
                 } else if is_held(found) {
-                    self.waits_on(number, call, input);
+                    self.wait_on(number, call, input);
                 } else {
-                    self.begins_again(number, call, spare, found);
+                    self.begin_again(number, call, spare, found);
                 }
             }
         }
     }
 
     /// A call comes back, by its phase.
-    fn comes_back_in(&mut self, number: u32, call: &mut KeptCall, input: &BackInput, spare: Spare)
+    fn come_back_in(&mut self, number: u32, call: &mut KeptCall, input: &BackInput, spare: Spare)
         requires valid { IsValidApp (app_in self.old) }
         requires app { application_of spare.ready.app ≡ app_in self.old }
         requires empty { spare.ready.empty ≡ [] }
@@ -251,8 +250,8 @@ impl GroupSolo {
         ensures calls { self.new.calls ≡ self.old.calls }
     {
         match call.cont.phase {
-            Phase::Waits => self.retests(number, call, input, spare),
-            Phase::Runs | Phase::Asks | Phase::Ends => takes_answer(&mut call.cont, input),
+            Phase::Waits => self.retest(number, call, input, spare),
+            Phase::Runs | Phase::Asks | Phase::Ends => take_answer(&mut call.cont, input),
         }
     }
 
@@ -274,7 +273,7 @@ impl GroupSolo {
     }
 
     /// The call of this number comes back with this.
-    pub(crate) fn comes_back(
+    pub(crate) fn come_back(
         &mut self,
         alloc: Global,
         number: u32,
@@ -291,8 +290,8 @@ impl GroupSolo {
         let Some(mut call) = self.take(number) else {
             return Ok(());
         };
-        takes_buffer(&mut call.cont, input);
-        self.comes_back_in(number, &mut call, input, spare);
+        take_buffer(&mut call.cont, input);
+        self.come_back_in(number, &mut call, input, spare);
         self.put(number, call);
         Ok(())
     }

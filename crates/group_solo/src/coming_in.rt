@@ -69,7 +69,7 @@ impl GroupSolo {
     }
 
     /// A call comes in and gets the next number.
-    fn comes_in(&mut self, call: Box<KeptCall>) -> Result<(), NoMemory>
+    fn come_in(&mut self, call: Box<KeptCall>) -> Result<(), NoMemory>
         ensures ok { (g : AnyGroup) (own : AnyCall) → StandsFor self.old g → IsGroupCall call.value own
             → OnOk result (StandsFor self.new (comes_in g own)) }
         ensures err { (g : AnyGroup) → StandsFor self.old g → OnErr result (StandsFor self.new g) }
@@ -79,17 +79,17 @@ impl GroupSolo {
     }
 
     /// One comes in and has this result at once.
-    pub(crate) fn settles(&mut self, alloc: Global, area: bool, code: u32) -> Result<(), NoMemory>
+    pub(crate) fn settle(&mut self, alloc: Global, area: bool, code: u32) -> Result<(), NoMemory>
         ensures ok { (g : AnyGroup) → StandsFor self.old g → OnOk result (StandsFor self.new (settles g area code)) }
         ensures err { (g : AnyGroup) → StandsFor self.old g → OnErr result (StandsFor self.new g) }
         ensures app { self.new.app ≡ self.old.app }
     {
         let call = self.settled_call(alloc, area, code)?;
-        self.comes_in(call)
+        self.come_in(call)
     }
 
     /// One comes in and waits for its instance, behind those that wait already.
-    pub(crate) fn waits(
+    pub(crate) fn wait(
         &mut self,
         alloc: Global,
         about: About,
@@ -109,12 +109,12 @@ impl GroupSolo {
         self.waiting.reserve(1)?;
         self.calls.reserve(1)?;
         let call = self.fresh_call(alloc, about, params)?;
-        self.waits_last(waiter, call);
+        self.wait_last(waiter, call);
         Ok(())
     }
 
     /// The same, where there is room for it behind the others.
-    pub(crate) fn waits_last(&mut self, waiter: Waiter, call: Box<KeptCall>)
+    pub(crate) fn wait_last(&mut self, waiter: Waiter, call: Box<KeptCall>)
         requires line { vec_len self.old.waiting < vec_capacity self.old.waiting }
         requires room { vec_len self.old.calls < vec_capacity self.old.calls }
         ensures waits { (g : AnyGroup) (own : AnyCall) → StandsFor self.old g → IsGroupCall call.value own
@@ -126,7 +126,7 @@ impl GroupSolo {
     }
 
     /// One that has come in begins, where there is room for it behind the others.
-    pub(crate) fn begins_last(
+    pub(crate) fn begin_last(
         &mut self,
         number: u32,
         mut call: Box<KeptCall>,
@@ -144,12 +144,12 @@ impl GroupSolo {
             → StandsFor self.new (counted (begun (app_in self.old) g b (points_of points))) }
         ensures app { self.new.app ≡ self.old.app }
     {
-        self.begins(number, &mut call, ready, points);
+        self.begin(number, &mut call, ready, points);
         self.calls.push_reserved(Some(call));
     }
 
     /// One comes in and begins these entry points.
-    fn begins_new(
+    fn begin_new(
         &mut self,
         alloc: Global,
         about: About,
@@ -170,13 +170,13 @@ impl GroupSolo {
         self.calls.reserve(1)?;
         let call = self.fresh_call(alloc, about, params)?;
         let ready = self.ready(alloc)?;
-        self.begins_last(number, call, ready, points);
+        self.begin_last(number, call, ready, points);
         Ok(())
     }
 
     /// A call of an opened session comes in: it waits where another call holds the instance, and else begins these entry
     /// points.
-    fn works_or_waits(
+    fn work_or_wait(
         &mut self,
         alloc: Global,
         about: About,
@@ -194,15 +194,15 @@ impl GroupSolo {
     {
         let held = self.is_held(about.instance);
         if held {
-            self.waits(alloc, about, params)
+            self.wait(alloc, about, params)
         } else {
-            self.begins_new(alloc, about, params, points)
+            self.begin_new(alloc, about, params, points)
         }
     }
 
     /// An invoke of an opened session comes in: of a dead instance it has a result at once, else with faulty parameters;
     /// else it begins or waits.
-    pub(crate) fn invokes(
+    pub(crate) fn invoke(
         &mut self,
         alloc: Global,
         session: u64,
@@ -219,10 +219,10 @@ impl GroupSolo {
         ensures app { self.new.app ≡ self.old.app }
     {
         let Some(found) = self.home(session) else {
-            return self.settles(alloc, area, TEE_ERROR_BAD_PARAMETERS);
+            return self.settle(alloc, area, TEE_ERROR_BAD_PARAMETERS);
         };
         if found.found.dead {
-            return self.settles(alloc, area, TEE_ERROR_TARGET_DEAD);
+            return self.settle(alloc, area, TEE_ERROR_TARGET_DEAD);
         }
         match input {
             OwnInput::Copied(params) => {
@@ -233,16 +233,16 @@ impl GroupSolo {
                     instance: found.instance,
                 };
                 let points = Points::only(EntryPoint::Invoke { func });
-                self.works_or_waits(alloc, about, Some(params), points)
+                self.work_or_wait(alloc, about, Some(params), points)
             }
             OwnInput::Faulty | OwnInput::Unread => {
-                self.settles(alloc, area, TEE_ERROR_BAD_PARAMETERS)
+                self.settle(alloc, area, TEE_ERROR_BAD_PARAMETERS)
             }
         }
     }
 
     /// A close of an opened session comes in: it begins or waits, also where the instance is dead.
-    pub(crate) fn closes(&mut self, alloc: Global, session: u64, area: bool) -> Result<(), NoMemory>
+    pub(crate) fn close(&mut self, alloc: Global, session: u64, area: bool) -> Result<(), NoMemory>
         requires valid { IsValidApp (app_in self.old) }
         requires number { entered_in self.old < 2 ^ 32 }
         ensures ok { (g : AnyGroup) (at : AnyHome) → StandsFor self.old g → home g session ≡ Some at
@@ -251,7 +251,7 @@ impl GroupSolo {
         ensures app { self.new.app ≡ self.old.app }
     {
         let Some(found) = self.home(session) else {
-            return self.settles(alloc, area, TEE_ERROR_BAD_PARAMETERS);
+            return self.settle(alloc, area, TEE_ERROR_BAD_PARAMETERS);
         };
         let about = About {
             kind: CallKind::Close,
@@ -260,6 +260,6 @@ impl GroupSolo {
             instance: found.instance,
         };
         let points = Points::closing(self.destroys_beside(session, found.instance));
-        self.works_or_waits(alloc, about, None, points)
+        self.work_or_wait(alloc, about, None, points)
     }
 }

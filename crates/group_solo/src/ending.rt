@@ -39,7 +39,7 @@ impl GroupSolo {
     }
 
     /// The result of a call is told from now on; whom it wakes is fixed now.
-    fn shows(&self, call: &mut KeptCall)
+    fn show(&self, call: &mut KeptCall)
         ensures wakes { option_and_then (λ asked. woken_slot asked.rpc) call.new.cont.request
             ≡ is_woken (without_calls self.now) call.old.instance call.old.cont.kind }
         ensures stays { call.new ≡ record call.old { cont = record call.old.cont { request = call.new.cont.request; done = true } } }
@@ -50,7 +50,7 @@ impl GroupSolo {
 
     /// What the end of a call of this kind with this result makes of the sessions: an open that succeeds opens its own with
     /// the context, one that fails and a close take theirs away.
-    fn ends_session(&mut self, kind: CallKind, session: u64, outcome: CallResult, context: u32)
+    fn end_session(&mut self, kind: CallKind, session: u64, outcome: CallResult, context: u32)
         ensures sessions { (end : AnyEnd) → end.result ≡ outcome → end.context ≡ context
             → IsRising (sessions_of self.old.sessions.items)
             → sessions_of self.new.sessions.items
@@ -58,38 +58,38 @@ impl GroupSolo {
         ensures stays { self.new ≡ record self.old { sessions = self.new.sessions } }
     {
         match kind {
-            CallKind::Open if outcome.result == TEE_SUCCESS => self.opens_session(session, context),
-            CallKind::Open | CallKind::Close => self.removes_session(session),
+            CallKind::Open if outcome.result == TEE_SUCCESS => self.open_session(session, context),
+            CallKind::Open | CallKind::Close => self.remove_session(session),
             CallKind::Invoke { .. } | CallKind::Settled => {}
         }
     }
 
     /// What a panic does: an open and a close take theirs away.
-    fn panics_session(&mut self, kind: CallKind, session: u64)
+    fn end_panicked_session(&mut self, kind: CallKind, session: u64)
         ensures sessions { sessions_of self.new.sessions.items
             ≡ sessions_panicked kind (sessions_of self.old.sessions.items) session }
         ensures stays { self.new ≡ record self.old { sessions = self.new.sessions } }
     {
         match kind {
-            CallKind::Open | CallKind::Close => self.removes_session(session),
+            CallKind::Open | CallKind::Close => self.remove_session(session),
             CallKind::Invoke { .. } | CallKind::Settled => {}
         }
     }
 
     /// And the end of a call that never ran: an open takes its own away, a close keeps it.
-    fn unruns_session(&mut self, kind: CallKind, session: u64)
+    fn end_unrun_session(&mut self, kind: CallKind, session: u64)
         ensures sessions { sessions_of self.new.sessions.items
             ≡ sessions_unrun kind (sessions_of self.old.sessions.items) session }
         ensures stays { self.new ≡ record self.old { sessions = self.new.sessions } }
     {
         match kind {
-            CallKind::Open => self.removes_session(session),
+            CallKind::Open => self.remove_session(session),
             CallKind::Invoke { .. } | CallKind::Close | CallKind::Settled => {}
         }
     }
 
     /// The instance goes, once it was put back, at its end, and where it is dead and no session is opened on it any more.
-    fn removes_instance(&mut self, is_last: bool)
+    fn remove_instance(&mut self, is_last: bool)
         ensures goes { (without_calls self.new).instance ≡ option_and_then
             (λ there. instance_back (without_calls self.old).sessions is_last there.0 there.1)
             (without_calls self.old).instance }
@@ -107,7 +107,7 @@ impl GroupSolo {
     }
 
     /// Puts memory and open objects back, and no call holds the instance.
-    fn puts_back(&mut self, memory: Option<Plain>, objects: Handles)
+    fn put_back(&mut self, memory: Option<Plain>, objects: Handles)
         ensures back { (without_calls self.new).instance ≡ option_map
             (λ there. (there.0, given_back (kept_memory bytes_of memory) objects there.1)) (without_calls self.old).instance }
         ensures stays { self.new ≡ record self.old { instance = self.new.instance } }
@@ -120,7 +120,7 @@ impl GroupSolo {
     }
 
     /// Kills the instance, which no call holds then.
-    fn kills(&mut self)
+    fn kill(&mut self)
         ensures killed { (without_calls self.new).instance
             ≡ option_map (λ there. (there.0, killed there.1)) (without_calls self.old).instance }
         ensures stays { self.new ≡ record self.old { instance = self.new.instance } }
@@ -134,7 +134,7 @@ impl GroupSolo {
     }
 
     /// A call gives the instance of a number back with this memory and these open objects, if that is there.
-    fn gives_back(&mut self, number: u64, is_last: bool, memory: Option<Plain>, objects: Handles)
+    fn give_back(&mut self, number: u64, is_last: bool, memory: Option<Plain>, objects: Handles)
         ensures back { without_calls self.new
             ≡ with_instance_back (without_calls self.old) number is_last
             (given_back (kept_memory bytes_of memory) objects) }
@@ -142,25 +142,25 @@ impl GroupSolo {
     {
         let there = self.at(number).is_some();
         if there {
-            self.puts_back(memory, objects);
-            self.removes_instance(is_last);
+            self.put_back(memory, objects);
+            self.remove_instance(is_last);
         }
     }
 
     /// A call that has panicked gives it back, dead.
-    fn gives_back_dead(&mut self, number: u64)
+    fn give_back_dead(&mut self, number: u64)
         ensures back { without_calls self.new ≡ with_instance_back (without_calls self.old) number false killed }
         ensures stays { self.new ≡ record self.old { instance = self.new.instance } }
     {
         let there = self.at(number).is_some();
         if there {
-            self.kills();
-            self.removes_instance(false);
+            self.kill();
+            self.remove_instance(false);
         }
     }
 
     /// After the job of a call has ended: it gives the instance back.
-    pub(crate) fn ended(&mut self, call: &mut KeptCall)
+    pub(crate) fn end_job(&mut self, call: &mut KeptCall)
         ensures beside { IsRising (sessions_of self.old.sessions.items) → without_calls self.new
             ≡ after_end (without_calls self.old) (home_of call.old) (end_left bytes_of call.old.cont) }
         ensures wakes { option_and_then (λ asked. woken_slot asked.rpc) call.new.cont.request
@@ -171,7 +171,7 @@ impl GroupSolo {
         ensures app { self.new.app ≡ self.old.app }
         ensures calls { self.new.calls ≡ self.old.calls }
     {
-        self.ends_session(
+        self.end_session(
             call.cont.kind,
             call.session,
             call.cont.result,
@@ -180,12 +180,12 @@ impl GroupSolo {
         let is_last = call.cont.ends_instance();
         let memory = call.cont.memory.take();
         let objects = mem::replace(&mut call.cont.objects, Handles::new());
-        self.gives_back(call.instance, is_last, memory, objects);
-        self.shows(call);
+        self.give_back(call.instance, is_last, memory, objects);
+        self.show(call);
     }
 
     /// After it has panicked: the instance is dead.
-    pub(crate) fn panicked(&mut self, call: &mut KeptCall)
+    pub(crate) fn end_panicked(&mut self, call: &mut KeptCall)
         ensures beside { without_calls self.new ≡ after_panic (without_calls self.old) (home_of call.old) }
         ensures wakes { option_and_then (λ asked. woken_slot asked.rpc) call.new.cont.request
             ≡ is_woken (without_calls self.new) call.old.instance call.old.cont.kind }
@@ -195,15 +195,15 @@ impl GroupSolo {
         ensures app { self.new.app ≡ self.old.app }
         ensures calls { self.new.calls ≡ self.old.calls }
     {
-        self.panics_session(call.cont.kind, call.session);
+        self.end_panicked_session(call.cont.kind, call.session);
         call.cont.memory = None;
         call.cont.params = None;
-        self.gives_back_dead(call.instance);
-        self.shows(call);
+        self.give_back_dead(call.instance);
+        self.show(call);
     }
 
     /// After it has ended without having run.
-    pub(crate) fn unrun(&mut self, call: &mut KeptCall)
+    pub(crate) fn end_unrun(&mut self, call: &mut KeptCall)
         ensures beside { without_calls self.new ≡ after_unrun (without_calls self.old) (home_of call.old) }
         ensures wakes { option_and_then (λ asked. woken_slot asked.rpc) call.new.cont.request
             ≡ is_woken (without_calls self.new) call.old.instance call.old.cont.kind }
@@ -213,7 +213,7 @@ impl GroupSolo {
         ensures app { self.new.app ≡ self.old.app }
         ensures calls { self.new.calls ≡ self.old.calls }
     {
-        self.unruns_session(call.cont.kind, call.session);
-        self.shows(call);
+        self.end_unrun_session(call.cont.kind, call.session);
+        self.show(call);
     }
 }

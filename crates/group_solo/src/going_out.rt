@@ -22,7 +22,7 @@ use group_model::GroupReply;
 use job_model::CallKind;
 use own_model::OwnReply;
 use rpc_cont::{ContStop, Phase};
-use solo::{OutputRoom, Room, asked_in, ended, placed_or_alloc, runs_to_stop};
+use solo::{OutputRoom, Room, asked_in, ended, placed_or_alloc, run_to_stop};
 use std::alloc::Global;
 use ta_params::CallResult;
 use ta_params::codes::TEE_SUCCESS;
@@ -50,7 +50,7 @@ fn opened_by(kind: CallKind, session: u64, outcome: CallResult) -> Option<u32>
 
 impl GroupSolo {
     /// The job of a call that runs is taken to its stop.
-    fn taken_on(&mut self, call: &mut KeptCall)
+    fn take_on(&mut self, call: &mut KeptCall)
         requires { CanAdvance bytes_of call.old.cont }
         ensures going { (most : ℕ) (g : AnyGroup) (own : AnyCall) (going : AnyGoing) (job : AnyJob)
             → IsBeside self.old g → IsRising g.sessions
@@ -59,15 +59,15 @@ impl GroupSolo {
         ensures app { self.new.app ≡ self.old.app }
         ensures calls { self.new.calls ≡ self.old.calls }
     {
-        match runs_to_stop(&mut call.cont) {
+        match run_to_stop(&mut call.cont) {
             ContStop::Interrupted | ContStop::Asks => {}
-            ContStop::Ended(_) => self.ended(call),
-            ContStop::Panicked(_) => self.panicked(call),
+            ContStop::Ended(_) => self.end_job(call),
+            ContStop::Panicked(_) => self.end_panicked(call),
         }
     }
 
     /// One that has ended as it goes out: it shows its result, unless it has.
-    fn at_end(&mut self, call: &mut KeptCall)
+    fn show_once(&mut self, call: &mut KeptCall)
         requires { call.old.cont.phase ≡ Phase.Ends }
         ensures going { (most : ℕ) (g : AnyGroup) (own : AnyCall) (going : AnyGoing) → IsBeside self.old g
             → IsGroupCall call.old own
@@ -77,12 +77,12 @@ impl GroupSolo {
     {
         let shown = call.cont.done;
         if !shown {
-            self.unrun(call);
+            self.end_unrun(call);
         }
     }
 
-    /// The call as it goes out, by its phase.
-    fn going_in(&mut self, call: &mut KeptCall)
+    /// A call is brought to where it goes out, by its phase.
+    fn bring_to_stop(&mut self, call: &mut KeptCall)
         requires { call.old.cont.phase ≡ Phase.Runs → CanAdvance bytes_of call.old.cont }
         ensures going { (most : ℕ) (g : AnyGroup) (own : AnyCall) (going : AnyGoing) → IsBeside self.old g
             → IsRising g.sessions
@@ -92,15 +92,15 @@ impl GroupSolo {
         ensures calls { self.new.calls ≡ self.old.calls }
     {
         match call.cont.phase {
-            Phase::Runs => self.taken_on(call),
-            Phase::Ends => self.at_end(call),
+            Phase::Runs => self.take_on(call),
+            Phase::Ends => self.show_once(call),
             Phase::Asks | Phase::Waits => {}
         }
     }
 
     /// The call of this number goes out, where no buffer of a call has more than so many bytes. None where there is
     /// none.
-    pub(crate) fn goes_out(
+    pub(crate) fn go_out(
         &mut self,
         alloc: Global,
         number: u32,
@@ -119,12 +119,12 @@ impl GroupSolo {
         let Some(mut call) = self.take(number) else {
             return Ok(None);
         };
-        self.going_in(&mut call);
-        Ok(Some(self.answers(number, call, room)))
+        self.bring_to_stop(&mut call);
+        Ok(Some(self.answer(number, call, room)))
     }
 
     /// It goes out: it asks for something, or leaves.
-    fn answers(&mut self, number: u32, call: Box<KeptCall>, room: Room) -> GroupReply
+    fn answer(&mut self, number: u32, call: Box<KeptCall>, room: Room) -> GroupReply
         requires { IsRoom room }
         ensures answers { (longest : ℕ) (g next : AnyGroup) (own : AnyCall) (told : Option AnyReply)
             → HoldsBytes longest room.outputs → IsAside self.old number g → own.session < 2 ^ 32
@@ -142,12 +142,12 @@ impl GroupSolo {
                 self.put(number, call);
                 plain(told)
             }
-            None => self.leaves(number, call, outputs),
+            None => self.leave(number, call, outputs),
         }
     }
 
     /// It has ended: it gives its buffer back, or is told its result.
-    fn leaves(&mut self, number: u32, mut call: Box<KeptCall>, outputs: OutputRoom) -> GroupReply
+    fn leave(&mut self, number: u32, mut call: Box<KeptCall>, outputs: OutputRoom) -> GroupReply
         requires { IsOutputRoom outputs }
         ensures leaves { (longest : ℕ) (g next : AnyGroup) (own : AnyCall) (told : Option AnyReply) (ends : AnyEnding)
             → HoldsBytes longest outputs → IsAside self.old number g → own.session < 2 ^ 32

@@ -3,8 +3,9 @@
 //!
 //! A `GroupSolo` is made from the application alone and is fed with the group's own events. It stands for the machine of
 //! `group_model` (`specs/Standing.antt`): each of its calls is a `Cont` over plain memory, with the numbers of its session
-//! and of its instance. `step` answers as that machine does, and then stands for its next state. Each small function is
-//! one of that machine's, and has its name; what a call does by itself is that of `solo`.
+//! and of its instance. `step` answers as that machine does, and then stands for its next state. Each small function does
+//! what one of that machine's says: what that machine `settles`, this one has to `settle`. What a call does by itself is
+//! that of `solo`.
 //!
 //! Memory is taken before anything is changed: at want of memory the machine is as it was.
 #![tactic(auto)]
@@ -21,13 +22,11 @@ mod kept_call;
 mod kept_session;
 mod lengths;
 mod lookups;
-mod made;
 mod opener;
 mod opening;
 mod seeing;
 mod sessions;
 mod shared;
-mod stepping;
 mod waiter;
 
 pub use group::GroupSolo;

@@ -102,7 +102,7 @@ impl GroupSolo {
     }
 
     /// The call of this number waits no more.
-    pub(crate) fn leaves_line(&mut self, number: u32)
+    pub(crate) fn leave_line(&mut self, number: u32)
         ensures after { waiters_of self.new.waiting.items
             ≡ filter (λ (waiter : GroupWaiter). not (waiter.call == number)) (waiters_of self.old.waiting.items) }
         ensures stays { self.new ≡ record self.old { waiting = self.new.waiting } }

@@ -53,7 +53,7 @@ impl GroupSolo {
     }
 
     /// One comes in on an instance that another call holds.
-    fn open_waits(
+    fn wait_to_open(
         &mut self,
         alloc: Global,
         params: &CopiedParams,
@@ -74,13 +74,13 @@ impl GroupSolo {
         self.waiting.reserve(1)?;
         self.calls.reserve(1)?;
         let call = self.fresh_call(alloc, self.about_open(opener, instance), Some(params))?;
-        self.adds_session(opening(opener, instance));
-        self.waits_last(waiter, call);
+        self.add_session(opening(opener, instance));
+        self.wait_last(waiter, call);
         Ok(())
     }
 
     /// One comes in and begins on the instance that is there, which no call holds.
-    fn opens_kept(
+    fn open_kept(
         &mut self,
         alloc: Global,
         params: &CopiedParams,
@@ -102,8 +102,8 @@ impl GroupSolo {
         let call = self.fresh_call(alloc, self.about_open(opener, instance), Some(params))?;
         let ready = self.ready(alloc)?;
         let points = Points::opening(false, self.destroys(instance));
-        self.adds_session(opening(opener, instance));
-        self.begins_last(number, call, ready, points);
+        self.add_session(opening(opener, instance));
+        self.begin_last(number, call, ready, points);
         Ok(())
     }
 
@@ -125,7 +125,7 @@ impl GroupSolo {
     }
 
     /// This is the instance from now on.
-    pub(crate) fn places(&mut self, number: u64, kept: KeptInstance)
+    pub(crate) fn place(&mut self, number: u64, kept: KeptInstance)
         ensures instance { (without_calls self.new).instance
             ≡ Some (number, instance_of (uuid_of (app_in self.old)) kept) }
         ensures stays { self.new ≡ record self.old { instance = self.new.instance } }
@@ -134,7 +134,7 @@ impl GroupSolo {
     }
 
     /// One comes in and begins on a new instance, which is made first.
-    fn opens_made(
+    fn open_made(
         &mut self,
         alloc: Global,
         params: &CopiedParams,
@@ -157,19 +157,14 @@ impl GroupSolo {
         let instance = self.new_number();
         call.instance = instance;
         let points = Points::opening(true, self.destroys(instance));
-        self.places(instance, kept);
-        self.adds_session(opening(opener, instance));
-        self.begins_last(number, call, ready, points);
+        self.place(instance, kept);
+        self.add_session(opening(opener, instance));
+        self.begin_last(number, call, ready, points);
         Ok(())
     }
 
     /// One comes in that passed the tests: it waits where another call holds the instance that is there.
-    fn opens(
-        &mut self,
-        alloc: Global,
-        params: &CopiedParams,
-        opener: Opener,
-    ) -> Result<(), NoMemory>
+    fn open(&mut self, alloc: Global, params: &CopiedParams, opener: Opener) -> Result<(), NoMemory>
         requires valid { IsValidApp (app_in self.old) }
         requires number { entered_in self.old < 2 ^ 32 }
         ensures ok { (g : AnyGroup) → StandsFor self.old g → IsNumbered g
@@ -178,18 +173,18 @@ impl GroupSolo {
         ensures app { self.new.app ≡ self.old.app }
     {
         let Some(there) = self.there() else {
-            return self.opens_made(alloc, params, opener);
+            return self.open_made(alloc, params, opener);
         };
         if there.found.held {
-            self.open_waits(alloc, params, opener, there.number)
+            self.wait_to_open(alloc, params, opener, there.number)
         } else {
-            self.opens_kept(alloc, params, opener, there.number)
+            self.open_kept(alloc, params, opener, there.number)
         }
     }
 
     /// An open comes in. Its tests in their order: a dead instance, a session that has it alone, a shared limit, and faulty
     /// parameters.
-    pub(crate) fn opens_tested(
+    pub(crate) fn test_and_open(
         &mut self,
         alloc: Global,
         input: &OwnInput,
@@ -205,18 +200,18 @@ impl GroupSolo {
         ensures app { self.new.app ≡ self.old.app }
     {
         if self.is_dead() {
-            return self.settles(alloc, opener.area, TEE_ERROR_TARGET_DEAD);
+            return self.settle(alloc, opener.area, TEE_ERROR_TARGET_DEAD);
         }
         if self.is_taken() {
-            return self.settles(alloc, opener.area, TEE_ERROR_BUSY);
+            return self.settle(alloc, opener.area, TEE_ERROR_BUSY);
         }
         if limited {
-            return self.settles(alloc, opener.area, TEE_ERROR_OUT_OF_MEMORY);
+            return self.settle(alloc, opener.area, TEE_ERROR_OUT_OF_MEMORY);
         }
         match input {
-            OwnInput::Copied(params) => self.opens(alloc, params, opener),
+            OwnInput::Copied(params) => self.open(alloc, params, opener),
             OwnInput::Faulty | OwnInput::Unread => {
-                self.settles(alloc, opener.area, TEE_ERROR_BAD_PARAMETERS)
+                self.settle(alloc, opener.area, TEE_ERROR_BAD_PARAMETERS)
             }
         }
     }

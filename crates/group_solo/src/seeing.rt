@@ -5,11 +5,11 @@ ghost use Rattle.group_model.specs.Group.{Group as AnyGroup, GroupCall as AnyCal
 ghost use Rattle.group_solo.specs.Standing.{IsSomeGroup, StandsFor};
 
 use crate::group::GroupSolo;
-use solo::sees_cancel;
+use solo::see_cancel;
 
 impl GroupSolo {
     /// The call of this number sees after so many steps that it was cancelled.
-    pub(crate) fn sees(&mut self, number: u32, done_by_now: u128)
+    pub(crate) fn see(&mut self, number: u32, done_by_now: u128)
         requires { ∥ IsSomeGroup self.old ∥₁ }
         ensures sees { (g next : AnyGroup) (own : AnyCall) → StandsFor self.old g
             → get g.calls number ≡ Some own
@@ -19,12 +19,12 @@ impl GroupSolo {
         let Some(mut call) = self.take(number) else {
             return;
         };
-        sees_cancel(&mut call.cont, done_by_now);
+        see_cancel(&mut call.cont, done_by_now);
         self.put(number, call);
     }
 
     /// The call of this number, which finds its instance gone, is told whether there are pages for a new one.
-    pub(crate) fn finds_room(&mut self, number: u32, enough: bool)
+    pub(crate) fn tell_room(&mut self, number: u32, enough: bool)
         ensures finds { (g next : AnyGroup) (own : AnyCall) → StandsFor self.old g
             → get g.calls number ≡ Some own
             → finds_room g number enough own ≡ Some next → StandsFor self.new next }

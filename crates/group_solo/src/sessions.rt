@@ -94,7 +94,7 @@ fn opened(session: KeptSession, context: u32) -> KeptSession
 }
 
 /// Opens the session of a number, if it is there, with the word that the application keeps.
-fn opens_session(sessions: &mut [Numbered], number: u64, context: u32)
+fn open_session(sessions: &mut [Numbered], number: u64, context: u32)
     ensures { IsRising (sessions_of sessions.old)
         → sessions_of sessions.new ≡ opened_with (sessions_of sessions.old) number context }
 {
@@ -107,16 +107,16 @@ fn opens_session(sessions: &mut [Numbered], number: u64, context: u32)
 
 impl GroupSolo {
     /// The session of a number is opened, if it is there, with the word that the application keeps.
-    pub(crate) fn opens_session(&mut self, number: u64, context: u32)
+    pub(crate) fn open_session(&mut self, number: u64, context: u32)
         ensures sessions { IsRising (sessions_of self.old.sessions.items)
             → sessions_of self.new.sessions.items ≡ opened_with (sessions_of self.old.sessions.items) number context }
         ensures stays { self.new ≡ record self.old { sessions = self.new.sessions } }
     {
-        opens_session(self.sessions.as_mut_slice(), number, context);
+        open_session(self.sessions.as_mut_slice(), number, context);
     }
 
     /// That session is gone.
-    pub(crate) fn removes_session(&mut self, number: u64)
+    pub(crate) fn remove_session(&mut self, number: u64)
         ensures sessions { sessions_of self.new.sessions.items ≡ remove (sessions_of self.old.sessions.items) number }
         ensures stays { self.new ≡ record self.old { sessions = self.new.sessions } }
     {
@@ -125,7 +125,7 @@ impl GroupSolo {
 
     /// A session gets the next number, where there is room for it.
     #[tactic(auto, using(crate::proofs::SessionMaps::added))]
-    pub(crate) fn adds_session(&mut self, session: KeptSession)
+    pub(crate) fn add_session(&mut self, session: KeptSession)
         requires { vec_len self.old.sessions < vec_capacity self.old.sessions }
         ensures sessions { AllByRecursion (λ entry. entry.0 < self.old.next_session) (sessions_of self.old.sessions.items)
             → sessions_of self.new.sessions.items

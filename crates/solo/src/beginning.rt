@@ -101,7 +101,7 @@ pub fn held_of(ready: Ready, dead: bool, memory: Option<Plain>) -> Held<Plain>
 
 /// Starts a call that has waited on what it holds.
 #[tactic(auto, using(crate::proofs::Starting::starts_so))]
-fn starts(cont: &mut Cont<Plain>, held: Held<Plain>, objects: Handles)
+fn start_call(cont: &mut Cont<Plain>, held: Held<Plain>, objects: Handles)
     requires fresh { CanBegin cont.old }
     requires image { HasValidImage held }
     ensures runs { cont.old.kind ≢ CallKind.Settled → (app : AnyApplication) (start : Start)
@@ -130,7 +130,7 @@ impl SoloSession {
     }
 
     /// The call of this number holds the instance: its memory and its open objects are moved out.
-    fn holds(&mut self, number: u32) -> (Option<Plain>, Handles)
+    fn hold(&mut self, number: u32) -> (Option<Plain>, Handles)
         ensures holds { (instance : AnyInstance) → (without_calls self.old).instance ≡ Some instance
             → (without_calls self.new).instance ≡ Some (held_by number instance) }
         ensures memory { (instance : AnyInstance) → (without_calls self.old).instance ≡ Some instance
@@ -150,7 +150,7 @@ impl SoloSession {
     }
 
     /// A call that has waited, of this number, begins: it holds the instance and runs.
-    pub(crate) fn begins(&mut self, number: u32, cont: &mut Cont<Plain>, ready: Ready)
+    pub(crate) fn begin(&mut self, number: u32, cont: &mut Cont<Plain>, ready: Ready)
         requires valid { IsValidApp (app_in self.old) }
         requires app { application_of ready.app ≡ app_in self.old }
         requires empty { ready.empty ≡ [] }
@@ -172,7 +172,7 @@ impl SoloSession {
         cont.login = session.login;
         cont.context = session.context;
         cont.key = self.key;
-        let (memory, objects) = self.holds(number);
-        starts(cont, held_of(ready, dead, memory), objects);
+        let (memory, objects) = self.hold(number);
+        start_call(cont, held_of(ready, dead, memory), objects);
     }
 }

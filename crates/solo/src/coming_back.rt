@@ -54,7 +54,7 @@ pub fn is_no_buffer(input: &BackInput) -> bool
 
 /// The call has a buffer from now on where it is given one.
 #[tactic(auto, using(crate::proofs::Back::has_buffer))]
-pub fn takes_buffer(cont: &mut Cont<Plain>, input: &BackInput)
+pub fn take_buffer(cont: &mut Cont<Plain>, input: &BackInput)
     ensures call { (call : AnyCall) → IsCall cont.old call
         → IsCall cont.new (record call { buffer = is_buffer input.now || call.buffer }) }
     ensures stays { cont.new ≡ record cont.old { buffer = cont.new.buffer } }
@@ -67,7 +67,7 @@ pub fn takes_buffer(cont: &mut Cont<Plain>, input: &BackInput)
 
 /// A call goes on that doesn't wait for the instance: with its reply, or without a buffer, its application goes on that
 /// has asked, and a call that has ended wakes nobody more.
-pub fn takes_answer(cont: &mut Cont<Plain>, input: &BackInput)
+pub fn take_answer(cont: &mut Cont<Plain>, input: &BackInput)
     requires phase { cont.old.phase ≢ Phase.Waits }
     requires asked { cont.old.phase ≡ Phase.Asks → CanBeAnswered bytes_of cont.old }
     ensures { (app : AnyApplication) (solo next : AnySolo) (number : ℕ) (call : AnyCall) → IsCall cont.old call
@@ -82,7 +82,7 @@ pub fn takes_answer(cont: &mut Cont<Plain>, input: &BackInput)
 
 /// A call that has waited has this result, which no application returned.
 #[tactic(auto, using(crate::proofs::Back::ended_so))]
-pub fn ends_with(cont: &mut Cont<Plain>, code: u32)
+pub fn end_with(cont: &mut Cont<Plain>, code: u32)
     requires { CanBegin cont.old }
     ensures { (call : AnyCall) → IsCall cont.old call
         → IsCall cont.new (record call { phase = Ends (of_tee code) no_params false None }) }
@@ -96,19 +96,19 @@ pub fn ends_with(cont: &mut Cont<Plain>, code: u32)
 
 impl SoloSession {
     /// A call that has waited gives up with this result.
-    fn gives_up(&mut self, number: u32, cont: &mut Cont<Plain>, code: u32)
+    fn give_up(&mut self, number: u32, cont: &mut Cont<Plain>, code: u32)
         requires { CanBegin cont.old }
         ensures gives_up { (solo : AnySolo) (call : AnyCall) → IsBeside self.old solo → IsCall cont.old call
             → ComesTo self.new cont.new number solo (gives_up solo number call code) }
         ensures app { self.new.app ≡ self.old.app }
         ensures calls { self.new.calls ≡ self.old.calls }
     {
-        self.leaves_line(number);
-        ends_with(cont, code);
+        self.leave_line(number);
+        end_with(cont, code);
     }
 
     /// Another call holds the instance: it waits on, where it has got a buffer for that or has one.
-    fn waits_on(&mut self, number: u32, cont: &mut Cont<Plain>, input: &BackInput)
+    fn wait_on(&mut self, number: u32, cont: &mut Cont<Plain>, input: &BackInput)
         requires { CanBegin cont.old }
         ensures waits { (solo : AnySolo) (call : AnyCall) (params : AnyParams) → IsBeside self.old solo
             → IsCall cont.old call
@@ -118,12 +118,12 @@ impl SoloSession {
         ensures calls { self.new.calls ≡ self.old.calls }
     {
         if is_no_buffer(input) {
-            self.gives_up(number, cont, TEE_ERROR_OUT_OF_MEMORY);
+            self.give_up(number, cont, TEE_ERROR_OUT_OF_MEMORY);
         }
     }
 
     /// It waits no more, and begins.
-    fn goes_on(&mut self, number: u32, cont: &mut Cont<Plain>, ready: Ready)
+    fn go_on(&mut self, number: u32, cont: &mut Cont<Plain>, ready: Ready)
         requires valid { IsValidApp (app_in self.old) }
         requires app { application_of ready.app ≡ app_in self.old }
         requires empty { ready.empty ≡ [] }
@@ -135,12 +135,12 @@ impl SoloSession {
         ensures app { self.new.app ≡ self.old.app }
         ensures calls { self.new.calls ≡ self.old.calls }
     {
-        self.leaves_line(number);
-        self.begins(number, cont, ready);
+        self.leave_line(number);
+        self.begin(number, cont, ready);
     }
 
     /// A call that waits is tested again: its session may be gone, its instance dead, or held.
-    fn retests(&mut self, number: u32, cont: &mut Cont<Plain>, input: &BackInput, ready: Ready)
+    fn retest(&mut self, number: u32, cont: &mut Cont<Plain>, input: &BackInput, ready: Ready)
         requires valid { IsValidApp (app_in self.old) }
         requires app { application_of ready.app ≡ app_in self.old }
         requires empty { ready.empty ≡ [] }
@@ -152,28 +152,22 @@ impl SoloSession {
         ensures calls { self.new.calls ≡ self.old.calls }
     {
         match self.home() {
-            None => self.gives_up(number, cont, TEE_ERROR_BAD_PARAMETERS),
+            None => self.give_up(number, cont, TEE_ERROR_BAD_PARAMETERS),
             Some(found) => {
                 let lost = is_lost(found, cont.kind);
                 if lost {
-                    self.gives_up(number, cont, TEE_ERROR_TARGET_DEAD);
+                    self.give_up(number, cont, TEE_ERROR_TARGET_DEAD);
                 } else if found.held {
-                    self.waits_on(number, cont, input);
+                    self.wait_on(number, cont, input);
                 } else {
-                    self.goes_on(number, cont, ready);
+                    self.go_on(number, cont, ready);
                 }
             }
         }
     }
 
     /// By its phase.
-    fn comes_back_in(
-        &mut self,
-        number: u32,
-        cont: &mut Cont<Plain>,
-        input: &BackInput,
-        ready: Ready,
-    )
+    fn come_back_in(&mut self, number: u32, cont: &mut Cont<Plain>, input: &BackInput, ready: Ready)
         requires valid { IsValidApp (app_in self.old) }
         requires app { application_of ready.app ≡ app_in self.old }
         requires empty { ready.empty ≡ [] }
@@ -187,13 +181,13 @@ impl SoloSession {
         ensures calls { self.new.calls ≡ self.old.calls }
     {
         match cont.phase {
-            Phase::Waits => self.retests(number, cont, input, ready),
-            Phase::Runs | Phase::Asks | Phase::Ends => takes_answer(cont, input),
+            Phase::Waits => self.retest(number, cont, input, ready),
+            Phase::Runs | Phase::Asks | Phase::Ends => take_answer(cont, input),
         }
     }
 
     /// The call of this number comes back with this.
-    pub(crate) fn comes_back(
+    pub(crate) fn come_back(
         &mut self,
         alloc: Global,
         number: u32,
@@ -210,8 +204,8 @@ impl SoloSession {
         let Some(mut call) = self.take(number) else {
             return Ok(());
         };
-        takes_buffer(&mut call, input);
-        self.comes_back_in(number, &mut call, input, ready);
+        take_buffer(&mut call, input);
+        self.come_back_in(number, &mut call, input, ready);
         self.put(number, call);
         Ok(())
     }

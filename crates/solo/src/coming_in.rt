@@ -16,8 +16,8 @@ ghost use Rattle.solo.specs.Standing.{StandsFor, app_in, entered_in};
 use crate::beginning::Ready;
 use crate::copies::copied_if_some;
 use crate::entering::Entering;
+use crate::kept_instance::made_instance;
 use crate::kept_session::KeptSession;
-use crate::made::made_instance;
 use crate::solo_session::SoloSession;
 use arrayvec::ArrayVec;
 use base::NoMemory;
@@ -113,7 +113,7 @@ impl SoloSession {
 
     /// A call comes in and gets the next number.
     #[tactic(auto, using(crate::proofs::Adding::added, crate::proofs::Adding::stands_still))]
-    fn counted(&mut self, call: Box<Cont<Plain>>) -> Result<(), NoMemory>
+    fn come_in(&mut self, call: Box<Cont<Plain>>) -> Result<(), NoMemory>
         ensures ok { (solo : AnySolo) (own : AnyCall) → StandsFor self.old solo → IsCall call.value own
             → OnOk result (StandsFor self.new (record (counted solo) { calls = insert solo.calls solo.entered own })) }
         ensures err { (solo : AnySolo) → StandsFor self.old solo → OnErr result (StandsFor self.new solo) }
@@ -123,17 +123,17 @@ impl SoloSession {
     }
 
     /// A call comes in and has this result at once.
-    pub(crate) fn settles(&mut self, alloc: Global, area: bool, code: u32) -> Result<(), NoMemory>
+    pub(crate) fn settle(&mut self, alloc: Global, area: bool, code: u32) -> Result<(), NoMemory>
         ensures ok { (solo : AnySolo) → StandsFor self.old solo → OnOk result (StandsFor self.new (settles solo area code)) }
         ensures err { (solo : AnySolo) → StandsFor self.old solo → OnErr result (StandsFor self.new solo) }
         ensures app { self.new.app ≡ self.old.app }
     {
         let call = self.settled_call(alloc, area, code)?;
-        self.counted(call)
+        self.come_in(call)
     }
 
     /// One comes in and waits, behind those that wait already.
-    fn waits(
+    fn wait(
         &mut self,
         alloc: Global,
         entering: Entering,
@@ -148,13 +148,13 @@ impl SoloSession {
         let number = self.next_number();
         self.waiting.reserve(1)?;
         let call = self.fresh_call(alloc, entering, params)?;
-        self.counted(call)?;
+        self.come_in(call)?;
         self.waiting.push_reserved(number);
         Ok(())
     }
 
     /// One that has come in begins, where there is room for it behind the others.
-    fn begins_last(&mut self, number: u32, mut call: Box<Cont<Plain>>, ready: Ready)
+    fn begin_last(&mut self, number: u32, mut call: Box<Cont<Plain>>, ready: Ready)
         requires valid { IsValidApp (app_in self.old) }
         requires app { application_of ready.app ≡ app_in self.old }
         requires empty { ready.empty ≡ [] }
@@ -168,12 +168,12 @@ impl SoloSession {
             (record { session = at.0; instance = at.1; params = params; seen = own.seen; key = solo.key }))) }
         ensures app { self.new.app ≡ self.old.app }
     {
-        self.begins(number, &mut call, ready);
+        self.begin(number, &mut call, ready);
         self.calls.push_reserved(Some(call));
     }
 
     /// One comes in and begins.
-    fn begins_new(
+    fn begin_new(
         &mut self,
         alloc: Global,
         entering: Entering,
@@ -193,12 +193,12 @@ impl SoloSession {
         self.calls.reserve(1)?;
         let call = self.fresh_call(alloc, entering, params)?;
         let ready = self.ready(alloc)?;
-        self.begins_last(number, call, ready);
+        self.begin_last(number, call, ready);
         Ok(())
     }
 
     /// One comes in on the instance: it waits where another holds that, and else begins.
-    fn works_or_waits(
+    fn work_or_wait(
         &mut self,
         alloc: Global,
         entering: Entering,
@@ -214,14 +214,14 @@ impl SoloSession {
     {
         let held = self.is_held();
         if held {
-            self.waits(alloc, entering, params)
+            self.wait(alloc, entering, params)
         } else {
-            self.begins_new(alloc, entering, params)
+            self.begin_new(alloc, entering, params)
         }
     }
 
     /// The open makes session and instance, and begins.
-    pub(crate) fn opens(
+    pub(crate) fn open(
         &mut self,
         alloc: Global,
         params: &CopiedParams,
@@ -250,13 +250,13 @@ impl SoloSession {
             opened: false,
         });
         self.instance = Some(instance);
-        self.begins_last(number, call, ready);
+        self.begin_last(number, call, ready);
         Ok(())
     }
 
     /// An invoke comes in: of a dead instance it has a result at once, else with faulty parameters; else it begins or
     /// waits.
-    pub(crate) fn invokes(
+    pub(crate) fn invoke(
         &mut self,
         alloc: Global,
         func: u32,
@@ -272,24 +272,24 @@ impl SoloSession {
         ensures app { self.new.app ≡ self.old.app }
     {
         let Some(found) = self.home() else {
-            return self.settles(alloc, area, TEE_ERROR_BAD_PARAMETERS);
+            return self.settle(alloc, area, TEE_ERROR_BAD_PARAMETERS);
         };
         if found.dead {
-            return self.settles(alloc, area, TEE_ERROR_TARGET_DEAD);
+            return self.settle(alloc, area, TEE_ERROR_TARGET_DEAD);
         }
         match input {
             OwnInput::Copied(params) => {
                 let kind = CallKind::Invoke { func };
-                self.works_or_waits(alloc, Entering { kind, area }, Some(params))
+                self.work_or_wait(alloc, Entering { kind, area }, Some(params))
             }
             OwnInput::Faulty | OwnInput::Unread => {
-                self.settles(alloc, area, TEE_ERROR_BAD_PARAMETERS)
+                self.settle(alloc, area, TEE_ERROR_BAD_PARAMETERS)
             }
         }
     }
 
     /// A close comes in: it begins or waits, also where the instance is dead.
-    pub(crate) fn closes(&mut self, alloc: Global, area: bool) -> Result<(), NoMemory>
+    pub(crate) fn close(&mut self, alloc: Global, area: bool) -> Result<(), NoMemory>
         requires valid { IsValidApp (app_in self.old) }
         requires number { entered_in self.old < 2 ^ 32 }
         ensures ok { (solo : AnySolo) (at : AnySession × AnyInstance) → StandsFor self.old solo → home solo ≡ Some at
@@ -298,6 +298,6 @@ impl SoloSession {
         ensures app { self.new.app ≡ self.old.app }
     {
         let kind = CallKind::Close;
-        self.works_or_waits(alloc, Entering { kind, area }, None)
+        self.work_or_wait(alloc, Entering { kind, area }, None)
     }
 }

@@ -89,7 +89,7 @@ impl SoloSession {
     }
 
     /// The result of a call is told from now on; whom it wakes is fixed now.
-    fn shows(&self, cont: &mut Cont<Plain>)
+    fn show(&self, cont: &mut Cont<Plain>)
         ensures wakes { option_and_then (λ asked. woken_slot asked.rpc) cont.new.request
             ≡ woken_by (without_calls self.now) cont.old.kind }
         ensures stays { cont.new ≡ record cont.old { request = cont.new.request; done = true } }
@@ -99,7 +99,7 @@ impl SoloSession {
     }
 
     /// The instance goes, once it was put back, at its end, and where it is dead and its session isn't opened any more.
-    fn removes_instance(&mut self, is_last: bool)
+    fn remove_instance(&mut self, is_last: bool)
         ensures goes { (without_calls self.new).instance
             ≡ option_and_then (instance_back (without_calls self.old).session is_last) (without_calls self.old).instance }
         ensures stays { self.new ≡ record self.old { instance = self.new.instance } }
@@ -114,7 +114,7 @@ impl SoloSession {
     }
 
     /// Puts memory and open objects back, and no call holds the instance.
-    fn puts_back(&mut self, memory: Option<Plain>, objects: Handles)
+    fn put_back(&mut self, memory: Option<Plain>, objects: Handles)
         ensures back { (without_calls self.new).instance
             ≡ option_map (given_back (kept_memory bytes_of memory) objects) (without_calls self.old).instance }
         ensures stays { self.new ≡ record self.old { instance = self.new.instance } }
@@ -127,7 +127,7 @@ impl SoloSession {
     }
 
     /// Kills the instance, which no call holds then.
-    fn kills(&mut self)
+    fn kill(&mut self)
         ensures killed { (without_calls self.new).instance ≡ option_map killed (without_calls self.old).instance }
         ensures stays { self.new ≡ record self.old { instance = self.new.instance } }
     {
@@ -140,7 +140,7 @@ impl SoloSession {
     }
 
     /// What becomes of the session after a call of this kind has ended with this result.
-    fn ends_session(&mut self, kind: CallKind, outcome: CallResult, context: u32)
+    fn end_session(&mut self, kind: CallKind, outcome: CallResult, context: u32)
         ensures session { (end : AnyEnd) → end.result ≡ outcome → end.context ≡ context
             → without_calls self.new ≡ record (without_calls self.old) {
               session = option_and_then (session_ended kind end) (without_calls self.old).session;
@@ -154,18 +154,18 @@ impl SoloSession {
     }
 
     /// A call gives the instance back with this memory and these open objects.
-    fn gives_back(&mut self, is_last: bool, memory: Option<Plain>, objects: Handles)
+    fn give_back(&mut self, is_last: bool, memory: Option<Plain>, objects: Handles)
         ensures back { without_calls self.new
             ≡ gives_back (without_calls self.old) (without_calls self.old).session is_last
             (given_back (kept_memory bytes_of memory) objects) }
         ensures stays { self.new ≡ record self.old { instance = self.new.instance } }
     {
-        self.puts_back(memory, objects);
-        self.removes_instance(is_last);
+        self.put_back(memory, objects);
+        self.remove_instance(is_last);
     }
 
     /// After the job of a call has ended: it gives the instance back.
-    pub(crate) fn ended(&mut self, cont: &mut Cont<Plain>)
+    pub(crate) fn end_job(&mut self, cont: &mut Cont<Plain>)
         ensures beside { without_calls self.new ≡ (let end = end_left bytes_of cont.old in
             let session = option_and_then (session_ended cont.old.kind end) (without_calls self.old).session in
             gives_back (without_calls self.old) session end.is_last (given_back end.memory end.objects)) }
@@ -176,16 +176,16 @@ impl SoloSession {
         ensures app { self.new.app ≡ self.old.app }
         ensures calls { self.new.calls ≡ self.old.calls }
     {
-        self.ends_session(cont.kind, cont.result, cont.context);
+        self.end_session(cont.kind, cont.result, cont.context);
         let is_last = cont.ends_instance();
         let memory = cont.memory.take();
         let objects = mem::replace(&mut cont.objects, Handles::new());
-        self.gives_back(is_last, memory, objects);
-        self.shows(cont);
+        self.give_back(is_last, memory, objects);
+        self.show(cont);
     }
 
     /// After it has panicked: the instance is dead.
-    pub(crate) fn panicked(&mut self, cont: &mut Cont<Plain>)
+    pub(crate) fn end_panicked(&mut self, cont: &mut Cont<Plain>)
         ensures beside { without_calls self.new ≡ (
             let session = option_and_then (session_panicked cont.old.kind) (without_calls self.old).session in
             gives_back (without_calls self.old) session false killed) }
@@ -203,13 +203,13 @@ impl SoloSession {
         };
         cont.memory = None;
         cont.params = None;
-        self.kills();
-        self.removes_instance(false);
-        self.shows(cont);
+        self.kill();
+        self.remove_instance(false);
+        self.show(cont);
     }
 
     /// After it has ended without having run.
-    pub(crate) fn unrun(&mut self, cont: &mut Cont<Plain>)
+    pub(crate) fn end_unrun(&mut self, cont: &mut Cont<Plain>)
         ensures beside { without_calls self.new ≡ record (without_calls self.old) {
           session = option_and_then (session_unrun cont.old.kind) (without_calls self.old).session;
         } }
@@ -224,6 +224,6 @@ impl SoloSession {
             Some(session) => session_unrun(kind, session),
             None => None,
         };
-        self.shows(cont);
+        self.show(cont);
     }
 }

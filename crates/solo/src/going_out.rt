@@ -20,7 +20,7 @@ use crate::copies::copied_rpc;
 use crate::outputs::ended;
 use crate::room::{OutputRoom, Room};
 use crate::solo_session::SoloSession;
-use crate::stops::runs_to_stop;
+use crate::stops::run_to_stop;
 use base::NoMemory;
 use own_model::OwnReply;
 use rpc_cont::{Asked, Cont, ContStop, Phase};
@@ -104,7 +104,7 @@ pub fn placed_or_alloc(asked: OwnReply, has_area: bool, has_buffer: bool) -> Own
 
 impl SoloSession {
     /// The job of a call that runs is taken to its stop.
-    fn taken_on(&mut self, cont: &mut Cont<Plain>)
+    fn take_on(&mut self, cont: &mut Cont<Plain>)
         requires { CanAdvance bytes_of cont.old }
         ensures going { (most : ℕ) (solo : AnySolo) (call : AnyCall) (going : AnyGoing) (job : AnyJob)
             → IsBeside self.old solo
@@ -113,15 +113,15 @@ impl SoloSession {
         ensures app { self.new.app ≡ self.old.app }
         ensures calls { self.new.calls ≡ self.old.calls }
     {
-        match runs_to_stop(cont) {
+        match run_to_stop(cont) {
             ContStop::Interrupted | ContStop::Asks => {}
-            ContStop::Ended(_) => self.ended(cont),
-            ContStop::Panicked(_) => self.panicked(cont),
+            ContStop::Ended(_) => self.end_job(cont),
+            ContStop::Panicked(_) => self.end_panicked(cont),
         }
     }
 
-    /// The call as it goes out, by its phase.
-    fn going_in(&mut self, cont: &mut Cont<Plain>)
+    /// A call is brought to where it goes out, by its phase.
+    fn bring_to_stop(&mut self, cont: &mut Cont<Plain>)
         requires { cont.old.phase ≡ Phase.Runs → CanAdvance bytes_of cont.old }
         ensures going { (most : ℕ) (solo : AnySolo) (call : AnyCall) (going : AnyGoing) → IsBeside self.old solo
             → IsCall cont.old call → HasRoomIn most call.steps call.phase → going_in most solo call call.phase ≡ Some going
@@ -130,14 +130,14 @@ impl SoloSession {
         ensures calls { self.new.calls ≡ self.old.calls }
     {
         match cont.phase {
-            Phase::Runs => self.taken_on(cont),
-            Phase::Ends => self.at_end(cont),
+            Phase::Runs => self.take_on(cont),
+            Phase::Ends => self.show_once(cont),
             Phase::Asks | Phase::Waits => {}
         }
     }
 
     /// One that has ended as it goes out: it shows its result, unless it has.
-    fn at_end(&mut self, cont: &mut Cont<Plain>)
+    fn show_once(&mut self, cont: &mut Cont<Plain>)
         requires { cont.old.phase ≡ Phase.Ends }
         ensures going { (most : ℕ) (solo : AnySolo) (call : AnyCall) (going : AnyGoing) → IsBeside self.old solo
             → IsCall cont.old call
@@ -147,13 +147,13 @@ impl SoloSession {
     {
         let shown = cont.done;
         if !shown {
-            self.unrun(cont);
+            self.end_unrun(cont);
         }
     }
 
     /// The call of this number goes out, where no buffer of a call has more than so many bytes. None where there is
     /// none.
-    pub(crate) fn goes_out(
+    pub(crate) fn go_out(
         &mut self,
         alloc: Global,
         number: u32,
@@ -172,12 +172,12 @@ impl SoloSession {
         let Some(mut call) = self.take(number) else {
             return Ok(None);
         };
-        self.going_in(&mut call);
-        Ok(Some(self.answers(number, call, room)))
+        self.bring_to_stop(&mut call);
+        Ok(Some(self.answer(number, call, room)))
     }
 
     /// It goes out: it asks for something, or leaves.
-    fn answers(&mut self, number: u32, call: Box<Cont<Plain>>, room: Room) -> OwnReply
+    fn answer(&mut self, number: u32, call: Box<Cont<Plain>>, room: Room) -> OwnReply
         requires { IsRoom room }
         ensures answers { (longest : ℕ) (solo next : AnySolo) (own : AnyCall) (told : Option AnyReply)
             → HoldsBytes longest room.outputs → IsAside self.old number solo
@@ -194,12 +194,12 @@ impl SoloSession {
                 self.put(number, call);
                 told
             }
-            None => self.leaves(number, call, outputs),
+            None => self.leave(number, call, outputs),
         }
     }
 
     /// It has ended: it gives its buffer back, or is told its result.
-    fn leaves(&mut self, number: u32, mut call: Box<Cont<Plain>>, outputs: OutputRoom) -> OwnReply
+    fn leave(&mut self, number: u32, mut call: Box<Cont<Plain>>, outputs: OutputRoom) -> OwnReply
         requires { IsOutputRoom outputs }
         ensures leaves { (longest : ℕ) (solo next : AnySolo) (own : AnyCall) (told : Option AnyReply) (ends : AnyEnding)
             → HoldsBytes longest outputs → IsAside self.old number solo

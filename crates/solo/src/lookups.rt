@@ -65,7 +65,7 @@ impl SoloSession {
     }
 
     /// The call of this number waits no more.
-    pub(crate) fn leaves_line(&mut self, number: u32)
+    pub(crate) fn leave_line(&mut self, number: u32)
         ensures after { self.new.waiting.items ≡ filter (λ other. not (other == number)) self.old.waiting.items }
         ensures stays { self.new ≡ record self.old { waiting = self.new.waiting } }
     {

@@ -10,13 +10,13 @@ ghost use Rattle.solo.specs.Calls.{IsCall};
 ghost use Rattle.solo.specs.Standing.{IsSomeSolo, StandsFor};
 
 use crate::solo_session::SoloSession;
-use crate::stops::runs_on;
+use crate::stops::run_on;
 use rpc_cont::{Cont, Phase};
 use ta_step::Plain;
 
 /// It has the flag. One that waits has no machine to tell.
 #[tactic(auto, using(crate::proofs::Seen::waiting_flag, crate::proofs::Seen::working_flag))]
-fn takes_flag(cont: &mut Cont<Plain>)
+fn take_flag(cont: &mut Cont<Plain>)
     ensures phase { (at : AnyPhase) → IsInPhase cont.old at → IsInPhase cont.new (phase_seen at) }
     ensures stays { cont.new ≡ record cont.old { cancelled = true; machine = cont.new.machine } }
 {
@@ -28,21 +28,21 @@ fn takes_flag(cont: &mut Cont<Plain>)
 
 /// It sees it after so many steps.
 #[tactic(auto, using(crate::proofs::Seen::sees_so))]
-pub fn sees_cancel(cont: &mut Cont<Plain>, done_by_now: u128)
+pub fn see_cancel(cont: &mut Cont<Plain>, done_by_now: u128)
     requires { cont.old.phase ≡ Phase.Runs → CanAdvance bytes_of cont.old }
     ensures { (call : AnyCall) (at : AnyPhase) → IsCall cont.old call
         → phase_at (done_by_now - call.steps) call.phase ≡ Some at
         → IsCall cont.new (record call { seen = true; steps = done_by_now; phase = phase_seen at }) }
 {
-    runs_on(cont, done_by_now.saturating_sub(cont.steps));
-    takes_flag(cont);
+    run_on(cont, done_by_now.saturating_sub(cont.steps));
+    take_flag(cont);
     cont.steps = done_by_now;
 }
 
 impl SoloSession {
     /// The call of this number sees after so many steps that it was cancelled.
     #[tactic(auto, using(crate::proofs::Putting::seen_stands, crate::proofs::Putting::not_found, crate::proofs::Kept::runs_when_kept))]
-    pub(crate) fn sees(&mut self, number: u32, done_by_now: u128)
+    pub(crate) fn see(&mut self, number: u32, done_by_now: u128)
         requires { ∥ IsSomeSolo self.old ∥₁ }
         ensures sees { (solo next : AnySolo) (call : AnyCall) → StandsFor self.old solo
             → get solo.calls number ≡ Some call
@@ -52,7 +52,7 @@ impl SoloSession {
         let Some(mut call) = self.take(number) else {
             return;
         };
-        sees_cancel(&mut call, done_by_now);
+        see_cancel(&mut call, done_by_now);
         self.put(number, call);
     }
 }

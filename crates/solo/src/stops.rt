@@ -24,7 +24,7 @@ fn next_grant(left: u128) -> u32
 
 /// Takes the job of a call on by so many steps, none of which stops it.
 #[tactic(auto, using(crate::proofs::Grants::sets_out, crate::proofs::Grants::on_the_way, crate::proofs::Grants::arrives))]
-pub fn runs_on(cont: &mut Cont<Plain>, more: u128)
+pub fn run_on(cont: &mut Cont<Plain>, more: u128)
     requires runs { cont.old.phase ≡ Phase.Runs → CanAdvance bytes_of cont.old }
     requires room { cont.old.steps + more < 2 ^ 128 }
     ensures runs { (left : AnyJob) → cont.old.phase ≡ Phase.Runs → After (job_of bytes_of cont.old) more left
@@ -42,7 +42,7 @@ pub fn runs_on(cont: &mut Cont<Plain>, more: u128)
 
 /// Takes the job of a call to its stop. Interrupted where it would take 2^128 steps.
 #[tactic(auto, using(crate::proofs::Grants::begins_nearing, crate::proofs::Grants::comes_nearer, crate::proofs::Grants::comes_to_stop, crate::proofs::Grants::too_far))]
-pub fn runs_to_stop(cont: &mut Cont<Plain>) -> ContStop
+pub fn run_to_stop(cont: &mut Cont<Plain>) -> ContStop
     requires { CanAdvance bytes_of cont.old }
     ensures stops { (used : ℕ) (why : AnyStop) → Stop (job_of bytes_of cont.old) used why
         → cont.old.steps + used < 2 ^ 128

@@ -8,15 +8,15 @@ returns-clause-ok c most solo next told is room e =
     let s = c.args.self.now in
     let longest = c.longest_with_event-longest.result in
     let short = more_solo s.longest longest c.longest_with_event-longest.ensures.least solo is.short in
-    IfOk-weaker c.happens-answer.result _ _
+    IfOk-weaker c.step_within-answer.result _ _
     (λ answer holds.
-    stepped most longest s c.happens-answer.new.self solo next c.args.event.now answer told is short c.longest_with_event-longest.ensures.short e
-    c.happens-answer.ensures.app holds.0 holds.1)
-    (c.happens-answer.ensures.ok most solo next told is short room e)
+    stepped most longest s c.step_within-answer.new.self solo next c.args.event.now answer told is short c.longest_with_event-longest.ensures.short e
+    c.step_within-answer.ensures.app holds.0 holds.1)
+    (c.step_within-answer.ensures.ok most solo next told is short room e)
 
 pub returns-clause-err : goal.returns-clause-err
 returns-clause-err c solo is =
     let s = c.args.self.now in
-    on_err_weaker c.happens-answer.result
-    (still_solo c.longest_with_event-longest.result s c.happens-answer.new.self solo is c.longest_with_event-longest.ensures.least c.happens-answer.ensures.app)
-    (c.happens-answer.ensures.err solo is.stands)
+    on_err_weaker c.step_within-answer.result
+    (still_solo c.longest_with_event-longest.result s c.step_within-answer.new.self solo is c.longest_with_event-longest.ensures.least c.step_within-answer.ensures.app)
+    (c.step_within-answer.ensures.err solo is.stands)

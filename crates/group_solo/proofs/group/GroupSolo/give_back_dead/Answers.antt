@@ -1,0 +1,17 @@
+use Rattle.std.proofs.Common.{rules, ◌≡◌, true, false}
+use Rattle.std.specs.Prelude.{is_some}
+use Rattle.kernel_model.specs.Instances.{killed}
+use Rattle.group_solo.proofs.GivenBack.{given_nowhere, given_there}
+use Rattle.group_solo.proofs.group.GroupSolo.give_back_dead.Goals as goal
+
+pub returns-then-there-clause-back : goal.returns-then-there-clause-back
+returns-then-there-clause-back c =
+    let is : is_some c.at.result ≡ true = search rules in
+    given_there c.args.self.now c.kill.new.self c.remove_instance.new.self c.args.number false
+    killed c.at.result c.at.ensures is c.kill.ensures.stays c.remove_instance.ensures.stays
+    c.kill.ensures.killed c.remove_instance.ensures.goes
+
+pub returns-else-there-clause-back : goal.returns-else-there-clause-back
+returns-else-there-clause-back c =
+    let is : is_some c.at.result ≡ false = search rules in
+    given_nowhere c.args.self.now c.args.number false killed c.at.result c.at.ensures is
