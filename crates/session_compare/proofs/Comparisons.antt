@@ -1,15 +1,17 @@
 -- Two logs that are compared as they are read.
-use Rattle.std.proofs.Common.{◌≡◌, ◌↔◌, ℕ, zero, suc, ◌+◌, ◌<◌, Bool, true, false, List, [], ◌∷◌, ◌++◌, length, take, Option, Some, None, refl, ap, sym, subst, ◌∙◌, inl, inr, arith, length-append, ⊎_elim}
+use Rattle.std.proofs.Common.{◌≡◌, ◌↔◌, ℕ, zero, suc, ◌+◌, ◌<◌, Bool, true, false, List, [], ◌∷◌, ◌++◌, length, take, Option, Some, None, refl, ap, sym, subst, ◌∙◌, arith, length-append}
 use Rattle.std.proofs.Math.Seq.{take-append_seam}
 use Rattle.std.proofs.lemmas.List.{append_assoc, append-nil, map-append, take-append-le}
 use Rattle.std.proofs.lemmas.List.Elements.{filter_map-append}
-use Rattle.std.specs.Prelude.{◌⊎◌, IfOk, IsTrue, Result, Ok, Err, is_some, slice_get}
+use Rattle.std.specs.Prelude.{IfOk, IsTrue, Result, Ok, Err, is_some, slice_get}
 use Rattle.std.specs.Option.{option_to_list}
 use Rattle.base.specs.declared.no_memory.NoMemory.{NoMemory}
 use Rattle.compare_model.specs.Comparing.{DifferFirstAt}
-use Rattle.session_compare.specs.Comparisons.{AreAlike, AreApart, Compares, StandsBy, counted}
-use Rattle.session_compare.specs.Logs.{events_in, replies_in}
+use Rattle.session_compare.specs.Comparisons.{AreApart, Compares, IsAhead, Leads, StandsBy, counted, replies_counted}
+use Rattle.journal_notes.specs.Logs.{events_in, replies_in}
 use Rattle.session_compare.specs.declared.differing.Comparison.{Comparison}
+use Rattle.session_compare.specs.declared.differing.Side.{Side}
+use Rattle.session_compare.specs.declared.differing.Side.TheVariants.{First, Second}
 
 -- ---- lists
 
@@ -29,201 +31,194 @@ module _ {X : Type 0} where
 
   -- ---- both ways round
 
-  pub alike_back : (same : ℕ) (ones others one two : List X) → AreAlike same ones others one two → AreAlike same others ones two one
-  alike_back same ones others one two are = record {
-    common = are.common;
-    first = are.second;
-    second = are.first;
-    many = are.many;
-    ended = ⊎_elim (λ none. inr none) (λ none. inl none) are.ended;
-  }
-
-  pub apart_back : (same : ℕ) (one two : List X) → AreApart same one two → AreApart same two one
-  apart_back same one two are = record {
+  pub apart_back : (same : ℕ) (its other : List X) → AreApart same its other → AreApart same other its
+  apart_back same its other are = record {
     front = sym are.front;
     in_one = are.in_two;
     in_two = are.in_one;
     apart = λ both. are.apart (sym both);
   }
 
+  differ_back : (same : ℕ) (its other : List X) → DifferFirstAt its other same → DifferFirstAt other its same
+  differ_back same its other is = record { same_before = sym is.same_before; differ = λ both. is.differ (sym both) }
+
   -- ---- one goes on
 
   -- where they differ already
-  pub apart_on : (same : ℕ) (one two : List X) (event : X) → AreApart same one two → AreApart same (one ++ event ∷ []) two
-  apart_on same one two event are = record {
-    front = take-append-le same one (event ∷ []) (omega (arith, are.in_one)) ∙ are.front;
+  apart_on : (same : ℕ) (its other : List X) (event : X) → AreApart same its other → AreApart same (its ++ event ∷ []) other
+  apart_on same its other event are = record {
+    front = take-append-le same its (event ∷ []) (omega (arith, are.in_one)) ∙ are.front;
     in_one =
-        let long = length-append one (event ∷ []) in
+        let long = length-append its (event ∷ []) in
         let within = are.in_one in
         omega (arith, long, within);
     in_two = are.in_two;
-    apart = λ both. are.apart (sym (get_on same one (event ∷ []) are.in_one) ∙ both);
+    apart = λ both. are.apart (sym (get_on same its (event ∷ []) are.in_one) ∙ both);
   }
 
-  -- where the other has no event there
-  pub alike_ahead : (same : ℕ) (ones others more one two : List X) (event : X) → others ≡ [] → more ≡ ones ++ event ∷ []
-      → AreAlike same ones others one two → AreAlike same more others (one ++ event ∷ []) two
-  alike_ahead same ones others more one two event none pushed are = record {
-    common = are.common;
-    first = ap (λ (xs : List X). xs ++ event ∷ []) are.first ∙ append_assoc are.common ones (event ∷ [])
-        ∙ ap (λ (xs : List X). are.common ++ xs) (sym pushed);
-    second = are.second;
-    many = are.many;
-    ended = inr none;
+  -- that which is ahead
+  ahead_on : (same : ℕ) (more now its other : List X) (event : X) → now ≡ more ++ event ∷ [] → IsAhead same more its other
+      → IsAhead same now (its ++ event ∷ []) other
+  ahead_on same more now its other event pushed is = record {
+    goes_on = ap (λ (xs : List X). xs ++ event ∷ []) is.goes_on ∙ append_assoc other more (event ∷ []) ∙ ap (λ (xs : List X). other ++ xs) (sym pushed);
+    many = is.many;
   }
 
-  -- where it has one, nothing of the first stands alone
-  module _ (same : ℕ) (ones others rest one two : List X) (event other : X) (popped : others ≡ other ∷ rest)
-      (are : AreAlike same ones others one two) where
-    none_alone : ones ≡ []
-    none_alone = ⊎_elim (λ none. none) (λ none. absurd (not_empty (sym popped ∙ none))) are.ended
-      where
-        not_empty : other ∷ rest ≡ [] → ⊥
-        not_empty is = absurd cc
+  -- one where none is
+  level_on : (same : ℕ) (more now its other : List X) (event : X) → more ≡ [] → now ≡ event ∷ [] → IsAhead same more other its
+      → IsAhead same now (its ++ event ∷ []) other
+  level_on same more now its other event none pushed is =
+      let level : other ≡ its = is.goes_on ∙ ap (λ (xs : List X). its ++ xs) none ∙ append-nil its in
+      record {
+        goes_on = ap (λ (xs : List X). xs ++ event ∷ []) (sym level) ∙ ap (λ (xs : List X). other ++ xs) (sym pushed);
+        many = is.many ∙ ap (λ (xs : List X). length xs) (sym level);
+      }
 
-    first_is : one ≡ are.common
-    first_is = are.first ∙ ap (λ (xs : List X). are.common ++ xs) none_alone ∙ append-nil are.common
-
-    second_is : two ≡ are.common ++ other ∷ rest
-    second_is = are.second ∙ ap (λ (xs : List X). are.common ++ xs) popped
+  -- that which is behind, where the other has this event next
+  module _ (same : ℕ) (more rest its other : List X) (event next : X) (popped : more ≡ next ∷ rest) (is : IsAhead same more other its) where
+    other_is : other ≡ its ++ next ∷ rest
+    other_is = is.goes_on ∙ ap (λ (xs : List X). its ++ xs) popped
 
     -- the same
-    pub alike_same : event ≡ other → AreAlike (same + 1) ones rest (one ++ event ∷ []) two
-    alike_same both = record {
-      common = are.common ++ other ∷ [];
-      first = ap (λ (xs : List X). xs ++ event ∷ []) first_is ∙ ap (λ (x : X). are.common ++ x ∷ []) both
-          ∙ sym (append-nil (are.common ++ other ∷ [])) ∙ ap (λ (xs : List X). (are.common ++ other ∷ []) ++ xs) (sym none_alone);
-      second = second_is ∙ sym (append_assoc are.common (other ∷ []) rest);
-      many = ap (λ (n : ℕ). n + 1) are.many ∙ sym (length-append are.common (other ∷ []));
-      ended = inl none_alone;
+    same_on : event ≡ next → IsAhead (same + 1) rest other (its ++ event ∷ [])
+    same_on both = record {
+      goes_on = other_is ∙ ap (λ (x : X). its ++ x ∷ rest) (sym both) ∙ sym (append_assoc its (event ∷ []) rest);
+      many = ap (λ (n : ℕ). n + 1) is.many ∙ sym (length-append its (event ∷ []));
     }
 
     -- another one
-    pub alike_parts : (event ≡ other → ⊥) → AreApart same (one ++ event ∷ []) two
-    alike_parts differ =
-        subst (λ (n : ℕ). AreApart n (one ++ event ∷ []) two) (sym are.many) (record {
-          front = ap (λ (xs : List X). take (length are.common) (xs ++ event ∷ [])) first_is ∙ take-append_seam are.common (event ∷ [])
-              ∙ sym (ap (take (length are.common)) second_is ∙ take-append_seam are.common (other ∷ rest));
+    apart_now : (event ≡ next → ⊥) → AreApart same (its ++ event ∷ []) other
+    apart_now differ =
+        subst (λ (n : ℕ). AreApart n (its ++ event ∷ []) other) (sym is.many) (record {
+          front = take-append_seam its (event ∷ []) ∙ sym (ap (take (length its)) other_is ∙ take-append_seam its (next ∷ rest));
           in_one =
-              let long = length-append one (event ∷ []) in
-              let its = ap (λ (xs : List X). length xs) first_is in
-              omega (arith, long, its);
+              let long = length-append its (event ∷ []) in
+              omega (arith, long);
           in_two =
-              let long = length-append are.common (other ∷ rest) in
-              let its = ap (λ (xs : List X). length xs) second_is in
-              omega (arith, long, its);
-          apart = λ both. differ (same_some event other
-              (sym (ap (λ (xs : List X). slice_get (xs ++ event ∷ []) (length are.common)) first_is ∙ at_end are.common (event ∷ []))
-              ∙ both ∙ ap (λ (xs : List X). slice_get xs (length are.common)) second_is ∙ at_end are.common (other ∷ rest)));
+              let long = length-append its (next ∷ rest) in
+              let whole = ap (λ (xs : List X). length xs) other_is in
+              omega (arith, long, whole);
+          apart = λ both. differ (same_some event next
+              (sym (at_end its (event ∷ [])) ∙ both ∙ ap (λ (xs : List X). slice_get xs (length its)) other_is ∙ at_end its (next ∷ rest)));
         })
       where
         same_some : (x y : X) → Some x ≡ Some y → x ≡ y
-        same_some x y is = cc
+        same_some x y both = cc
 
   -- ---- what they show
 
   pub apart_shows : (same : ℕ) (one two : List X) → AreApart same one two → DifferFirstAt one two same
   apart_shows same one two are = record { same_before = are.front; differ = are.apart }
 
-  pub level_shows : (same : ℕ) (ones others one two : List X) → ones ≡ [] → others ≡ [] → AreAlike same ones others one two → one ≡ two
-  level_shows same ones others one two none none_too are =
-      are.first ∙ ap (λ (xs : List X). are.common ++ xs) (none ∙ sym none_too) ∙ sym are.second
+  level_shows : (same : ℕ) (more its other : List X) → more ≡ [] → IsAhead same more its other → its ≡ other
+  level_shows same more its other none is = is.goes_on ∙ ap (λ (xs : List X). other ++ xs) none ∙ append-nil other
 
-  pub ahead_shows : (same : ℕ) (ones others one two : List X) → ((ones ≡ []) × (others ≡ []) → ⊥) → AreAlike same ones others one two
-      → DifferFirstAt one two same
-  ahead_shows same ones others one two not_level are =
-      subst (DifferFirstAt one two) (sym are.many) (record {
-        same_before = ap (take (length are.common)) are.first ∙ take-append_seam are.common ones
-            ∙ sym (ap (take (length are.common)) are.second ∙ take-append_seam are.common others);
-        differ = λ both. ends ones others are.ended
-            (sym (ap (λ (xs : List X). slice_get xs (length are.common)) are.first ∙ at_end are.common ones)
-            ∙ both ∙ ap (λ (xs : List X). slice_get xs (length are.common)) are.second ∙ at_end are.common others) not_level;
+  ahead_shows : (same : ℕ) (more its other : List X) → (more ≡ [] → ⊥) → IsAhead same more its other → DifferFirstAt its other same
+  ahead_shows same more its other not_level is =
+      subst (DifferFirstAt its other) (sym is.many) (record {
+        same_before = ap (take (length other)) is.goes_on ∙ take-append_seam other more
+            ∙ sym (ap (take (length other)) (sym (append-nil other)) ∙ take-append_seam other []);
+        differ = λ both. not_level (ends more
+            (sym (ap (λ (xs : List X). slice_get xs (length other)) is.goes_on ∙ at_end other more)
+            ∙ both ∙ ap (λ (xs : List X). slice_get xs (length other)) (sym (append-nil other)) ∙ at_end other []));
       })
     where
-      ends : (xs ys : List X) → (xs ≡ []) ⊎ (ys ≡ []) → slice_get xs 0 ≡ slice_get ys 0 → ((xs ≡ []) × (ys ≡ []) → ⊥) → ⊥
-      ends [] [] ended both not_both = not_both (refl, refl)
-      ends [] (y ∷ ys) ended both not_both = absurd cc
-      ends (x ∷ xs) [] ended both not_both = absurd cc
-      ends (x ∷ xs) (y ∷ ys) ended both not_both = ⊎_elim (λ none. absurd cc) (λ none. absurd cc) ended
+      ends : (xs : List X) → slice_get xs 0 ≡ None → xs ≡ []
+      ends [] none = refl
+      ends (x ∷ xs) none = absurd cc
+
+  -- ---- by the side that is ahead
+
+  module _ (same : ℕ) (more its other : List X) where
+    leads_its : (side ahead : Side) → side ≡ ahead → Leads side ahead same more its other → IsAhead same more its other
+    leads_its First First is leads = leads
+    leads_its Second Second is leads = leads
+    leads_its First Second is leads = absurd cc
+    leads_its Second First is leads = absurd cc
+
+    its_leads : (side ahead : Side) → side ≡ ahead → IsAhead same more its other → Leads side ahead same more its other
+    its_leads First First is leads = leads
+    its_leads Second Second is leads = leads
+    its_leads First Second is leads = absurd cc
+    its_leads Second First is leads = absurd cc
+
+    leads_other : (side ahead : Side) → (side ≡ ahead → ⊥) → Leads side ahead same more its other → IsAhead same more other its
+    leads_other First First not leads = absurd (not refl)
+    leads_other Second Second not leads = absurd (not refl)
+    leads_other First Second not leads = leads
+    leads_other Second First not leads = leads
+
+    other_leads : (side ahead : Side) → (side ≡ ahead → ⊥) → IsAhead same more other its → Leads side ahead same more its other
+    other_leads First First not leads = absurd (not refl)
+    other_leads Second Second not leads = absurd (not refl)
+    other_leads First Second not leads = leads
+    other_leads Second First not leads = leads
+
+    pub level_so : (side ahead : Side) → more ≡ [] → Leads side ahead same more its other → its ≡ other
+    level_so First First none leads = level_shows same more its other none leads
+    level_so Second Second none leads = level_shows same more its other none leads
+    level_so First Second none leads = sym (level_shows same more other its none leads)
+    level_so Second First none leads = sym (level_shows same more other its none leads)
+
+    pub ahead_so : (side ahead : Side) → (more ≡ [] → ⊥) → Leads side ahead same more its other → DifferFirstAt its other same
+    ahead_so First First some leads = ahead_shows same more its other some leads
+    ahead_so Second Second some leads = ahead_shows same more its other some leads
+    ahead_so First Second some leads = differ_back same other its (ahead_shows same more other its some leads)
+    ahead_so Second First some leads = differ_back same other its (ahead_shows same more other its some leads)
+
+pub not_both : (b : Bool) → b ≡ false → IsTrue b → ⊥
+not_both true is so = absurd cc
+not_both false is so = absurd cc
 
 -- ---- the code's comparison
 
 module _ {X : Type 0} where
   -- where they differ, nothing changes
-  pub stands_apart : (code : Comparison X) (one two : List X) (event : X) (differ : Bool) → differ ≡ true → StandsBy code one two differ
-      → StandsBy code (one ++ event ∷ []) two differ
-  stands_apart code one two event true is stands = apart_on code.same one two event stands
-  stands_apart code one two event false is stands = absurd cc
+  pub stands_apart : (side : Side) (code : Comparison X) (its other : List X) (event : X) (differ : Bool) → differ ≡ true
+      → StandsBy side code its other differ → StandsBy side code (its ++ event ∷ []) other differ
+  stands_apart side code its other event true is stands = apart_on code.same its other event stands
+  stands_apart side code its other event false is stands = absurd cc
 
-  pub stands_apart_too : (code : Comparison X) (one two : List X) (event : X) (differ : Bool) → differ ≡ true → StandsBy code one two differ
-      → StandsBy code one (two ++ event ∷ []) differ
-  stands_apart_too code one two event true is stands =
-      apart_back code.same (two ++ event ∷ []) one (apart_on code.same two one event (apart_back code.same one two stands))
-  stands_apart_too code one two event false is stands = absurd cc
+  pub stands_apart_now : (side : Side) (code : Comparison X) (its other : List X) (differ : Bool) → differ ≡ true
+      → StandsBy side code its other differ → AreApart code.same its other
+  stands_apart_now side code its other true is stands = stands
+  stands_apart_now side code its other false is stands = absurd cc
 
-  pub stands_apart_now : (code : Comparison X) (one two : List X) (differ : Bool) → differ ≡ true → StandsBy code one two differ
-      → AreApart code.same one two
-  stands_apart_now code one two true is stands = stands
-  stands_apart_now code one two false is stands = absurd cc
+  pub stands_alike : (side : Side) (code : Comparison X) (its other : List X) (differ : Bool) → differ ≡ false
+      → StandsBy side code its other differ → Leads side code.ahead code.same code.more.items its other
+  stands_alike side code its other true is stands = absurd cc
+  stands_alike side code its other false is stands = stands
 
-  pub stands_alike : (code : Comparison X) (one two : List X) (differ : Bool) → differ ≡ false → StandsBy code one two differ
-      → AreAlike code.same code.ones.items code.others.items one two
-  stands_alike code one two true is stands = absurd cc
-  stands_alike code one two false is stands = stands
+  alike_stands : (side : Side) (code : Comparison X) (its other : List X) (differ : Bool) → differ ≡ false
+      → Leads side code.ahead code.same code.more.items its other → StandsBy side code its other differ
+  alike_stands side code its other true is leads = absurd cc
+  alike_stands side code its other false is leads = leads
 
-  pub alike_stands : (code : Comparison X) (one two : List X) (differ : Bool) → differ ≡ false
-      → AreAlike code.same code.ones.items code.others.items one two → StandsBy code one two differ
-  alike_stands code one two true is are = absurd cc
-  alike_stands code one two false is are = are
+  -- by the other side
+  stands_back : (side back : Side) (code : Comparison X) (its other : List X) (differ : Bool) → (side ≡ back → ⊥) → StandsBy side code its other differ
+      → StandsBy back code other its differ
+  stands_back side back code its other true not stands = apart_back code.same its other stands
+  stands_back side back code its other false not stands = by side back code.ahead not stands
+    where
+      by : (side back ahead : Side) → (side ≡ back → ⊥) → Leads side ahead code.same code.more.items its other
+          → Leads back ahead code.same code.more.items other its
+      by First First ahead not leads = absurd (not refl)
+      by Second Second ahead not leads = absurd (not refl)
+      by First Second First not leads = leads
+      by First Second Second not leads = leads
+      by Second First First not leads = leads
+      by Second First Second not leads = leads
+
+  -- where replies are counted, the events stay
+  counted_stands : (side : Side) (code : Comparison X) (n : ℕ) (its other : List X) (differ : Bool) → StandsBy side code its other differ
+      → StandsBy side (record code { replies = n }) its other differ
+  counted_stands side code n its other true stands = stands
+  counted_stands side code n its other false stands = stands
 
   -- what `meets` makes of it
   pub record Meets (old new : Comparison X) (is_same : Bool) (result : Result (Unit {0}) NoMemory) : Type 0 where
     pub on_same : IsTrue is_same → IfOk result (λ _. new ≡ record old { same = old.same + 1 })
     pub on_other : (IsTrue is_same → ⊥) → new ≡ record old { differ = true }
-
-  -- the first goes on with an event, where the second has this one there
-  module _ (old met new : Comparison X) (one two : List X) (event other : X) (still : old.differ ≡ false)
-      (stands : StandsBy old one two old.differ) where
-    pub meets_first : (is_same : Bool) (result : Result (Unit {0}) NoMemory) → (IsTrue is_same ↔ (event ≡ other)) → Meets met new is_same result
-        → met ≡ record old { others = met.others } → old.others.items ≡ other ∷ met.others.items
-        → IfOk result (λ _. StandsBy new (one ++ event ∷ []) two new.differ)
-    meets_first is_same (Err error) tells meets popped rest = tt
-    meets_first true (Ok done) tells meets popped rest =
-        let is = meets.on_same refl in
-        let are = alike_same old.same old.ones.items old.others.items met.others.items one two event other rest
-        (stands_alike old one two old.differ still stands) (tells.0 refl) in
-        subst (λ (code : Comparison X). StandsBy code (one ++ event ∷ []) two code.differ) (sym (is ∙ ap (λ (c : Comparison X). record c { same = c.same + 1 }) popped))
-        (alike_stands (record old { others = met.others; same = old.same + 1 }) (one ++ event ∷ []) two old.differ still are)
-    meets_first false (Ok done) tells meets popped rest =
-        let is = meets.on_other (λ so. absurd cc) in
-        let are = alike_parts old.same old.ones.items old.others.items met.others.items one two event other rest
-        (stands_alike old one two old.differ still stands) (λ both. not_true (tells.1 both)) in
-        subst (λ (code : Comparison X). StandsBy code (one ++ event ∷ []) two code.differ) (sym (is ∙ ap (λ (c : Comparison X). record c { differ = true }) popped)) are
-      where
-        not_true : IsTrue false → ⊥
-        not_true so = absurd cc
-
-    -- and the second, where the first has this one
-    pub meets_second : (is_same : Bool) (result : Result (Unit {0}) NoMemory) → (IsTrue is_same ↔ (other ≡ event)) → Meets met new is_same result
-        → met ≡ record old { ones = met.ones } → old.ones.items ≡ other ∷ met.ones.items
-        → IfOk result (λ _. StandsBy new one (two ++ event ∷ []) new.differ)
-    meets_second is_same (Err error) tells meets popped rest = tt
-    meets_second true (Ok done) tells meets popped rest =
-        let is = meets.on_same refl in
-        let back = alike_back old.same old.ones.items old.others.items one two (stands_alike old one two old.differ still stands) in
-        let are = alike_back (old.same + 1) old.others.items met.ones.items (two ++ event ∷ []) one
-        (alike_same old.same old.others.items old.ones.items met.ones.items two one event other rest back (sym (tells.0 refl))) in
-        subst (λ (code : Comparison X). StandsBy code one (two ++ event ∷ []) code.differ) (sym (is ∙ ap (λ (c : Comparison X). record c { same = c.same + 1 }) popped))
-        (alike_stands (record old { ones = met.ones; same = old.same + 1 }) one (two ++ event ∷ []) old.differ still are)
-    meets_second false (Ok done) tells meets popped rest =
-        let is = meets.on_other (λ so. absurd cc) in
-        let back = alike_back old.same old.ones.items old.others.items one two (stands_alike old one two old.differ still stands) in
-        let are = apart_back old.same (two ++ event ∷ []) one
-        (alike_parts old.same old.others.items old.ones.items met.ones.items two one event other rest back (λ both. not_true (tells.1 (sym both)))) in
-        subst (λ (code : Comparison X). StandsBy code one (two ++ event ∷ []) code.differ) (sym (is ∙ ap (λ (c : Comparison X). record c { differ = true }) popped)) are
-      where
-        not_true : IsTrue false → ⊥
-        not_true so = absurd cc
 
   -- the replies stay
   pub met_replies : (met new : Comparison X) (is_same : Bool) (result : Result (Unit {0}) NoMemory) → Meets met new is_same result
@@ -232,28 +227,51 @@ module _ {X : Type 0} where
   met_replies met new true (Ok done) meets = ap (λ (c : Comparison X). c.replies) (meets.on_same refl)
   met_replies met new false (Ok done) meets = ap (λ (c : Comparison X). c.replies) (meets.on_other (λ so. absurd cc))
 
-  -- ---- an event that the other has nothing for
+  -- ---- the log of one side goes on with an event
 
-  pub ahead_first : (old : Comparison X) (one two : List X) (event : X) (new : Comparison X) → old.differ ≡ false → StandsBy old one two old.differ
-      → old.others.items ≡ [] → new.others.items ≡ [] → new.ones.items ≡ old.ones.items ++ event ∷ [] → new.same ≡ old.same → new.differ ≡ old.differ
-      → StandsBy new (one ++ event ∷ []) two new.differ
-  ahead_first old one two event new still stands none none_now pushed same differ =
-      let are = alike_ahead old.same old.ones.items old.others.items new.ones.items one two event none pushed
-      (stands_alike old one two old.differ still stands) in
-      alike_stands new (one ++ event ∷ []) two new.differ (differ ∙ still)
-      (subst (λ (n : ℕ). AreAlike n new.ones.items new.others.items (one ++ event ∷ []) two) (sym same)
-      (subst (λ (xs : List X). AreAlike old.same new.ones.items xs (one ++ event ∷ []) two) (none ∙ sym none_now) are))
+  module _ (side : Side) (old : Comparison X) (its other : List X) (event : X) (still : old.differ ≡ false)
+      (stands : StandsBy side old its other old.differ) where
+    -- which is ahead
+    pub pushes : (new : Comparison X) → side ≡ old.ahead → new.more.items ≡ old.more.items ++ event ∷ [] → new.ahead ≡ old.ahead
+        → new.same ≡ old.same → new.differ ≡ old.differ → StandsBy side new (its ++ event ∷ []) other new.differ
+    pushes new leads pushed ahead same differ =
+        let was = leads_its old.same old.more.items its other side old.ahead leads (stands_alike side old its other old.differ still stands) in
+        alike_stands side new (its ++ event ∷ []) other new.differ (differ ∙ still)
+        (its_leads new.same new.more.items (its ++ event ∷ []) other side new.ahead (leads ∙ sym ahead)
+        (subst (λ (n : ℕ). IsAhead n new.more.items (its ++ event ∷ []) other) (sym same)
+        (ahead_on old.same old.more.items new.more.items its other event pushed was)))
 
-  pub ahead_second : (old : Comparison X) (one two : List X) (event : X) (new : Comparison X) → old.differ ≡ false → StandsBy old one two old.differ
-      → old.ones.items ≡ [] → new.ones.items ≡ [] → new.others.items ≡ old.others.items ++ event ∷ [] → new.same ≡ old.same → new.differ ≡ old.differ
-      → StandsBy new one (two ++ event ∷ []) new.differ
-  ahead_second old one two event new still stands none none_now pushed same differ =
-      let back = alike_back old.same old.ones.items old.others.items one two (stands_alike old one two old.differ still stands) in
-      let are = alike_back old.same new.others.items old.ones.items (two ++ event ∷ []) one
-      (alike_ahead old.same old.others.items old.ones.items new.others.items two one event none pushed back) in
-      alike_stands new one (two ++ event ∷ []) new.differ (differ ∙ still)
-      (subst (λ (n : ℕ). AreAlike n new.ones.items new.others.items one (two ++ event ∷ [])) (sym same)
-      (subst (λ (xs : List X). AreAlike old.same xs new.others.items one (two ++ event ∷ [])) (none ∙ sym none_now) are))
+    module _ (behind : side ≡ old.ahead → ⊥) where
+      was_ahead : IsAhead old.same old.more.items other its
+      was_ahead = leads_other old.same old.more.items its other side old.ahead behind (stands_alike side old its other old.differ still stands)
+
+      -- which comes ahead
+      pub comes_ahead : (new : Comparison X) (left : List X) → old.more.items ≡ [] → left ≡ [] → new.more.items ≡ left ++ event ∷ []
+          → new.ahead ≡ side → new.same ≡ old.same → new.differ ≡ old.differ → StandsBy side new (its ++ event ∷ []) other new.differ
+      comes_ahead new left none none_left pushed ahead same differ =
+          alike_stands side new (its ++ event ∷ []) other new.differ (differ ∙ still)
+          (its_leads new.same new.more.items (its ++ event ∷ []) other side new.ahead (sym ahead)
+          (subst (λ (n : ℕ). IsAhead n new.more.items (its ++ event ∷ []) other) (sym same)
+          (level_on old.same old.more.items new.more.items its other event none (pushed ∙ ap (λ (xs : List X). xs ++ event ∷ []) none_left) was_ahead)))
+
+      -- which is behind, where the other has this event next
+      pub meets_next : (met new : Comparison X) (next : X) (is_same : Bool) (result : Result (Unit {0}) NoMemory)
+          → (IsTrue is_same ↔ (event ≡ next)) → Meets met new is_same result → met ≡ record old { more = met.more }
+          → old.more.items ≡ next ∷ met.more.items → IfOk result (λ _. StandsBy side new (its ++ event ∷ []) other new.differ)
+      meets_next met new next is_same (Err error) tells meets left popped = tt
+      meets_next met new next true (Ok done) tells meets left popped =
+          let is = meets.on_same refl ∙ ap (λ (c : Comparison X). record c { same = c.same + 1 }) left in
+          subst (λ (code : Comparison X). StandsBy side code (its ++ event ∷ []) other code.differ) (sym is)
+          (alike_stands side (record old { more = met.more; same = old.same + 1 }) (its ++ event ∷ []) other old.differ still
+          (other_leads (old.same + 1) met.more.items (its ++ event ∷ []) other side old.ahead behind
+          (same_on old.same old.more.items met.more.items its other event next popped was_ahead (tells.0 refl))))
+      meets_next met new next false (Ok done) tells meets left popped =
+          let is = meets.on_other (λ so. not_true so) ∙ ap (λ (c : Comparison X). record c { differ = true }) left in
+          subst (λ (code : Comparison X). StandsBy side code (its ++ event ∷ []) other code.differ) (sym is)
+          (apart_now old.same old.more.items met.more.items its other event next popped was_ahead (λ both. not_true (tells.1 both)))
+        where
+          not_true : IsTrue false → ⊥
+          not_true so = absurd cc
 
 -- ---- logs
 
@@ -263,49 +281,50 @@ module _ {E R : Type 0} where
   reply_alone event (Some reply) = refl
 
   replies_more : (log : List (E × Option R)) (logged : E × Option R)
-      → length (replies_in (log ++ logged ∷ [])) ≡ counted (length (replies_in log)) (is_some logged.1)
+      → length (replies_in (log ++ logged ∷ [])) ≡ counted First (length (replies_in log)) (is_some logged.1)
   replies_more log logged =
       ap (λ (rs : List R). length rs) (filter_map-append (λ (l : E × Option R). l.1) log (logged ∷ [])
       ∙ ap (λ (rest : List R). replies_in log ++ rest) (reply_alone logged.0 logged.1))
       ∙ length-append (replies_in log) (option_to_list logged.1) ∙ one_or_none (length (replies_in log)) logged.1
     where
-      one_or_none : (n : ℕ) (told : Option R) → n + length (option_to_list told) ≡ counted n (is_some told)
+      one_or_none : (n : ℕ) (told : Option R) → n + length (option_to_list told) ≡ counted First n (is_some told)
       one_or_none n None = omega arith
       one_or_none n (Some reply) = refl
 
-  -- an entry of the first log more
-  pub adds_first : (old counts new : Comparison E) (logged : E × Option R) (one two : List (E × Option R)) (result : Result (Unit {0}) NoMemory)
-      (told : Bool) → told ≡ is_some logged.1 → Compares old one two → counts ≡ record old { replies = counted old.replies told }
-      → IfOk result (λ _. new.replies ≡ counts.replies)
-      → ((first second : List E) → StandsBy counts first second counts.differ
-      → IfOk result (λ _. StandsBy new (first ++ logged.0 ∷ []) second new.differ))
-      → IfOk result (λ _. Compares new (one ++ logged ∷ []) two)
-  adds_first old counts new logged one two (Err error) told tells was same replies adds = tt
-  adds_first old counts new logged one two (Ok done) told tells was same replies adds =
-      let stands = subst (λ (code : Comparison E). StandsBy code (events_in one) (events_in two) code.differ) (sym same)
-      (counted_stands old (counted old.replies told) (events_in one) (events_in two) old.differ was.events) in
-      record {
-        events = subst (λ (events : List E). StandsBy new events (events_in two) new.differ)
-            (sym (map-append (λ (l : E × Option R). l.0) one (logged ∷ []))) (adds (events_in one) (events_in two) stands);
-        replies = replies ∙ ap (λ (code : Comparison E). code.replies) same ∙ ap (counted old.replies) tells
-            ∙ ap (λ (n : ℕ). counted n (is_some logged.1)) was.replies
-            ∙ sym (replies_more one logged);
-      }
-    where
-      counted_stands : (code : Comparison E) (n : ℕ) (first second : List E) (differ : Bool) → StandsBy code first second differ
-          → StandsBy (record code { replies = n }) first second differ
-      counted_stands code n first second true stands = stands
-      counted_stands code n first second false stands = stands
+  counted_more : (side : Side) (its other : List (E × Option R)) (logged : E × Option R)
+      → length (replies_counted side (its ++ logged ∷ []) other) ≡ counted side (length (replies_counted side its other)) (is_some logged.1)
+  counted_more First its other logged = replies_more its logged
+  counted_more Second its other logged = refl
 
-  -- and of the second
-  pub adds_second : (old new : Comparison E) (logged : E × Option R) (one two : List (E × Option R)) (result : Result (Unit {0}) NoMemory)
-      → Compares old one two → IfOk result (λ _. new.replies ≡ old.replies)
-      → ((first second : List E) → StandsBy old first second old.differ
-      → IfOk result (λ _. StandsBy new first (second ++ logged.0 ∷ []) new.differ))
-      → IfOk result (λ _. Compares new one (two ++ logged ∷ []))
-  adds_second old new logged one two (Err error) was replies adds = tt
-  adds_second old new logged one two (Ok done) was replies adds = record {
-    events = subst (λ (events : List E). StandsBy new (events_in one) events new.differ)
-        (sym (map-append (λ (l : E × Option R). l.0) two (logged ∷ []))) (adds (events_in one) (events_in two) was.events);
-    replies = replies ∙ was.replies;
+  -- an entry of one log more
+  pub adds_entry : (side : Side) (old counts new : Comparison E) (logged : E × Option R) (its other : List (E × Option R))
+      (result : Result (Unit {0}) NoMemory) (told : Bool) → told ≡ is_some logged.1 → Compares side old its other
+      → counts ≡ record old { replies = counted side old.replies told }
+      → IfOk result (λ _. new.replies ≡ counts.replies)
+      → ((these those : List E) → StandsBy side counts these those counts.differ
+      → IfOk result (λ _. StandsBy side new (these ++ logged.0 ∷ []) those new.differ))
+      → IfOk result (λ _. Compares side new (its ++ logged ∷ []) other)
+  adds_entry side old counts new logged its other (Err error) told tells was same replies adds = tt
+  adds_entry side old counts new logged its other (Ok done) told tells was same replies adds =
+      let stands = subst (λ (code : Comparison E). StandsBy side code (events_in its) (events_in other) code.differ) (sym same)
+      (counted_stands side old (counted side old.replies told) (events_in its) (events_in other) old.differ was.events) in
+      record {
+        events = subst (λ (events : List E). StandsBy side new events (events_in other) new.differ)
+            (sym (map-append (λ (l : E × Option R). l.0) its (logged ∷ []))) (adds (events_in its) (events_in other) stands);
+        replies = replies ∙ ap (λ (code : Comparison E). code.replies) same ∙ ap (counted side old.replies) tells
+            ∙ ap (λ (n : ℕ). counted side n (is_some logged.1)) was.replies
+            ∙ sym (counted_more side its other logged);
+      }
+
+  -- by the other log
+  pub compares_back : (code : Comparison E) (one two : List (E × Option R)) → Compares First code one two → Compares Second code two one
+  compares_back code one two is = record {
+    events = stands_back First Second code (events_in one) (events_in two) code.differ (λ both. absurd cc) is.events;
+    replies = is.replies;
+  }
+
+  pub compares_on : (code : Comparison E) (one two : List (E × Option R)) → Compares Second code two one → Compares First code one two
+  compares_on code one two is = record {
+    events = stands_back Second First code (events_in two) (events_in one) code.differ (λ both. absurd cc) is.events;
+    replies = is.replies;
   }

@@ -1,3 +1,5 @@
 pub mod Comparisons
 pub mod ReadBoth
+pub mod SessionReading
+pub mod GroupReading
 pub mod Logs

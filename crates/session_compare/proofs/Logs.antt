@@ -1,25 +1,25 @@
 -- What two logs show is what the two journals show.
-use Rattle.std.proofs.Common.{◌≡◌, ◌↔◌, ℕ, List, [], Bool, true, false, Option, Some, None, refl, ap, sym, subst, ◌∙◌, length, inl, inr}
+use Rattle.std.proofs.Common.{◌≡◌, ◌↔◌, ℕ, List, Bool, true, false, Option, Some, None, refl, ap, sym, subst, ◌∙◌, length, inl, inr}
 use Rattle.std.specs.Prelude.{IfOk, IsSome, IsTrue, ◌⊎◌, Result, Ok, Err, if◌then◌else◌}
-use Rattle.std.specs.Option.{option_and_then, option_map, option_map_or}
+use Rattle.std.specs.Option.{option_and_then, option_map}
 use Rattle.base.specs.declared.no_memory.NoMemory.{NoMemory}
 use Rattle.compare_model.proofs.Replies.{same_gives_same_replies}
 use Rattle.compare_model.specs.Comparing.{AreOfOne, AreShownAs, CanBe, CanBeBoth, DifferFirstAt, FailsAt, HaveSameReplies, IsAbsentIn, IsComparedAs, Pair}
-use Rattle.compare_model.specs.Comparing.{Shown, core_of, group_in, if_shared, session_in, unless_shared}
+use Rattle.compare_model.specs.Comparing.{Shown, core_of, if_shared}
 use Rattle.compare_model.specs.declared.compared.Compared.{Compared}
 use Rattle.compare_model.specs.declared.compared.Compared.TheVariants.{Absent, Events, Illegal, Other, Same}
 use Rattle.compare_model.specs.declared.subject.Subject.{Subject}
 use Rattle.compare_model.specs.declared.subject.Subject.TheVariants.{Group, Session}
-use Rattle.group_model.specs.Read as group
-use Rattle.group_model.specs.Read.{group_events, group_replies}
 use Rattle.kernel_model.specs.Application.{Application}
 use Rattle.kernel_model.specs.Instances.{app_of, is_single}
 use Rattle.kernel_state.specs.Setup.{application_of}
 use Rattle.kernel_state.specs.declared.setup.Application.{Application as AnyApplication}
-use Rattle.own_model.specs.Own.{Logged}
-use Rattle.session_compare.specs.Logs.{AreGroupLogsOf, AreLogsOf, AreToldApart, IsShownBy, events_in, replies_in}
+use Rattle.journal_notes.specs.Logs.{events_in}
+use Rattle.session_compare.specs.Logs.{AreToldApart, IsLoggedAs, IsShownBy}
+use Rattle.session_compare.specs.Pairs.{IsToldIllegal}
 use Rattle.session_compare.specs.Comparisons.{Compares, ShowsEvents}
 use Rattle.session_compare.specs.declared.differing.Comparison.{Comparison}
+use Rattle.session_compare.specs.declared.differing.Side.TheVariants.{First}
 
 -- ---- a journal that can't be
 
@@ -36,11 +36,17 @@ illegal_in_two pair (Group uuid) at can fails = inr (refl, can, fails)
 -- ---- what each of two journals shows, by a log
 
 module _ {E R : Type 0} where
-  -- the log of what is shown, by an application of the code's where it is there
-  pub record IsLoggedAs (shown : Shown E R) (app : Option AnyApplication) (log : List (E × Option R)) : Type 0 where
-    pub app_is : shown.app ≡ option_map application_of app
-    pub events_are : shown.events ≡ events_in log
-    pub replies_are : shown.replies ≡ replies_in log
+  pub told_illegal : (pair : Pair) (one two : Shown E R) (told : Compared) → IsToldIllegal pair told → AreShownAs pair one two told
+  told_illegal pair one two (Illegal of at) is = is
+  told_illegal pair one two (Absent of) is = absurd is
+  told_illegal pair one two Other is = absurd is
+  told_illegal pair one two (Events at) is = absurd is
+  told_illegal pair one two (Same count) is = absurd is
+
+  pub illegal_answer : (pair : Pair) (one two : Shown E R) (result : Result Compared NoMemory) → IfOk result (IsToldIllegal pair)
+      → IfOk result (AreShownAs pair one two)
+  illegal_answer pair one two (Ok told) is = told_illegal pair one two told is
+  illegal_answer pair one two (Err error) is = tt
 
   module _ (pair : Pair) (one two : Shown E R) (can : CanBeBoth pair) where
     apart_so : (told : Compared) → AreToldApart pair one.app two.app (Some told) → AreShownAs pair one two told
@@ -85,81 +91,8 @@ module _ {E R : Type 0} where
           → IsShownBy log log_too told → AreShownAs pair one two told
       shown_alike are told is = alike_so (told_so None are) told is
 
--- ---- sessions
+-- ---- a group that isn't there
 
-module _ (pair : Pair) (session : ℕ) (app other kept other_kept : Option AnyApplication) (one two : List Logged)
-    (are : AreLogsOf pair session app other one two)
-    (unless : option_and_then unless_shared (option_map application_of app) ≡ option_map application_of kept)
-    (unless_too : option_and_then unless_shared (option_map application_of other) ≡ option_map application_of other_kept) where
-  one_logged : IsLoggedAs (session_in pair session pair.one) kept one
-  one_logged = record {
-    app_is = ap (λ (o : Option Application). option_and_then unless_shared o) are.app_one ∙ unless;
-    events_are = sym (ap events_in are.log_one);
-    replies_are = sym (ap replies_in are.log_one);
-  }
-
-  two_logged : IsLoggedAs (session_in pair session pair.two) other_kept two
-  two_logged = record {
-    app_is = ap (λ (o : Option Application). option_and_then unless_shared o) are.app_two ∙ unless_too;
-    events_are = sym (ap events_in are.log_two);
-    replies_are = sym (ap replies_in are.log_two);
-  }
-
-  pub sessions_apart : (told : Compared)
-      → AreToldApart pair (option_map application_of kept) (option_map application_of other_kept) (Some told)
-      → IsComparedAs pair (Session session) told
-  sessions_apart told is =
-      shown_apart pair (session_in pair session pair.one) (session_in pair session pair.two) are.can_be kept other_kept one two
-      one_logged two_logged told is
-
-  pub sessions_alike : AreToldApart pair (option_map application_of kept) (option_map application_of other_kept) None → (told : Compared)
-      → IsShownBy one two told → IsComparedAs pair (Session session) told
-  sessions_alike same told is =
-      shown_alike pair (session_in pair session pair.one) (session_in pair session pair.two) are.can_be kept other_kept one two
-      one_logged two_logged same told is
-
--- ---- groups
-
-module _ (pair : Pair) (uuid : List ℕ) (app other : AnyApplication) (kept other_kept : Option AnyApplication) (one two : List group.Logged)
-    (are : AreGroupLogsOf pair uuid app other one two)
-    (shared : option_and_then if_shared (option_map application_of (Some app)) ≡ option_map application_of kept)
-    (shared_too : option_and_then if_shared (option_map application_of (Some other)) ≡ option_map application_of other_kept) where
-  one_grouped : IsLoggedAs (group_in pair uuid pair.one) kept one
-  one_grouped =
-      let core = core_of pair pair.one in
-      record {
-        app_is = ap (λ (o : Option Application). option_and_then if_shared o) are.app_one ∙ shared;
-        events_are = ap (λ (o : Option Application). option_map_or (group_events core pair.one.events) o []) are.app_one
-            ∙ sym (ap events_in are.log_one);
-        replies_are = ap (λ (o : Option Application). option_map_or (group_replies core pair.one.events) o []) are.app_one
-            ∙ sym (ap replies_in are.log_one);
-      }
-
-  two_grouped : IsLoggedAs (group_in pair uuid pair.two) other_kept two
-  two_grouped =
-      let core = core_of pair pair.two in
-      record {
-        app_is = ap (λ (o : Option Application). option_and_then if_shared o) are.app_two ∙ shared_too;
-        events_are = ap (λ (o : Option Application). option_map_or (group_events core pair.two.events) o []) are.app_two
-            ∙ sym (ap events_in are.log_two);
-        replies_are = ap (λ (o : Option Application). option_map_or (group_replies core pair.two.events) o []) are.app_two
-            ∙ sym (ap replies_in are.log_two);
-      }
-
-  pub groups_apart : (told : Compared)
-      → AreToldApart pair (option_map application_of kept) (option_map application_of other_kept) (Some told)
-      → IsComparedAs pair (Group uuid) told
-  groups_apart told is =
-      shown_apart pair (group_in pair uuid pair.one) (group_in pair uuid pair.two) are.can_be kept other_kept one two
-      one_grouped two_grouped told is
-
-  pub groups_alike : AreToldApart pair (option_map application_of kept) (option_map application_of other_kept) None → (told : Compared)
-      → IsShownBy one two told → IsComparedAs pair (Group uuid) told
-  groups_alike same told is =
-      shown_alike pair (group_in pair uuid pair.one) (group_in pair uuid pair.two) are.can_be kept other_kept one two
-      one_grouped two_grouped same told is
-
--- the group isn't there
 pub absent_in_one : (pair : Pair) (uuid : List ℕ) → app_of (core_of pair pair.one) uuid ≡ None → CanBeBoth pair
     → IsComparedAs pair (Group uuid) (Absent 1)
 absent_in_one pair uuid none can = (can, inl (refl, ap (λ (o : Option Application). option_and_then if_shared o) none))
@@ -186,7 +119,7 @@ absent_in_two pair uuid app there none can = (can, by (is_single app) refl)
 
 -- ---- a comparison that was made as the logs were read
 
-pub shown_by : {E R : Type 0} (code : Comparison E) (one two : List (E × Option R)) (told : Compared) → Compares code one two
+pub shown_by : {E R : Type 0} (code : Comparison E) (one two : List (E × Option R)) (told : Compared) → Compares First code one two
     → ShowsEvents (events_in one) (events_in two) code.replies told → IsShownBy one two told
 shown_by code one two (Illegal of at) compares is = absurd is
 shown_by code one two (Absent of) compares is = absurd is

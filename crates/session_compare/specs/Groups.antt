@@ -1,40 +1,34 @@
--- What is read of a group off two journals.
-use Rattle.std.specs.Prelude.{◌≡◌, ℕ, ◌≤◌, Bool, true, List, length, take}
-use Rattle.audit_model.specs.Verdicts.{IsIllegalAt}
+-- How far the log of a group was read, and what is shown of it.
+use Rattle.std.specs.Prelude.{List, [], Option, Some}
+use Rattle.std.specs.Option.{option_and_then, option_map_or}
+use Rattle.compare_model.specs.Comparing.{Shown, if_shared}
 use Rattle.event_journal.specs.declared.event.Event.{Event}
-use Rattle.instance_groups.specs.Reading.{IsReadingOf, boot_of, group_app, log_of}
-use Rattle.instance_groups.specs.declared.log_reader.LogReader.{LogReader}
-use Rattle.group_model.specs.Read.{Logged}
+use Rattle.group_model.specs.Read.{group_events, group_replies}
 use Rattle.group_model.specs.declared.group_event.GroupEvent.{GroupEvent}
-use Rattle.session_compare.specs.Comparisons.{Compares}
-use Rattle.session_compare.specs.declared.differing.Comparison.{Comparison}
-use Rattle.session_compare.specs.declared.groups.CaughtUp.{CaughtUp}
-use Rattle.session_compare.specs.declared.groups.CaughtUp.TheVariants.{Ends, UpTo}
-use Rattle.session_compare.specs.declared.groups.ReadSo.{ReadSo}
-use Rattle.session_compare.specs.declared.groups.ReadSo.TheVariants.{FirstEnds, SecondEnds, Whole}
+use Rattle.group_model.specs.declared.group_reply.GroupReply.{GroupReply}
+use Rattle.instance_groups.specs.Reading.{IsReading, boot_of, events_of, log_of}
+use Rattle.instance_groups.specs.declared.log_reader.LogReader.{LogReader}
+use Rattle.kernel_model.specs.Application.{Application as AnyApplication, Booted}
+use Rattle.kernel_state.specs.Setup.{application_of}
+use Rattle.kernel_state.specs.declared.setup.Application.{Application}
+use Rattle.session_compare.specs.Reading.{SoFar}
 
--- the second was read up to an event, and compared with the first log
-pub record IsCaughtUp (old new : LogReader) (others : List Event) (one : List Logged) (code : Comparison GroupEvent) (to_the_end : Bool)
-    (place : ℕ) : Type 0 where
-  pub reading : IsReadingOf (boot_of old) (take place others) (group_app old) new
-  pub within : place ≤ length others
-  pub compares : Compares code one (log_of new)
-  pub whole : to_the_end ≡ true → place ≡ length others
+abbrev pub read_so_far : LogReader → SoFar Application GroupEvent GroupReply
+read_so_far reader = record {
+  boot = boot_of reader;
+  events = events_of reader;
+  whose = reader.notes.app;
+  log = log_of reader;
+  fits = IsReading reader;
+}
 
--- or it can't be
-abbrev pub HasCaughtUp : LogReader → LogReader → List Event → List Logged → Comparison GroupEvent → Bool → CaughtUp → Type 0
-HasCaughtUp old new others one code to_the_end (UpTo place) = IsCaughtUp old new others one code to_the_end place
-HasCaughtUp old new others one code to_the_end (Ends at) = IsIllegalAt (boot_of old) others at
+-- of the group of this application, if there is one
+abbrev pub shown_by : Booted → List Event → Option AnyApplication → Shown GroupEvent GroupReply
+shown_by boot events app = record {
+  app = option_and_then if_shared app;
+  events = option_map_or (group_events boot events) app [];
+  replies = option_map_or (group_replies boot events) app [];
+}
 
--- both were read whole, and compared
-pub record AreReadWhole (first first_now : LogReader) (events : List Event) (second second_now : LogReader) (others : List Event)
-    (code : Comparison GroupEvent) : Type 0 where
-  pub one : IsReadingOf (boot_of first) events (group_app first) first_now
-  pub two : IsReadingOf (boot_of second) others (group_app second) second_now
-  pub compares : Compares code (log_of first_now) (log_of second_now)
-
--- or one of them can't be
-abbrev pub AreReadSo : LogReader → LogReader → List Event → LogReader → LogReader → List Event → ReadSo → Type 0
-AreReadSo first first_now events second second_now others (Whole code) = AreReadWhole first first_now events second second_now others code
-AreReadSo first first_now events second second_now others (FirstEnds at) = IsIllegalAt (boot_of first) events at
-AreReadSo first first_now events second second_now others (SecondEnds at) = IsIllegalAt (boot_of second) others at
+abbrev pub shown_of : Booted → List Event → Application → Shown GroupEvent GroupReply
+shown_of boot events app = shown_by boot events (Some (application_of app))

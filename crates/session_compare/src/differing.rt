@@ -1,6 +1,7 @@
 //! Where two logs first differ, as they are read.
 ghost use Rattle.std.specs.Prelude.{◌≡◌, ◌+◌, ◌↔◌, ◌∷◌, ◌++◌, [], IfOk, IsTrue, List, Option, true};
 ghost use Rattle.session_compare.specs.Comparisons.{Compares, ShowsEvents, StandsBy, counted};
+ghost use Rattle.session_compare.specs.declared.differing.Side.TheVariants.{First};
 
 use base::NoMemory;
 use compare_model::Compared;
@@ -14,6 +15,25 @@ pub(crate) trait SameEvent {
         ensures { IsTrue result ↔ (self.now ≡ other.now) };
 }
 
+/// Which of the two logs.
+#[derive(Clone, Copy)]
+pub(crate) enum Side {
+    /// The first.
+    First,
+    /// The second.
+    Second,
+}
+
+/// Both are the same log.
+fn is_same_side(one: Side, other: Side) -> bool
+    ensures { IsTrue result ↔ (one ≡ other) }
+{
+    match (one, other) {
+        (Side::First, Side::First) | (Side::Second, Side::Second) => true,
+        _ => false,
+    }
+}
+
 /// How two logs compare as far as they were read. Only what one of them has more than the other is kept.
 #[derive(Drop)]
 pub(crate) struct Comparison<E> {
@@ -21,10 +41,10 @@ pub(crate) struct Comparison<E> {
     same: u64,
     /// Whether both have an event at the next place, and another one.
     differ: bool,
-    /// The events of the first log from that place on, where the second has none there.
-    ones: VecDeque<E>,
-    /// Those of the second, where the first has none there.
-    others: VecDeque<E>,
+    /// Which log has come further, where one has.
+    ahead: Side,
+    /// Its events from that place on, where the other has none.
+    more: VecDeque<E>,
     /// How many replies the first log has.
     replies: u64,
 }
@@ -43,21 +63,21 @@ fn one_more(count: u64) -> Result<u64, NoMemory>
 impl<E: SameEvent + Drop> Comparison<E> {
     /// Nothing is read of either log.
     pub(crate) fn new(alloc: Global) -> Comparison<E>
-        ensures events { StandsBy result [] [] result.differ }
+        ensures events { StandsBy First result [] [] result.differ }
         ensures replies { result.replies ≡ 0 }
     {
         Comparison {
             same: 0,
             differ: false,
-            ones: VecDeque::new(alloc),
-            others: VecDeque::new(alloc),
+            ahead: Side::First,
+            more: VecDeque::new(alloc),
             replies: 0,
         }
     }
 
     /// Whether the first log has come further than the second.
     pub(crate) fn is_first_ahead(&self) -> bool {
-        !self.ones.is_empty()
+        is_same_side(self.ahead, Side::First) && !self.are_level()
     }
 
     /// Both logs have an event at the next place, which is the same or not.
@@ -73,43 +93,27 @@ impl<E: SameEvent + Drop> Comparison<E> {
         Ok(())
     }
 
-    /// The next event of the first log.
-    fn takes_first(&mut self, event: E) -> Result<(), NoMemory>
-        ensures events { (one two : List E) → StandsBy self.old one two self.old.differ
-            → IfOk result (λ _. StandsBy self.new (one ++ event ∷ []) two self.new.differ) }
+    /// The next event of one of the logs.
+    fn take(&mut self, side: Side, event: E) -> Result<(), NoMemory>
+        ensures events { (its other : List E) → StandsBy side self.old its other self.old.differ
+            → IfOk result (λ _. StandsBy side self.new (its ++ event ∷ []) other self.new.differ) }
         ensures replies { IfOk result (λ _. self.new.replies ≡ self.old.replies) }
     {
         if self.differ {
             return Ok(());
         }
-        match self.others.pop_front() {
+        if is_same_side(side, self.ahead) {
+            self.more.push_back(event)?;
+            return Ok(());
+        }
+        match self.more.pop_front() {
             Some(other) => {
                 let is_same = event.is_same(&other);
                 self.meets(is_same)
             }
             None => {
-                self.ones.push_back(event)?;
-                Ok(())
-            }
-        }
-    }
-
-    /// The next event of the second log.
-    fn takes_second(&mut self, event: E) -> Result<(), NoMemory>
-        ensures events { (one two : List E) → StandsBy self.old one two self.old.differ
-            → IfOk result (λ _. StandsBy self.new one (two ++ event ∷ []) self.new.differ) }
-        ensures replies { IfOk result (λ _. self.new.replies ≡ self.old.replies) }
-    {
-        if self.differ {
-            return Ok(());
-        }
-        match self.ones.pop_front() {
-            Some(other) => {
-                let is_same = other.is_same(&event);
-                self.meets(is_same)
-            }
-            None => {
-                self.others.push_back(event)?;
+                self.ahead = side;
+                self.more.push_back(event)?;
                 Ok(())
             }
         }
@@ -117,14 +121,14 @@ impl<E: SameEvent + Drop> Comparison<E> {
 
     /// Neither log has come further than the other.
     fn are_level(&self) -> bool
-        ensures { IsTrue result ↔ ((self.now.ones.items ≡ []) × (self.now.others.items ≡ [])) }
+        ensures { IsTrue result ↔ (self.now.more.items ≡ []) }
     {
-        self.ones.is_empty() && self.others.is_empty()
+        self.more.is_empty()
     }
 
     /// What the events show, where both logs are whole.
     pub(crate) fn shown(&self) -> Compared
-        ensures { (one two : List E) → StandsBy self.now one two self.now.differ → ShowsEvents one two self.now.replies result }
+        ensures { (one two : List E) → StandsBy First self.now one two self.now.differ → ShowsEvents one two self.now.replies result }
     {
         if self.differ {
             return Compared::Events(self.same);
@@ -138,64 +142,49 @@ impl<E: SameEvent + Drop> Comparison<E> {
 }
 
 /// Counts a reply of the first log, if there is one.
-fn counts<E>(comparison: &mut Comparison<E>, is_reply: bool) -> Result<(), NoMemory>
-    ensures { IfOk result (λ _. comparison.new ≡ record comparison.old { replies = counted comparison.old.replies is_reply }) }
+fn count_reply<E>(
+    comparison: &mut Comparison<E>,
+    side: Side,
+    is_reply: bool,
+) -> Result<(), NoMemory>
+    ensures { IfOk result (λ _. comparison.new ≡ record comparison.old { replies = counted side comparison.old.replies is_reply }) }
 {
-    if is_reply {
-        comparison.replies = one_more(comparison.replies)?;
+    match side {
+        Side::First => {
+            if is_reply {
+                comparison.replies = one_more(comparison.replies)?;
+            }
+        }
+        Side::Second => {}
     }
     Ok(())
 }
 
-/// The next entry of the first log.
-fn adds_one<E: SameEvent + Drop, R: Drop>(
+/// The next entry of one of the logs.
+fn add_entry<E: SameEvent + Drop, R: Drop>(
     comparison: &mut Comparison<E>,
+    side: Side,
     logged: (E, Option<R>),
 ) -> Result<(), NoMemory>
-    ensures { (one two : List (E × Option R)) → Compares comparison.old one two
-        → IfOk result (λ _. Compares comparison.new (one ++ logged ∷ []) two) }
+    ensures { (its other : List (E × Option R)) → Compares side comparison.old its other
+        → IfOk result (λ _. Compares side comparison.new (its ++ logged ∷ []) other) }
 {
     let (event, reply) = logged;
-    counts(comparison, reply.is_some())?;
-    comparison.takes_first(event)
+    count_reply(comparison, side, reply.is_some())?;
+    comparison.take(side, event)
 }
 
-/// The next entry of the second log.
-fn adds_other<E: SameEvent + Drop, R: Drop>(
+/// One of the logs goes on with these.
+pub(crate) fn add<E: SameEvent + Drop, R: Drop>(
     comparison: &mut Comparison<E>,
-    logged: (E, Option<R>),
-) -> Result<(), NoMemory>
-    ensures { (one two : List (E × Option R)) → Compares comparison.old one two
-        → IfOk result (λ _. Compares comparison.new one (two ++ logged ∷ [])) }
-{
-    let (event, _) = logged;
-    comparison.takes_second(event)
-}
-
-/// The first log goes on with these.
-pub(crate) fn add_first<E: SameEvent + Drop, R: Drop>(
-    comparison: &mut Comparison<E>,
+    side: Side,
     news: Vec<(E, Option<R>)>,
 ) -> Result<(), NoMemory>
-    ensures { (one two : List (E × Option R)) → Compares comparison.old one two
-        → IfOk result (λ _. Compares comparison.new (one ++ news.items) two) }
+    ensures { (its other : List (E × Option R)) → Compares side comparison.old its other
+        → IfOk result (λ _. Compares side comparison.new (its ++ news.items) other) }
 {
     for logged in news {
-        adds_one(comparison, logged)?;
-    }
-    Ok(())
-}
-
-/// The second log goes on with these.
-pub(crate) fn add_second<E: SameEvent + Drop, R: Drop>(
-    comparison: &mut Comparison<E>,
-    news: Vec<(E, Option<R>)>,
-) -> Result<(), NoMemory>
-    ensures { (one two : List (E × Option R)) → Compares comparison.old one two
-        → IfOk result (λ _. Compares comparison.new one (two ++ news.items)) }
-{
-    for logged in news {
-        adds_other(comparison, logged)?;
+        add_entry(comparison, side, logged)?;
     }
     Ok(())
 }

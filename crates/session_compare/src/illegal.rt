@@ -6,7 +6,7 @@ ghost use Rattle.audit_model.specs.Verdicts.{IsIllegalAt};
 ghost use Rattle.journal_bytes.specs.declared.reading.ReadJournal.{ReadJournal as AnyReadJournal};
 ghost use Rattle.kernel_model.specs.Application.{booted};
 ghost use Rattle.native_tas.specs.Table.{entries};
-ghost use Rattle.session_compare.specs.Pairs.{CanBeCompared, pair_of};
+ghost use Rattle.session_compare.specs.Pairs.{CanBeCompared, IsToldIllegal, pair_of};
 
 use audit::check;
 use audit_model::Verdict;
@@ -24,8 +24,8 @@ pub(crate) fn illegal_two(
     at: u64,
 ) -> Result<Compared, NoMemory>
     requires { CanBeCompared (entries natives.now) one.now }
-    ensures { (two : AnyReadJournal) (subject : AnySubject) → IsIllegalAt (booted two.boot (entries natives.now)) two.journal.events at
-        → IfOk result (IsComparedAs (pair_of (entries natives.now) one.now two) subject) }
+    ensures { (two : AnyReadJournal) → IsIllegalAt (booted two.boot (entries natives.now)) two.journal.events at
+        → IfOk result (IsToldIllegal (pair_of (entries natives.now) one.now two)) }
 {
     let verdict = check(alloc, &one.boot, natives, &one.journal)?;
     match verdict {

@@ -3,9 +3,10 @@
 //!
 //! Each journal is done again once, which checks it and reads the log of the session or of the group off it. The two logs are compared
 //! as they are read: the second journal is read on while the first log is ahead, and of both only what the other lacks is kept.
-//! `comparing` has the calls, `sessions` and `groups` read the logs, `differing` compares them, `apart` says what the two applications
-//! alone show, and `illegal` what is told of journals that can't be. `same_events`, `same_group_events`, `same_inputs`, `same_params`
-//! and `same_apps` say when two events, what came with them, parameters and applications are the same.
+//! `comparing` has the calls, `reading` reads both journals, whosever logs they are, `sessions` and `groups` say whose, `differing`
+//! compares the logs, `apart` says what the two applications alone show, and `illegal` what is told of journals that can't be.
+//! `same_events`, `same_group_events`, `same_inputs`, `same_params` and `same_apps` say when two events, what came with them,
+//! parameters and applications are the same.
 #![tactic(auto)]
 
 mod apart;
@@ -14,6 +15,7 @@ mod differing;
 mod examples;
 mod groups;
 mod illegal;
+mod reading;
 mod same_apps;
 mod same_events;
 mod same_group_events;

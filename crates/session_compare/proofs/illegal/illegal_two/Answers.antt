@@ -1,6 +1,4 @@
-use Rattle.native_tas.specs.Table.{entries}
-use Rattle.session_compare.proofs.Logs.{illegal_in_one, illegal_in_two}
-use Rattle.session_compare.specs.Pairs.{pair_of}
+use Rattle.std.proofs.Common.{refl, inl, inr}
 use Rattle.session_compare.proofs.illegal.illegal_two.Goals as goal
 
 pub check-requires-clause-limits : goal.check-requires-clause-limits
@@ -13,11 +11,7 @@ pub check-requires-clause-few : goal.check-requires-clause-few
 check-requires-clause-few g c = c.requires.few
 
 pub returns-in-Legal : goal.returns-in-Legal
-returns-in-Legal g c two subject fails =
-    illegal_in_two (pair_of (entries c.args.natives.now) c.args.one.now two) subject c.args.at
-    (rw c.in-Legal.is at c.in_ok-verdict.ensures) fails
+returns-in-Legal g c two fails = inr (refl, rw c.in-Legal.is at c.in_ok-verdict.ensures, fails)
 
 pub returns-in-Illegal : goal.returns-in-Illegal
-returns-in-Illegal g c two subject fails =
-    illegal_in_one (pair_of (entries c.args.natives.now) c.args.one.now two) subject c.in-Illegal.at
-    (rw c.in-Illegal.is at c.in_ok-verdict.ensures)
+returns-in-Illegal g c two fails = inl (refl, rw c.in-Illegal.is at c.in_ok-verdict.ensures)
