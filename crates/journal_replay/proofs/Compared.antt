@@ -1,14 +1,7 @@
 -- Lists that are compared element by element, and the last of one.
-use Rattle.std.proofs.Common.{◌≡◌, ℕ, ◌+◌, ◌-◌, List, [], ◌∷◌, ◌++◌, length, Option, Some, None, refl, ap, ◌∙◌, arith, length-append}
+use Rattle.std.proofs.Common.{◌≡◌, ◌+◌, ◌-◌, List, [], ◌∷◌, ◌++◌, length, Some, None, refl, ap, ◌∙◌, arith, length-append}
 use Rattle.std.specs.Prelude.{slice_get}
 use Rattle.event_journal.specs.declared.event.Event.{Event}
-use Rattle.ns_ram.specs.declared.read.Read.{Read}
-
--- a read is its address and its bytes
-pub read_is : (one other : Read) → one.addr ≡ other.addr → one.bytes ≡ other.bytes → one ≡ other
-read_is one other addr bytes =
-    ap (λ (n : ℕ). let r : Read = record { addr = n; bytes = one.bytes } in r) addr
-    ∙ ap (λ (bs : List ℕ). let r : Read = record { addr = other.addr; bytes = bs } in r) bytes
 
 last_at : (before : List Event) (event : Event) → slice_get (before ++ event ∷ []) (length before) ≡ Some event
 last_at [] event = refl
