@@ -227,20 +227,14 @@ fn room_in(core: &Core, app: &Application, regs: &Regs) -> Option<bool>
 }
 
 /// What the call comes back as that these registers name, and that is given this.
-fn resumed_in(
-    alloc: Global,
-    core: &Core,
-    app: &Application,
-    regs: &Regs,
-    given: ResumeInput,
-) -> Result<Resumed, NoMemory>
+fn resumed_in(core: &Core, app: &Application, regs: &Regs, given: ResumeInput) -> Resumed
     requires { IsSuspended core.now.parts.slots regs.now.a }
-    ensures back { IfOk result (λ resumed. IsBackIn core.now.parts regs.now.a (given_as given) resumed.back) }
-    ensures room { IfOk result (λ resumed. IsRoomIn core.now.parts (application_of app.now) regs.now.a resumed.room) }
+    ensures back { IsBackIn core.now.parts regs.now.a (given_as given) result.back }
+    ensures room { IsRoomIn core.now.parts (application_of app.now) regs.now.a result.room }
 {
     let room = room_in(core, app, regs);
-    let back = back_in(alloc, core, regs, given)?;
-    Ok(Resumed { back, room })
+    let back = back_in(core, regs, given);
+    Resumed { back, room }
 }
 
 /// What a resume is.
@@ -260,7 +254,7 @@ fn back_arrival(
     let call = resumed_calls::decide(alloc, setup, slots, regs, lane, &mut reads)?;
     match call {
         Some(decided) => {
-            let resumed = resumed_in(alloc, core, app, regs, decided.given)?;
+            let resumed = resumed_in(core, app, regs, decided.given);
             Ok(Arrival::Back(resumed))
         }
         None => Ok(Arrival::Nothing),
@@ -268,7 +262,7 @@ fn back_arrival(
 }
 
 /// What an entry with these registers is for a group of this application.
-pub(crate) fn arrives(
+pub(crate) fn arrival_on(
     alloc: Global,
     core: &Core,
     app: &Application,

@@ -31,7 +31,7 @@ fn session_of(call: &Carried) -> u32
 }
 
 /// Notes a new call that has come into a slot.
-fn has_come_new(
+fn note_new(
     alloc: Global,
     notes: &mut Notes,
     slot: u8,
@@ -45,24 +45,24 @@ fn has_come_new(
         → IsEntryNoted boot notes.old notes.new kernel next visitor reads result }
     ensures app { notes.new.app ≡ notes.old.app }
 {
-    notes.comes_in(alloc, slot, session_of(&ran.call), call)
+    notes.enter(alloc, slot, session_of(&ran.call), call)
 }
 
 /// Notes a call that has come back into its slot.
-fn has_come_back(alloc: Global, notes: &mut Notes, slot: u8, came: Resumed) -> Result<(), NoMemory>
+fn note_back(alloc: Global, notes: &mut Notes, slot: u8, came: Resumed) -> Result<(), NoMemory>
     ensures noted { (boot : Booted) (kernel next : Kernel) (visitor : AnyVisitor) (reads : List AnyRead) (work : AnyWork)
         → HasArrivedIn (watch boot (application_of notes.old.app) kernel) next visitor reads (Arrival.Back came) work slot
         → IsEntryNoted boot notes.old notes.new kernel next visitor reads result }
     ensures app { notes.new.app ≡ notes.old.app }
 {
     match notes.number_in(slot) {
-        Some(number) => notes.comes_back(alloc, number, came),
+        Some(number) => notes.resume(alloc, number, came),
         None => Ok(()),
     }
 }
 
 /// Notes what has come into a slot.
-fn has_come_for(
+fn note_in_slot(
     alloc: Global,
     notes: &mut Notes,
     slot: u8,
@@ -77,14 +77,14 @@ fn has_come_for(
     ensures app { notes.new.app ≡ notes.old.app }
 {
     match arrival {
-        Arrival::New(call) => has_come_new(alloc, notes, slot, call, ran),
-        Arrival::Back(came) => has_come_back(alloc, notes, slot, came),
+        Arrival::New(call) => note_new(alloc, notes, slot, call, ran),
+        Arrival::Back(came) => note_back(alloc, notes, slot, came),
         Arrival::Nothing => Ok(()),
     }
 }
 
 /// Notes that a processor has come in, which goes out with this.
-pub(crate) fn has_come(
+pub(crate) fn note_entry(
     alloc: Global,
     notes: &mut Notes,
     core: &Core,
@@ -102,7 +102,7 @@ pub(crate) fn has_come(
     ensures app { notes.new.app ≡ notes.old.app }
 {
     match errand_of(core.parts.processors.as_slice(), visitor.cpu) {
-        Some(Errand::InSlot(slot)) => has_come_for(alloc, notes, slot, arrival, ran),
+        Some(Errand::InSlot(slot)) => note_in_slot(alloc, notes, slot, arrival, ran),
         Some(Errand::Fixed(_)) => Ok(()),
         None => unreachable!(),
     }

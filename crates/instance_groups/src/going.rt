@@ -10,7 +10,6 @@ ghost use Rattle.kernel_state.specs.declared.processor.Errand.TheVariants.{InSlo
 use crate::arriving::is_open;
 use crate::notes::Notes;
 use base::NoMemory;
-use boxed::Boxed;
 use core_at_work::CoreAtWork;
 use isolation::{left_in, told_at_end};
 use job_model::CallKind;
@@ -41,20 +40,20 @@ fn opened_so(kind: CallKind, session: u32, told: &OwnReply) -> Option<u32>
 }
 
 /// The session that the call has opened that a processor carries, by what is told of it.
-fn opened_by(call: &Carried, told: &Option<Boxed<OwnReply>>) -> Option<u32>
+fn opened_by(call: &Carried, told: &Option<OwnReply>) -> Option<u32>
     ensures { result ≡ option_and_then (opened_by call.now) told.now }
 {
     let told = told.as_ref()?;
     match call {
         Carried::Nothing => None,
         Carried::Resting(cont) | Carried::Running(cont) => {
-            opened_so(cont.kind, cont.session, told.get())
+            opened_so(cont.kind, cont.session, told)
         }
     }
 }
 
 /// A processor goes out from the call of a slot.
-pub(crate) fn goes_out_of(
+pub(crate) fn leave_slot(
     alloc: Global,
     at_work: &mut CoreAtWork,
     slot: u8,
@@ -77,8 +76,8 @@ pub(crate) fn goes_out_of(
     let opened = opened_by(call, &told);
     at_work.leave(cpu, lane);
     match (left_in(&at_work.core.parts.slots, slot), told) {
-        (Some(cont), _) => notes.goes_out(alloc, slot, number, cont),
-        (None, Some(told)) => notes.finishes(alloc, slot, number, opened, told),
+        (Some(cont), _) => notes.suspend(alloc, slot, number, cont),
+        (None, Some(told)) => notes.finish(alloc, slot, number, opened, told),
         (None, None) => unreachable!(),
     }
 }

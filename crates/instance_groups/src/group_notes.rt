@@ -1,11 +1,10 @@
 //! A group's notes, taken as events are done again.
-ghost use Rattle.std.specs.Prelude.{◌≡◌};
 ghost use Rattle.instance_groups.specs.Meaning.{IsArrivalOn, meaning};
 
-use crate::arriving::{Arrival, arrives};
-use crate::coming::has_come;
-use crate::going::goes_out_of;
-use crate::group_log::Noted;
+use crate::arriving::{Arrival, arrival_on};
+use crate::coming::note_entry;
+use crate::going::leave_slot;
+use crate::group_log::BoxedEntry;
 use crate::notes::Notes;
 use base::NoMemory;
 use core_at_work::CoreAtWork;
@@ -36,7 +35,7 @@ impl EventNotes for Notes {
         regs: &Regs,
         lane: &Lane,
     ) -> Result<Arrival, NoMemory> {
-        arrives(alloc, core, &self.app, regs, lane)
+        arrival_on(alloc, core, &self.app, regs, lane)
     }
 
     fn come_in(
@@ -47,7 +46,7 @@ impl EventNotes for Notes {
         arrival: Arrival,
         ran: &Ran,
     ) -> Result<(), NoMemory> {
-        has_come(alloc, self, core, visitor, arrival, ran)
+        note_entry(alloc, self, core, visitor, arrival, ran)
     }
 
     fn go_out(
@@ -58,7 +57,7 @@ impl EventNotes for Notes {
         lane: &mut Lane,
     ) -> Result<(), NoMemory> {
         match errand_of(at_work.core.parts.processors.as_slice(), cpu) {
-            Some(Errand::InSlot(slot)) => goes_out_of(alloc, at_work, slot, cpu, lane, self),
+            Some(Errand::InSlot(slot)) => leave_slot(alloc, at_work, slot, cpu, lane, self),
             Some(Errand::Fixed(_)) => {
                 at_work.leave(cpu, lane);
                 Ok(())
@@ -67,7 +66,7 @@ impl EventNotes for Notes {
         }
     }
 
-    fn take_log(&mut self, alloc: Global) -> Vec<Noted> {
+    fn take_log(&mut self, alloc: Global) -> Vec<BoxedEntry> {
         self.take_list(alloc)
     }
 }

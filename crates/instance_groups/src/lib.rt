@@ -20,7 +20,7 @@ mod notes;
 
 pub use base::NoMemory;
 pub use group::{group_events, group_replies, read_group_log};
-pub use group_log::{GroupLog, Logged, Noted};
+pub use group_log::{BoxedEntry, GroupLog, Logged};
 pub use group_model::{GroupEvent, GroupReply};
 pub use group_solo::GroupSolo;
 pub use log_reader::LogReader;

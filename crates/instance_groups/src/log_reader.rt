@@ -2,13 +2,12 @@
 ghost use Rattle.std.specs.Prelude.{◌≡◌, ◌≤◌, ◌^◌, [], ◌∷◌, ◌++◌, IfOk};
 ghost use Rattle.core_at_work.specs.Booting.{IsApart};
 ghost use Rattle.event_journal.specs.Journal.{copied_bytes};
-ghost use Rattle.instance_groups.specs.Reading.{IsReader, IsReading, IsReadingOf, Reads, boot_of, events_of};
+ghost use Rattle.instance_groups.specs.Reading.{IsReader, IsReading, Reads, events_of};
 ghost use Rattle.kernel_model.specs.Application.{booted};
 ghost use Rattle.kernel_state.specs.Booting.{IsWithinLimits};
-ghost use Rattle.kernel_state.specs.Setup.{application_of};
 ghost use Rattle.native_tas.specs.Table.{entries};
 
-use crate::group_log::Noted;
+use crate::group_log::BoxedEntry;
 use crate::notes::Notes;
 use base::NoMemory;
 use event_journal::Event;
@@ -54,7 +53,11 @@ impl LogReader {
 
     /// Reads an event: what it adds to the group's log; `None` where it can't have come next. After that, and after want of
     /// memory, the reader is of no further use.
-    pub fn reads(&mut self, alloc: Global, event: &Event) -> Result<Option<Vec<Noted>>, NoMemory>
+    pub fn reads(
+        &mut self,
+        alloc: Global,
+        event: &Event,
+    ) -> Result<Option<Vec<BoxedEntry>>, NoMemory>
         requires reading { IsReading self.old }
         requires few { copied_bytes (events_of self.old ++ event.now ∷ []) ≤ 2 ^ 28 }
         ensures { Reads self.old self.new event.now result }

@@ -10,7 +10,7 @@ ghost use Rattle.kernel_model.specs.Kernel.{PendingCall};
 ghost use Rattle.kernel_state.specs.Setup.{application_of};
 
 use crate::arriving::{NewCall, Resumed, SessionCall};
-use crate::group_log::Noted;
+use crate::group_log::BoxedEntry;
 use base::NoMemory;
 use boxed::Boxed;
 use frame_pool::Pages;
@@ -33,7 +33,7 @@ pub(crate) struct Notes {
     /// The number of the next one.
     next_session: u32,
     numbering: Numbering,
-    log: Vec<Noted>,
+    log: Vec<BoxedEntry>,
 }
 
 /// The number that is kept for this one, if one is.
@@ -101,7 +101,7 @@ impl Notes {
     }
 
     /// Takes what was listed so far.
-    pub(crate) fn take_list(&mut self, alloc: Global) -> Vec<Noted>
+    pub(crate) fn take_list(&mut self, alloc: Global) -> Vec<BoxedEntry>
         ensures log { result.items ≡ self.old.log.items }
         ensures taken { self.new.log.items ≡ [] }
         ensures stays { self.new ≡ record self.old { log = self.new.log } }
@@ -117,7 +117,7 @@ impl Notes {
     }
 
     /// Lists an event of the group, with its reply, if it has one.
-    fn lists(
+    fn list(
         &mut self,
         event: Boxed<GroupEvent>,
         reply: Option<Boxed<GroupReply>>,
@@ -155,7 +155,7 @@ impl Notes {
     }
 
     /// The kernel's session of this number gets the group's next one.
-    fn adds(&mut self, session: u32) -> Result<(), NoMemory>
+    fn add_session(&mut self, session: u32) -> Result<(), NoMemory>
         requires { self.old.next_session + 1 < 2 ^ 32 }
         ensures sessions { IfOk result (λ _. self.new.sessions.entries ≡ insert self.old.sessions.entries session self.old.next_session) }
         ensures next { IfOk result (λ _. self.new.next_session ≡ self.old.next_session + 1) }
@@ -167,7 +167,7 @@ impl Notes {
     }
 
     /// This event of the group comes into a slot, by a call in the kernel's session of this number that gets it or not.
-    fn takes_in(
+    fn take_in(
         &mut self,
         alloc: Global,
         slot: u8,
@@ -182,16 +182,16 @@ impl Notes {
         ensures app { self.new.app ≡ self.old.app }
     {
         let entry = Boxed::new(alloc, event)?;
-        self.lists(entry, None)?;
+        self.list(entry, None)?;
         if gets {
-            self.adds(session)?;
+            self.add_session(session)?;
         }
         self.numbering.next_in(slot);
         Ok(())
     }
 
     /// A new call in the kernel's session of this number comes into a slot, and is noted where it is one of the group's.
-    pub(crate) fn comes_in(
+    pub(crate) fn enter(
         &mut self,
         alloc: Global,
         slot: u8,
@@ -206,13 +206,13 @@ impl Notes {
     {
         let gets = gets_session(&call);
         match self.event_of(session, call) {
-            Some(event) => self.takes_in(alloc, slot, session, gets, event),
+            Some(event) => self.take_in(alloc, slot, session, gets, event),
             None => Ok(()),
         }
     }
 
     /// The group's call of this number sees that it was cancelled, if it does.
-    fn sees(&mut self, alloc: Global, number: u32, seen: Option<u128>) -> Result<(), NoMemory>
+    fn list_seen(&mut self, alloc: Global, number: u32, seen: Option<u128>) -> Result<(), NoMemory>
         ensures noted { (notes : group.Notes) → AreNoted self.old notes
             → IfOk result (λ _. AreNoted self.new (with_seen notes number seen)) }
         ensures app { self.new.app ≡ self.old.app }
@@ -223,13 +223,13 @@ impl Notes {
                 steps,
             };
             let entry = Boxed::new(alloc, event)?;
-            self.lists(entry, None)?;
+            self.list(entry, None)?;
         }
         Ok(())
     }
 
     /// The group's call of this number finds its instance gone, if it does, and pages for a new one or not.
-    fn finds(&mut self, alloc: Global, number: u32, room: Option<bool>) -> Result<(), NoMemory>
+    fn list_room(&mut self, alloc: Global, number: u32, room: Option<bool>) -> Result<(), NoMemory>
         ensures noted { (notes : group.Notes) → AreNoted self.old notes
             → IfOk result (λ _. AreNoted self.new (with_room notes number room)) }
         ensures app { self.new.app ≡ self.old.app }
@@ -240,17 +240,17 @@ impl Notes {
                 enough,
             };
             let entry = Boxed::new(alloc, event)?;
-            self.lists(entry, None)?;
+            self.list(entry, None)?;
         }
         Ok(())
     }
 
     /// The group's call of this number is given this, if it is given something.
-    fn gets(
+    fn list_input(
         &mut self,
         alloc: Global,
         number: u32,
-        input: Option<Boxed<BackInput>>,
+        input: Option<BackInput>,
     ) -> Result<(), NoMemory>
         ensures noted { (notes : group.Notes) → AreNoted self.old notes
             → IfOk result (λ _. AreNoted self.new (with_input notes number input)) }
@@ -259,16 +259,16 @@ impl Notes {
         if let Some(input) = input {
             let event = GroupEvent::Back {
                 call: number,
-                input: input.into_inner(),
+                input,
             };
             let entry = Boxed::new(alloc, event)?;
-            self.lists(entry, None)?;
+            self.list(entry, None)?;
         }
         Ok(())
     }
 
     /// The group's call of this number comes back.
-    pub(crate) fn comes_back(
+    pub(crate) fn resume(
         &mut self,
         alloc: Global,
         number: u32,
@@ -278,13 +278,13 @@ impl Notes {
             → IfOk result (λ _. AreNoted self.new (with_resumed notes number came)) }
         ensures app { self.new.app ≡ self.old.app }
     {
-        self.sees(alloc, number, came.back.seen)?;
-        self.finds(alloc, number, came.room)?;
-        self.gets(alloc, number, came.back.input)
+        self.list_seen(alloc, number, came.back.seen)?;
+        self.list_room(alloc, number, came.room)?;
+        self.list_input(alloc, number, came.back.input)
     }
 
     /// The group's call of this number goes out with this reply, if something is told of it.
-    fn tells(&mut self, alloc: Global, number: u32, told: Option<OwnReply>) -> Result<(), NoMemory>
+    fn tell(&mut self, alloc: Global, number: u32, told: Option<OwnReply>) -> Result<(), NoMemory>
         ensures log { IfOk result (λ _. self.new.log.items ≡ with_told self.old.log.items number told) }
         ensures stays { self.new ≡ record self.old { log = self.new.log } }
     {
@@ -295,13 +295,13 @@ impl Notes {
             };
             let event = Boxed::new(alloc, GroupEvent::Out { call: number })?;
             let reply = Boxed::new(alloc, told)?;
-            self.lists(event, Some(reply))?;
+            self.list(event, Some(reply))?;
         }
         Ok(())
     }
 
     /// The group's call of this number goes out of its slot, in which it was left so.
-    pub(crate) fn goes_out(
+    pub(crate) fn suspend(
         &mut self,
         alloc: Global,
         slot: u8,
@@ -316,7 +316,7 @@ impl Notes {
         let wake = wake_of(cont);
         let woken = self.numbering.wake_kept(slot, wake);
         let told = reply_of(alloc, cont, woken)?;
-        self.tells(alloc, number, told)?;
+        self.tell(alloc, number, told)?;
         self.numbering.with_wake(slot, woken);
         Ok(())
     }
@@ -333,13 +333,13 @@ impl Notes {
 
     /// The group's call of this number goes out of its slot ended, with this reply, and has opened the kernel's session of
     /// this number or none.
-    pub(crate) fn finishes(
+    pub(crate) fn finish(
         &mut self,
         alloc: Global,
         slot: u8,
         number: u32,
         opened: Option<u32>,
-        ended: Boxed<OwnReply>,
+        ended: OwnReply,
     ) -> Result<(), NoMemory>
         requires { slot < 16 }
         ensures noted { (notes : group.Notes) (call : PendingCall) → AreNoted self.old notes
@@ -348,12 +348,12 @@ impl Notes {
         ensures app { self.new.app ≡ self.old.app }
     {
         let told = GroupReply {
-            reply: ended.into_inner(),
+            reply: ended,
             opened: self.number_of(opened),
         };
         let event = Boxed::new(alloc, GroupEvent::Out { call: number })?;
         let reply = Boxed::new(alloc, told)?;
-        self.lists(event, Some(reply))?;
+        self.list(event, Some(reply))?;
         self.numbering.forget(slot);
         Ok(())
     }

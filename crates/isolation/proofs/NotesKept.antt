@@ -1,6 +1,6 @@
 -- The code's notes stay those of the definitions.
-use Rattle.std.proofs.Common.{◌≡◌, ℕ, zero, suc, ◌+◌, ◌<◌, ◌==◌, Bool, true, false, List, [], ◌∷◌, ◌++◌, length, Option, Some, None, refl, ap, sym, subst, ◌∙◌, arith}
-use Rattle.std.specs.Prelude.{is_some, replicate, slice_get, slice_set, not, filter, if◌then◌else◌}
+use Rattle.std.proofs.Common.{◌≡◌, ℕ, ◌+◌, ◌<◌, ◌==◌, Bool, true, false, List, [], ◌∷◌, ◌++◌, length, Option, Some, None, refl, ap, sym, subst, ◌∙◌}
+use Rattle.std.specs.Prelude.{is_some, slice_get, slice_set, not, filter, if◌then◌else◌}
 use Rattle.std.specs.Option.{option_map_or, option_or}
 use Rattle.base.specs.NumberMap.{get, insert}
 use Rattle.isolation.specs.Arriving.{NamesApp}
@@ -22,19 +22,6 @@ use Rattle.own_model.specs.declared.own_reply.OwnReply.TheVariants as reply
 use Rattle.rpc_cont.specs.declared.cont.Cont.{Cont}
 
 -- ---- numbers
-
-none_at : (n slot : ℕ) → number_at (replicate n None) slot ≡ None
-none_at zero slot = refl
-none_at (suc n) zero = refl
-none_at (suc n) (suc slot) = none_at n slot
-
-pub first_numbers : (code : Numbering) → code.entered ≡ 0 → code.in_slots ≡ replicate 16 None → code.wakes ≡ replicate 16 None
-    → AreNumbers code (record { entered = 0; in_slots = []; wakes = [] })
-first_numbers code none slots wakes = record {
-  entered = none;
-  in_slots = λ slot. ap (λ (ns : List (Option ℕ)). number_at ns slot) slots ∙ none_at 16 slot;
-  wakes = λ slot. ap (λ (ns : List (Option ℕ)). number_at ns slot) wakes ∙ none_at 16 slot;
-}
 
 module _ (old new : Numbering) (numbers : own.Numbering) (are : AreNumbers old numbers) (slot : ℕ) where
   pub next_numbers : slot < length old.in_slots → new.entered ≡ old.entered + 1
@@ -82,14 +69,6 @@ module _ (old new : Numbering) (numbers : own.Numbering) (are : AreNumbers old n
 abbrev pub AreAway : List Bool → List ℕ → Type 0
 AreAway code away = (cpu : ℕ) → cpu < 8 → slice_get code cpu ≡ Some (is_away away cpu)
 
-none_away : (n cpu : ℕ) → cpu < n → slice_get (replicate n false) cpu ≡ Some false
-none_away zero cpu below = absurd (omega (arith, below))
-none_away (suc n) zero below = refl
-none_away (suc n) (suc cpu) below = none_away n cpu (omega (arith, below))
-
-pub first_away : (code : List Bool) → code ≡ replicate 8 false → AreAway code []
-first_away code is cpu below = ap (λ (bs : List Bool). slice_get bs cpu) is ∙ none_away 8 cpu below
-
 pub away_set : (code : List Bool) (away : List ℕ) (cpu : ℕ) → cpu < length code → AreAway code away
     → AreAway (slice_set code cpu true) (cpu ∷ away)
 away_set code away cpu below are other under =
@@ -109,10 +88,6 @@ away_unset code away cpu below are other under =
     ∙ ap (λ (b : Bool). Some b) (sym (others_away away cpu other apart)))
 
 -- ---- notes
-
-pub first_noted : (code : Notes) → AreNumbers code.numbering (record { entered = 0; in_slots = []; wakes = [] })
-    → code.turned_away ≡ replicate 8 false → code.log.items ≡ [] → code.uuid ≡ None → AreNoted code own.no_notes
-first_noted code are away log uuid = record { uuid = uuid; numbering = are; turned_away = first_away code.turned_away away; log = log }
 
 module _ (old new : Notes) (notes : own.Notes) (are : AreNoted old notes) where
   pub in_noted : (slot : ℕ) (call : PendingCall) (came : NewEvent)

@@ -19,6 +19,7 @@ ghost use Rattle.session_table.specs.declared.session.Session.{Session as AnySes
 use crate::entering::{Arrival, NewEvent, is_of_session};
 use crate::notes::{Back, Notes};
 use base::NoMemory;
+use boxed::Boxed;
 use kernel_entry::Visitor;
 use kernel_state::{Core, Errand, Processor, Ran, Tables};
 use smc_abi::{Answer, ETHREAD_LIMIT};
@@ -66,19 +67,19 @@ fn is_away(notes: &Notes, tables: &Tables, visitor: Visitor, answer: Answer) -> 
 }
 
 /// Notes that a processor has come in whose answer was fixed.
-fn has_come_answered(notes: &mut Notes, tables: &Tables, visitor: Visitor, answer: Answer)
+fn note_answered(notes: &mut Notes, tables: &Tables, visitor: Visitor, answer: Answer)
     requires { visitor.cpu < 8 }
     ensures noted { (kernel : Kernel) (before : own.Notes) → tables_of tables.now ≡ kernel.tables → AreNoted notes.old before
         → AreNoted notes.new (own.fixed_noted notes.old.session kernel (visit_of (coming_of visitor)) before answer) }
     ensures session { notes.new.session ≡ notes.old.session }
 {
     if is_away(notes, tables, visitor, answer) {
-        notes.turns_away(visitor.cpu);
+        notes.turn_away(visitor.cpu);
     }
 }
 
 /// Notes a new call that has come into a slot.
-fn has_come_new(notes: &mut Notes, slot: u8, came: NewEvent, ran: &Ran) -> Result<(), NoMemory>
+fn note_new(notes: &mut Notes, slot: u8, came: NewEvent, ran: &Ran) -> Result<(), NoMemory>
     requires slot { slot < 16 }
     requires few { HasNumbersLeft notes.old }
     ensures noted { (kernel next : Kernel) (visitor : AnyVisitor) (reads : List AnyRead) (work : AnyWork) → IsRanOf work ran.now
@@ -87,27 +88,27 @@ fn has_come_new(notes: &mut Notes, slot: u8, came: NewEvent, ran: &Ran) -> Resul
     ensures session { notes.new.session ≡ notes.old.session }
 {
     if is_of_session(notes.session, &ran.call) {
-        notes.comes_in(slot, came)
+        notes.enter(slot, came)
     } else {
         Ok(())
     }
 }
 
 /// Notes a call that has come back into its slot.
-fn has_come_back(alloc: Global, notes: &mut Notes, slot: u8, back: Back) -> Result<(), NoMemory>
+fn note_back(alloc: Global, notes: &mut Notes, slot: u8, back: Boxed<Back>) -> Result<(), NoMemory>
     ensures noted { (kernel next : Kernel) (visitor : AnyVisitor) (reads : List AnyRead) (work : AnyWork)
         → HasArrivedIn kernel next visitor reads (Arrival.Back back) work slot
         → IsEntryNoted notes.old notes.new kernel next visitor reads result }
     ensures session { notes.new.session ≡ notes.old.session }
 {
     match notes.number_in(slot) {
-        Some(number) => notes.comes_back(alloc, number, back),
+        Some(number) => notes.resume(alloc, number, back.into_inner()),
         None => Ok(()),
     }
 }
 
 /// Notes what has come into a slot.
-fn has_come_for(
+fn note_in_slot(
     alloc: Global,
     notes: &mut Notes,
     slot: u8,
@@ -122,14 +123,14 @@ fn has_come_for(
     ensures session { notes.new.session ≡ notes.old.session }
 {
     match arrival {
-        Arrival::New(came) => has_come_new(notes, slot, came, ran),
-        Arrival::Back(back) => has_come_back(alloc, notes, slot, back),
+        Arrival::New(came) => note_new(notes, slot, came, ran),
+        Arrival::Back(back) => note_back(alloc, notes, slot, back),
         Arrival::Nothing => Ok(()),
     }
 }
 
 /// Notes that a processor has come in, which goes out with this.
-pub(crate) fn has_come(
+pub(crate) fn note_entry(
     alloc: Global,
     notes: &mut Notes,
     core: &Core,
@@ -148,10 +149,10 @@ pub(crate) fn has_come(
 {
     match errand_of(core.parts.processors.as_slice(), visitor.cpu) {
         Some(Errand::Fixed(answer)) => {
-            has_come_answered(notes, &core.parts.tables, visitor, answer);
+            note_answered(notes, &core.parts.tables, visitor, answer);
             Ok(())
         }
-        Some(Errand::InSlot(slot)) => has_come_for(alloc, notes, slot, arrival, ran),
+        Some(Errand::InSlot(slot)) => note_in_slot(alloc, notes, slot, arrival, ran),
         None => unreachable!(),
     }
 }

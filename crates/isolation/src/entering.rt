@@ -1,6 +1,6 @@
 //! What an entry is for a session, as far as it can be told before it.
 ghost use Rattle.std.specs.Prelude.{◌≡◌, IfOk};
-ghost use Rattle.isolation.specs.Arriving.{IsArrival, IsArrivalFrom, IsBackIn, arrival_by, back_as, counts, event_by, input_at, input_by, opens_by};
+ghost use Rattle.isolation.specs.Arriving.{IsArrival, IsArrivalFrom, IsBackIn, arrival_by, back_as, counts, event_by, input_by, opens_by};
 ghost use Rattle.kernel_entry.specs.Resuming.{IsSuspended};
 ghost use Rattle.kernel_model.specs.Kernel.{Kernel};
 ghost use Rattle.kernel_model.specs.NewCall.{new_call};
@@ -41,7 +41,7 @@ pub(crate) enum Arrival {
     /// A new call, which is this.
     New(NewEvent),
     /// A call comes back.
-    Back(Back),
+    Back(Boxed<Back>),
 }
 
 /// What came of the parameters of an invoke that was settled with this code.
@@ -57,42 +57,30 @@ pub fn input_settled(code: u32) -> OwnInput
 
 /// What a new call is for its session, by what its slot is taken for; the function is the one that its argument names, and it
 /// has an area or not.
-fn event_by(
-    alloc: Global,
-    func: u32,
-    area: bool,
-    plan: Plan,
-) -> Result<Option<Boxed<OwnEvent>>, NoMemory>
-    ensures { IfOk result (λ event. event ≡ event_by func area plan) }
+fn event_by(func: u32, area: bool, plan: Plan) -> Option<OwnEvent>
+    ensures { result ≡ event_by func area plan }
 {
     match plan {
-        Plan::Settles(Settled::Invoke(code)) => {
-            let input = input_settled(code);
-            let event = Boxed::new(alloc, OwnEvent::Invoke { func, input, area })?;
-            Ok(Some(event))
-        }
-        Plan::Opens { login, copies, .. } => {
-            let params = copies.params;
-            let event = Boxed::new(
-                alloc,
-                OwnEvent::Open {
-                    params,
-                    login,
-                    area,
-                },
-            )?;
-            Ok(Some(event))
-        }
-        Plan::Invokes { copies, .. } => {
-            let input = OwnInput::Copied(copies.params);
-            let event = Boxed::new(alloc, OwnEvent::Invoke { func, input, area })?;
-            Ok(Some(event))
-        }
-        Plan::Closes { .. } => Ok(Some(Boxed::new(alloc, OwnEvent::Close { area })?)),
-        Plan::Cancels => Ok(Some(Boxed::new(alloc, OwnEvent::Cancel)?)),
+        Plan::Settles(Settled::Invoke(code)) => Some(OwnEvent::Invoke {
+            func,
+            input: input_settled(code),
+            area,
+        }),
+        Plan::Opens { login, copies, .. } => Some(OwnEvent::Open {
+            params: copies.params,
+            login,
+            area,
+        }),
+        Plan::Invokes { copies, .. } => Some(OwnEvent::Invoke {
+            func,
+            input: OwnInput::Copied(copies.params),
+            area,
+        }),
+        Plan::Closes { .. } => Some(OwnEvent::Close { area }),
+        Plan::Cancels => Some(OwnEvent::Cancel),
         Plan::Settles(Settled::Call(_) | Settled::Open(..))
         | Plan::KeepsBuffer { .. }
-        | Plan::DropsBuffer { .. } => Ok(None),
+        | Plan::DropsBuffer { .. } => None,
     }
 }
 
@@ -119,9 +107,11 @@ fn arrival_by(alloc: Global, decided: Decided) -> Result<Arrival, NoMemory>
         Decided::Answers(_) => Ok(Arrival::Nothing),
         Decided::Takes(entered, plan) => {
             let opens = opens_by(&plan);
-            let came = event_by(alloc, entered.head.func, entered.area.is_some(), plan)?;
-            match came {
-                Some(event) => Ok(Arrival::New(NewEvent { event, opens })),
+            match event_by(entered.head.func, entered.area.is_some(), plan) {
+                Some(event) => {
+                    let event = Boxed::new(alloc, event)?;
+                    Ok(Arrival::New(NewEvent { event, opens }))
+                }
                 None => Ok(Arrival::Nothing),
             }
         }
@@ -141,8 +131,7 @@ fn new_arrival(alloc: Global, core: &Core, regs: &Regs, lane: &Lane) -> Result<A
     };
     let mut reads = Reads::new(alloc);
     let decided = new_call(alloc, &found, regs, lane, &mut reads)?;
-    let arrival = arrival_by(alloc, decided)?;
-    Ok(arrival)
+    arrival_by(alloc, decided)
 }
 
 /// What a call is given, without its buffer's place.
@@ -157,58 +146,34 @@ fn input_of(given: ResumeInput) -> BackInput
     }
 }
 
-/// What a call that is in this phase is given, by what was brought. One that was interrupted had asked for nothing.
-fn input_at(
-    alloc: Global,
-    phase: Phase,
-    given: ResumeInput,
-) -> Result<Option<Boxed<BackInput>>, NoMemory>
-    ensures { IfOk result (λ input. input ≡ input_at phase (given_as given)) }
-{
-    match phase {
-        Phase::Runs => Ok(None),
-        Phase::Asks | Phase::Waits | Phase::Ends => {
-            let input = Boxed::new(alloc, input_of(given))?;
-            Ok(Some(input))
-        }
-    }
-}
-
-/// What a call comes back with that was cancelled or not, and is given this.
-fn back_of(
-    alloc: Global,
-    cont: &Cont<Pages>,
-    marked: bool,
-    given: ResumeInput,
-) -> Result<Back, NoMemory>
-    ensures { IfOk result (λ back. back ≡ back_as cont.now marked (given_as given)) }
+/// What a call comes back with that is in this phase, was cancelled or not, and is given this. One that was interrupted had
+/// asked for nothing.
+fn back_of(cont: &Cont<Pages>, marked: bool, given: ResumeInput) -> Back
+    ensures { result ≡ back_as cont.now marked (given_as given) }
 {
     let seen = if marked && !cont.cancelled {
         Some(cont.steps)
     } else {
         None
     };
-    let input = input_at(alloc, cont.phase, given)?;
-    Ok(Back { seen, input })
+    let input = match cont.phase {
+        Phase::Runs => None,
+        Phase::Asks | Phase::Waits | Phase::Ends => Some(input_of(given)),
+    };
+    Back { seen, input }
 }
 
 /// What the call comes back with that these registers name, and that is given this.
-pub fn back_in(
-    alloc: Global,
-    core: &Core,
-    regs: &Regs,
-    given: ResumeInput,
-) -> Result<Back, NoMemory>
+pub fn back_in(core: &Core, regs: &Regs, given: ResumeInput) -> Back
     requires { IsSuspended core.now.parts.slots regs.now.a }
-    ensures { IfOk result (IsBackIn core.now.parts regs.now.a (given_as given)) }
+    ensures { IsBackIn core.now.parts regs.now.a (given_as given) result }
 {
     let slot = regs.a[3];
     let Ok(cont) = core.parts.slots.suspended_call(slot, regs.a[7]) else {
         unreachable!()
     };
     let marked = core.parts.cancellations[slot as usize].marked;
-    let back = back_of(alloc, cont, marked, given)?;
-    Ok(back)
+    back_of(cont, marked, given)
 }
 
 /// What a resume is.
@@ -221,7 +186,7 @@ fn back_arrival(alloc: Global, core: &Core, regs: &Regs, lane: &Lane) -> Result<
     let call = resumed_calls::decide(alloc, setup, slots, regs, lane, &mut reads)?;
     match call {
         Some(decided) => {
-            let back = back_in(alloc, core, regs, decided.given)?;
+            let back = Boxed::new(alloc, back_in(core, regs, decided.given))?;
             Ok(Arrival::Back(back))
         }
         None => Ok(Arrival::Nothing),
@@ -229,7 +194,7 @@ fn back_arrival(alloc: Global, core: &Core, regs: &Regs, lane: &Lane) -> Result<
 }
 
 /// What an entry with these registers is.
-pub(crate) fn arrives(
+pub(crate) fn arrival_on(
     alloc: Global,
     core: &Core,
     regs: &Regs,

@@ -27,7 +27,7 @@ pub fn left_in(slots: &Slots<Box<Cont<Pages>>>, slot: u8) -> Option<&Cont<Pages>
 }
 
 /// A processor goes out from the call of a slot.
-pub(crate) fn goes_out_of(
+pub(crate) fn leave_slot(
     alloc: Global,
     at_work: &mut CoreAtWork,
     slot: u8,
@@ -48,8 +48,8 @@ pub(crate) fn goes_out_of(
     let told = told_at_end(alloc, &at_work.outgoing(cpu).call)?;
     at_work.leave(cpu, lane);
     match (left_in(&at_work.core.parts.slots, slot), told) {
-        (Some(cont), _) => notes.goes_out(alloc, slot, number, cont),
-        (None, Some(told)) => notes.finishes(alloc, slot, number, told),
+        (Some(cont), _) => notes.suspend(alloc, slot, number, cont),
+        (None, Some(told)) => notes.finish(alloc, slot, number, told),
         (None, None) => unreachable!(),
     }
 }

@@ -30,4 +30,4 @@ pub use notes::Back;
 pub use numbering::Numbering;
 pub use own::{own_events, own_log, own_replies};
 pub use own_model::{BackInput, OwnEvent, OwnInput, OwnReply};
-pub use session_log::{Logged, Noted, OwnLog};
+pub use session_log::{BoxedEntry, Logged, OwnLog};

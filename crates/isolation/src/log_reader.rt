@@ -13,7 +13,7 @@ ghost use Rattle.native_tas.specs.Table.{entries};
 ghost use Rattle.own_model.specs.Own.{own_app};
 
 use crate::notes::Notes;
-use crate::session_log::Noted;
+use crate::session_log::BoxedEntry;
 use base::NoMemory;
 use event_journal::Event;
 use journal_notes::read;
@@ -61,7 +61,11 @@ impl LogReader {
 
     /// Reads an event: what it adds to the session's log; `None` where it can't have come next. After that, and after want of
     /// memory, the reader is of no further use.
-    pub fn reads(&mut self, alloc: Global, event: &Event) -> Result<Option<Vec<Noted>>, NoMemory>
+    pub fn reads(
+        &mut self,
+        alloc: Global,
+        event: &Event,
+    ) -> Result<Option<Vec<BoxedEntry>>, NoMemory>
         requires reading { IsReading self.old }
         requires few { copied_bytes (events_of self.old ++ event.now ∷ []) ≤ 2 ^ 28 }
         ensures { Reads self.old self.new event.now result }

@@ -9,7 +9,7 @@ ghost use Rattle.own_model.specs.Own as own;
 use crate::entering::NewEvent;
 use crate::leaving::{reply_of, wake_of};
 use crate::numbering::Numbering;
-use crate::session_log::Noted;
+use crate::session_log::BoxedEntry;
 use base::NoMemory;
 use boxed::Boxed;
 use frame_pool::Pages;
@@ -28,7 +28,7 @@ pub struct Back {
     /// The steps that it had done, where it sees only now that it was cancelled.
     pub seen: Option<u128>,
     /// What it is given. None of a call that was interrupted, which had asked for nothing.
-    pub input: Option<Boxed<BackInput>>,
+    pub input: Option<BackInput>,
 }
 
 /// What is noted of a session.
@@ -41,7 +41,7 @@ pub(crate) struct Notes {
     /// By its number, whether a processor is inside whose new call, of the session's client, found no slot while the
     /// session was there.
     turned_away: [bool; MOST_CPUS],
-    log: Vec<Noted>,
+    log: Vec<BoxedEntry>,
 }
 
 impl Notes {
@@ -67,7 +67,7 @@ impl Notes {
     }
 
     /// Takes what was listed so far.
-    pub(crate) fn take_list(&mut self, alloc: Global) -> Vec<Noted>
+    pub(crate) fn take_list(&mut self, alloc: Global) -> Vec<BoxedEntry>
         ensures log { result.items ≡ self.old.log.items }
         ensures taken { self.new.log.items ≡ [] }
         ensures stays { self.new ≡ record self.old { log = self.new.log } }
@@ -83,7 +83,7 @@ impl Notes {
     }
 
     /// Lists an event of the session, with its reply, if it has one.
-    fn lists(
+    fn list(
         &mut self,
         event: Boxed<OwnEvent>,
         reply: Option<Boxed<OwnReply>>,
@@ -96,7 +96,7 @@ impl Notes {
     }
 
     /// A call of the session comes into a slot.
-    pub(crate) fn comes_in(&mut self, slot: u8, came: NewEvent) -> Result<(), NoMemory>
+    pub(crate) fn enter(&mut self, slot: u8, came: NewEvent) -> Result<(), NoMemory>
         requires slot { slot < 16 }
         requires few { HasNumbersLeft self.old }
         ensures noted { (notes : own.Notes) (call : PendingCall) → AreNoted self.old notes → NamesApp call came
@@ -104,19 +104,14 @@ impl Notes {
         ensures session { self.new.session ≡ self.old.session }
     {
         let NewEvent { event, opens } = came;
-        self.lists(event, None)?;
+        self.list(event, None)?;
         self.uuid = opens.or(self.uuid);
         self.numbering.next_in(slot);
         Ok(())
     }
 
     /// The session's call of this number comes back.
-    pub(crate) fn comes_back(
-        &mut self,
-        alloc: Global,
-        number: u32,
-        back: Back,
-    ) -> Result<(), NoMemory>
+    pub(crate) fn resume(&mut self, alloc: Global, number: u32, back: Back) -> Result<(), NoMemory>
         ensures noted { (notes : own.Notes) → AreNoted self.old notes
             → IfOk result (λ _. AreNoted self.new (with_back notes number back.seen back.input)) }
         ensures session { self.new.session ≡ self.old.session }
@@ -127,21 +122,21 @@ impl Notes {
                 steps,
             };
             let event = Boxed::new(alloc, seen)?;
-            self.lists(event, None)?;
+            self.list(event, None)?;
         }
         if let Some(input) = back.input {
             let came = OwnEvent::Back {
                 call: number,
-                input: input.into_inner(),
+                input,
             };
             let event = Boxed::new(alloc, came)?;
-            self.lists(event, None)?;
+            self.list(event, None)?;
         }
         Ok(())
     }
 
     /// A processor comes in with a call of the session's client, and is turned away.
-    pub(crate) fn turns_away(&mut self, cpu: u8)
+    pub(crate) fn turn_away(&mut self, cpu: u8)
         requires { cpu < 8 }
         ensures noted { (notes : own.Notes) → AreNoted self.old notes → AreNoted self.new (with_away notes cpu) }
         ensures session { self.new.session ≡ self.old.session }
@@ -150,7 +145,7 @@ impl Notes {
     }
 
     /// A processor whose answer was fixed goes out.
-    pub(crate) fn goes_out_answered(&mut self, alloc: Global, cpu: u8) -> Result<(), NoMemory>
+    pub(crate) fn leave_answered(&mut self, alloc: Global, cpu: u8) -> Result<(), NoMemory>
         requires { cpu < 8 }
         ensures noted { (notes : own.Notes) → AreNoted self.old notes
             → IfOk result (λ _. AreNoted self.new (own.limit_noted notes cpu)) }
@@ -160,26 +155,26 @@ impl Notes {
             self.turned_away[usize::from(cpu)] = false;
             let event = Boxed::new(alloc, OwnEvent::Limited)?;
             let reply = Boxed::new(alloc, OwnReply::Limited)?;
-            self.lists(event, Some(reply))?;
+            self.list(event, Some(reply))?;
         }
         Ok(())
     }
 
     /// The session's call of this number goes out with this reply, if something is told of it.
-    fn tells(&mut self, alloc: Global, number: u32, told: Option<OwnReply>) -> Result<(), NoMemory>
+    fn tell(&mut self, alloc: Global, number: u32, told: Option<OwnReply>) -> Result<(), NoMemory>
         ensures log { IfOk result (λ _. self.new.log.items ≡ with_told self.old.log.items number told) }
         ensures stays { self.new ≡ record self.old { log = self.new.log } }
     {
         if let Some(reply) = told {
             let event = Boxed::new(alloc, OwnEvent::Out { call: number })?;
             let reply = Boxed::new(alloc, reply)?;
-            self.lists(event, Some(reply))?;
+            self.list(event, Some(reply))?;
         }
         Ok(())
     }
 
     /// The session's call of this number goes out of its slot, in which it was left so.
-    pub(crate) fn goes_out(
+    pub(crate) fn suspend(
         &mut self,
         alloc: Global,
         slot: u8,
@@ -194,26 +189,25 @@ impl Notes {
         let wake = wake_of(cont);
         let woken = self.numbering.wake_kept(slot, wake);
         let told = reply_of(alloc, cont, woken)?;
-        self.tells(alloc, number, told)?;
+        self.tell(alloc, number, told)?;
         self.numbering.with_wake(slot, woken);
         Ok(())
     }
 
     /// The session's call of this number goes out of its slot ended, with this reply.
-    pub(crate) fn finishes(
+    pub(crate) fn finish(
         &mut self,
         alloc: Global,
         slot: u8,
         number: u32,
-        ended: Boxed<OwnReply>,
+        ended: OwnReply,
     ) -> Result<(), NoMemory>
         requires { slot < 16 }
         ensures noted { (notes : own.Notes) (call : PendingCall) → AreNoted self.old notes → HasFinished slot call ended
             → IfOk result (λ _. AreNoted self.new (own.exit_noted notes slot call number)) }
         ensures session { self.new.session ≡ self.old.session }
     {
-        let event = Boxed::new(alloc, OwnEvent::Out { call: number })?;
-        self.lists(event, Some(ended))?;
+        self.tell(alloc, number, Some(ended))?;
         self.numbering.forget(slot);
         Ok(())
     }

@@ -1,5 +1,5 @@
 //! The numbers of a session's calls.
-ghost use Rattle.std.specs.Prelude.{◌≡◌, ◌+◌, ◌^◌, ◌<◌, [], Some, slice_set};
+ghost use Rattle.std.specs.Prelude.{◌≡◌, ◌+◌, ◌^◌, ◌<◌, [], Some};
 ghost use Rattle.base.specs.NumberMap.{get};
 ghost use Rattle.isolation.specs.Noted.{AreNumbers, number_at, without_slot};
 ghost use Rattle.own_model.specs.Own as own;

@@ -1,12 +1,11 @@
 //! A session's notes, taken as events are done again.
-ghost use Rattle.std.specs.Prelude.{◌≡◌};
 ghost use Rattle.isolation.specs.Meaning.{IsArrivalOn, meaning};
 
-use crate::coming::{errand_of, has_come};
-use crate::entering::{Arrival, arrives};
-use crate::going::goes_out_of;
+use crate::coming::{errand_of, note_entry};
+use crate::entering::{Arrival, arrival_on};
+use crate::going::leave_slot;
 use crate::notes::Notes;
-use crate::session_log::Noted;
+use crate::session_log::BoxedEntry;
 use base::NoMemory;
 use core_at_work::CoreAtWork;
 use journal_notes::EventNotes;
@@ -35,7 +34,7 @@ impl EventNotes for Notes {
         regs: &Regs,
         lane: &Lane,
     ) -> Result<Arrival, NoMemory> {
-        arrives(alloc, core, regs, lane)
+        arrival_on(alloc, core, regs, lane)
     }
 
     fn come_in(
@@ -46,7 +45,7 @@ impl EventNotes for Notes {
         arrival: Arrival,
         ran: &Ran,
     ) -> Result<(), NoMemory> {
-        has_come(alloc, self, core, visitor, arrival, ran)
+        note_entry(alloc, self, core, visitor, arrival, ran)
     }
 
     fn go_out(
@@ -57,16 +56,16 @@ impl EventNotes for Notes {
         lane: &mut Lane,
     ) -> Result<(), NoMemory> {
         match errand_of(at_work.core.parts.processors.as_slice(), cpu) {
-            Some(Errand::InSlot(slot)) => goes_out_of(alloc, at_work, slot, cpu, lane, self),
+            Some(Errand::InSlot(slot)) => leave_slot(alloc, at_work, slot, cpu, lane, self),
             Some(Errand::Fixed(_)) => {
                 at_work.leave(cpu, lane);
-                self.goes_out_answered(alloc, cpu)
+                self.leave_answered(alloc, cpu)
             }
             None => unreachable!(),
         }
     }
 
-    fn take_log(&mut self, alloc: Global) -> Vec<Noted> {
+    fn take_log(&mut self, alloc: Global) -> Vec<BoxedEntry> {
         self.take_list(alloc)
     }
 }

@@ -51,7 +51,8 @@ pub record Goes (old new : Core) (event : Event) : Type 0 where
   pub events : events_of new ≡ events_of old ++ event ∷ []
 
 -- a processor has gone out with what it carried, and that is noted
-pub record IsExitNoted {N L : Type 0} (meaning : Meaning N L) (old new : Core) (before after : N) (cpu : ℕ) (lane now : List ℕ) : Type 0 where
+pub record IsExitNoted {N L : Type 0} (meaning : Meaning N L) (old new : Core) (before after : N) (cpu : ℕ)
+    (lane now : List ℕ) : Type 0 where
   pub ran : Ran
   pub its_own : ran.cpu ≡ cpu
   pub told : Regs

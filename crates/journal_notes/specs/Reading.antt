@@ -33,7 +33,8 @@ Reads meaning old new event (Ok None) = IsFaultless (boot_of old.replay) (done_b
 Reads meaning old new event (Err error) = Unit {0}
 
 -- the events of a journal were read whole, and this is the log
-pub record HasReadAll {N L : Type 0} (meaning : Meaning N L) (old new : Reader N) (events : List Event) (log : List L) : Type 0 where
+pub record HasReadAll {N L : Type 0} (meaning : Meaning N L) (old new : Reader N) (events : List Event)
+    (log : List L) : Type 0 where
   pub boot : boot_of new.replay ≡ boot_of old.replay
   pub done : done_by new.replay ≡ events
   pub subject : same_subject meaning old.notes new.notes

@@ -1,3 +1,4 @@
+//! Logs: events of somebody, each beside its reply.
 ghost use Rattle.std.specs.Prelude.{◌≡◌, ◌++◌, IfOk};
 ghost use Rattle.std.specs.Option.{option_to_list};
 ghost use Rattle.journal_notes.specs.Logs.{events_in, replies_in};
@@ -9,14 +10,14 @@ use std::alloc::Global;
 /// An event of somebody, with its reply, if it has one.
 pub type Logged<E, R> = (E, Option<R>);
 
-/// The same, each of both on the heap: an event with its reply can take 7,400 bytes.
-pub type Noted<E, R> = (Boxed<E>, Option<Boxed<R>>);
+/// An event of somebody, with its reply, if it has one, each of both on the heap: together they can take 7,400 bytes.
+pub type BoxedEntry<E, R> = (Boxed<E>, Option<Boxed<R>>);
 
 /// The entry itself.
-fn logged_of<E: Drop, R: Drop>(noted: Noted<E, R>) -> Logged<E, R>
-    ensures { result ≡ noted }
+fn logged_of<E: Drop, R: Drop>(entry: BoxedEntry<E, R>) -> Logged<E, R>
+    ensures { result ≡ entry }
 {
-    let (event, reply) = noted;
+    let (event, reply) = entry;
     match reply {
         Some(reply) => (event.into_inner(), Some(reply.into_inner())),
         None => (event.into_inner(), None),
@@ -26,12 +27,12 @@ fn logged_of<E: Drop, R: Drop>(noted: Noted<E, R>) -> Logged<E, R>
 /// Adds what is new to a log.
 pub(crate) fn add_all<E: Drop, R: Drop>(
     log: &mut Vec<Logged<E, R>>,
-    news: Vec<Noted<E, R>>,
+    news: Vec<BoxedEntry<E, R>>,
 ) -> Result<(), NoMemory>
     ensures { IfOk result (λ _. log.new.items ≡ log.old.items ++ news.items) }
 {
-    for noted in news {
-        log.push(logged_of(noted))?;
+    for entry in news {
+        log.push(logged_of(entry))?;
     }
     Ok(())
 }

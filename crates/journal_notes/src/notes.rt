@@ -13,7 +13,7 @@ ghost use Rattle.kernel_state.specs.declared.kernel_core.Core.{Core as AnyCore};
 ghost use Rattle.kernel_state.specs.declared.work.Work.{Work as AnyWork};
 ghost use Rattle.ns_ram.specs.declared.read.Read.{Read as AnyRead};
 
-use crate::logged::Noted;
+use crate::logged::BoxedEntry;
 use base::NoMemory;
 use core_at_work::CoreAtWork;
 use kernel_entry::Visitor;
@@ -49,8 +49,8 @@ pub trait EventNotes {
     ) -> Result<Self::Arrival, NoMemory>
         ensures { IfOk result (IsArrival self.now core.now regs.now.a lane.now) };
 
-    /// Notes that a processor has come in, for which the entry was this, and which goes out with that. They were those of the events
-    /// that some core had done before it.
+    /// Notes that a processor has come in, for which the entry was this, and which goes out with that. They were those of the
+    /// events that some core had done before it.
     fn come_in(
         &mut self,
         alloc: Global,
@@ -67,7 +67,8 @@ pub trait EventNotes {
             → HasEntered old core.now (coming_of visitor) lane work
             → events_of core.now ≡ events_of old ++ Entry visitor.cpu visitor.regs visitor.steps reads ∷ []
             → IsArrival self.old old visitor.regs.a lane arrival
-            → IfOk result (λ _. IsNoted meaning old core.now self.old self.new (Entry visitor.cpu visitor.regs visitor.steps reads)) }
+            → IfOk result (λ _. IsNoted meaning old core.now self.old self.new
+            (Entry visitor.cpu visitor.regs visitor.steps reads)) }
         ensures subject { same_subject meaning self.old self.new };
 
     /// A processor that is inside goes out, and that is noted.
@@ -79,11 +80,12 @@ pub trait EventNotes {
         lane: &mut Lane,
     ) -> Result<(), NoMemory>
         requires { IsInside at_work.old.core cpu }
-        ensures noted { IfOk result (λ _. IsExitNoted meaning at_work.old.core at_work.new.core self.old self.new cpu lane.old lane.new) }
+        ensures noted { IfOk result (λ _. IsExitNoted meaning at_work.old.core at_work.new.core self.old self.new cpu
+            lane.old lane.new) }
         ensures subject { same_subject meaning self.old self.new };
 
     /// Takes what was listed of the event that was noted last.
-    fn take_log(&mut self, alloc: Global) -> Vec<Noted<Self::Event, Self::Reply>>
+    fn take_log(&mut self, alloc: Global) -> Vec<BoxedEntry<Self::Event, Self::Reply>>
         ensures { (old new : AnyCore) (before : Self) (event : AnyEvent) → Goes old new event
             → IsNoted meaning old new before self.old event → same_subject meaning before self.old
             → HasTaken meaning old new before self.new result.items };

@@ -25,7 +25,8 @@ pub(crate) fn note<N: EventNotes>(
     requires few { copied_bytes (done_by replay.old ++ event.now ∷ []) ≤ 2 ^ 28 }
     requires on { AreOn N.meaning replay.old.at_work.core notes.old }
     ensures does { Does replay.old replay.new event.now result }
-    ensures noted { result ≡ Ok true → IsNoted N.meaning replay.old.at_work.core replay.new.at_work.core notes.old notes.new event.now }
+    ensures noted { result ≡ Ok true
+        → IsNoted N.meaning replay.old.at_work.core replay.new.at_work.core notes.old notes.new event.now }
     ensures subject { same_subject N.meaning notes.old notes.new }
 {
     match event {
@@ -85,7 +86,8 @@ fn go_out<N: EventNotes>(
     notes: &mut N,
 ) -> Result<bool, NoMemory>
     ensures does { Does replay.old replay.new (Exit cpu regs.now) result }
-    ensures noted { result ≡ Ok true → IsNoted N.meaning replay.old.at_work.core replay.new.at_work.core notes.old notes.new (Exit cpu regs.now) }
+    ensures noted { result ≡ Ok true → IsNoted N.meaning replay.old.at_work.core replay.new.at_work.core notes.old notes.new
+        (Exit cpu regs.now) }
     ensures subject { same_subject N.meaning notes.old notes.new }
 {
     if !replay.at_work.is_inside(cpu) {

@@ -6,7 +6,7 @@ ghost use Rattle.journal_notes.specs.Meaning.{AreOn};
 ghost use Rattle.journal_notes.specs.Reading.{HasReadAll, Reads};
 ghost use Rattle.journal_replay.specs.Replaying.{boot_of, done_by};
 
-use crate::logged::{Logged, Noted, add_all};
+use crate::logged::{BoxedEntry, Logged, add_all};
 use crate::notes::EventNotes;
 use crate::noting::note;
 use base::NoMemory;
@@ -14,18 +14,18 @@ use event_journal::Event;
 use journal_replay::Replay;
 use std::alloc::Global;
 
-/// Reads an event: what it adds to the log of those whose notes these are; `None` where it can't have come next. After that, and after
-/// want of memory, neither the replay nor the notes are of further use.
+/// Reads an event: what it adds to the log of those whose notes these are; `None` where it can't have come next. After that, and
+/// after want of memory, neither the replay nor the notes are of further use.
 pub fn read<N: EventNotes>(
     alloc: Global,
     replay: &mut Replay,
     notes: &mut N,
     event: &Event,
-) -> Result<Option<Vec<Noted<N::Event, N::Reply>>>, NoMemory>
+) -> Result<Option<Vec<BoxedEntry<N::Event, N::Reply>>>, NoMemory>
     requires on { AreOn N.meaning replay.old.at_work.core notes.old }
     requires few { copied_bytes (done_by replay.old ++ event.now ∷ []) ≤ 2 ^ 28 }
-    ensures { Reads N.meaning (record { replay = replay.old; notes = notes.old }) (record { replay = replay.new; notes = notes.new })
-        event.now result }
+    ensures { Reads N.meaning (record { replay = replay.old; notes = notes.old })
+        (record { replay = replay.new; notes = notes.new }) event.now result }
 {
     let can_be = note(alloc, replay, event, notes)?;
     if can_be {

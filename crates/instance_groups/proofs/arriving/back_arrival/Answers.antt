@@ -16,10 +16,10 @@ resumed_in-requires c =
 pub returns-in-Some : goal.returns-in-Some
 returns-in-Some c kernel stands =
     back_comes c.args.core.now.parts (application_of c.args.app.now) kernel c.args.regs.now.a c.args.lane.now c.decide.new.reads
-    c.in-Some.decided c.in_ok-resumed-in-Some.resumed stands
+    c.in-Some.decided c.resumed_in-resumed.result stands
     (rw (c.in-Some.is, c.new-reads.ensures) at
-    (c.in_ok-call.ensures.ok c.args.core.now.parts.cancellations.items kernel.slots stands.slots)) c.in_ok-resumed-in-Some.ensures.back
-    c.in_ok-resumed-in-Some.ensures.room
+    (c.in_ok-call.ensures.ok c.args.core.now.parts.cancellations.items kernel.slots stands.slots)) c.resumed_in-resumed.ensures.back
+    c.resumed_in-resumed.ensures.room
 
 pub returns : goal.returns
 returns c kernel stands =

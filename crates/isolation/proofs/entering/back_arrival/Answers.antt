@@ -14,10 +14,11 @@ back_in-requires c =
 
 pub returns-in-Some : goal.returns-in-Some
 returns-in-Some c kernel stands =
-    back_comes c.args.core.now.parts kernel c.args.regs.now.a c.args.lane.now c.decide.new.reads c.in-Some.decided
-    c.in_ok-back-in-Some.back stands
+    rw c.in_ok-back-in-Some.ensures
+    (back_comes c.args.core.now.parts kernel c.args.regs.now.a c.args.lane.now c.decide.new.reads c.in-Some.decided
+    c.back_in.result stands
     (rw (c.in-Some.is, c.new-reads.ensures) at
-    (c.in_ok-call.ensures.ok c.args.core.now.parts.cancellations.items kernel.slots stands.slots)) c.in_ok-back-in-Some.ensures
+    (c.in_ok-call.ensures.ok c.args.core.now.parts.cancellations.items kernel.slots stands.slots)) c.back_in.ensures)
 
 pub returns : goal.returns
 returns c kernel stands =

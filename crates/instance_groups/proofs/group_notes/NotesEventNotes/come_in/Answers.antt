@@ -3,10 +3,10 @@ use Rattle.instance_groups.proofs.FewCalls.{numbers_left}
 use Rattle.kernel_state.specs.Meaning.{booted_of}
 use Rattle.instance_groups.proofs.group_notes.NotesEventNotes.come_in.Goals as goal
 
-pub has_come-requires-clause-few : goal.has_come-requires-clause-few
-has_come-requires-clause-few c = numbers_left c.args.self.now c.requires.kept
+pub note_entry-requires-clause-few : goal.note_entry-requires-clause-few
+note_entry-requires-clause-few c = numbers_left c.args.self.now c.requires.kept
 
 pub returns-clause-noted : goal.returns-clause-noted
 returns-clause-noted c old lane reads work has_run entered done arrives =
-    entry_noted_then old c.args.core.now c.args.visitor lane reads work c.args.arrival c.args.self.now c.has_come.new.notes entered done
-    c.has_come.result arrives (λ k next rs arrived. c.has_come.ensures.noted (booted_of old) k next rs work has_run arrived)
+    entry_noted_then old c.args.core.now c.args.visitor lane reads work c.args.arrival c.args.self.now c.note_entry.new.notes entered done
+    c.note_entry.result arrives (λ k next rs arrived. c.note_entry.ensures.noted (booted_of old) k next rs work has_run arrived)

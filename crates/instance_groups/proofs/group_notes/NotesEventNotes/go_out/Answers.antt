@@ -9,8 +9,8 @@ use Rattle.isolation.proofs.GoneOut.{came_for, comes_for, few_slots}
 use Rattle.kernel_state.specs.declared.processor.Errand.TheVariants.{Fixed, InSlot}
 use Rattle.instance_groups.proofs.group_notes.NotesEventNotes.go_out.Goals as goal
 
-pub goes_out_of-requires-clause-slot : goal.goes_out_of-requires-clause-slot
-goes_out_of-requires-clause-slot c =
+pub leave_slot-requires-clause-slot : goal.leave_slot-requires-clause-slot
+leave_slot-requires-clause-slot c =
     let core = c.args.at_work.now.core in
     let items = core.parts.processors.items in
     let kept = kept_in c.args.at_work.now c.args.cpu c.requires in
@@ -19,8 +19,8 @@ goes_out_of-requires-clause-slot c =
     few_slots core kept.0 c.in-Some-InSlot.slot kept.1.can
     (came_for core kept.0 c.args.cpu (Some (InSlot c.in-Some-InSlot.slot)) kept.1.its_own is)
 
-pub goes_out_of-requires-clause-errand : goal.goes_out_of-requires-clause-errand
-goes_out_of-requires-clause-errand c =
+pub leave_slot-requires-clause-errand : goal.leave_slot-requires-clause-errand
+leave_slot-requires-clause-errand c =
     cc (c.errand_of.ensures, c.as_slice.ensures.value, c.in-Some-InSlot.is, c.in-Some-InSlot.field-0-is)
 
 pub unreachable-requires : goal.unreachable-requires

@@ -10,8 +10,8 @@ use Rattle.kernel_state.specs.declared.processor.Errand.TheVariants.{Fixed, InSl
 use Rattle.own_model.specs.Own as own
 use Rattle.isolation.proofs.session_notes.NotesEventNotes.go_out.Goals as goal
 
-pub goes_out_of-requires-clause-slot : goal.goes_out_of-requires-clause-slot
-goes_out_of-requires-clause-slot c =
+pub leave_slot-requires-clause-slot : goal.leave_slot-requires-clause-slot
+leave_slot-requires-clause-slot c =
     let core = c.args.at_work.now.core in
     let items = core.parts.processors.items in
     let kept = kept_in c.args.at_work.now c.args.cpu c.requires in
@@ -20,12 +20,12 @@ goes_out_of-requires-clause-slot c =
     few_slots core kept.0 c.in-Some-InSlot.slot kept.1.can
     (came_for core kept.0 c.args.cpu (Some (InSlot c.in-Some-InSlot.slot)) kept.1.its_own is)
 
-pub goes_out_of-requires-clause-errand : goal.goes_out_of-requires-clause-errand
-goes_out_of-requires-clause-errand c =
+pub leave_slot-requires-clause-errand : goal.leave_slot-requires-clause-errand
+leave_slot-requires-clause-errand c =
     cc (c.errand_of.ensures, c.as_slice.ensures.value, c.in-Some-InSlot.is, c.in-Some-InSlot.field-0-is)
 
-pub goes_out_answered-requires : goal.goes_out_answered-requires
-goes_out_answered-requires c =
+pub leave_answered-requires : goal.leave_answered-requires
+leave_answered-requires c =
     let items = c.args.at_work.now.core.parts.processors.items in
     let is : errand_at (slice_get items c.args.cpu) ≡ Some (Fixed c.in-Some-Fixed.field-0-0) =
     cc (c.errand_of.ensures, c.as_slice.ensures.value, c.in-Some-Fixed.is, c.in-Some-Fixed.field-0-is) in
@@ -51,10 +51,10 @@ returns-in-Some-Fixed-clause-noted c =
     let answer = c.in-Some-Fixed.field-0-0 in
     let is : errand_at (slice_get items c.args.cpu) ≡ Some (Fixed answer) =
     cc (c.errand_of.ensures, c.as_slice.ensures.value, c.in-Some-Fixed.is, c.in-Some-Fixed.field-0-is) in
-    subst (λ (n : ℕ). IfOk c.goes_out_answered.result (λ _. IsExitNoted old new c.args.self.now c.goes_out_answered.new.self n lane now))
+    subst (λ (n : ℕ). IfOk c.leave_answered.result (λ _. IsExitNoted old new c.args.self.now c.leave_answered.new.self n lane now))
     out.its_own
-    (exit_answered old new out.ran lane now c.leave.result.regs answer c.args.self.now c.goes_out_answered.new.self
-    c.goes_out_answered.result out.has_left
+    (exit_answered old new out.ran lane now c.leave.result.regs answer c.args.self.now c.leave_answered.new.self
+    c.leave_answered.result out.has_left
     (came_for old out.ran c.args.cpu (Some (Fixed answer)) out.its_own is)
-    (λ notes are. subst (λ (n : ℕ). IfOk c.goes_out_answered.result (λ _. AreNoted c.goes_out_answered.new.self (own.limit_noted notes n)))
-    (sym out.its_own) (c.goes_out_answered.ensures.noted notes are)))
+    (λ notes are. subst (λ (n : ℕ). IfOk c.leave_answered.result (λ _. AreNoted c.leave_answered.new.self (own.limit_noted notes n)))
+    (sym out.its_own) (c.leave_answered.ensures.noted notes are)))

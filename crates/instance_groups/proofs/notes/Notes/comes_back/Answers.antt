@@ -1,8 +1,0 @@
-use Rattle.instance_groups.specs.Noted.{with_room, with_seen}
-use Rattle.instance_groups.proofs.notes.Notes.comes_back.Goals as goal
-
-pub returns-clause-noted : goal.returns-clause-noted
-returns-clause-noted c notes are =
-    let seen = with_seen notes c.args.number c.args.came.back.seen in
-    c.gets.ensures.noted (with_room seen c.args.number c.args.came.room)
-    (c.in_ok-finds.ensures.noted seen (c.in_ok-sees.ensures.noted notes are))

@@ -1,0 +1,38 @@
+use Rattle.std.proofs.Common.{◌≡◌, ⊎_elim, ◌∙◌, refl, subst, sym}
+use Rattle.std.specs.Prelude.{IfOk}
+use Rattle.kernel_model.specs.Argument.{reg}
+use Rattle.kernel_model.specs.Decision.{Decision}
+use Rattle.kernel_model.specs.Entry.{decision_of}
+use Rattle.kernel_model.specs.NewCall.{new_call}
+use Rattle.ns_ram.specs.Reader.{Reader}
+use Rattle.smc_abi.specs.Call.{call_of}
+use Rattle.smc_abi.specs.declared.call.Call.TheVariants as call
+use Rattle.isolation.proofs.Arrivals.{answered_fast, answered_unknown, decided_new}
+use Rattle.isolation.specs.Arriving.{IsArrivalFrom}
+use Rattle.kernel_state.specs.Meaning.{booted_of}
+use Rattle.isolation.proofs.entering.arrival_on.Goals as goal
+
+pub returns-in-Fast : goal.returns-in-Fast
+returns-in-Fast c kernel stands =
+    let boot = booted_of c.args.core.now in
+    let regs = c.args.regs.now.a in
+    let lane = c.args.lane.now in
+    ⊎_elim
+    (λ fast. answered_fast boot kernel regs lane fast.0 (sym c.decode_call.ensures.row ∙ fast.1))
+    (λ unknown. answered_unknown boot kernel regs lane (sym c.decode_call.ensures.row ∙ unknown))
+    c.in-Fast.is
+
+pub returns-in-WithArg : goal.returns-in-WithArg
+returns-in-WithArg c kernel stands =
+    let boot = booted_of c.args.core.now in
+    let regs = c.args.regs.now.a in
+    let new : decision_of boot kernel regs (call_of (reg regs 0)) ≡ new_call boot kernel regs =
+    ⊎_elim
+    (λ alone. decided_new boot kernel regs call.WithArg (sym c.decode_call.ensures.row ∙ alone) refl)
+    (λ with_area. ⊎_elim
+    (λ at_address. decided_new boot kernel regs call.WithRpcArg (sym c.decode_call.ensures.row ∙ at_address) refl)
+    (λ named. decided_new boot kernel regs call.WithRegdArg (sym c.decode_call.ensures.row ∙ named) refl)
+    with_area)
+    c.in-WithArg.is in
+    subst (λ (reader : Reader Decision). IfOk c.new_arrival.result (IsArrivalFrom kernel regs c.args.lane.now reader)) (sym new)
+    (c.new_arrival.ensures kernel stands)

@@ -1,0 +1,14 @@
+use Rattle.std.proofs.Common.{ap, sym, subst}
+use Rattle.isolation.proofs.NotesKept.{finished_noted}
+use Rattle.isolation.specs.Noted.{AreNumbers}
+use Rattle.isolation.specs.declared.notes.Notes.{Notes}
+use Rattle.isolation.specs.declared.numbering.Numbering.{Numbering}
+use Rattle.isolation.proofs.notes.Notes.finish.Goals as goal
+
+pub returns-clause-noted : goal.returns-clause-noted
+returns-clause-noted c notes call are is =
+    let stays = c.tell.ensures.stays in
+    finished_noted c.args.self.now _ notes are c.args.slot c.args.number call c.args.ended is
+    (c.forget.ensures notes.numbering
+    (subst (λ (n : Numbering). AreNumbers n notes.numbering) (sym (ap (λ (n : Notes). n.numbering) stays)) are.numbering))
+    c.in_ok-tell.ensures.log (ap (λ (n : Notes). n.turned_away) stays) (ap (λ (n : Notes). n.uuid) stays)
