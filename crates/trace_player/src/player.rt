@@ -173,9 +173,9 @@ impl Player {
         Ok(())
     }
 
-    /// Plays an item up to where a processor goes out of the core by it, if one does: that one is told nothing yet, and `tell` is to
-    /// follow. Gives its exit. Where an entry is refused, nothing is printed, and the player is as it was; at want of memory a part of a line may
-    /// stand behind the lines.
+    /// Plays an item up to where a processor goes out of the core by it, if one does, and gives its exit: that one is told nothing
+    /// yet, and `tell` is to follow. Where an entry is refused, nothing is printed, and the player is as it was; at want of memory a
+    /// part of a line may stand behind the lines.
     pub fn begin_item(
         &mut self,
         alloc: Global,
