@@ -12,21 +12,21 @@ use Rattle.notify_text.specs.Rules.{NotifyFront}
 use Rattle.text_lines.specs.Words.{words_of}
 use Rattle.trace_text.specs.Limits.{first_broken}
 use Rattle.trace_text.specs.declared.fault.BadKind.{BadKind}
-use Rattle.live_play.specs.Answer.{Setting, after_heard}
+use Rattle.live_play.specs.Answer.{Platform, after_heard}
 use Rattle.live_play.specs.Conversation.{after_all, conversation, said_to}
 use Rattle.live_play.specs.Showing.{Position, kind_asked_by, line_of, position_after, position_asked, position_behind, shown_to, shown_to_other, shown_to_question, showing, watching_after}
 use Rattle.live_play.specs.ShowingLaws.{is_plain}
 
 -- ---- one line
 
-pub after_question : (on : Setting) (here : Position) (input : Input) (o : Option QuestionKind) → kind_asked_by input ≡ o
+pub after_question : (on : Platform) (here : Position) (input : Input) (o : Option QuestionKind) → kind_asked_by input ≡ o
     → position_after on here input
     ≡ option_map_or (λ kind. position_asked here kind (line_of input)) o (record here { lines = after_heard on here.lines input })
 after_question on here input o e =
     ap (λ (o : Option QuestionKind). option_map_or (λ kind. position_asked here kind (line_of input)) o
     (record here { lines = after_heard on here.lines input })) e
 
-pub shown_by : (on : Setting) (here : Position) (input : Input) (o : Option QuestionKind) → kind_asked_by input ≡ o
+pub shown_by : (on : Platform) (here : Position) (input : Input) (o : Option QuestionKind) → kind_asked_by input ≡ o
     → shown_to on here input
     ≡ option_map_or (λ kind. shown_to_question on here.lines kind (line_of input)) o (shown_to_other on here input)
 shown_by on here input o e =
@@ -65,13 +65,13 @@ asked-same here kind line other =
 -- ---- many
 
 -- a line that asks could as well have been left out
-left_more : (on : Setting) (here : Position) (input : Input) (inputs : List Input) (o : Option QuestionKind) → kind_asked_by input ≡ o
+left_more : (on : Platform) (here : Position) (input : Input) (inputs : List Input) (o : Option QuestionKind) → kind_asked_by input ≡ o
     → after_all on (position_after on here input).lines (filter is_plain inputs) ≡ after_all on here.lines (filter is_plain (input ∷ inputs))
 left_more on here input inputs None e = rw e refl
 left_more on here input inputs (Some kind) e =
     rw e (ap (λ (lines : NotifyFront). after_all on lines (filter is_plain inputs)) (asked-lines here kind (line_of input)))
 
-pub left_out : (on : Setting) (here : Position) (inputs : List Input)
+pub left_out : (on : Platform) (here : Position) (inputs : List Input)
     → (position_behind on here inputs).lines ≡ after_all on here.lines (filter is_plain inputs)
 left_out on here [] = refl
 left_out on here (input ∷ inputs) =
@@ -82,7 +82,7 @@ plain_none None e = refl
 plain_none (Some kind) e = absurd cc
 
 -- so what is shown behind it is what is shown without it
-pub shown_same : (on : Setting) (here : Position) (front : List Input) (input : Input) → is_plain input ≡ true
+pub shown_same : (on : Platform) (here : Position) (front : List Input) (input : Input) → is_plain input ≡ true
     → shown_to on (position_behind on here front) input
     ≡ shown_to_other on
     (record { lines = after_all on here.lines (filter is_plain front); is_watching = (position_behind on here front).is_watching }) input
@@ -96,7 +96,7 @@ shown_same on here front input plain =
 abbrev pub unwatched : NotifyFront → Position
 unwatched lines = record { lines = lines; is_watching = false }
 
-pub unasked_said : (on : Setting) (lines : NotifyFront) (inputs : List Input) → list_all is_plain inputs ≡ true
+pub unasked_said : (on : Platform) (lines : NotifyFront) (inputs : List Input) → list_all is_plain inputs ≡ true
     → showing on (unwatched lines) inputs ≡ conversation on lines inputs
 unasked_said on lines [] plain = refl
 unasked_said on lines (input ∷ inputs) plain =

@@ -25,7 +25,7 @@ use Rattle.ta_isa.specs.declared.boot.Boot.{Boot}
 use Rattle.trace_text.specs.declared.item.Item.{Item}
 use Rattle.trace_text.specs.declared.item.Item.TheVariants as item
 use Rattle.trace_text.specs.declared.item.Reg.{Reg}
-use Rattle.live_play.specs.Answer.{Setting, answer_between, play_at, printed_at, refused_at}
+use Rattle.live_play.specs.Answer.{Platform, answer_between, play_at, printed_at, refused_at}
 use Rattle.live_play.specs.Returns.{returns_in}
 use Rattle.live_play.specs.Showing.{cpu_out_by}
 use Rattle.live_play.proofs.Grown.{entry-lines, event-lines}
@@ -170,17 +170,17 @@ step-goes boot drivers (Signals value) cpu before after out e going = absurd cc
 -- ---- lines of a conversation
 
 -- a step, unless an entry was refused before
-abbrev pub step_on : Setting → Boot → Step → NotifyPlay → Option NotifyPlay
+abbrev pub step_on : Platform → Boot → Step → NotifyPlay → Option NotifyPlay
 step_on on boot step told = unless_refused (after_step (booted boot on.natives) on.drivers step) told
 
 -- these lines have a play that goes on, and by the step it comes to that one
-pub record IsStepped (on : Setting) (boot : Boot) (step : Step) (before : NotifyFront) (next : NotifyPlay) : Type 0 where
+pub record IsStepped (on : Platform) (boot : Boot) (step : Step) (before : NotifyFront) (next : NotifyPlay) : Type 0 where
   pub told : NotifyPlay
   pub was : play_at on before ≡ Some told
   pub came : after_step (booted boot on.natives) on.drivers step told ≡ Some next
 
 -- where the lines behind it have a play
-pub stepped : (on : Setting) (boot : Boot) (step : Step) (before after : NotifyFront) (next : NotifyPlay)
+pub stepped : (on : Platform) (boot : Boot) (step : Step) (before after : NotifyFront) (next : NotifyPlay)
     → play_at on after ≡ option_and_then (step_on on boot step) (play_at on before)
     → refused_at on before ≡ None → play_at on after ≡ Some next → IsStepped on boot step before next
 stepped on boot step before after next e going there = by (play_at on before) refl
@@ -201,7 +201,7 @@ stepped on boot step before after next e going there = by (play_at on before) re
         }
 
 -- what the second of two plays has printed more
-pub printed_more : (on : Setting) (before after : NotifyFront) (told next : NotifyPlay) → play_at on before ≡ Some told
+pub printed_more : (on : Platform) (before after : NotifyFront) (told next : NotifyPlay) → play_at on before ≡ Some told
     → play_at on after ≡ Some next
     → drop (length (printed_at on before)) (printed_at on after) ≡ drop (length told.play.lines) next.play.lines
 printed_more on before after told next was is =
@@ -212,7 +212,7 @@ pub cut_front : (front all more : List Line) → all ≡ front ++ more → drop 
 cut_front front all more e = ap (drop (length front)) e ∙ drop-append_seam front more
 
 -- by a step by which no processor goes out no line `ret` is printed
-pub none_returned : (on : Setting) (boot : Boot) (step : Step) (before after : NotifyFront)
+pub none_returned : (on : Platform) (boot : Boot) (step : Step) (before after : NotifyFront)
     → play_at on after ≡ option_and_then (step_on on boot step) (play_at on before) → refused_at on before ≡ None
     → step_out step ≡ None → returns_in (drop (length (printed_at on before)) (printed_at on after)) ≡ []
 none_returned on boot step before after e going none = by (play_at on after) refl
@@ -229,7 +229,7 @@ none_returned on boot step before after e going none = by (play_at on after) ref
         ∙ cut_front s.told.play.lines next.play.lines stays.lines stays.are) ∙ stays.none
 
 -- and by one by which a processor does, that line alone
-pub one_returned : (on : Setting) (boot : Boot) (step : Step) (cpu : ℕ) (before after : NotifyFront) (next : NotifyPlay)
+pub one_returned : (on : Platform) (boot : Boot) (step : Step) (cpu : ℕ) (before after : NotifyFront) (next : NotifyPlay)
     → play_at on after ≡ option_and_then (step_on on boot step) (play_at on before) → refused_at on before ≡ None
     → step_out step ≡ Some cpu → play_at on after ≡ Some next → next.play.refused ≡ None
     → (regs : List ℕ) × (drop (length (printed_at on before)) (printed_at on after) ≡ Ret cpu regs ∷ [])
@@ -242,6 +242,6 @@ one_returned on boot step cpu before after next e going out is went_on =
     )
 
 -- where no entry is refused, that is answered
-pub lines-done : (on : Setting) (before after : NotifyFront) → refused_at on after ≡ None
+pub lines-done : (on : Platform) (before after : NotifyFront) → refused_at on after ≡ None
     → (answer_between on before after).lines ≡ drop (length (printed_at on before)) (printed_at on after)
 lines-done on before after going = ap (λ (o : Option ℕ). (answer_unless on before after o).lines) going

@@ -19,7 +19,7 @@ use Rattle.play_model.specs.Play.{first_play}
 use Rattle.ta_isa.specs.declared.boot.Boot.{Boot}
 use Rattle.trace_text.specs.declared.fault.BadKind.{BadKind}
 use Rattle.trace_text.specs.declared.item.Item.{Item}
-use Rattle.live_play.specs.Answer.{Answer, Bad, Done, Ending, Full, Setting, after_heard, answer, answer_between, copied_at, fault_at, is_done, play_at, printed_at, refused_at, uuids_in, without_lines}
+use Rattle.live_play.specs.Answer.{Answer, Bad, Done, Ending, Full, Platform, after_heard, answer, answer_between, copied_at, fault_at, is_done, play_at, printed_at, refused_at, uuids_in, without_lines}
 use Rattle.live_play.specs.Conversation.{after_all, answers}
 use Rattle.live_play.specs.Laws.{TurnsAreTold, printed_in}
 use Rattle.live_play.specs.Returns.{IsReturnOf, exits_in, returns_in}
@@ -32,23 +32,23 @@ use Rattle.live_play.proofs.Unasked.{unasked_play}
 -- ---- the play of the lines that count, where one comes more
 
 -- before the first step
-abbrev pub start : Setting → Boot → NotifyFront → NotifyPlay
+abbrev pub start : Platform → Boot → NotifyFront → NotifyPlay
 start on boot lines =
     first_notify_play (booted boot on.natives) (first_play on.ram (booted boot on.natives) lines.trace.fills)
 
-abbrev pub play_of : Setting → Boot → NotifyFront → Option NotifyPlay
+abbrev pub play_of : Platform → Boot → NotifyFront → Option NotifyPlay
 play_of on boot lines = notify_played_over on.ram on.natives on.drivers boot (told_in lines)
 
 -- with this boot
-pub with_boot : (on : Setting) (boot : Boot) (lines : NotifyFront) → lines.trace.boot ≡ Some boot
+pub with_boot : (on : Platform) (boot : Boot) (lines : NotifyFront) → lines.trace.boot ≡ Some boot
     → play_at on lines ≡ play_of on boot lines
 with_boot on boot lines there = ap (λ (o : Option Boot). option_and_then (λ (b : Boot). play_of on b lines) o) there
 
-pub without_boot : (on : Setting) (lines : NotifyFront) → lines.trace.boot ≡ None → play_at on lines ≡ None
+pub without_boot : (on : Platform) (lines : NotifyFront) → lines.trace.boot ≡ None → play_at on lines ≡ None
 without_boot on lines none = ap (λ (o : Option Boot). option_and_then (λ (b : Boot). play_of on b lines) o) none
 
 -- a step more
-pub more-played : (on : Setting) (boot : Boot) (before after : NotifyFront) (last : Step) → before.trace.boot ≡ Some boot
+pub more-played : (on : Platform) (boot : Boot) (before after : NotifyFront) (last : Step) → before.trace.boot ≡ Some boot
     → after.trace.boot ≡ Some boot → after.trace.fills ≡ before.trace.fills
     → steps_of (told_in after) ≡ steps_of (told_in before) ++ last ∷ []
     → play_at on after
@@ -65,7 +65,7 @@ more-played on boot before after last was is fills steps =
 -- ---- what a play has printed
 
 -- the lines have a play, or no boot
-abbrev pub IsWhole : Setting → NotifyFront → Type 0
+abbrev pub IsWhole : Platform → NotifyFront → Type 0
 IsWhole on lines = (lines.trace.boot ≡ None) ⊎ IsSome (play_at on lines)
 
 abbrev pub printed_by : Option NotifyPlay → List Line
@@ -75,7 +75,7 @@ abbrev pub refused_by : Option NotifyPlay → Option ℕ
 refused_by o = option_and_then (λ (told : NotifyPlay). told.play.refused) o
 
 -- of the header nothing is printed, and nothing is refused
-pub record IsQuiet (on : Setting) (lines : NotifyFront) : Type 0 where
+pub record IsQuiet (on : Platform) (lines : NotifyFront) : Type 0 where
   pub printed : printed_at on lines ≡ []
   pub going : refused_at on lines ≡ None
   pub whole : IsWhole on lines
@@ -85,7 +85,7 @@ no_steps lines header =
     ap (λ (items : List Item). steps_from 0 items lines.signals) header.items
     ∙ ap (λ (signals : List Signal). steps_from 0 [] signals) header.signals
 
-pub quiet : (on : Setting) (lines : NotifyFront) → IsHeader lines → IsQuiet on lines
+pub quiet : (on : Platform) (lines : NotifyFront) → IsHeader lines → IsQuiet on lines
 quiet on lines header = by lines.trace.boot refl
   where
     by : (boot : Option Boot) → lines.trace.boot ≡ boot → IsQuiet on lines
@@ -99,13 +99,13 @@ quiet on lines header = by lines.trace.boot refl
         record { printed = ap printed_by there; going = ap refused_by there; whole = inr (ap is_some there) }
 
 -- these lines were printed behind those
-pub record IsGrown (on : Setting) (before after : NotifyFront) : Type 0 where
+pub record IsGrown (on : Platform) (before after : NotifyFront) : Type 0 where
   pub whole : IsWhole on before
   pub lines : List Line
   pub are : printed_at on after ≡ printed_at on before ++ lines
 
 -- a step more prints more
-step-grown : (on : Setting) (boot : Boot) (before after : NotifyFront) (last : Step)
+step-grown : (on : Platform) (boot : Boot) (before after : NotifyFront) (last : Step)
     → play_at on after ≡ option_and_then (unless_refused (after_step (booted boot on.natives) on.drivers last)) (play_at on before)
     → IsSome (play_at on after) → IsGrown on before after
 step-grown on boot before after last e there = by (play_at on before) refl
@@ -125,7 +125,7 @@ step-grown on boot before after last e there = by (play_at on before) refl
         }
 
 -- what is whole with a boot has a play
-whole_there : (on : Setting) (lines : NotifyFront) (boot : Boot) → lines.trace.boot ≡ Some boot → IsWhole on lines
+whole_there : (on : Platform) (lines : NotifyFront) (boot : Boot) → lines.trace.boot ≡ Some boot → IsWhole on lines
     → IsSome (play_at on lines)
 whole_there on lines boot there (inl none) = absurd (let no : None ≡ Some boot = sym none ∙ there in cc)
 whole_there on lines boot there (inr some) = some
@@ -148,7 +148,7 @@ signal_steps before value =
     ap (λ (n : ℕ). steps_from 0 before.trace.items (before.signals ++ signal_at value n ∷ [])) same
     ∙ steps-signal 0 value before.trace.items before.signals
 
-lines_grown : (on : Setting) (before after : NotifyFront) → AreOrderly before → Effect before after → IsWhole on after
+lines_grown : (on : Platform) (before after : NotifyFront) → AreOrderly before → Effect before after → IsWhole on after
     → IsGrown on before after
 lines_grown on before after orderly (Stays is) whole = record {
   whole = subst (IsWhole on) is whole;
@@ -180,19 +180,19 @@ lines_grown on before after orderly (AddsSignal value there is) whole =
 
 -- ---- a turn
 
-pub record IsStage (on : Setting) (lines : NotifyFront) : Type 0 where
+pub record IsStage (on : Platform) (lines : NotifyFront) : Type 0 where
   pub orderly : AreOrderly lines
   pub going : refused_at on lines ≡ None
 
-pub stage-first : (on : Setting) → IsStage on no_lines
+pub stage-first : (on : Platform) → IsStage on no_lines
 stage-first on = record { orderly = orderly-first; going = refl }
 
-record IsTurned (on : Setting) (before after : NotifyFront) (said : List Line) : Type 0 where
+record IsTurned (on : Platform) (before after : NotifyFront) (said : List Line) : Type 0 where
   stage : IsStage on after
   grown : IsWhole on after → IsWhole on before × (printed_at on after ≡ printed_at on before ++ said)
 
 -- nothing counts, and nothing is said but why
-not_turned : (on : Setting) (before : NotifyFront) → IsStage on before → IsTurned on before before []
+not_turned : (on : Platform) (before : NotifyFront) → IsStage on before → IsTurned on before before []
 not_turned on before stage = record {
   stage = stage;
   grown = λ whole. (whole, sym (append-nil (printed_at on before)));
@@ -206,17 +206,17 @@ cut_off front all more e =
 abbrev pub counted : NotifyFront → NotifyFront → Ending → NotifyFront
 counted before after ending = if is_done ending then after else before
 
-abbrev pub answer_unless : Setting → NotifyFront → NotifyFront → Option ℕ → Answer
+abbrev pub answer_unless : Platform → NotifyFront → NotifyFront → Option ℕ → Answer
 answer_unless on before after refused =
     option_map_or (λ more. without_lines (Full (copied_at on before)))
     refused
     (record { lines = drop (length (printed_at on before)) (printed_at on after); ending = Done })
 
-abbrev pub answer_by : Setting → NotifyFront → List ℕ → Option BadKind → Answer
+abbrev pub answer_by : Platform → NotifyFront → List ℕ → Option BadKind → Answer
 answer_by on before line fault =
     option_map_or (λ kind. without_lines (Bad kind)) fault (answer_between on before (after_line before line))
 
-turned_between : (on : Setting) (before after : NotifyFront) → IsStage on before → Effect before after
+turned_between : (on : Platform) (before after : NotifyFront) → IsStage on before → Effect before after
     → (refused : Option ℕ) → refused_at on after ≡ refused
     → IsTurned on before (counted before after (answer_unless on before after refused).ending)
     (answer_unless on before after refused).lines
@@ -228,7 +228,7 @@ turned_between on before after stage effects None is = record {
       (more.whole, cut_off (printed_at on before) (printed_at on after) more.lines more.are);
 }
 
-turned_line : (on : Setting) (before : NotifyFront) (line : List ℕ) → IsStage on before
+turned_line : (on : Platform) (before : NotifyFront) (line : List ℕ) → IsStage on before
     → (fault : Option BadKind) → fault_at on before line ≡ fault
     → IsTurned on before (counted before (after_line before line) (answer_by on before line fault).ending)
     (answer_by on before line fault).lines
@@ -237,7 +237,7 @@ turned_line on before line stage None is =
     turned_between on before (after_line before line) stage (effect (uuids_in on) before line stage.orderly is)
     (refused_at on (after_line before line)) refl
 
-turned : (on : Setting) (before : NotifyFront) (input : Input) → IsStage on before
+turned : (on : Platform) (before : NotifyFront) (input : Input) → IsStage on before
     → IsTurned on before (after_heard on before input) (answer on before input).lines
 turned on before (heard.Line line) stage = turned_line on before line stage (fault_at on before line) refl
 turned on before heard.Long stage = not_turned on before stage
@@ -245,11 +245,11 @@ turned on before heard.Cut stage = not_turned on before stage
 
 -- ---- all turns
 
-pub record IsTalked (on : Setting) (before after : NotifyFront) (given : List Answer) : Type 0 where
+pub record IsTalked (on : Platform) (before after : NotifyFront) (given : List Answer) : Type 0 where
   pub stage : IsStage on after
   pub grown : IsWhole on after → IsWhole on before × (printed_at on after ≡ printed_at on before ++ printed_in given)
 
-pub talked : (on : Setting) (before : NotifyFront) (inputs : List Input) → IsStage on before
+pub talked : (on : Platform) (before : NotifyFront) (inputs : List Input) → IsStage on before
     → IsTalked on before (after_all on before inputs) (answers on before inputs)
 talked on before [] stage = record {
   stage = stage;
@@ -274,7 +274,7 @@ talked on before (input ∷ inputs) stage =
 -- ---- each return is the kernel's
 
 -- what the play of lines with this boot has said of its exits
-returned_at : (on : Setting) (boot : Boot) (lines : NotifyFront) (told : NotifyPlay) → lines.trace.boot ≡ Some boot
+returned_at : (on : Platform) (boot : Boot) (lines : NotifyFront) (told : NotifyPlay) → lines.trace.boot ≡ Some boot
     → play_at on lines ≡ Some told → AreReturned on.drivers told
 returned_at on boot lines told there e =
     steps_returned (booted boot on.natives) on.drivers (steps_of (told_in lines)) (start on boot lines) told

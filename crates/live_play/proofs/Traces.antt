@@ -26,7 +26,7 @@ use Rattle.trace_text.specs.Rules.{is_text_byte}
 use Rattle.trace_text.specs.declared.fault.BadKind.{BadKind}
 use Rattle.trace_text.specs.declared.trace.Trace.{Trace}
 use Rattle.trace_text.proofs.Pieces.{first_piece}
-use Rattle.live_play.specs.Answer.{Setting, after_heard, answer, fault_at, is_done, refused_at, setting, uuids_in}
+use Rattle.live_play.specs.Answer.{Platform, after_heard, answer, fault_at, is_done, platform, refused_at, uuids_in}
 use Rattle.live_play.specs.Conversation.{after_all, answers}
 use Rattle.live_play.specs.Laws.{GoodConversationsAreTraces, IsUnasked, UnaskedConversationsAreRuns, all_done, lines_behind, text_of_lines, text_said}
 use Rattle.live_play.proofs.Effects.{no_feed}
@@ -66,29 +66,29 @@ pieces-lines (line ∷ lines) lack =
 -- ---- lines that count
 
 -- an answer that ends with `ok` is to a line that counts
-record Counts (on : Setting) (before : NotifyFront) (line : List ℕ) (after : NotifyFront) : Type 0 where
+record Counts (on : Platform) (before : NotifyFront) (line : List ℕ) (after : NotifyFront) : Type 0 where
   kept : fault_at on before line ≡ None
   counts : after ≡ after_line before line
 
-counts_between : (on : Setting) (before : NotifyFront) (line : List ℕ) → fault_at on before line ≡ None → (refused : Option ℕ)
+counts_between : (on : Platform) (before : NotifyFront) (line : List ℕ) → fault_at on before line ≡ None → (refused : Option ℕ)
     → is_done (answer_unless on before (after_line before line) refused).ending ≡ true
     → Counts on before line (counted before (after_line before line) (answer_unless on before (after_line before line) refused).ending)
 counts_between on before line kept (Some more) e = absurd cc
 counts_between on before line kept None e = record { kept = kept; counts = refl }
 
-counts_line : (on : Setting) (before : NotifyFront) (line : List ℕ) (fault : Option BadKind) → fault_at on before line ≡ fault
+counts_line : (on : Platform) (before : NotifyFront) (line : List ℕ) (fault : Option BadKind) → fault_at on before line ≡ fault
     → is_done (answer_by on before line fault).ending ≡ true
     → Counts on before line (counted before (after_line before line) (answer_by on before line fault).ending)
 counts_line on before line (Some kind) is e = absurd cc
 counts_line on before line None is e = counts_between on before line is (refused_at on (after_line before line)) e
 
-record AreLed (on : Setting) (before : NotifyFront) (inputs : List Input) : Type 0 where
+record AreLed (on : Platform) (before : NotifyFront) (inputs : List Input) : Type 0 where
   lines : List (List ℕ)
   are : inputs ≡ map heard.Line lines
   leads : Leads (uuids_in on) before lines (after_all on before inputs)
   lack : LackFeeds lines
 
-led_on : (on : Setting) (before : NotifyFront) (line : List ℕ) (inputs : List Input)
+led_on : (on : Platform) (before : NotifyFront) (line : List ℕ) (inputs : List Input)
     → Counts on before line (after_heard on before (heard.Line line))
     → AreLed on (after_heard on before (heard.Line line)) inputs → AreLed on before (heard.Line line ∷ inputs)
 led_on on before line inputs counted rest = record {
@@ -102,7 +102,7 @@ led_on on before line inputs counted rest = record {
   lack = (lacks_feed line (no_feed (uuids_in on) before line counted.kept), rest.lack);
 }
 
-led : (on : Setting) (before : NotifyFront) (inputs : List Input) → all_done (answers on before inputs) ≡ true
+led : (on : Platform) (before : NotifyFront) (inputs : List Input) → all_done (answers on before inputs) ≡ true
     → AreLed on before inputs
 led on before [] e = record { lines = []; are = refl; leads = refl; lack = tt }
 led on before (heard.Line line ∷ inputs) e =
@@ -124,7 +124,7 @@ said_is : (natives : List Native) (drivers : Drivers) (inputs : List Input) (tex
     → notify_text_of natives drivers (told_in (lines_behind natives drivers inputs)) ≡ Some text
     → text_said natives drivers inputs ≡ text
 said_is natives drivers inputs text None there e =
-    let on : Setting = setting natives drivers in
+    let on : Platform = platform natives drivers in
     let last : NotifyFront = lines_behind natives drivers inputs in
     let grown = (talked on no_lines inputs (stage-first on)).grown (inl there) in
     let none = ap printed_by (without_boot on last there) in
@@ -132,7 +132,7 @@ said_is natives drivers inputs text None there e =
     sym (ap (λ (b : Option Boot). notify_text_by natives drivers (told_in last) b) there) ∙ e in
     ap (flat_map text_of_line) (sym grown.1 ∙ none) ∙ some_text [] text written
 said_is natives drivers inputs text (Some boot) there e =
-    let on : Setting = setting natives drivers in
+    let on : Platform = platform natives drivers in
     let last : NotifyFront = lines_behind natives drivers inputs in
     let written : option_map notify_text_of_play (play_of on boot last) ≡ Some text =
     sym (ap (λ (b : Option Boot). notify_text_by natives drivers (told_in last) b) there) ∙ e in
@@ -144,7 +144,7 @@ said_is natives drivers inputs text (Some boot) there e =
 pub good_conversations_are_traces : GoodConversationsAreTraces
 good_conversations_are_traces natives drivers inputs e =
     let last : NotifyFront = lines_behind natives drivers inputs in
-    let l = led (setting natives drivers) no_lines inputs e in
+    let l = led (platform natives drivers) no_lines inputs e in
     record {
       lines = l.lines;
       are = l.are;
@@ -201,10 +201,10 @@ leads_aside natives before (line ∷ lines) after leads =
 
 -- the text of the trace's play
 run_is : (natives : List Native) (drivers : Drivers) (inputs : List Input)
-    → IsUnasked (setting natives drivers) (lines_behind natives drivers inputs)
+    → IsUnasked (platform natives drivers) (lines_behind natives drivers inputs)
     → text_of natives (trace_in (lines_behind natives drivers inputs).trace) ≡ Some (text_said natives drivers inputs)
 run_is natives drivers inputs unasked =
-    let on : Setting = setting natives drivers in
+    let on : Platform = platform natives drivers in
     let told : Trace = trace_in (lines_behind natives drivers inputs).trace in
     let held = turns_are_told on inputs unasked.boot unasked.told unasked.there unasked.boots unasked.played in
     ap (text_by natives told) unasked.there
@@ -214,7 +214,7 @@ run_is natives drivers inputs unasked =
 pub unasked_conversations_are_runs : UnaskedConversationsAreRuns
 unasked_conversations_are_runs natives drivers inputs e unasked =
     let last : NotifyFront = lines_behind natives drivers inputs in
-    let l = led (setting natives drivers) no_lines inputs e in
+    let l = led (platform natives drivers) no_lines inputs e in
     record {
       lines = l.lines;
       are = l.are;
@@ -222,7 +222,7 @@ unasked_conversations_are_runs natives drivers inputs e unasked =
         lines = filter is_no_signal l.lines;
         text_is = pieces-lines (filter is_no_signal l.lines) (filtered_lack l.lines l.lack);
         end = last.trace;
-        spelled = leads_aside (uuids_in (setting natives drivers)) no_lines l.lines last l.leads;
+        spelled = leads_aside (uuids_in (platform natives drivers)) no_lines l.lines last l.leads;
         value_is = refl;
         no_end_fault = outside;
       };

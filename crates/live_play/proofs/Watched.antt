@@ -15,7 +15,7 @@ use Rattle.play_model.specs.Line.{Line, Mem, Ret, text_of_line}
 use Rattle.ta_isa.specs.declared.boot.Boot.{Boot}
 use Rattle.trace_text.specs.declared.fault.BadKind.{BadKind}
 use Rattle.trace_text.specs.declared.fault.BadKind.TheVariants as bad
-use Rattle.live_play.specs.Answer.{Answer, Bad, Done, Full, Setting, TooLong, after_heard, answer, copied_at, fault_at, play_at, printed_at, refused_at, text_of_ending, uuids_in}
+use Rattle.live_play.specs.Answer.{Answer, Bad, Done, Full, Platform, TooLong, after_heard, answer, copied_at, fault_at, play_at, printed_at, refused_at, text_of_ending, uuids_in}
 use Rattle.live_play.specs.Conversation.{after_all}
 use Rattle.live_play.specs.Returns.{returns_in}
 use Rattle.live_play.specs.Showing.{lane_at, text_behind, watched_answer, watched_line}
@@ -28,7 +28,7 @@ use Rattle.live_play.proofs.Talking.{IsStage, answer_by, answer_unless, counted,
 -- ---- the text of lines
 
 -- where no line `ret` is among them, it is as where no exit is watched
-pub unwatched-lines : (on : Setting) (before after : NotifyFront) (lines : List Line) → returns_in lines ≡ []
+pub unwatched-lines : (on : Platform) (before after : NotifyFront) (lines : List Line) → returns_in lines ≡ []
     → flat_map (watched_line on before after) lines ≡ flat_map text_of_line lines
 unwatched-lines on before after [] none = refl
 unwatched-lines on before after (Ret cpu regs ∷ lines) none = absurd cc
@@ -36,7 +36,7 @@ unwatched-lines on before after (Mem cpu addr bytes ∷ lines) none =
     ap (λ (l : List ℕ). text_of_line (Mem cpu addr bytes) ++ l) (unwatched-lines on before after lines none)
 
 -- behind one line `ret` stands in what panic its call has ended, and what that exit has changed
-pub watched-lines : (on : Setting) (before after : NotifyFront) (lines : List Line) (cpu : ℕ) (regs : List ℕ)
+pub watched-lines : (on : Platform) (before after : NotifyFront) (lines : List Line) (cpu : ℕ) (regs : List ℕ)
     → lines ≡ Ret cpu regs ∷ []
     → flat_map (watched_line on before after) lines ≡ flat_map text_of_line lines ++ text_behind on before after cpu
 watched-lines on before after lines cpu regs is =
@@ -47,7 +47,7 @@ watched-lines on before after lines cpu regs is =
 
 -- ---- the processor that goes out
 
-exit_watched : (on : Setting) (before : NotifyFront) (input : Input) (cpu : ℕ) (regs : List ℕ)
+exit_watched : (on : Platform) (before : NotifyFront) (input : Input) (cpu : ℕ) (regs : List ℕ)
     → answer on before input ≡ told_out cpu regs → IsWatched on before input cpu regs
 exit_watched on before input cpu regs is =
     let after : NotifyFront = after_heard on before input in
@@ -57,11 +57,11 @@ exit_watched on before input cpu regs is =
 -- ---- RAM
 
 -- that of this processor is no shorter behind these lines than behind those, and that of every other one is the same
-record LeavesRam (on : Setting) (before after : NotifyFront) (cpu : ℕ) : Type 0 where
+record LeavesRam (on : Platform) (before after : NotifyFront) (cpu : ℕ) : Type 0 where
   longer : length (lane_at on before cpu) ≤ length (lane_at on after cpu)
   others : OthersStay on before after cpu
 
-ram_same : (on : Setting) (before after : NotifyFront) (cpu : ℕ) → after ≡ before → LeavesRam on before after cpu
+ram_same : (on : Platform) (before after : NotifyFront) (cpu : ℕ) → after ≡ before → LeavesRam on before after cpu
 ram_same on before after cpu is =
     let long = ap (λ (lines : NotifyFront). length (lane_at on lines cpu)) is in
     record { longer = omega (arith, long); others = λ other apart. ap (λ (lines : NotifyFront). lane_at on lines other) is }
@@ -70,7 +70,7 @@ abbrev lane_by : ℕ → Option NotifyPlay → List ℕ
 lane_by cpu o = slice_index_or (option_map_or (λ (told : NotifyPlay). told.play.lanes) o []) cpu []
 
 -- the step that prints the line is the one by which the processor goes out
-goes_by : (on : Setting) (boot : Boot) (step : Step) (told next : NotifyPlay) (cpu : ℕ) (regs : List ℕ)
+goes_by : (on : Platform) (boot : Boot) (step : Step) (told next : NotifyPlay) (cpu : ℕ) (regs : List ℕ)
     → after_step (booted boot on.natives) on.drivers step told ≡ Some next → next.play.refused ≡ None
     → drop (length told.play.lines) next.play.lines ≡ Ret cpu regs ∷ [] → GoesOut cpu told next
 goes_by on boot step told next cpu regs came going printed = by (step_out step) refl
@@ -89,7 +89,7 @@ goes_by on boot step told next cpu regs came going printed = by (step_out step) 
         let same : c ≡ cpu = cc in
         subst (λ (n : ℕ). GoesOut n told next) same goes
 
-ram_step : (on : Setting) (boot : Boot) (step : Step) (before after : NotifyFront) (cpu : ℕ) (regs : List ℕ)
+ram_step : (on : Platform) (boot : Boot) (step : Step) (before after : NotifyFront) (cpu : ℕ) (regs : List ℕ)
     → play_at on after ≡ option_and_then (step_on on boot step) (play_at on before)
     → refused_at on before ≡ None → refused_at on after ≡ None
     → drop (length (printed_at on before)) (printed_at on after) ≡ Ret cpu regs ∷ [] → LeavesRam on before after cpu
@@ -113,7 +113,7 @@ ram_step on boot step before after cpu regs e going still printed = by (play_at 
               ap (lane_by other) is ∙ out.others other apart ∙ sym (ap (lane_by other) s.was);
         }
 
-ram_by : (on : Setting) (before after : NotifyFront) (cpu : ℕ) (regs : List ℕ) → IsStage on before
+ram_by : (on : Platform) (before after : NotifyFront) (cpu : ℕ) (regs : List ℕ) → IsStage on before
     → refused_at on after ≡ None → drop (length (printed_at on before)) (printed_at on after) ≡ Ret cpu regs ∷ []
     → Effect before after → LeavesRam on before after cpu
 ram_by on before after cpu regs stage still printed (Stays is) = ram_same on before after cpu is
@@ -139,7 +139,7 @@ ram_by on before after cpu regs stage still printed (AddsSignal value there is) 
     (more-played on boot.0 before after (Signals value) boot.1 now (ap (λ (f : NotifyFront). f.trace.fills) is) steps)
     stage.going still printed
 
-ram_between : (on : Setting) (before after : NotifyFront) (cpu : ℕ) (regs : List ℕ) → IsStage on before → Effect before after
+ram_between : (on : Platform) (before after : NotifyFront) (cpu : ℕ) (regs : List ℕ) → IsStage on before → Effect before after
     → (refused : Option ℕ) → refused_at on after ≡ refused → answer_unless on before after refused ≡ told_out cpu regs
     → LeavesRam on before (counted before after (answer_unless on before after refused).ending) cpu
 ram_between on before after cpu regs stage effects (Some more) is told =
@@ -148,7 +148,7 @@ ram_between on before after cpu regs stage effects (Some more) is told =
 ram_between on before after cpu regs stage effects None is told =
     ram_by on before after cpu regs stage is (ap (λ (a : Answer). a.lines) told) effects
 
-ram_line : (on : Setting) (before : NotifyFront) (line : List ℕ) (cpu : ℕ) (regs : List ℕ) → IsStage on before
+ram_line : (on : Platform) (before : NotifyFront) (line : List ℕ) (cpu : ℕ) (regs : List ℕ) → IsStage on before
     → (fault : Option BadKind) → fault_at on before line ≡ fault → answer_by on before line fault ≡ told_out cpu regs
     → LeavesRam on before (counted before (after_line before line) (answer_by on before line fault).ending) cpu
 ram_line on before line cpu regs stage (Some kind) is told =
@@ -158,7 +158,7 @@ ram_line on before line cpu regs stage None is told =
     ram_between on before (after_line before line) cpu regs stage (effect (uuids_in on) before line stage.orderly is)
     (refused_at on (after_line before line)) refl told
 
-ram_left : (on : Setting) (before : NotifyFront) (input : Input) (cpu : ℕ) (regs : List ℕ) → IsStage on before
+ram_left : (on : Platform) (before : NotifyFront) (input : Input) (cpu : ℕ) (regs : List ℕ) → IsStage on before
     → answer on before input ≡ told_out cpu regs → LeavesRam on before (after_heard on before input) cpu
 ram_left on before (heard.Line line) cpu regs stage told =
     ram_line on before line cpu regs stage (fault_at on before line) refl told
@@ -169,7 +169,7 @@ ram_left on before heard.Cut cpu regs stage told =
     let no : Bad bad.Cut ≡ Done = ap (λ (a : Answer). a.ending) told in
     absurd cc
 
-ram_behind : (on : Setting) (inputs : List Input) (input : Input) (cpu : ℕ) (regs : List ℕ)
+ram_behind : (on : Platform) (inputs : List Input) (input : Input) (cpu : ℕ) (regs : List ℕ)
     → answer on (after_all on no_lines inputs) input ≡ told_out cpu regs
     → LeavesRam on (after_all on no_lines inputs) (after_heard on (after_all on no_lines inputs) input) cpu
 ram_behind on inputs input cpu regs is =

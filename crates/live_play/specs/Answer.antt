@@ -19,9 +19,9 @@ use Rattle.trace_text.specs.Limits.{first_broken}
 use Rattle.trace_text.specs.declared.fault.BadKind.{BadKind}
 use Rattle.trace_text.specs.declared.fault.BadKind.TheVariants as bad
 
--- ---- what a conversation stands beside
+-- ---- the platform of a conversation
 
-pub record Setting : Type 0 where
+pub record Platform : Type 0 where
   -- the applications and the drivers that are built in
   pub natives : List Native
   pub drivers : Drivers
@@ -29,34 +29,34 @@ pub record Setting : Type 0 where
   pub ram : List ℕ
 
 -- RAM of zeros
-abbrev pub setting : List Native → Drivers → Setting
-setting natives drivers = record { natives = natives; drivers = drivers; ram = zeros 0x400000 }
+abbrev pub platform : List Native → Drivers → Platform
+platform natives drivers = record { natives = natives; drivers = drivers; ram = zeros 0x400000 }
 
 -- the UUIDs of the applications
-abbrev pub uuids_in : Setting → List (List ℕ)
+abbrev pub uuids_in : Platform → List (List ℕ)
 uuids_in on = map (λ (native : Native). native.0) on.natives
 
 -- ---- the lines that count so far, as a trace with signals
 
 -- their play, where there is a boot among them
-abbrev pub play_at : Setting → NotifyFront → Option NotifyPlay
+abbrev pub play_at : Platform → NotifyFront → Option NotifyPlay
 play_at on lines =
     option_and_then (λ (boot : Boot). notify_played_over on.ram on.natives on.drivers boot (told_in lines)) lines.trace.boot
 
 -- what it has printed
-abbrev pub printed_at : Setting → NotifyFront → List Line
+abbrev pub printed_at : Platform → NotifyFront → List Line
 printed_at on lines = option_map_or (λ (told : NotifyPlay). told.play.lines) (play_at on lines) []
 
 -- where it refuses an entry: how many bytes that would have read
-abbrev pub refused_at : Setting → NotifyFront → Option ℕ
+abbrev pub refused_at : Platform → NotifyFront → Option ℕ
 refused_at on lines = option_and_then (λ (told : NotifyPlay). told.play.refused) (play_at on lines)
 
 -- how many bytes its entries have read
-abbrev pub copied_at : Setting → NotifyFront → ℕ
+abbrev pub copied_at : Platform → NotifyFront → ℕ
 copied_at on lines = option_map_or (λ (told : NotifyPlay). copied_bytes told.play.history) (play_at on lines) 0
 
 -- the first rule that a line breaks behind them
-abbrev pub fault_at : Setting → NotifyFront → List ℕ → Option BadKind
+abbrev pub fault_at : Platform → NotifyFront → List ℕ → Option BadKind
 fault_at on lines line = first_broken (line_rules (uuids_in on) lines true line)
 
 -- ---- an answer
@@ -81,14 +81,14 @@ abbrev pub without_lines : Ending → Answer
 without_lines ending = record { lines = []; ending = ending }
 
 -- to a line that keeps its rules, which leads from these lines to those
-abbrev pub answer_between : Setting → NotifyFront → NotifyFront → Answer
+abbrev pub answer_between : Platform → NotifyFront → NotifyFront → Answer
 answer_between on before after =
     option_map_or (λ more. without_lines (Full (copied_at on before)))
     (refused_at on after)
     (record { lines = drop (length (printed_at on before)) (printed_at on after); ending = Done })
 
 -- to a line
-abbrev pub answer_to_line : Setting → NotifyFront → List ℕ → Answer
+abbrev pub answer_to_line : Platform → NotifyFront → List ℕ → Answer
 answer_to_line on before line =
     option_map_or (λ kind. without_lines (Bad kind))
     (fault_at on before line)
@@ -96,7 +96,7 @@ answer_to_line on before line =
 
 -- to what was heard: a line that is too long is so also where the input ends within it, and one that is cut off is so whatever
 -- its bytes
-abbrev pub answer : Setting → NotifyFront → Input → Answer
+abbrev pub answer : Platform → NotifyFront → Input → Answer
 answer on before (heard.Line line) = answer_to_line on before line
 answer on before heard.Long = without_lines TooLong
 answer on before heard.Cut = without_lines (Bad bad.Cut)
@@ -116,14 +116,14 @@ with_heard before heard.Long = before
 with_heard before heard.Cut = before
 
 -- it counts exactly where its answer ends with `ok`
-abbrev pub after_heard : Setting → NotifyFront → Input → NotifyFront
+abbrev pub after_heard : Platform → NotifyFront → Input → NotifyFront
 after_heard on before input =
     if is_done (answer on before input).ending then with_heard before input else before
 
 -- ---- that there is a play
 
 -- where a boot is among these lines, a core can be booted so, and they have a play
-abbrev pub IsPlayed : Setting → NotifyFront → Type 0
+abbrev pub IsPlayed : Platform → NotifyFront → Type 0
 IsPlayed on lines =
     IfSome lines.trace.boot (λ (boot : Boot). IsBooted (booted boot on.natives) × IsSome (play_at on lines))
 

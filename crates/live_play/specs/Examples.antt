@@ -9,12 +9,12 @@ use Rattle.notify_text.specs.Rules.{no_lines}
 use Rattle.trace_text.specs.declared.fault.BadKind.TheVariants as bad
 use Rattle.line_port.specs.declared.finish.Finish.{Finish}
 use Rattle.line_port.specs.declared.finish.Finish.TheVariants as finish
-use Rattle.live_play.specs.Answer.{Bad, Done, Full, Setting, text_of_ending}
+use Rattle.live_play.specs.Answer.{Bad, Done, Full, Platform, text_of_ending}
 use Rattle.live_play.specs.Conversation.{IsConversation, conversation, status}
 use Rattle.live_play.specs.Returns.{AsksNothing}
 
 -- RAM is shorter here: none of the lines looks behind its first bytes
-abbrev pub on : Setting
+abbrev pub on : Platform
 on = record { natives = natives; drivers = echo; ram = replicate 64 0 }
 
 -- a line that is heard, and the lines that are said to it

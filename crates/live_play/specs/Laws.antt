@@ -18,7 +18,7 @@ use Rattle.ta_isa.specs.declared.boot.Boot.{Boot}
 use Rattle.trace_text.specs.Grammar as trace
 use Rattle.trace_text.specs.Limits.{end_fault, trace_in}
 use Rattle.trace_text.specs.declared.fault.BadKind.{BadKind}
-use Rattle.live_play.specs.Answer.{Answer, Bad, Full, Setting, after_heard, answer, copied_at, fault_at, is_done, play_at, refused_at, setting, uuids_in, without_lines}
+use Rattle.live_play.specs.Answer.{Answer, Bad, Full, Platform, after_heard, answer, copied_at, fault_at, is_done, platform, play_at, refused_at, uuids_in, without_lines}
 use Rattle.live_play.specs.Conversation.{after_all, answers}
 use Rattle.live_play.specs.Returns.{AsksNothing, IsReturnOf, exits_in, returns_in}
 
@@ -31,9 +31,9 @@ printed_in given = flat_map (λ (a : Answer). a.lines) given
 -- a line that breaks a rule is answered by the first one that it breaks; one whose entry is refused, by how many bytes were read
 -- before it; and neither counts
 pub record RefusalsChangeNothing : Type 0 where
-  pub bad : (on : Setting) (before : NotifyFront) (line : List ℕ) (kind : BadKind) → fault_at on before line ≡ Some kind →
+  pub bad : (on : Platform) (before : NotifyFront) (line : List ℕ) (kind : BadKind) → fault_at on before line ≡ Some kind →
       (answer on before (heard.Line line) ≡ without_lines (Bad kind)) × (after_heard on before (heard.Line line) ≡ before)
-  pub full : (on : Setting) (before : NotifyFront) (line : List ℕ) (more : ℕ) → fault_at on before line ≡ None →
+  pub full : (on : Platform) (before : NotifyFront) (line : List ℕ) (more : ℕ) → fault_at on before line ≡ None →
       refused_at on (after_line before line) ≡ Some more →
       (answer on before (heard.Line line) ≡ without_lines (Full (copied_at on before)))
       × (after_heard on before (heard.Line line) ≡ before)
@@ -41,7 +41,7 @@ pub record RefusalsChangeNothing : Type 0 where
 -- ---- each return is the kernel's
 
 -- what holds of the play of the lines that count behind a part of a conversation
-pub record IsHeld (on : Setting) (inputs : List Input) (boot : Boot) (told : NotifyPlay) : Type 0 where
+pub record IsHeld (on : Platform) (inputs : List Input) (boot : Boot) (told : NotifyPlay) : Type 0 where
   -- it is the play of one history, legal from the boot, with the kernel's own answers, and with all that is said of the
   -- plays of a trace with signals
   pub holds : IsNotifyPlay (booted boot on.natives) on.drivers told
@@ -61,7 +61,7 @@ pub record IsHeld (on : Setting) (inputs : List Input) (boot : Boot) (told : Not
 
 -- of each conversation, behind each of its turns: the next lines may depend on the answers in any way
 abbrev pub TurnsAreTold : Type 0
-TurnsAreTold = (on : Setting) (inputs : List Input) (boot : Boot) (told : NotifyPlay) →
+TurnsAreTold = (on : Platform) (inputs : List Input) (boot : Boot) (told : NotifyPlay) →
     (after_all on no_lines inputs).trace.boot ≡ Some boot → IsBooted (booted boot on.natives) →
     play_at on (after_all on no_lines inputs) ≡ Some told → IsHeld on inputs boot told
 
@@ -77,31 +77,31 @@ text_of_lines lines = flat_map (λ (line : List ℕ). line ++ 10 ∷ []) lines
 
 -- beside these applications and drivers, over RAM of zeros: the lines that count behind all that was heard
 abbrev pub lines_behind : List Native → Drivers → List Input → NotifyFront
-lines_behind natives drivers inputs = after_all (setting natives drivers) no_lines inputs
+lines_behind natives drivers inputs = after_all (platform natives drivers) no_lines inputs
 
 -- and the text of the `ret` and `mem` lines that were said
 abbrev pub text_said : List Native → Drivers → List Input → List ℕ
-text_said natives drivers inputs = flat_map text_of_line (printed_in (answers (setting natives drivers) no_lines inputs))
+text_said natives drivers inputs = flat_map text_of_line (printed_in (answers (platform natives drivers) no_lines inputs))
 
 -- these lines were heard, and all of them count; where no processor is inside in the end, their text spells a trace with
 -- signals; and where that has a play, the answers have said what the word `notify` writes for it
 pub record IsTrace (natives : List Native) (drivers : Drivers) (inputs : List Input) : Type 0 where
   pub lines : List (List ℕ)
   pub are : inputs ≡ map heard.Line lines
-  pub leads : Leads (uuids_in (setting natives drivers)) no_lines lines (lines_behind natives drivers inputs)
+  pub leads : Leads (uuids_in (platform natives drivers)) no_lines lines (lines_behind natives drivers inputs)
   pub spells : end_fault (lines_behind natives drivers inputs).trace ≡ None →
-      Spells (uuids_in (setting natives drivers)) (text_of_lines lines) (told_in (lines_behind natives drivers inputs))
+      Spells (uuids_in (platform natives drivers)) (text_of_lines lines) (told_in (lines_behind natives drivers inputs))
   pub text : (text : List ℕ) → notify_text_of natives drivers (told_in (lines_behind natives drivers inputs)) ≡ Some text →
       text_said natives drivers inputs ≡ text
 
 abbrev pub GoodConversationsAreTraces : Type 0
 GoodConversationsAreTraces = (natives : List Native) (drivers : Drivers) (inputs : List Input) →
-    all_done (answers (setting natives drivers) no_lines inputs) ≡ true → IsTrace natives drivers inputs
+    all_done (answers (platform natives drivers) no_lines inputs) ≡ true → IsTrace natives drivers inputs
 
 -- ---- where no answer is one that the desk makes
 
 -- the lines have a play, and no exit in it asks anything of the desk of signals
-pub record IsUnasked (on : Setting) (lines : NotifyFront) : Type 0 where
+pub record IsUnasked (on : Platform) (lines : NotifyFront) : Type 0 where
   pub boot : Boot
   pub there : lines.trace.boot ≡ Some boot
   pub boots : IsBooted (booted boot on.natives)
@@ -115,12 +115,12 @@ pub record IsRun (natives : List Native) (drivers : Drivers) (inputs : List Inpu
   pub lines : List (List ℕ)
   pub are : inputs ≡ map heard.Line lines
   pub spells : end_fault (lines_behind natives drivers inputs).trace ≡ None →
-      trace.Spells (uuids_in (setting natives drivers)) (text_of_lines (filter is_no_signal lines))
+      trace.Spells (uuids_in (platform natives drivers)) (text_of_lines (filter is_no_signal lines))
       (trace_in (lines_behind natives drivers inputs).trace)
   pub text : text_of natives (trace_in (lines_behind natives drivers inputs).trace)
       ≡ Some (text_said natives drivers inputs)
 
 abbrev pub UnaskedConversationsAreRuns : Type 0
 UnaskedConversationsAreRuns = (natives : List Native) (drivers : Drivers) (inputs : List Input) →
-    all_done (answers (setting natives drivers) no_lines inputs) ≡ true →
-    IsUnasked (setting natives drivers) (lines_behind natives drivers inputs) → IsRun natives drivers inputs
+    all_done (answers (platform natives drivers) no_lines inputs) ≡ true →
+    IsUnasked (platform natives drivers) (lines_behind natives drivers inputs) → IsRun natives drivers inputs

@@ -9,7 +9,7 @@ use Rattle.play_model.specs.Line.{register_text}
 use Rattle.ta_isa.specs.declared.boot.Boot.{Boot}
 use Rattle.trace_text.specs.declared.item.Item.{Item}
 use Rattle.trace_text.specs.declared.item.Item.TheVariants as item
-use Rattle.live_play.specs.Answer.{Setting, play_at}
+use Rattle.live_play.specs.Answer.{Platform, play_at}
 
 -- by an item, behind this play: of the kernel as the processor goes out, at an SMC behind its entry
 abbrev pub panic_by : Booted → NotifyPlay → Item → Option ℕ
@@ -25,7 +25,7 @@ abbrev pub item_between : NotifyFront → NotifyFront → Option Item
 item_between before after = slice_get (drop (length before.trace.items) after.trace.items) 0
 
 -- by that item
-abbrev pub panic_between : Setting → NotifyFront → NotifyFront → Option ℕ
+abbrev pub panic_between : Platform → NotifyFront → NotifyFront → Option ℕ
 panic_between on before after =
     option_and_then (λ (boot : Boot).
     option_and_then (λ (told : NotifyPlay).

@@ -23,7 +23,7 @@ use Rattle.text_lines.specs.Words.{words_of}
 use Rattle.trace_text.specs.Limits.{first_broken}
 use Rattle.trace_text.specs.declared.item.Item.{Item}
 use Rattle.trace_text.specs.declared.item.Item.TheVariants as item
-use Rattle.live_play.specs.Answer.{Answer, Bad, Done, IsPlayed, Setting, after_heard, answer, play_at, text_of_ending}
+use Rattle.live_play.specs.Answer.{Answer, Bad, Done, IsPlayed, Platform, after_heard, answer, play_at, text_of_ending}
 use Rattle.live_play.specs.Changes.{changes, text_of_changes}
 use Rattle.live_play.specs.Conversation.{said_to}
 use Rattle.live_play.specs.Panicking.{panic_between, panic_line}
@@ -52,13 +52,13 @@ told_by boot kernel history (asks.Buffer cookie) =
 told_by boot kernel history (asks.Events from count) = event_lines history from count
 
 -- behind these lines, which have a play where a boot is among them
-abbrev pub told_at : Setting → NotifyFront → Question → List ℕ
+abbrev pub told_at : Platform → NotifyFront → Question → List ℕ
 told_at on lines question =
     text_if (λ (boot : Boot). text_if (λ (told : NotifyPlay). told_by (booted boot on.natives) told.play.kernel told.play.history question) (play_at on lines))
     lines.trace.boot
 
 -- a line of a question of this kind breaks this rule; or it is answered
-abbrev pub shown_to_question : Setting → NotifyFront → QuestionKind → List ℕ → List ℕ
+abbrev pub shown_to_question : Platform → NotifyFront → QuestionKind → List ℕ → List ℕ
 shown_to_question on lines kind line = option_map_or
     (λ fault. text_of_ending (Bad fault))
     (first_broken (question_rules kind (is_some lines.trace.boot) line))
@@ -75,31 +75,31 @@ cpu_out_by (item.Write cpu addr bytes) = None
 cpu_out_by (item.Show cpu addr len) = None
 
 -- the RAM of each processor behind these lines; none where there is no boot
-abbrev pub lanes_at : Setting → NotifyFront → List (List ℕ)
+abbrev pub lanes_at : Platform → NotifyFront → List (List ℕ)
 lanes_at on lines = option_map_or (λ (told : NotifyPlay). told.play.lanes) (play_at on lines) []
 
-abbrev pub lane_at : Setting → NotifyFront → ℕ → List ℕ
+abbrev pub lane_at : Platform → NotifyFront → ℕ → List ℕ
 lane_at on lines cpu = slice_index_or (lanes_at on lines) cpu []
 
 -- what stands behind a line `ret` of this processor, between these lines and those: the panic in which its call has ended, if it
 -- did, and what the processor's RAM has then and had not before
-abbrev pub text_behind : Setting → NotifyFront → NotifyFront → ℕ → List ℕ
+abbrev pub text_behind : Platform → NotifyFront → NotifyFront → ℕ → List ℕ
 text_behind on before after cpu =
     text_if panic_line (panic_between on before after) ++ text_of_changes cpu (changes (lane_at on before cpu) (lane_at on after cpu))
 
 -- a line, and what stands behind it
-abbrev pub watched_line : Setting → NotifyFront → NotifyFront → Line → List ℕ
+abbrev pub watched_line : Platform → NotifyFront → NotifyFront → Line → List ℕ
 watched_line on before after (Ret cpu regs) = text_of_line (Ret cpu regs) ++ text_behind on before after cpu
 watched_line on before after (Mem cpu addr bytes) = text_of_line (Mem cpu addr bytes)
 
 -- an answer, with these lines counting before it and those behind it
-abbrev pub watched_answer : Setting → NotifyFront → NotifyFront → Answer → List ℕ
+abbrev pub watched_answer : Platform → NotifyFront → NotifyFront → Answer → List ℕ
 watched_answer on before after given =
     flat_map (watched_line on before after) given.lines ++ text_of_ending given.ending
 
 -- ---- what is shown to what was heard
 
-abbrev pub shown_to_other : Setting → Position → Input → List ℕ
+abbrev pub shown_to_other : Platform → Position → Input → List ℕ
 shown_to_other on here input =
     if here.is_watching
     then watched_answer on here.lines (after_heard on here.lines input) (answer on here.lines input)
@@ -115,7 +115,7 @@ line_of (heard.Line line) = line
 line_of heard.Long = []
 line_of heard.Cut = []
 
-abbrev pub shown_to : Setting → Position → Input → List ℕ
+abbrev pub shown_to : Platform → Position → Input → List ℕ
 shown_to on here input = option_map_or
     (λ kind. shown_to_question on here.lines kind (line_of input))
     (kind_asked_by input)
@@ -137,7 +137,7 @@ position_asked here kind line = option_map_or
     (first_broken (question_rules kind (is_some here.lines.trace.boot) line))
     (record here { is_watching = watching_after (question_of kind (words_of line)) here.is_watching })
 
-abbrev pub position_after : Setting → Position → Input → Position
+abbrev pub position_after : Platform → Position → Input → Position
 position_after on here input = option_map_or
     (λ kind. position_asked here kind (line_of input))
     (kind_asked_by input)
@@ -146,19 +146,19 @@ position_after on here input = option_map_or
 -- ---- all of it
 
 -- from this position on: each is heard, and what is shown to it is said before the next one is heard
-abbrev pub showing : Setting → Position → List Input → List Event
+abbrev pub showing : Platform → Position → List Input → List Event
 showing on here [] = []
 showing on here (input ∷ inputs) =
     Hears input ∷ Says (shown_to on here input) ∷ showing on (position_after on here input) inputs
 
-abbrev pub position_behind : Setting → Position → List Input → Position
+abbrev pub position_behind : Platform → Position → List Input → Position
 position_behind on here [] = here
 position_behind on here (input ∷ inputs) = position_behind on (position_after on here input) inputs
 
 -- ---- how it ends
 
 -- what one that ends so leaves behind its last whole turn, from this position
-abbrev pub IsShownRest : Setting → Position → Finish → List Event → Type 0
+abbrev pub IsShownRest : Platform → Position → Finish → List Event → Type 0
 IsShownRest on here Over rest = rest ≡ []
 IsShownRest on here ReadFault rest = rest ≡ []
 IsShownRest on here WriteFault rest =
@@ -167,7 +167,7 @@ IsShownRest on here WriteFault rest =
 IsShownRest on here Memory rest = (rest ≡ []) ⊎ ((input : Input) × (rest ≡ Hears input ∷ []))
 
 -- whatever was heard, the history grew by a conversation, in which lines may ask
-pub record IsShowing (on : Setting) (old new : Option (List Event)) (finish : Finish) : Type 0 where
+pub record IsShowing (on : Platform) (old new : Option (List Event)) (finish : Finish) : Type 0 where
   pub inputs : List Input
   pub rest : List Event
   pub history : Adds old new (showing on first_position inputs ++ rest)

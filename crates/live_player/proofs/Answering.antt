@@ -2,7 +2,7 @@
 use Rattle.std.proofs.Common.{◌≡◌, ℕ, List, [], ◌++◌, drop, length, Some, None, sym, ap, ◌∙◌, append-nil}
 use Rattle.std.specs.List.{flat_map}
 use Rattle.std.proofs.Math.Seq.{drop-append_seam}
-use Rattle.live_play.specs.Answer.{Answer, Full, Setting, answer_between, copied_at, printed_at, refused_at, without_lines}
+use Rattle.live_play.specs.Answer.{Answer, Full, Platform, answer_between, copied_at, printed_at, refused_at, without_lines}
 use Rattle.live_play.specs.Answer as ends
 use Rattle.live_play.proofs.Talking.{answer_unless}
 use Rattle.live_player.specs.Taking.{Answers}
@@ -11,7 +11,7 @@ use Rattle.notify_text.specs.Rules.{NotifyFront}
 use Rattle.play_model.specs.Line.{Line, text_of_line}
 
 -- with what more is printed, where nothing is refused
-pub answers-done : (on : Setting) (before after : NotifyFront) (more : List Line) (old new : List ℕ)
+pub answers-done : (on : Platform) (before after : NotifyFront) (more : List Line) (old new : List ℕ)
     → refused_at on after ≡ None → printed_at on after ≡ printed_at on before ++ more
     → new ≡ old ++ flat_map text_of_line more → Answers (answer_between on before after) taken.Done old new
 answers-done on before after more old new going printed text =
@@ -26,14 +26,14 @@ answers-done on before after more old new going printed text =
     }
 
 -- with nothing, where nothing more is printed
-pub answers-nothing : (on : Setting) (before after : NotifyFront) (text : List ℕ) → refused_at on after ≡ None
+pub answers-nothing : (on : Platform) (before after : NotifyFront) (text : List ℕ) → refused_at on after ≡ None
     → printed_at on after ≡ printed_at on before → Answers (answer_between on before after) taken.Done text text
 answers-nothing on before after text going printed =
     answers-done on before after [] text text going (printed ∙ sym (append-nil (printed_at on before)))
     (sym (append-nil text))
 
 -- with what was read so far, where an entry is refused
-pub answers-full : (on : Setting) (before after : NotifyFront) (more copied : ℕ) (old new : List ℕ)
+pub answers-full : (on : Platform) (before after : NotifyFront) (more copied : ℕ) (old new : List ℕ)
     → refused_at on after ≡ Some more → copied ≡ copied_at on before → new ≡ old
     → Answers (answer_between on before after) (taken.Full copied) old new
 answers-full on before after more copied old new refused read same =

@@ -5,7 +5,7 @@ use Rattle.std.specs.Option.{option_and_then, option_map}
 use Rattle.std.proofs.Math.Seq.{drop-append_seam, drop-length}
 use Rattle.core_at_work.specs.Panics.{panic_of}
 use Rattle.kernel_model.specs.Application.{Booted, booted}
-use Rattle.live_play.specs.Answer.{Setting, play_at}
+use Rattle.live_play.specs.Answer.{Platform, play_at}
 use Rattle.live_play.specs.Panicking.{item_between, panic_between, panic_by}
 use Rattle.live_player.specs.Panicking.{EndsIn}
 use Rattle.live_player.specs.Standing.{IsPlayedBehind}
@@ -43,7 +43,7 @@ panic_same boot told (item.Show cpu addr len) = refl
 item_added : (lines : NotifyFront) (i : Item) → item_between lines (with_statement lines (says.Item i)) ≡ Some i
 item_added lines i = ap (λ (l : List Item). slice_get l 0) (drop-append_seam lines.trace.items (i ∷ []))
 
-panic_behind : (on : Setting) (lines : NotifyFront) (i : Item) (player : NotifyPlayer) → (p : IsPlayedBehind on lines player)
+panic_behind : (on : Platform) (lines : NotifyFront) (i : Item) (player : NotifyPlayer) → (p : IsPlayedBehind on lines player)
     → panic_between on lines (with_statement lines (says.Item i)) ≡ panic_by (booted p.boot on.natives) p.told i
 panic_behind on lines i player p =
     let after : NotifyFront = with_statement lines (says.Item i) in
@@ -54,14 +54,14 @@ panic_behind on lines i player p =
     ∙ ap (option_and_then (panic_by (booted p.boot on.natives) p.told)) (item_added lines i)
 
 -- an item ends in what the player tells
-pub item_ends : (on : Setting) (lines : NotifyFront) (i : Item) (player : NotifyPlayer) (panic : Option ℕ)
+pub item_ends : (on : Platform) (lines : NotifyFront) (i : Item) (player : NotifyPlayer) (panic : Option ℕ)
     → (p : IsPlayedBehind on lines player) → panic ≡ panic_at_exit (booted p.boot on.natives) (position_in p.told) i
     → EndsIn on lines (says.Item i) (outcome.Done panic)
 item_ends on lines i player panic p told =
     told ∙ panic_same (booted p.boot on.natives) p.told i ∙ sym (panic_behind on lines i player p)
 
 -- and where no item is said, no call ends
-pub no_panic : (on : Setting) (before after : NotifyFront) → after.trace.items ≡ before.trace.items
+pub no_panic : (on : Platform) (before after : NotifyFront) → after.trace.items ≡ before.trace.items
     → None ≡ panic_between on before after
 no_panic on before after same = sym (
     ap (λ (i : Option Item). option_and_then (λ (boot : Boot). option_and_then (λ (told : NotifyPlay).

@@ -9,7 +9,7 @@ use Rattle.event_journal.specs.Journal.{copied_bytes}
 use Rattle.event_journal.specs.declared.event.Event.{Event}
 use Rattle.kernel_model.specs.Application.{Booted, Native, booted}
 use Rattle.kernel_state.specs.Meaning.{events_of}
-use Rattle.live_play.specs.Answer.{Setting, play_at, setting}
+use Rattle.live_play.specs.Answer.{Platform, platform, play_at}
 use Rattle.live_play.proofs.Effects.{AreOrderly}
 use Rattle.live_play.proofs.Steps.{AreWithin}
 use Rattle.live_play.proofs.Talking.{item_steps, more-played, printed_by, refused_by, signal_steps}
@@ -55,7 +55,7 @@ empty_too : (lines : NotifyFront) (boot : Option Boot) → IfNone boot (IsEmpty 
 empty_too lines None empty = (empty.items, empty.signals)
 empty_too lines (Some boot) empty = tt
 
-pub orderly : (on : Setting) (lines : NotifyFront) → IsWithin on lines → AreOrderly lines
+pub orderly : (on : Platform) (lines : NotifyFront) → IsWithin on lines → AreOrderly lines
 orderly on lines inside =
     let count : ℕ = length lines.trace.items in
     record {
@@ -67,8 +67,8 @@ abbrev pub copied_by : Option NotifyPlay → ℕ
 copied_by o = option_map_or (λ (told : NotifyPlay). copied_bytes told.play.history) o 0
 
 module _ (natives : List Native) (drivers : Drivers) (lines : NotifyFront) where
-  abbrev pub on : Setting
-  on = setting natives drivers
+  abbrev pub on : Platform
+  on = platform natives drivers
 
   -- ---- an item
 

@@ -8,7 +8,7 @@ use Rattle.base.specs.Zeros.{zeros}
 use Rattle.base.specs.declared.no_memory.NoMemory.{NoMemory}
 use Rattle.kernel_model.specs.Application.{IsBooted, Native, booted}
 use Rattle.kernel_model.proofs.Parts.{some_of}
-use Rattle.live_play.specs.Answer.{Setting, answer_between, play_at, refused_at, setting, uuids_in}
+use Rattle.live_play.specs.Answer.{Platform, answer_between, platform, play_at, refused_at, uuids_in}
 use Rattle.live_play.proofs.Effects.{IsHeader}
 use Rattle.live_play.proofs.Talking.{no_steps, printed_by, quiet, refused_by, start, with_boot}
 use Rattle.live_player.specs.Header.{IsHeaderOf, boot_in}
@@ -61,7 +61,7 @@ closed_signal lines value is_open = not_empty lines.signals _ is_open.signals
 pub header_of : (lines : NotifyFront) → IsOpen lines → IsHeader lines
 header_of lines is_open = record { items = is_open.items; signals = is_open.signals }
 
-pub begun : (on : Setting) (boot : Boot) (lines : NotifyFront) → lines.trace.boot ≡ Some boot → IsOpen lines
+pub begun : (on : Platform) (boot : Boot) (lines : NotifyFront) → lines.trace.boot ≡ Some boot → IsOpen lines
     → play_at on lines ≡ Some (start on boot lines)
 begun on boot lines there is_open =
     with_boot on boot lines there
@@ -69,7 +69,7 @@ begun on boot lines there is_open =
     (no_steps lines (header_of lines is_open))
 
 -- one line of a header more prints nothing
-pub heads : (on : Setting) (before after : NotifyFront) (text : List ℕ) → IsOpen before → IsOpen after
+pub heads : (on : Platform) (before after : NotifyFront) (text : List ℕ) → IsOpen before → IsOpen after
     → Answers (answer_between on before after) taken.Done text text
 heads on before after text was is_open =
     let earlier = quiet on before (header_of before was) in
@@ -79,25 +79,25 @@ heads on before after text was is_open =
 -- ---- a core is booted
 
 pub boot_there : (natives : List Native) (drivers : Drivers) (lines : NotifyFront) (header : Header)
-    → CanBegin (setting natives drivers) lines header → (boot : Boot) × (boot_in header ≡ Some boot) × (lines.trace.boot ≡ Some boot)
+    → CanBegin (platform natives drivers) lines header → (boot : Boot) × (boot_in header ≡ Some boot) × (lines.trace.boot ≡ Some boot)
 boot_there natives drivers lines header can =
     let there = some_of lines.trace.boot can.boots in
     (there.0, can.header_is.boot ∙ there.1, there.1)
 
 first_behind : (natives : List Native) (drivers : Drivers) (lines : NotifyFront) (header : Header) (boot : Boot)
-    (fills : List Fill) (player : NotifyPlayer) → CanBegin (setting natives drivers) lines header → boot_in header ≡ Some boot
+    (fills : List Fill) (player : NotifyPlayer) → CanBegin (platform natives drivers) lines header → boot_in header ≡ Some boot
     → fills ≡ header.fills.items → IsBooted (booted boot natives)
     → IsPlayedTo (booted boot natives) drivers (first_notify_play (booted boot natives)
     (first_play (zeros 0x400000) (booted boot natives) fills)) player
-    → IsPlayedBehind (setting natives drivers) lines player
+    → IsPlayedBehind (platform natives drivers) lines player
 first_behind natives drivers lines header boot fills player can is filled boots stands =
     let there : lines.trace.boot ≡ Some boot = sym can.header_is.boot ∙ is in
     record {
       boot = boot;
       there = there;
       boots = boots;
-      told = start (setting natives drivers) boot lines;
-      play = begun (setting natives drivers) boot lines there can.open_there;
+      told = start (platform natives drivers) boot lines;
+      play = begun (platform natives drivers) boot lines there can.open_there;
       stands =
           subst (λ (fs : List Fill). IsPlayedTo (booted boot natives) drivers (first_notify_play (booted boot natives)
           (first_play (zeros 0x400000) (booted boot natives) fs)) player)
@@ -105,7 +105,7 @@ first_behind natives drivers lines header boot fills player can is filled boots 
     }
 
 -- what it is booted with is within the limits
-pub boot_sound : (on : Setting) (lines : NotifyFront) (header : Header) (boot : Boot) → CanBegin on lines header
+pub boot_sound : (on : Platform) (lines : NotifyFront) (header : Header) (boot : Boot) → CanBegin on lines header
     → boot_in header ≡ Some boot → IsSoundBoot (uuids_in on) boot
 boot_sound on lines header boot can is =
     let P : Option Boot → Type 0 = λ o. IfSome o (IsSoundBoot (uuids_in on)) in
@@ -113,11 +113,11 @@ boot_sound on lines header boot can is =
 
 -- where memory was there for it
 pub first_ok : (natives : List Native) (drivers : Drivers) (lines : NotifyFront) (header : Header) (boot : Boot)
-    (fills : List Fill) (result : Result NotifyPlayer NoMemory) → CanBegin (setting natives drivers) lines header
+    (fills : List Fill) (result : Result NotifyPlayer NoMemory) → CanBegin (platform natives drivers) lines header
     → boot_in header ≡ Some boot → fills ≡ header.fills.items → IfOk result (λ player. IsBooted (booted boot natives))
     → IfOk result (λ player. IsPlayedTo (booted boot natives) drivers (first_notify_play (booted boot natives)
     (first_play (zeros 0x400000) (booted boot natives) fills)) player)
-    → IfOk result (IsPlayedBehind (setting natives drivers) lines)
+    → IfOk result (IsPlayedBehind (platform natives drivers) lines)
 first_ok natives drivers lines header boot fills (Ok player) can is filled boots stands =
     first_behind natives drivers lines header boot fills player can is filled boots stands
 first_ok natives drivers lines header boot fills (Err e) can is filled boots stands = tt
@@ -131,7 +131,7 @@ boot_by lines None there has closed =
     absurd (closed (record { items = empty.items; signals = empty.signals }))
 boot_by lines (Some boot) there has closed = ap is_some there
 
-pub can_begin : (on : Setting) (lines : NotifyFront) (said : Statement) (header : Header)
+pub can_begin : (on : Platform) (lines : NotifyFront) (said : Statement) (header : Header)
     → IsHeaderOf header lines → IsOpen lines → IsNext on lines said → (IsOpen (with_statement lines said) → ⊥)
     → (with_statement lines said).trace.boot ≡ lines.trace.boot → CanBegin on lines header
 can_begin on lines said header is is_open next closed same = record {
@@ -146,13 +146,13 @@ can_begin on lines said header is is_open next closed same = record {
 -- ---- a stage
 
 -- a core that has played an item, or refused its entry
-core_item : (on : Setting) (lines : NotifyFront) (i : Item) (how : Taken) (player : NotifyPlayer) → (IsOpen lines → ⊥)
+core_item : (on : Platform) (lines : NotifyFront) (i : Item) (how : Taken) (player : NotifyPlayer) → (IsOpen lines → ⊥)
     → IsPlayedBehind on (counted how lines (with_statement lines (says.Item i))) player
     → StageAt on (counted how lines (with_statement lines (says.Item i))) (stage.Core player)
 core_item on lines i taken.Done player closed p = (p, closed_item lines i)
 core_item on lines i (taken.Full copied) player closed p = (p, closed)
 
-pub core_plays : (on : Setting) (lines : NotifyFront) (i : Item) (result : Result Played NoMemory) (player : NotifyPlayer)
+pub core_plays : (on : Platform) (lines : NotifyFront) (i : Item) (result : Result Played NoMemory) (player : NotifyPlayer)
     (old new : List ℕ) → (IsOpen lines → ⊥) → IfOk result (λ how. PlaysOn on lines (says.Item i) (taken_as how) player old new)
     → IfOk result (λ how. StagePlays on lines (says.Item i) (taken_as how) (stage.Core player) old new)
 core_plays on lines i (Ok how) player old new closed p =
@@ -160,27 +160,27 @@ core_plays on lines i (Ok how) player old new closed p =
 core_plays on lines i (Err e) player old new closed p = tt
 
 -- one that was booted for it
-pub begun_plays : (on : Setting) (lines : NotifyFront) (i : Item) (player : NotifyPlayer) (old new : List ℕ)
+pub begun_plays : (on : Platform) (lines : NotifyFront) (i : Item) (player : NotifyPlayer) (old new : List ℕ)
     → PlaysOn on lines (says.Item i) taken.Done player old new
     → StagePlays on lines (says.Item i) taken.Done (stage.Core player) old new
 begun_plays on lines i player old new p = record { answers = p.answers; stands = (p.stands, closed_item lines i) }
 
 -- and was let go of, since the entry was refused
-pub refused_plays : (on : Setting) (lines : NotifyFront) (i : Item) (copied : ℕ) (player : NotifyPlayer) (now : Stage)
+pub refused_plays : (on : Platform) (lines : NotifyFront) (i : Item) (copied : ℕ) (player : NotifyPlayer) (now : Stage)
     (old new : List ℕ) → PlaysOn on lines (says.Item i) (taken.Full copied) player old new → StageAt on lines now
     → StagePlays on lines (says.Item i) (taken.Full copied) now old new
 refused_plays on lines i copied player now old new p at = record { answers = p.answers; stands = at }
 
 -- a core that was signalled
 pub core_signal : (natives : List Native) (drivers : Drivers) (lines : NotifyFront) (value : ℕ) (before after : NotifyPlayer)
-    (text : List ℕ) → (p : IsPlayedBehind (setting natives drivers) lines before)
+    (text : List ℕ) → (p : IsPlayedBehind (platform natives drivers) lines before)
     → IsPlayedTo (booted p.boot natives) drivers (record p.told { calls = desk.Signal value ∷ p.told.calls }) after
-    → StagePlays (setting natives drivers) lines (says.Signal value) taken.Done (stage.Core after) text text
+    → StagePlays (platform natives drivers) lines (says.Signal value) taken.Done (stage.Core after) text text
 core_signal natives drivers lines value before after text p stands =
     let is = signal_played natives drivers lines value before p in
     record {
       answers =
-          answers-nothing (setting natives drivers) lines (with_statement lines (says.Signal value)) text
+          answers-nothing (platform natives drivers) lines (with_statement lines (says.Signal value)) text
           (ap refused_by is ∙ stands.at.machine.goes_on) (ap printed_by is ∙ sym (ap printed_by p.play));
       stands = (signal_done natives drivers lines value before after p stands, closed_signal lines value);
     }
@@ -191,7 +191,7 @@ last_signal : (most : ℕ) (signals : List Signal) (signal : Signal) → AllByRe
 last_signal most [] signal all = all.0
 last_signal most (first ∷ signals) signal all = last_signal most signals signal all.1
 
-pub signal_sound : (on : Setting) (lines : NotifyFront) (value : ℕ) → IsNext on lines (says.Signal value)
+pub signal_sound : (on : Platform) (lines : NotifyFront) (value : ℕ) → IsNext on lines (says.Signal value)
     → IsSoundSignal (length lines.trace.items) (record { at = length lines.trace.items; value = value })
 signal_sound on lines value next =
     let count : ℕ = length lines.trace.items in
@@ -207,7 +207,7 @@ one_sound value least most =
 
 -- ---- what waits in the header
 
-pub stage_going : (on : Setting) (lines : NotifyFront) (now : Stage) → StageAt on lines now → refused_at on lines ≡ None
+pub stage_going : (on : Platform) (lines : NotifyFront) (now : Stage) → StageAt on lines now → refused_at on lines ≡ None
 stage_going on lines (stage.Header header) at = (quiet on lines (header_of lines at.1)).going
 stage_going on lines (stage.Core player) at = ap refused_by at.0.play ∙ at.0.stands.at.machine.goes_on
 
@@ -234,7 +234,7 @@ waiting said (inr (inr (inl (app, is)))) = subst IsWaiting (sym is) tt
 waiting said (inr (inr (inr (inl (fill, is))))) = subst IsWaiting (sym is) tt
 waiting said (inr (inr (inr (inr (key, is))))) = subst IsWaiting (sym is) tt
 
-waits_by : (on : Setting) (lines : NotifyFront) (said : Statement) (now : Stage) (text : List ℕ) → IsWaiting said
+waits_by : (on : Platform) (lines : NotifyFront) (said : Statement) (now : Stage) (text : List ℕ) → IsWaiting said
     → IsPlaced lines said → StageAt on lines now → StagePlays on lines said taken.Done now text text
 waits_by on lines says.Blank now text waiting placed at =
     record { answers = answers-nothing on lines lines text (stage_going on lines now at) refl; stands = at }
@@ -261,12 +261,12 @@ waits_by on lines (says.Key key) now text waiting placed at = record {
 waits_by on lines (says.Item i) now text waiting placed at = absurd waiting
 waits_by on lines (says.Signal value) now text waiting placed at = absurd waiting
 
-pub waits : (on : Setting) (lines : NotifyFront) (said : Statement) (now : Stage) (text : List ℕ) → Waits said
+pub waits : (on : Platform) (lines : NotifyFront) (said : Statement) (now : Stage) (text : List ℕ) → Waits said
     → IsPlaced lines said → StageAt on lines now → StagePlays on lines said taken.Done now text text
 waits on lines said now text which placed at = waits_by on lines said now text (waiting said which) placed at
 
 -- by which no call ends
-unended_by : (on : Setting) (lines : NotifyFront) (said : Statement) → IsWaiting said → EndsIn on lines said (outcome.Done None)
+unended_by : (on : Platform) (lines : NotifyFront) (said : Statement) → IsWaiting said → EndsIn on lines said (outcome.Done None)
 unended_by on lines says.Blank waiting = no_panic on lines lines refl
 unended_by on lines (says.Boot size) waiting = no_panic on lines (with_statement lines (says.Boot size)) refl
 unended_by on lines (says.App app) waiting = no_panic on lines (with_statement lines (says.App app)) refl
@@ -275,7 +275,7 @@ unended_by on lines (says.Key key) waiting = no_panic on lines (with_statement l
 unended_by on lines (says.Item i) waiting = absurd waiting
 unended_by on lines (says.Signal value) waiting = absurd waiting
 
-pub waits_unended : (on : Setting) (lines : NotifyFront) (said : Statement) → Waits said → EndsIn on lines said (outcome.Done None)
+pub waits_unended : (on : Platform) (lines : NotifyFront) (said : Statement) → Waits said → EndsIn on lines said (outcome.Done None)
 waits_unended on lines said which = unended_by on lines said (waiting said which)
 
 -- it is added there
@@ -283,7 +283,7 @@ on_ok : {A E P Q : Type 0} (result : Result A E) → (P → Q) → OnOk result P
 on_ok (Ok x) then p = then p
 on_ok (Err e) then p = tt
 
-pub header_added : (on : Setting) (lines : NotifyFront) (said : Statement) (old new : Header)
+pub header_added : (on : Platform) (lines : NotifyFront) (said : Statement) (old new : Header)
     (result : Result (Unit {0}) NoMemory)
     → ((before : NotifyFront) → IsHeaderOf old before → OnOk result (IsHeaderOf new (with_statement before said)))
     → StageAt on (played lines said) (stage.Header old)
@@ -301,7 +301,7 @@ header_added on lines (says.Item i) old new result adds at = absurd (closed_item
 header_added on lines (says.Signal value) old new result adds at = absurd (closed_signal lines value at.1)
 
 -- a core has played it before
-pub core_added : (on : Setting) (lines : NotifyFront) (said : Statement) (player : NotifyPlayer) → IsPlaced lines said
+pub core_added : (on : Platform) (lines : NotifyFront) (said : Statement) (player : NotifyPlayer) → IsPlaced lines said
     → StageAt on (played lines said) (stage.Core player) → StageAt on (with_statement lines said) (stage.Core player)
 core_added on lines says.Blank player placed at = at
 core_added on lines (says.Boot size) player placed at = absurd (at.1 placed)

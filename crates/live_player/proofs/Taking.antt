@@ -8,7 +8,7 @@ use Rattle.std.proofs.lemmas.List.{append_cancel_left, length-append}
 use Rattle.std.proofs.lemmas.List.Elements.{All-push}
 use Rattle.kernel_model.specs.Application.{IsBooted, Native, booted}
 use Rattle.line_port.specs.History as heard
-use Rattle.live_play.specs.Answer.{Answer, Bad, Ending, IsPlayed, Setting, after_heard, answer_between, answer_to_line, fault_at, is_done, play_at, setting, uuids_in, without_lines}
+use Rattle.live_play.specs.Answer.{Answer, Bad, Ending, IsPlayed, Platform, after_heard, answer_between, answer_to_line, fault_at, is_done, platform, play_at, uuids_in, without_lines}
 use Rattle.live_play.specs.Answer as ends
 use Rattle.live_play.proofs.Talking.{answer_by}
 use Rattle.live_player.specs.Standing.{HasCome, IsOpen, IsWithin, StageAt, StandsAt}
@@ -159,7 +159,7 @@ placed_next scene lines (says.Key key) is has place = alone scene lines is place
 placed_next scene lines (says.Item i) is has place = tt
 placed_next scene lines (says.Signal value) is has place = tt
 
-next_of : (on : Setting) (lines : NotifyFront) (line : List ℕ) (said : Statement) (player : LivePlayer)
+next_of : (on : Platform) (lines : NotifyFront) (line : List ℕ) (said : Statement) (player : LivePlayer)
     → LinesStaySound → HasCome on lines player → fault_at on lines line ≡ None
     → with_statement lines said ≡ after_line lines line → IsInPlace player.scene said → IsNext on lines said
 next_of on lines line said player stay stands kept adds place = record {
@@ -176,19 +176,19 @@ next_of on lines line said player stay stands kept adds place = record {
 -- ---- what a line says
 
 -- it keeps its rules and says this, which can come behind these lines
-pub record Says (on : Setting) (lines : NotifyFront) (line : List ℕ) (said : Statement) : Type 0 where
+pub record Says (on : Platform) (lines : NotifyFront) (line : List ℕ) (said : Statement) : Type 0 where
   pub kept : fault_at on lines line ≡ None
   pub leads : with_statement lines said ≡ after_line lines line
   pub next : IsNext on lines said
 
 -- what was read of it: what it says, or which rule it breaks; of want of memory nothing is said
-abbrev pub Reads : Setting → NotifyFront → List ℕ → Result Statement LineFault → Type 0
+abbrev pub Reads : Platform → NotifyFront → List ℕ → Result Statement LineFault → Type 0
 Reads on lines line (Ok said) = Says on lines line said
 Reads on lines line (Err (Broken kind)) = fault_at on lines line ≡ Some kind
 Reads on lines line (Err NoRoom) = Unit {0}
 
 -- beside the UUIDs of the applications, by a player that has come to the lines
-pub read_as : {on : Setting} {lines : NotifyFront} {player : LivePlayer} (uuids : List (List ℕ)) (line : List ℕ)
+pub read_as : {on : Platform} {lines : NotifyFront} {player : LivePlayer} (uuids : List (List ℕ)) (line : List ℕ)
     (result : Result Statement LineFault) → uuids ≡ uuids_in on → LinesStaySound
     → ((front : NotifyFront) → IsSceneOf player.scene front → HasItsBoot front
     → IsJudged result (line_rules uuids front true line) front (after_line front line))
@@ -208,19 +208,19 @@ read_as {on} {lines} {player} uuids line (Err NoRoom) same stay judged place com
 -- ---- what came of it
 
 -- the answer to a line that keeps its rules
-answer_kept : (on : Setting) (lines : NotifyFront) (line : List ℕ) → fault_at on lines line ≡ None
+answer_kept : (on : Platform) (lines : NotifyFront) (line : List ℕ) → fault_at on lines line ≡ None
     → answer_to_line on lines line ≡ answer_between on lines (after_line lines line)
 answer_kept on lines line kept =
     ap (answer_by on lines line) kept
 
 -- to one that breaks a rule
-answer_broken : (on : Setting) (lines : NotifyFront) (line : List ℕ) (kind : BadKind) → fault_at on lines line ≡ Some kind
+answer_broken : (on : Platform) (lines : NotifyFront) (line : List ℕ) (kind : BadKind) → fault_at on lines line ≡ Some kind
     → answer_to_line on lines line ≡ without_lines (Bad kind)
 answer_broken on lines line kind broken =
     ap (answer_by on lines line) broken
 
 -- the lines that count behind an answer that ends so
-behind_ending : (on : Setting) (lines : NotifyFront) (line : List ℕ) (ending : Ending)
+behind_ending : (on : Platform) (lines : NotifyFront) (line : List ℕ) (ending : Ending)
     → (answer_to_line on lines line).ending ≡ ending
     → after_heard on lines (heard.Line line) ≡ cond (is_done ending) (after_line lines line) lines
 behind_ending on lines line ending is =
@@ -234,27 +234,27 @@ counted_so (taken.Full copied) before after = refl
 
 booted_by : (natives : List Native) (drivers : Drivers) (lines : NotifyFront) (boot : Option Boot) → lines.trace.boot ≡ boot
     → length (uuids_of natives) ≤ 16 → AreApart (uuids_of natives) → IsOpen lines → IfSome boot (IsSoundBoot (uuids_of natives))
-    → IfSome boot (λ (b : Boot). IsBooted (booted b natives) × IsSome (play_at (setting natives drivers) lines))
+    → IfSome boot (λ (b : Boot). IsBooted (booted b natives) × IsSome (play_at (platform natives drivers) lines))
 booted_by natives drivers lines None there few apart is_open sound = tt
 booted_by natives drivers lines (Some boot) there few apart is_open sound = (
   sound_boots natives boot few apart sound,
-  ap (λ (o : Option NotifyPlay). is_some o) (begun (setting natives drivers) boot lines there is_open),
+  ap (λ (o : Option NotifyPlay). is_some o) (begun (platform natives drivers) boot lines there is_open),
 )
 
 staged : (natives : List Native) (drivers : Drivers) (lines : NotifyFront) (now : Stage)
-    → length (uuids_of natives) ≤ 16 → AreApart (uuids_of natives) → IsWithin (setting natives drivers) lines
-    → StageAt (setting natives drivers) lines now → IsPlayed (setting natives drivers) lines
+    → length (uuids_of natives) ≤ 16 → AreApart (uuids_of natives) → IsWithin (platform natives drivers) lines
+    → StageAt (platform natives drivers) lines now → IsPlayed (platform natives drivers) lines
 staged natives drivers lines (stage.Header header) few apart inside at =
     booted_by natives drivers lines lines.trace.boot refl few apart at.1 inside.sound.boot
 staged natives drivers lines (stage.Core player) few apart inside at =
     let P : Option Boot → Type 0 = λ o. IfSome o
-    (λ (b : Boot). IsBooted (booted b natives) × IsSome (play_at (setting natives drivers) lines)) in
+    (λ (b : Boot). IsBooted (booted b natives) × IsSome (play_at (platform natives drivers) lines)) in
     subst P (sym at.0.there) (at.0.boots, ap (λ (o : Option NotifyPlay). is_some o) at.0.play)
 
 -- a player that has come to lines stands behind them, beside built-in applications that are few and apart
 pub stands_at : {lines : NotifyFront} {player : LivePlayer} (natives : List Native) (drivers : Drivers) (uuids : List (List ℕ))
-    → uuids ≡ uuids_of natives → length uuids ≤ 16 → AreApart uuids → HasCome (setting natives drivers) lines player
-    → StandsAt (setting natives drivers) lines player
+    → uuids ≡ uuids_of natives → length uuids ≤ 16 → AreApart uuids → HasCome (platform natives drivers) lines player
+    → StandsAt (platform natives drivers) lines player
 stands_at {lines} {player} natives drivers uuids same few apart come =
     let are_few : length (uuids_of natives) ≤ 16 = subst (λ (us : List (List ℕ)). length us ≤ 16) same few in
     record {
@@ -265,11 +265,11 @@ stands_at {lines} {player} natives drivers uuids same few apart come =
 -- ---- what came of the line
 
 -- to a line that keeps its rules and says this, and the lines that count behind it
-pub answer_said : (on : Setting) (lines : NotifyFront) (line : List ℕ) (said : Statement) → Says on lines line said
+pub answer_said : (on : Platform) (lines : NotifyFront) (line : List ℕ) (said : Statement) → Says on lines line said
     → answer_to_line on lines line ≡ answer_between on lines (with_statement lines said)
 answer_said on lines line said says = answer_kept on lines line says.kept ∙ ap (answer_between on lines) (sym says.leads)
 
-pub behind_said : (on : Setting) (lines : NotifyFront) (line : List ℕ) (said : Statement) (how : Taken) → Says on lines line said
+pub behind_said : (on : Platform) (lines : NotifyFront) (line : List ℕ) (said : Statement) (how : Taken) → Says on lines line said
     → (answer_to_line on lines line).ending ≡ ending_of how
     → after_heard on lines (heard.Line line) ≡ counted how lines (with_statement lines said)
 behind_said on lines line said how says ending =
@@ -277,7 +277,7 @@ behind_said on lines line said how says ending =
     ∙ ap (counted how lines) (sym says.leads)
 
 -- a line that was taken
-pub takes : (on : Setting) (lines : NotifyFront) (line : List ℕ) (said : Statement) (how : Taken) (player : LivePlayer)
+pub takes : (on : Platform) (lines : NotifyFront) (line : List ℕ) (said : Statement) (how : Taken) (player : LivePlayer)
     (old new : List ℕ) → Says on lines line said
     → (HasCome on (after_heard on lines (heard.Line line)) player → StandsAt on (after_heard on lines (heard.Line line)) player)
     → TakesOn on lines said how player old new → Takes on lines line how player old new
@@ -291,7 +291,7 @@ takes on lines line said how player old new says plays t =
     }
 
 -- one that breaks a rule
-breaks : (on : Setting) (lines : NotifyFront) (line : List ℕ) (kind : BadKind) (player : LivePlayer) (text : List ℕ)
+breaks : (on : Platform) (lines : NotifyFront) (line : List ℕ) (kind : BadKind) (player : LivePlayer) (text : List ℕ)
     → fault_at on lines line ≡ Some kind → StandsAt on lines player → Breaks on lines line kind player text text
 breaks on lines line kind player text broken stands =
     let is = answer_broken on lines line kind broken in
@@ -304,7 +304,7 @@ breaks on lines line kind player text broken stands =
     }
 
 -- one of which nothing was read breaks a rule, or memory ran out
-pub not_read : (on : Setting) (lines : NotifyFront) (line : List ℕ) (fault : LineFault) (player : LivePlayer) (text : List ℕ)
+pub not_read : (on : Platform) (lines : NotifyFront) (line : List ℕ) (fault : LineFault) (player : LivePlayer) (text : List ℕ)
     → StandsAt on lines player → Reads on lines line (Err fault) → Judges on lines line (Err fault) player text text
 not_read on lines line (Broken kind) player text stands broken = breaks on lines line kind player text broken stands
 not_read on lines line NoRoom player text stands broken = tt

@@ -7,7 +7,7 @@ use Rattle.kernel_model.specs.Application.{Booted, booted}
 use Rattle.kernel_model.specs.Kernel.{Kernel}
 use Rattle.kernel_state.specs.Meaning.{booted_of, events_of, kernel_of}
 use Rattle.kernel_state.specs.declared.kernel_core.Core.{Core}
-use Rattle.live_play.specs.Answer.{Setting, play_at}
+use Rattle.live_play.specs.Answer.{Platform, play_at}
 use Rattle.live_play.specs.Showing.{told_at, told_by}
 use Rattle.live_play.specs.State.{text_if}
 use Rattle.live_text.specs.declared.question.Question.{Question}
@@ -21,7 +21,7 @@ some_text : (one other : List ℕ) → Some one ≡ Some other → one ≡ other
 some_text one other e = cc
 
 -- by a play of the lines
-told_in_play : (on : Setting) (lines : NotifyFront) (boot : Boot) (told : NotifyPlay) (question : Question)
+told_in_play : (on : Platform) (lines : NotifyFront) (boot : Boot) (told : NotifyPlay) (question : Question)
     → lines.trace.boot ≡ Some boot → play_at on lines ≡ Some told
     → told_at on lines question ≡ told_by (booted boot on.natives) told.play.kernel told.play.history question
 told_in_play on lines boot told question there play =
@@ -29,7 +29,7 @@ told_in_play on lines boot told question there play =
     text_if (λ (told : NotifyPlay). told_by (booted b on.natives) told.play.kernel told.play.history question) o in
     ap (λ (o : Option Boot). text_if (λ (b : Boot). by_play b (play_at on lines)) o) there ∙ ap (by_play boot) play
 
-pub told_behind : {E : Type 0} (result : Result (Unit {0}) E) (on : Setting) (lines : NotifyFront) (player : NotifyPlayer)
+pub told_behind : {E : Type 0} (result : Result (Unit {0}) E) (on : Platform) (lines : NotifyFront) (player : NotifyPlayer)
     (question : Question) (old new : List ℕ) → IsPlayedBehind on lines player
     → OnOk result (option_map (λ (kernel : Kernel).
     old ++ told_by (booted_of player.player.machine.at_work.core) kernel (events_of player.player.machine.at_work.core) question)
@@ -47,7 +47,7 @@ told_behind (Ok done) on lines player question old new behind tells =
 told_behind (Err fault) on lines player question old new behind tells = tt
 
 -- the core that is read is the player's
-pub told_of_core : {E : Type 0} (result : Result (Unit {0}) E) (on : Setting) (lines : NotifyFront) (player : NotifyPlayer)
+pub told_of_core : {E : Type 0} (result : Result (Unit {0}) E) (on : Platform) (lines : NotifyFront) (player : NotifyPlayer)
     (core : Core) (question : Question) (old new : List ℕ) → core ≡ player.player.machine.at_work.core → IsPlayedBehind on lines player
     → OnOk result (option_map (λ (kernel : Kernel). old ++ told_by (booted_of core) kernel (events_of core) question)
     (kernel_of core) ≡ Some new)

@@ -7,7 +7,7 @@ use Rattle.std.proofs.lemmas.List.Elements.{recursion_from_All}
 use Rattle.std.proofs.lemmas.Option.{option_and_then_some}
 use Rattle.base.specs.Zeros.{zeros}
 use Rattle.kernel_model.specs.Application.{Booted, IsBooted, Native, booted}
-use Rattle.live_play.specs.Answer.{play_at, setting, uuids_in}
+use Rattle.live_play.specs.Answer.{platform, play_at, uuids_in}
 use Rattle.live_play.proofs.Talking.{with_boot}
 use Rattle.live_text.specs.Sound.{AreSound}
 use Rattle.notify_play.specs.NotifyPlay.{Drivers, NotifyPlay, after_item, after_steps, first_notify_play}
@@ -74,7 +74,7 @@ walk boot drivers at (i ∷ items) signals inside before after boots sound turn 
 -- each processor is inside in the play where it is by the lines
 pub lines_stand : (natives : List Native) (drivers : Drivers) (lines : NotifyFront) (boot : Boot) (told : NotifyPlay)
     → lines.trace.boot ≡ Some boot → IsBooted (booted boot natives)
-    → AreSound (uuids_in (setting natives drivers)) lines → play_at (setting natives drivers) lines ≡ Some told
+    → AreSound (uuids_in (platform natives drivers)) lines → play_at (platform natives drivers) lines ≡ Some told
     → told.play.refused ≡ None → Stands (booted boot natives) (inside_after lines.trace.items) told.play
 unfolding inside_after
 lines_stand natives drivers lines boot told there boots sound play going =
@@ -85,7 +85,7 @@ lines_stand natives drivers lines boot told there boots sound play going =
     (first_notify_play on (first_play (zeros 0x400000) on lines.trace.fills)) told boots
     (subst (λ (b : Option Boot). AllByRecursion (IsSoundItem (cpus_of b)) lines.trace.items) there items)
     sound.in_turn refl (first_stands (zeros 0x400000) on lines.trace.fills zeros-whole)
-    (sym (with_boot (setting natives drivers) boot lines there) ∙ play) going
+    (sym (with_boot (platform natives drivers) boot lines there) ∙ play) going
 
 -- ---- the next item
 

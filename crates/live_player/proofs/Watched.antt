@@ -1,6 +1,6 @@
 -- A line that is taken where exits are watched.
 use Rattle.std.proofs.Common.{◌≡◌, ℕ, ◌<◌, List, [], ◌∷◌, ◌++◌, length, drop, Option, Some, None, refl, sym, ap, subst, ◌∙◌, arith, append_assoc}
-use Rattle.std.specs.Prelude.{All, Err, slice_index_or}
+use Rattle.std.specs.Prelude.{Err, slice_index_or}
 use Rattle.std.specs.List.{flat_map}
 use Rattle.std.specs.Option.{option_and_then, option_map_or}
 use Rattle.std.proofs.Math.Seq.{drop-length}
@@ -13,7 +13,7 @@ use Rattle.core_machine.proofs.Lanes.{all_bytes}
 use Rattle.kernel_model.specs.Application.{Booted, Native, booted}
 use Rattle.kernel_model.proofs.Parts.{some_of}
 use Rattle.line_port.specs.History as heard
-use Rattle.live_play.specs.Answer.{Answer, Setting, after_heard, answer_between, answer_to_line, play_at, printed_at, refused_at, setting}
+use Rattle.live_play.specs.Answer.{Answer, Platform, after_heard, answer_between, answer_to_line, platform, play_at, printed_at, refused_at}
 use Rattle.live_play.specs.Answer as ends
 use Rattle.live_play.specs.Changes.{changes, text_of_changes}
 use Rattle.live_play.specs.Returns.{returns_in}
@@ -49,11 +49,8 @@ use Rattle.ns_ram.specs.Lane.{bytes_at}
 use Rattle.play_model.specs.Line.{Line, Ret, text_of_line}
 use Rattle.play_model.specs.Play.{Play, filled, lane_of}
 use Rattle.ta_isa.specs.declared.boot.Boot.{Boot}
-use Rattle.trace_player.proofs.Booting.{AreApart}
-use Rattle.trace_player.specs.Playing.{HasLane}
-use Rattle.trace_player.specs.Starting.{uuids_of}
-use Rattle.trace_text.specs.Limits.{cpus_of, first_broken}
-use Rattle.trace_text.specs.Sound.{IsSoundFill, IsSoundItem}
+use Rattle.trace_text.specs.Limits.{cpus_of}
+use Rattle.trace_text.specs.Sound.{IsSoundItem}
 use Rattle.trace_text.specs.declared.fault.LineFault.{LineFault}
 use Rattle.trace_text.specs.declared.fault.LineFault.TheVariants.{Broken, NoRoom}
 use Rattle.trace_text.specs.declared.item.Item.{Item}
@@ -63,21 +60,13 @@ use Rattle.trace_text.specs.declared.trace.Fill.{Fill}
 -- ---- the RAM that is watched
 
 -- in a play of the lines
-pub lane_played : (on : Setting) (lines : NotifyFront) (cpu : ℕ) (told : NotifyPlay) → play_at on lines ≡ Some told
+pub lane_played : (on : Platform) (lines : NotifyFront) (cpu : ℕ) (told : NotifyPlay) → play_at on lines ≡ Some told
     → lane_at on lines cpu ≡ lane_of told.play cpu
 lane_played on lines cpu told play =
     ap (λ (o : Option NotifyPlay). slice_index_or (option_map_or (λ (n : NotifyPlay). n.play.lanes) o []) cpu []) play
 
--- a player has that of the processor
-pub core_lane : (on : Setting) (lines : NotifyFront) (cpu : ℕ) (player : NotifyPlayer)
-    → CanWatch on lines cpu (stage.Core player) → HasLane player.player.machine cpu
-core_lane on lines cpu player can =
-    let p = can.stage_at.0 in
-    let few : cpu < p.boot.cpus = subst (λ (o : Option Boot). cpu < cpus_of o) p.there can.there in
-    subst (λ (b : Booted). cpu < b.cpus) (sym p.stands.at.machine.booted) few
-
--- and lends it
-pub ram_lent : (on : Setting) (lines : NotifyFront) (cpu : ℕ) (player : NotifyPlayer) (machine : Machine) (ram : List ℕ)
+-- a player lends that of the processor
+pub ram_lent : (on : Platform) (lines : NotifyFront) (cpu : ℕ) (player : NotifyPlayer) (machine : Machine) (ram : List ℕ)
     → machine ≡ player.player.machine → ((boot : Booted) (play : Play) → IsAt boot play machine → ram ≡ lane_of play cpu)
     → IsPlayedBehind on lines player → ram ≡ lane_at on lines cpu
 ram_lent on lines cpu player machine ram is lent behind =
@@ -86,7 +75,7 @@ ram_lent on lines cpu player machine ram is lent behind =
     ∙ sym (lane_played on lines cpu behind.told behind.play)
 
 -- and before the first item it is that of the fills
-pub header_lane : (on : Setting) (lines : NotifyFront) (cpu : ℕ) (header : Header)
+pub header_lane : (on : Platform) (lines : NotifyFront) (cpu : ℕ) (header : Header)
     → CanWatch on lines cpu (stage.Header header)
     → filled (zeros 0x400000) header.fills.items ≡ lane_at on lines cpu
 header_lane on lines cpu header can = sym (by lines.trace.boot refl can.there)
@@ -101,16 +90,12 @@ header_lane on lines cpu header can = sym (by lines.trace.boot refl can.there)
         ∙ ap (λ (fills : List Fill). filled (zeros 0x400000) fills) (sym can.stage_at.0.fills)
 
 -- a copy of all of that
-pub header_copied : (on : Setting) (lines : NotifyFront) (cpu : ℕ) (header : Header) (lane ram none copy : List ℕ)
+pub header_copied : (on : Platform) (lines : NotifyFront) (cpu : ℕ) (header : Header) (lane ram none copy : List ℕ)
     → CanWatch on lines cpu (stage.Header header) → lane ≡ filled (zeros 0x400000) header.fills.items
     → length lane ≡ 0x400000 → ram ≡ bytes_at lane 0x40000000 0x400000 → none ≡ [] → copy ≡ none ++ ram
     → copy ≡ lane_at on lines cpu
 header_copied on lines cpu header lane ram none copy can is whole read cleared copied =
     copied ∙ ap (λ (l : List ℕ). l ++ ram) cleared ∙ read ∙ all_bytes lane whole ∙ is ∙ header_lane on lines cpu header can
-
-pub header_fills : (on : Setting) (lines : NotifyFront) (cpu : ℕ) (header : Header)
-    → CanWatch on lines cpu (stage.Header header) → All IsSoundFill header.fills.items
-header_fills on lines cpu header can = subst (All IsSoundFill) (sym can.stage_at.0.fills) can.within.sound.fills
 
 -- ---- the processor that goes out
 
@@ -135,7 +120,7 @@ going_out (says.Item i) cpu out = (i, refl, out)
 going_out (says.Signal value) cpu out = absurd cc
 
 -- and is one of the boot
-cpu_there : (on : Setting) (lines : NotifyFront) (i : Item) (cpu : ℕ) → cpu_out_by i ≡ Some cpu
+cpu_there : (on : Platform) (lines : NotifyFront) (i : Item) (cpu : ℕ) → cpu_out_by i ≡ Some cpu
     → IsNext on lines (says.Item i) → cpu < cpus_of lines.trace.boot
 cpu_there on lines i cpu out next =
     let cpus : ℕ = cpus_of lines.trace.boot in
@@ -145,21 +130,21 @@ cpu_there on lines i cpu out next =
 
 -- before it
 pub can_watch : (natives : List Native) (drivers : Drivers) (lines : NotifyFront) (said : Statement) (cpu : ℕ) (now : Stage)
-    → cpu_going_out said ≡ Some cpu → IsNext (setting natives drivers) lines said
-    → StageAt (setting natives drivers) lines now → CanWatch (setting natives drivers) lines cpu now
+    → cpu_going_out said ≡ Some cpu → IsNext (platform natives drivers) lines said
+    → StageAt (platform natives drivers) lines now → CanWatch (platform natives drivers) lines cpu now
 can_watch natives drivers lines said cpu now out next at =
-    let on : Setting = setting natives drivers in
+    let on : Platform = platform natives drivers in
     let goes = going_out said cpu out in
     let placed : IsNext on lines (says.Item goes.0) = subst (IsNext on lines) goes.1 next in
     record { ram = refl; within = next.within; stage_at = at; there = cpu_there on lines goes.0 cpu goes.2 placed }
 
 -- and behind it
 pub can_still_watch : (natives : List Native) (drivers : Drivers) (lines : NotifyFront) (said : Statement) (cpu : ℕ) (now : Stage)
-    → cpu_going_out said ≡ Some cpu → IsNext (setting natives drivers) lines said
-    → StageAt (setting natives drivers) (with_statement lines said) now
-    → CanWatch (setting natives drivers) (with_statement lines said) cpu now
+    → cpu_going_out said ≡ Some cpu → IsNext (platform natives drivers) lines said
+    → StageAt (platform natives drivers) (with_statement lines said) now
+    → CanWatch (platform natives drivers) (with_statement lines said) cpu now
 can_still_watch natives drivers lines said cpu now out next at =
-    let on : Setting = setting natives drivers in
+    let on : Platform = platform natives drivers in
     let goes = going_out said cpu out in
     let placed : IsNext on lines (says.Item goes.0) = subst (IsNext on lines) goes.1 next in
     let same : (with_statement lines said).trace.boot ≡ lines.trace.boot =
@@ -181,7 +166,7 @@ not_open lines said cpu out is_open =
 -- ---- the lines of an answer
 
 -- one that ends with `full` has none
-full_lines : (on : Setting) (before after : NotifyFront) (copied : ℕ)
+full_lines : (on : Platform) (before after : NotifyFront) (copied : ℕ)
     → (answer_between on before after).ending ≡ ends.Full copied → (answer_between on before after).lines ≡ []
 full_lines on before after copied e = by (refused_at on after) e
   where
@@ -191,7 +176,7 @@ full_lines on before after copied e = by (refused_at on after) e
     by (Some more) e = refl
 
 -- where it ends with `ok`, no entry was refused
-done_going : (on : Setting) (before after : NotifyFront) → (answer_between on before after).ending ≡ ends.Done
+done_going : (on : Platform) (before after : NotifyFront) → (answer_between on before after).ending ≡ ends.Done
     → refused_at on after ≡ None
 done_going on before after e = by (refused_at on after) refl e
   where
@@ -201,7 +186,7 @@ done_going on before after e = by (refused_at on after) refl e
     by (Some more) is e = absurd cc
 
 -- behind an item and behind a signal there is a boot
-boot_behind : (on : Setting) (lines : NotifyFront) (said : Statement) → IsNext on lines said
+boot_behind : (on : Platform) (lines : NotifyFront) (said : Statement) → IsNext on lines said
     → (IsOpen (with_statement lines said) → ⊥) → (with_statement lines said).trace.boot ≡ lines.trace.boot
     → (boot : Boot) × (lines.trace.boot ≡ Some boot)
 boot_behind on lines said next closed same =
@@ -209,29 +194,29 @@ boot_behind on lines said next closed same =
     (boot_by (with_statement lines said) (with_statement lines said).trace.boot refl next.next.sound.no_boot closed) in
     (there.0, sym same ∙ there.1)
 
-item_stepped : (on : Setting) (lines : NotifyFront) (i : Item) (boot : Boot) → lines.trace.boot ≡ Some boot → IsWithin on lines
+item_stepped : (on : Platform) (lines : NotifyFront) (i : Item) (boot : Boot) → lines.trace.boot ≡ Some boot → IsWithin on lines
     → play_at on (with_statement lines (says.Item i)) ≡ option_and_then (step_on on boot (Takes i)) (play_at on lines)
 item_stepped on lines i boot there inside =
     more-played on boot lines (with_statement lines (says.Item i)) (Takes i) there there refl
     (item_steps lines i (orderly on lines inside))
 
-signal_stepped : (on : Setting) (lines : NotifyFront) (value : ℕ) (boot : Boot) → lines.trace.boot ≡ Some boot
+signal_stepped : (on : Platform) (lines : NotifyFront) (value : ℕ) (boot : Boot) → lines.trace.boot ≡ Some boot
     → play_at on (with_statement lines (says.Signal value)) ≡ option_and_then (step_on on boot (Signals value)) (play_at on lines)
 signal_stepped on lines value boot there =
     more-played on boot lines (with_statement lines (says.Signal value)) (Signals value) there there refl
     (signal_steps lines value)
 
 -- what is printed more
-abbrev more_printed : Setting → NotifyFront → NotifyFront → List Line
+abbrev more_printed : Platform → NotifyFront → NotifyFront → List Line
 more_printed on before after = drop (length (printed_at on before)) (printed_at on after)
 
-heads_print : (on : Setting) (before after : NotifyFront) → IsOpen before → IsOpen after → returns_in (more_printed on before after) ≡ []
+heads_print : (on : Platform) (before after : NotifyFront) → IsOpen before → IsOpen after → returns_in (more_printed on before after) ≡ []
 heads_print on before after was is_open =
     ap (λ (l : List Line). returns_in (drop (length l) (printed_at on after))) (quiet on before (header_of before was)).printed
     ∙ ap (λ (l : List Line). returns_in (drop 0 l)) (quiet on after (header_of after is_open)).printed
 
 -- no line `ret` where no processor goes out
-none_printed : (on : Setting) (lines : NotifyFront) (said : Statement) (now : Stage) → cpu_going_out said ≡ None
+none_printed : (on : Platform) (lines : NotifyFront) (said : Statement) (now : Stage) → cpu_going_out said ≡ None
     → IsNext on lines said → StageAt on lines now → returns_in (more_printed on lines (with_statement lines said)) ≡ []
 none_printed on lines says.Blank now none next at = ap returns_in (drop-length (printed_at on lines))
 none_printed on lines (says.Boot size) now none next at =
@@ -258,7 +243,7 @@ none_printed on lines (says.Signal value) now none next at =
 -- ---- what came of it
 
 -- where no line `ret` is printed, nothing is said of RAM
-unwatched : (on : Setting) (before after counts : NotifyFront) (how : Taken) (old new : List ℕ)
+unwatched : (on : Platform) (before after counts : NotifyFront) (how : Taken) (old new : List ℕ)
     → Answers (answer_between on before after) how old new → returns_in (answer_between on before after).lines ≡ []
     → AnswersWatched on before counts (answer_between on before after) how old new
 unwatched on before after counts how old new answers none = record {
@@ -268,7 +253,7 @@ unwatched on before after counts how old new answers none = record {
       (sym (unwatched-lines on before counts (answer_between on before after).lines none));
 }
 
-pub watches_full : (on : Setting) (lines : NotifyFront) (said : Statement) (copied : ℕ) (player : LivePlayer) (old new : List ℕ)
+pub watches_full : (on : Platform) (lines : NotifyFront) (said : Statement) (copied : ℕ) (player : LivePlayer) (old new : List ℕ)
     → TakesOn on lines said (taken.Full copied) player old new → WatchesOn on lines said (taken.Full copied) player old new
 watches_full on lines said copied player old new takes =
     let after : NotifyFront = with_statement lines said in
@@ -276,7 +261,7 @@ watches_full on lines said copied player old new takes =
     record { answers = unwatched on lines after lines (taken.Full copied) old new takes.answers none; come = takes.come }
 
 -- no processor goes out
-pub watches_none : (on : Setting) (lines : NotifyFront) (said : Statement) (how : Taken) (now : Stage) (player : LivePlayer)
+pub watches_none : (on : Platform) (lines : NotifyFront) (said : Statement) (how : Taken) (now : Stage) (player : LivePlayer)
     (old new : List ℕ) → cpu_going_out said ≡ None → IsNext on lines said → StageAt on lines now
     → TakesOn on lines said how player old new → WatchesOn on lines said how player old new
 watches_none on lines said taken.Done now player old new none next at takes =
@@ -291,7 +276,7 @@ watches_none on lines said taken.Done now player old new none next at takes =
 watches_none on lines said (taken.Full copied) now player old new none next at takes =
     watches_full on lines said copied player old new takes
 
-pub watches_staying : (on : Setting) (lines : NotifyFront) (said : Statement) (how : Taken) (now : Stage) (player : LivePlayer)
+pub watches_staying : (on : Platform) (lines : NotifyFront) (said : Statement) (how : Taken) (now : Stage) (player : LivePlayer)
     (old new : List ℕ) → ((cpu : ℕ) → cpu_going_out said ≡ Some cpu → ⊥) → IsNext on lines said → StageAt on lines now
     → TakesOn on lines said how player old new → WatchesOn on lines said how player old new
 watches_staying on lines said how now player old new stays next at takes = by (cpu_going_out said) refl
@@ -301,14 +286,14 @@ watches_staying on lines said how now player old new stays next at takes = by (c
     by (Some cpu) is = absurd (stays cpu is)
 
 -- a core has played an item
-core_behind : (on : Setting) (lines : NotifyFront) (i : Item) (now : Stage)
+core_behind : (on : Platform) (lines : NotifyFront) (i : Item) (now : Stage)
     → StageAt on (with_statement lines (says.Item i)) now
     → (told : NotifyPlay) × (play_at on (with_statement lines (says.Item i)) ≡ Some told) × (told.play.refused ≡ None)
 core_behind on lines i (stage.Header header) at = absurd (closed_item lines i at.1)
 core_behind on lines i (stage.Core player) at = (at.0.told, at.0.play, at.0.stands.at.machine.goes_on)
 
 -- a processor goes out by it: that is its one line
-one_line : (on : Setting) (lines : NotifyFront) (i : Item) (cpu : ℕ) (was now : Stage) → cpu_out_by i ≡ Some cpu
+one_line : (on : Platform) (lines : NotifyFront) (i : Item) (cpu : ℕ) (was now : Stage) → cpu_out_by i ≡ Some cpu
     → IsNext on lines (says.Item i) → StageAt on lines was → StageAt on (with_statement lines (says.Item i)) now
     → (answer_between on lines (with_statement lines (says.Item i))).ending ≡ ends.Done
     → (regs : List ℕ) × ((answer_between on lines (with_statement lines (says.Item i))).lines ≡ Ret cpu regs ∷ [])
@@ -320,7 +305,7 @@ one_line on lines i cpu was now out next at behind done =
     (stage_going on lines was at) out core.1 core.2 in
     (one.0, lines-done on lines after (done_going on lines after done) ∙ one.1)
 
-watched_text : (on : Setting) (before after : NotifyFront) (cpu : ℕ) (regs copy old between panicked new : List ℕ) (panic : Option ℕ)
+watched_text : (on : Platform) (before after : NotifyFront) (cpu : ℕ) (regs copy old between panicked new : List ℕ) (panic : Option ℕ)
     → (answer_between on before after).lines ≡ Ret cpu regs ∷ [] → copy ≡ lane_at on before cpu
     → Answers (answer_between on before after) taken.Done old between
     → panic ≡ panic_between on before after → panicked ≡ between ++ text_if panic_line panic
@@ -344,7 +329,7 @@ watched_text on before after cpu regs copy old between panicked new panic line c
           ∙ sym (watched-lines on before after lines cpu regs line));
     }
 
-pub watches_done : (on : Setting) (lines : NotifyFront) (said : Statement) (cpu : ℕ) (was : Stage) (player : LivePlayer)
+pub watches_done : (on : Platform) (lines : NotifyFront) (said : Statement) (cpu : ℕ) (was : Stage) (player : LivePlayer)
     (copy old between panicked new : List ℕ) (panic : Option ℕ) → cpu_going_out said ≡ Some cpu → IsNext on lines said
     → StageAt on lines was → copy ≡ lane_at on lines cpu → TakesOn on lines said taken.Done player old between
     → EndsIn on lines said (outcome.Done panic) → panicked ≡ between ++ text_if panic_line panic
@@ -375,13 +360,13 @@ watches_done on lines said cpu was player copy old between panicked new panic ou
 -- ---- a line
 
 -- one of which nothing was read breaks a rule, or memory ran out
-pub as_watched : (on : Setting) (lines : NotifyFront) (line : List ℕ) (fault : LineFault) (player : LivePlayer) (old new : List ℕ)
+pub as_watched : (on : Platform) (lines : NotifyFront) (line : List ℕ) (fault : LineFault) (player : LivePlayer) (old new : List ℕ)
     → Judges on lines line (Err fault) player old new → Watches on lines line (Err fault) player old new
 as_watched on lines line (Broken kind) player old new judged = judged
 as_watched on lines line NoRoom player old new judged = tt
 
 -- and one that was read was taken
-pub watches : (on : Setting) (lines : NotifyFront) (line : List ℕ) (said : Statement) (how : Taken) (player : LivePlayer)
+pub watches : (on : Platform) (lines : NotifyFront) (line : List ℕ) (said : Statement) (how : Taken) (player : LivePlayer)
     (old new : List ℕ) → Says on lines line said
     → (HasCome on (after_heard on lines (heard.Line line)) player → StandsAt on (after_heard on lines (heard.Line line)) player)
     → WatchesOn on lines said how player old new → TakesWatched on lines line how player old new

@@ -3,7 +3,7 @@ use Rattle.std.specs.Prelude.{◌≡◌, ℕ, ◌<◌, List, ◌++◌, Option, N
 use Rattle.std.specs.List.{flat_map}
 use Rattle.base.specs.Zeros.{zeros}
 use Rattle.line_port.specs.History as heard
-use Rattle.live_play.specs.Answer.{Answer, Setting, after_heard, answer_between, answer_to_line}
+use Rattle.live_play.specs.Answer.{Answer, Platform, after_heard, answer_between, answer_to_line}
 use Rattle.live_play.specs.Showing.{cpu_out_by, watched_line}
 use Rattle.live_player.specs.Standing.{HasCome, IsWithin, StageAt, StandsAt}
 use Rattle.live_player.specs.Taking.{Breaks, counted, ending_of}
@@ -29,7 +29,7 @@ cpu_going_out (says.Item i) = cpu_out_by i
 cpu_going_out (says.Signal value) = None
 
 -- the stage stands behind these lines, in whose boot there is this processor; RAM holds zeros at first
-pub record CanWatch (on : Setting) (lines : NotifyFront) (cpu : ℕ) (now : Stage) : Type 0 where
+pub record CanWatch (on : Platform) (lines : NotifyFront) (cpu : ℕ) (now : Stage) : Type 0 where
   pub ram : on.ram ≡ zeros 0x400000
   pub within : IsWithin on lines
   pub stage_at : StageAt on lines now
@@ -37,26 +37,26 @@ pub record CanWatch (on : Setting) (lines : NotifyFront) (cpu : ℕ) (now : Stag
 
 -- the answer ends so, and the text of its lines, with the panics of exits and what they have changed between these lines and
 -- those, stands behind the old text
-pub record AnswersWatched (on : Setting) (before after : NotifyFront) (given : Answer) (how : Taken) (old new : List ℕ) : Type 0
+pub record AnswersWatched (on : Platform) (before after : NotifyFront) (given : Answer) (how : Taken) (old new : List ℕ) : Type 0
   where
     pub ending : given.ending ≡ ending_of how
     pub text : new ≡ old ++ flat_map (watched_line on before after) given.lines
 
 -- what a line says was taken
-pub record WatchesOn (on : Setting) (before : NotifyFront) (said : Statement) (how : Taken) (player : LivePlayer)
+pub record WatchesOn (on : Platform) (before : NotifyFront) (said : Statement) (how : Taken) (player : LivePlayer)
     (old new : List ℕ) : Type 0 where
   pub answers : AnswersWatched on before (counted how before (with_statement before said))
       (answer_between on before (with_statement before said)) how old new
   pub come : HasCome on (counted how before (with_statement before said)) player
 
 -- the line was taken so
-pub record TakesWatched (on : Setting) (before : NotifyFront) (line : List ℕ) (how : Taken) (player : LivePlayer)
+pub record TakesWatched (on : Platform) (before : NotifyFront) (line : List ℕ) (how : Taken) (player : LivePlayer)
     (old new : List ℕ) : Type 0 where
   pub answers : AnswersWatched on before (after_heard on before (heard.Line line)) (answer_to_line on before line) how old new
   pub stands : StandsAt on (after_heard on before (heard.Line line)) player
 
 -- by what came of the line; of want of memory nothing is said
-abbrev pub Watches : Setting → NotifyFront → List ℕ → Result Taken LineFault → LivePlayer → List ℕ → List ℕ → Type 0
+abbrev pub Watches : Platform → NotifyFront → List ℕ → Result Taken LineFault → LivePlayer → List ℕ → List ℕ → Type 0
 Watches on before line (Ok how) player old new = TakesWatched on before line how player old new
 Watches on before line (Err (Broken kind)) player old new = Breaks on before line kind player old new
 Watches on before line (Err NoRoom) player old new = Unit {0}

@@ -1,6 +1,6 @@
 -- The panic in which the call of a line's exit has ended.
 use Rattle.std.specs.Prelude.{◌≡◌}
-use Rattle.live_play.specs.Answer.{Setting}
+use Rattle.live_play.specs.Answer.{Platform}
 use Rattle.live_play.specs.Panicking.{panic_between}
 use Rattle.live_player.specs.declared.taken.Played.{Played}
 use Rattle.live_player.specs.declared.taken.Played.TheVariants as outcome
@@ -16,6 +16,6 @@ taken_as (outcome.Done panic) = taken.Done
 taken_as (outcome.Full copied) = taken.Full copied
 
 -- of what a line says that counts, the panic is told in which the call of its exit has ended, or none
-abbrev pub EndsIn : Setting → NotifyFront → Statement → Played → Type 0
+abbrev pub EndsIn : Platform → NotifyFront → Statement → Played → Type 0
 EndsIn on before said (outcome.Done panic) = panic ≡ panic_between on before (with_statement before said)
 EndsIn on before said (outcome.Full copied) = Unit {0}

@@ -2,7 +2,7 @@
 use Rattle.std.specs.Prelude.{◌≡◌, ℕ, List, ◌++◌, Result, Ok, Err}
 use Rattle.std.specs.List.{flat_map}
 use Rattle.line_port.specs.History as heard
-use Rattle.live_play.specs.Answer.{Answer, Bad, Ending, Setting, after_heard, answer_between, answer_to_line, without_lines}
+use Rattle.live_play.specs.Answer.{Answer, Bad, Ending, Platform, after_heard, answer_between, answer_to_line, without_lines}
 use Rattle.live_play.specs.Answer as ends
 use Rattle.live_player.specs.Standing.{HasCome, IsOpen, IsPlayedBehind, IsWithin, StageAt, StandsAt}
 use Rattle.live_player.specs.declared.player.LivePlayer.{LivePlayer}
@@ -37,20 +37,20 @@ counted (taken.Full copied) before after = before
 -- ---- a line
 
 -- the line was taken so, behind these lines: its answer is said, and the player stands behind the lines that count then
-pub record Takes (on : Setting) (before : NotifyFront) (line : List ℕ) (how : Taken) (player : LivePlayer) (old new : List ℕ)
+pub record Takes (on : Platform) (before : NotifyFront) (line : List ℕ) (how : Taken) (player : LivePlayer) (old new : List ℕ)
     : Type 0 where
   pub answers : Answers (answer_to_line on before line) how old new
   pub stands : StandsAt on (after_heard on before (heard.Line line)) player
 
 -- it breaks this rule: that is its answer, and the player stands where it stood
-pub record Breaks (on : Setting) (before : NotifyFront) (line : List ℕ) (kind : BadKind) (player : LivePlayer)
+pub record Breaks (on : Platform) (before : NotifyFront) (line : List ℕ) (kind : BadKind) (player : LivePlayer)
     (old new : List ℕ) : Type 0 where
   pub answers : answer_to_line on before line ≡ without_lines (Bad kind)
   pub text : new ≡ old
   pub stands : StandsAt on (after_heard on before (heard.Line line)) player
 
 -- by what came of the line; of want of memory nothing is said
-abbrev pub Judges : Setting → NotifyFront → List ℕ → Result Taken LineFault → LivePlayer → List ℕ → List ℕ → Type 0
+abbrev pub Judges : Platform → NotifyFront → List ℕ → Result Taken LineFault → LivePlayer → List ℕ → List ℕ → Type 0
 Judges on before line (Ok how) player old new = Takes on before line how player old new
 Judges on before line (Err (Broken kind)) player old new = Breaks on before line kind player old new
 Judges on before line (Err NoRoom) player old new = Unit {0}
@@ -68,7 +68,7 @@ IsPlaced lines (says.Item item) = Unit {0}
 IsPlaced lines (says.Signal value) = Unit {0}
 
 -- a line that says this can come behind these lines
-pub record IsNext (on : Setting) (before : NotifyFront) (said : Statement) : Type 0 where
+pub record IsNext (on : Platform) (before : NotifyFront) (said : Statement) : Type 0 where
   pub within : IsWithin on before
   pub next : IsWithin on (with_statement before said)
   pub placed : IsPlaced before said
@@ -84,19 +84,19 @@ played before (says.Item item) = with_statement before (says.Item item)
 played before (says.Signal value) = with_statement before (says.Signal value)
 
 -- a player has played what was said
-pub record PlaysOn (on : Setting) (before : NotifyFront) (said : Statement) (how : Taken) (player : NotifyPlayer)
+pub record PlaysOn (on : Platform) (before : NotifyFront) (said : Statement) (how : Taken) (player : NotifyPlayer)
     (old new : List ℕ) : Type 0 where
   pub answers : Answers (answer_between on before (with_statement before said)) how old new
   pub stands : IsPlayedBehind on (counted how before (with_statement before said)) player
 
 -- so that it stands on this stage then
-pub record StagePlays (on : Setting) (before : NotifyFront) (said : Statement) (how : Taken) (now : Stage)
+pub record StagePlays (on : Platform) (before : NotifyFront) (said : Statement) (how : Taken) (now : Stage)
     (old new : List ℕ) : Type 0 where
   pub answers : Answers (answer_between on before (with_statement before said)) how old new
   pub stands : StageAt on (counted how before (played before said)) now
 
 -- it was taken
-pub record TakesOn (on : Setting) (before : NotifyFront) (said : Statement) (how : Taken) (player : LivePlayer)
+pub record TakesOn (on : Platform) (before : NotifyFront) (said : Statement) (how : Taken) (player : LivePlayer)
     (old new : List ℕ) : Type 0 where
   pub answers : Answers (answer_between on before (with_statement before said)) how old new
   pub come : HasCome on (counted how before (with_statement before said)) player

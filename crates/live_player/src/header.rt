@@ -2,7 +2,7 @@
 
 ghost use Rattle.std.specs.Prelude.{◌≡◌, All, IfOk, OnOk};
 ghost use Rattle.base.specs.Zeros.{zeros};
-ghost use Rattle.live_play.specs.Answer.{setting};
+ghost use Rattle.live_play.specs.Answer.{platform};
 ghost use Rattle.live_player.specs.Header.{IsHeaderOf, boot_in};
 ghost use Rattle.live_player.specs.Standing.{CanBegin, IsPlayedBehind};
 ghost use Rattle.live_text.specs.Statement.{with_statement};
@@ -88,9 +88,9 @@ impl Header {
         alloc: Global,
         natives: &Natives,
     ) -> Result<NotifyPlayer, NoMemory>
-        requires { (lines : NotifyFront) × CanBegin (setting (entries natives.now) (drivers natives.now)) lines self.now }
-        ensures { (lines : NotifyFront) → CanBegin (setting (entries natives.now) (drivers natives.now)) lines self.now →
-            IfOk result (IsPlayedBehind (setting (entries natives.now) (drivers natives.now)) lines) }
+        requires { (lines : NotifyFront) × CanBegin (platform (entries natives.now) (drivers natives.now)) lines self.now }
+        ensures { (lines : NotifyFront) → CanBegin (platform (entries natives.now) (drivers natives.now)) lines self.now →
+            IfOk result (IsPlayedBehind (platform (entries natives.now) (drivers natives.now)) lines) }
     {
         let Some(boot) = self.boot(alloc)? else {
             unreachable!()

@@ -1,6 +1,6 @@
 ghost use Rattle.std.specs.Prelude.{◌≡◌, ◌++◌, List, IfOk, OnOk, is_some, true};
 ghost use Rattle.kernel_model.specs.Application.{Native};
-ghost use Rattle.live_play.specs.Answer.{Setting, setting};
+ghost use Rattle.live_play.specs.Answer.{Platform, platform};
 ghost use Rattle.live_play.specs.Showing.{told_at};
 ghost use Rattle.live_player.specs.Panicking.{EndsIn, taken_as};
 ghost use Rattle.live_player.specs.Standing.{HasCome, StandsAt};
@@ -30,7 +30,7 @@ pub struct LivePlayer {
 impl LivePlayer {
     /// No line was taken yet. Takes no memory.
     pub fn new(alloc: Global) -> LivePlayer
-        ensures { (natives : List Native) (ds : Drivers) → StandsAt (setting natives ds) no_lines result }
+        ensures { (natives : List Native) (ds : Drivers) → StandsAt (platform natives ds) no_lines result }
     {
         lines_stay_sound();
         LivePlayer {
@@ -49,17 +49,17 @@ impl LivePlayer {
     ) -> Result<Played, NoMemory>
         requires few { HasFewCpus said }
         requires next { (lines : NotifyFront)
-            × IsNext (setting (entries natives.now) (drivers natives.now)) lines said
-            × HasCome (setting (entries natives.now) (drivers natives.now)) lines self.old }
+            × IsNext (platform (entries natives.now) (drivers natives.now)) lines said
+            × HasCome (platform (entries natives.now) (drivers natives.now)) lines self.old }
         ensures takes { (lines : NotifyFront)
-            → IsNext (setting (entries natives.now) (drivers natives.now)) lines said
-            → HasCome (setting (entries natives.now) (drivers natives.now)) lines self.old
-            → IfOk result (λ how. TakesOn (setting (entries natives.now) (drivers natives.now)) lines said (taken_as how)
+            → IsNext (platform (entries natives.now) (drivers natives.now)) lines said
+            → HasCome (platform (entries natives.now) (drivers natives.now)) lines self.old
+            → IfOk result (λ how. TakesOn (platform (entries natives.now) (drivers natives.now)) lines said (taken_as how)
             self.new text.old.items text.new.items) }
         ensures panic { (lines : NotifyFront)
-            → IsNext (setting (entries natives.now) (drivers natives.now)) lines said
-            → HasCome (setting (entries natives.now) (drivers natives.now)) lines self.old
-            → IfOk result (λ how. EndsIn (setting (entries natives.now) (drivers natives.now)) lines said how) }
+            → IsNext (platform (entries natives.now) (drivers natives.now)) lines said
+            → HasCome (platform (entries natives.now) (drivers natives.now)) lines self.old
+            → IfOk result (λ how. EndsIn (platform (entries natives.now) (drivers natives.now)) lines said how) }
     {
         match self.stage.play(alloc, natives, &said, text)? {
             Played::Done(panic) => {
@@ -81,9 +81,9 @@ impl LivePlayer {
         line: &[u8],
         text: &mut Vec<u8>,
     ) -> Result<Taken, LineFault>
-        requires { (lines : NotifyFront) × StandsAt (setting (entries natives.now) (drivers natives.now)) lines self.old }
-        ensures { (lines : NotifyFront) → StandsAt (setting (entries natives.now) (drivers natives.now)) lines self.old
-            → Judges (setting (entries natives.now) (drivers natives.now)) lines line.now result
+        requires { (lines : NotifyFront) × StandsAt (platform (entries natives.now) (drivers natives.now)) lines self.old }
+        ensures { (lines : NotifyFront) → StandsAt (platform (entries natives.now) (drivers natives.now)) lines self.old
+            → Judges (platform (entries natives.now) (drivers natives.now)) lines line.now result
             self.new text.old.items text.new.items }
     {
         lines_stay_sound();
@@ -96,7 +96,7 @@ impl LivePlayer {
 
     /// Whether a boot is among the lines.
     pub fn is_booted(&self) -> bool
-        ensures { (on : Setting) (lines : NotifyFront) → StandsAt on lines self.now → result ≡ is_some lines.trace.boot }
+        ensures { (on : Platform) (lines : NotifyFront) → StandsAt on lines self.now → result ≡ is_some lines.trace.boot }
     {
         self.scene.is_booted()
     }
@@ -110,11 +110,11 @@ impl LivePlayer {
         question: &Question,
         text: &mut Vec<u8>,
     ) -> Result<(), NoMemory>
-        requires { (lines : NotifyFront) × StandsAt (setting (entries natives.now) (drivers natives.now)) lines self.now
+        requires { (lines : NotifyFront) × StandsAt (platform (entries natives.now) (drivers natives.now)) lines self.now
             × (is_some lines.trace.boot ≡ true) }
-        ensures { (lines : NotifyFront) → StandsAt (setting (entries natives.now) (drivers natives.now)) lines self.now
+        ensures { (lines : NotifyFront) → StandsAt (platform (entries natives.now) (drivers natives.now)) lines self.now
             → is_some lines.trace.boot ≡ true → OnOk result (text.new.items ≡ text.old.items
-            ++ told_at (setting (entries natives.now) (drivers natives.now)) lines question.now) }
+            ++ told_at (platform (entries natives.now) (drivers natives.now)) lines question.now) }
     {
         self.stage.push_told(alloc, natives, question, text)
     }

@@ -2,7 +2,7 @@
 
 ghost use Rattle.std.specs.Prelude.{ℕ, ◌≤◌, List, ◌∷◌, IfOk, OnOk};
 ghost use Rattle.kernel_model.specs.Application.{Booted};
-ghost use Rattle.live_play.specs.Answer.{Setting, setting};
+ghost use Rattle.live_play.specs.Answer.{Platform, platform};
 ghost use Rattle.live_player.specs.Panicking.{EndsIn, taken_as};
 ghost use Rattle.live_player.specs.Standing.{IsPlayedBehind, StageAt};
 ghost use Rattle.live_player.specs.Taking.{IsNext, IsPlaced, PlaysOn, StagePlays, played};
@@ -46,16 +46,16 @@ fn play_on(
     text: &mut Vec<u8>,
 ) -> Result<Played, NoMemory>
     requires { (lines : NotifyFront)
-        × IsNext (setting (entries natives.now) (drivers natives.now)) lines (says.Item item.now)
-        × IsPlayedBehind (setting (entries natives.now) (drivers natives.now)) lines player.old }
+        × IsNext (platform (entries natives.now) (drivers natives.now)) lines (says.Item item.now)
+        × IsPlayedBehind (platform (entries natives.now) (drivers natives.now)) lines player.old }
     ensures plays { (lines : NotifyFront)
-        → IsNext (setting (entries natives.now) (drivers natives.now)) lines (says.Item item.now)
-        → IsPlayedBehind (setting (entries natives.now) (drivers natives.now)) lines player.old
-        → IfOk result (λ how. PlaysOn (setting (entries natives.now) (drivers natives.now)) lines (says.Item item.now)
+        → IsNext (platform (entries natives.now) (drivers natives.now)) lines (says.Item item.now)
+        → IsPlayedBehind (platform (entries natives.now) (drivers natives.now)) lines player.old
+        → IfOk result (λ how. PlaysOn (platform (entries natives.now) (drivers natives.now)) lines (says.Item item.now)
         (taken_as how) player.new text.old.items text.new.items) }
     ensures panic { (lines : NotifyFront)
-        → IsPlayedBehind (setting (entries natives.now) (drivers natives.now)) lines player.old
-        → IfOk result (λ how. EndsIn (setting (entries natives.now) (drivers natives.now)) lines (says.Item item.now) how) }
+        → IsPlayedBehind (platform (entries natives.now) (drivers natives.now)) lines player.old
+        → IfOk result (λ how. EndsIn (platform (entries natives.now) (drivers natives.now)) lines (says.Item item.now) how) }
 {
     machines_stand();
     desks_keep_their_drivers();
@@ -88,17 +88,17 @@ impl Stage {
         text: &mut Vec<u8>,
     ) -> Result<Played, NoMemory>
         requires { (lines : NotifyFront)
-            × IsNext (setting (entries natives.now) (drivers natives.now)) lines (says.Item item.now)
-            × StageAt (setting (entries natives.now) (drivers natives.now)) lines self.old }
+            × IsNext (platform (entries natives.now) (drivers natives.now)) lines (says.Item item.now)
+            × StageAt (platform (entries natives.now) (drivers natives.now)) lines self.old }
         ensures plays { (lines : NotifyFront)
-            → IsNext (setting (entries natives.now) (drivers natives.now)) lines (says.Item item.now)
-            → StageAt (setting (entries natives.now) (drivers natives.now)) lines self.old
-            → IfOk result (λ how. StagePlays (setting (entries natives.now) (drivers natives.now)) lines
+            → IsNext (platform (entries natives.now) (drivers natives.now)) lines (says.Item item.now)
+            → StageAt (platform (entries natives.now) (drivers natives.now)) lines self.old
+            → IfOk result (λ how. StagePlays (platform (entries natives.now) (drivers natives.now)) lines
             (says.Item item.now) (taken_as how) self.new text.old.items text.new.items) }
         ensures panic { (lines : NotifyFront)
-            → IsNext (setting (entries natives.now) (drivers natives.now)) lines (says.Item item.now)
-            → StageAt (setting (entries natives.now) (drivers natives.now)) lines self.old
-            → IfOk result (λ how. EndsIn (setting (entries natives.now) (drivers natives.now)) lines
+            → IsNext (platform (entries natives.now) (drivers natives.now)) lines (says.Item item.now)
+            → StageAt (platform (entries natives.now) (drivers natives.now)) lines self.old
+            → IfOk result (λ how. EndsIn (platform (entries natives.now) (drivers natives.now)) lines
             (says.Item item.now) how) }
     {
         match self {
@@ -120,12 +120,12 @@ impl Stage {
     /// Lets the hardware signal a value, which prints nothing.
     fn signal(&mut self, alloc: Global, natives: &Natives, value: u32) -> Result<(), NoMemory>
         requires { (lines : NotifyFront)
-            × IsNext (setting (entries natives.now) (drivers natives.now)) lines (says.Signal value)
-            × StageAt (setting (entries natives.now) (drivers natives.now)) lines self.old }
+            × IsNext (platform (entries natives.now) (drivers natives.now)) lines (says.Signal value)
+            × StageAt (platform (entries natives.now) (drivers natives.now)) lines self.old }
         ensures { (lines : NotifyFront) (text : List ℕ)
-            → IsNext (setting (entries natives.now) (drivers natives.now)) lines (says.Signal value)
-            → StageAt (setting (entries natives.now) (drivers natives.now)) lines self.old
-            → OnOk result (StagePlays (setting (entries natives.now) (drivers natives.now)) lines (says.Signal value)
+            → IsNext (platform (entries natives.now) (drivers natives.now)) lines (says.Signal value)
+            → StageAt (platform (entries natives.now) (drivers natives.now)) lines self.old
+            → OnOk result (StagePlays (platform (entries natives.now) (drivers natives.now)) lines (says.Signal value)
             taken.Done self.new text text) }
     {
         match self {
@@ -152,17 +152,17 @@ impl Stage {
         text: &mut Vec<u8>,
     ) -> Result<Played, NoMemory>
         requires { (lines : NotifyFront)
-            × IsNext (setting (entries natives.now) (drivers natives.now)) lines said.now
-            × StageAt (setting (entries natives.now) (drivers natives.now)) lines self.old }
+            × IsNext (platform (entries natives.now) (drivers natives.now)) lines said.now
+            × StageAt (platform (entries natives.now) (drivers natives.now)) lines self.old }
         ensures plays { (lines : NotifyFront)
-            → IsNext (setting (entries natives.now) (drivers natives.now)) lines said.now
-            → StageAt (setting (entries natives.now) (drivers natives.now)) lines self.old
-            → IfOk result (λ how. StagePlays (setting (entries natives.now) (drivers natives.now)) lines said.now
+            → IsNext (platform (entries natives.now) (drivers natives.now)) lines said.now
+            → StageAt (platform (entries natives.now) (drivers natives.now)) lines self.old
+            → IfOk result (λ how. StagePlays (platform (entries natives.now) (drivers natives.now)) lines said.now
             (taken_as how) self.new text.old.items text.new.items) }
         ensures panic { (lines : NotifyFront)
-            → IsNext (setting (entries natives.now) (drivers natives.now)) lines said.now
-            → StageAt (setting (entries natives.now) (drivers natives.now)) lines self.old
-            → IfOk result (λ how. EndsIn (setting (entries natives.now) (drivers natives.now)) lines said.now how) }
+            → IsNext (platform (entries natives.now) (drivers natives.now)) lines said.now
+            → StageAt (platform (entries natives.now) (drivers natives.now)) lines self.old
+            → IfOk result (λ how. EndsIn (platform (entries natives.now) (drivers natives.now)) lines said.now how) }
     {
         match said {
             Statement::Item(item) => self.play_item(alloc, natives, item, text),
@@ -180,7 +180,7 @@ impl Stage {
 
     /// Adds what a line of the header says. What was played adds nothing more.
     pub(crate) fn add(&mut self, said: Statement) -> Result<(), NoMemory>
-        ensures { (on : Setting) (lines : NotifyFront) → IsPlaced lines said → StageAt on (played lines said) self.old
+        ensures { (on : Platform) (lines : NotifyFront) → IsPlaced lines said → StageAt on (played lines said) self.old
             → OnOk result (StageAt on (with_statement lines said) self.new) }
     {
         match self {

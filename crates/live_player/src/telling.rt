@@ -1,7 +1,7 @@
 //! What a core is asked for.
 
 ghost use Rattle.std.specs.Prelude.{◌≡◌, ◌++◌, OnOk, is_some, true};
-ghost use Rattle.live_play.specs.Answer.{Setting, setting};
+ghost use Rattle.live_play.specs.Answer.{Platform, platform};
 ghost use Rattle.live_play.specs.Showing.{told_at};
 ghost use Rattle.live_player.specs.Standing.{IsPlayedBehind, IsWithin, StageAt};
 ghost use Rattle.native_tas.specs.Table.{drivers, entries};
@@ -21,7 +21,7 @@ fn push_told(
     question: &Question,
     text: &mut Vec<u8>,
 ) -> Result<(), AllocError>
-    ensures { (on : Setting) (lines : NotifyFront) → IsPlayedBehind on lines player.now →
+    ensures { (on : Platform) (lines : NotifyFront) → IsPlayedBehind on lines player.now →
         OnOk result (text.new.items ≡ text.old.items ++ told_at on lines question.now) }
 {
     shown_lines::push_told(alloc, text, player.machine().core(), question)
@@ -37,12 +37,12 @@ impl Stage {
         question: &Question,
         text: &mut Vec<u8>,
     ) -> Result<(), NoMemory>
-        requires { (lines : NotifyFront) × IsWithin (setting (entries natives.now) (drivers natives.now)) lines
-            × StageAt (setting (entries natives.now) (drivers natives.now)) lines self.now × (is_some lines.trace.boot ≡ true) }
-        ensures { (lines : NotifyFront) → IsWithin (setting (entries natives.now) (drivers natives.now)) lines
-            → StageAt (setting (entries natives.now) (drivers natives.now)) lines self.now → is_some lines.trace.boot ≡ true
+        requires { (lines : NotifyFront) × IsWithin (platform (entries natives.now) (drivers natives.now)) lines
+            × StageAt (platform (entries natives.now) (drivers natives.now)) lines self.now × (is_some lines.trace.boot ≡ true) }
+        ensures { (lines : NotifyFront) → IsWithin (platform (entries natives.now) (drivers natives.now)) lines
+            → StageAt (platform (entries natives.now) (drivers natives.now)) lines self.now → is_some lines.trace.boot ≡ true
             → OnOk result (text.new.items ≡ text.old.items
-            ++ told_at (setting (entries natives.now) (drivers natives.now)) lines question.now) }
+            ++ told_at (platform (entries natives.now) (drivers natives.now)) lines question.now) }
     {
         match self {
             Stage::Core(player) => push_told(alloc, player, question, text)?,

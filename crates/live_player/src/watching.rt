@@ -1,7 +1,7 @@
 //! Exits that are watched: the panics in which their calls end, and what they change in their processor's RAM.
 
 ghost use Rattle.std.specs.Prelude.{◌≡◌, ◌++◌, IfOk, OnOk, length};
-ghost use Rattle.live_play.specs.Answer.{Setting, setting};
+ghost use Rattle.live_play.specs.Answer.{Platform, platform};
 ghost use Rattle.live_play.specs.Changes.{changes, text_of_changes};
 ghost use Rattle.live_play.specs.Showing.{cpu_out_by, lane_at};
 ghost use Rattle.live_player.specs.Asking.{CanWatch, Watches, WatchesOn, cpu_going_out};
@@ -52,7 +52,7 @@ pub(crate) fn cpu_going_out(said: &Statement) -> Option<u8>
 /// All of the RAM that a processor of a player sees.
 fn ram_of(player: &NotifyPlayer, cpu: u8) -> &[u8]
     requires { HasLane player.now.player.machine cpu }
-    ensures lane { (on : Setting) (lines : NotifyFront) → IsPlayedBehind on lines player.now
+    ensures lane { (on : Platform) (lines : NotifyFront) → IsPlayedBehind on lines player.now
         → result.now ≡ lane_at on lines cpu }
     ensures len { length result.now ≡ 0x400000 }
 {
@@ -67,8 +67,8 @@ impl Stage {
         cpu: u8,
         copy: &mut Vec<u8>,
     ) -> Result<(), NoMemory>
-        requires { (on : Setting) × (lines : NotifyFront) × CanWatch on lines cpu self.now }
-        ensures lane { (on : Setting) (lines : NotifyFront) → CanWatch on lines cpu self.now
+        requires { (on : Platform) × (lines : NotifyFront) × CanWatch on lines cpu self.now }
+        ensures lane { (on : Platform) (lines : NotifyFront) → CanWatch on lines cpu self.now
             → OnOk result (copy.new.items ≡ lane_at on lines cpu) }
         ensures len { OnOk result (length copy.new.items ≡ 0x400000) }
     {
@@ -90,9 +90,9 @@ impl Stage {
         copy: &[u8],
         text: &mut Vec<u8>,
     ) -> Result<(), AllocError>
-        requires watched { (on : Setting) × (lines : NotifyFront) × CanWatch on lines cpu self.now }
+        requires watched { (on : Platform) × (lines : NotifyFront) × CanWatch on lines cpu self.now }
         requires copy { length copy.now ≡ 0x400000 }
-        ensures { (on : Setting) (lines : NotifyFront) → CanWatch on lines cpu self.now → (IsOpen lines → ⊥)
+        ensures { (on : Platform) (lines : NotifyFront) → CanWatch on lines cpu self.now → (IsOpen lines → ⊥)
             → OnOk result (text.new.items
             ≡ text.old.items ++ text_of_changes cpu (changes copy.now (lane_at on lines cpu))) }
     {
@@ -114,9 +114,9 @@ impl LivePlayer {
         copy: &mut Vec<u8>,
         text: &mut Vec<u8>,
     ) -> Result<Taken, LineFault>
-        requires { (lines : NotifyFront) × StandsAt (setting (entries natives.now) (drivers natives.now)) lines self.old }
-        ensures { (lines : NotifyFront) → StandsAt (setting (entries natives.now) (drivers natives.now)) lines self.old
-            → Watches (setting (entries natives.now) (drivers natives.now)) lines line.now result
+        requires { (lines : NotifyFront) × StandsAt (platform (entries natives.now) (drivers natives.now)) lines self.old }
+        ensures { (lines : NotifyFront) → StandsAt (platform (entries natives.now) (drivers natives.now)) lines self.old
+            → Watches (platform (entries natives.now) (drivers natives.now)) lines line.now result
             self.new text.old.items text.new.items }
     {
         lines_stay_sound();
@@ -138,12 +138,12 @@ impl LivePlayer {
     ) -> Result<Taken, NoMemory>
         requires few { HasFewCpus said }
         requires next { (lines : NotifyFront)
-            × IsNext (setting (entries natives.now) (drivers natives.now)) lines said
-            × HasCome (setting (entries natives.now) (drivers natives.now)) lines self.old }
+            × IsNext (platform (entries natives.now) (drivers natives.now)) lines said
+            × HasCome (platform (entries natives.now) (drivers natives.now)) lines self.old }
         ensures { (lines : NotifyFront)
-            → IsNext (setting (entries natives.now) (drivers natives.now)) lines said
-            → HasCome (setting (entries natives.now) (drivers natives.now)) lines self.old
-            → IfOk result (λ taken. WatchesOn (setting (entries natives.now) (drivers natives.now)) lines said taken
+            → IsNext (platform (entries natives.now) (drivers natives.now)) lines said
+            → HasCome (platform (entries natives.now) (drivers natives.now)) lines self.old
+            → IfOk result (λ taken. WatchesOn (platform (entries natives.now) (drivers natives.now)) lines said taken
             self.new text.old.items text.new.items) }
     {
         let Some(cpu) = cpu_going_out(&said) else {

@@ -6,7 +6,7 @@ use Rattle.std.specs.Option.{option_map_or}
 use Rattle.line_port.specs.History.{Hears, Input}
 use Rattle.line_port.specs.History as history
 use Rattle.line_port.specs.declared.port.Heard.TheVariants as heard
-use Rattle.live_play.specs.Answer.{Answer, Bad, Done, Ending, Setting, TooLong, after_heard, answer, answer_to_line, play_at, text_of_answer, text_of_ending, without_lines}
+use Rattle.live_play.specs.Answer.{Answer, Bad, Done, Ending, Platform, TooLong, after_heard, answer, answer_to_line, play_at, text_of_answer, text_of_ending, without_lines}
 use Rattle.live_play.specs.Showing.{Position, position_after, shown_to, shown_to_other, told_at, watched_answer, watched_line, watching_after}
 use Rattle.live_play.proofs.Asked.{after_question, shown_by}
 use Rattle.live_player.specs.Asking.{Watches}
@@ -37,22 +37,22 @@ use Rattle.trace_text.specs.declared.fault.LineFault.TheVariants.{Broken, NoRoom
 -- ---- what is shown to what asks nothing
 
 -- an answer with exits that are watched, or without
-abbrev pub shown_as : Setting → NotifyFront → NotifyFront → Answer → Bool → List ℕ
+abbrev pub shown_as : Platform → NotifyFront → NotifyFront → Answer → Bool → List ℕ
 shown_as on before after given watching = if watching then watched_answer on before after given else text_of_answer given
 
-shown-as : (on : Setting) (here : Position) (input : Input) (watching : Bool) → here.is_watching ≡ watching
+shown-as : (on : Platform) (here : Position) (input : Input) (watching : Bool) → here.is_watching ≡ watching
     → shown_to_other on here input
     ≡ shown_as on here.lines (after_heard on here.lines input) (answer on here.lines input) watching
 shown-as on here input watching e =
     ap (λ (b : Bool). shown_as on here.lines (after_heard on here.lines input) (answer on here.lines input) b) e
 
 -- an answer of its ending alone, whether exits are watched or not
-ending_as : (on : Setting) (before after : NotifyFront) (given : Answer) (ending : Ending) (watching : Bool)
+ending_as : (on : Platform) (before after : NotifyFront) (given : Answer) (ending : Ending) (watching : Bool)
     → given ≡ without_lines ending → shown_as on before after given watching ≡ text_of_ending ending
 ending_as on before after given ending true e = ap (λ (a : Answer). watched_answer on before after a) e
 ending_as on before after given ending false e = ap text_of_answer e
 
-ending_shown : (on : Setting) (here : Position) (input : Input) (ending : Ending) → answer on here.lines input ≡ without_lines ending
+ending_shown : (on : Platform) (here : Position) (input : Input) (ending : Ending) → answer on here.lines input ≡ without_lines ending
     → shown_to_other on here input ≡ text_of_ending ending
 ending_shown on here input ending e =
     ending_as on here.lines (after_heard on here.lines input) (answer on here.lines input) ending here.is_watching e
@@ -60,7 +60,7 @@ ending_shown on here input ending e =
 -- ---- a line that asks nothing
 
 -- the line breaks a rule
-broken_taken : (on : Setting) (here : Position) (line : List ℕ) (kind : BadKind) (talk : Talk) (old : List ℕ) → old ≡ []
+broken_taken : (on : Platform) (here : Position) (line : List ℕ) (kind : BadKind) (talk : Talk) (old : List ℕ) → old ≡ []
     → talk.is_watching ≡ here.is_watching → Breaks on here.lines line kind talk.player old talk.answer.items
     → TakesAs on here line (Bad kind) talk
 broken_taken on here line kind talk old none watching breaks = record {
@@ -70,7 +70,7 @@ broken_taken on here line kind talk old none watching breaks = record {
 }
 
 -- it was taken, while exits are watched
-pub watched_taken : (on : Setting) (here : Position) (line : List ℕ) (result : Result Taken LineFault) (talk : Talk) (old : List ℕ)
+pub watched_taken : (on : Platform) (here : Position) (line : List ℕ) (result : Result Taken LineFault) (talk : Talk) (old : List ℕ)
     → old ≡ [] → talk.is_watching ≡ here.is_watching → here.is_watching ≡ true
     → Watches on here.lines line result talk.player old talk.answer.items → TakesIn on here line result talk
 watched_taken on here line (Ok how) talk old none watching is_on takes =
@@ -88,7 +88,7 @@ watched_taken on here line (Err (Broken kind)) talk old none watching is_on brea
 watched_taken on here line (Err NoRoom) talk old none watching is_on unsaid = tt
 
 -- or while they aren't
-pub unwatched_taken : (on : Setting) (here : Position) (line : List ℕ) (result : Result Taken LineFault) (talk : Talk) (old : List ℕ)
+pub unwatched_taken : (on : Platform) (here : Position) (line : List ℕ) (result : Result Taken LineFault) (talk : Talk) (old : List ℕ)
     → old ≡ [] → talk.is_watching ≡ here.is_watching → here.is_watching ≡ false
     → Judges on here.lines line result talk.player old talk.answer.items → TakesIn on here line result talk
 unwatched_taken on here line (Ok how) talk old none watching is_off takes =
@@ -105,7 +105,7 @@ unwatched_taken on here line (Err (Broken kind)) talk old none watching is_off b
 unwatched_taken on here line (Err NoRoom) talk old none watching is_off unsaid = tt
 
 -- the line that ends its answer stands behind the others, where memory was there for it
-pub plain_answered : {E : Type 0} (on : Setting) (here : Position) (line : List ℕ) (ending : Ending) (taken talk : Talk)
+pub plain_answered : {E : Type 0} (on : Platform) (here : Position) (line : List ℕ) (ending : Ending) (taken talk : Talk)
     (result : Result (Unit {0}) E) → TakesAs on here line ending taken → taken.player ≡ talk.player
     → taken.is_watching ≡ talk.is_watching → OnOk result (talk.answer.items ≡ taken.answer.items ++ text_of_ending ending)
     → OnOk result (HasAnswered on here line talk)
@@ -121,7 +121,7 @@ not_so : false ≡ true → ⊥
 not_so e = cc
 
 -- by what came of the line
-pub fault_answered : {E : Type 0} (on : Setting) (here : Position) (line : List ℕ) (fault : LineFault) (taken talk : Talk)
+pub fault_answered : {E : Type 0} (on : Platform) (here : Position) (line : List ℕ) (fault : LineFault) (taken talk : Talk)
     (result : Result (Unit {0}) E) → TakesIn on here line (Err fault) taken → taken.player ≡ talk.player
     → taken.is_watching ≡ talk.is_watching
     → ((kind : BadKind) → fault ≡ Broken kind → OnOk result (talk.answer.items ≡ taken.answer.items ++ text_of_ending (Bad kind)))
@@ -144,7 +144,7 @@ told_nothing (Some boot) None = refl
 told_nothing (Some boot) (Some told) = refl
 
 -- exits are watched from now on, or no longer
-pub watch_told : (on : Setting) (here : Position) (is_on : Bool) (talk : Talk) → talk.answer.items ≡ [] → StandsAt on here.lines talk.player
+pub watch_told : (on : Platform) (here : Position) (is_on : Bool) (talk : Talk) → talk.answer.items ≡ [] → StandsAt on here.lines talk.player
     → talk.is_watching ≡ is_on → Tells on here (asks.Watch is_on) talk
 watch_told on here is_on talk none stands watching = record {
   said = none ∙ sym (told_nothing here.lines.trace.boot (play_at on here.lines));
@@ -207,7 +207,7 @@ rules_here here kind line booted fault is e =
     let P : Bool → Type 0 = λ b. first_broken (question_rules kind b line) ≡ fault in subst P is e
 
 -- a question that keeps its rules
-question_shown : (on : Setting) (here : Position) (line : List ℕ) (question : Question) (booted : Bool) (asked : Option QuestionKind)
+question_shown : (on : Platform) (here : Position) (line : List ℕ) (question : Question) (booted : Bool) (asked : Option QuestionKind)
     (told talk : Talk) → kind_of_line line ≡ asked → booted ≡ is_some here.lines.trace.boot
     → IsAskedAs asked booted line (Ok question) → Tells on here question told → told.player ≡ talk.player
     → told.is_watching ≡ talk.is_watching → talk.answer.items ≡ told.answer.items ++ text_of_ending Done
@@ -240,7 +240,7 @@ question_shown on here line question booted (Some kind) told talk kind_is is jud
     }
 
 -- one that breaks a rule
-broken_shown : (on : Setting) (here : Position) (line : List ℕ) (broken : BadKind) (booted : Bool) (asked : Option QuestionKind)
+broken_shown : (on : Platform) (here : Position) (line : List ℕ) (broken : BadKind) (booted : Bool) (asked : Option QuestionKind)
     (before talk : Talk) → kind_of_line line ≡ asked → booted ≡ is_some here.lines.trace.boot
     → IsAskedAs asked booted line (Err (Broken broken)) → before.answer.items ≡ [] → StandsIn on here before
     → before.player ≡ talk.player → before.is_watching ≡ talk.is_watching
@@ -267,7 +267,7 @@ broken_shown on here line broken booted (Some kind) before talk kind_is is judge
 
 -- ---- the answer to a line, where memory was there for it
 
-pub question_answered : {E : Type 0} (on : Setting) (here : Position) (line : List ℕ) (question : Question) (booted : Bool)
+pub question_answered : {E : Type 0} (on : Platform) (here : Position) (line : List ℕ) (question : Question) (booted : Bool)
     (told talk : Talk) (result : Result (Unit {0}) E) → booted ≡ is_some here.lines.trace.boot
     → IsAskedAs (kind_of_line line) booted line (Ok question) → Tells on here question told → told.player ≡ talk.player
     → told.is_watching ≡ talk.is_watching → OnOk result (talk.answer.items ≡ told.answer.items ++ text_of_ending Done)
@@ -276,7 +276,7 @@ question_answered on here line question booted told talk (Ok done) is judged tel
     question_shown on here line question booted (kind_of_line line) told talk refl is judged tells player watching ends
 question_answered on here line question booted told talk (Err e) is judged tells player watching ends = tt
 
-pub broken_answered : {E : Type 0} (on : Setting) (here : Position) (line : List ℕ) (fault : LineFault) (booted : Bool)
+pub broken_answered : {E : Type 0} (on : Platform) (here : Position) (line : List ℕ) (fault : LineFault) (booted : Bool)
     (before talk : Talk) (result : Result (Unit {0}) E) → booted ≡ is_some here.lines.trace.boot
     → IsAskedAs (kind_of_line line) booted line (Err fault) → before.answer.items ≡ [] → StandsIn on here before
     → before.player ≡ talk.player → before.is_watching ≡ talk.is_watching
@@ -298,7 +298,7 @@ same_input : (one other : Input) → Hears one ∷ [] ≡ Hears other ∷ [] →
 same_input one other e = cc
 
 -- it was a line, and has its answer
-pub line_answered : {E : Type 0} (on : Setting) (here : Position) (line : List ℕ) (input : Input) (talk : Talk)
+pub line_answered : {E : Type 0} (on : Platform) (here : Position) (line : List ℕ) (input : Input) (talk : Talk)
     (result : Result (Unit {0}) E) → IsHeard heard.Line line input → OnOk result (HasShown on here (history.Line line) talk)
     → OnOk result (HasShown on here input talk)
 line_answered on here line input talk (Ok done) is shown =
@@ -306,7 +306,7 @@ line_answered on here line input talk (Ok done) is shown =
 line_answered on here line input talk (Err e) is shown = tt
 
 -- a line that is too long
-pub long_answered : {E : Type 0} (on : Setting) (here : Position) (line : List ℕ) (input : Input) (talk : Talk) (old : List ℕ)
+pub long_answered : {E : Type 0} (on : Platform) (here : Position) (line : List ℕ) (input : Input) (talk : Talk) (old : List ℕ)
     (result : Result (Unit {0}) E) → IsHeard heard.Long line input → old ≡ [] → StandsIn on here talk
     → OnOk result (talk.answer.items ≡ old ++ text_of_ending TooLong) → OnOk result (HasShown on here input talk)
 long_answered on here line input talk old (Ok done) is none stands ends =
@@ -319,7 +319,7 @@ long_answered on here line input talk old (Ok done) is none stands ends =
 long_answered on here line input talk old (Err e) is none stands ends = tt
 
 -- or one that was cut off
-pub cut_answered : {E : Type 0} (on : Setting) (here : Position) (line : List ℕ) (input : Input) (talk : Talk) (old : List ℕ)
+pub cut_answered : {E : Type 0} (on : Platform) (here : Position) (line : List ℕ) (input : Input) (talk : Talk) (old : List ℕ)
     (result : Result (Unit {0}) E) → IsHeard heard.Cut line input → old ≡ [] → StandsIn on here talk
     → OnOk result (talk.answer.items ≡ old ++ text_of_ending (Bad bad.Cut))
     → OnOk result (HasShown on here input talk)

@@ -7,7 +7,7 @@ use Rattle.std.proofs.lemmas.List.Folds.{list_all-append}
 use Rattle.line_port.specs.History.{Adds, Event, Hears, Input, Says}
 use Rattle.line_port.specs.declared.finish.Finish.{Finish}
 use Rattle.line_port.specs.declared.finish.Finish.TheVariants as finish
-use Rattle.live_play.specs.Answer.{IsPlayed, Setting, after_heard}
+use Rattle.live_play.specs.Answer.{IsPlayed, Platform, after_heard}
 use Rattle.live_play.specs.Conversation.{IsRest, after_all}
 use Rattle.live_play.specs.Showing.{IsShownRest, Position, first_position, kind_asked_by, position_after, position_behind, showing}
 use Rattle.live_play.specs.ShowingLaws.{PlainConversationsAreAsBefore, hears_plain, is_plain}
@@ -33,7 +33,7 @@ all-kept (input ∷ inputs) plain =
     kept-first input inputs inputs parts.0 (all-kept inputs parts.1)
 
 -- of what was heard and said
-heard-plain : (on : Setting) (here : Position) (inputs : List Input) → list_all hears_plain (showing on here inputs) ≡ true
+heard-plain : (on : Platform) (here : Position) (inputs : List Input) → list_all hears_plain (showing on here inputs) ≡ true
     → list_all is_plain inputs ≡ true
 heard-plain on here [] plain = refl
 heard-plain on here (input ∷ inputs) plain =
@@ -46,7 +46,7 @@ front-plain front behind plain =
 
 -- ---- so it stands where it stood before
 
-plain-behind : (on : Setting) (lines : NotifyFront) (inputs : List Input) → PlainConversationsAreAsBefore
+plain-behind : (on : Platform) (lines : NotifyFront) (inputs : List Input) → PlainConversationsAreAsBefore
     → list_all is_plain inputs ≡ true → position_behind on (unwatched lines) inputs ≡ unwatched (after_all on lines inputs)
 plain-behind on lines [] law plain = refl
 plain-behind on lines (input ∷ inputs) law plain =
@@ -56,7 +56,7 @@ plain-behind on lines (input ∷ inputs) law plain =
     ∙ plain-behind on (after_heard on lines input) inputs law parts.1
 
 -- and ends as it ended before
-plain-rest : (on : Setting) (lines : NotifyFront) (end : Finish) (rest : List Event) → PlainConversationsAreAsBefore
+plain-rest : (on : Platform) (lines : NotifyFront) (end : Finish) (rest : List Event) → PlainConversationsAreAsBefore
     → list_all hears_plain rest ≡ true → IsShownRest on (unwatched lines) end rest → IsRest on lines end rest
 plain-rest on lines finish.Over rest law plain ended = ended
 plain-rest on lines finish.ReadFault rest law plain ended = ended
@@ -75,7 +75,7 @@ plain-rest on lines finish.Memory rest law plain ended = ended
 
 -- ---- all of it
 
-pub plain-talks : (on : Setting) (old new : Option (List Event)) (end : Finish) → PlainConversationsAreAsBefore
+pub plain-talks : (on : Platform) (old new : Option (List Event)) (end : Finish) → PlainConversationsAreAsBefore
     → Shows on old new end → HearsNoQuestion old new → Talks on old new end
 plain-talks on old new end law shows unasked =
     let inputs : List Input = shows.talk.inputs in

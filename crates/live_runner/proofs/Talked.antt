@@ -7,7 +7,7 @@ use Rattle.line_port.specs.History.{Adds, Event, Hears, Input, Says}
 use Rattle.line_port.specs.Laws.{Adds-nil, Adds-trans}
 use Rattle.line_port.specs.declared.finish.Finish.{Finish}
 use Rattle.line_port.specs.declared.finish.Finish.TheVariants as finish
-use Rattle.live_play.specs.Answer.{IsPlayed, Setting, play_at}
+use Rattle.live_play.specs.Answer.{IsPlayed, Platform, play_at}
 use Rattle.live_play.specs.Conversation.{after_all}
 use Rattle.live_play.specs.Laws.{IsHeld, TurnsAreTold}
 use Rattle.live_play.specs.Showing.{IsShownRest, Position, first_position, position_after, position_behind, showing, shown_to}
@@ -21,7 +21,7 @@ use Rattle.ta_isa.specs.declared.boot.Boot.{Boot}
 
 -- ---- one turn more
 
-showing-more : (on : Setting) (here : Position) (inputs : List Input) (input : Input)
+showing-more : (on : Platform) (here : Position) (inputs : List Input) (input : Input)
     → showing on here (inputs ++ input ∷ [])
     ≡ showing on here inputs ++ Hears input ∷ Says (shown_to on (position_behind on here inputs) input) ∷ []
 showing-more on here [] input = refl
@@ -29,7 +29,7 @@ showing-more on here (first ∷ inputs) input =
     ap (λ (l : List Event). Hears first ∷ Says (shown_to on here first) ∷ l)
     (showing-more on (position_after on here first) inputs input)
 
-behind-more : (on : Setting) (here : Position) (inputs : List Input) (input : Input)
+behind-more : (on : Platform) (here : Position) (inputs : List Input) (input : Input)
     → position_behind on here (inputs ++ input ∷ []) ≡ position_after on (position_behind on here inputs) input
 behind-more on here [] input = refl
 behind-more on here (first ∷ inputs) input = behind-more on (position_after on here first) inputs input
@@ -62,13 +62,13 @@ parts (i ∷ inputs) input (f ∷ front) behind e =
 -- ---- the turns so far
 
 -- the history grew by whole turns, behind which it stands; and each part of them has its play
-pub record Going (on : Setting) (start now : Option (List Event)) (talk : Talk) : Type 0 where
+pub record Going (on : Platform) (start now : Option (List Event)) (talk : Talk) : Type 0 where
   pub inputs : List Input
   pub history : Adds start now (showing on first_position inputs)
   pub stands : StandsIn on (position_behind on first_position inputs) talk
   pub each : (front behind : List Input) → inputs ≡ front ++ behind → IsPlayed on (position_behind on first_position front).lines
 
-pub going-first : (on : Setting) (start : Option (List Event)) (talk : Talk) → StandsIn on first_position talk
+pub going-first : (on : Platform) (start : Option (List Event)) (talk : Talk) → StandsIn on first_position talk
     → Going on start start talk
 going-first on start talk stands = record {
   inputs = [];
@@ -79,7 +79,7 @@ going-first on start talk stands = record {
       subst P (sym (none-left front behind e)) stands.player.has_play;
 }
 
-pub going-more : (on : Setting) (start old new : Option (List Event)) (before after : Talk)
+pub going-more : (on : Platform) (start old new : Option (List Event)) (before after : Talk)
     → Going on start old before
     → ((here : Position) → StandsIn on here before → Turns on here old new (Ok tt) after)
     → Going on start new after
@@ -107,7 +107,7 @@ going-more on start old new before after going turns =
 
 -- ---- the end
 
-held-by : (on : Setting) (inputs : List Input) (boot : Option Boot) → TurnsAreTold
+held-by : (on : Platform) (inputs : List Input) (boot : Option Boot) → TurnsAreTold
     → (after_all on no_lines inputs).trace.boot ≡ boot
     → IfSome boot (λ (b : Boot). IsBooted (booted b on.natives) × IsSome (play_at on (after_all on no_lines inputs)))
     → IfSome boot (λ (b : Boot).
@@ -117,12 +117,12 @@ held-by on inputs (Some boot) law there played =
     let told = some_of (play_at on (after_all on no_lines inputs)) played.1 in
     (told.0, told.1, law on inputs boot told.0 there played.0 told.1)
 
-held-there : (on : Setting) (inputs : List Input) → TurnsAreTold → IsPlayed on (after_all on no_lines inputs)
+held-there : (on : Platform) (inputs : List Input) → TurnsAreTold → IsPlayed on (after_all on no_lines inputs)
     → AreHeld on inputs
 held-there on inputs law played = held-by on inputs (after_all on no_lines inputs).trace.boot law refl played
 
 -- what asks could as well have been left out
-held-behind : (on : Setting) (inputs : List Input) → TurnsAreTold → QuestionsChangeNothing
+held-behind : (on : Platform) (inputs : List Input) → TurnsAreTold → QuestionsChangeNothing
     → IsPlayed on (position_behind on first_position inputs).lines → AreHeld on (filter is_plain inputs)
 held-behind on inputs told unchanged played =
     held-there on (filter is_plain inputs) told (subst (IsPlayed on) (unchanged.left_out on first_position inputs) played)
@@ -137,7 +137,7 @@ unanswered : (a b : Input) (part : List ℕ) → Hears a ∷ [] ≡ Hears b ∷ 
 unanswered a b part e = cc
 
 -- a part of the last answer was said
-half-held : (on : Setting) (inputs : List Input) (end : Finish) (rest : List Event) → TurnsAreTold → QuestionsChangeNothing
+half-held : (on : Platform) (inputs : List Input) (end : Finish) (rest : List Event) → TurnsAreTold → QuestionsChangeNothing
     → IsShownRest on (position_behind on first_position inputs) end rest → (input : Input) (part : List ℕ)
     → rest ≡ Hears input ∷ Says part ∷ [] → AreHeld on (filter is_plain (inputs ++ input ∷ []))
 half-held on inputs finish.Over rest told unchanged ended input part e = absurd (said-nothing input part (sym ended ∙ e))
@@ -154,7 +154,7 @@ half-held on inputs finish.Memory rest told unchanged ended input part e =
       | inr heard ↦ absurd (unanswered heard.0 input part (sym heard.1 ∙ e))
     ]
 
-pub shows-ended : (on : Setting) (start old new : Option (List Event)) (talk : Talk) (end : Finish) → TurnsAreTold
+pub shows-ended : (on : Platform) (start old new : Option (List Event)) (talk : Talk) (end : Finish) → TurnsAreTold
     → QuestionsChangeNothing → Going on start old talk
     → ((here : Position) → StandsIn on here talk → (rest : List Event) × Adds old new rest × IsShownRest on here end rest)
     → Shows on start new end

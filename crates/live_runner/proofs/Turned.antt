@@ -11,7 +11,7 @@ use Rattle.line_port.specs.declared.port.Heard.{Heard}
 use Rattle.line_port.specs.declared.port.Heard.TheVariants as heard
 use Rattle.line_port.specs.declared.port.Said.{Said}
 use Rattle.line_port.specs.declared.port.Said.TheVariants as said
-use Rattle.live_play.specs.Answer.{Setting}
+use Rattle.live_play.specs.Answer.{Platform}
 use Rattle.live_play.specs.Showing.{IsShownRest, Position, shown_to}
 use Rattle.live_runner.specs.Turns.{HasShown, IsHeard, Turns}
 use Rattle.live_runner.specs.declared.talk.Talk.{Talk}
@@ -29,7 +29,7 @@ some-finish : (one other : Finish) → Some one ≡ Some other → one ≡ other
 some-finish one other e = cc
 
 -- it ended as it heard
-pub ended-hearing : (on : Setting) (here : Position) (what : Heard) (line : List ℕ) (end : Finish)
+pub ended-hearing : (on : Platform) (here : Position) (what : Heard) (line : List ℕ) (end : Finish)
     (old new : Option (List Event)) → finish_of_heard what ≡ Some end → Adds old new (heard_events what line)
     → (rest : List Event) × Adds old new rest × IsShownRest on here end rest
 ended-hearing on here heard.Line line end old new e adds = absurd cc
@@ -43,14 +43,14 @@ ended-hearing on here heard.Memory line end old new e adds =
     let P : Finish → Type 0 = λ f. IsShownRest on here f [] in ([], adds, subst P (some-finish finish.Memory end e) (inl refl))
 
 -- memory ran out behind what was heard
-pub ended-unanswered : (on : Setting) (here : Position) (what : Heard) (line : List ℕ) (input : Input)
+pub ended-unanswered : (on : Platform) (here : Position) (what : Heard) (line : List ℕ) (input : Input)
     (old new : Option (List Event)) → IsHeard what line input → Adds old new (heard_events what line)
     → (rest : List Event) × Adds old new rest × IsShownRest on here finish.Memory rest
 ended-unanswered on here what line input old new is adds =
     (Hears input ∷ [], subst (Adds old new) is adds, inr (input, refl))
 
 -- the answer was said
-pub said-all : (on : Setting) (here : Position) (what : Heard) (line spoken : List ℕ) (input : Input)
+pub said-all : (on : Platform) (here : Position) (what : Heard) (line spoken : List ℕ) (input : Input)
     (talk : Talk) (told : Said) (a b c : Option (List Event)) → IsHeard what line input
     → HasShown on here input talk → spoken ≡ talk.answer.items → Adds a b (heard_events what line)
     → finish_of_said told ≡ None → (told ≡ said.Done → Adds b c (Says spoken ∷ []))
@@ -66,7 +66,7 @@ said-all on here what line spoken input talk said.Failed a b c is answered same 
 said-all on here what line spoken input talk said.Memory a b c is answered same heard_so e done = absurd cc
 
 -- or a part of it, or nothing
-pub ended-saying : (on : Setting) (here : Position) (what : Heard) (line spoken : List ℕ) (input : Input)
+pub ended-saying : (on : Platform) (here : Position) (what : Heard) (line spoken : List ℕ) (input : Input)
     (talk : Talk) (told : Said) (end : Finish) (a b c : Option (List Event)) → IsHeard what line input
     → HasShown on here input talk → spoken ≡ talk.answer.items → Adds a b (heard_events what line)
     → finish_of_said told ≡ Some end

@@ -3,7 +3,7 @@ use Rattle.std.specs.Prelude.{◌≡◌, ℕ, List, [], ◌∷◌, ◌++◌, tru
 use Rattle.std.specs.List.{list_all}
 use Rattle.line_port.specs.History.{Adds, Event, Hears, Input, Says}
 use Rattle.line_port.specs.declared.finish.Finish.{Finish}
-use Rattle.live_play.specs.Answer.{Setting, play_at}
+use Rattle.live_play.specs.Answer.{Platform, play_at}
 use Rattle.live_play.specs.Conversation.{IsConversation, after_all}
 use Rattle.live_play.specs.Laws.{IsHeld}
 use Rattle.live_play.specs.Showing.{IsShowing}
@@ -14,7 +14,7 @@ use Rattle.ta_isa.specs.declared.boot.Boot.{Boot}
 
 -- where a boot counts behind this, the lines that count have a play, whose history is legal and has the kernel's own answers;
 -- and each return that was said is one of its
-abbrev pub AreHeld : Setting → List Input → Type 0
+abbrev pub AreHeld : Platform → List Input → Type 0
 AreHeld on inputs =
     IfSome (after_all on no_lines inputs).trace.boot (λ (boot : Boot).
     (told : NotifyPlay) × (play_at on (after_all on no_lines inputs) ≡ Some told) × IsHeld on inputs boot told)
@@ -23,7 +23,7 @@ AreHeld on inputs =
 
 -- the history grew by a conversation; so it is behind each of its turns, and behind the last line where a part of its answer was
 -- said
-pub record Talks (on : Setting) (old new : Option (List Event)) (finish : Finish) : Type 0 where
+pub record Talks (on : Platform) (old new : Option (List Event)) (finish : Finish) : Type 0 where
   pub talk : IsConversation on old new finish
   pub held : (front behind : List Input) → talk.inputs ≡ front ++ behind → AreHeld on front
   pub half_said : (input : Input) (part : List ℕ) → talk.rest ≡ Hears input ∷ Says part ∷ []
@@ -37,7 +37,7 @@ HearsNoQuestion old new = (events : List Event) → Adds old new events → list
 
 -- the history grew by a conversation in which lines may ask. Of the lines that don't ask all is so behind each of its turns, and
 -- behind the last line where a part of its answer was said
-pub record Shows (on : Setting) (old new : Option (List Event)) (finish : Finish) : Type 0 where
+pub record Shows (on : Platform) (old new : Option (List Event)) (finish : Finish) : Type 0 where
   pub talk : IsShowing on old new finish
   pub held : (front behind : List Input) → talk.inputs ≡ front ++ behind → AreHeld on (filter is_plain front)
   pub half_said : (input : Input) (part : List ℕ) → talk.rest ≡ Hears input ∷ Says part ∷ []

@@ -5,7 +5,7 @@ use Rattle.line_port.specs.History as heard
 use Rattle.line_port.specs.declared.finish.Finish.{Finish}
 use Rattle.line_port.specs.declared.finish.Finish.TheVariants.{Memory}
 use Rattle.line_port.specs.declared.port.Heard.{Heard}
-use Rattle.live_play.specs.Answer.{Bad, Ending, Setting, after_heard, text_of_ending}
+use Rattle.live_play.specs.Answer.{Bad, Ending, Platform, after_heard, text_of_ending}
 use Rattle.live_play.specs.Showing.{IsShownRest, Position, position_after, shown_to, shown_to_other, told_at, watching_after}
 use Rattle.live_player.specs.Standing.{StandsAt}
 use Rattle.live_player.specs.Taking.{ending_of}
@@ -20,7 +20,7 @@ use Rattle.trace_text.specs.declared.fault.LineFault.TheVariants.{Broken, NoRoom
 -- ---- where it stands
 
 -- the player stands behind the lines that count, and exits are watched or not
-pub record StandsIn (on : Setting) (here : Position) (talk : Talk) : Type 0 where
+pub record StandsIn (on : Platform) (here : Position) (talk : Talk) : Type 0 where
   pub player : StandsAt on here.lines talk.player
   pub watching : talk.is_watching ≡ here.is_watching
 
@@ -31,18 +31,18 @@ abbrev pub IsHeard : Heard → List ℕ → Input → Type 0
 IsHeard heard line input = heard_events heard line ≡ Hears input ∷ []
 
 -- the line was taken so, and all of its answer stands but the line that ends it
-pub record TakesAs (on : Setting) (here : Position) (line : List ℕ) (ending : Ending) (talk : Talk) : Type 0 where
+pub record TakesAs (on : Platform) (here : Position) (line : List ℕ) (ending : Ending) (talk : Talk) : Type 0 where
   pub said : talk.answer.items ++ text_of_ending ending ≡ shown_to_other on here (heard.Line line)
   pub stands : StandsIn on (record here { lines = after_heard on here.lines (heard.Line line) }) talk
 
 -- by what came of it; of want of memory nothing is said
-abbrev pub TakesIn : Setting → Position → List ℕ → Result Taken LineFault → Talk → Type 0
+abbrev pub TakesIn : Platform → Position → List ℕ → Result Taken LineFault → Talk → Type 0
 TakesIn on here line (Ok how) talk = TakesAs on here line (ending_of how) talk
 TakesIn on here line (Err (Broken kind)) talk = TakesAs on here line (Bad kind) talk
 TakesIn on here line (Err NoRoom) talk = Unit {0}
 
 -- all of its answer stands
-pub record HasAnswered (on : Setting) (here : Position) (line : List ℕ) (talk : Talk) : Type 0 where
+pub record HasAnswered (on : Platform) (here : Position) (line : List ℕ) (talk : Talk) : Type 0 where
   pub said : talk.answer.items ≡ shown_to_other on here (heard.Line line)
   pub stands : StandsIn on (record here { lines = after_heard on here.lines (heard.Line line) }) talk
 
@@ -57,21 +57,21 @@ CanBeAsked lines (asks.Buffer cookie) = is_some lines.trace.boot ≡ true
 CanBeAsked lines (asks.Events from count) = is_some lines.trace.boot ≡ true
 
 -- what it asks was done, and the lines of its answer stand
-pub record Tells (on : Setting) (here : Position) (question : Question) (talk : Talk) : Type 0 where
+pub record Tells (on : Platform) (here : Position) (question : Question) (talk : Talk) : Type 0 where
   pub said : talk.answer.items ≡ told_at on here.lines question
   pub stands : StandsIn on (record here { is_watching = watching_after question here.is_watching }) talk
 
 -- ---- an answer
 
 -- to what was heard: it is what is shown to that, and it stands where the conversation is then
-pub record HasShown (on : Setting) (here : Position) (input : Input) (talk : Talk) : Type 0 where
+pub record HasShown (on : Platform) (here : Position) (input : Input) (talk : Talk) : Type 0 where
   pub said : talk.answer.items ≡ shown_to on here input
   pub stands : StandsIn on (position_after on here input) talk
 
 -- ---- a turn
 
 -- something was heard, and its answer said; or the conversation ends so
-abbrev pub Turns : Setting → Position → Option (List Event) → Option (List Event) → Result (Unit {0}) Finish → Talk → Type 0
+abbrev pub Turns : Platform → Position → Option (List Event) → Option (List Event) → Result (Unit {0}) Finish → Talk → Type 0
 Turns on here old new (Ok done) talk =
     (input : Input) × Adds old new (Hears input ∷ Says (shown_to on here input) ∷ [])
     × StandsIn on (position_after on here input) talk

@@ -1,7 +1,7 @@
 //! A conversation to its end.
 
 ghost use Rattle.std.specs.Prelude.{◌≡◌, None};
-ghost use Rattle.live_play.specs.Answer.{setting};
+ghost use Rattle.live_play.specs.Answer.{platform};
 ghost use Rattle.live_play.specs.Showing.{Position};
 ghost use Rattle.live_runner.specs.Talks.{HearsNoQuestion, Shows, Talks};
 ghost use Rattle.live_runner.specs.Turns.{EndsAs, IsEndOf, StandsIn, Turns};
@@ -21,9 +21,9 @@ fn take_turn<P: Port>(
     port: &mut P,
 ) -> Result<(), Finish>
     requires open_there { P.finish port.old ≡ None }
-    requires stands { (here : Position) × StandsIn (setting (entries natives.now) (drivers natives.now)) here talk.old }
-    ensures turn { (here : Position) → StandsIn (setting (entries natives.now) (drivers natives.now)) here talk.old
-        → Turns (setting (entries natives.now) (drivers natives.now)) here (P.history port.old) (P.history port.new) result
+    requires stands { (here : Position) × StandsIn (platform (entries natives.now) (drivers natives.now)) here talk.old }
+    ensures turn { (here : Position) → StandsIn (platform (entries natives.now) (drivers natives.now)) here talk.old
+        → Turns (platform (entries natives.now) (drivers natives.now)) here (P.history port.old) (P.history port.new) result
         talk.new }
     ensures ends { EndsAs result (P.finish port.new) }
 {
@@ -50,13 +50,13 @@ pub fn live<P: Port>(alloc: Global, natives: &Natives, port: &mut P) -> Finish
     // ---- The history grew by a conversation from the first line on, in which lines may ask. Of the lines that don't, as of the
     // last one where its answer was said in part, all returns are those of one play, whose history is legal, with the kernel's own
     // answers, behind each turn.
-    ensures shows { Shows (setting (entries natives.now) (drivers natives.now)) (P.history port.old) (P.history port.new) result }
+    ensures shows { Shows (platform (entries natives.now) (drivers natives.now)) (P.history port.old) (P.history port.new) result }
 
     // ---- Where no line asks, the history grew by a conversation from the first line on, as it does without lines that ask; and
     // behind each of its turns, as behind an answer that was said in part, all returns are those of one play, whose history is
     // legal, with the kernel's own answers.
     ensures talks { HearsNoQuestion (P.history port.old) (P.history port.new) →
-        Talks (setting (entries natives.now) (drivers natives.now)) (P.history port.old) (P.history port.new) result }
+        Talks (platform (entries natives.now) (drivers natives.now)) (P.history port.old) (P.history port.new) result }
 
     // ---- The port has come to this end; but want of memory may come before its end.
     ensures ends { IsEndOf result (P.finish port.new) }

@@ -4,7 +4,7 @@ ghost use Rattle.std.specs.Prelude.{◌≡◌, List, [], OnOk};
 ghost use Rattle.kernel_model.specs.Application.{Native};
 ghost use Rattle.line_port.specs.History.{Input};
 ghost use Rattle.line_port.specs.History as history;
-ghost use Rattle.live_play.specs.Answer.{setting};
+ghost use Rattle.live_play.specs.Answer.{platform};
 ghost use Rattle.live_play.specs.Showing.{Position, first_position};
 ghost use Rattle.live_runner.specs.Turns.{CanBeAsked, HasAnswered, HasShown, IsHeard, StandsIn, TakesIn, Tells};
 ghost use Rattle.native_tas.specs.Table.{drivers, entries};
@@ -33,7 +33,7 @@ pub(crate) struct Talk {
 impl Talk {
     /// Nothing was heard yet. Takes no memory.
     pub(crate) fn new(alloc: Global) -> Talk
-        ensures { (natives : List Native) (ds : Drivers) → StandsIn (setting natives ds) first_position result }
+        ensures { (natives : List Native) (ds : Drivers) → StandsIn (platform natives ds) first_position result }
     {
         Talk {
             player: LivePlayer::new(alloc),
@@ -47,9 +47,9 @@ impl Talk {
     /// How the line was taken, which asks nothing. All of its answer is made but the line that ends it.
     fn take_line(&mut self, alloc: Global, natives: &Natives) -> Result<Taken, LineFault>
         requires none { self.old.answer.items ≡ [] }
-        requires stands { (here : Position) × StandsIn (setting (entries natives.now) (drivers natives.now)) here self.old }
-        ensures { (here : Position) → StandsIn (setting (entries natives.now) (drivers natives.now)) here self.old
-            → TakesIn (setting (entries natives.now) (drivers natives.now)) here self.old.line.items result self.new }
+        requires stands { (here : Position) × StandsIn (platform (entries natives.now) (drivers natives.now)) here self.old }
+        ensures { (here : Position) → StandsIn (platform (entries natives.now) (drivers natives.now)) here self.old
+            → TakesIn (platform (entries natives.now) (drivers natives.now)) here self.old.line.items result self.new }
     {
         let line = self.line.as_slice();
         if self.is_watching {
@@ -64,9 +64,9 @@ impl Talk {
     /// Makes the answer to the line, which asks nothing, where none is made yet.
     fn answer_plain(&mut self, alloc: Global, natives: &Natives) -> Result<(), AllocError>
         requires none { self.old.answer.items ≡ [] }
-        requires stands { (here : Position) × StandsIn (setting (entries natives.now) (drivers natives.now)) here self.old }
-        ensures { (here : Position) → StandsIn (setting (entries natives.now) (drivers natives.now)) here self.old
-            → OnOk result (HasAnswered (setting (entries natives.now) (drivers natives.now)) here self.old.line.items self.new) }
+        requires stands { (here : Position) × StandsIn (platform (entries natives.now) (drivers natives.now)) here self.old }
+        ensures { (here : Position) → StandsIn (platform (entries natives.now) (drivers natives.now)) here self.old
+            → OnOk result (HasAnswered (platform (entries natives.now) (drivers natives.now)) here self.old.line.items self.new) }
     {
         match self.take_line(alloc, natives) {
             Ok(Taken::Done) => push_done(&mut self.answer),
@@ -83,11 +83,11 @@ impl Talk {
         question: &Question,
     ) -> Result<(), AllocError>
         requires none { self.old.answer.items ≡ [] }
-        requires stands { (here : Position) × StandsIn (setting (entries natives.now) (drivers natives.now)) here self.old
+        requires stands { (here : Position) × StandsIn (platform (entries natives.now) (drivers natives.now)) here self.old
             × CanBeAsked here.lines question.now }
-        ensures { (here : Position) → StandsIn (setting (entries natives.now) (drivers natives.now)) here self.old
+        ensures { (here : Position) → StandsIn (platform (entries natives.now) (drivers natives.now)) here self.old
             → CanBeAsked here.lines question.now
-            → OnOk result (Tells (setting (entries natives.now) (drivers natives.now)) here question.now self.new) }
+            → OnOk result (Tells (platform (entries natives.now) (drivers natives.now)) here question.now self.new) }
     {
         match question {
             Question::Watch(is_on) => {
@@ -107,9 +107,9 @@ impl Talk {
     /// Makes the answer to the line, where none is made yet.
     fn answer_line(&mut self, alloc: Global, natives: &Natives) -> Result<(), AllocError>
         requires none { self.old.answer.items ≡ [] }
-        requires stands { (here : Position) × StandsIn (setting (entries natives.now) (drivers natives.now)) here self.old }
-        ensures { (here : Position) → StandsIn (setting (entries natives.now) (drivers natives.now)) here self.old
-            → OnOk result (HasShown (setting (entries natives.now) (drivers natives.now)) here
+        requires stands { (here : Position) × StandsIn (platform (entries natives.now) (drivers natives.now)) here self.old }
+        ensures { (here : Position) → StandsIn (platform (entries natives.now) (drivers natives.now)) here self.old
+            → OnOk result (HasShown (platform (entries natives.now) (drivers natives.now)) here
             (history.Line self.old.line.items) self.new) }
     {
         match read_question(self.player.is_booted(), self.line.as_slice()) {
@@ -129,11 +129,11 @@ impl Talk {
         natives: &Natives,
         heard: Heard,
     ) -> Result<(), AllocError>
-        requires { (here : Position) × StandsIn (setting (entries natives.now) (drivers natives.now)) here self.old }
+        requires { (here : Position) × StandsIn (platform (entries natives.now) (drivers natives.now)) here self.old }
         ensures { (here : Position) (input : Input)
-            → StandsIn (setting (entries natives.now) (drivers natives.now)) here self.old
+            → StandsIn (platform (entries natives.now) (drivers natives.now)) here self.old
             → IsHeard heard self.old.line.items input
-            → OnOk result (HasShown (setting (entries natives.now) (drivers natives.now)) here input self.new) }
+            → OnOk result (HasShown (platform (entries natives.now) (drivers natives.now)) here input self.new) }
     {
         self.answer.clear();
         match heard {

@@ -5,7 +5,7 @@ use Rattle.native_tas.specs.Table.{drivers, entries}
 use Rattle.notify_play.specs.NotifyPlay.{after_item}
 use Rattle.notify_player.specs.Playing.{Follows}
 use Rattle.word_parts.specs.declared.stop.Stop.{Stop}
-use Rattle.live_play.specs.Answer.{setting}
+use Rattle.live_play.specs.Answer.{platform}
 use Rattle.live_player.proofs.Panics.{item_ends}
 use Rattle.live_player.proofs.Playing.{desk_is, item_can, item_done, item_full}
 use Rattle.live_player.proofs.stage.play_on.Goals as goal
@@ -40,5 +40,5 @@ returns-in-Err-Full-clause-plays g c = λ lines next p.
 pub returns-in-Ok-clause-panic : goal.returns-in-Ok-clause-panic
 returns-in-Ok-clause-panic g c = λ lines p.
     let natives = entries c.args.natives.now in
-    item_ends (setting natives (drivers c.args.natives.now)) lines c.args.item.now c.args.player.now c.in-Ok.panic p
+    item_ends (platform natives (drivers c.args.natives.now)) lines c.args.item.now c.args.player.now c.in-Ok.panic p
     (c.in-Ok.ensures.panic (booted p.boot natives) p.told p.stands)

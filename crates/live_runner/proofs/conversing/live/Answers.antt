@@ -2,7 +2,7 @@
 use Rattle.std.proofs.Common.{[], inl, inr, refl}
 use Rattle.line_port.specs.Laws.{Adds-nil}
 use Rattle.line_port.specs.declared.finish.Finish.TheVariants as finish
-use Rattle.live_play.specs.Answer.{setting}
+use Rattle.live_play.specs.Answer.{platform}
 use Rattle.live_play.specs.Showing.{first_position, position_behind}
 use Rattle.native_tas.specs.Table.{drivers, entries}
 use Rattle.live_runner.proofs.Plain.{plain-talks}
@@ -12,14 +12,14 @@ use Rattle.live_runner.proofs.conversing.live.Goals as goal
 pub loop-init : goal.loop-init
 loop-init g c = record {
   going_on = c.requires;
-  going = going-first (setting (entries c.args.natives.now) (drivers c.args.natives.now))
+  going = going-first (platform (entries c.args.natives.now) (drivers c.args.natives.now))
       (g.P.Port.history c.args.port.now) c.new-talk.result
       (c.new-talk.ensures (entries c.args.natives.now) (drivers c.args.natives.now));
 }
 
 pub take_turn-requires-clause-stands : goal.take_turn-requires-clause-stands
 take_turn-requires-clause-stands g c =
-    let on = setting (entries c.args.natives.now) (drivers c.args.natives.now) in
+    let on = platform (entries c.args.natives.now) (drivers c.args.natives.now) in
     (position_behind on first_position c.loop.invariant.going.inputs, c.loop.invariant.going.stands)
 
 pub loop-preserved : goal.loop-preserved

@@ -1,6 +1,6 @@
 -- The port has not ended, and the turns so far were taken.
 use Rattle.std.proofs.Common.{◌≡◌, None}
-use Rattle.live_play.specs.Answer.{setting}
+use Rattle.live_play.specs.Answer.{platform}
 use Rattle.live_runner.proofs.Talked.{Going}
 use Rattle.native_tas.specs.Table.{drivers, entries}
 use Rattle.live_runner.proofs.conversing.live.Given as goal
@@ -8,5 +8,5 @@ use Rattle.live_runner.proofs.conversing.live.Given as goal
 abbrev pub invariant-loop : goal.invariant-loop
 invariant-loop g l = record {
   going_on : g.P.Port.finish l.port ≡ None;
-  going : Going (setting (entries l.natives) (drivers l.natives)) (g.P.Port.history l.fn.port) (g.P.Port.history l.port) l.talk;
+  going : Going (platform (entries l.natives) (drivers l.natives)) (g.P.Port.history l.fn.port) (g.P.Port.history l.port) l.talk;
 }

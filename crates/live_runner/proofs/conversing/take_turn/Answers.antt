@@ -1,13 +1,13 @@
 -- What was heard ends the conversation, or has its answer; and that is said, or ends it.
 use Rattle.std.proofs.Common.{sym}
-use Rattle.live_play.specs.Answer.{setting}
+use Rattle.live_play.specs.Answer.{platform}
 use Rattle.native_tas.specs.Table.{drivers, entries}
 use Rattle.live_runner.proofs.Turned.{ended-hearing, ended-saying, ended-unanswered, heard-there, said-all}
 use Rattle.live_runner.proofs.conversing.take_turn.Goals as goal
 
 pub returns-in-Some-clause-turn : goal.returns-in-Some-clause-turn
 returns-in-Some-clause-turn g c = λ here stands.
-    ended-hearing (setting (entries c.args.natives.now) (drivers c.args.natives.now)) here c.hear-heard.result
+    ended-hearing (platform (entries c.args.natives.now) (drivers c.args.natives.now)) here c.hear-heard.result
     c.hear-heard.new.line.items c.in-Some.finish _ _ (sym c.in-Some.ensures) c.hear-heard.ensures.heard
 
 pub answer-requires : goal.answer-requires
@@ -17,13 +17,13 @@ answer-requires g c =
 pub returns-in_default-answer-clause-turn : goal.returns-in_default-answer-clause-turn
 returns-in_default-answer-clause-turn g c = λ here stands.
     let there = heard-there c.hear-heard.result c.hear-heard.new.line.items (sym c.in_default.ensures) in
-    ended-unanswered (setting (entries c.args.natives.now) (drivers c.args.natives.now)) here c.hear-heard.result
+    ended-unanswered (platform (entries c.args.natives.now) (drivers c.args.natives.now)) here c.hear-heard.result
     c.hear-heard.new.line.items there.0 _ _ there.1 c.hear-heard.ensures.heard
 
 pub returns-in-None-clause-turn : goal.returns-in-None-clause-turn
 returns-in-None-clause-turn g c = λ here stands.
     let there = heard-there c.hear-heard.result c.hear-heard.new.line.items (sym c.in_default.ensures) in
-    said-all (setting (entries c.args.natives.now) (drivers c.args.natives.now)) here c.hear-heard.result
+    said-all (platform (entries c.args.natives.now) (drivers c.args.natives.now)) here c.hear-heard.result
     c.hear-heard.new.line.items c.as_slice.result.now there.0 c.answer.new.self c.say-said.result _ _ _ there.1
     (c.in-Ok.ensures here there.0 (record { player = stands.player; watching = stands.watching }) there.1)
     c.as_slice.ensures.value c.hear-heard.ensures.heard (sym c.in-None.ensures) c.say-said.ensures.done
@@ -31,7 +31,7 @@ returns-in-None-clause-turn g c = λ here stands.
 pub returns-in-Some-finish-clause-turn : goal.returns-in-Some-finish-clause-turn
 returns-in-Some-finish-clause-turn g c = λ here stands.
     let there = heard-there c.hear-heard.result c.hear-heard.new.line.items (sym c.in_default.ensures) in
-    ended-saying (setting (entries c.args.natives.now) (drivers c.args.natives.now)) here c.hear-heard.result
+    ended-saying (platform (entries c.args.natives.now) (drivers c.args.natives.now)) here c.hear-heard.result
     c.hear-heard.new.line.items c.as_slice.result.now there.0 c.answer.new.self c.say-said.result c.in-Some-finish.end
     _ _ _ there.1 (c.in-Ok.ensures here there.0 (record { player = stands.player; watching = stands.watching }) there.1)
     c.as_slice.ensures.value c.hear-heard.ensures.heard (sym c.in-Some-finish.ensures) c.say-said.ensures.failed

@@ -1,6 +1,6 @@
 use Rattle.std.proofs.Common.{sym, subst, ◌∙◌}
 use Rattle.std.specs.Prelude.{All}
-use Rattle.live_play.specs.Answer.{Setting, setting}
+use Rattle.live_play.specs.Answer.{Platform, platform}
 use Rattle.live_player.proofs.Staging.{boot_sound, boot_there, first_ok}
 use Rattle.native_tas.specs.Table.{drivers, entries}
 use Rattle.trace_text.specs.Sound.{IsSoundFill}
@@ -13,7 +13,7 @@ unreachable-requires g c =
 
 pub booted-requires-clause-boot : goal.booted-requires-clause-boot
 booted-requires-clause-boot g c =
-    let on : Setting = setting (entries c.args.natives.now) (drivers c.args.natives.now) in
+    let on : Platform = platform (entries c.args.natives.now) (drivers c.args.natives.now) in
     boot_sound on c.requires.0 c.args.self.now c.in-Some.boot c.requires.1 (sym c.in_ok-boot.ensures ∙ c.in-Some.is)
 
 pub booted-requires-clause-fills : goal.booted-requires-clause-fills

@@ -1,10 +1,10 @@
-use Rattle.live_play.specs.Answer.{setting}
+use Rattle.live_play.specs.Answer.{platform}
 use Rattle.native_tas.specs.Table.{drivers, entries}
 use Rattle.live_player.proofs.player.LivePlayer.take.Goals as goal
 
 pub returns-in_ok-add-in-Done-clause-takes : goal.returns-in_ok-add-in-Done-clause-takes
 returns-in_ok-add-in-Done-clause-takes g c = λ lines next come.
-    let on = setting (entries c.args.natives.now) (drivers c.args.natives.now) in
+    let on = platform (entries c.args.natives.now) (drivers c.args.natives.now) in
     let plays = rw c.in-Done.is at (c.in_ok-panic.ensures.plays lines next come.stage_at) in
     record {
       answers = plays.answers;

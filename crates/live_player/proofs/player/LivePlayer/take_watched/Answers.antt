@@ -1,5 +1,5 @@
 use Rattle.std.proofs.Common.{List, ℕ, ◌++◌, ap, sym, ◌∙◌}
-use Rattle.live_play.specs.Answer.{Setting, setting}
+use Rattle.live_play.specs.Answer.{Platform, platform}
 use Rattle.live_play.specs.Changes.{changes, text_of_changes}
 use Rattle.live_play.specs.Showing.{lane_at}
 use Rattle.live_text.specs.Statement.{with_statement}
@@ -10,7 +10,7 @@ use Rattle.live_player.proofs.player.LivePlayer.take_watched.Goals as goal
 
 pub returns-in_default : goal.returns-in_default
 returns-in_default g c = λ lines next come.
-    let on : Setting = setting (entries c.args.natives.now) (drivers c.args.natives.now) in
+    let on : Platform = platform (entries c.args.natives.now) (drivers c.args.natives.now) in
     rw c.taken.ensures (watches_staying on lines c.args.said (taken_as c.in_ok-take.field-0) c.args.self.now.stage c.take.new.self
     c.args.text.now.items c.take.new.text.items (λ cpu out. c.in_default.not-Some cpu (c.cpu_going_out.ensures ∙ out)) next
     come.stage_at (c.in_ok-take.ensures.takes lines next come))
@@ -18,7 +18,7 @@ returns-in_default g c = λ lines next come.
 pub copy_ram-requires : goal.copy_ram-requires
 copy_ram-requires g c =
     let next = c.requires.next in (
-      setting (entries c.args.natives.now) (drivers c.args.natives.now),
+      platform (entries c.args.natives.now) (drivers c.args.natives.now),
       next.0,
       can_watch (entries c.args.natives.now) (drivers c.args.natives.now) next.0 c.args.said c.in-Some.cpu
           c.args.self.now.stage (sym c.cpu_going_out.ensures ∙ c.in-Some.is) next.1 next.2.stage_at,
@@ -28,7 +28,7 @@ pub push_changes-requires-clause-watched : goal.push_changes-requires-clause-wat
 push_changes-requires-clause-watched g c =
     let next = c.requires.next in
     let takes = rw c.in-Done.is at (c.in_ok-panic.ensures.takes next.0 next.1 next.2) in (
-      setting (entries c.args.natives.now) (drivers c.args.natives.now),
+      platform (entries c.args.natives.now) (drivers c.args.natives.now),
       with_statement next.0 c.args.said,
       can_still_watch (entries c.args.natives.now) (drivers c.args.natives.now) next.0 c.args.said c.in-Some.cpu
           c.take-2.new.self.stage (sym c.cpu_going_out.ensures ∙ c.in-Some.is) next.1 takes.come.stage_at,
@@ -38,7 +38,7 @@ pub returns-in_ok-push_changes-in-Done : goal.returns-in_ok-push_changes-in-Done
 returns-in_ok-push_changes-in-Done g c = λ lines next come.
     let natives = entries c.args.natives.now in
     let ds = drivers c.args.natives.now in
-    let on : Setting = setting natives ds in
+    let on : Platform = platform natives ds in
     let cpu = c.in-Some.cpu in
     let out = sym c.cpu_going_out.ensures ∙ c.in-Some.is in
     let takes = rw c.in-Done.is at (c.in_ok-panic.ensures.takes lines next come) in
@@ -57,6 +57,6 @@ returns-in_ok-push_changes-in-Done g c = λ lines next come.
 
 pub returns-in-Full : goal.returns-in-Full
 returns-in-Full g c = λ lines next come.
-    let on : Setting = setting (entries c.args.natives.now) (drivers c.args.natives.now) in
+    let on : Platform = platform (entries c.args.natives.now) (drivers c.args.natives.now) in
     watches_full on lines c.args.said c.in-Full.copied c.take-2.new.self c.args.text.now.items c.take-2.new.text.items
     (rw c.in-Full.is at (c.in_ok-panic.ensures.takes lines next come))

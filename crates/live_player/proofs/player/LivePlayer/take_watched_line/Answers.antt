@@ -1,7 +1,7 @@
 use Rattle.std.proofs.Common.{◌∙◌}
 use Rattle.std.specs.Prelude.{Ok, Err}
 use Rattle.std.proofs.lemmas.Result.{err_from_is_err_and}
-use Rattle.live_play.specs.Answer.{Setting, setting}
+use Rattle.live_play.specs.Answer.{Platform, platform}
 use Rattle.native_tas.specs.Table.{drivers, entries}
 use Rattle.live_player.proofs.Taking.{not_read, read_as, stands_at}
 use Rattle.live_player.proofs.Watched.{as_watched, watches}
@@ -9,7 +9,7 @@ use Rattle.live_player.proofs.player.LivePlayer.take_watched_line.Goals as goal
 
 pub returns-in_err-said : goal.returns-in_err-said
 returns-in_err-said g c = λ lines stands.
-    let on : Setting = setting (entries c.args.natives.now) (drivers c.args.natives.now) in
+    let on : Platform = platform (entries c.args.natives.now) (drivers c.args.natives.now) in
     let failed = err_from_is_err_and c.from_residual.result c.from_residual.ensures.1 in
     rw (failed.1, failed.2) (as_watched on lines c.args.line.now c.in_err-said.field-0.0 c.args.self.now _ _
     (not_read on lines c.args.line.now c.in_err-said.field-0.0 c.args.self.now _ stands
@@ -30,6 +30,6 @@ returns-in-Ok g c = λ lines stands.
     let same = c.as_slice.ensures.value ∙ c.uuids.ensures.order in
     let says = read_as c.as_slice.result.now c.args.line.now (Ok c.in_ok-said.said) same c.lines_stay_sound.ensures
     c.in_ok-said.ensures.judged c.in_ok-said.ensures.in_place stands.come in
-    watches (setting natives ds) lines c.args.line.now c.in_ok-said.said c.in-Ok.taken c.take_watched.new.self _ _ says
+    watches (platform natives ds) lines c.args.line.now c.in_ok-said.said c.in-Ok.taken c.take_watched.new.self _ _ says
     (stands_at natives ds c.as_slice.result.now same c.as_slice.ensures.fits (rw c.as_slice.ensures.value c.uuids.ensures.apart))
     (c.in-Ok.ensures lines says.next stands.come)

@@ -1,5 +1,5 @@
 use Rattle.std.proofs.Common.{refl}
-use Rattle.live_play.specs.Answer.{Setting, setting}
+use Rattle.live_play.specs.Answer.{Platform, platform}
 use Rattle.live_player.proofs.Panics.{no_panic}
 use Rattle.live_player.proofs.Staging.{waits, waits_unended}
 use Rattle.live_text.specs.Statement.{with_statement}
@@ -23,27 +23,27 @@ returns-in_ok-signal-in-Signal-clause-plays g c = λ lines next stands.
 
 pub returns-in-Blank-clause-plays : goal.returns-in-Blank-clause-plays
 returns-in-Blank-clause-plays g c = λ lines next stands.
-    let on : Setting = setting (entries c.args.natives.now) (drivers c.args.natives.now) in
+    let on : Platform = platform (entries c.args.natives.now) (drivers c.args.natives.now) in
     waits on lines c.args.said.now c.args.self.now c.args.text.now.items c.in-Blank.is next.placed stands
 
 pub returns-in-Blank-2-clause-plays : goal.returns-in-Blank-2-clause-plays
 returns-in-Blank-2-clause-plays g c = λ lines next stands.
-    let on : Setting = setting (entries c.args.natives.now) (drivers c.args.natives.now) in
+    let on : Platform = platform (entries c.args.natives.now) (drivers c.args.natives.now) in
     waits on lines c.args.said.now c.args.self.now c.args.text.now.items c.in-Blank.is next.placed stands
 
 pub returns-in-Blank-3-clause-plays : goal.returns-in-Blank-3-clause-plays
 returns-in-Blank-3-clause-plays g c = λ lines next stands.
-    let on : Setting = setting (entries c.args.natives.now) (drivers c.args.natives.now) in
+    let on : Platform = platform (entries c.args.natives.now) (drivers c.args.natives.now) in
     waits on lines c.args.said.now c.args.self.now c.args.text.now.items c.in-Blank.is next.placed stands
 
 pub returns-in-Blank-4-clause-plays : goal.returns-in-Blank-4-clause-plays
 returns-in-Blank-4-clause-plays g c = λ lines next stands.
-    let on : Setting = setting (entries c.args.natives.now) (drivers c.args.natives.now) in
+    let on : Platform = platform (entries c.args.natives.now) (drivers c.args.natives.now) in
     waits on lines c.args.said.now c.args.self.now c.args.text.now.items c.in-Blank.is next.placed stands
 
 pub returns-in-Blank-5-clause-plays : goal.returns-in-Blank-5-clause-plays
 returns-in-Blank-5-clause-plays g c = λ lines next stands.
-    let on : Setting = setting (entries c.args.natives.now) (drivers c.args.natives.now) in
+    let on : Platform = platform (entries c.args.natives.now) (drivers c.args.natives.now) in
     waits on lines c.args.said.now c.args.self.now c.args.text.now.items c.in-Blank.is next.placed stands
 
 pub returns-in-Item-clause-panic : goal.returns-in-Item-clause-panic
@@ -53,30 +53,30 @@ returns-in-Item-clause-panic g c = λ lines next stands.
 pub returns-in_ok-signal-in-Signal-clause-panic :
     goal.returns-in_ok-signal-in-Signal-clause-panic
 returns-in_ok-signal-in-Signal-clause-panic g c = λ lines next stands.
-    let on : Setting = setting (entries c.args.natives.now) (drivers c.args.natives.now) in
+    let on : Platform = platform (entries c.args.natives.now) (drivers c.args.natives.now) in
     rw c.in-Signal.is (no_panic on lines (with_statement lines (says.Signal c.in-Signal.value)) refl)
 
 pub returns-in-Blank-clause-panic : goal.returns-in-Blank-clause-panic
 returns-in-Blank-clause-panic g c = λ lines next stands.
-    let on : Setting = setting (entries c.args.natives.now) (drivers c.args.natives.now) in
+    let on : Platform = platform (entries c.args.natives.now) (drivers c.args.natives.now) in
     waits_unended on lines c.args.said.now c.in-Blank.is
 
 pub returns-in-Blank-2-clause-panic : goal.returns-in-Blank-2-clause-panic
 returns-in-Blank-2-clause-panic g c = λ lines next stands.
-    let on : Setting = setting (entries c.args.natives.now) (drivers c.args.natives.now) in
+    let on : Platform = platform (entries c.args.natives.now) (drivers c.args.natives.now) in
     waits_unended on lines c.args.said.now c.in-Blank.is
 
 pub returns-in-Blank-3-clause-panic : goal.returns-in-Blank-3-clause-panic
 returns-in-Blank-3-clause-panic g c = λ lines next stands.
-    let on : Setting = setting (entries c.args.natives.now) (drivers c.args.natives.now) in
+    let on : Platform = platform (entries c.args.natives.now) (drivers c.args.natives.now) in
     waits_unended on lines c.args.said.now c.in-Blank.is
 
 pub returns-in-Blank-4-clause-panic : goal.returns-in-Blank-4-clause-panic
 returns-in-Blank-4-clause-panic g c = λ lines next stands.
-    let on : Setting = setting (entries c.args.natives.now) (drivers c.args.natives.now) in
+    let on : Platform = platform (entries c.args.natives.now) (drivers c.args.natives.now) in
     waits_unended on lines c.args.said.now c.in-Blank.is
 
 pub returns-in-Blank-5-clause-panic : goal.returns-in-Blank-5-clause-panic
 returns-in-Blank-5-clause-panic g c = λ lines next stands.
-    let on : Setting = setting (entries c.args.natives.now) (drivers c.args.natives.now) in
+    let on : Platform = platform (entries c.args.natives.now) (drivers c.args.natives.now) in
     waits_unended on lines c.args.said.now c.in-Blank.is

@@ -1,5 +1,5 @@
 use Rattle.std.proofs.Common.{refl}
-use Rattle.live_play.specs.Answer.{Setting, setting}
+use Rattle.live_play.specs.Answer.{Platform, platform}
 use Rattle.live_player.proofs.Staging.{begun_plays, can_begin, closed_item, core_plays, refused_plays}
 use Rattle.live_text.specs.declared.statement.Statement.TheVariants as says
 use Rattle.native_tas.specs.Table.{drivers, entries}
@@ -10,14 +10,14 @@ play_on-requires g c = (c.requires.0, c.requires.1, (rw c.in-Core.is at c.requir
 
 pub returns-in-Core-clause-plays : goal.returns-in-Core-clause-plays
 returns-in-Core-clause-plays g c = λ lines next stands.
-    let on : Setting = setting (entries c.args.natives.now) (drivers c.args.natives.now) in
+    let on : Platform = platform (entries c.args.natives.now) (drivers c.args.natives.now) in
     let there = rw c.in-Core.is at stands in
     core_plays on lines c.args.item.now c.play_on.result c.play_on.new.player c.args.text.now.items
     c.play_on.new.text.items there.1 (c.play_on.ensures.plays lines next there.0)
 
 pub first_player-requires : goal.first_player-requires
 first_player-requires g c =
-    let on : Setting = setting (entries c.args.natives.now) (drivers c.args.natives.now) in
+    let on : Platform = platform (entries c.args.natives.now) (drivers c.args.natives.now) in
     let there = rw c.in-Header.is at c.requires.2 in (
       c.requires.0,
       can_begin on c.requires.0 (says.Item c.args.item.now) c.in-Header.header there.0 there.1 c.requires.1
@@ -26,7 +26,7 @@ first_player-requires g c =
 
 pub play_on-requires-in-Header : goal.play_on-requires-in-Header
 play_on-requires-in-Header g c =
-    let on : Setting = setting (entries c.args.natives.now) (drivers c.args.natives.now) in
+    let on : Platform = platform (entries c.args.natives.now) (drivers c.args.natives.now) in
     let there = rw c.in-Header.is at c.requires.2 in (
       c.requires.0,
       c.requires.1,
@@ -37,7 +37,7 @@ play_on-requires-in-Header g c =
 
 pub returns-in-Done-clause-plays : goal.returns-in-Done-clause-plays
 returns-in-Done-clause-plays g c = λ lines next stands.
-    let on : Setting = setting (entries c.args.natives.now) (drivers c.args.natives.now) in
+    let on : Platform = platform (entries c.args.natives.now) (drivers c.args.natives.now) in
     let there = rw c.in-Header.is at stands in
     let can = can_begin on lines (says.Item c.args.item.now) c.in-Header.header there.0 there.1 next
     (closed_item lines c.args.item.now) refl in
@@ -47,7 +47,7 @@ returns-in-Done-clause-plays g c = λ lines next stands.
 
 pub returns-in-Full-clause-plays : goal.returns-in-Full-clause-plays
 returns-in-Full-clause-plays g c = λ lines next stands.
-    let on : Setting = setting (entries c.args.natives.now) (drivers c.args.natives.now) in
+    let on : Platform = platform (entries c.args.natives.now) (drivers c.args.natives.now) in
     let there = rw c.in-Header.is at stands in
     let can = can_begin on lines (says.Item c.args.item.now) c.in-Header.header there.0 there.1 next
     (closed_item lines c.args.item.now) refl in
@@ -61,7 +61,7 @@ returns-in-Core-clause-panic g c = λ lines next stands.
 
 pub returns-in-Done-clause-panic : goal.returns-in-Done-clause-panic
 returns-in-Done-clause-panic g c = λ lines next stands.
-    let on : Setting = setting (entries c.args.natives.now) (drivers c.args.natives.now) in
+    let on : Platform = platform (entries c.args.natives.now) (drivers c.args.natives.now) in
     let there = rw c.in-Header.is at stands in
     let can = can_begin on lines (says.Item c.args.item.now) c.in-Header.header there.0 there.1 next
     (closed_item lines c.args.item.now) refl in
@@ -69,7 +69,7 @@ returns-in-Done-clause-panic g c = λ lines next stands.
 
 pub returns-in-Full-clause-panic : goal.returns-in-Full-clause-panic
 returns-in-Full-clause-panic g c = λ lines next stands.
-    let on : Setting = setting (entries c.args.natives.now) (drivers c.args.natives.now) in
+    let on : Platform = platform (entries c.args.natives.now) (drivers c.args.natives.now) in
     let there = rw c.in-Header.is at stands in
     let can = can_begin on lines (says.Item c.args.item.now) c.in-Header.header there.0 there.1 next
     (closed_item lines c.args.item.now) refl in

@@ -1,5 +1,5 @@
 use Rattle.std.proofs.Common.{refl}
-use Rattle.live_play.specs.Answer.{Setting, setting}
+use Rattle.live_play.specs.Answer.{Platform, platform}
 use Rattle.live_play.specs.Showing.{Position}
 use Rattle.live_text.specs.Asking.{kind_of_line}
 use Rattle.native_tas.specs.Table.{drivers, entries}
@@ -8,7 +8,7 @@ use Rattle.live_runner.proofs.talk.Talk.answer_line.Goals as goal
 
 pub tell-requires-clause-stands : goal.tell-requires-clause-stands
 tell-requires-clause-stands g c =
-    let on : Setting = setting (entries c.args.natives.now) (drivers c.args.natives.now) in
+    let on : Platform = platform (entries c.args.natives.now) (drivers c.args.natives.now) in
     let here : Position = c.requires.stands.0 in (
       here,
       c.requires.stands.1,
@@ -19,7 +19,7 @@ tell-requires-clause-stands g c =
 
 pub returns-in_ok-tell-in-Some-Ok : goal.returns-in_ok-tell-in-Some-Ok
 returns-in_ok-tell-in-Some-Ok g c = λ here stands.
-    let on : Setting = setting (entries c.args.natives.now) (drivers c.args.natives.now) in
+    let on : Platform = platform (entries c.args.natives.now) (drivers c.args.natives.now) in
     let booted = c.is_booted.ensures on here.lines stands.player in
     let judged = rw c.as_slice.ensures.value at (rw c.in-Some-Ok.field-0-is at c.in-Some-Ok.ensures.asked) in
     question_answered on here c.args.self.now.line.items c.in-Some-Ok.question c.is_booted.result c.tell.new.self _
@@ -31,7 +31,7 @@ returns-in_ok-tell-in-Some-Ok g c = λ here stands.
 
 pub returns-in-Some-Err : goal.returns-in-Some-Err
 returns-in-Some-Err g c = λ here stands.
-    let on : Setting = setting (entries c.args.natives.now) (drivers c.args.natives.now) in
+    let on : Platform = platform (entries c.args.natives.now) (drivers c.args.natives.now) in
     broken_answered on here c.args.self.now.line.items c.in-Some-Err.fault c.is_booted.result c.args.self.now _ c.push_fault.result
     (c.is_booted.ensures on here.lines stands.player)
     (rw c.as_slice.ensures.value at (rw c.in-Some-Err.field-0-is at c.in-Some-Err.ensures.asked))
