@@ -7,8 +7,8 @@ use Rattle.instance_groups.proofs.arriving.back_arrival.Goals as goal
 pub decide-requires : goal.decide-requires
 decide-requires c = can_decide c.args.core.now.parts c.args.regs.now.a c.args.core.now.replay
 
-pub resumed_in-requires : goal.resumed_in-requires
-resumed_in-requires c =
+pub resumed_in-resumed-requires : goal.resumed_in-resumed-requires
+resumed_in-resumed-requires c =
     suspended_so c.args.core.now.parts.slots c.args.regs.now.a c.args.lane.now c.new-reads.result c.decide.new.reads
     c.in-Some.decided (can_decide c.args.core.now.parts c.args.regs.now.a c.args.core.now.replay)
     (λ beside held are. rw c.in-Some.is at (c.in_ok-call.ensures.ok beside held are))
