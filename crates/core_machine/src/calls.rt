@@ -12,11 +12,10 @@ ghost use Rattle.play_model.specs.Play.{Play, lane_of, with_writes};
 use crate::machine::Machine;
 use crate::smc::Smc;
 use base::NoMemory;
-use core_at_work::CoreAtWork;
+use core_at_work::{CoreAtWork, WentOut};
 use kernel_entry::Visitor;
 use kernel_state::{Core, EnterRefusal};
 use ns_ram::{Lane, RAM_BYTES, RAM_START};
-use smc_abi::Regs;
 use std::alloc::Global;
 
 impl Machine {
@@ -40,14 +39,14 @@ impl Machine {
         self.at_work.enter(alloc, visitor, &self.lanes[place])
     }
 
-    /// A processor that is inside goes out with these registers, its granted steps done. What it has to say is written to
-    /// the RAM that it sees. Takes no memory.
-    pub fn leave(&mut self, cpu: u8) -> Regs
+    /// A processor that is inside goes out, its granted steps done. What it has to say is written to the RAM that it sees.
+    /// Takes no memory.
+    pub fn leave(&mut self, cpu: u8) -> WentOut
         requires { CanCome self.old (smc.Leaves cpu) }
-        ensures { (boot : Booted) (play : Play) → IsAt boot play self.old → LeavesAt boot play cpu self.new result }
+        ensures leaves { (boot : Booted) (play : Play) → IsAt boot play self.old → LeavesAt boot play cpu self.new result.regs }
+        ensures panic { (boot : Booted) (play : Play) → IsAt boot play self.old → result.panic ≡ panic_of play.kernel cpu }
     {
-        let out = self.at_work.leave(cpu, &mut self.lanes[usize::from(cpu)]);
-        out.regs
+        self.at_work.leave(cpu, &mut self.lanes[usize::from(cpu)])
     }
 
     /// Writes bytes to the RAM that a processor sees, as the normal world does at any time.
@@ -78,14 +77,6 @@ impl Machine {
         ensures len { length result.now ≡ 0x400000 }
     {
         self.lanes[usize::from(cpu)].at(RAM_START, RAM_BYTES)
-    }
-
-    /// The code of the panic in which the granted steps of the call have ended that a processor goes out with, if they did.
-    pub fn panic(&self, cpu: u8) -> Option<u32>
-        requires { CanCome self.now (smc.Leaves cpu) }
-        ensures { (boot : Booted) (play : Play) → IsAt boot play self.now → result ≡ panic_of play.kernel cpu }
-    {
-        self.at_work.panic(cpu)
     }
 
     /// Whether a processor is inside. One that there isn't is not.

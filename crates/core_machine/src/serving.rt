@@ -66,7 +66,7 @@ impl Machine {
         match smc {
             Smc::Comes(visitor) => self.enter(alloc, visitor),
             Smc::Leaves(cpu) => {
-                let regs = self.leave(cpu);
+                let regs = self.leave(cpu).regs;
                 answers.push_reserved(Told { cpu, regs });
                 Ok(())
             }

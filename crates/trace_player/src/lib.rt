@@ -2,7 +2,9 @@
 //! print.
 //!
 //! It stands before the first item of a trace as its boot and its fills have it, and at each item says which play of
-//! `play_model` it has come to. What is done with the lines, and what is made of a refused entry, is its caller's.
+//! `play_model` it has come to. An item is played whole, and its processor told the kernel's answer; or for another answer it is
+//! played by `begin_item` up to its `Exit`, which has the kernel's answer and the panic in which its call has ended, and then
+//! the processor is told by `tell`. What is done with the lines, and what is made of a refused entry, is its caller's.
 #![tactic(auto)]
 
 mod exit;

@@ -119,11 +119,13 @@ impl Player {
         ensures cpu { result.answer.cpu ≡ cpu }
     {
         machines_stand();
-        let panic = self.machine.panic(cpu);
-        let regs = self.machine.leave(cpu);
+        let out = self.machine.leave(cpu);
         Exit {
-            answer: Told { cpu, regs },
-            panic,
+            answer: Told {
+                cpu,
+                regs: out.regs,
+            },
+            panic: out.panic,
         }
     }
 

@@ -8,5 +8,5 @@ returns-in-Comes-clause-serves c =
 
 pub returns-in-Leaves-clause-serves : goal.returns-in-Leaves-clause-serves
 returns-in-Leaves-clause-serves c =
-    rw c.in-Leaves.is (one_exit c.args.self.now _ c.args.answers.now.items _ c.in-Leaves.cpu c.leave-regs.result
-    c.leave-regs.ensures c.push_reserved.ensures.items)
+    rw c.in-Leaves.is (one_exit c.args.self.now _ c.args.answers.now.items _ c.in-Leaves.cpu c.leave.result.regs
+    c.leave.ensures.leaves c.push_reserved.ensures.items)
