@@ -4,19 +4,21 @@ use Rattle.std.specs.Prelude.{◌&&◌, not, if◌then◌else◌, slice_get, is_
 use Rattle.std.specs.Option.{is_none}
 use Rattle.base.specs.NumberMap.{get}
 use Rattle.group_model.specs.Read.{finds_it_gone}
-use Rattle.instance_groups.specs.Arriving.{IsArrivalFrom, IsArrivalIn, IsNew, IsRoomIn, Watch, arrival_by, arrival_of, call_by, finds_gone, is_open, is_waiting, room_as, room_then, watch}
+use Rattle.instance_groups.specs.Arriving.{IsArrivalBy, IsArrivalFrom, IsArrivalIn, IsNew, IsRoomIn, Watch, arrival_of, finds_gone}
+use Rattle.instance_groups.specs.Arriving.{is_open, is_waiting, room_as, room_then, watch}
 use Rattle.instance_groups.specs.declared.arriving.Arrival.TheVariants as arrival
-use Rattle.instance_groups.specs.declared.arriving.NewCall.{NewCall}
+use Rattle.isolation.specs.declared.calls.NewCall.{NewCall}
 use Rattle.instance_groups.specs.declared.arriving.Resumed.{Resumed}
 use Rattle.instance_groups.proofs.Plans.{plan_is}
 use Rattle.isolation.specs.Arriving.{IsBackIn, back_as}
+use Rattle.isolation.specs.Calls.{IsCallBy, IsNewCall, call_by}
 use Rattle.isolation.specs.declared.notes.Back.{Back as BackWith}
 use Rattle.isolation.proofs.Arrivals.{seen_is}
 use Rattle.isolation.proofs.Arrived.{input_is}
 use Rattle.isolation.proofs.LeftCalls.{PhaseAs, phase_as}
 use Rattle.job_model.specs.declared.call_kind.CallKind.{CallKind}
 use Rattle.job_model.specs.declared.call_kind.CallKind.TheVariants as kind
-use Rattle.kernel_entry.proofs.Decisions.{new_so, resume_refused, same_lowest}
+use Rattle.kernel_entry.proofs.Decisions.{resume_refused}
 use Rattle.kernel_entry.specs.Resuming.{goes_on_as}
 use Rattle.kernel_model.specs.Application.{Application, Booted}
 use Rattle.kernel_model.specs.Argument.{client_in, reg, thread_in}
@@ -26,23 +28,15 @@ use Rattle.kernel_model.specs.Decision as model
 use Rattle.kernel_model.specs.Entry.{decision_of}
 use Rattle.kernel_model.specs.Given.{Given, given_to}
 use Rattle.kernel_model.specs.Kernel.{CallPhase, Runs, Asks, Waits, Ends, Active, Free, Kernel, PendingCall, Suspended, Tables, ThreadSlot}
-use Rattle.kernel_model.specs.NewCall.{new_call, new_call_with}
 use Rattle.kernel_model.specs.Resume.{call_resumed_by, onward_of, resume, resumed_call, suspended_for}
-use Rattle.kernel_model.proofs.SoundSlots.{free_there}
 use Rattle.kernel_state.specs.Calls.{IsCall}
 use Rattle.kernel_state.specs.Setup.{booted_with}
 use Rattle.kernel_state.specs.StandsFor.{StandsFor}
 use Rattle.kernel_state.specs.Tables.{tables_of}
 use Rattle.kernel_state.specs.declared.parts.Parts.{Parts}
-use Rattle.new_calls.specs.Applying.{CanApply}
-use Rattle.new_calls.specs.Commands as new_calls
-use Rattle.new_calls.specs.Deciding.{call_with, taken_of}
-use Rattle.new_calls.specs.declared.decided.Decided.{Decided as NewDecided}
-use Rattle.new_calls.specs.declared.decided.Decided.TheVariants as decided
-use Rattle.new_calls.specs.declared.entered.Entered.{Entered}
-use Rattle.new_calls.specs.declared.plan.Plan.{Plan}
+use Rattle.new_calls.specs.Deciding.{taken_of}
 use Rattle.ns_ram.proofs.ReaderLaws.{over_lane-reading}
-use Rattle.ns_ram.specs.Reader.{over_lane}
+use Rattle.ns_ram.specs.Reader.{Reader, over_lane}
 use Rattle.ns_ram.specs.declared.read.Read.{Read}
 use Rattle.resumed_calls.proofs.Taking.{decision_taken, slot_resumed}
 use Rattle.resumed_calls.specs.Deciding.{IsDecided, IsDecidedFor}
@@ -55,7 +49,6 @@ use Rattle.smc_abi.specs.FastAnswer.{fast_answer_of}
 use Rattle.smc_abi.specs.declared.call.Call.{Call}
 use Rattle.smc_abi.specs.declared.call.Call.TheVariants.{Fast, Unknown}
 use Rattle.smc_abi.specs.declared.call.FastCall.{FastCall}
-use Rattle.thread_slots.specs.Slots as code
 
 -- ---- calls whose answer is fixed by their registers
 
@@ -84,54 +77,28 @@ answered_unknown w regs lane is =
 
 -- ---- new calls
 
-new_in : (w : Watch) (regs : List ℕ) (reads : List Read) (slot : ℕ) (call : PendingCall) (tables : Tables) (came : Option NewCall)
+new_in_slot : (w : Watch) (regs : List ℕ) (reads : List Read) (slot : ℕ) (call : PendingCall) (tables : Tables) (came : Option NewCall)
     → IsNew w.kernel tables slot call came → IsArrivalIn w regs reads slot call tables (arrival_of came)
-new_in w regs reads slot call tables None is = is
-new_in w regs reads slot call tables (Some came) is = is
+new_in_slot w regs reads slot call tables None is = is
+new_in_slot w regs reads slot call tables (Some came) is = is
 
-module _ (parts : Parts) (app : Application) (k : Kernel) (regs lane : List ℕ) (reads : List Read) (stands : StandsFor parts k) where
-  abbrev now : Watch
-  now = watch (booted_with parts.setup) app k
+-- by what the kernel decided of it
+new_by : (w : Watch) (regs : List ℕ) (reads : List Read) (came : Option NewCall) (decision : model.Decision)
+    → IsCallBy w.kernel came decision → IsArrivalBy w regs reads (arrival_of came) decision
+new_by w regs reads came (model.Answers answer) is = tt
+new_by w regs reads came (model.Takes slot taken) is =
+    let c = is.call in
+    let called = call_by c.head.func (is_some c.area) is.plan in
+    let planned = plan_is c is.plan is.can in
+    subst (λ (o : Option NewCall). IsArrivalIn w regs reads slot taken.call taken.tables (arrival_of o)) (sym is.is)
+    (subst (λ (t : model.Taken). IsArrivalIn w regs reads slot t.call t.tables (arrival_of called)) (sym is.taken_for)
+    (new_in_slot w regs reads slot (taken_of c is.plan).call (taken_of c is.plan).tables called
+    (record { free = is.free; event = planned.event; sessions = planned.sessions })))
 
-  answered_new : (answer : _)
-      → over_lane (new_call (booted_with parts.setup) k regs) lane [] ≡ Some (model.Answers answer, reads)
-      → IsArrivalFrom now regs lane (new_call (booted_with parts.setup) k regs) arrival.Nothing
-  answered_new answer is = record { decision = model.Answers answer; reads = reads; decides = is; is = tt }
-
-  planned_new : (entered : Entered) (plan : Plan)
-      → (let c = call_with (booted_with parts.setup) (tables_of parts.tables) entered in
-      code.lowest_free parts.slots ≡ Some entered.slot → CanApply c plan
-      → over_lane (new_call (booted_with parts.setup) k regs) lane [] ≡ Some (model.Takes entered.slot (taken_of c plan), reads)
-      → IsArrivalFrom now regs lane (new_call (booted_with parts.setup) k regs)
-      (arrival_of (call_by entered.head.func (is_some entered.area) plan)))
-  planned_new entered plan lowest can is =
-      let c = call_with (booted_with parts.setup) (tables_of parts.tables) entered in
-      let planned = plan_is c plan can in
-      record {
-        decision = model.Takes entered.slot (taken_of c plan);
-        reads = reads;
-        decides = is;
-        is = new_in now regs reads entered.slot (taken_of c plan).call (taken_of c plan).tables
-            (call_by entered.head.func (is_some entered.area) plan) (record {
-              free = free_there k.slots entered.slot (same_lowest parts.slots parts.cancellations.items k.slots stands.slots ∙ lowest);
-              event = planned.event;
-              sessions = planned.sessions;
-            });
-      }
-
-  pub new_arrives : (found : NewDecided) (free : Option ℕ)
-      → free ≡ code.lowest_free parts.slots → new_calls.IsInSlot free found
-      → new_calls.CanTake (booted_with parts.setup) (tables_of parts.tables) found
-      → over_lane (model.decided_by (new_call_with (booted_with parts.setup) (tables_of parts.tables) regs free)) lane []
-      ≡ Some (new_calls.decision_of (booted_with parts.setup) (tables_of parts.tables) found, reads)
-      → IsArrivalFrom now regs lane (new_call (booted_with parts.setup) k regs) (arrival_by found)
-  new_arrives (decided.Answers answer) free lowest slot can is =
-      answered_new answer (new_so parts k regs lane [] reads (decided.Answers answer) free (model.Answers answer) lowest refl stands is)
-  new_arrives (decided.Takes entered plan) free lowest slot can is =
-      planned_new entered plan (sym lowest ∙ slot) can.1
-      (new_so parts k regs lane [] reads (decided.Takes entered plan) free
-      (model.Takes entered.slot (taken_of (call_with (booted_with parts.setup) (tables_of parts.tables) entered) plan))
-      lowest refl stands is)
+pub new_arrives : (w : Watch) (regs lane : List ℕ) (reader : Reader model.Decision) (came : Option NewCall)
+    → IsNewCall w.kernel lane reader came → IsArrivalFrom w regs lane reader (arrival_of came)
+new_arrives w regs lane reader came it =
+    record { decision = it.decision; reads = it.reads; decides = it.decides; is = new_by w regs it.reads came it.decision it.is }
 
 -- ---- whether its instance is gone
 

@@ -7,7 +7,7 @@ use Rattle.group_model.specs.declared.group_event.GroupEvent.{GroupEvent}
 use Rattle.group_model.specs.declared.group_event.GroupEvent.TheVariants.{Room, Seen}
 use Rattle.instance_groups.specs.Arriving.{IsNew, IsResumed, Watch, event_as, gets_session}
 use Rattle.instance_groups.specs.Noted.{called_as, has_called, with_input, with_resumed, with_room, with_seen}
-use Rattle.instance_groups.specs.declared.arriving.NewCall.{NewCall}
+use Rattle.isolation.specs.declared.calls.NewCall.{NewCall}
 use Rattle.instance_groups.specs.declared.arriving.Resumed.{Resumed}
 use Rattle.isolation.specs.Arriving.{input_then}
 use Rattle.kernel_model.specs.Application.{Application}

@@ -10,7 +10,7 @@ use Rattle.instance_groups.specs.Noted.{called_as, session_of, with_resumed}
 use Rattle.instance_groups.specs.Replaying.{HasArrived, HasArrivedFor, HasArrivedIn}
 use Rattle.instance_groups.specs.declared.arriving.Arrival.{Arrival}
 use Rattle.instance_groups.specs.declared.arriving.Arrival.TheVariants as arrival
-use Rattle.instance_groups.specs.declared.arriving.NewCall.{NewCall}
+use Rattle.isolation.specs.declared.calls.NewCall.{NewCall}
 use Rattle.instance_groups.specs.declared.arriving.Resumed.{Resumed}
 use Rattle.instance_groups.proofs.Arrived.{noted_called, noted_nothing, resumed_so}
 use Rattle.instance_groups.proofs.Decided.{noted_answered, noted_back, noted_new, visit, watched}

@@ -6,10 +6,11 @@ use Rattle.base.specs.NumberMap.{NumberMap, get, insert}
 use Rattle.group_model.specs.Read.{Notes, event_of, sessions_with}
 use Rattle.group_model.specs.declared.group_event.GroupEvent.{GroupEvent}
 use Rattle.group_model.specs.declared.group_event.GroupEvent.TheVariants as group
-use Rattle.instance_groups.specs.Arriving.{call_by, event_as, opens_by, sessions_as}
-use Rattle.instance_groups.specs.declared.arriving.NewCall.{NewCall}
-use Rattle.instance_groups.specs.declared.arriving.NewCall.TheVariants as new
-use Rattle.instance_groups.specs.declared.arriving.SessionCall.TheVariants as in_session
+use Rattle.instance_groups.specs.Arriving.{event_as, sessions_as}
+use Rattle.isolation.specs.Calls.{call_by, reserving_open}
+use Rattle.isolation.specs.declared.calls.NewCall.{NewCall}
+use Rattle.isolation.specs.declared.calls.NewCall.TheVariants as new
+use Rattle.isolation.specs.declared.calls.SessionCall.TheVariants as in_session
 use Rattle.isolation.proofs.Plans.{begins_there, job_params}
 use Rattle.job_model.specs.declared.call_kind.CallKind.TheVariants as kind
 use Rattle.job_model.specs.declared.entry_point.EntryPoint.{EntryPoint}
@@ -64,7 +65,7 @@ login_kept sessions number session params area =
 
 module _ (c : Call) (app : Application) (login : Login) (copies : Copies) where
   abbrev IsOpen : Taken → Type 0
-  IsOpen taken = IsPlanned taken (Some (new.Opens (opens_by app (input.Copied copies.params) login (is_some c.area))))
+  IsOpen taken = IsPlanned taken (Some (new.Opens (reserving_open app (input.Copied copies.params) login (is_some c.area))))
 
   abbrev opens_as : Begun → Taken
   opens_as begun =

@@ -1,5 +1,5 @@
 -- What an entry is for a group of sessions, by what the kernel decides of it.
-use Rattle.std.specs.Prelude.{◌≡◌, ℕ, ◌+◌, ◌==◌, ◌&&◌, not, Bool, true, false, if◌then◌else◌, List, [], Option, Some, None, bytes_eq, is_some, slice_get}
+use Rattle.std.specs.Prelude.{◌≡◌, ℕ, ◌+◌, ◌&&◌, not, Bool, true, false, if◌then◌else◌, List, [], Option, Some, None, bytes_eq, is_some, slice_get}
 use Rattle.std.specs.Global.{Box}
 use Rattle.std.specs.Option.{option_and_then, option_map, option_map_or}
 use Rattle.base.specs.NumberMap.{get, insert}
@@ -8,93 +8,36 @@ use Rattle.group_model.specs.declared.group_event.GroupEvent.{GroupEvent}
 use Rattle.group_model.specs.declared.group_event.GroupEvent.TheVariants as group
 use Rattle.instance_groups.specs.declared.arriving.Arrival.{Arrival}
 use Rattle.instance_groups.specs.declared.arriving.Arrival.TheVariants as arrival
-use Rattle.instance_groups.specs.declared.arriving.NewCall.{NewCall}
-use Rattle.instance_groups.specs.declared.arriving.NewCall.TheVariants.{Opens, InSession}
-use Rattle.instance_groups.specs.declared.arriving.NewOpen.{NewOpen}
 use Rattle.instance_groups.specs.declared.arriving.Resumed.{Resumed}
-use Rattle.instance_groups.specs.declared.arriving.SessionCall.{SessionCall}
-use Rattle.instance_groups.specs.declared.arriving.SessionCall.TheVariants as in_session
 use Rattle.isolation.specs.Arriving.{IsBack}
-use Rattle.isolation.specs.Arriving as isolation
+use Rattle.isolation.specs.declared.calls.NewCall.{NewCall}
+use Rattle.isolation.specs.declared.calls.NewCall.TheVariants.{Opens, InSession}
+use Rattle.isolation.specs.declared.calls.SessionCall.{SessionCall}
+use Rattle.isolation.specs.declared.calls.SessionCall.TheVariants as in_session
 use Rattle.job_model.specs.declared.call_kind.CallKind.{CallKind}
 use Rattle.job_model.specs.declared.call_kind.CallKind.TheVariants as kind
 use Rattle.kernel_model.specs.Application.{Application, Booted, uuid_of}
 use Rattle.kernel_model.specs.Argument.{reg}
 use Rattle.kernel_model.specs.Begin.{has_pages_for}
-use Rattle.kernel_model.specs.Codes.{bad_parameters, out_of_memory}
 use Rattle.kernel_model.specs.Decision.{Decision, Answers, Takes}
 use Rattle.kernel_model.specs.Entry.{decision_of}
 use Rattle.kernel_model.specs.Kernel.{Free, Kernel, PendingCall, Tables}
-use Rattle.kernel_state.specs.Setup.{application_of, booted_with}
+use Rattle.kernel_state.specs.Setup.{booted_with}
 use Rattle.kernel_state.specs.Tables.{tables_of}
 use Rattle.kernel_state.specs.declared.parts.Parts.{Parts}
-use Rattle.new_calls.specs.declared.decided.Decided.{Decided as NewDecided}
-use Rattle.new_calls.specs.declared.decided.Decided.TheVariants as decided
-use Rattle.new_calls.specs.declared.halt.Settled.TheVariants as settled
-use Rattle.new_calls.specs.declared.plan.Plan.{Plan}
-use Rattle.new_calls.specs.declared.plan.Plan.TheVariants as plan
 use Rattle.ns_ram.specs.Reader.{Reader, over_lane}
 use Rattle.ns_ram.specs.declared.read.Read.{Read}
-use Rattle.own_model.specs.declared.own_event.OwnInput.{OwnInput}
-use Rattle.own_model.specs.declared.own_event.OwnInput.TheVariants as input
 use Rattle.resumed_calls.specs.Deciding.{IsHandedOut}
 use Rattle.rpc_cont.specs.declared.cont.Cont.{Cont}
 use Rattle.rpc_cont.specs.declared.phase.Phase.{Phase}
 use Rattle.rpc_cont.specs.declared.phase.Phase.TheVariants as phase
 use Rattle.smc_abi.specs.Call.{call_of}
-use Rattle.ta_params.specs.declared.login.Login.{Login}
 
 -- ---- new calls
-
--- what came of the parameters of an open that was settled with this code
-abbrev pub input_by : ℕ → OwnInput
-input_by code = if code == bad_parameters then input.Faulty else input.Unread
-
--- an open of this application that a test has settled with this code
-abbrev pub settled_open : Application → Login → ℕ → Bool → NewOpen
-settled_open app login code area = record {
-  uuid = uuid_of app;
-  input = input_by code;
-  login = login;
-  limited = code == out_of_memory;
-  area = area;
-  reserves = false;
-}
-
--- one that gets a session, with these parameters
-abbrev pub opens_by : Application → OwnInput → Login → Bool → NewOpen
-opens_by app brought login area = record {
-  uuid = uuid_of app;
-  input = brought;
-  login = login;
-  limited = false;
-  area = area;
-  reserves = true;
-}
-
--- what a new call of this function, with an area or without one, is for a group, by its plan
-abbrev pub call_by : ℕ → Bool → Plan → Option NewCall
-call_by func area (plan.Settles (settled.Call code)) = None
-call_by func area (plan.Settles (settled.Open app login code)) = Some (Opens (settled_open (application_of app) login code area))
-call_by func area (plan.Settles (settled.Invoke code)) =
-    Some (InSession (in_session.Invoke func (isolation.input_by code) area))
-call_by func area (plan.Opens app login copies) =
-    Some (Opens (opens_by (application_of app) (input.Copied copies.params) login area))
-call_by func area (plan.Invokes session app copies) =
-    Some (InSession (in_session.Invoke func (input.Copied copies.params) area))
-call_by func area (plan.Closes session app) = Some (InSession (in_session.Close area))
-call_by func area plan.Cancels = Some (InSession in_session.Cancel)
-call_by func area (plan.KeepsBuffer cookie buffer) = None
-call_by func area (plan.DropsBuffer cookie) = None
 
 abbrev pub arrival_of : Option NewCall → Arrival
 arrival_of None = arrival.Nothing
 arrival_of (Some call) = arrival.New call
-
--- what a new call is, by what was decided of it
-abbrev pub arrival_by : NewDecided → Arrival
-arrival_by (decided.Answers answer) = arrival.Nothing
-arrival_by (decided.Takes entered plan) = arrival_of (call_by entered.head.func (is_some entered.area) plan)
 
 -- ---- as events of a group
 
@@ -104,7 +47,7 @@ event_in (in_session.Invoke func came area) session = group.Invoke session func 
 event_in (in_session.Close area) session = group.Close session area
 event_in in_session.Cancel session = group.Cancel session
 
--- the event that a new call in the kernel's session of this number is for the group of the application, if it is one of the group's
+-- what a new call in the kernel's session of this number is as an event of the application's group, if it is one
 abbrev pub event_as : Application → Notes → ℕ → NewCall → Option GroupEvent
 event_as app notes session (Opens call) =
     if bytes_eq call.uuid (uuid_of app) then Some (group.Open call.input call.login call.limited call.area) else None
@@ -149,7 +92,8 @@ abbrev pub watch : Booted → Application → Kernel → Watch
 watch boot app kernel = record { boot = boot; app = app; kernel = kernel }
 
 -- an entry with these registers and reads has brought a call back
-pub record IsResumed (w : Watch) (regs : List ℕ) (reads : List Read) (slot : ℕ) (now : PendingCall) (came : Resumed) : Type 0 where
+pub record IsResumed (w : Watch) (regs : List ℕ) (reads : List Read) (slot : ℕ) (now : PendingCall)
+    (came : Resumed) : Type 0 where
   pub back : IsBack w.kernel regs reads slot now came.back
   pub room : came.room ≡ room_then w.boot w.kernel.tables w.app back.before
 

@@ -5,7 +5,7 @@ use Rattle.group_model.specs.Read as group
 use Rattle.group_model.specs.declared.group_event.GroupEvent.{GroupEvent}
 use Rattle.group_model.specs.declared.group_event.GroupEvent.TheVariants.{Back, Out, Room, Seen}
 use Rattle.instance_groups.specs.Arriving.{event_as, gets_session, is_open, with_session}
-use Rattle.instance_groups.specs.declared.arriving.NewCall.{NewCall}
+use Rattle.isolation.specs.declared.calls.NewCall.{NewCall}
 use Rattle.instance_groups.specs.declared.arriving.Resumed.{Resumed}
 use Rattle.instance_groups.specs.declared.notes.Notes.{Notes}
 use Rattle.isolation.specs.Noted.{AreNumbers, HasFinished}

@@ -1,6 +1,6 @@
 //! What an entry is for a group of sessions, as far as it can be told before it.
 ghost use Rattle.std.specs.Prelude.{◌≡◌, IfOk};
-ghost use Rattle.instance_groups.specs.Arriving.{IsArrival, IsArrivalFrom, IsRoomIn, arrival_by, call_by, finds_gone, input_by, is_open, is_waiting, room_as, settled_open, watch};
+ghost use Rattle.instance_groups.specs.Arriving.{IsArrival, IsArrivalFrom, IsRoomIn, arrival_of, finds_gone, is_open, is_waiting, room_as, watch};
 ghost use Rattle.isolation.specs.Arriving.{IsBackIn};
 ghost use Rattle.kernel_entry.specs.Resuming.{IsSuspended};
 ghost use Rattle.kernel_model.specs.Application.{Application as AnyApplication};
@@ -16,53 +16,13 @@ ghost use Rattle.resumed_calls.specs.Giving.{given_as};
 use base::NoMemory;
 use begin_call::has_pages_for;
 use frame_pool::Pages;
-use isolation::{Back, back_in, input_settled};
+use isolation::{Back, NewCall, back_in, new_call_on};
 use job_model::CallKind;
 use kernel_state::{Application, Core, Tables};
-use new_calls::{Decided, Found, Plan, Settled, lowest_free, new_call};
 use ns_ram::{Lane, Reads};
-use own_model::OwnInput;
 use rpc_cont::{Cont, Phase, ResumeInput};
 use smc_abi::{Call, Regs, decode_call};
 use std::alloc::Global;
-use ta_params::Login;
-use ta_params::codes::{TEE_ERROR_BAD_PARAMETERS, TEE_ERROR_OUT_OF_MEMORY};
-use uuid::Uuid;
-
-/// An open of an application, whatever its later tests came to.
-#[derive(Drop)]
-pub(crate) struct NewOpen {
-    /// By which it names the application.
-    pub(crate) uuid: Uuid,
-    pub(crate) input: OwnInput,
-    pub(crate) login: Login,
-    /// Whether a shared limit stopped it.
-    pub(crate) limited: bool,
-    pub(crate) area: bool,
-    /// Whether it gets a session.
-    pub(crate) reserves: bool,
-}
-
-/// A new call in a session.
-#[derive(Drop)]
-pub(crate) enum SessionCall {
-    Invoke {
-        func: u32,
-        input: OwnInput,
-        area: bool,
-    },
-    Close {
-        area: bool,
-    },
-    Cancel,
-}
-
-/// A new call that may be one of a group.
-#[derive(Drop)]
-pub(crate) enum NewCall {
-    Opens(NewOpen),
-    InSession(SessionCall),
-}
 
 /// A call that comes back.
 #[derive(Drop)]
@@ -84,96 +44,24 @@ pub(crate) enum Arrival {
     Back(Resumed),
 }
 
-/// What came of the parameters of an open that was settled with this code.
-fn input_by(code: u32) -> OwnInput
-    ensures { result ≡ input_by code }
+/// What a new call is, if it may be one of a group.
+fn arrival_of(call: Option<NewCall>) -> Arrival
+    ensures { result ≡ arrival_of call }
 {
-    if code == TEE_ERROR_BAD_PARAMETERS {
-        OwnInput::Faulty
-    } else {
-        OwnInput::Unread
+    match call {
+        Some(call) => Arrival::New(call),
+        None => Arrival::Nothing,
     }
 }
 
-/// An open that a test has settled with this code.
-fn settled_open(app: &Application, login: Login, code: u32, area: bool) -> NewOpen
-    ensures { result ≡ settled_open (application_of app.now) login code area }
-{
-    NewOpen {
-        uuid: app.uuid(),
-        input: input_by(code),
-        login,
-        limited: code == TEE_ERROR_OUT_OF_MEMORY,
-        area,
-        reserves: false,
-    }
-}
-
-/// What a new call is for a group, by what its slot is taken for; the function is the one that its argument names, and it
-/// has an area or not.
-fn call_by(func: u32, area: bool, plan: Plan) -> Option<NewCall>
-    ensures { result ≡ call_by func area plan }
-{
-    match plan {
-        Plan::Settles(Settled::Open(app, login, code)) => {
-            Some(NewCall::Opens(settled_open(&app, login, code, area)))
-        }
-        Plan::Settles(Settled::Invoke(code)) => Some(NewCall::InSession(SessionCall::Invoke {
-            func,
-            input: input_settled(code),
-            area,
-        })),
-        Plan::Opens { app, login, copies } => Some(NewCall::Opens(NewOpen {
-            uuid: app.uuid(),
-            input: OwnInput::Copied(copies.params),
-            login,
-            limited: false,
-            area,
-            reserves: true,
-        })),
-        Plan::Invokes { copies, .. } => Some(NewCall::InSession(SessionCall::Invoke {
-            func,
-            input: OwnInput::Copied(copies.params),
-            area,
-        })),
-        Plan::Closes { .. } => Some(NewCall::InSession(SessionCall::Close { area })),
-        Plan::Cancels => Some(NewCall::InSession(SessionCall::Cancel)),
-        Plan::Settles(Settled::Call(_)) | Plan::KeepsBuffer { .. } | Plan::DropsBuffer { .. } => {
-            None
-        }
-    }
-}
-
-/// What a new call is, by what was decided of it.
-fn arrival_by(decided: Decided) -> Arrival
-    ensures { result ≡ arrival_by decided }
-{
-    match decided {
-        Decided::Answers(_) => Arrival::Nothing,
-        Decided::Takes(entered, plan) => {
-            match call_by(entered.head.func, entered.area.is_some(), plan) {
-                Some(call) => Arrival::New(call),
-                None => Arrival::Nothing,
-            }
-        }
-    }
-}
-
-/// What a new call is.
+/// What a new call with these registers is.
 fn new_arrival(alloc: Global, core: &Core, regs: &Regs, lane: &Lane) -> Result<Arrival, NoMemory>
     ensures { (app : AnyApplication) (kernel : Kernel) → StandsFor core.now.parts kernel
         → IfOk result (IsArrivalFrom (watch (booted_of core.now) app kernel) regs.now.a lane.now
         (new_call (booted_of core.now) kernel regs.now.a)) }
 {
-    let free = lowest_free(&core.parts.slots);
-    let found = Found {
-        setup: &core.parts.setup,
-        tables: &core.parts.tables,
-        free,
-    };
-    let mut reads = Reads::new(alloc);
-    let decided = new_call(alloc, &found, regs, lane, &mut reads)?;
-    Ok(arrival_by(decided))
+    let call = new_call_on(alloc, core, regs, lane)?;
+    Ok(arrival_of(call))
 }
 
 /// The call is an open.

@@ -12,10 +12,10 @@ ghost use Rattle.kernel_state.specs.Work.{IsRanOf};
 ghost use Rattle.kernel_state.specs.declared.work.Work.{Work as AnyWork};
 ghost use Rattle.ns_ram.specs.declared.read.Read.{Read as AnyRead};
 
-use crate::arriving::{Arrival, NewCall, Resumed};
+use crate::arriving::{Arrival, Resumed};
 use crate::notes::Notes;
 use base::NoMemory;
-use isolation::errand_of;
+use isolation::{NewCall, errand_of};
 use kernel_entry::Visitor;
 use kernel_state::{Carried, Core, Errand, Ran};
 use std::alloc::Global;
@@ -40,7 +40,8 @@ fn note_new(
 ) -> Result<(), NoMemory>
     requires slot { slot < 16 }
     requires few { HasNumbersLeft notes.old }
-    ensures noted { (boot : Booted) (kernel next : Kernel) (visitor : AnyVisitor) (reads : List AnyRead) (work : AnyWork) → IsRanOf work ran.now
+    ensures noted { (boot : Booted) (kernel next : Kernel) (visitor : AnyVisitor) (reads : List AnyRead) (work : AnyWork)
+        → IsRanOf work ran.now
         → HasArrivedIn (watch boot (application_of notes.old.app) kernel) next visitor reads (Arrival.New call) work slot
         → IsEntryNoted boot notes.old notes.new kernel next visitor reads result }
     ensures app { notes.new.app ≡ notes.old.app }
@@ -71,7 +72,8 @@ fn note_in_slot(
 ) -> Result<(), NoMemory>
     requires slot { slot < 16 }
     requires few { HasNumbersLeft notes.old }
-    ensures noted { (boot : Booted) (kernel next : Kernel) (visitor : AnyVisitor) (reads : List AnyRead) (work : AnyWork) → IsRanOf work ran.now
+    ensures noted { (boot : Booted) (kernel next : Kernel) (visitor : AnyVisitor) (reads : List AnyRead) (work : AnyWork)
+        → IsRanOf work ran.now
         → HasArrivedIn (watch boot (application_of notes.old.app) kernel) next visitor reads arrival work slot
         → IsEntryNoted boot notes.old notes.new kernel next visitor reads result }
     ensures app { notes.new.app ≡ notes.old.app }

@@ -51,8 +51,8 @@ pub fn read_group_log(
 
 /// What has happened to the sessions of the application of this UUID, by the journal of a core of this boot that is legal, whose
 /// entries have read at most 2^28 bytes in all, and each of them the same byte wherever its reads share an address. Nothing
-/// where the boot has no application of this UUID. `NoMemory` where memory is wanting. The machine of a group whose sessions share
-/// an instance can be fed with them, one after the other.
+/// where the boot has no application of this UUID. `NoMemory` where memory is wanting. The machine of a group whose sessions
+/// share an instance can be fed with them, one after the other.
 pub fn group_events(
     alloc: Global,
     boot: &Boot,
@@ -72,8 +72,8 @@ pub fn group_events(
     events_in(alloc, log.entries)
 }
 
-/// What they were answered, by the same. Sessions that share an instance were answered as the machine of their group answers to its
-/// events.
+/// What they were answered, by the same. Sessions that share an instance were answered as the machine of their group answers to
+/// its events.
 pub fn group_replies(
     alloc: Global,
     boot: &Boot,

@@ -19,8 +19,8 @@ use std::alloc::Global;
 use ta_isa::Boot;
 use uuid::Uuid;
 
-/// What reads the log of a group off the events of a journal, one after the other: a core on which they are done again, and what is
-/// noted of the group.
+/// What reads the log of a group off the events of a journal, one after the other: a core on which they are done again, and what
+/// is noted of the group.
 #[derive(Drop)]
 pub struct LogReader {
     pub(crate) replay: Replay,

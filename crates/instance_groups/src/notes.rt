@@ -9,13 +9,13 @@ ghost use Rattle.group_model.specs.Read as group;
 ghost use Rattle.kernel_model.specs.Kernel.{PendingCall};
 ghost use Rattle.kernel_state.specs.Setup.{application_of};
 
-use crate::arriving::{NewCall, Resumed, SessionCall};
+use crate::arriving::Resumed;
 use crate::group_log::BoxedEntry;
 use base::NoMemory;
 use boxed::Boxed;
 use frame_pool::Pages;
 use group_model::{GroupEvent, GroupReply};
-use isolation::{Numbering, reply_of, wake_of};
+use isolation::{NewCall, Numbering, SessionCall, reply_of, wake_of};
 use kernel_state::Application;
 use own_model::{BackInput, OwnReply};
 use rpc_cont::Cont;
@@ -157,7 +157,8 @@ impl Notes {
     /// The kernel's session of this number gets the group's next one.
     fn add_session(&mut self, session: u32) -> Result<(), NoMemory>
         requires { self.old.next_session + 1 < 2 ^ 32 }
-        ensures sessions { IfOk result (λ _. self.new.sessions.entries ≡ insert self.old.sessions.entries session self.old.next_session) }
+        ensures sessions { IfOk result (λ _. self.new.sessions.entries
+            ≡ insert self.old.sessions.entries session self.old.next_session) }
         ensures next { IfOk result (λ _. self.new.next_session ≡ self.old.next_session + 1) }
         ensures stays { self.new ≡ record self.old { sessions = self.new.sessions; next_session = self.new.next_session } }
     {

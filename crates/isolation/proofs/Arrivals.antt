@@ -1,19 +1,22 @@
 -- What an entry is for a session is what the kernel's decision makes of it.
 use Rattle.std.proofs.Common.{◌≡◌, ℕ, ◌==◌, ◌<◌, length, Bool, true, false, List, [], Option, Some, None, refl, ap, sym, subst, ◌∙◌}
 use Rattle.std.specs.Prelude.{◌&&◌, not, if◌then◌else◌, slice_get, is_some}
-use Rattle.std.specs.Option.{option_map_or}
+use Rattle.std.specs.Option.{option_and_then, option_map_or}
 use Rattle.std.proofs.Math.Logic.{∥∥₁_elim}
 use Rattle.std.proofs.Props.{props}
 use Rattle.std.proofs.lemmas.Option.{slice_get_within}
 use Rattle.base.specs.NumberMap.{get}
-use Rattle.isolation.specs.Arriving.{IsArrivalFrom, IsArrivalIn, IsBackIn, IsNew, NamesApp, arrival_by, arrival_of, back_as, event_by, opens_by, seen_then}
+use Rattle.isolation.specs.Arriving.{IsArrivalBy, IsArrivalFrom, IsArrivalIn, IsBackIn, IsNew, NamesApp, arrival_as, arrival_of, back_as}
+use Rattle.isolation.specs.Arriving.{event_in, opens_in, seen_then}
+use Rattle.isolation.specs.Calls.{IsCallBy, IsNewCall, call_by}
+use Rattle.isolation.specs.declared.calls.NewCall.{NewCall}
 use Rattle.isolation.specs.declared.entering.Arrival.TheVariants as arrival
 use Rattle.isolation.specs.declared.notes.Back.{Back as BackWith}
 use Rattle.isolation.proofs.Arrived.{input_is}
 use Rattle.isolation.proofs.Plans.{plan_event_is, plan_names}
 use Rattle.job_model.specs.declared.call_kind.CallKind.{CallKind}
 use Rattle.job_model.specs.declared.call_kind.CallKind.TheVariants as kind
-use Rattle.kernel_entry.proofs.Decisions.{new_so, resume_refused, same_lowest}
+use Rattle.kernel_entry.proofs.Decisions.{resume_refused}
 use Rattle.kernel_entry.proofs.Following.{call_found}
 use Rattle.kernel_entry.specs.Resuming.{IsSuspended}
 use Rattle.kernel_entry.specs.Resuming.{goes_on_as}
@@ -26,25 +29,18 @@ use Rattle.kernel_model.specs.Entry.{decision_of}
 use Rattle.kernel_model.specs.Given.{Given, Nothing, Buffer, NoBuffer, Reply, call_given, given_to}
 use Rattle.kernel_model.specs.Instances.{is_held}
 use Rattle.kernel_model.specs.Kernel.{CallPhase, Runs, Asks, Waits, Ends, Active, Free, Instance, Kernel, PendingCall, Progress, Suspended, Tables, ThreadSlot}
-use Rattle.kernel_model.specs.NewCall.{new_call, new_call_with}
+use Rattle.kernel_model.specs.NewCall.{new_call}
 use Rattle.kernel_model.specs.Resume.{Resumed, app_of_call, begins, begins_in, begins_open, call_resumed_by, ends_with, goes_on, is_without_buffer, onward_in, onward_of, phase_seen, resume, resumed_call, sees, sleeps_on, suspended_for, tested_again, who_resumes}
 use Rattle.kernel_model.proofs.Parts.{if-both, map_or-both}
-use Rattle.kernel_model.proofs.SoundSlots.{free_there}
 use Rattle.kernel_state.specs.Calls.{IsCall}
 use Rattle.kernel_state.specs.Replay.{Replays}
 use Rattle.kernel_state.specs.Setup.{booted_with}
 use Rattle.kernel_state.specs.StandsFor.{StandsFor}
 use Rattle.kernel_state.specs.Tables.{tables_of}
 use Rattle.kernel_state.specs.declared.parts.Parts.{Parts}
-use Rattle.new_calls.specs.Applying.{CanApply}
-use Rattle.new_calls.specs.Commands as new_calls
-use Rattle.new_calls.specs.Deciding.{call_with, taken_of}
-use Rattle.new_calls.specs.declared.decided.Decided.{Decided as NewDecided}
-use Rattle.new_calls.specs.declared.decided.Decided.TheVariants as decided
-use Rattle.new_calls.specs.declared.entered.Entered.{Entered}
-use Rattle.new_calls.specs.declared.plan.Plan.{Plan}
+use Rattle.new_calls.specs.Deciding.{taken_of}
 use Rattle.ns_ram.proofs.ReaderLaws.{over_lane-reading}
-use Rattle.ns_ram.specs.Reader.{over_lane}
+use Rattle.ns_ram.specs.Reader.{Reader, over_lane}
 use Rattle.ns_ram.specs.declared.read.Read.{Read}
 use Rattle.own_model.specs.declared.own_event.OwnEvent.{OwnEvent}
 use Rattle.resumed_calls.proofs.Taking.{decision_taken, slot_resumed}
@@ -59,7 +55,6 @@ use Rattle.smc_abi.specs.declared.call.Call.{Call}
 use Rattle.smc_abi.specs.declared.call.Call.TheVariants.{Fast, Resume, Unknown, WithArg, WithRegdArg, WithRpcArg}
 use Rattle.smc_abi.specs.declared.call.FastCall.{FastCall}
 use Rattle.ta_params.specs.declared.copied_params.CopiedParams.{CopiedParams}
-use Rattle.thread_slots.specs.Slots as code
 
 -- ---- calls whose answer is fixed by their registers
 
@@ -101,52 +96,39 @@ decided_new boot k regs call is new = ap (decision_of boot k regs) is ∙ by_cal
     by_call Resume one = absurd cc
     by_call Unknown one = absurd cc
 
--- a call is answered: nothing happens to a session
-pub answered_new : (parts : Parts) (k : Kernel) (regs lane : List ℕ) (reads : List Read) (answer : _) → StandsFor parts k
-    → over_lane (new_call (booted_with parts.setup) k regs) lane [] ≡ Some (model.Answers answer, reads)
-    → IsArrivalFrom k regs lane (new_call (booted_with parts.setup) k regs) arrival.Nothing
-answered_new parts k regs lane reads answer stands is =
-    record { decision = model.Answers answer; reads = reads; decides = is; is = tt }
-
-new_in : (k : Kernel) (regs : List ℕ) (reads : List Read) (slot : ℕ) (call : PendingCall) (opens : Option (List ℕ)) (came : Option OwnEvent)
-    → IsNew k slot call came → ((event : OwnEvent) → came ≡ Some event → NamesApp call (record { event = event; opens = opens }))
+event_in_slot : (k : Kernel) (regs : List ℕ) (reads : List Read) (slot : ℕ) (call : PendingCall) (opens : Option (List ℕ))
+    (came : Option OwnEvent) → IsNew k slot call came
+    → ((event : OwnEvent) → came ≡ Some event → NamesApp call (record { event = event; opens = opens }))
     → IsArrivalIn k regs reads slot call (arrival_of opens came)
-new_in k regs reads slot call opens None is names = is
-new_in k regs reads slot call opens (Some event) is names = record { is_new = is; names = names event refl }
+event_in_slot k regs reads slot call opens None is names = is
+event_in_slot k regs reads slot call opens (Some event) is names = record { is_new = is; names = names event refl }
 
-pub planned_new : (parts : Parts) (k : Kernel) (regs lane : List ℕ) (reads : List Read) (entered : Entered) (plan : Plan)
-    → (let c = call_with (booted_with parts.setup) (tables_of parts.tables) entered in
-    StandsFor parts k → code.lowest_free parts.slots ≡ Some entered.slot → CanApply c plan
-    → over_lane (new_call (booted_with parts.setup) k regs) lane [] ≡ Some (model.Takes entered.slot (taken_of c plan), reads)
-    → IsArrivalFrom k regs lane (new_call (booted_with parts.setup) k regs)
-    (arrival_of (opens_by plan) (event_by entered.head.func (is_some entered.area) plan)))
-planned_new parts k regs lane reads entered plan stands lowest can is =
-    let c = call_with (booted_with parts.setup) (tables_of parts.tables) entered in
-    record {
-      decision = model.Takes entered.slot (taken_of c plan);
-      reads = reads;
-      decides = is;
-      is = new_in k regs reads entered.slot (taken_of c plan).call (opens_by plan) (event_by entered.head.func (is_some entered.area) plan) (record {
-        free = free_there k.slots entered.slot
-            (same_lowest parts.slots parts.cancellations.items k.slots stands.slots ∙ lowest);
-        event = λ session. plan_event_is session c plan can;
-      }) (plan_names c plan entered.head.func (is_some entered.area));
-    }
+new_in_slot : (k : Kernel) (regs : List ℕ) (reads : List Read) (slot : ℕ) (call : PendingCall) (came : Option NewCall)
+    → IsNew k slot call (option_and_then event_in came)
+    → ((event : OwnEvent) → option_and_then event_in came ≡ Some event
+    → NamesApp call (record { event = event; opens = option_and_then opens_in came }))
+    → IsArrivalIn k regs reads slot call (arrival_as came)
+new_in_slot k regs reads slot call None is names = is
+new_in_slot k regs reads slot call (Some one) is names =
+    event_in_slot k regs reads slot call (opens_in one) (event_in one) is names
 
-pub new_arrives : (parts : Parts) (k : Kernel) (regs lane : List ℕ) (reads : List Read) (found : NewDecided) (free : Option ℕ)
-    → free ≡ code.lowest_free parts.slots → new_calls.IsInSlot free found
-    → new_calls.CanTake (booted_with parts.setup) (tables_of parts.tables) found → StandsFor parts k
-    → over_lane (model.decided_by (new_call_with (booted_with parts.setup) (tables_of parts.tables) regs free)) lane []
-    ≡ Some (new_calls.decision_of (booted_with parts.setup) (tables_of parts.tables) found, reads)
-    → IsArrivalFrom k regs lane (new_call (booted_with parts.setup) k regs) (arrival_by found)
-new_arrives parts k regs lane reads (decided.Answers answer) free lowest slot can stands is =
-    answered_new parts k regs lane reads answer stands
-    (new_so parts k regs lane [] reads (decided.Answers answer) free (model.Answers answer) lowest refl stands is)
-new_arrives parts k regs lane reads (decided.Takes entered plan) free lowest slot can stands is =
-    planned_new parts k regs lane reads entered plan stands (sym lowest ∙ slot) can.1
-    (new_so parts k regs lane [] reads (decided.Takes entered plan) free
-    (model.Takes entered.slot (taken_of (call_with (booted_with parts.setup) (tables_of parts.tables) entered) plan))
-    lowest refl stands is)
+-- by what the kernel decided of it
+new_by : (k : Kernel) (regs : List ℕ) (reads : List Read) (came : Option NewCall) (decision : model.Decision) → IsCallBy k came decision
+    → IsArrivalBy k regs reads (arrival_as came) decision
+new_by k regs reads came (model.Answers answer) is = tt
+new_by k regs reads came (model.Takes slot taken) is =
+    let c = is.call in
+    let planned = call_by c.head.func (is_some c.area) is.plan in
+    subst (λ (o : Option NewCall). IsArrivalIn k regs reads slot taken.call (arrival_as o)) (sym is.is)
+    (subst (λ (t : model.Taken). IsArrivalIn k regs reads slot t.call (arrival_as planned)) (sym is.taken_for)
+    (new_in_slot k regs reads slot (taken_of c is.plan).call planned
+    (record { free = is.free; event = λ session. plan_event_is session c is.plan is.can })
+    (plan_names c is.plan c.head.func (is_some c.area))))
+
+pub new_arrives : (k : Kernel) (regs lane : List ℕ) (reader : Reader model.Decision) (came : Option NewCall)
+    → IsNewCall k lane reader came → IsArrivalFrom k regs lane reader (arrival_as came)
+new_arrives k regs lane reader came it =
+    record { decision = it.decision; reads = it.reads; decides = it.decides; is = new_by k regs it.reads came it.decision it.is }
 
 -- ---- calls that come back
 

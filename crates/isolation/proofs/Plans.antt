@@ -4,7 +4,8 @@ use Rattle.std.specs.Prelude.{◌&&◌, if◌then◌else◌, is_some}
 use Rattle.std.proofs.lemmas.Option.{option_and_then_some}
 use Rattle.std.specs.Option.{option_map, option_map_or}
 use Rattle.base.specs.NumberMap.{get}
-use Rattle.isolation.specs.Arriving.{NamesApp, event_by, event_for, input_by, opens_by}
+use Rattle.isolation.specs.Arriving.{NamesApp, event_by, event_for, opens_by}
+use Rattle.isolation.specs.Calls.{invoke_input}
 use Rattle.job_model.specs.Beginning.{OfImage, OfRelation, Program, begun_job}
 use Rattle.job_model.specs.declared.call_kind.CallKind.TheVariants as kind
 use Rattle.job_model.specs.declared.entry_point.EntryPoint.{EntryPoint}
@@ -59,7 +60,7 @@ settled_event_is : (session : ℕ) (c : NewCall) (settled : Settled)
 settled_event_is session c (settled.Call code) = none_both (0 == session) true
 settled_event_is session c (settled.Open app login code) = none_both (0 == session) true
 settled_event_is session c (settled.Invoke code) =
-    some_both (c.head.session == session) (Some (event.Invoke c.head.func (input_by code) (is_some c.area)))
+    some_both (c.head.session == session) (Some (event.Invoke c.head.func (invoke_input code) (is_some c.area)))
 
 -- ---- opens
 
@@ -265,11 +266,11 @@ named : (call : PendingCall) (notes : Notes) (uuid : Option (List ℕ)) (one eve
 named call notes uuid one event is names = let same : one ≡ event = cc in ap (λ (e : OwnEvent). uuid_by e call notes) (sym same) ∙ names
 
 pub plan_names : (c : NewCall) (plan : Plan) (func : ℕ) (area : Bool) (event : OwnEvent) → event_by func area plan ≡ Some event
-    → NamesApp (taken_of c plan).call (record { event = event; opens = opens_by plan })
+    → NamesApp (taken_of c plan).call (record { event = event; opens = opens_by func area plan })
 plan_names c (plan.Settles (settled.Call code)) func area came is = absurd cc
 plan_names c (plan.Settles (settled.Open app login code)) func area came is = absurd cc
 plan_names c (plan.Settles (settled.Invoke code)) func area came is =
-    λ notes. named (taken_of c (plan.Settles (settled.Invoke code))).call notes notes.uuid (event.Invoke func (input_by code) area) came is refl
+    λ notes. named (taken_of c (plan.Settles (settled.Invoke code))).call notes notes.uuid (event.Invoke func (invoke_input code) area) came is refl
 plan_names c (plan.Opens app login copies) func area came is =
     λ notes. named (taken_of c (plan.Opens app login copies)).call notes (Some (uuid_of (application_of app)))
     (event.Open copies.params login area) came is (open_is_of c (application_of app) login (copies_in copies))

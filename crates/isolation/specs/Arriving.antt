@@ -1,16 +1,19 @@
 -- What an entry is for a session, by what the kernel decides of it.
-use Rattle.std.specs.Prelude.{◌≡◌, ℕ, ◌==◌, ◌&&◌, not, Bool, true, false, if◌then◌else◌, List, [], Option, Some, None, is_some, slice_get}
+use Rattle.std.specs.Prelude.{◌≡◌, ℕ, ◌==◌, ◌&&◌, not, Bool, true, false, if◌then◌else◌, List, [], Option, Some, None, slice_get}
 use Rattle.std.specs.Global.{Box}
-use Rattle.std.specs.Option.{option_or}
+use Rattle.std.specs.Option.{option_and_then, option_or}
+use Rattle.isolation.specs.Calls.{call_by}
+use Rattle.isolation.specs.declared.calls.NewCall.{NewCall}
+use Rattle.isolation.specs.declared.calls.NewCall.TheVariants.{Opens, InSession}
+use Rattle.isolation.specs.declared.calls.SessionCall.TheVariants as in_session
 use Rattle.isolation.specs.declared.entering.Arrival.{Arrival}
 use Rattle.isolation.specs.declared.entering.Arrival.TheVariants as arrival
 use Rattle.isolation.specs.declared.entering.NewEvent.{NewEvent}
 use Rattle.isolation.specs.declared.notes.Back.{Back}
 use Rattle.job_model.specs.declared.call_kind.CallKind.{CallKind}
 use Rattle.job_model.specs.declared.call_kind.CallKind.TheVariants as kind
-use Rattle.kernel_model.specs.Application.{Booted, uuid_of}
+use Rattle.kernel_model.specs.Application.{Booted}
 use Rattle.kernel_model.specs.Argument.{reg, thread_in}
-use Rattle.kernel_model.specs.Codes.{target_dead}
 use Rattle.kernel_model.specs.Decision.{Decision, Answers, Takes}
 use Rattle.kernel_model.specs.Entry.{decision_of}
 use Rattle.kernel_model.specs.Given.{Given, given_to}
@@ -19,13 +22,8 @@ use Rattle.kernel_model.specs.Leaving.{Leaving, Interrupted, leaving_of}
 use Rattle.kernel_state.specs.declared.carried.Carried.{Carried}
 use Rattle.kernel_state.specs.declared.carried.Carried.TheVariants.{Nothing, Resting, Running}
 use Rattle.kernel_state.specs.declared.cancellation.Cancellation.{Cancellation}
-use Rattle.kernel_state.specs.Setup.{application_of}
 use Rattle.kernel_state.specs.declared.parts.Parts.{Parts}
-use Rattle.new_calls.specs.declared.decided.Decided.{Decided as NewDecided}
-use Rattle.new_calls.specs.declared.decided.Decided.TheVariants as decided
-use Rattle.new_calls.specs.declared.halt.Settled.TheVariants as settled
 use Rattle.new_calls.specs.declared.plan.Plan.{Plan}
-use Rattle.new_calls.specs.declared.plan.Plan.TheVariants as plan
 use Rattle.ns_ram.specs.Reader.{Reader, over_lane, reading}
 use Rattle.ns_ram.specs.declared.read.Read.{Read}
 use Rattle.own_model.specs.Own.{Notes, event_of, input_of, uuid_by}
@@ -39,39 +37,43 @@ use Rattle.rpc_cont.specs.declared.cont.Cont.{Cont}
 use Rattle.rpc_cont.specs.declared.phase.Phase.{Phase}
 use Rattle.rpc_cont.specs.declared.phase.Phase.TheVariants as phase
 use Rattle.smc_abi.specs.Call.{call_of}
+use Rattle.ta_params.specs.declared.login.Login.{Login}
 
 -- ---- new calls
 
--- what came of the parameters of an invoke that was settled with this code
-abbrev pub input_by : ℕ → OwnInput
-input_by code = if code == target_dead then input.Unread else input.Faulty
+-- the event that an open with these parameters is, if they were copied
+abbrev pub open_event : OwnInput → Login → Bool → Option OwnEvent
+open_event (input.Copied params) login area = Some (event.Open params login area)
+open_event _ login area = None
 
--- what a new call of this function, with an area or without one, is for its session, by its plan
+-- the event that a new call is for its session: an open only where it gets one
+abbrev pub event_in : NewCall → Option OwnEvent
+event_in (Opens call) = if call.reserves then open_event call.input call.login call.area else None
+event_in (InSession (in_session.Invoke func came area)) = Some (event.Invoke func came area)
+event_in (InSession (in_session.Close area)) = Some (event.Close area)
+event_in (InSession in_session.Cancel) = Some event.Cancel
+
+-- the UUID of the application of which it opens a session
+abbrev pub opens_in : NewCall → Option (List ℕ)
+opens_in (Opens call) = if call.reserves then Some call.uuid else None
+opens_in (InSession call) = None
+
+-- both by the plan of the call
 abbrev pub event_by : ℕ → Bool → Plan → Option OwnEvent
-event_by func area (plan.Settles (settled.Call code)) = None
-event_by func area (plan.Settles (settled.Open app login code)) = None
-event_by func area (plan.Settles (settled.Invoke code)) = Some (event.Invoke func (input_by code) area)
-event_by func area (plan.Opens app login copies) = Some (event.Open copies.params login area)
-event_by func area (plan.Invokes session app copies) = Some (event.Invoke func (input.Copied copies.params) area)
-event_by func area (plan.Closes session app) = Some (event.Close area)
-event_by func area plan.Cancels = Some event.Cancel
-event_by func area (plan.KeepsBuffer cookie buffer) = None
-event_by func area (plan.DropsBuffer cookie) = None
+event_by func area plan = option_and_then event_in (call_by func area plan)
 
--- the UUID of the application of which a new call of this plan opens a session
-abbrev pub opens_by : Plan → Option (List ℕ)
-opens_by (plan.Opens app login copies) = Some (uuid_of (application_of app))
-opens_by _ = None
+abbrev pub opens_by : ℕ → Bool → Plan → Option (List ℕ)
+opens_by func area plan = option_and_then opens_in (call_by func area plan)
 
 -- by the application that it opens, and the event that it is, if it is one
 abbrev pub arrival_of : Option (List ℕ) → Option OwnEvent → Arrival
 arrival_of opens None = arrival.Nothing
 arrival_of opens (Some event) = arrival.New (record { event = event; opens = opens })
 
--- what a new call is, by what was decided of it
-abbrev pub arrival_by : NewDecided → Arrival
-arrival_by (decided.Answers answer) = arrival.Nothing
-arrival_by (decided.Takes entered plan) = arrival_of (opens_by plan) (event_by entered.head.func (is_some entered.area) plan)
+-- what a new call is for its session
+abbrev pub arrival_as : Option NewCall → Arrival
+arrival_as None = arrival.Nothing
+arrival_as (Some call) = arrival_of (opens_in call) (event_in call)
 
 -- an open counts only where it runs at once
 abbrev pub is_at_once : CallKind → CallPhase → Bool

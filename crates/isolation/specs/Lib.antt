@@ -1,4 +1,5 @@
 pub mod Arriving
+pub mod Calls
 pub mod Journals
 pub mod Logs
 pub mod Meaning

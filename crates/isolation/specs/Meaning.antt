@@ -16,7 +16,8 @@ use Rattle.own_model.specs.Own.{noted}
 
 -- what an entry with these registers is over this lane, by the core before it
 abbrev pub IsArrivalOn : Core → List ℕ → List ℕ → Arrival → Type 0
-IsArrivalOn core regs lane came = (kernel : Kernel) → StandsFor core.parts kernel → IsArrival (booted_of core) kernel regs lane came
+IsArrivalOn core regs lane came =
+    (kernel : Kernel) → StandsFor core.parts kernel → IsArrival (booted_of core) kernel regs lane came
 
 -- what the notes of a session mean: those of the session of a number, which list what is noted of it
 abbrev pub meaning : Meaning Notes own.Logged

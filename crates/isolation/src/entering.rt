@@ -1,6 +1,6 @@
 //! What an entry is for a session, as far as it can be told before it.
 ghost use Rattle.std.specs.Prelude.{◌≡◌, IfOk};
-ghost use Rattle.isolation.specs.Arriving.{IsArrival, IsArrivalFrom, IsBackIn, arrival_by, back_as, counts, event_by, input_by, opens_by};
+ghost use Rattle.isolation.specs.Arriving.{IsArrival, IsArrivalFrom, IsBackIn, arrival_of, back_as, counts, event_in, open_event, opens_in};
 ghost use Rattle.kernel_entry.specs.Resuming.{IsSuspended};
 ghost use Rattle.kernel_model.specs.Kernel.{Kernel};
 ghost use Rattle.kernel_model.specs.NewCall.{new_call};
@@ -10,19 +10,19 @@ ghost use Rattle.kernel_state.specs.StandsFor.{StandsFor};
 ghost use Rattle.own_model.specs.Own.{input_of};
 ghost use Rattle.resumed_calls.specs.Giving.{given_as};
 
+use crate::calls::{NewCall, SessionCall, new_call_on};
 use crate::notes::Back;
 use base::NoMemory;
 use boxed::Boxed;
 use frame_pool::Pages;
 use job_model::CallKind;
 use kernel_state::{Carried, Core};
-use new_calls::{Decided, Found, Plan, Settled, lowest_free, new_call};
 use ns_ram::{Lane, Reads};
 use own_model::{BackInput, OwnEvent, OwnInput};
 use rpc_cont::{Cont, Phase, ResumeInput};
 use smc_abi::{Call, Regs, decode_call};
 use std::alloc::Global;
-use ta_params::codes::TEE_ERROR_TARGET_DEAD;
+use ta_params::Login;
 use uuid::Uuid;
 
 /// A new call, as an event of its session.
@@ -44,94 +44,74 @@ pub(crate) enum Arrival {
     Back(Boxed<Back>),
 }
 
-/// What came of the parameters of an invoke that was settled with this code.
-pub fn input_settled(code: u32) -> OwnInput
-    ensures { result ≡ input_by code }
+/// The event that an open with these parameters is for its session, if they were copied.
+fn open_event(input: OwnInput, login: Login, area: bool) -> Option<OwnEvent>
+    ensures { result ≡ open_event input login area }
 {
-    if code == TEE_ERROR_TARGET_DEAD {
-        OwnInput::Unread
-    } else {
-        OwnInput::Faulty
-    }
-}
-
-/// What a new call is for its session, by what its slot is taken for; the function is the one that its argument names, and it
-/// has an area or not.
-fn event_by(func: u32, area: bool, plan: Plan) -> Option<OwnEvent>
-    ensures { result ≡ event_by func area plan }
-{
-    match plan {
-        Plan::Settles(Settled::Invoke(code)) => Some(OwnEvent::Invoke {
-            func,
-            input: input_settled(code),
-            area,
-        }),
-        Plan::Opens { login, copies, .. } => Some(OwnEvent::Open {
-            params: copies.params,
+    match input {
+        OwnInput::Copied(params) => Some(OwnEvent::Open {
+            params,
             login,
             area,
         }),
-        Plan::Invokes { copies, .. } => Some(OwnEvent::Invoke {
-            func,
-            input: OwnInput::Copied(copies.params),
-            area,
-        }),
-        Plan::Closes { .. } => Some(OwnEvent::Close { area }),
-        Plan::Cancels => Some(OwnEvent::Cancel),
-        Plan::Settles(Settled::Call(_) | Settled::Open(..))
-        | Plan::KeepsBuffer { .. }
-        | Plan::DropsBuffer { .. } => None,
+        OwnInput::Faulty | OwnInput::Unread => None,
     }
 }
 
-/// The UUID of the application of which a new call opens a session, by what its slot is taken for.
-fn opens_by(plan: &Plan) -> Option<Uuid>
-    ensures { result ≡ opens_by plan.now }
+/// The event that a new call is for its session: an open only where it gets one.
+fn event_in(call: NewCall) -> Option<OwnEvent>
+    ensures { result ≡ event_in call }
 {
-    match plan {
-        Plan::Opens { app, .. } => Some(app.uuid()),
-        Plan::Settles(_)
-        | Plan::Invokes { .. }
-        | Plan::Closes { .. }
-        | Plan::Cancels
-        | Plan::KeepsBuffer { .. }
-        | Plan::DropsBuffer { .. } => None,
-    }
-}
-
-/// What a new call is, by what was decided of it.
-fn arrival_by(alloc: Global, decided: Decided) -> Result<Arrival, NoMemory>
-    ensures { IfOk result (λ arrival. arrival ≡ arrival_by decided) }
-{
-    match decided {
-        Decided::Answers(_) => Ok(Arrival::Nothing),
-        Decided::Takes(entered, plan) => {
-            let opens = opens_by(&plan);
-            match event_by(entered.head.func, entered.area.is_some(), plan) {
-                Some(event) => {
-                    let event = Boxed::new(alloc, event)?;
-                    Ok(Arrival::New(NewEvent { event, opens }))
-                }
-                None => Ok(Arrival::Nothing),
+    match call {
+        NewCall::Opens(call) => {
+            if call.reserves {
+                open_event(call.input, call.login, call.area)
+            } else {
+                None
             }
         }
+        NewCall::InSession(SessionCall::Invoke { func, input, area }) => {
+            Some(OwnEvent::Invoke { func, input, area })
+        }
+        NewCall::InSession(SessionCall::Close { area }) => Some(OwnEvent::Close { area }),
+        NewCall::InSession(SessionCall::Cancel) => Some(OwnEvent::Cancel),
     }
 }
 
-/// What a new call is.
+/// The UUID of the application of which a new call opens a session.
+fn opens_in(call: &NewCall) -> Option<Uuid>
+    ensures { result ≡ opens_in call.now }
+{
+    match call {
+        NewCall::Opens(call) => { if call.reserves { Some(call.uuid) } else { None } }
+        NewCall::InSession(_) => None,
+    }
+}
+
+/// What a new call is for its session.
+fn arrival_of(alloc: Global, call: NewCall) -> Result<Arrival, NoMemory>
+    ensures { IfOk result (λ arrival. arrival ≡ arrival_of (opens_in call) (event_in call)) }
+{
+    let opens = opens_in(&call);
+    match event_in(call) {
+        Some(event) => {
+            let event = Boxed::new(alloc, event)?;
+            Ok(Arrival::New(NewEvent { event, opens }))
+        }
+        None => Ok(Arrival::Nothing),
+    }
+}
+
+/// What a new call with these registers is.
 fn new_arrival(alloc: Global, core: &Core, regs: &Regs, lane: &Lane) -> Result<Arrival, NoMemory>
     ensures { (kernel : Kernel) → StandsFor core.now.parts kernel
         → IfOk result (IsArrivalFrom kernel regs.now.a lane.now (new_call (booted_of core.now) kernel regs.now.a)) }
 {
-    let free = lowest_free(&core.parts.slots);
-    let found = Found {
-        setup: &core.parts.setup,
-        tables: &core.parts.tables,
-        free,
-    };
-    let mut reads = Reads::new(alloc);
-    let decided = new_call(alloc, &found, regs, lane, &mut reads)?;
-    arrival_by(alloc, decided)
+    let call = new_call_on(alloc, core, regs, lane)?;
+    match call {
+        Some(call) => arrival_of(alloc, call),
+        None => Ok(Arrival::Nothing),
+    }
 }
 
 /// What a call is given, without its buffer's place.

@@ -4,11 +4,13 @@
 //! its entry read, and lets them out again. What an entry and an exit are for the session is read off that core, as the
 //! definitions of `own_model` read it off the kernel, and noted.
 //!
-//! `session_log` has what is read off, `notes` what is noted, `entering` what is seen of an entry and `coming` what is noted of
-//! one, `leaving` what is told of a call that goes out and `going` what is noted of that. `session_notes` has the notes as those that
-//! `journal_notes` takes, `log_reader` reads a log event by event, and `own` reads that of a whole journal.
+//! `session_log` has what is read off, `notes` what is noted, `calls` what a new call is, whoever's it is, `entering` what is
+//! seen of an entry and `coming` what is noted of one, `leaving` what is told of a call that goes out and `going` what is noted of
+//! that. `session_notes` has the notes as those that `journal_notes` takes, `log_reader` reads a log event by event, and `own`
+//! reads that of a whole journal.
 #![tactic(auto)]
 
+mod calls;
 mod coming;
 mod entering;
 mod going;
@@ -21,8 +23,9 @@ mod session_log;
 mod session_notes;
 
 pub use base::NoMemory;
+pub use calls::{NewCall, NewOpen, SessionCall, new_call_on};
 pub use coming::errand_of;
-pub use entering::{back_in, input_settled};
+pub use entering::back_in;
 pub use going::left_in;
 pub use leaving::{reply_of, told_at_end, wake_of};
 pub use log_reader::LogReader;

@@ -24,8 +24,8 @@ use std::alloc::Global;
 use ta_isa::Boot;
 use uuid::Uuid;
 
-/// What reads the log of a session off the events of a journal, one after the other: a core on which they are done again, and what
-/// is noted of the session.
+/// What reads the log of a session off the events of a journal, one after the other: a core on which they are done again, and
+/// what is noted of the session.
 #[derive(Drop)]
 pub struct LogReader {
     pub(crate) replay: Replay,
@@ -34,7 +34,8 @@ pub struct LogReader {
 
 /// The application of this UUID, if there is one.
 fn app_of(replay: &Replay, uuid: Option<Uuid>) -> Result<Option<Application>, NoMemory>
-    ensures { IfOk result (λ app. option_and_then (app_of (booted_of replay.now.at_work.core)) uuid ≡ option_map application_of app) }
+    ensures { IfOk result (λ app. option_and_then (app_of (booted_of replay.now.at_work.core)) uuid
+        ≡ option_map application_of app) }
 {
     match uuid {
         Some(uuid) => replay.at_work.core.parts.setup.application(&uuid),
@@ -76,7 +77,8 @@ impl LogReader {
     /// The session's application, once its open has come in.
     pub fn app(&self) -> Result<Option<Application>, NoMemory>
         requires { IsReading self.now }
-        ensures { IfOk result (λ app. own_app (boot_of self.now) (events_of self.now) self.now.notes.session ≡ option_map application_of app) }
+        ensures { IfOk result (λ app. own_app (boot_of self.now) (events_of self.now) self.now.notes.session
+            ≡ option_map application_of app) }
     {
         app_of(&self.replay, self.notes.uuid())
     }

@@ -1,15 +1,12 @@
-use Rattle.kernel_entry.proofs.Entered.{has_pages, have_apps}
 use Rattle.instance_groups.proofs.Arrivals.{new_arrives}
+use Rattle.instance_groups.specs.Arriving.{watch}
+use Rattle.kernel_model.specs.NewCall.{new_call}
+use Rattle.kernel_state.specs.Meaning.{booted_of}
 use Rattle.instance_groups.proofs.arriving.new_arrival.Goals as goal
-
-pub new_call-requires-clause-pages : goal.new_call-requires-clause-pages
-new_call-requires-clause-pages c = has_pages c.args.core.now.parts c.args.core.now.replay
-
-pub new_call-requires-clause-apps : goal.new_call-requires-clause-apps
-new_call-requires-clause-apps c = have_apps c.args.core.now.parts c.args.core.now.replay
 
 pub returns : goal.returns
 returns c app kernel stands =
-    rw c.arrival_by.ensures (new_arrives c.args.core.now.parts app kernel c.args.regs.now.a c.args.lane.now c.new_call.new.reads stands
-    c.in_ok-decided.decided c.lowest_free-free.result c.lowest_free-free.ensures.slot c.in_ok-decided.ensures.slot
-    c.in_ok-decided.ensures.can_apply (rw c.new-reads.ensures at c.in_ok-decided.ensures.decides))
+    let boot = booted_of c.args.core.now in
+    let regs = c.args.regs.now.a in
+    rw c.arrival_of.ensures (new_arrives (watch boot app kernel) regs c.args.lane.now (new_call boot kernel regs) c.in_ok-call.call
+    (c.in_ok-call.ensures kernel stands))

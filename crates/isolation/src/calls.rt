@@ -1,0 +1,162 @@
+//! What a new call is, whoever's it is.
+ghost use Rattle.std.specs.Prelude.{◌≡◌, IfOk};
+ghost use Rattle.isolation.specs.Calls.{IsNewCall, call_by, call_in, invoke_input, open_input, settled_open};
+ghost use Rattle.kernel_model.specs.Kernel.{Kernel};
+ghost use Rattle.kernel_model.specs.NewCall.{new_call};
+ghost use Rattle.kernel_state.specs.Meaning.{booted_of};
+ghost use Rattle.kernel_state.specs.Setup.{application_of};
+ghost use Rattle.kernel_state.specs.StandsFor.{StandsFor};
+
+use base::NoMemory;
+use kernel_state::{Application, Core};
+use new_calls::{Decided, Found, Plan, Settled, lowest_free, new_call};
+use ns_ram::{Lane, Reads};
+use own_model::OwnInput;
+use smc_abi::Regs;
+use std::alloc::Global;
+use ta_params::Login;
+use ta_params::codes::{TEE_ERROR_BAD_PARAMETERS, TEE_ERROR_OUT_OF_MEMORY, TEE_ERROR_TARGET_DEAD};
+use uuid::Uuid;
+
+/// An open of an application, whatever its later tests came to.
+#[derive(Drop)]
+pub struct NewOpen {
+    /// By which it names the application.
+    pub uuid: Uuid,
+    /// What came of its parameters.
+    pub input: OwnInput,
+    pub login: Login,
+    /// Whether a shared limit stopped it.
+    pub limited: bool,
+    /// Whether it has an area for the arguments of its requests.
+    pub area: bool,
+    /// Whether it gets a session.
+    pub reserves: bool,
+}
+
+/// A new call in a session. Of each but a cancel `area` says whether it has an area for the arguments of its requests.
+#[derive(Drop)]
+pub enum SessionCall {
+    /// An invoke of a function.
+    Invoke {
+        func: u32,
+        input: OwnInput,
+        area: bool,
+    },
+    Close {
+        area: bool,
+    },
+    Cancel,
+}
+
+/// A new call that is one of a session.
+#[derive(Drop)]
+pub enum NewCall {
+    Opens(NewOpen),
+    InSession(SessionCall),
+}
+
+/// What came of the parameters of an invoke that was settled with this code.
+fn invoke_input(code: u32) -> OwnInput
+    ensures { result ≡ invoke_input code }
+{
+    if code == TEE_ERROR_TARGET_DEAD {
+        OwnInput::Unread
+    } else {
+        OwnInput::Faulty
+    }
+}
+
+/// What came of the parameters of an open that was settled with this code.
+fn open_input(code: u32) -> OwnInput
+    ensures { result ≡ open_input code }
+{
+    if code == TEE_ERROR_BAD_PARAMETERS {
+        OwnInput::Faulty
+    } else {
+        OwnInput::Unread
+    }
+}
+
+/// An open that a test has settled with this code.
+fn settled_open(app: &Application, login: Login, code: u32, area: bool) -> NewOpen
+    ensures { result ≡ settled_open (application_of app.now) login code area }
+{
+    NewOpen {
+        uuid: app.uuid(),
+        input: open_input(code),
+        login,
+        limited: code == TEE_ERROR_OUT_OF_MEMORY,
+        area,
+        reserves: false,
+    }
+}
+
+/// What a new call is, by what its slot is taken for; the function is the one that its argument names, and it has an area or
+/// not.
+fn call_by(func: u32, area: bool, plan: Plan) -> Option<NewCall>
+    ensures { result ≡ call_by func area plan }
+{
+    match plan {
+        Plan::Settles(Settled::Open(app, login, code)) => {
+            Some(NewCall::Opens(settled_open(&app, login, code, area)))
+        }
+        Plan::Settles(Settled::Invoke(code)) => Some(NewCall::InSession(SessionCall::Invoke {
+            func,
+            input: invoke_input(code),
+            area,
+        })),
+        Plan::Opens { app, login, copies } => Some(NewCall::Opens(NewOpen {
+            uuid: app.uuid(),
+            input: OwnInput::Copied(copies.params),
+            login,
+            limited: false,
+            area,
+            reserves: true,
+        })),
+        Plan::Invokes { copies, .. } => Some(NewCall::InSession(SessionCall::Invoke {
+            func,
+            input: OwnInput::Copied(copies.params),
+            area,
+        })),
+        Plan::Closes { .. } => Some(NewCall::InSession(SessionCall::Close { area })),
+        Plan::Cancels => Some(NewCall::InSession(SessionCall::Cancel)),
+        Plan::Settles(Settled::Call(_)) | Plan::KeepsBuffer { .. } | Plan::DropsBuffer { .. } => {
+            None
+        }
+    }
+}
+
+/// What a new call is, by what was decided of it.
+fn call_in(decided: Decided) -> Option<NewCall>
+    ensures { result ≡ call_in decided }
+{
+    match decided {
+        Decided::Answers(_) => None,
+        Decided::Takes(entered, plan) => {
+            call_by(entered.head.func, entered.area.is_some(), plan)
+        }
+    }
+}
+
+/// What a new call with these registers is over this lane, by the core before it: `None` of one that is answered, and of one
+/// that is of no session.
+pub fn new_call_on(
+    alloc: Global,
+    core: &Core,
+    regs: &Regs,
+    lane: &Lane,
+) -> Result<Option<NewCall>, NoMemory>
+    ensures { (kernel : Kernel) → StandsFor core.now.parts kernel
+        → IfOk result (IsNewCall kernel lane.now (new_call (booted_of core.now) kernel regs.now.a)) }
+{
+    let free = lowest_free(&core.parts.slots);
+    let found = Found {
+        setup: &core.parts.setup,
+        tables: &core.parts.tables,
+        free,
+    };
+    let mut reads = Reads::new(alloc);
+    let decided = new_call(alloc, &found, regs, lane, &mut reads)?;
+    Ok(call_in(decided))
+}
