@@ -23,7 +23,8 @@ use uuid::Uuid;
 pub struct NewOpen {
     /// By which it names the application.
     pub uuid: Uuid,
-    /// What came of its parameters.
+    /// What came of its parameters: they are unread where a dead instance, a session that has the instance alone, or a shared limit
+    /// stopped it.
     pub input: OwnInput,
     pub login: Login,
     /// Whether a shared limit stopped it.
@@ -49,7 +50,7 @@ pub enum SessionCall {
     Cancel,
 }
 
-/// A new call that is one of a session.
+/// A new call of an application or of a session.
 #[derive(Drop)]
 pub enum NewCall {
     Opens(NewOpen),
@@ -140,7 +141,7 @@ fn call_in(decided: Decided) -> Option<NewCall>
 }
 
 /// What a new call with these registers is over this lane, by the core before it: `None` of one that is answered, and of one
-/// that is of no session.
+/// that is of no application and no session.
 pub fn new_call_on(
     alloc: Global,
     core: &Core,
