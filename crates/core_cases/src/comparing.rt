@@ -121,7 +121,7 @@ pub(crate) fn sessions_told(alloc: Global, name: &str, text: &[u8]) -> Result<Ve
     let natives = Natives::new(alloc);
     let trace = trace_of(alloc, &natives, text)?;
     let boot = boot_again(alloc, &natives, text, &trace)?;
-    let machine = played(alloc, &natives, trace)?;
-    let journal = machine.core().journal();
+    let player = played(alloc, &natives, trace)?;
+    let journal = player.machine().core().journal();
     Ok(tell_sessions(alloc, &boot, &natives, journal, sessions)?.into_bytes())
 }

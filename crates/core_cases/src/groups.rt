@@ -97,8 +97,8 @@ pub(crate) fn group_told(alloc: Global, text: &[u8]) -> Result<String> {
     if !has_shared_app(&boot) {
         bail!("no first application whose sessions share an instance");
     }
-    let machine = played(alloc, &natives, trace)?;
-    let journal = machine.core().journal();
+    let player = played(alloc, &natives, trace)?;
+    let journal = player.machine().core().journal();
     let mut told = String::new(alloc);
     tell_group(alloc, &boot, &natives, journal, &mut told)?;
     Ok(told)

@@ -1,10 +1,10 @@
-//! Playing items: what comes in and goes out is served by lists.
-ghost use Rattle.std.specs.Prelude.{◌≡◌, map};
-ghost use Rattle.kernel_state.specs.Meaning.{booted_of};
+//! Playing items by lists: what comes in and goes out from one write or show to the next is served at once.
+//!
+//! That shows the function over lists, `Machine::serve`. The player of a trace serves each call by itself.
+ghost use Rattle.std.specs.Prelude.{map};
 ghost use Rattle.native_tas.specs.Table.{entries};
 ghost use Rattle.trace_text.specs.Sound.{IsSound};
 
-use crate::booting::machine_of;
 use crate::reading::{registers, trace_of};
 use crate::telling::{tell_answers, tell_stand};
 use answer_lines::push_mem;
@@ -56,9 +56,7 @@ fn play_item(
     item: &Item,
     list: &mut Vec<Smc>,
     told: &mut Vec<u8>,
-) -> Result<()>
-    ensures { booted_of machine.new.at_work.core ≡ booted_of machine.old.at_work.core }
-{
+) -> Result<()> {
     if takes(list, item)? {
         return Ok(());
     }
@@ -68,9 +66,7 @@ fn play_item(
 }
 
 /// Plays these items, and tells what comes of it.
-pub fn play(alloc: Global, machine: &mut Machine, items: &[Item]) -> Result<Vec<u8>>
-    ensures { booted_of machine.new.at_work.core ≡ booted_of machine.old.at_work.core }
-{
+fn play(alloc: Global, machine: &mut Machine, items: &[Item]) -> Result<Vec<u8>> {
     let mut told = Vec::new(alloc);
     let mut list = Vec::new(alloc);
     for item in items {
@@ -86,7 +82,10 @@ fn play_trace(alloc: Global, natives: &Natives, trace: Trace) -> Result<Vec<u8>>
     requires { IsSound (map (λ native. native.0) (entries natives.now)) trace }
 {
     let Trace { boot, fills, items } = trace;
-    let mut machine = machine_of(alloc, boot, natives, fills.as_slice())?;
+    let Some(boot) = boot else {
+        bail!("a case without a boot");
+    };
+    let mut machine = Machine::booted(alloc, boot, natives, fills.as_slice())?;
     play(alloc, &mut machine, items.as_slice())
 }
 
@@ -96,9 +95,7 @@ pub fn play_text(alloc: Global, natives: &Natives, text: &[u8]) -> Result<Vec<u8
 }
 
 /// Serves a list. Where an entry of it wants for memory, that and what is behind it come once more.
-fn serve(alloc: Global, machine: &mut Machine, list: &[Smc], told: &mut Vec<u8>) -> Result<()>
-    ensures { booted_of machine.new.at_work.core ≡ booted_of machine.old.at_work.core }
-{
+fn serve(alloc: Global, machine: &mut Machine, list: &[Smc], told: &mut Vec<u8>) -> Result<()> {
     if let Some(served) = serve_once(alloc, machine, list, told)? {
         let rest = list.get(served..).context("less was to be served")?;
         if serve_once(alloc, machine, rest, told)?.is_some() {
@@ -115,9 +112,7 @@ fn serve_once(
     machine: &mut Machine,
     list: &[Smc],
     told: &mut Vec<u8>,
-) -> Result<Option<usize>>
-    ensures { booted_of machine.new.at_work.core ≡ booted_of machine.old.at_work.core }
-{
+) -> Result<Option<usize>> {
     if !machine.can_serve(alloc, list)? {
         bail!("a processor comes in or goes out twice");
     }
@@ -150,9 +145,7 @@ fn write_or_show(
     machine: &mut Machine,
     item: &Item,
     told: &mut Vec<u8>,
-) -> Result<()>
-    ensures { booted_of machine.new.at_work.core ≡ booted_of machine.old.at_work.core }
-{
+) -> Result<()> {
     match item {
         Item::Write { cpu, addr, bytes } => write(machine, *cpu, *addr, bytes.as_slice()),
         Item::Show { cpu, addr, len } => show(alloc, machine, *cpu, *addr, *len, told),
@@ -161,9 +154,7 @@ fn write_or_show(
 }
 
 /// Writes bytes to a processor's RAM.
-fn write(machine: &mut Machine, cpu: u8, addr: u64, bytes: &[u8]) -> Result<()>
-    ensures { booted_of machine.new.at_work.core ≡ booted_of machine.old.at_work.core }
-{
+fn write(machine: &mut Machine, cpu: u8, addr: u64, bytes: &[u8]) -> Result<()> {
     if cpu >= machine.cpus() || !in_ram(addr, bytes.len() as u64) {
         bail!("a write outside of RAM");
     }

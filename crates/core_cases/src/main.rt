@@ -2,17 +2,17 @@
 //!
 //! Standard input has the cases, each a line `case KIND NAME` and a text. That line is printed, and then what the case tells.
 //!
-//! - `lists`, and a trace: what comes in and goes out from one `write` or `show` to the next is served as one list. A line
-//!   is told for each exit and each show, as of any trace that is played, and last how the core then stands. A show of one
-//!   byte tells that too. An entry that is refused since it would read too much ends its list: `full COPIED MORE` tells how
-//!   many bytes the entries before have read, and how many this one would. At one that wants for memory `memory` is told,
-//!   and what is left of its list is served once more.
+//! - `lists`, and a trace: what comes in and goes out from one `write` or `show` to the next is served as one list, by
+//!   `Machine::serve`, which these cases show. A line is told for each exit and each show, as of any trace that is played, and
+//!   last how the core then stands. A show of one byte tells that too. An entry that is refused since it would read too much
+//!   ends its list: `full COPIED MORE` tells how many bytes the entries before have read, and how many this one would. At one
+//!   that wants for memory `memory` is told, and what is left of its list is served once more.
 //! - `orders`, a line for each order, a line `trace`, and a trace of two processors: it is served in each order by a core
-//!   that the processors share, all by one thread. An order names, for each entry and each exit, the processor whose it is;
-//!   each processor takes its items in the order of the trace. The lines of the trace are told, those of an exit with the
-//!   places of its entry and its own in the history, and behind them whose the events of the core are.
-//! - `sessions`, with numbers of sessions behind the name, and a trace whose boot has one application: it is played, and the
-//!   machines of these sessions are fed with the sessions' own events. For each a line `session SESSION` is told, a line of
+//!   that the processors share behind a lock, all by one thread, which these cases show. An order names, for each entry and each
+//!   exit, the processor whose it is; each processor takes its items in the order of the trace. The lines of the trace are told,
+//!   those of an exit with the places of its entry and its own in the history, and behind them whose the events of the core are.
+//! - `sessions`, with numbers of sessions behind the name, and a trace whose boot has one application: it is played by `Player`,
+//!   and the machines of these sessions are fed with the sessions' own events. For each a line `session SESSION` is told, a line of
 //!   its own events, and then a line for each reply of its machine; where the session was answered otherwise, that stands
 //!   behind it.
 //! - `groups`, and a trace of whose boot the first application has sessions that share an instance: it is played, and the machine
@@ -28,7 +28,6 @@
 #![tactic(auto)]
 
 // Traces, and machines on which lists are served
-mod booting;
 mod lists;
 mod reading;
 mod telling;

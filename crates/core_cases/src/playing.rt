@@ -1,23 +1,24 @@
-//! Playing a trace.
-ghost use Rattle.std.specs.Prelude.{◌≡◌, IfOk, Some, map};
-ghost use Rattle.kernel_model.specs.Application.{booted};
-ghost use Rattle.kernel_state.specs.Meaning.{booted_of};
+//! Playing a trace by the one player, for what stands in the journal of its core.
+ghost use Rattle.std.specs.Prelude.{◌≡◌, IfOk, List, OnOk, Some, map};
+ghost use Rattle.core_cases.specs.Playing.{HasItsBoot};
+ghost use Rattle.kernel_model.specs.Application.{Native};
 ghost use Rattle.native_tas.specs.Table.{entries};
-ghost use Rattle.ta_isa.specs.declared.boot.Boot.{Boot as AnyBoot};
+ghost use Rattle.trace_player.specs.Starting.{IsAtStart};
 ghost use Rattle.trace_text.specs.Grammar.{Spells};
 ghost use Rattle.trace_text.specs.Sound.{IsSound};
+ghost use Rattle.trace_text.specs.declared.trace.Trace.{Trace as AnyTrace};
 
-use crate::booting::machine_of;
-use crate::lists::play;
 use crate::reading::trace_of;
 use anyhow::{Result, bail};
-use core_machine::Machine;
+use core_machine::machines_stand;
 use native_tas::Natives;
 use std::alloc::Global;
 use ta_isa::Boot;
-use trace_text::Trace;
+use trace_player::Player;
+use trace_text::{Item, Trace};
+use word_parts::Stop;
 
-/// The boot of a trace, read once more from its text, since a machine takes its boot.
+/// The boot of a trace, read once more from its text, since a player takes its boot.
 pub(crate) fn boot_again(
     alloc: Global,
     natives: &Natives,
@@ -34,14 +35,35 @@ pub(crate) fn boot_again(
     Ok(boot)
 }
 
-/// A machine on which a trace was played.
-pub(crate) fn played(alloc: Global, natives: &Natives, trace: Trace) -> Result<Machine>
+/// Plays the items of a trace on a player that stands before the first of them. What they print is let go.
+fn play_items(alloc: Global, player: &mut Player, items: &[Item]) -> Result<()>
+    requires { (natives : List Native) × (trace : AnyTrace) × IsAtStart natives trace items.now player.old }
+    ensures { (natives : List Native) (trace : AnyTrace) → IsAtStart natives trace items.now player.old
+        → OnOk result (HasItsBoot natives trace player.new) }
+{
+    machines_stand();
+    let mut lines = Vec::new(alloc);
+    for item in items {
+        match player.play_item(alloc, item, &mut lines) {
+            Ok(()) => {}
+            Err(Stop::Full) => bail!("an entry was refused"),
+            Err(Stop::Failed) => unreachable!(),
+            Err(Stop::Memory) => bail!("out of memory"),
+        }
+    }
+    Ok(())
+}
+
+/// A player that has played all items of a trace.
+pub(crate) fn played(alloc: Global, natives: &Natives, trace: Trace) -> Result<Player>
     requires { IsSound (map (λ native. native.0) (entries natives.now)) trace }
-    ensures { (boot : AnyBoot) → trace.boot ≡ Some boot
-        → IfOk result (λ machine. booted_of machine.at_work.core ≡ booted boot (entries natives.now)) }
+    ensures { IfOk result (HasItsBoot (entries natives.now) trace) }
 {
     let Trace { boot, fills, items } = trace;
-    let mut machine = machine_of(alloc, boot, natives, fills.as_slice())?;
-    play(alloc, &mut machine, items.as_slice())?;
-    Ok(machine)
+    let Some(boot) = boot else {
+        bail!("a case without a boot");
+    };
+    let mut player = Player::booted(alloc, boot, natives, fills.as_slice())?;
+    play_items(alloc, &mut player, items.as_slice())?;
+    Ok(player)
 }

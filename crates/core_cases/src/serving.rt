@@ -1,4 +1,7 @@
 //! A trace, served by a shared core from one thread, in an order of its processors.
+//!
+//! That shows a core behind a lock, whose processors come and go in any order: each entry and each exit is a turn of its own,
+//! where the player of a trace takes its items one after the other.
 ghost use Rattle.std.specs.Prelude.{◌≡◌, ◌∷◌, [], All, map};
 ghost use Rattle.core_lock.specs.Passes.{AreUnused, number};
 ghost use Rattle.kernel_state.specs.Meaning.{booted_of, events_of};
