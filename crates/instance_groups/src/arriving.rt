@@ -15,6 +15,7 @@ ghost use Rattle.resumed_calls.specs.Giving.{given_as};
 
 use base::NoMemory;
 use begin_call::has_pages_for;
+use boxed::Boxed;
 use frame_pool::Pages;
 use isolation::{Back, NewCall, back_in, new_call_on};
 use job_model::CallKind;
@@ -39,18 +40,21 @@ pub(crate) enum Arrival {
     /// Nothing: its answer is fixed, or its call is of no group.
     Nothing,
     /// A new call, which is this.
-    New(NewCall),
+    New(Boxed<NewCall>),
     /// A call comes back.
-    Back(Resumed),
+    Back(Boxed<Resumed>),
 }
 
 /// What a new call is, if it may be one of a group.
-fn arrival_of(call: Option<NewCall>) -> Arrival
-    ensures { result ≡ arrival_of call }
+fn arrival_of(alloc: Global, call: Option<NewCall>) -> Result<Arrival, NoMemory>
+    ensures { IfOk result (λ arrival. arrival ≡ arrival_of call) }
 {
     match call {
-        Some(call) => Arrival::New(call),
-        None => Arrival::Nothing,
+        Some(call) => {
+            let call = Boxed::new(alloc, call)?;
+            Ok(Arrival::New(call))
+        }
+        None => Ok(Arrival::Nothing),
     }
 }
 
@@ -61,7 +65,7 @@ fn new_arrival(alloc: Global, core: &Core, regs: &Regs, lane: &Lane) -> Result<A
         (new_call (booted_of core.now) kernel regs.now.a)) }
 {
     let call = new_call_on(alloc, core, regs, lane)?;
-    Ok(arrival_of(call))
+    arrival_of(alloc, call)
 }
 
 /// The call is an open.
@@ -142,7 +146,7 @@ fn back_arrival(
     let call = resumed_calls::decide(alloc, setup, slots, regs, lane, &mut reads)?;
     match call {
         Some(decided) => {
-            let resumed = resumed_in(core, app, regs, decided.given);
+            let resumed = Boxed::new(alloc, resumed_in(core, app, regs, decided.given))?;
             Ok(Arrival::Back(resumed))
         }
         None => Ok(Arrival::Nothing),

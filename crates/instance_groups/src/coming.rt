@@ -15,6 +15,7 @@ ghost use Rattle.ns_ram.specs.declared.read.Read.{Read as AnyRead};
 use crate::arriving::{Arrival, Resumed};
 use crate::notes::Notes;
 use base::NoMemory;
+use boxed::Boxed;
 use isolation::{NewCall, errand_of};
 use kernel_entry::Visitor;
 use kernel_state::{Carried, Core, Errand, Ran};
@@ -35,7 +36,7 @@ fn note_new(
     alloc: Global,
     notes: &mut Notes,
     slot: u8,
-    call: NewCall,
+    call: Boxed<NewCall>,
     ran: &Ran,
 ) -> Result<(), NoMemory>
     requires slot { slot < 16 }
@@ -50,14 +51,19 @@ fn note_new(
 }
 
 /// Notes a call that has come back into its slot.
-fn note_back(alloc: Global, notes: &mut Notes, slot: u8, came: Resumed) -> Result<(), NoMemory>
+fn note_back(
+    alloc: Global,
+    notes: &mut Notes,
+    slot: u8,
+    came: Boxed<Resumed>,
+) -> Result<(), NoMemory>
     ensures noted { (boot : Booted) (kernel next : Kernel) (visitor : AnyVisitor) (reads : List AnyRead) (work : AnyWork)
         → HasArrivedIn (watch boot (application_of notes.old.app) kernel) next visitor reads (Arrival.Back came) work slot
         → IsEntryNoted boot notes.old notes.new kernel next visitor reads result }
     ensures app { notes.new.app ≡ notes.old.app }
 {
     match notes.number_in(slot) {
-        Some(number) => notes.resume(alloc, number, came),
+        Some(number) => notes.resume(alloc, number, came.into_inner()),
         None => Ok(()),
     }
 }

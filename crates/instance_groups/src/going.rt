@@ -10,6 +10,7 @@ ghost use Rattle.kernel_state.specs.declared.processor.Errand.TheVariants.{InSlo
 use crate::arriving::is_open;
 use crate::notes::Notes;
 use base::NoMemory;
+use boxed::Boxed;
 use core_at_work::CoreAtWork;
 use isolation::{left_in, told_at_end};
 use job_model::CallKind;
@@ -40,14 +41,14 @@ fn opened_so(kind: CallKind, session: u32, told: &OwnReply) -> Option<u32>
 }
 
 /// The session that the call has opened that a processor carries, by what is told of it.
-fn opened_by(call: &Carried, told: &Option<OwnReply>) -> Option<u32>
+fn opened_by(call: &Carried, told: &Option<Boxed<OwnReply>>) -> Option<u32>
     ensures { result ≡ option_and_then (opened_by call.now) told.now }
 {
     let told = told.as_ref()?;
     match call {
         Carried::Nothing => None,
         Carried::Resting(cont) | Carried::Running(cont) => {
-            opened_so(cont.kind, cont.session, told)
+            opened_so(cont.kind, cont.session, told.get())
         }
     }
 }

@@ -197,7 +197,7 @@ impl Notes {
         alloc: Global,
         slot: u8,
         session: u32,
-        call: NewCall,
+        call: Boxed<NewCall>,
     ) -> Result<(), NoMemory>
         requires slot { slot < 16 }
         requires few { HasNumbersLeft self.old }
@@ -205,8 +205,8 @@ impl Notes {
             → IfOk result (λ _. AreNoted self.new (called_as (application_of self.old.app) notes slot session call)) }
         ensures app { self.new.app ≡ self.old.app }
     {
-        let gets = gets_session(&call);
-        match self.event_of(session, call) {
+        let gets = gets_session(call.get());
+        match self.event_of(session, call.into_inner()) {
             Some(event) => self.take_in(alloc, slot, session, gets, event),
             None => Ok(()),
         }
@@ -340,7 +340,7 @@ impl Notes {
         slot: u8,
         number: u32,
         opened: Option<u32>,
-        ended: OwnReply,
+        ended: Boxed<OwnReply>,
     ) -> Result<(), NoMemory>
         requires { slot < 16 }
         ensures noted { (notes : group.Notes) (call : PendingCall) → AreNoted self.old notes
@@ -349,7 +349,7 @@ impl Notes {
         ensures app { self.new.app ≡ self.old.app }
     {
         let told = GroupReply {
-            reply: ended,
+            reply: ended.into_inner(),
             opened: self.number_of(opened),
         };
         let event = Boxed::new(alloc, GroupEvent::Out { call: number })?;

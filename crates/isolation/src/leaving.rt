@@ -5,6 +5,7 @@ ghost use Rattle.isolation.specs.Telling.{asked_reply, asks_with_payload, ended_
 ghost use Rattle.kernel_state.specs.Calls.{woken_slot};
 
 use base::NoMemory;
+use boxed::Boxed;
 use frame_pool::Pages;
 use kernel_state::Carried;
 use own_model::OwnReply;
@@ -100,18 +101,20 @@ pub fn reply_of(
 }
 
 /// What is told of a call that goes out ended.
-fn ended(alloc: Global, cont: &Cont<Pages>) -> Result<OwnReply, NoMemory>
+fn ended(alloc: Global, cont: &Cont<Pages>) -> Result<Boxed<OwnReply>, NoMemory>
     ensures { IfOk result (λ told. told ≡ ended_as cont.now) }
 {
-    Ok(OwnReply::Ended {
+    let reply = OwnReply::Ended {
         result: cont.result.result,
         origin: cont.result.origin,
         outputs: copied_outputs(alloc, cont.result, &cont.params)?,
-    })
+    };
+    let told = Boxed::new(alloc, reply)?;
+    Ok(told)
 }
 
 /// What is told of the call that a processor carries, if it goes out ended.
-pub fn told_at_end(alloc: Global, call: &Carried) -> Result<Option<OwnReply>, NoMemory>
+pub fn told_at_end(alloc: Global, call: &Carried) -> Result<Option<Boxed<OwnReply>>, NoMemory>
     ensures { IfOk result (λ told. told ≡ told_at_end call.now) }
 {
     match call {

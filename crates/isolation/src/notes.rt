@@ -200,14 +200,15 @@ impl Notes {
         alloc: Global,
         slot: u8,
         number: u32,
-        ended: OwnReply,
+        ended: Boxed<OwnReply>,
     ) -> Result<(), NoMemory>
         requires { slot < 16 }
         ensures noted { (notes : own.Notes) (call : PendingCall) → AreNoted self.old notes → HasFinished slot call ended
             → IfOk result (λ _. AreNoted self.new (own.exit_noted notes slot call number)) }
         ensures session { self.new.session ≡ self.old.session }
     {
-        self.tell(alloc, number, Some(ended))?;
+        let event = Boxed::new(alloc, OwnEvent::Out { call: number })?;
+        self.list(event, Some(ended))?;
         self.numbering.forget(slot);
         Ok(())
     }

@@ -12,7 +12,7 @@ returns-in-Some-clause-noted c boot kernel next visitor reads work has before ar
     subst (λ (n : Notes). IfOk c.resume.result (λ _. AreNoted c.resume.new.self n))
     (back_of_own (watch boot (application_of c.args.notes.now.app) kernel) next visitor reads work c.args.slot before c.args.came has
     c.in-Some.number (sym (c.number_in.ensures before are) ∙ c.in-Some.is))
-    (c.resume.ensures.noted before are)
+    (rw c.into_inner.ensures at (c.resume.ensures.noted before are))
 
 pub returns-in-None-clause-noted : goal.returns-in-None-clause-noted
 returns-in-None-clause-noted c boot kernel next visitor reads work has before are =

@@ -1,4 +1,4 @@
-use Rattle.std.proofs.Common.{ap, refl, sym, subst}
+use Rattle.std.proofs.Common.{ap, sym, subst}
 use Rattle.instance_groups.proofs.NotesKept.{finished_noted}
 use Rattle.instance_groups.specs.declared.notes.Notes.{Notes}
 use Rattle.isolation.specs.Noted.{AreNumbers}
@@ -11,5 +11,5 @@ returns-clause-noted c notes call are is =
     finished_noted c.args.self.now _ notes are c.args.slot c.args.number call c.args.ended c.args.opened _ is
     (c.forget.ensures notes.numbering
     (subst (λ (n : Numbering). AreNumbers n notes.numbering) (sym (ap (λ (n : Notes). n.numbering) stays)) are.numbering))
-    (rw (c.in_ok-event.ensures, c.in_ok-reply.ensures) at c.in_ok-list.ensures.log) refl (c.number_of.ensures notes are)
+    (rw (c.in_ok-event.ensures, c.in_ok-reply.ensures) at c.in_ok-list.ensures.log) c.into_inner.ensures (c.number_of.ensures notes are)
     (ap (λ (n : Notes). n.sessions.entries) stays) (ap (λ (n : Notes). n.next_session) stays)

@@ -7,8 +7,8 @@ use Rattle.isolation.proofs.notes.Notes.finish.Goals as goal
 
 pub returns-clause-noted : goal.returns-clause-noted
 returns-clause-noted c notes call are is =
-    let stays = c.tell.ensures.stays in
+    let stays = c.in_ok-list.ensures.stays in
     finished_noted c.args.self.now _ notes are c.args.slot c.args.number call c.args.ended is
     (c.forget.ensures notes.numbering
     (subst (λ (n : Numbering). AreNumbers n notes.numbering) (sym (ap (λ (n : Notes). n.numbering) stays)) are.numbering))
-    c.in_ok-tell.ensures.log (ap (λ (n : Notes). n.turned_away) stays) (ap (λ (n : Notes). n.uuid) stays)
+    (rw c.in_ok-event.ensures at c.in_ok-list.ensures.log) (ap (λ (n : Notes). n.turned_away) stays) (ap (λ (n : Notes). n.uuid) stays)
