@@ -1,0 +1,19 @@
+#ifndef STDLIB_H
+#define STDLIB_H
+
+#include <stddef.h>
+
+/* Of the heap of TA_DATA_SIZE bytes. Blocks begin as zeros. */
+void *malloc(size_t size);
+void *calloc(size_t count, size_t size);
+void *realloc(void *block, size_t size);
+void free(void *block);
+
+/* Sorts in place, without recursion; equal elements may change places. */
+void qsort(void *base, size_t count, size_t size, int (*compare)(const void *, const void *));
+int abs(int value);
+
+/* Ends in a panic with code 16. */
+void abort(void) __attribute__((noreturn));
+
+#endif
