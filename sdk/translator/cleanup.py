@@ -68,7 +68,7 @@ def with_shorter_jumps(items):
         elif one.op in OPPOSITES and len(behind) == 2 and is_jump(behind[0]) and behind[1] == one.imm:
             made.append(one._replace(op=OPPOSITES[one.op], imm=behind[0].imm))
             place += 1
-        elif one.op == "call" and one.callee != "helper" and behind and not is_label(behind[0]) and behind[0].op == "ret":
+        elif one.op == "call" and one.callee in ("", "pointer") and behind and not is_label(behind[0]) and behind[0].op == "ret":
             made.append(one._replace(op="jump"))
             place += 1
         elif has_target(one) and one.op != "call" and goes_on_at(one.imm, items, place):

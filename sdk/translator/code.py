@@ -19,7 +19,7 @@ STACK, ZERO, FIRST_SPARE, SECOND_SPARE, RETURN = 11, 12, 13, 14, 15
 REGISTER_OF = {0: ZERO, 1: RETURN, 2: STACK, 5: 6, 6: 7, 7: 8, 8: 9, 9: 10} | {10 + k: k for k in range(6)}
 ALL, SPARES = 0xFFFF, mask(FIRST_SPARE, SECOND_SPARE)
 ARGUMENTS = mask(*range(6))
-CHANGED_BY_CALLS = mask(*range(9)) | SPARES
+CHANGED_BY_CALLS = mask(*range(9), RETURN) | SPARES
 KEPT = 0xFFFF & ~CHANGED_BY_CALLS
 
 # Calls by number, with how many of r0 to r2 each takes and gives.

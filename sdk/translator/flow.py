@@ -1,11 +1,13 @@
 """Which registers are read later, of code at any level. Sets of registers are masks of bits."""
 
 import collections
+import functools
 
 # What a step of code reads and writes, the numbers of those that may follow it, and the first step of the function that it calls.
 Step = collections.namedtuple("Step", "reads writes successors callee", defaults=(None,))
 
 
+@functools.cache
 def mask(*registers):
     return sum(1 << register for register in set(registers))
 

@@ -40,42 +40,44 @@ def started(command):
     return subprocess.Popen([str(word) for word in command], stdin=subprocess.DEVNULL, stderr=subprocess.PIPE)
 
 
-def ended(process, what):
+def ended(process, what, is_quiet):
     """Waits for a process, and passes on what it has said."""
     said = process.communicate()[1].decode(errors="replace")
-    sys.stderr.write(said)
+    if process.returncode or not is_quiet:
+        sys.stderr.write(said)
     if process.returncode:
         raise Refused(f"the compiler has refused {what}" if what else "the linker has refused the program")
 
 
 class Build:
-    """Compiles and links into a folder, with what the words of the command say besides: a level, folders and macros."""
+    """Compiles and links into a folder, with what the words of the command say besides: a level, folders and macros. What the compiler
+    warns of is passed on, unless it is to be quiet."""
 
-    def __init__(self, folder, application, level, options):
-        self.folder, self.application, self.gcc = folder, application, tool("gcc")
+    def __init__(self, folder, application, level, options, is_quiet=False):
+        self.folder, self.application, self.gcc, self.is_quiet = folder, application, tool("gcc"), is_quiet
         self.flags = [*MACHINE, *CODE, *LANGUAGE, "-I", SDK / "include", "-I", application, *options]
         self.level = f"-O{level}"
 
-    def compile(self, files):
-        """The objects of C files, which are compiled side by side, and those that are objects already."""
+    def compile(self, files, is_whole=True):
+        """The objects of C files, which are compiled side by side, and those that are objects already. The linker makes one program of
+        them and optimises it as a whole, unless they are to be what they are."""
         objects, running = [file for file in files if file.suffix == ".o"], []
         for file in objects:
             check_object(file)
         for number, file in enumerate(file for file in files if file.suffix != ".o"):
             objects.append(self.folder / f"{number}.o")
-            is_apart = file in (HEADER, MEMORY)
-            mode = APART if is_apart else WHOLE_PROGRAM
+            mode = WHOLE_PROGRAM if is_whole and file not in (HEADER, MEMORY) else APART
             level = "-Os" if file in RUNTIME else self.level
             running.append((started([self.gcc, *self.flags, level, *mode, "-c", "-o", objects[-1], file]), file.name))
         for process, name in running:
-            ended(process, name)
+            ended(process, name, self.is_quiet)
         return objects
 
     def link(self, objects, numbers, file):
         """The linked program, with the values of symbols that the linker's script takes."""
         symbols = [f"-Wl,--defsym={name}={value}" for name, value in numbers.items()]
         options = [*LINK, *symbols, "-Wl,-T", SDK / "application.ld", "-o", file]
-        ended(started([self.gcc, *self.flags, self.level, *WHOLE_PROGRAM, *options, *objects, "-lgcc"]), None)
+        ended(started([self.gcc, *self.flags, self.level, *WHOLE_PROGRAM, *options, *objects, "-lgcc"]), None, self.is_quiet)
         return Elf(file.read_bytes(), file.name)
 
 

@@ -1,0 +1,8 @@
+#include "tally_ta.h"
+
+#define TA_UUID TALLY_UUID
+#define TA_FLAGS (TA_FLAG_EXEC_DDR | TA_FLAG_SINGLE_INSTANCE | TA_FLAG_MULTI_SESSION | TA_FLAG_INSTANCE_KEEP_ALIVE)
+#define TA_STACK_SIZE 512
+#define TA_DATA_SIZE 1024
+#define TA_VERSION "1.0"
+#define TA_DESCRIPTION "Counts what its sessions add"
