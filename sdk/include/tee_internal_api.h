@@ -130,6 +130,13 @@ TEE_Result TEE_GetNextProperty(TEE_PropSetHandle enumerator);
 /* Panics (4.8) and cancelling (4.10). */
 
 void TEE_Panic(TEE_Result panicCode) __attribute__((noreturn));
+/* Each use has a place of its own in the image, so that its line can be told: the machine's system call 1. */
+#define TEE_Panic(panicCode)                                                                                                              \
+	__extension__({                                                                                                                   \
+		register TEE_Result code_ __asm__("a0") = (panicCode);                                                                    \
+		__asm__ volatile(".insn i 0x0b, 0, x0, x0, 1 # %1" : : "r"(code_), "i"(__LINE__));                                        \
+		__builtin_unreachable();                                                                                                  \
+	})
 bool TEE_GetCancellationFlag(void);
 bool TEE_UnmaskCancellation(void);
 bool TEE_MaskCancellation(void);

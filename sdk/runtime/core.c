@@ -6,12 +6,12 @@
 
 static void *instance_data;
 
-void TEE_Panic(TEE_Result code)
+void(TEE_Panic)(TEE_Result code)
 {
 	sys_panic(code);
 }
 
-void abort(void)
+void(abort)(void)
 {
 	__builtin_trap();
 }

@@ -22,7 +22,7 @@ MACHINE = ["-march=rv32em", "-mabi=ilp32e"]
 # A word of the machine has any alignment. A function keeps what the calling convention says, and isn't parted.
 CODE = "-ffreestanding -ffunction-sections -fdata-sections -fno-common -fno-jump-tables -fno-ipa-ra -fno-stack-protector".split()
 CODE += "-fno-unwind-tables -fno-asynchronous-unwind-tables -fno-reorder-blocks-and-partition -mno-strict-align -mtune=thead-c906".split()
-LANGUAGE = "-std=gnu11 -nostdinc -g -Wall -Werror=implicit-function-declaration".split()
+LANGUAGE = "-std=gnu11 -nostdinc -gdwarf-4 -Wall -Werror=implicit-function-declaration".split()
 WHOLE_PROGRAM, APART = ["-flto"], ["-fno-lto", "-fno-tree-loop-distribute-patterns"]
 LINK = "-nostdlib -static -flto-partition=one -Wl,--gc-sections -Wl,--no-warn-rwx-segments -Wl,--emit-relocs".split()
 

@@ -56,13 +56,13 @@ storew r11 r5 20
 loadw r5 r0 16
 storew r11 r5 24
 L35:
-# add_block sha1.c:49
+# big_endian sha1.c:17
 loadb r2 r4 0
 loadb r5 r4 1
 # add_block sha1.c:48
 const r10 4
 add r4 r4 r10
-# add_block sha1.c:49
+# big_endian sha1.c:17
 shl r2 r2 r14
 const r13 16
 shl r5 r5 r13
@@ -70,12 +70,13 @@ or r5 r2 r5
 loadb r2 r4 4294967295
 # add_block sha1.c:48
 add r3 r3 r10
-# add_block sha1.c:49
+# big_endian sha1.c:17
 or r5 r5 r2
 loadb r2 r4 4294967294
 const r6 8
 shl r2 r2 r6
 or r5 r5 r2
+# add_block sha1.c:49
 storew r3 r5 4294967292
 # add_block sha1.c:48
 loadw r5 r11 40
@@ -96,16 +97,18 @@ move r13 r4
 move r14 r5
 call helper_div
 move r7 r13
-# add_block sha1.c:52
+# rotated sha1.c:12
 const r10 27
 shr r1 r9 r10
 const r14 5
 shl r5 r9 r14
 or r5 r1 r5
 storew r11 r5 32
+# mixed sha1.c:23
 beq r7 r12 L72
 const r5 2
 beq r7 r5 L76
+# mixed sha1.c:29
 xor r5 r8 r2
 jump L74
 L68:
@@ -113,17 +116,19 @@ L68:
 move r3 r2
 # add_block sha1.c:52
 move r9 r7
-# add_block sha1.c:56
+# rotated sha1.c:12
 move r2 r5
 jump L57
 L72:
-# add_block sha1.c:52
+# mixed sha1.c:25
 xor r5 r2 r3
 and r5 r5 r8
 L74:
+# mixed sha1.c:29
 xor r5 r5 r3
 jump L80
 L76:
+# mixed sha1.c:27
 or r5 r2 r3
 and r5 r5 r8
 and r1 r2 r3
@@ -134,7 +139,7 @@ const r13 15
 and r1 r4 r13
 const r6 2
 shl r1 r1 r6
-# add_block sha1.c:52
+# mixed sha1.c:29
 storew r11 r5 0
 # scheduled sha1.c:38
 const r6 15
@@ -185,10 +190,12 @@ add r6 r6 r14
 add r6 r6 r5
 loadw r6 r6 4294967232
 xor r6 r10 r6
+# rotated sha1.c:12
 shl r10 r6 r15
 const r5 31
 shr r6 r6 r5
 or r10 r10 r6
+# scheduled sha1.c:39
 storew r1 r10 0
 L115:
 # add_block sha1.c:52
@@ -207,12 +214,12 @@ add r7 r6 r7
 add r7 r7 r1
 add r7 r7 r5
 loadw r5 r11 28
-# add_block sha1.c:56
+# rotated sha1.c:12
 shr r1 r8 r14
 storew r11 r3 28
 # add_block sha1.c:52
 add r7 r7 r5
-# add_block sha1.c:56
+# rotated sha1.c:12
 const r13 30
 shl r5 r8 r13
 or r5 r5 r1
@@ -252,65 +259,87 @@ const r14 120
 add r11 r11 r14
 ret
 L157:
-# sha1_end
+# sha1_end sha1.c:85
 const r14 24
 sub r11 r11 r14
 storew r11 r9 16
+# sha1_end sha1.c:86
 loadw r9 r0 20
+# sha1_end sha1.c:87
 const r5 4294967168
+# sha1_end sha1.c:85
 storew r11 r10 12
 storew r11 r1 0
+# sha1_end sha1.c:86
 const r13 3
 shl r9 r9 r13
+# sha1_end sha1.c:87
 storeb r11 r5 11
 L166:
+# sha1_end sha1.c:90
 const r2 1
 const r14 11
 add r1 r11 r14
 storew r11 r0 4
 call L0
+# sha1_end sha1.c:92
 loadw r0 r11 4
+# sha1_end sha1.c:91
 storeb r11 r12 11
+# sha1_end sha1.c:92
 const r4 56
 loadw r5 r0 20
 const r14 63
 and r5 r5 r14
 bne r5 r4 L166
+# sha1_end sha1.c:93
 const r5 0
 L177:
+# sha1_end sha1.c:94
 add r10 r5 r15
 const r14 2147483651
 const r13 2147483648
 xor r3 r5 r13
 bltu r14 r3 L188
+# sha1_end sha1.c:95
 const r2 1
 const r3 11
 add r1 r11 r3
 storew r11 r0 4
+# sha1_end sha1.c:94
 storeb r11 r12 11
+# sha1_end sha1.c:95
 call L0
+# sha1_end sha1.c:93
 loadw r0 r11 4
 move r5 r10
 jump L177
 L188:
+# sha1_end sha1.c:94
 const r4 4294967288
 mul r5 r5 r4
+# sha1_end sha1.c:95
 const r2 1
 const r3 11
 add r1 r11 r3
 storew r11 r0 4
+# sha1_end sha1.c:94
 const r6 56
 add r5 r5 r6
 shr r5 r9 r5
 storeb r11 r5 11
+# sha1_end sha1.c:95
 call L0
+# sha1_end sha1.c:93
 const r4 8
 loadw r0 r11 4
 move r5 r10
 bne r10 r4 L177
+# sha1_end sha1.c:97
 const r5 0
 const r2 20
 L203:
+# sha1_end sha1.c:98
 loadw r4 r11 0
 const r14 4294967292
 and r3 r5 r14
@@ -324,8 +353,10 @@ and r4 r4 r6
 shl r4 r4 r6
 shr r4 r3 r4
 storeb r1 r4 0
+# sha1_end sha1.c:97
 add r5 r5 r15
 bne r5 r2 L203
+# sha1_end sha1.c:99
 loadw r9 r11 16
 loadw r10 r11 12
 const r2 24
@@ -422,17 +453,18 @@ sub r11 r11 r14
 storew r11 r9 20
 move r9 r1
 storew r11 r10 16
-# begin_with_key sha1.c:104
+# sha1_begin sha1.c:71
 const r1 1032
 # begin_with_key sha1.c:103
 move r10 r2
-# begin_with_key sha1.c:104
+# sha1_begin sha1.c:71
 const r2 20
 # begin_with_key sha1.c:103
 storew r11 r0 0
 storew r11 r3 4
-# begin_with_key sha1.c:104
+# sha1_begin sha1.c:71
 call L583
+# sha1_begin sha1.c:72
 loadw r5 r11 0
 storew r5 r12 20
 # begin_with_key sha1.c:105
@@ -485,17 +517,16 @@ add r5 r5 r4
 loadw r5 r5 0
 bne r5 r12 L308
 L305:
-# TEE_Panic sdk/runtime/core.c:11
+# number_of sdk/runtime/objects.c:25
 const r0 4294901766
-L307:
 sys 1
 L308:
 # number_of sdk/runtime/objects.c:26
 and r5 r5 r1
 bne r5 r12 L313
-# TEE_Panic sdk/runtime/core.c:11
+# number_of sdk/runtime/objects.c:27
 const r0 4294901763
-jump L307
+sys 1
 L313:
 # number_of sdk/runtime/objects.c:29
 ret

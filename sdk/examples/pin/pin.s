@@ -136,17 +136,16 @@ add r5 r5 r4
 loadw r5 r5 0
 bne r5 r12 L73
 L70:
-# TEE_Panic sdk/runtime/core.c:11
+# number_of sdk/runtime/objects.c:25
 const r0 4294901766
-L72:
 sys 1
 L73:
 # number_of sdk/runtime/objects.c:26
 and r5 r5 r1
 bne r5 r12 L78
-# TEE_Panic sdk/runtime/core.c:11
+# number_of sdk/runtime/objects.c:27
 const r0 4294901763
-jump L72
+sys 1
 L78:
 # number_of sdk/runtime/objects.c:29
 ret

@@ -162,17 +162,16 @@ add r5 r5 r4
 loadw r5 r5 0
 bne r5 r12 L92
 L89:
-# TEE_Panic sdk/runtime/core.c:11
+# number_of sdk/runtime/objects.c:25
 const r0 4294901766
-L91:
 sys 1
 L92:
 # number_of sdk/runtime/objects.c:26
 and r5 r5 r1
 bne r5 r12 L97
-# TEE_Panic sdk/runtime/core.c:11
+# number_of sdk/runtime/objects.c:27
 const r0 4294901763
-jump L91
+sys 1
 L97:
 # number_of sdk/runtime/objects.c:29
 ret
