@@ -1,6 +1,7 @@
 """What a client's script comes to, by docs/formats.md ("What a call runs", "Script of a client"), over machine.py. It isn't run
-by itself: check.py compares what it says with what the word `client` has printed."""
+by itself: check.py compares what it says with what the word `client` has printed, and client_test.py asks it where a call has panicked."""
 
+import collections
 import hashlib
 import re
 
@@ -13,6 +14,13 @@ SINGLE, MULTI, KEEP = 1 << 2, 1 << 3, 1 << 4
 DIGEST = "3f0c7a11-52b8-4d6e-9a40-0e6b5d2c8f01"
 TEE, APPLICATION = 3, 4
 GRANT, MOST_SESSIONS, MOST_SMCS = 10_000, 64, 32_768
+
+
+# A panic: its code, the place of the instruction, why, the places to return to, and the image.
+Panicked = collections.namedtuple("Panicked", "code place why stack image")
+
+# The line of a call, and the panic in which it has ended, or None.
+Played = collections.namedtuple("Played", "line panic")
 
 
 class Ended(Exception):
@@ -55,6 +63,7 @@ class Client:
         self.world.requests_made, self.world.is_cancelled = self.requests_made, self.is_cancelled
         self.sessions, self.names, self.last, self.smcs = {}, {}, 0, 0
         self.returns, self.cancel_at, self.has_buffer, self.steps = 0, None, False, 0
+        self.panic = None
 
     def requests_made(self, requests):
         """Each request is a return of the call to its client, and the first one is behind an ALLOC."""
@@ -89,6 +98,7 @@ class Client:
             self.steps = self.steps + 1 if self.returns == before else 0
             if stop and stop.name == "panic":
                 instance.is_dead = True
+                self.panic = Panicked(stop.first, started.place, stop.second, [*started.stack], instance.image)
                 self.free += instance.image.pages
                 raise Ended("TARGET_DEAD")
             if stop:
@@ -97,6 +107,7 @@ class Client:
     def call(self, words):
         """The line of a call: `open NAME RESULT ORIGIN` and its outputs."""
         self.returns, self.cancel_at, self.has_buffer, self.steps = 0, None, False, 0
+        self.panic = None
         self.made(1)
         item, name, *operands = words
         if operands[1:] and operands[1].startswith("cancel:"):
@@ -224,19 +235,22 @@ def digest(function, parameters):
     return 0
 
 
-def play(script):
-    """The text that the word `client` prints for a good script."""
+def played(script):
+    """What each call of a good script comes to, up to one for which there is no room."""
     lines = [line.split(" ") for line in script.splitlines() if line and line[0] != "#"]
     if not lines:
-        return ""
+        return
     applications = [Application(words[1].lower(), words[2]) for words in lines if words[0] == "ta"]
     keys = [bytes.fromhex(words[1]) for words in lines if words[0] == "key"]
     client = Client(int(lines[0][3]), applications, keys[0] if keys else bytes(32))
-    text = ""
     for words in lines:
         if words[0] in ("open", "invoke", "close"):
             try:
-                text += client.call(words) + "\n"
+                yield Played(client.call(words), client.panic)
             except NoRoom:
-                break
-    return text
+                return
+
+
+def play(script):
+    """The text that the word `client` prints for a good script."""
+    return "".join(f"{call.line}\n" for call in played(script))

@@ -9,7 +9,8 @@ print; result and origin may be names of docs/formats.md:
 A call without such a line may print anything. The program is what `rt run` has built in crates/optee_run, or FILE.
 
 It prints a line for each script, with the number of its calls and of those that were compared; below it each call that
-printed something else, with the names of results and origins.
+printed something else, with the names of results and origins. Of one that has ended in a panic it tells the code and the place, as the
+machine's tables have them, and by the map beside the image's file the function, file and line of the source.
 Status: 0 where all is as wanted; 1 where a line differs or is missing, a script isn't of its form, or the program ends with
 another status than 0; 2 at other words.
 usage: client_test.py [program=FILE] SCRIPT|FOLDER..
@@ -19,14 +20,20 @@ import collections
 import pathlib
 import sys
 
+import client
 import formats
+import image
 import lift
+import places
 import program
-from words import BadWords, run, text_of
+from words import BadWords, octets, run, text_of
 
 MARK, CALLS = "#=", ("open", "invoke", "close")
 RESULTS = {name: result for result, name in formats.RESULTS.items()}
 ORIGINS = {name: origin for origin, name in formats.ORIGINS.items()}
+
+PANICKED = "TARGET_DEAD TEE"
+MARKED = "image"  # the word of a line that names an image's file
 
 # A call of a script, and the line that is wanted of it, or None.
 Call = collections.namedtuple("Call", "text wanted")
@@ -67,8 +74,38 @@ def number_of(digits):
     return int(digits, 16) if len(digits) == 8 and set(digits) <= set("0123456789abcdef") else None
 
 
-def differing(calls, done):
-    """The lines that say what differs: calls in their order, and how the program ended."""
+def maps_of(text, folder):
+    """The maps that lie beside the images that a script names, by what an image has behind its flags."""
+    found = {}
+    for words in (line.split() for line in text.splitlines()):
+        if words[:1] == [MARKED] and len(words) > 2:
+            found[behind_flags(octets("".join(text_of(folder / words[2]).split())))] = places.map_beside(folder / words[2])
+    return found
+
+
+def behind_flags(digits):
+    return digits[8:]
+
+
+def panics_of(script, printed, maps):
+    """By the number of a call, the line that says in which panic it has ended, where the tables come to what was printed."""
+    found = {}
+    for number, (played, line) in enumerate(zip(client.played(script), printed)):
+        if played.line != line:
+            return found
+        if played.panic:
+            found[number] = told_of(played.panic, maps)
+    return found
+
+
+def told_of(panic, maps):
+    source = maps.get(behind_flags(image.encoded(panic.image)), places.Map())
+    why = places.why_of(panic.code, panic.why, source)
+    return f"panic {panic.code:08x} at {panic.place}: {why}{source.behind(panic.place, panic.stack)}"
+
+
+def differing(calls, done, panics=()):
+    """The lines that say what differs: calls in their order, with the panics that some have ended in, and how the program ended."""
     printed, said = done.output.splitlines(), []
     if done.status == 3:
         return [f"  {done.output.strip()}"]
@@ -77,6 +114,7 @@ def differing(calls, done):
         if call.wanted is not None and call.wanted != line:
             came = by_name(line) if line is not None else "nothing"
             said += [f"  {call.text}", f"    wanted {by_name(call.wanted)}", f"    came   {came}"]
+            said += [f"    {panics[number]}"] if number in panics else []
     if done.status != 0:
         said.append(f"  the program ended with status {done.status}")
     return said
@@ -84,12 +122,16 @@ def differing(calls, done):
 
 def tested(path, runner):
     """The lines on one script, and whether all is as wanted."""
+    text, folder = text_of(path), pathlib.Path(path).parent
     try:
-        script = lift.lifted(text_of(path), pathlib.Path(path).parent)
+        script = lift.lifted(text, folder)
         calls = calls_of(script)
     except lift.Fault as fault:
         return [f"{path}: {fault}"], False
-    said = differing(calls, runner.run(["client"], script))
+    done = runner.run(["client"], script)
+    said = differing(calls, done)
+    if any(PANICKED in line for line in said):
+        said = differing(calls, done, panics_of(script, done.output.splitlines(), maps_of(text, folder)))
     compared = sum(call.wanted is not None for call in calls)
     verdict = "differs" if said else "ok"
     return [f"{path}: {verdict}, {len(calls)} calls, {compared} compared", *said], not said

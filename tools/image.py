@@ -3,10 +3,11 @@
 
 Reads the image's hexadecimal digits, as `asm` prints them or as a line `ta` has them, from standard input. Of a bad image
 it prints the refusal by its name in docs/formats.md, and why: `BadOp(3): the system call 20 is above 19`. Of a good one it
-prints the canonical text, which `asm` takes; with the word `comments` a comment line names each system call.
+prints the canonical text, which `asm` takes; with the word `comments` a comment line names each system call, and with a map FILE, as
+sdk/ta_cc.py writes it, one names each function, file and line of the source.
 
 Status: 0 for a good image, 1 for a bad one, 2 at other words or at input that isn't hexadecimal digits.
-usage: image.py [comments] < FILE
+usage: image.py [comments] [map=FILE] < IMAGE
 """
 
 import collections
@@ -14,6 +15,8 @@ import struct
 import sys
 
 import formats
+import places
+import program
 from words import BadWords, octets, run
 
 Image = collections.namedtuple("Image", "flags pages entries code")
@@ -84,14 +87,22 @@ def decode(data):
     return Image(flags, pages, entries, [Instruction(*fields) for fields in code])
 
 
-def canonical(image, comments=False):
-    """The canonical text of a good image."""
+def encoded(image):
+    """The bytes of an image."""
+    head = struct.pack("<8I", image.flags, image.pages, len(image.code), *image.entries)
+    return formats.IMAGE_MAGIC + head + b"".join(struct.pack("<4BI", *one) for one in image.code)
+
+
+def canonical(image, comments=False, source=None):
+    """The canonical text of a good image, with comments where they are wanted, and with those of a map."""
     targets = {instruction.imm for instruction in image.code if formats.OPERATIONS[instruction.op][2] == "target"}
     lines = [f".flags {image.flags}", f".pages {image.pages}"]
     lines += [f".entry {name} L{entry}" for name, entry in zip(formats.ENTRIES, image.entries)]
     for number, instruction in enumerate(image.code):
         if number in targets | set(image.entries):
             lines.append(f"L{number}:")
+        if source and source.at(number) not in ("", source.at(number - 1) if number else ""):
+            lines.append(f"# {source.at(number)}")
         if comments and formats.OPERATIONS[instruction.op][2] == "system call":
             lines.append(f"# {formats.SYSTEM_CALLS[instruction.imm]}")
         lines.append(instruction_text(instruction))
@@ -108,14 +119,17 @@ def instruction_text(instruction):
 
 
 def main(words):
+    words = list(words)
+    named = program.taken_from(words, "map")
     if words not in ([], ["comments"]):
         raise BadWords()
+    source = places.map_of(named) if named else None
     data = octets("".join(sys.stdin.read().split()))
     refused = refusal(data)
     if refused:
         print(f"{refused[0]}: {refused[1]}")
         return 1
-    print(canonical(decode(data), bool(words)), end="")
+    print(canonical(decode(data), bool(words), source), end="")
     return 0
 
 

@@ -8,7 +8,8 @@ Words, in any order:
                 live.py is called in
     serve       a call that asks for something is answered and resumed until it has ended: buffers are lent, files are kept in
                 memory, waits are over at once
-    notes       a line `  = TEXT` says what an answer says, as annotate.py does
+    notes       a line `  = TEXT` says what an answer says, as annotate.py does, and of a panic that is watched what its code is; with
+                `script` by the maps beside the images' files, at which lines of the source it comes
 The program is what `rt run` has built in crates/optee_live, or FILE.
 
 Status: that of the program, which is 0 where its input is over; 2 at other words.
@@ -24,11 +25,13 @@ import subprocess
 import sys
 
 import formats
+import image
 import lift
+import places
 import plays
 import program
 from supplicant import Supplicant
-from words import BadWords, run
+from words import BadWords, run, text_of
 
 MOST_SHOWN, MOST_STEPS = 4096, 1_000_000
 RAM_START, RAM_BYTES = 0x4000_0000, 0x40_0000
@@ -244,6 +247,7 @@ class Prompt:
         self.play, self.number = plays.Play(), 0
         self.script, self.supplicant = lift.Script(pathlib.Path()), Supplicant(self.talk)
         self.typed = None
+        self.sources = []  # the images that the script names, each with its map
 
     def heard(self, line, answer):
         """Prints a line and its answer. One that stands on the terminal isn't printed again."""
@@ -265,17 +269,32 @@ class Prompt:
         if word == "full":
             return f"the entry would have read too much: {rest} bytes are read so far"
         self.number += 1
-        return self.play.entry(self.number, line, collections.deque(answer.lines)).note
+        note = self.play.entry(self.number, line, collections.deque(answer.lines)).note
+        return "; ".join(part for part in (note, self.panic(answer)) if part)
+
+    def panic(self, answer):
+        """What is said of the panic in which a call has ended, or an empty text."""
+        codes = [told.split(" ")[1] for told in answer.lines if told.startswith("panic ")]
+        meanings = [places.meanings_of(int(code, 16), self.sources) for code in codes]
+        return "; ".join(f"panic {code}: {meaning or 'by its own system call'}" for code, meaning in zip(codes, meanings))
 
     def take(self, text):
         """Sends what a line of the reader stands for."""
         lines = self.script.lift(text) if "script" in self.options else [text]
+        self.note_image(text.split())
         for line in lines:
             words = line.split(" ")
             if "serve" in self.options and words[0] in ("smc", "enter", "leave"):
                 self.serve(line, words)
             else:
                 self.talk.send(line)
+
+    def note_image(self, words):
+        """Keeps the image that a line of a script names, with its map."""
+        if "script" in self.options and words[:1] == ["image"] and len(words) > 2:
+            digits = bytes.fromhex("".join(text_of(words[2]).split()))
+            if image.refusal(digits) is None:
+                self.sources.append((image.decode(digits), places.map_beside(words[2])))
 
     def serve(self, line, words):
         """Sends a line of a call, and serves the call until it has ended."""

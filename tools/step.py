@@ -14,7 +14,8 @@ there are none at first; a time is the number of those before, and a wait is ove
 
 Each line has the number of the step, the place of its instruction, the instruction, and then what it changes: registers,
 memory as [ADDRESS] BYTES, and the name of a system call with r0 to r2 as they were. Behind an entry point stand its result
-and its outputs, or the panic's code and place.
+and its outputs, or the panic's code and place. Where a map lies beside IMAGE, a line `-- FUNCTION FILE:LINE` stands where the steps come
+to another line of the source, and a panic has its line.
 
 Status: 0 where all have returned, 1 at a panic, a bad image, or an entry point that takes over 10,000 steps; 2 at other words.
 usage: step.py IMAGE ENTRY [WORD].. [ENTRY [WORD]..]..
@@ -28,6 +29,7 @@ import formats
 import image
 import machine
 import objects
+import places
 from words import BadWords, hexadecimal, octets, run, text_of
 
 MOST_STEPS = 10_000
@@ -86,19 +88,26 @@ def begun(run_, instance, context):
     return started
 
 
-def traced(started):
-    """Steps up to the stop: the lines, and how it stopped, or None where it takes too many."""
-    lines, stop = [], None
+# What is printed of an entry point, in how many steps, and how it stopped, or None where it takes too many.
+Traced = collections.namedtuple("Traced", "lines steps stop")
+
+
+def traced(started, source):
+    """Steps up to the stop."""
+    lines, told = [], ""
     for number in range(1, MOST_STEPS + 1):
         before, place = values_of(started), started.place
+        if source.at(place) != told:
+            told = source.at(place)
+            lines.append(f"-- {told}")
         stop = started.step()
         if place < len(started.code):
             changes = changes_of(started, before, started.code[place])
             text = image.instruction_text(started.code[place])
             lines.append(f"{number:5} {place:4}  {text:<26}{changes}".rstrip())
         if stop:
-            return lines, stop
-    return lines, None
+            return Traced(lines, number, stop)
+    return Traced(lines, MOST_STEPS, None)
 
 
 def changes_of(started, before, instruction):
@@ -123,26 +132,25 @@ def shortened(digits):
     return digits if len(digits) <= 64 else f"{digits[:64]}.. ({len(digits) // 2} bytes)"
 
 
-def ended(run_, place, lines, stop):
-    """The line behind an entry point, which has stopped at a place."""
+def ended(run_, started, steps, stop, source):
+    """The line behind an entry point, which has stopped."""
     if stop is None:
         return f"{run_.entry} has not ended after {MOST_STEPS} steps"
-    steps = len(lines)
     if stop.name == "panic":
-        return f"{run_.entry} panics with {stop.first:08x} at {place}: {stop.second}"
+        return f"{run_.entry} panics with {stop.first:08x} at {started.place}: {places.why_of(stop.first, stop.second, source)}{source.behind(started.place, started.stack)}"
     outputs = "".join(f" {parameter.printed()}" for parameter in run_.parameters if parameter.is_output)
     return f"{run_.entry} returns {stop.first:08x} {stop.second:08x} in {steps} steps{outputs}"
 
 
-def session_steps(digits, words):
-    """All that is printed, and whether all entry points have returned."""
+def session_steps(digits, words, source):
+    """All that is printed, and whether all entry points have returned. `source` is the image's map."""
     instance = machine.Instance(image.decode(digits), objects.Store(APPLICATION, {}), machine.World())
     context, printed = 0, []
     for run_ in runs_of(words):
         started = begun(run_, instance, context)
         first = " ".join(f"{register:08x}" for register in started.registers[:3])
-        lines, stop = traced(started)
-        printed += [f"{run_.entry} begins with {first}", *lines, ended(run_, started.place, lines, stop)]
+        lines, steps, stop = traced(started, source)
+        printed += [f"{run_.entry} begins with {first}", *lines, ended(run_, started, steps, stop, source)]
         if stop is None or stop.name == "panic":
             return printed, False
         if run_.entry == "open":
@@ -158,7 +166,7 @@ def main(words):
     if refused:
         print(f"{refused[0]}: {refused[1]}")
         return 1
-    printed, is_good = session_steps(digits, words[1:])
+    printed, is_good = session_steps(digits, words[1:], places.map_beside(words[0]))
     print("\n".join(printed))
     return 0 if is_good else 1
 
