@@ -6,9 +6,10 @@ by machine.c; all have to leave the same checksum. Its number decides its kind, 
 of 64 bits. One in 50 is built as ta_cc.py builds, with the runtime as one program, and is run by the program FILE too, where it is named.
 
 It goes on from number FIRST until COUNT programs were compared, and prints each that differs, and at the end how many were compared, and
-how many couldn't be: they have no end, or are too large. A line for each program goes to standard error with the word `all`.
+how many couldn't be: they have no end, or are too large. A line for each program goes to standard error with the word `all`, and with
+`stop` the first that differs is the last.
 Status: 0 where all are the same, 1 where one differs, 2 at other words, 3 where a program that is needed isn't there.
-usage: differential.py [count=COUNT] [first=FIRST] [workers=N] [program=FILE] [all]
+usage: differential.py [count=COUNT] [first=FIRST] [workers=N] [program=FILE] [all] [stop]
 """
 
 import collections
@@ -33,15 +34,16 @@ from words import BadWords, number, run  # noqa: E402
 CSMITH = pathlib.Path("/usr/include/csmith")
 PACKAGES = {"qemu-riscv32": "qemu-user", "gcc": "gcc-multilib", "csmith": "csmith", f"{toolchain.TOOLS}gcc": "gcc-riscv64-unknown-elf"}
 LEVELS, KINDS = ("s", "0", "1", "2", "3"), 4
-SIZES = ("6 4 6", "4 4 7", "8 3 5", "2 2 8", "5 3 6", "3 2 6")  # of csmith: functions, depth of blocks, of expressions
+SIZES = ("5 3 5", "3 4 5", "6 2 5", "2 2 8", "4 3 5", "3 2 6")  # of csmith: functions, depth of blocks, of expressions
 OPTIONS = "--no-argc --no-float --max-array-dim 2 --max-array-len-per-dim 6"
 SECONDS, MOST_STEPS = 2, 100_000_000
 WHOLE = 50  # one of so many is built with the runtime as one program
 
 COMMON = ["-w", "-Dmain=random_main", f"-I{HERE / 'csmith'}", f"-I{CSMITH}"]
+OURS = [*COMMON, "-g0"]
 RISCV = ["-march=rv32im", "-mabi=ilp32", "-O0", "-ffreestanding", "-nostdinc", f"-I{SDK / 'include'}", "-ffunction-sections", "-fno-builtin"]
 RISCV_LINK = ["-nostdlib", "-static", "-Wl,--gc-sections", "-Wl,--no-relax", "-lgcc"]
-HOST = ["-m32", "-O1", "-malign-double", "-funsigned-char", "-fwrapv", "-fno-strict-aliasing"]
+HOST = ["-m32", "-O0", "-malign-double", "-funsigned-char", "-fwrapv", "-fno-strict-aliasing"]
 UUID = "11111111-2222-3333-4444-555555555555"
 
 # What came of a program: its number, one word, and more of it.
@@ -73,7 +75,7 @@ class Bench:
     def __init__(self, folder, program=None):
         self.folder, self.program = folder, program
         self.riscv_gcc = toolchain.tool("gcc")
-        self.tools = toolchain.Build(folder / "common", HERE / "random", "s", COMMON, is_quiet=True)
+        self.tools = toolchain.Build(folder / "common", HERE / "random", "s", OURS, is_quiet=True)
         self.tools.folder.mkdir()
         around = [HERE / "random/application.c", *toolchain.RUNTIME]
         self.around = self.tools.compile(around, is_whole=False)
@@ -130,7 +132,7 @@ class Bench:
 
     def image(self, number, source, level, folder):
         """The image's file."""
-        tools = toolchain.Build(folder, HERE / "random", level, COMMON, is_quiet=True)
+        tools = toolchain.Build(folder, HERE / "random", level, OURS, is_quiet=True)
         is_whole = number % WHOLE == 0
         try:
             around = [HERE / "random/application.c", *toolchain.RUNTIME] if is_whole else []
@@ -174,8 +176,12 @@ def write_source(number, source):
             raise Fault("unwritten")
 
 
-def verdicts(bench, count, first, workers):
-    """The verdicts on programs from a number on, until as many were compared."""
+def is_fault(verdict):
+    return verdict.word.isupper()
+
+
+def verdicts(bench, count, first, workers, stops):
+    """The verdicts on programs from a number on, until as many were compared, or up to one that differs."""
     compared = 0
     with concurrent.futures.ProcessPoolExecutor(workers) as pool:
         for start in itertools.count(first, 4 * workers):
@@ -183,6 +189,8 @@ def verdicts(bench, count, first, workers):
             for verdict in pool.map(bench.compared, numbers):
                 yield verdict
                 compared += verdict.word == "same"
+                if stops and is_fault(verdict):
+                    return
             if compared >= count:
                 return
 
@@ -197,12 +205,12 @@ def check_needed():
 
 
 def words_of(words):
-    given = {"count": 1000, "first": 0, "workers": 1, "program": None, "all": False}
+    given = {"count": 1000, "first": 0, "workers": 1, "program": None, "all": False, "stop": False}
     for word in words:
         name, equals, value = word.partition("=")
-        if word == "all":
-            given["all"] = True
-        elif equals and name in given and name != "all":
+        if word in ("all", "stop"):
+            given[word] = True
+        elif equals and name in given and name not in ("all", "stop"):
             given[name] = pathlib.Path(value).resolve() if name == "program" else number(value)
         else:
             raise BadWords(f"{word} isn't served")
@@ -216,9 +224,9 @@ def main(words):
         check_needed()
         with tempfile.TemporaryDirectory() as folder:
             bench = Bench(pathlib.Path(folder), given["program"])
-            for verdict in verdicts(bench, given["count"], given["first"], given["workers"]):
+            for verdict in verdicts(bench, given["count"], given["first"], given["workers"], given["stop"]):
                 counts[verdict.word] += 1
-                if verdict.word.isupper() or verdict.word in ("undecided", "unbuilt"):
+                if is_fault(verdict) or verdict.word in ("undecided", "unbuilt"):
                     print(*verdict, flush=True)
                 elif given["all"]:
                     print(*verdict, file=sys.stderr, flush=True)

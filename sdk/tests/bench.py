@@ -1,0 +1,46 @@
+"""What the tests share: folders, commands, and how a test says what differs. It isn't run by itself."""
+
+import pathlib
+import subprocess
+import sys
+
+TESTS = pathlib.Path(__file__).resolve().parent
+SDK, ROOT = TESTS.parent, TESTS.parent.parent
+sys.path[:0] = [str(SDK), str(ROOT / "tools")]
+
+import client_test  # noqa: E402
+import program  # noqa: E402
+
+
+class Report:
+    """Counts what is as wanted, and prints what isn't."""
+
+    def __init__(self, name):
+        self.name, self.good, self.bad = name, 0, 0
+
+    def check(self, is_good, what, more=""):
+        self.good += bool(is_good)
+        self.bad += not is_good
+        if not is_good:
+            print(f"{self.name}: {what}{': ' if more else ''}{more}", flush=True)
+
+    def end(self):
+        """Prints the counts: the status."""
+        print(f"{self.name}: {self.good} as wanted, {self.bad} not")
+        return 1 if self.bad else 0
+
+
+def built(*words, folder=SDK, environment=None):
+    """Runs ta_cc.py in a folder: what has come of it."""
+    command = [sys.executable, str(SDK / "ta_cc.py"), *map(str, words)]
+    return subprocess.run(command, cwd=folder, env=environment, capture_output=True, text=True, check=False)
+
+
+def played(script, file):
+    """The lines of client_test.py on a script, and whether all is as wanted."""
+    return client_test.tested(str(script), program.Program(file))
+
+
+def assembled(text, file):
+    """The digits that the word `asm` makes of a text."""
+    return program.Program(file).run(["asm"], text).output
