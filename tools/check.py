@@ -30,6 +30,7 @@ import image
 import journal
 import lift
 import pages
+import places
 import plays
 import program
 import shipped
@@ -343,6 +344,25 @@ def check_clients(comparison):
     comparison.same("client_test.py at a line behind no call", given[0], 1)
 
 
+def check_applications_in_c(comparison):
+    """The shipped images of applications in C: their texts, whose comments are those of their maps, and their scripts by the machine's
+    table, with each result that they want; a panic with its line."""
+    for shown in shipped.applications_in_c():
+        name, data = shown.folder.name, bytes.fromhex(shown.digits)
+        comparison.same(f"image.py of {name}", image.refusal(data) or disassembled(shown.digits), plain_text(shown.text))
+        commented = image.canonical(image.decode(data), source=places.Map(shown.map))
+        told = [line for line in commented.splitlines() if line[0] == "#"]
+        comparison.same(f"image.py map={name}.map", told, [line for line in shown.text.splitlines() if line[0] == "#"][1:])
+        script = lift.lifted(shipped.read(shown.folder / f"{name}.client"), shown.folder)
+        calls = client_test.calls_of(script)
+        comparison.same(f"{name}.client wants each result", [call.text for call in calls if call.wanted is None], [])
+        comparison.same(f"client.py at {name}.client", client.play(script), "".join(f"{call.wanted}\n" for call in calls))
+    for words, wanted in expected.STEPS_IN_C.items():
+        name, *entries = words.split(" ")
+        printed = tool("step.py", shipped.IN_C / f"{name}/{name}.hex", *entries)[1]
+        comparison.same(f"step.py {words}", [line for line in wanted if line in printed.splitlines()], wanted)
+
+
 def check_scripts(comparison):
     """Each script makes the items of its example."""
     for path in sorted(shipped.SCRIPTS.glob("*.script")):
@@ -382,6 +402,14 @@ def file_call(files, name, *operands):
         return getattr(files, name)(*operands)
     except supplicant.Refused as refused:
         return str(refused)
+
+
+def check_by_program(comparison, file):
+    """The scripts of the applications in C by the program."""
+    for shown in shipped.applications_in_c():
+        path = shown.folder / f"{shown.folder.name}.client"
+        lines, is_as_wanted = client_test.tested(path, program.Program(file))
+        comparison.same(f"client_test.py {path.name}", lines[1:] or is_as_wanted, True)
 
 
 def check_pages(comparison, file=None, live=None):
@@ -441,6 +469,7 @@ CHECKS = [
     check_examples,
     check_machine,
     check_clients,
+    check_applications_in_c,
     check_scripts,
     check_conversations,
     check_links,
@@ -460,6 +489,8 @@ def main(words):
     for check in CHECKS:
         check(comparison)
     check_pages(comparison, file, live)
+    if file:
+        check_by_program(comparison, file)
     if not live:
         print("no live=FILE: conversations are answered by the shipped cases alone")
     print(f"{comparison.compared} compared, {comparison.differing} differ")

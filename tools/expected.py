@@ -322,6 +322,18 @@ COUNTS = {
     + ["1 SUCCESS of TRUSTED_APP"],
 }
 
+# Lines that step.py prints of applications in C: where it comes to a line of the source, and at which line of it a panic is.
+STEPS_IN_C = {
+    "hello create open invoke 1 vio:29:7": [
+        "-- increment hello_ta.c:30",
+        "-- increment hello_ta.c:31",
+    ],
+    "tally create open invoke 0 vio:1:1 r2=50000000": [
+        "-- add tally_ta.c:14",
+        "invoke panics with 00000001 at 359: an address outside the memory and the buffers, or bytes that leave them (add tally_ta.c:14)",
+    ],
+}
+
 # What step.py prints of shipped applications, or the last lines of it: the steps of an invoke that one_step_at_a_time shows to
 # be six; a panic for want of a parameter, and one of the application's own; copied bytes; a count that is kept; cancelled waits.
 STEPS = {
@@ -400,7 +412,7 @@ BAD_WORDS = {
     ],
     "annotate.py": ["", "a", "a b c", "no_such_file no_such_file"],
     "answers.py": ["", "a", "a b c", "no_such_file no_such_file"],
-    "image.py": ["x", "comments x"],
+    "image.py": ["x", "comments x", "map=no_such_file", "map=../README.md"],
     "lift.py": ["", "a b", "no_such_file"],
     "check.py": ["x"],
     "chart.py": ["", "a b c", "program=no_such_file a", "no_such_file no_such_file"],

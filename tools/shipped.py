@@ -5,6 +5,7 @@ import pathlib
 
 ROOT = pathlib.Path(__file__).resolve().parent.parent
 EXAMPLES, CRATES, SCRIPTS = ROOT / "examples", ROOT / "crates", ROOT / "tools/scripts"
+IN_C = ROOT / "sdk/examples"
 
 Play = collections.namedtuple("Play", "name trace output status")
 
@@ -131,6 +132,17 @@ def assembler_rows():
     yield from rows("asm")
     for digits, told in rows("asm-bytes"):
         yield bytes.fromhex(digits).decode("latin-1"), told
+
+
+# An application in C: its folder, its text, its digits and its map.
+InC = collections.namedtuple("InC", "folder text digits map")
+
+
+def applications_in_c():
+    """The applications of sdk/examples."""
+    for folder in sorted(IN_C.iterdir()):
+        files = [folder / f"{folder.name}{end}" for end in (".s", ".hex", ".map")]
+        yield InC(folder, read(files[0]), read(files[1]).strip(), read(files[2]))
 
 
 def applications():
