@@ -1,15 +1,16 @@
 #!/usr/bin/env python3
 """Builds a trusted application from C.
 
-The files are compiled for RISC-V (RV32EM) and linked with the runtime, and the program is translated into an image for the machine of
-docs/formats.md. The folder of the first FILE has user_ta_header_defines.h, with TA_UUID, TA_FLAGS, TA_STACK_SIZE and TA_DATA_SIZE.
+The files are compiled for RISC-V (RV32EM) and linked with the runtime, and the program is translated into an image for the
+machine of docs/formats.md. The folder of the first FILE has user_ta_header_defines.h, with TA_UUID, TA_FLAGS, TA_STACK_SIZE and
+TA_DATA_SIZE.
 
-It writes NAME.hex, the image's digits; NAME.s, its text for `asm`, with the functions, files and lines as comments; and NAME.map, from
-places of the image to these, for tools/step.py and others. NAME is that of the first FILE without its end, in this folder. What the
-image needs is told on standard error, with a warning where calls may be too deep.
+It writes NAME.hex, the image's digits; NAME.s, its text for `asm`, with the functions, files and lines as comments; and NAME.map,
+from places of the image to these, for tools/step.py and others. NAME is that of the first FILE without its end, in this folder.
+What the image needs is told on standard error, with a warning where calls may be too deep.
 
-Words: -o NAME; -O LEVEL, of s (the default), 0, 1, 2 and 3; -I FOLDER and -D MACRO, for the compiler; --pages N, of 4096 bytes each;
---keep FILE, for the linked program.
+Words: -o NAME; -O LEVEL, of s (the default), 0, 1, 2 and 3; -I FOLDER and -D MACRO, for the compiler; --pages N, of 4096 bytes
+each; --keep FILE, for the linked program.
 Status: 0 built; 1 where a file can't be read or written, the compiler or the linker refuses, or the machine hasn't what the program
 needs: then nothing is written; 2 at other words.
 usage: ta_cc.py [-o NAME] [-O LEVEL] [-I FOLDER].. [-D MACRO].. [--pages N] [--keep FILE] FILE.c|FILE.o..

@@ -357,6 +357,10 @@ def check_applications_in_c(comparison):
         calls = client_test.calls_of(script)
         comparison.same(f"{name}.client wants each result", [call.text for call in calls if call.wanted is None], [])
         comparison.same(f"client.py at {name}.client", client.play(script), "".join(f"{call.wanted}\n" for call in calls))
+    for name, (code, wanted) in expected.OWN_PANICS.items():
+        folder = shipped.IN_C / name
+        sources = [(image.decode(bytes.fromhex(shipped.read(folder / f"{name}.hex"))), places.map_beside(folder / f"{name}.hex"))]
+        comparison.same(f"places.py: panic {code:08x} of {name}", places.meanings_of(code, sources), wanted)
     for words, wanted in expected.STEPS_IN_C.items():
         name, *entries = words.split(" ")
         printed = tool("step.py", shipped.IN_C / f"{name}/{name}.hex", *entries)[1]

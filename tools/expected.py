@@ -322,6 +322,12 @@ COUNTS = {
     + ["1 SUCCESS of TRUSTED_APP"],
 }
 
+# Of a panic's code, which an application in C may have given itself, at which lines it has.
+OWN_PANICS = {
+    "pin": (0xFFFF0003, "at number_of sdk/runtime/objects.c:27"),
+    "hello": (5, "no such parameter, or an object handle that isn't open"),
+}
+
 # Lines that step.py prints of applications in C: where it comes to a line of the source, and at which line of it a panic is.
 STEPS_IN_C = {
     "hello create open invoke 1 vio:29:7": [

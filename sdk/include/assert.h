@@ -3,7 +3,11 @@
 #ifdef NDEBUG
 #define assert(condition) ((void)0)
 #else
-#define assert(condition) ((condition) ? (void)0 : __extension__({ __asm__ volatile("ebreak # %0" : : "i"(__LINE__)); __builtin_unreachable(); }))
+#define assert(condition)                                                                                                                 \
+	((condition) ? (void)0 : __extension__({                                                                                          \
+		__asm__ volatile("ebreak # %0" : : "i"(__LINE__));                                                                        \
+		__builtin_unreachable();                                                                                                  \
+	}))
 #endif
 #ifndef ASSERT_H
 #define ASSERT_H

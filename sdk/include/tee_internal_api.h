@@ -202,6 +202,10 @@ TEE_Result TEE_ReadObjectData(TEE_ObjectHandle object, void *buffer, uint32_t si
 TEE_Result TEE_WriteObjectData(TEE_ObjectHandle object, const void *buffer, uint32_t size);
 TEE_Result TEE_SeekObjectData(TEE_ObjectHandle object, int32_t offset, TEE_Whence whence);
 
+/* Of 1.0, deprecated in 1.1: what would be an error is a panic. */
+void TEE_GetObjectInfo(TEE_ObjectHandle object, TEE_ObjectInfo *objectInfo);
+void TEE_CloseAndDeletePersistentObject(TEE_ObjectHandle object);
+
 /* Time (chapter 7): the normal world's. */
 
 typedef struct {

@@ -181,3 +181,16 @@ TEE_Result TEE_GetObjectInfo1(TEE_ObjectHandle object, TEE_ObjectInfo *info)
 	info->handleFlags = objects[number].flags;
 	return TEE_SUCCESS;
 }
+
+void TEE_GetObjectInfo(TEE_ObjectHandle object, TEE_ObjectInfo *info)
+{
+	TEE_GetObjectInfo1(object, info);
+}
+
+void TEE_CloseAndDeletePersistentObject(TEE_ObjectHandle object)
+{
+	TEE_Result result = TEE_CloseAndDeletePersistentObject1(object);
+
+	if (result != TEE_SUCCESS)
+		TEE_Panic(result);
+}

@@ -1,6 +1,6 @@
 #!/usr/bin/env python3
-"""Tries the API: an application that calls all of it, what ends in a panic and at which line, and that what isn't served is refused by
-its name when it is compiled, and by the linker where the program declares it itself.
+"""Tries the API: an application that calls all of it, what ends in a panic and at which line, and that what isn't served is
+refused by its name when it is compiled, and by the linker where the program declares it itself.
 
 Status: 0 where all is as wanted, 1 where something isn't, 2 at other words.
 usage: api.py [program=FILE]
@@ -34,10 +34,10 @@ PANICS = {
 
 # Functions of the standard that aren't there: one of each kind.
 ABSENT = """
-TEE_GetPropertyAsBinaryBlock TEE_OpenTASession TEE_CloseTASession TEE_InvokeTACommand TEE_GetObjectInfo TEE_RestrictObjectUsage1
+TEE_GetPropertyAsBinaryBlock TEE_OpenTASession TEE_CloseTASession TEE_InvokeTACommand TEE_RestrictObjectUsage1
 TEE_GetObjectBufferAttribute TEE_GetObjectValueAttribute TEE_AllocateTransientObject TEE_FreeTransientObject TEE_ResetTransientObject
 TEE_PopulateTransientObject TEE_InitRefAttribute TEE_InitValueAttribute TEE_CopyObjectAttributes1 TEE_GenerateKey
-TEE_CloseAndDeletePersistentObject TEE_RenamePersistentObject TEE_AllocatePersistentObjectEnumerator
+TEE_RenamePersistentObject TEE_AllocatePersistentObjectEnumerator
 TEE_FreePersistentObjectEnumerator TEE_ResetPersistentObjectEnumerator TEE_StartPersistentObjectEnumerator
 TEE_GetNextPersistentObject TEE_TruncateObjectData TEE_AllocateOperation TEE_DigestUpdate TEE_CipherInit TEE_MACInit TEE_AEInit
 TEE_AsymmetricSignDigest TEE_DeriveKey TEE_GenerateRandom TEE_GetTAPersistentTime TEE_SetTAPersistentTime TEE_BigIntInit
@@ -69,7 +69,8 @@ def check_panics(report, folder, file):
 
 def check_absent(report, folder):
     (folder / "user_ta_header_defines.h").write_text((API / "user_ta_header_defines.h").read_text())
-    body = (bench.TESTS / "random/application.c").read_text().replace("int random_main(void);", "").replace("random_main();", "%s();")
+    body = (bench.TESTS / "random/application.c").read_text()
+    body = body.replace("int random_main(void);", "").replace("random_main();", "%s();")
     for name in ABSENT:
         for declared, word in (("", "implicit declaration"), (f"void {name}(void);\n", "undefined reference")):
             file = folder / "absent.c"

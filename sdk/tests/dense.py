@@ -11,8 +11,9 @@ import sys
 TYPES = {f"{sign}int{bits}_t": bits for bits in (8, 16, 32, 64) for sign in ("", "u")}
 EDGES = (0, 1, 2, 3, 7, 10, 127, 128, 255, 256, 1000, 32767, 32768, 65535, 0x7FFFFFFF, 0x80000000, 0xFFFFFFFF)
 FUNCTIONS, NUMBERS, POINTERS = 10, 6, 3
-READ = ("b8[{} & 63]", "s8[{} & 63]", "h16[{} & 31]", "s16[{} & 31]", "w32[{} & 15]", "odd[{} & 7].h", "odd[{} & 7].w", "odd[{} & 7].bits")
-WRITTEN = (*READ, "odd[{} & 7].b")
+READ = ["b8[{} & 63]", "s8[{} & 63]", "h16[{} & 31]", "s16[{} & 31]", "w32[{} & 15]"]
+READ += ["odd[{} & 7].h", "odd[{} & 7].w", "odd[{} & 7].bits"]
+WRITTEN = [*READ, "odd[{} & 7].b"]
 HEAD = """#include <stdint.h>
 extern uint32_t checksum;
 static volatile uint32_t in[16] = { %s };
@@ -63,7 +64,8 @@ class Writer:
     # Expressions: of a type, and as deep as is said.
 
     def leaf(self, of):
-        return f"({of})" + self.one_of(self.number(), self.variable(), self.variable(), self.variable(), f"in[{self.random.randrange(16)}]")
+        variables = [self.variable() for _ in range(3)]
+        return f"({of})" + self.one_of(self.number(), *variables, f"in[{self.random.randrange(16)}]")
 
     def value(self, of, deep):
         if deep == 0 or self.random.random() < 0.12:

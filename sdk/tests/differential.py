@@ -1,13 +1,14 @@
 #!/usr/bin/env python3
 """Random programs, translated and run, against the same source on other machines.
 
-A program is one of csmith or of dense.py, or edges.c. It is run under qemu-riscv32 (RV32IM, -O0) and on the host (-m32), and as an image
-by machine.c; all have to leave the same checksum. Its number decides its kind, its level of optimisation, and whether it has numbers
-of 64 bits. One in 50 is built as ta_cc.py builds, with the runtime as one program, and is run by the program FILE too, where it is named.
+A program is one of csmith or of dense.py, or edges.c. It is run under qemu-riscv32 (RV32IM, -O0) and on the host (-m32), and as an
+image by machine.c; all have to leave the same checksum. Its number decides its kind, its level of optimisation, and whether it has
+numbers of 64 bits. One in 50 is built as ta_cc.py builds, with the runtime as one program, and is run by the program FILE too, where
+it is named.
 
-It goes on from number FIRST until COUNT programs were compared, and prints each that differs, and at the end how many were compared, and
-how many couldn't be: they have no end, or are too large. A line for each program goes to standard error with the word `all`, and with
-`stop` the first that differs is the last.
+It goes on from number FIRST until COUNT programs were compared, and prints each that differs, and at the end how many were compared,
+and how many couldn't be: they have no end, or are too large. A line for each program goes to standard error with the word `all`,
+and with `stop` the first that differs is the last.
 Status: 0 where all are the same, 1 where one differs, 2 at other words, 3 where a program that is needed isn't there.
 usage: differential.py [count=COUNT] [first=FIRST] [workers=N] [program=FILE] [all] [stop]
 """
@@ -32,7 +33,7 @@ from translator import Refused, build, toolchain  # noqa: E402
 from words import BadWords, number, run  # noqa: E402
 
 CSMITH = pathlib.Path("/usr/include/csmith")
-PACKAGES = {"qemu-riscv32": "qemu-user", "gcc": "gcc-multilib", "csmith": "csmith", f"{toolchain.TOOLS}gcc": "gcc-riscv64-unknown-elf"}
+PACKAGES = {"qemu-riscv32": "qemu-user", "gcc": "gcc-multilib", "csmith": "csmith"}
 LEVELS, KINDS = ("s", "0", "1", "2", "3"), 4
 SIZES = ("5 3 5", "3 4 5", "6 2 5", "2 2 8", "4 3 5", "3 2 6")  # of csmith: functions, depth of blocks, of expressions
 OPTIONS = "--no-argc --no-float --max-array-dim 2 --max-array-len-per-dim 6"
@@ -41,7 +42,8 @@ WHOLE = 50  # one of so many is built with the runtime as one program
 
 COMMON = ["-w", "-Dmain=random_main", f"-I{HERE / 'csmith'}", f"-I{CSMITH}"]
 OURS = [*COMMON, "-g0"]
-RISCV = ["-march=rv32im", "-mabi=ilp32", "-O0", "-ffreestanding", "-nostdinc", f"-I{SDK / 'include'}", "-ffunction-sections", "-fno-builtin"]
+RISCV = ["-march=rv32im", "-mabi=ilp32", "-O0", "-ffreestanding", "-nostdinc", f"-I{SDK / 'include'}"]
+RISCV += ["-ffunction-sections", "-fno-builtin"]
 RISCV_LINK = ["-nostdlib", "-static", "-Wl,--gc-sections", "-Wl,--no-relax", "-lgcc"]
 HOST = ["-m32", "-O0", "-malign-double", "-funsigned-char", "-fwrapv", "-fno-strict-aliasing"]
 UUID = "11111111-2222-3333-4444-555555555555"

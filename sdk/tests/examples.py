@@ -1,6 +1,6 @@
 #!/usr/bin/env python3
-"""Builds the examples anew, and compares images, texts and maps with those that are shipped; plays their scripts by the program, which
-has to make the same image of each text.
+"""Builds the examples anew, and compares images, texts and maps with those that are shipped; plays their scripts by the program,
+which has to make the same image of each text.
 
 Status: 0 where all is the same and as wanted, 1 where something isn't, 2 at other words.
 usage: examples.py [program=FILE]

@@ -22,7 +22,11 @@ MISTAKES = {
         'self.put("bltu" if name == "blt" else "bgeu", a=first, b=second, imm=label)',
         'self.put("bltu" if name == "blt" else "bgeu", a=a, b=b, imm=label)',
     ),
-    "the sign of a halfword is looked for at another bit": ("lowering.py", '0x80 if name == "lb" else 0x8000', '0x80 if name == "lb" else 0x4000'),
+    "the sign of a halfword is looked for at another bit": (
+        "lowering.py",
+        '0x80 if name == "lb" else 0x8000',
+        '0x80 if name == "lb" else 0x4000',
+    ),
     "a number is taken to be in its register behind a call": (
         "code.py",
         'return {"helper": SPARES, "setup": 0}.get(one.callee, CHANGED_BY_CALLS)',
@@ -44,7 +48,11 @@ MISTAKES = {
         "return not (is_keeping or is_frame)",
         'return not (is_keeping or is_frame or one.name in ("lw", "sw"))',
     ),
-    "an arithmetic shift by a number turns the sign back too far": ("lowering.py", "self.number(SIGN >> imm))", "self.number(SIGN >> imm - 1))"),
+    "an arithmetic shift by a number turns the sign back too far": (
+        "lowering.py",
+        "self.number(SIGN >> imm))",
+        "self.number(SIGN >> imm - 1))",
+    ),
     "a store of a halfword leaves its upper byte": (
         "lowering.py",
         'self.put("storeb", a=base, b=upper, imm=offset + 1)',

@@ -1,6 +1,6 @@
 #!/usr/bin/env python3
-"""Mistakes in command lines and in files, and what ta_cc.py says of each: the status, one line of its own, no traceback, and no file
-that it has written or touched.
+"""Mistakes in command lines and in files, and what ta_cc.py says of each: the status, one line of its own, no traceback, and no
+file that it has written or touched.
 
 Status: 0 where all is as wanted, 1 where something isn't, 2 at other words.
 usage: refusals.py
@@ -17,7 +17,8 @@ import bench
 from words import BadWords, run
 
 HEADER = (bench.TESTS / "random/user_ta_header_defines.h").read_text()
-APPLICATION = (bench.TESTS / "random/application.c").read_text().replace("int random_main(void);", "#define random_main() (checksum = 1)")
+APPLICATION = (bench.TESTS / "random/application.c").read_text()
+APPLICATION = APPLICATION.replace("int random_main(void);", "#define random_main() (checksum = 1)")
 LARGE = "const unsigned table[9000] = {\n" + "".join(f"{k * 2654435761 % 2**32}u,\n" for k in range(1, 9001)) + "};\n"
 
 # Words that aren't served, each with a part of what is said.
@@ -41,11 +42,23 @@ PROGRAMS = {
     "a folder in the place of a file": ("folder.c", {}, "folder.c: Is a directory"),
     "no header": ("alone/good.c", {}, "user_ta_header_defines.h isn't there"),
     "an error of C": ("bad.c", {"bad.c": "int x = ;\n"}, "the compiler has refused bad.c"),
-    "a function that isn't there": ("bad.c", {"bad.c": APPLICATION + "void f(void) { TEE_GenerateRandom(0, 0); }\n"}, "the compiler has refused bad.c"),
-    "a function that nobody defines": ("bad.c", {"bad.c": "void g(void);\n" + APPLICATION.replace("(checksum = 1)", "g()")}, "the linker has refused"),
+    "a function that isn't there": (
+        "bad.c",
+        {"bad.c": APPLICATION + "void f(void) { TEE_GenerateRandom(0, 0); }\n"},
+        "the compiler has refused bad.c",
+    ),
+    "a function that nobody defines": (
+        "bad.c",
+        {"bad.c": "void g(void);\n" + APPLICATION.replace("(checksum = 1)", "g()")},
+        "the linker has refused the program",
+    ),
     "no entry point": ("bad.c", {"bad.c": "int x;\n"}, "the linker has refused the program"),
     "no UUID": ("good.c", {"user_ta_header_defines.h": HEADER.replace("TA_UUID", "TA_ID")}, "the compiler has refused header.c"),
-    "another flag": ("good.c", {"user_ta_header_defines.h": HEADER.replace("TA_FLAG_EXEC_DDR", "0x100")}, "TA_FLAGS has the bits 0x100"),
+    "another flag": (
+        "good.c",
+        {"user_ta_header_defines.h": HEADER.replace("TA_FLAG_EXEC_DDR", "0x100")},
+        "TA_FLAGS has the bits 0x100",
+    ),
     "an object that is none": ("bad.o", {"bad.o": "text\n"}, "bad.o is no ELF file of 32 bits for RISC-V"),
     "an object of another machine": ("host.o", {}, "host.o is no ELF file of 32 bits for RISC-V"),
     "an object cut short": ("cut.o", {}, "cut.o is cut short, or no ELF file of 32 bits"),
@@ -81,9 +94,10 @@ def fill(folder, texts):
     (folder / "folder.c").mkdir()
     for name, text in {"good.c": APPLICATION, "alone/good.c": APPLICATION, "user_ta_header_defines.h": HEADER, **texts}.items():
         (folder / name).write_text(text)
-    subprocess.run(["cc", "-c", "-o", folder / "host.o", folder / "good.c", f"-I{bench.SDK / 'include'}", "-w"], capture_output=True, check=False)
-    command = ["riscv64-unknown-elf-gcc", "-march=rv32em", "-mabi=ilp32e", "-nostdinc", f"-I{bench.SDK / 'include'}", "-c", folder / "good.c"]
-    subprocess.run([*command, "-o", folder / "whole.o"], capture_output=True, check=False)
+    words = ["-w", f"-I{bench.SDK / 'include'}", "-c", folder / "good.c", "-o"]
+    riscv = ["riscv64-unknown-elf-gcc", "-march=rv32em", "-mabi=ilp32e", "-nostdinc"]
+    for command in (["cc", *words, folder / "host.o"], [*riscv, *words, folder / "whole.o"]):
+        subprocess.run(command, capture_output=True, check=False)
     (folder / "cut.o").write_bytes((folder / "whole.o").read_bytes()[:200])
 
 

@@ -10,7 +10,6 @@ from .elf import Elf
 from .riscv import Program
 
 MOST_PINNED = 4
-MOST_TRIED = 4000  # instructions, above which numbers for good are chosen by how often they are loaded
 
 # What a build takes beside its files. `pages` is 0 for as many as are needed.
 Options = collections.namedtuple("Options", "level include define pages", defaults=("s", (), (), 0))
@@ -26,8 +25,9 @@ Built = collections.namedtuple("Built", "items header pages depth data_bytes pro
 def build(files, options, folder):
     """Builds an application of C files and objects; the first one's folder has user_ta_header_defines.h."""
     application = files[0].resolve().parent
-    if not (application / "user_ta_header_defines.h").is_file():
-        raise Refused(f"{application / 'user_ta_header_defines.h'} isn't there: it names the application's UUID, flags, stack and heap")
+    header = application / "user_ta_header_defines.h"
+    if not header.is_file():
+        raise Refused(f"{header} isn't there: it names the application's UUID, flags, stack and heap")
     words = [f"-I{one}" for one in options.include] + [f"-D{one}" for one in options.define]
     tools = toolchain.Build(folder, application, options.level, words)
     return linked(tools, tools.compile([*files, *toolchain.RUNTIME]), options.pages)
@@ -72,23 +72,22 @@ def pages_of(program, wanted):
 
 def smallest(program):
     """The translation, with those numbers in registers for good by which it becomes smaller; and the functions without a frame."""
-    live = program.live()
-    layout, free = lowering.layouts(program)
-    items = translated(program, layout, live)
-    for register in free[-MOST_PINNED:][::-1]:
-        value = most_loaded(items, layout.pinned)
+    live, pinned = program.live(), {}
+    items = translated(program, pinned, live)
+    for register in lowering.unused(program)[-MOST_PINNED:][::-1]:
+        value = most_loaded(items, pinned)
         if value is None:
             break
-        tried = lowering.Layout(layout.pinned | {register: value}, layout.pool)
+        tried = pinned | {register: value}
         better = translated(program, tried, live)
         if len(code.instructions_of(better)) >= len(code.instructions_of(items)):
             break
-        layout, items = tried, better
+        pinned, items = tried, better
     return items, lowering.frameless_functions(program)
 
 
-def translated(program, layout, live):
-    return cleanup.cleaned(lowering.lowered(program, layout, live), {code.ZERO: 0} | layout.pinned)
+def translated(program, pinned, live):
+    return cleanup.cleaned(lowering.lowered(program, pinned, live), {code.ZERO: 0} | pinned)
 
 
 def most_loaded(items, pinned):
@@ -111,7 +110,8 @@ def check(built):
 def warnings(built):
     """What may end in a panic when it is run."""
     if built.depth.cycle:
-        yield f"calls may go deeper than {stack.MOST_CALLS}, which is panic 4, or need more stack, which is panic 1: {built.depth.cycle}"
+        ends = f"calls may go deeper than {stack.MOST_CALLS}, which is panic 4, or need more stack, which is panic 1"
+        yield f"{ends}: {built.depth.cycle}"
     elif built.depth.calls > stack.MOST_CALLS:
         yield f"calls go {built.depth.calls} deep, and a call with {stack.MOST_CALLS} on the stack is panic 4"
     for function in built.depth.unsized:
@@ -120,11 +120,12 @@ def warnings(built):
 
 def figures(built):
     """A line of what the image needs."""
-    count = len(code.instructions_of(built.items))
-    told = f"{count} instructions of {formats.MOST_INSTRUCTIONS}, for {len(built.program.code)} of RISC-V and {built.data_bytes} bytes of data"
-    depth = built.depth
-    deep = f"calls {depth.calls} deep of {stack.MOST_CALLS}, stack {depth.stack} of {built.header.stack}; " if not depth.cycle else ""
-    return f"{told}; {deep}{built.pages} page{'s' if built.pages > 1 else ''}"
+    count, depth = len(code.instructions_of(built.items)), built.depth
+    told = [f"{count} instructions of {formats.MOST_INSTRUCTIONS}, for {len(built.program.code)} of RISC-V"]
+    told[0] += f" and {built.data_bytes} bytes of data"
+    if not depth.cycle:
+        told.append(f"calls {depth.calls} deep of {stack.MOST_CALLS}, stack {depth.stack} of {built.header.stack}")
+    return "; ".join([*told, f"{built.pages} page{'s' if built.pages > 1 else ''}"])
 
 
 # What is written.
@@ -133,7 +134,8 @@ def figures(built):
 def text_and_map(built):
     """The assembler text, with a comment where another line of the source begins, and the map of the image's places."""
     instructions = code.instructions_of(built.items)
-    lines = toolchain.lines_of(built.file, sorted({one.source for one in instructions if isinstance(one.source, int)}), built.application)
+    addresses = sorted({one.source for one in instructions if isinstance(one.source, int)})
+    lines = toolchain.lines_of(built.file, addresses, built.application)
     told, before = {}, None
     for place, one in enumerate(instructions):
         here = told_at(lines[one.source]) if isinstance(one.source, int) else f"({one.source})"

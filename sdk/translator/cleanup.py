@@ -57,8 +57,8 @@ def is_dead(one, behind, set_up):
 
 
 def with_shorter_jumps(items):
-    """A branch over a jump is the opposite branch, a jump to the next place is none, a call before a ret is a jump, and what can't be
-    reached isn't there."""
+    """A branch over a jump is the opposite branch, a jump to the next place is none, a call before a ret is a jump, and what can't
+    be reached isn't there."""
     made, place = [], 0
     while place < len(items):
         one, behind = items[place], items[place + 1 : place + 3]
@@ -141,7 +141,8 @@ def block(first, code, starts):
 
 
 def known_at_blocks(items, code, places, always):
-    """What registers hold at the first place of each block: what they hold by all ways to it. A function begins with what holds always."""
+    """What registers hold at the first place of each block: what they hold by all ways to it. A function begins with what holds
+    always."""
     starts = set(places.values())
     called = {places[one.imm] for one in code if one.op == "call" and not one.callee} | from_elsewhere(items, places)
     known = {place: dict(always) for place in called} | {place: {ZERO: 0} for place in first_places(places)}

@@ -26,7 +26,8 @@ KEPT = 0xFFFF & ~CHANGED_BY_CALLS
 from .riscv import ENDING_CALLS, SYSTEM_CALLS  # noqa: E402  (by the tables above)
 
 # An instruction; imm is a number or a label. `source` is the address of RISC-V that it is made of, or the name of a part that has
-# none. `callee` says what a call or a jump goes to: "" for code of the program, "setup", "helper", or "pointer", whose address r13 has.
+# none. `callee` says what a call or a jump goes to: "" for code of the program, "setup", "helper", or "pointer", whose address
+# r13 has.
 Instruction = collections.namedtuple("Instruction", "op d a b imm source callee", defaults=(0, 0, 0, 0, "", ""))
 
 

@@ -1,7 +1,7 @@
 """Operations that are too long to stand wherever they are used, as text of the machine with labels of their own.
 
-A helper takes its operands in r13 and r14 (X and Y here), and gives its result in X. It changes no other register: those that it needs
-are put aside in six words of memory. Z is the register that is always 0.
+A helper takes its operands in r13 and r14 (X and Y here), and gives its result in X. It changes no other register: those that it
+needs are put aside in six words of memory. Z is the register that is always 0.
 """
 
 from .code import FIELDS, FIRST_SPARE, OPERANDS, SECOND_SPARE, ZERO, Instruction, has_target

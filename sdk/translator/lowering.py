@@ -4,8 +4,6 @@ The machine has no operands that are numbers: a number stands in a register. Mos
 which numbers, to take one that does, and else to load the number into a register that nobody reads later.
 """
 
-import collections
-
 import formats
 
 from . import Refused, helpers
@@ -34,19 +32,20 @@ BY_HELPER = ("div", "rem", "mulh", "mulhsu", "mulhu")
 LOADS = ("lb", "lh", "lw", "lbu", "lhu")
 STORES = ("sb", "sh", "sw")
 
-# What each register holds from the setup on, and which registers may hold numbers for a while.
-Layout = collections.namedtuple("Layout", "pinned pool")
+# The registers that may hold a number for a while, where nobody reads later what they have.
+POOL = (SECOND_SPARE, FIRST_SPARE, *range(11))
 
 
 class Lowering:
-    """The code of a program, which is gathered in `items`: instructions, and labels as texts."""
+    """The code of a program, which is gathered in `items`: instructions, and labels as texts. `pinned` has the numbers that some
+    registers hold for good, from the setup on, and `live` the registers of RISC-V that are read later, in front of each address."""
 
-    def __init__(self, program, layout, live):
-        self.program, self.layout = program, layout
+    def __init__(self, program, pinned, live):
+        self.program, self.pinned = program, pinned
         self.live = {address: machine_mask(registers) for address, registers in live.items()}
-        self.pool = [register for register in layout.pool if register not in layout.pinned]
+        self.pool = [register for register in POOL if register not in pinned]
         self.items, self.helpers, self.skipped = [], set(), set()
-        self.always = {ZERO: 0} | layout.pinned
+        self.always = {ZERO: 0} | pinned
         self.known = dict(self.always)
         self.known_at, self.busy, self.source = {}, 0, ""
         self.labels = 0
@@ -87,8 +86,8 @@ class Lowering:
         return register
 
     def free(self, *others, spared=None):
-        """A register for a number or for a part of a result, of which nobody reads what it has: that which keeps it for longest. The
-        one that is spared is taken last."""
+        """A register for a number or for a part of a result, of which nobody reads what it has: that which keeps it for longest.
+        The one that is spared is taken last."""
         taken = self.busy | self.live_here | mask(*others)
         free = [register for register in self.pool if not taken >> register & 1]
         if not free:
@@ -174,7 +173,7 @@ class Lowering:
         """What each entry point begins with: the stack, and the numbers that are there for good."""
         self.items.append("setup")
         self.items.append(Instruction("const", STACK, imm=self.program.names["__stack"], source="setup"))
-        for register, value in self.layout.pinned.items():
+        for register, value in self.pinned.items():
             self.items.append(Instruction("const", register, imm=value, source="setup"))
         self.items.append(Instruction("ret", source="setup"))
 
@@ -450,7 +449,7 @@ def falls_through(one):
 
 
 def frameless_functions(program):
-    """The functions that use the stack's pointer for nothing but to keep ra, which they needn't, and into which nobody else goes."""
+    """The functions that use the stack's pointer for nothing but to keep ra, which they needn't, and into which nobody goes."""
     if program.uses_ra:
         return set()
     using = {program.function_at(address) for address, one in program.code.items() if is_use_of_stack(one)}
@@ -481,14 +480,8 @@ def unused(program):
     return [register for register in range(formats.REGISTERS) if not used >> register & 1]
 
 
-def layouts(program):
-    """The first layout, and which registers may hold a number for good."""
-    pool = (SECOND_SPARE, FIRST_SPARE, *range(11))
-    return Layout({}, pool), unused(program)
-
-
-def lowered(program, layout, live):
+def lowered(program, pinned, live):
     """All items of a program."""
-    lowering = Lowering(program, layout, live)
+    lowering = Lowering(program, pinned, live)
     lowering.lower()
     return lowering.needed()

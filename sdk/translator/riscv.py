@@ -1,5 +1,6 @@
 """Instructions of RISC-V (RV32EM), and a linked program of them."""
 
+import bisect
 import collections
 import struct
 
@@ -26,7 +27,8 @@ OPERATIONS = {
 }
 NAMES_OF_BRANCHES = frozenset(BRANCHES.values())
 
-# What a system call of the machine takes in a0 to a2, and what it gives there; the runtime has them as instructions of the custom space.
+# How many of a0 to a2 a system call of the machine takes, and how many it gives; the runtime has them as instructions of the custom
+# space.
 SYSTEM_CALLS = {
     0: (2, 0), 1: (1, 0), 2: (0, 1), 3: (1, 2), 4: (3, 0), 5: (1, 1), 6: (2, 0), 7: (1, 1), 8: (0, 1), 9: (0, 1), 10: (0, 1),
     11: (0, 3), 12: (1, 1), 13: (2, 2), 14: (2, 2), 15: (3, 2), 16: (3, 1), 17: (2, 1), 18: (1, 1), 19: (1, 1),
@@ -36,7 +38,8 @@ ENDING_CALLS = (0, 1)
 
 def signed(value, bits):
     """The number with a sign that is in the lowest bits of a value."""
-    return (value & (1 << bits) - 1 ^ 1 << bits - 1) - (1 << bits - 1)
+    sign = 1 << (bits - 1)
+    return ((value & (2 * sign - 1)) ^ sign) - sign
 
 
 def decoded(word, address):
@@ -86,8 +89,8 @@ class Program:
         self.start, text = elf.section(".text")
         self.end = self.start + len(text)
         self.names = {symbol.name: symbol.value for symbol in elf.symbols if symbol.name}
-        functions = sorted((symbol for symbol in elf.symbols if symbol.kind == FUNCTION), key=lambda symbol: symbol.name, reverse=True)
-        self.functions = {symbol.value: symbol.name for symbol in functions if self.is_code(symbol.value)}
+        functions = [symbol for symbol in elf.symbols if symbol.kind == FUNCTION and self.is_code(symbol.value)]
+        self.functions = {symbol.value: symbol.name for symbol in sorted(functions, key=lambda symbol: symbol.name, reverse=True)}
         self.starts = sorted(self.functions)
         self.code = self.read(text)
         self.taken = sorted(address for address in elf.addresses_taken() if self.is_code(address))
@@ -109,7 +112,8 @@ class Program:
 
     def function_at(self, address):
         """The first address of the function in which an address lies."""
-        return max((start for start in self.starts if start <= address), default=self.start)
+        number = bisect.bisect_right(self.starts, address)
+        return self.starts[number - 1] if number else self.start
 
     def where(self, address):
         start = self.function_at(address)
@@ -136,8 +140,7 @@ class Program:
     def is_far_call(self, address, one):
         """Whether this is a part of `auipc ra, UPPER; jalr ra, LOWER(ra)`."""
         first, second = (one, self.code.get(address + 4)) if one.name == "li" else (self.code.get(address - 4), one)
-        is_pair = first and second and (first.name, first.rd) == ("li", RA) and (second.name, second.rd, second.rs1) == ("jalr", RA, RA)
-        return bool(is_pair)
+        return bool(first and second) and first[:2] == ("li", RA) and second[:3] == ("jalr", RA, RA)
 
     @staticmethod
     def touches_ra(one):

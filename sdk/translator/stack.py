@@ -7,8 +7,8 @@ from .riscv import SP, WORD
 
 MOST_CALLS = 64
 
-# How many calls stand on the machine's stack at most, and the bytes of the program's own; None where a cycle of calls, which is named
-# in `cycle`, sets no limit. `unsized` has the functions whose frames have no fixed size.
+# How many calls stand on the machine's stack at most, and the bytes of the program's own; None where a cycle of calls, which is
+# named in `cycle`, sets no limit. `unsized` has the functions whose frames have no fixed size.
 Depth = collections.namedtuple("Depth", "calls stack cycle unsized")
 
 
@@ -33,7 +33,8 @@ class CallGraph:
         if one.callee == "helper":
             self.calls[function].add((None, 1))
         elif one.callee == "pointer":
-            self.calls[function] |= {(self.program.function_at(to), is_call) for to in self.program.taken if is_call or to in self.program.functions}
+            reached = [to for to in self.program.taken if is_call or to in self.program.functions]
+            self.calls[function] |= {(self.program.function_at(to), is_call) for to in reached}
         else:
             to = self.program.function_at(self.program.start + 4 * int(one.imm[1:]))
             if is_call or to != function:

@@ -21,7 +21,8 @@ Frame = collections.namedtuple("Frame", "function file line")
 MACHINE = ["-march=rv32em", "-mabi=ilp32e"]
 # A word of the machine has any alignment. A function keeps what the calling convention says, and isn't parted.
 CODE = "-ffreestanding -ffunction-sections -fdata-sections -fno-common -fno-jump-tables -fno-ipa-ra -fno-stack-protector".split()
-CODE += "-fno-unwind-tables -fno-asynchronous-unwind-tables -fno-reorder-blocks-and-partition -mno-strict-align -mtune=thead-c906".split()
+CODE += "-fno-unwind-tables -fno-asynchronous-unwind-tables -fno-reorder-blocks-and-partition".split()
+CODE += "-mno-strict-align -mtune=thead-c906".split()
 LANGUAGE = "-std=gnu11 -nostdinc -gdwarf-4 -Wall -Werror=implicit-function-declaration".split()
 WHOLE_PROGRAM, APART = ["-flto"], ["-fno-lto", "-fno-tree-loop-distribute-patterns"]
 LINK = "-nostdlib -static -flto-partition=one -Wl,--gc-sections -Wl,--no-warn-rwx-segments -Wl,--emit-relocs".split()
@@ -50,8 +51,8 @@ def ended(process, what, is_quiet):
 
 
 class Build:
-    """Compiles and links into a folder, with what the words of the command say besides: a level, folders and macros. What the compiler
-    warns of is passed on, unless it is to be quiet."""
+    """Compiles and links into a folder, with what the words of the command say besides: a level, folders and macros. What the
+    compiler warns of is passed on, unless it is to be quiet."""
 
     def __init__(self, folder, application, level, options, is_quiet=False):
         self.folder, self.application, self.gcc, self.is_quiet = folder, application, tool("gcc"), is_quiet
@@ -59,8 +60,8 @@ class Build:
         self.level = f"-O{level}"
 
     def compile(self, files, is_whole=True):
-        """The objects of C files, which are compiled side by side, and those that are objects already. The linker makes one program of
-        them and optimises it as a whole, unless they are to be what they are."""
+        """The objects of C files, which are compiled side by side, and those that are objects already. The linker makes one program
+        of them and optimises it as a whole, unless they are to be what they are."""
         objects, running = [file for file in files if file.suffix == ".o"], []
         for file in objects:
             check_object(file)
@@ -91,8 +92,9 @@ def check_object(file):
 
 
 def lines_of(file, addresses, application):
-    """The function, the file and the line of each address of a linked program. Of code of the runtime that was put into a function of
-    the application these are the application's. Files of the application are named from its folder, those of the sdk behind `sdk/`."""
+    """The function, the file and the line of each address of a linked program. Of code of the runtime that was put into a function
+    of the application these are the application's. Files of the application are named from its folder, those of the runtime behind
+    `sdk/runtime/`."""
     asked = "".join(f"{address:#x}\n" for address in addresses)
     command = [tool("addr2line"), "-a", "-i", "-f", "-e", str(file)]
     said = subprocess.run(command, input=asked, capture_output=True, text=True, check=False).stdout

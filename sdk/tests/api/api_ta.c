@@ -254,6 +254,7 @@ static void try_objects(void)
 static void try_data(void)
 {
 	TEE_ObjectHandle object;
+	TEE_ObjectInfo info;
 
 	CHECK(create(ALL | TEE_DATA_FLAG_OVERWRITE, "abcdef", 6, &object) == TEE_SUCCESS);
 	CHECK(TEE_SeekObjectData(object, 0, TEE_DATA_SEEK_SET) == TEE_SUCCESS);
@@ -261,7 +262,10 @@ static void try_data(void)
 	CHECK(TEE_SeekObjectData(object, 5, TEE_DATA_SEEK_SET) == TEE_SUCCESS);
 	CHECK(TEE_SeekObjectData(object, INT32_MAX, TEE_DATA_SEEK_CUR) == TEE_ERROR_OVERFLOW);
 	CHECK(TEE_SeekObjectData(object, INT32_MIN, TEE_DATA_SEEK_CUR) == TEE_SUCCESS);
-	CHECK(TEE_CloseAndDeletePersistentObject1(object) == TEE_SUCCESS);
+	TEE_GetObjectInfo(object, &info);
+	CHECK(info.dataSize == 6 && info.dataPosition == 0);
+	TEE_CloseAndDeletePersistentObject(object);
+	CHECK(TEE_OpenPersistentObject(TEE_STORAGE_PRIVATE, id, sizeof(id), ALL, &object) == TEE_ERROR_ITEM_NOT_FOUND);
 }
 
 /* What ends in a panic. */
